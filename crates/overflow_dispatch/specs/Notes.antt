@@ -1,0 +1,21 @@
+-- Lists of notes that handlers were told, before and after (PAPI_overflow(3)).
+use Rattle.std.specs.Prelude.{◌≡◌, ℕ, ◌<◌, ◌≤◌, List, [], ◌++◌, length, take, slice_index_or}
+use Rattle.overflow_dispatch.specs.declared.handler.Note.{Note}
+
+-- after is before with some of the first notes appended, or all of them
+abbrev pub Begun : List Note → List Note → List Note → Type 0
+Begun before notes after = (n : ℕ) × (n ≤ length notes) × (after ≡ before ++ take n notes)
+
+-- after is before with some of the first notes appended, but not all of them
+abbrev pub PartAdded : List Note → List Note → List Note → Type 0
+PartAdded before notes after = (n : ℕ) × (n < length notes) × (after ≡ before ++ take n notes)
+
+-- each of several lists has the notes of its place appended
+pub record EachAdded (before given after : List (List Note)) : Type 0 where
+  pub same_length : length after ≡ length before
+  pub added : (t : ℕ) → t < length before → slice_index_or after t [] ≡ slice_index_or before t [] ++ slice_index_or given t []
+
+-- each of several lists has some of the first notes of its place appended
+pub record EachBegun (before given after : List (List Note)) : Type 0 where
+  pub same_length : length after ≡ length before
+  pub begun : (t : ℕ) → t < length before → Begun (slice_index_or before t []) (slice_index_or given t []) (slice_index_or after t [])

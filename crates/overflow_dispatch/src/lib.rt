@@ -1,0 +1,14 @@
+//! Overflow of counters: which events passed their thresholds, and who is told (PAPI_overflow(3)).
+#![tactic(auto)]
+
+pub use handler::{Handler, Note};
+pub use passed::Passed;
+pub use recorder::Recorder;
+pub use thresholds::Thresholds;
+
+pub mod handler;
+pub mod passed;
+pub mod recorder;
+#[cfg(test)]
+mod tests;
+pub mod thresholds;

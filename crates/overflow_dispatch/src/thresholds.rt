@@ -1,0 +1,61 @@
+//! The armed events of a set (PAPI_overflow(3)).
+ghost use Rattle.std.specs.Prelude.{◌≡◌, ℕ, ◌+◌, ◌<◌, ◌≤◌, slice_get, slice_index, slice_set, replicate, None, Some};
+ghost use Rattle.overflow_dispatch.specs.Passing.{passed_from};
+
+use crate::passed::Passed;
+use std::marker::Model;
+
+/// The events with thresholds, each with the counter that its native is on. Contracts see for each of
+/// 32 indexes the counter, if the event of this index is armed.
+#[derive(Drop)]
+pub struct Thresholds {
+    counters: [Option<u8>; 32],
+}
+
+impl Model for Thresholds {
+    ghost use Rattle.std.specs.Prelude.{List, Option, ℕ};
+    ghost use Rattle.overflow_dispatch.specs.Passing.{AreCounters};
+
+    ghost Value = { List (Option ℕ) };
+
+    ghost view = { λ s. s.counters };
+
+    ghost invariant = { λ s. AreCounters s.counters };
+}
+
+impl Thresholds {
+    /// No event is armed.
+    pub fn new() -> Thresholds
+        ensures { result ≡ replicate 32 None }
+    {
+        Thresholds {
+            counters: [None; 32],
+        }
+    }
+
+    /// The event of this index is armed, and its native is on the counter `c`.
+    pub fn arm(&mut self, c: u32, index: u32)
+        requires counter { c < 32 }
+        requires index { index < 32 }
+        requires free { slice_get self.old index ≡ Some None }
+        requires apart { (k : ℕ) → slice_get self.old k ≡ Some (Some c) → ⊥ }
+        ensures { self.new ≡ slice_set self.old index (Some c) }
+    {
+        self.counters[index as usize] = Some(c as u8);
+    }
+
+    /// The indexes of the armed events whose counters are among the carries, in increasing order.
+    pub fn passed(&self, carry: u32) -> Passed
+        ensures { result ≡ passed_from 0 carry self.now }
+    {
+        let mut passed = Passed::new();
+        for index in 0..32u8 {
+            if let Some(c) = self.counters[index as usize]
+                && (carry >> c) & 1 == 1
+            {
+                passed.push(index);
+            }
+        }
+        passed
+    }
+}
