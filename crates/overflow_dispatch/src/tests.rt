@@ -1,4 +1,4 @@
-use crate::{Handler, Note, Recorder, Thresholds};
+use crate::{Handler, Note, Recorder};
 use std::alloc::AllocGlobal;
 use std::process::Abort;
 
@@ -18,15 +18,4 @@ fn a_recorder_keeps_its_notes_in_order(rt: HostRuntime) {
     assert_eq!(rt; recorder.noted(), 3);
     let last = recorder.note_at(2).map(|note| note.index);
     assert_eq!(rt; last, Some(2));
-}
-
-#[test]
-fn carries_name_the_events_in_their_order(rt: HostRuntime) {
-    let mut thresholds = Thresholds::new();
-    thresholds.arm(7, 0);
-    thresholds.arm(2, 3);
-    let passed = thresholds.passed(0b1000_0100);
-    assert_eq!(rt; passed.get(0), Some(0));
-    assert_eq!(rt; passed.get(1), Some(3));
-    assert_eq!(rt; passed.get(2), None);
 }
