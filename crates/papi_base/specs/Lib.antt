@@ -1,3 +1,4 @@
 pub mod Codes
+pub mod Streams
 pub mod Weight
 pub mod Widths
