@@ -1,0 +1,4 @@
+pub mod Periods
+pub mod Places
+pub mod Bits
+pub mod Counts

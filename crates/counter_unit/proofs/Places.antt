@@ -1,0 +1,124 @@
+-- Places of registers, one by one and all together.
+use Rattle.std.proofs.Common.{◌≡◌, ℕ, zero, suc, ◌+◌, ◌-◌, ◌^◌, ◌<◌, ◌≤◌, ◌⊎◌, inl, inr, Bool, true, false, List, [], ◌∷◌, length, set, get_or, replicate, refl, ap, sym, ◌∙◌, arith, Option, Some, None, slice_get}
+use Rattle.std.specs.Prelude.{unwrap_or, if◌then◌else◌, nat_le, ◌==◌}
+use Rattle.std.proofs.lemmas.Bool.{cases_eq, cond_both, cond-true, cond-false, eq-eqb, ne_eqb, leb-true, leb-false}
+use Rattle.papi_base.proofs.Weights.{weight_of-le}
+use Rattle.papi_base.specs.Weight.{weight_of}
+use Rattle.papi_base.specs.Widths.{AreWidths}
+use Rattle.std.proofs.lemmas.Nat.{pow_pos}
+use Rattle.std.proofs.Math.Pow.{pow_mono}
+use Rattle.papi_base.specs.declared.occurrence.Occ.{Occ}
+use Rattle.papi_base.specs.declared.native.Native.{Native}
+use Rattle.papi_base.specs.declared.bits.Domain.{Domain}
+use Rattle.counter_unit.specs.declared.registers.Register.{Register}
+use Rattle.counter_unit.specs.Counting.{IsThreshold, period, beginning, begun, at_place, IsSound, AreSound, moved, carries, moved_place, all_moved, all_carries}
+
+pub at_place-set_same : (rs : List (Option Register)) (c : ℕ) (x : Option Register) → c < length rs → at_place (set rs c x) c ≡ x
+at_place-set_same [] c x h = absurd (omega arith)
+at_place-set_same (r ∷ rs) zero x h = refl
+at_place-set_same (r ∷ rs) (suc c) x h = at_place-set_same rs c x (omega arith)
+
+pub at_place-set_other : (rs : List (Option Register)) (c k : ℕ) (x : Option Register) → (k ≡ c → ⊥) → at_place (set rs c x) k ≡ at_place rs k
+at_place-set_other [] c k x h = refl
+at_place-set_other (r ∷ rs) zero zero x h = absurd (h refl)
+at_place-set_other (r ∷ rs) zero (suc k) x h = refl
+at_place-set_other (r ∷ rs) (suc c) zero x h = refl
+at_place-set_other (r ∷ rs) (suc c) (suc k) x h = at_place-set_other rs c k x (λ e. h (ap suc e))
+
+pub length-set_place : (rs : List (Option Register)) (c : ℕ) (x : Option Register) → length (set rs c x) ≡ length rs
+length-set_place [] c x = refl
+length-set_place (r ∷ rs) zero x = refl
+length-set_place (r ∷ rs) (suc c) x = ap suc (length-set_place rs c x)
+
+pub at_place-replicate : (n c : ℕ) → at_place (replicate n None) c ≡ None
+at_place-replicate zero c = refl
+at_place-replicate (suc n) zero = refl
+at_place-replicate (suc n) (suc c) = at_place-replicate n c
+
+pub AreSound-put : (ws : List ℕ) (rs : List (Option Register)) (c : ℕ) (x : Option Register) → c < length ws → IsSound (get_or ws c 0) x → AreSound ws rs → AreSound ws (set rs c x)
+AreSound-put ws rs c x below sound h = record {
+  same_length = length-set_place rs c x ∙ h.same_length;
+  each = λ k lt. elim (cases_eq k c) [
+    | inl same ↦ rw (same, at_place-set_same rs c x (omega (arith, h.same_length))) sound
+    | inr apart ↦ rw (at_place-set_other rs c k x apart) (h.each k lt)
+  ];
+}
+
+pub AreSound-empty : (ws : List ℕ) → AreSound ws (replicate (length ws) None)
+AreSound-empty ws = record {
+  same_length = length-empty (length ws);
+  each = λ k lt. rw (at_place-replicate (length ws) k) tt;
+} where
+  length-empty : (n : ℕ) → length (replicate {A = Option Register} n None) ≡ n
+  length-empty zero = refl
+  length-empty (suc n) = ap suc (length-empty n)
+
+-- all places, seen at one
+pub length-all_moved : (before : Option Occ) (o : Occ) (ws : List ℕ) (rs : List (Option Register)) → length rs ≡ length ws → length (all_moved before o ws rs) ≡ length rs
+length-all_moved before o [] [] e = refl
+length-all_moved before o [] (r ∷ rs) e = absurd (omega arith)
+length-all_moved before o (w ∷ ws) [] e = refl
+length-all_moved before o (w ∷ ws) (r ∷ rs) e = ap suc (length-all_moved before o ws rs (omega arith))
+
+pub length-all_carries : (before : Option Occ) (o : Occ) (ws : List ℕ) (rs : List (Option Register)) → length rs ≡ length ws → length (all_carries before o ws rs) ≡ length rs
+length-all_carries before o [] [] e = refl
+length-all_carries before o [] (r ∷ rs) e = absurd (omega arith)
+length-all_carries before o (w ∷ ws) [] e = refl
+length-all_carries before o (w ∷ ws) (r ∷ rs) e = ap suc (length-all_carries before o ws rs (omega arith))
+
+pub get-all_moved : (before : Option Occ) (o : Occ) (ws : List ℕ) (rs : List (Option Register)) (c : ℕ) (r : Option Register) → length rs ≡ length ws → slice_get rs c ≡ Some r
+    → slice_get (all_moved before o ws rs) c ≡ Some (moved_place before o (get_or ws c 0) r).place
+get-all_moved before o ws [] c r e g = cc
+get-all_moved before o [] (x ∷ rs) c r e g = absurd (omega arith)
+get-all_moved before o (w ∷ ws) (x ∷ rs) zero r e g = let same : x ≡ r = cc in ap (λ y. Some (moved_place before o w y).place) same
+get-all_moved before o (w ∷ ws) (x ∷ rs) (suc c) r e g = get-all_moved before o ws rs c r (omega arith) g
+
+pub get-all_carries : (before : Option Occ) (o : Occ) (ws : List ℕ) (rs : List (Option Register)) (c : ℕ) (r : Option Register) → length rs ≡ length ws → slice_get rs c ≡ Some r
+    → slice_get (all_carries before o ws rs) c ≡ Some (moved_place before o (get_or ws c 0) r).carried
+get-all_carries before o ws [] c r e g = cc
+get-all_carries before o [] (x ∷ rs) c r e g = absurd (omega arith)
+get-all_carries before o (w ∷ ws) (x ∷ rs) zero r e g = let same : x ≡ r = cc in ap (λ y. Some (moved_place before o w y).carried) same
+get-all_carries before o (w ∷ ws) (x ∷ rs) (suc c) r e g = get-all_carries before o ws rs c r (omega arith) g
+
+pub period_none : (w t : ℕ) → t ≡ 0 → period w t ≡ 2 ^ w
+period_none w t none = cond-true (t == 0) (2 ^ w) t (eq-eqb t 0 none)
+
+pub period_some : (w t : ℕ) → 0 < t → period w t ≡ t
+period_some w t some = cond-false (t == 0) (2 ^ w) t (ne_eqb t 0 (λ e. omega arith))
+
+-- a period is not 0 and not above what a register holds
+pub period_fits : (w t : ℕ) → 16 ≤ w → IsThreshold w t → (256 ≤ period w t) × (period w t ≤ 2 ^ w)
+period_fits w t low (inl none) = let most : 2 ^ 16 ≤ 2 ^ w = pow_mono low in let e = period_none w t none in (omega arith, omega arith)
+period_fits w t low (inr fits) = let e = period_some w t (omega (arith, fits.0)) in (omega (arith, fits.0), omega (arith, fits.1))
+
+pub begun-sound : (w : ℕ) (n : Native) (d : Domain) (t : ℕ) → 16 ≤ w → IsThreshold w t → IsSound w (Some (begun w n d t))
+begun-sound w n d t low fits = let p = period_fits w t low fits in (fits, omega arith, omega (arith, pow_pos w))
+
+-- what is added is less than a period, so a register stays sound
+moved-sound : (w more : ℕ) (r : Register) → 16 ≤ w → more ≤ 255 → IsSound w (Some r) → IsSound w (Some (moved w more r))
+moved-sound w more r low small h =
+    let p = period_fits w r.threshold low h.0 in
+    let P : ℕ → Type 0 = λ v. IsThreshold w r.threshold × (beginning w r.threshold ≤ v) × (v < 2 ^ w) in
+    cond_both (carries w more r) (beginning w r.threshold + (r.value + more - 2 ^ w)) (r.value + more) P
+    (λ e. let over = leb-true (2 ^ w) (r.value + more) e in (h.0, omega arith, omega (arith, p.0, p.1, h.2)))
+    (λ e. let under = leb-false (2 ^ w) (r.value + more) e in (h.0, omega (arith, h.1), omega arith))
+
+pub moved_place-sound : (before : Option Occ) (o : Occ) (w : ℕ) (r : Option Register) → 16 ≤ w → o.amount ≤ 255 → IsSound w r → IsSound w (moved_place before o w r).place
+moved_place-sound before o w None low small h = tt
+moved_place-sound before o w (Some r) low small h = moved-sound w (weight_of r.native r.domain before o) r low (weight_of-le r.native r.domain before o small) h
+
+at_place-all_moved : (before : Option Occ) (o : Occ) (ws : List ℕ) (rs : List (Option Register)) (c : ℕ) → length rs ≡ length ws → c < length ws → at_place (all_moved before o ws rs) c ≡ (moved_place before o (get_or ws c 0) (at_place rs c)).place
+at_place-all_moved before o [] rs c e h = absurd (omega arith)
+at_place-all_moved before o (w ∷ ws) [] c e h = absurd (omega arith)
+at_place-all_moved before o (w ∷ ws) (r ∷ rs) zero e h = refl
+at_place-all_moved before o (w ∷ ws) (r ∷ rs) (suc c) e h = at_place-all_moved before o ws rs c (omega arith) (omega arith)
+
+pub AreSound-moved : (before : Option Occ) (o : Occ) (ws : List ℕ) (rs : List (Option Register)) → AreWidths ws → o.amount ≤ 255 → AreSound ws rs → AreSound ws (all_moved before o ws rs)
+AreSound-moved before o ws rs widths small h = record {
+  same_length = length-all_moved before o ws rs h.same_length ∙ h.same_length;
+  each = λ c lt. rw (at_place-all_moved before o ws rs c h.same_length lt) (moved_place-sound before o (get_or ws c 0) (at_place rs c) (widths.low c lt) small (h.each c lt));
+}
+
+-- a place that is read is sound
+pub place-sound : (ws : List ℕ) (rs : List (Option Register)) (c : ℕ) (r : Option Register) → AreSound ws rs → c < length ws → slice_get rs c ≡ Some r → IsSound (get_or ws c 0) r
+place-sound ws rs c r h lt e = let is : at_place rs c ≡ r = ap (λ x. unwrap_or x None) e in rw (← is) (h.each c lt)

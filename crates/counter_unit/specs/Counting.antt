@@ -1,0 +1,87 @@
+-- Registers, what is added to them, and when they carry.
+use Rattle.std.specs.Prelude.{ℕ, ◌+◌, ◌-◌, ◌*◌, ◌/◌, ◌%◌, ◌^◌, ◌≡◌, ◌<◌, ◌≤◌, ◌⊎◌, Bool, true, false, if◌then◌else◌, ◌==◌, nat_le, List, [], ◌∷◌, length, slice_get, slice_index, Option, Some, None, unwrap_or}
+use Rattle.papi_base.specs.declared.occurrence.Occ.{Occ}
+use Rattle.papi_base.specs.declared.native.Native.{Native}
+use Rattle.papi_base.specs.declared.bits.Domain.{Domain}
+use Rattle.papi_base.specs.Weight.{weight_of}
+use Rattle.counter_unit.specs.declared.registers.Register.{Register}
+use Rattle.counter_unit.specs.declared.registers.After.{After}
+
+-- what contracts see of a unit: for each counter its width, and what is programmed on it, if anything
+pub record UnitView : Type 0 where
+  pub widths : List ℕ
+  pub registers : List (Option Register)
+
+-- a threshold is 0, for none, or from 256 up to the greatest value of a register
+abbrev pub IsThreshold : ℕ → ℕ → Type 0
+IsThreshold width threshold = (threshold ≡ 0) ⊎ ((256 ≤ threshold) × (threshold < 2 ^ width))
+
+-- how much is counted from one carry to the next
+abbrev pub period : ℕ → ℕ → ℕ
+period width threshold = if threshold == 0 then 2 ^ width else threshold
+
+-- where a register begins: so that it carries after one period
+abbrev pub beginning : ℕ → ℕ → ℕ
+beginning width threshold = 2 ^ width - period width threshold
+
+-- the register at its beginning
+abbrev pub begun : ℕ → Native → Domain → ℕ → Register
+begun width n d threshold = record { native = n; domain = d; threshold = threshold; value = beginning width threshold }
+
+abbrev pub begun_again : ℕ → Register → Register
+begun_again width r = record r { value = beginning width r.threshold }
+
+-- the register carries when so much is added
+abbrev pub carries : ℕ → ℕ → Register → Bool
+carries width more r = nat_le (2 ^ width) (r.value + more)
+
+-- the register after so much is added: what is over after a carry is counted from the beginning
+abbrev pub moved : ℕ → ℕ → Register → Register
+moved width more r = record r { value = if carries width more r then beginning width r.threshold + (r.value + more - 2 ^ width) else r.value + more }
+
+-- what is programmed on the counter, if it exists
+abbrev pub at_place : List (Option Register) → ℕ → Option Register
+at_place registers c = unwrap_or (slice_get registers c) None
+
+-- a place after an occurrence, and whether its register carried
+abbrev pub moved_place : Option Occ → Occ → ℕ → Option Register → After
+moved_place before o width None = record { place = None; carried = false }
+moved_place before o width (Some r) = record {
+  place = Some (moved width (weight_of r.native r.domain before o) r);
+  carried = carries width (weight_of r.native r.domain before o) r;
+}
+
+-- all places after an occurrence
+abbrev pub all_moved : Option Occ → Occ → List ℕ → List (Option Register) → List (Option Register)
+all_moved before o [] registers = []
+all_moved before o (w ∷ ws) [] = []
+all_moved before o (w ∷ ws) (r ∷ rs) = (moved_place before o w r).place ∷ all_moved before o ws rs
+
+-- which of them carried
+abbrev pub all_carries : Option Occ → Occ → List ℕ → List (Option Register) → List Bool
+all_carries before o [] registers = []
+all_carries before o (w ∷ ws) [] = []
+all_carries before o (w ∷ ws) (r ∷ rs) = (moved_place before o w r).carried ∷ all_carries before o ws rs
+
+-- the truths of a list as the bits of a number, the first one lowest
+abbrev pub bits_of : List Bool → ℕ
+bits_of [] = 0
+bits_of (b ∷ bs) = (if b then 1 else 0) + 2 * bits_of bs
+
+-- what is programmed has a threshold that fits, and is at its beginning or above
+abbrev pub IsSound : ℕ → Option Register → Type 0
+IsSound width None = Unit {0}
+IsSound width (Some r) = IsThreshold width r.threshold × (beginning width r.threshold ≤ r.value) × (r.value < 2 ^ width)
+
+-- so is each place, and there is one for each width
+pub record AreSound (widths : List ℕ) (registers : List (Option Register)) : Type 0 where
+  pub same_length : length registers ≡ length widths
+  pub each : (c : ℕ) → c < length widths → IsSound (slice_index widths c) (at_place registers c)
+
+-- the register of a count
+abbrev pub register_at : ℕ → Native → Domain → ℕ → ℕ → Register
+register_at width n d threshold count = record { native = n; domain = d; threshold = threshold; value = beginning width threshold + count % period width threshold }
+
+-- how much of a count was carried away
+abbrev pub banked : ℕ → ℕ → ℕ → ℕ
+banked width threshold count = count / period width threshold * period width threshold

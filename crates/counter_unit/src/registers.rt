@@ -1,0 +1,74 @@
+//! A list of at most 32 places for registers.
+ghost use Rattle.std.specs.Prelude.{◌≡◌, ◌<◌, ◌≤◌, length, slice_get, slice_set, replicate, None};
+
+use papi_base::{Domain, Native};
+use std::marker::Model;
+
+/// A counter that is programmed.
+#[derive(Clone, Copy, Debug, PartialEq, Eq)]
+pub struct Register {
+    pub native: Native,
+    pub domain: Domain,
+    /// 0 for none.
+    pub threshold: u64,
+    pub value: u64,
+}
+
+/// A place after an occurrence, and whether its register carried.
+#[derive(Clone, Copy, Debug, PartialEq, Eq)]
+pub struct After {
+    pub place: Option<Register>,
+    pub carried: bool,
+}
+
+/// A place for each counter.
+#[derive(Drop)]
+pub struct Registers {
+    buf: [Option<Register>; 32],
+    len: u32,
+}
+
+impl Model for Registers {
+    ghost use Rattle.std.specs.Prelude.{List, Option, take, length, ◌≤◌, ◌≡◌};
+    ghost use Rattle.counter_unit.specs.declared.registers.Register.{Register};
+
+    ghost Value = { List (Option Register) };
+
+    ghost view = { λ s. take s.len s.buf };
+
+    ghost invariant = { λ s. (s.len ≤ 32) × (length s.buf ≡ 32) };
+}
+
+impl Registers {
+    /// None is programmed.
+    pub fn empty(len: u32) -> Registers
+        requires { len ≤ 32 }
+        ensures { result ≡ replicate len None }
+    {
+        Registers {
+            buf: [None; 32],
+            len,
+        }
+    }
+
+    pub fn len(&self) -> u32
+        ensures length { result ≡ length self.now }
+        ensures short { length self.now ≤ 32 }
+    {
+        self.len
+    }
+
+    pub fn at(&self, i: u32) -> Option<Register>
+        requires { i < length self.now }
+        ensures { slice_get self.now i ≡ Some result }
+    {
+        self.buf[i as usize]
+    }
+
+    pub fn put(&mut self, i: u32, x: Option<Register>)
+        requires { i < length self.old }
+        ensures { self.new ≡ slice_set self.old i x }
+    {
+        self.buf[i as usize] = x;
+    }
+}

@@ -1,0 +1,197 @@
+//! The unit: what is programmed, what an occurrence adds, and which counters carry (PAPI_overflow(3): after a carry a
+//! register is loaded again so that it carries after the threshold).
+ghost use Rattle.std.specs.Prelude.{◌≡◌, ℕ, ◌+◌, ◌^◌, ◌<◌, ◌≤◌, length, slice_get, slice_index, slice_set, replicate, None, Some};
+ghost use Rattle.std.specs.Option.{option_copied, option_map};
+ghost use Rattle.papi_base.specs.Weight.{weight_of};
+ghost use Rattle.papi_base.specs.Widths.{AreWidths};
+ghost use Rattle.counter_unit.specs.Counting.{IsThreshold, IsSound, AreSound, beginning, period, at_place, begun, begun_again, moved, carries, moved_place, all_moved, all_carries, bits_of};
+
+use crate::registers::{After, Register, Registers};
+use papi_base::{CompShape, Domain, Native, Occ, weight};
+use std::marker::Model;
+
+/// The counters of one component. Contracts see for each its width in bits, and what is programmed on it.
+#[derive(Drop)]
+pub struct Unit {
+    shape: CompShape,
+    registers: Registers,
+}
+
+impl Model for Unit {
+    ghost use Rattle.std.specs.Prelude.{◌≡◌, length};
+    ghost use Rattle.counter_unit.specs.Counting.{UnitView, AreSound};
+
+    ghost Value = { UnitView };
+
+    ghost view = { λ u. record { widths = u.shape; registers = u.registers } };
+
+    ghost invariant = { λ u. AreSound u.shape u.registers };
+}
+
+/// The values of a register of this width, and one more than the greatest.
+fn room(width: u8) -> u64
+    requires { width ≤ 48 }
+    ensures value { result ≡ 2 ^ width }
+    ensures bound { result ≤ 2 ^ 48 }
+    ensures least { 16 ≤ width → 65536 ≤ result }
+{
+    1 << width
+}
+
+/// How much is counted from one carry to the next.
+pub fn period_of(width: u8, threshold: u64) -> u64
+    requires { width ≤ 48 }
+    ensures value { result ≡ period width threshold }
+    ensures small { threshold ≤ 2 ^ 48 → result ≤ 2 ^ 48 }
+{
+    if threshold == 0 {
+        room(width)
+    } else {
+        threshold
+    }
+}
+
+/// Where a register of this width begins.
+pub fn beginning_of(width: u8, threshold: u64) -> u64
+    requires width { width ≤ 48 }
+    requires threshold { IsThreshold width threshold }
+    ensures { result ≡ beginning width threshold }
+{
+    room(width) - period_of(width, threshold)
+}
+
+/// What an occurrence does to one place.
+fn count_place(place: Option<Register>, width: u8, before: Option<&Occ>, o: &Occ) -> After
+    requires low { 16 ≤ width }
+    requires high { width ≤ 48 }
+    requires sound { IsSound width place }
+    ensures { result ≡ moved_place (option_copied before.entry) o.now width place }
+{
+    match place {
+        None => After {
+            place: None,
+            carried: false,
+        },
+        Some(mut register) => {
+            let more = u64::from(weight(&register.native, register.domain, before, o));
+            let sum = register.value + more;
+            let full = room(width);
+            let carried = full <= sum;
+            register.value = if carried {
+                beginning_of(width, register.threshold) + (sum - full)
+            } else {
+                sum
+            };
+            After {
+                place: Some(register),
+                carried,
+            }
+        }
+    }
+}
+
+impl Unit {
+    ghost use Rattle.std.specs.Prelude.{unwrap_or, is_some, IfSome};
+
+    /// Nothing is programmed.
+    pub fn new(shape: &CompShape) -> Unit
+        ensures unit { result ≡ record { widths = shape.now; registers = replicate (length shape.now) None } }
+        ensures widths { AreWidths shape.now }
+        ensures few { length shape.now ≤ 32 }
+    {
+        Unit {
+            shape: shape.copy(),
+            registers: Registers::empty(shape.counters()),
+        }
+    }
+
+    /// Programs a counter with a native event, a domain and a threshold, 0 for none. Its register is at its beginning: 0,
+    /// or so far below its end as the threshold.
+    pub fn program(&mut self, c: u32, n: Native, d: Domain, threshold: u64)
+        requires exists { c < length self.old.widths }
+        requires threshold { IsThreshold (slice_index self.old.widths c) threshold }
+        ensures { self.new ≡ record self.old { registers = slice_set self.old.registers c (Some (begun (slice_index self.old.widths c) n d threshold)) } }
+    {
+        let value = beginning_of(self.shape.width(c), threshold);
+        self.registers.put(
+            c,
+            Some(Register {
+                native: n,
+                domain: d,
+                threshold,
+                value,
+            }),
+        );
+    }
+
+    /// Adds to each programmed register what the occurrence counts for it, where `before` came just before it. The result
+    /// is the counters that carried, as bits.
+    pub fn step(&mut self, before: Option<&Occ>, o: &Occ) -> u32
+        ensures registers { self.new ≡ record self.old { registers = all_moved (option_copied before.entry) o.now self.old.widths self.old.registers } }
+        ensures carries { result ≡ bits_of (all_carries (option_copied before.entry) o.now self.old.widths self.old.registers) }
+    {
+        let _amount = o.amount;
+        let mut carry = 0;
+        for c in 0..self.shape.counters() {
+            let after = count_place(self.registers.at(c), self.shape.width(c), before, o);
+            self.registers.put(c, after.place);
+            if after.carried {
+                carry |= 1 << c;
+            }
+        }
+        carry
+    }
+
+    /// The counter's register, if it is programmed.
+    pub fn register(&self, c: u32) -> Option<u64>
+        requires exists { c < length self.now.widths }
+        ensures value { result ≡ option_map (λ r. r.value) (at_place self.now.registers c) }
+        ensures small { IfSome result (λ v. v < 2 ^ 48) }
+    {
+        let _width = self.shape.width(c);
+        match self.registers.at(c) {
+            Some(register) => Some(register.value),
+            None => None,
+        }
+    }
+
+    /// The counter's register begins again, if it is programmed.
+    pub fn zero(&mut self, c: u32)
+        requires exists { c < length self.old.widths }
+        ensures { self.new ≡ record self.old { registers = slice_set self.old.registers c (option_map (begun_again (slice_index self.old.widths c)) (at_place self.old.registers c)) } }
+    {
+        let place = match self.registers.at(c) {
+            Some(mut register) => {
+                register.value = beginning_of(self.shape.width(c), register.threshold);
+                Some(register)
+            }
+            None => None,
+        };
+        self.registers.put(c, place);
+    }
+
+    /// The width of a counter, in bits.
+    pub fn width(&self, c: u32) -> u8
+        requires exists { c < length self.now.widths }
+        ensures width { result ≡ slice_index self.now.widths c }
+        ensures low { 16 ≤ result }
+        ensures high { result ≤ 48 }
+    {
+        self.shape.width(c)
+    }
+
+    /// The widths of the counters.
+    pub fn shape(&self) -> &CompShape
+        ensures { result.now ≡ self.now.widths }
+    {
+        &self.shape
+    }
+
+    /// The counter is no longer programmed.
+    pub fn clear(&mut self, c: u32)
+        requires exists { c < length self.old.widths }
+        ensures { self.new ≡ record self.old { registers = slice_set self.old.registers c None } }
+    {
+        self.registers.put(c, None);
+    }
+}
