@@ -1,6 +1,6 @@
 -- Places of registers, one by one and all together.
-use Rattle.std.proofs.Common.{◌≡◌, ℕ, zero, suc, ◌+◌, ◌-◌, ◌^◌, ◌<◌, ◌≤◌, ◌⊎◌, inl, inr, Bool, true, false, List, [], ◌∷◌, length, set, get_or, replicate, refl, ap, sym, ◌∙◌, arith, Option, Some, None, slice_get}
-use Rattle.std.specs.Prelude.{unwrap_or, if◌then◌else◌, nat_le, ◌==◌}
+use Rattle.std.proofs.Common.{◌≡◌, ℕ, zero, suc, ◌+◌, ◌-◌, ◌^◌, ◌<◌, ◌≤◌, inl, inr, List, [], ◌∷◌, length, set, get_or, replicate, refl, ap, ◌∙◌, arith, Option, Some, None, slice_get}
+use Rattle.std.specs.Prelude.{unwrap_or, ◌==◌}
 use Rattle.std.proofs.lemmas.Bool.{cases_eq, cond_both, cond-true, cond-false, eq-eqb, ne_eqb, leb-true, leb-false}
 use Rattle.papi_base.proofs.Weights.{weight_of-le}
 use Rattle.papi_base.specs.Weight.{weight_of}

@@ -1,5 +1,5 @@
 -- A register and what was carried out of it are functions of the count.
-use Rattle.std.specs.Prelude.{◌≡◌, ℕ, ◌+◌, ◌-◌, ◌/◌, ◌<◌, ◌≤◌, if◌then◌else◌, nat_lt}
+use Rattle.std.specs.Prelude.{◌≡◌, ℕ, ◌+◌, ◌-◌, ◌/◌, ◌≤◌, if◌then◌else◌, nat_lt}
 use Rattle.papi_base.specs.declared.native.Native.{Native}
 use Rattle.papi_base.specs.declared.bits.Domain.{Domain}
 use Rattle.counter_unit.specs.Counting.{IsThreshold, period, beginning, moved, carries, register_at, banked}
