@@ -1,0 +1,13 @@
+pub mod Sizes
+pub mod Sets
+pub mod Hall
+pub mod Walk
+pub mod Trails
+pub mod Prefixes
+pub mod Removal
+pub mod FirstAssignment
+pub mod Results
+pub mod Listed
+pub mod Fitting
+pub mod BlameLaws
+pub mod BlameComputed

@@ -1,0 +1,9 @@
+pub mod Assignments
+pub mod BlameOf
+pub mod Blames
+pub mod Laws
+pub mod Listing
+pub mod Masks
+pub mod Matchings
+pub mod Search
+pub mod Settling
