@@ -1,4 +1,13 @@
+pub mod Adapter
 pub mod Codes
+pub mod Entries
+pub mod MemFiles
+pub mod Memory
+pub mod Outside
 pub mod Streams
+pub mod Sure
+pub mod SureFiles
+pub mod SureSource
 pub mod Weight
+pub mod Whole
 pub mod Widths

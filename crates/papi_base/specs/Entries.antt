@@ -1,0 +1,12 @@
+-- What a list of named files holds.
+use Rattle.std.specs.Prelude.{ℕ, List, map, Vec, String, string_bytes}
+use Rattle.std.specs.declared.alloc.Global.{Global}
+use Rattle.papi_base.specs.Outside.{Tape}
+use Rattle.papi_base.specs.declared.outside.Ending.{Ending}
+use Rattle.papi_base.specs.declared.outside.Ending.TheVariants.{End}
+
+abbrev pub entries_of : List (String Global × Vec ℕ Global × Ending) → List (List ℕ × Tape)
+entries_of files = map (λ file. (string_bytes file.0, record { bytes = file.1.items; ending = file.2 })) files
+
+abbrev pub sure_entries : List (String Global × Vec ℕ Global) → List (List ℕ × Tape)
+sure_entries files = map (λ file. (string_bytes file.0, record { bytes = file.1.items; ending = End })) files

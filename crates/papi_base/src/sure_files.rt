@@ -1,0 +1,76 @@
+// Files in memory that never fail.
+ghost use Rattle.std.specs.Prelude.{◌≡◌, ◌<◌, [], Some};
+ghost use Rattle.papi_base.specs.Entries.{sure_entries};
+ghost use Rattle.papi_base.specs.Outside.{tape_of};
+ghost use Rattle.papi_base.specs.SureSource.{IsSureSourceOf};
+
+use crate::{Files, OpenFail, SureSource};
+use std::alloc::Global;
+
+/// Files in memory of which no opening fails and each ends well. The first file of a name counts.
+#[derive(Drop)]
+pub struct SureFiles {
+    alloc: Global,
+    tapes: Vec<(String, Vec<u8>)>,
+    largest: usize,
+    misses: u64,
+    ghost some: { 0 < largest },
+}
+
+impl SureFiles {
+    ghost use Rattle.papi_base.specs.SureFiles.{sure_held};
+
+    /// Files with these contents, each given in pieces of at most `largest` bytes.
+    pub fn new(alloc: Global, tapes: Vec<(String, Vec<u8>)>, largest: usize) -> Self
+        requires { 0 < largest }
+        ensures { sure_held result ≡ record { tapes = sure_entries tapes.items; refused = [] } }
+    {
+        SureFiles {
+            alloc,
+            tapes,
+            largest,
+            misses: 0,
+        }
+    }
+}
+
+// The source of a name.
+fn sure_source_at(
+    alloc: Global,
+    tapes: &[(String, Vec<u8>)],
+    name: &str,
+    largest: usize,
+) -> Result<SureSource, OpenFail>
+    requires { 0 < largest }
+    ensures { IsSureSourceOf result (tape_of (sure_entries tapes.now) name.now) }
+{
+    for (held, bytes) in tapes {
+        if held.as_str() == name {
+            return match bytes.to_vec(alloc) {
+                Ok(copy) => Ok(SureSource::new(copy, largest)),
+                Err(_) => Err(OpenFail::Memory),
+            };
+        }
+    }
+    Err(OpenFail::Absent)
+}
+
+impl Files for SureFiles {
+    type S = SureSource;
+
+    ghost misses = { λ f. f.misses };
+
+    ghost faults = { λ _. 0 };
+
+    ghost held = { λ f. Some (record { tapes = sure_entries f.tapes.items; refused = [] }) };
+
+    fn open_source(&mut self, name: &str) -> Result<SureSource, OpenFail> {
+        let answer = sure_source_at(self.alloc, &self.tapes, name, self.largest);
+        if let Err(OpenFail::Absent) = &answer {
+            self.misses = self.misses.saturating_add(1);
+        }
+        answer
+    }
+
+    fn close_source(&mut self, _source: SureSource) {}
+}
