@@ -1,0 +1,6 @@
+pub mod Texts
+pub mod Trimming
+pub mod Numerals
+pub mod Records
+pub mod RowsBack
+pub mod NoCommas

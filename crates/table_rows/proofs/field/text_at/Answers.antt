@@ -1,0 +1,18 @@
+use Rattle.std.proofs.Common.{◌≡◌, ◌∙◌, Some, None, sym, refl}
+use Rattle.csv.specs.Records.{fields_of}
+use Rattle.table_rows.specs.Texts.{text_at, trimmed, without_front}
+use Rattle.table_rows.proofs.Trimming.{field_at-slice_get}
+use Rattle.std.specs.Prelude.{slice_get}
+use Rattle.table_rows.proofs.field.text_at.Goals as goal
+
+pub returns-in-Some : goal.returns-in-Some
+unfolding text_at
+returns-in-Some c =
+    let some : slice_get (fields_of c.args.record.now) c.args.i ≡ Some c.in-Some.field.now = sym (field_at-slice_get _ _) ∙ sym (rw c.in-Some.is at c.get.ensures.value) in
+    rw some c.trimmed.ensures
+
+pub returns-in-None : goal.returns-in-None
+unfolding text_at trimmed without_front
+returns-in-None c =
+    let none : slice_get (fields_of c.args.record.now) c.args.i ≡ None = sym (field_at-slice_get _ _) ∙ sym (rw c.in-None.is at c.get.ensures.value) in
+    rw none refl

@@ -1,0 +1,6 @@
+use Rattle.std.proofs.Common.{◌≡◌, drop}
+use Rattle.table_rows.specs.Texts.{without_front}
+use Rattle.table_rows.proofs.field.without_front.Given as goal
+
+abbrev pub invariant-loop-i : goal.invariant-loop-i
+invariant-loop-i l = without_front l.bytes ≡ without_front (drop l.i l.bytes)

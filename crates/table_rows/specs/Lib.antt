@@ -1,0 +1,3 @@
+pub mod Texts
+pub mod Rows
+pub use Rattle.csv.specs.Records

@@ -1,0 +1,19 @@
+//! Rows of a table of comma-separated fields, and what its fields say: names, numbers and printable texts.
+//!
+//! Unit files, preset files and maps are such tables. Fields have no quotes, a line that begins with `#` is no row,
+//! and a field is taken without the spaces and tabs at its ends.
+#![tactic(auto)]
+
+mod field;
+mod number;
+mod row;
+mod word;
+
+pub use crate::field::{is_skipped, text_at, trimmed};
+pub use crate::number::{decimal_in, hex_in, is_decimal};
+pub use crate::row::read_rows;
+pub use crate::word::{is_name, is_printable, name_text, printable_text};
+pub use csv::ByteRecord;
+
+#[cfg(test)]
+mod tests;
