@@ -3,6 +3,7 @@ pub mod Codes
 pub mod Entries
 pub mod MemFiles
 pub mod Memory
+pub mod Numerals
 pub mod Outside
 pub mod Streams
 pub mod Sure
