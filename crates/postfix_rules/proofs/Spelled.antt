@@ -1,0 +1,108 @@
+-- Tokens without a fault spell one tree.
+use Rattle.std.proofs.Common.{◌≡◌, ◌∙◌, ◌+◌, ◌-◌, ◌<◌, ◌≤◌, ◌^◌, ◌∷◌, ℕ, Bool, true, false, List, [], Option, Some, None, length, map, refl, sym, arith, tests, nat_lt, nat_le}
+use Rattle.std.specs.Prelude.{if◌then◌else◌}
+use Rattle.std.specs.Option.{option_map_or}
+use Rattle.postfix_rules.specs.declared.fault.FormulaCause.{FormulaCause}
+use Rattle.postfix_rules.specs.declared.fault.FormulaCause.TheVariants as cause
+use Rattle.postfix_rules.specs.declared.token.Operator.{Operator}
+use Rattle.postfix_rules.specs.declared.token.Token.{Token}
+use Rattle.postfix_rules.specs.declared.token.Token.TheVariants as token
+use Rattle.postfix_rules.specs.Trees.{Tree, Constant, Count, Node, pile_from}
+use Rattle.postfix_rules.specs.Faults.{Part, end_cause, fault_from, height_after, operand_cause, token_cause}
+use Rattle.postfix_rules.specs.Laws.{FormulasSpell}
+use Rattle.postfix_rules.proofs.Piles.{one-made}
+
+-- an operand finds a free place
+pub room : (height : ℕ) → operand_cause height ≡ None → height + 1 ≤ 16
+room height e = go (nat_le 16 height) refl e
+  where
+    go : (b : Bool) → nat_le 16 height ≡ b → (if b then Some cause.TooDeep else None) ≡ None → height + 1 ≤ 16
+    go true t h = cc h
+    go false t h = grind (arith, tests)
+
+pub constant-ok : (natives h n : ℕ) → token_cause natives h (Some (token.Constant n)) ≡ None → (n < 2 ^ 63) × (h + 1 ≤ 16)
+unfolding token_cause
+constant-ok natives h n e = go (nat_lt n (2 ^ 63)) refl e
+  where
+    go : (b : Bool) → nat_lt n (2 ^ 63) ≡ b → (if b then operand_cause h else Some cause.ConstantTooLarge) ≡ None → (n < 2 ^ 63) × (h + 1 ≤ 16)
+    go true p q = (grind (arith, tests, p), room h q)
+    go false p q = cc q
+
+pub native-ok : (natives h i : ℕ) → token_cause natives h (Some (token.Native i)) ≡ None → (i < natives) × (h + 1 ≤ 16)
+unfolding token_cause
+native-ok natives h i e = go (nat_lt i natives) refl e
+  where
+    go : (b : Bool) → nat_lt i natives ≡ b → (if b then operand_cause h else Some cause.NativeRange) ≡ None → (i < natives) × (h + 1 ≤ 16)
+    go true p q = (grind (arith, tests, p), room h q)
+    go false p q = cc q
+
+pub operator-ok : (natives h : ℕ) (o : Operator) → token_cause natives h (Some (token.Operator o)) ≡ None → 2 ≤ h
+unfolding token_cause
+operator-ok natives h o e = go (nat_lt h 2) refl e
+  where
+    go : (b : Bool) → nat_lt h 2 ≡ b → (if b then Some cause.OperandMissing else None) ≡ None → 2 ≤ h
+    go true p q = cc q
+    go false p q = grind (arith, tests, p)
+
+-- a token without a cause leaves a pile of at most 16
+pub few-after : (natives h : ℕ) (t : Token) → h ≤ 16 → token_cause natives h (Some t) ≡ None → height_after h (Some t) ≤ 16
+few-after natives h (token.Constant n) few e = (constant-ok natives h n e).1
+few-after natives h (token.Native i) few e = (native-ok natives h i e).1
+few-after natives h (token.Operator o) few e = omega (arith, few)
+
+pub one-tree : (height : ℕ) → end_cause height ≡ None → height ≡ 1
+unfolding end_cause
+one-tree height e = go (nat_lt height 1) (nat_lt height 2) refl refl e
+  where
+    go : (b c : Bool) → nat_lt height 1 ≡ b → nat_lt height 2 ≡ c → (if b then Some cause.OperandMissing else if c then None else Some cause.OperandsLeft) ≡ None → height ≡ 1
+    go true c p q h = cc h
+    go false true p q h = grind (arith, tests)
+    go false false p q h = cc h
+
+-- a part without a cause, and no fault behind it
+pub record Clear (natives place height : ℕ) (part : Part) (rest : List Part) : Type 0 where
+  pub now : token_cause natives height part ≡ None
+  pub next : fault_from natives (place + 1) (height_after height part) rest ≡ None
+
+pub clear-first : (natives place height : ℕ) (part : Part) (rest : List Part) → fault_from natives place height (part ∷ rest) ≡ None → Clear natives place height part rest
+unfolding fault_from
+clear-first natives place height part rest e = go (token_cause natives height part) refl e
+  where
+    go : (o : Option FormulaCause) → token_cause natives height part ≡ o → option_map_or (λ why. Some (place, why)) o (fault_from natives (place + 1) (height_after height part) rest) ≡ None → Clear natives place height part rest
+    go None p q = record { now = p; next = q }
+    go (Some w) p q = cc q
+
+pub end-one : (natives place height : ℕ) → fault_from natives place height [] ≡ None → height ≡ 1
+unfolding fault_from
+end-one natives place height e = go (end_cause height) refl e
+  where
+    paired : FormulaCause → Option (ℕ × FormulaCause)
+    paired w = Some (place, w)
+
+    go : (o : Option FormulaCause) → end_cause height ≡ o → option_map_or paired o None ≡ None → height ≡ 1
+    go None p q = one-tree height p
+    go (Some w) p q = cc q
+
+one-left : (pile : List Tree) → length pile ≡ 1 → (t : Tree) × (Some pile ≡ Some (t ∷ []))
+one-left [] e = absurd (omega (arith, e))
+one-left (t ∷ []) e = (t, refl)
+one-left (t ∷ u ∷ pile) e = absurd (omega (arith, e))
+
+-- tokens without a fault make one tree
+pub one-spelled : (natives place height : ℕ) (pile : List Tree) (tokens : List Token) → height ≡ length pile → fault_from natives place height (map Some tokens) ≡ None
+    → (t : Tree) × (pile_from pile tokens ≡ Some (t ∷ []))
+unfolding pile_from
+one-spelled natives place height pile [] n e = one-left pile (sym n ∙ end-one natives place height e)
+one-spelled natives place height pile (token.Constant c ∷ rest) n e =
+    one-spelled natives (place + 1) (height + 1) (Constant c ∷ pile) rest (omega (arith, n)) (clear-first natives place height (Some (token.Constant c)) (map Some rest) e).next
+one-spelled natives place height pile (token.Native i ∷ rest) n e =
+    one-spelled natives (place + 1) (height + 1) (Count i ∷ pile) rest (omega (arith, n)) (clear-first natives place height (Some (token.Native i)) (map Some rest) e).next
+one-spelled natives place height [] (token.Operator o ∷ rest) n e =
+    absurd (let two = operator-ok natives height o (clear-first natives place height (Some (token.Operator o)) (map Some rest) e).now in omega (arith, n, two))
+one-spelled natives place height (y ∷ []) (token.Operator o ∷ rest) n e =
+    absurd (let two = operator-ok natives height o (clear-first natives place height (Some (token.Operator o)) (map Some rest) e).now in omega (arith, n, two))
+one-spelled natives place height (y ∷ x ∷ pile) (token.Operator o ∷ rest) n e =
+    one-spelled natives (place + 1) (height - 1) (Node o x y ∷ pile) rest (omega (arith, n)) (clear-first natives place height (Some (token.Operator o)) (map Some rest) e).next
+
+pub formulas_spell : FormulasSpell
+formulas_spell natives tokens e = let one = one-spelled natives 0 0 [] tokens refl e in (one.0, one-made tokens one.0 one.1)
