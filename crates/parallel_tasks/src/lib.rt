@@ -1,0 +1,97 @@
+// Tasks, worked by several workers at the same time.
+#![tactic(auto)]
+
+ghost use Rattle.std.specs.Prelude.{ℕ, ◌≤◌};
+ghost use Rattle.std.specs.Thread.{IsSync, IsSend};
+ghost use Rattle.parallel_tasks.specs.Each.{Each, AtEach};
+
+use std::marker::{Send, Sync};
+use std::thread::{Threads, join_mut};
+
+/// One piece of work. `B` is what all workers look at.
+pub trait Task<B> {
+    ghost ready: { B → Self → Type 0 };
+
+    ghost done: { B → Self → Self → Type 0 };
+
+    /// Does the work.
+    fn work(&mut self, book: &B)
+        requires { ready book.now self.old }
+        ensures { done book.now self.old self.new };
+}
+
+/// Works the tasks one after another.
+fn work_in_turn<B, T: Task<B>>(book: &B, tasks: &mut [T])
+    requires { AtEach (T.ready book.now) tasks.old }
+    ensures { Each (T.done book.now) tasks.old tasks.new }
+{
+    for place in 0..tasks.len() {
+        tasks[place].work(book);
+    }
+}
+
+/// Works the tasks by this many workers, each with an even part of them.
+#[cycle(workers)]
+fn work_slice<R: Threads + Sync, B: Sync, T: Task<B> + Send>(
+    rt: &R,
+    book: &B,
+    workers: usize,
+    tasks: &mut [T],
+)
+    requires { AtEach (T.ready book.now) tasks.old }
+    ensures { Each (T.done book.now) tasks.old tasks.new }
+{
+    if workers <= 1 {
+        work_in_turn(book, tasks);
+        return;
+    }
+    let low = workers / 2;
+    let middle = tasks.len() / workers * low;
+    let (front, back) = tasks.split_at_mut(middle);
+    work_halves(rt, book, low, front, workers - low, back);
+}
+
+/// Works the two halves at the same time.
+#[cycle(workers)]
+fn work_halves<R: Threads + Sync, B: Sync, T: Task<B> + Send>(
+    rt: &R,
+    book: &B,
+    low: usize,
+    front: &mut [T],
+    high: usize,
+    back: &mut [T],
+)
+    requires front { AtEach (T.ready book.now) front.old }
+    requires back { AtEach (T.ready book.now) back.old }
+    ensures front { Each (T.done book.now) front.old front.new }
+    ensures back { Each (T.done book.now) back.old back.new }
+{
+    let mut first = ||
+        requires { IsSync R.row × IsSync B.row × IsSend T.row × AtEach (T.ready book.now) front.now }
+        ensures { Each (T.done book.entry.now) front.entry.now front.exit.now }
+    { work_slice(rt, book, low, front) };
+    let mut second = ||
+        requires { IsSync R.row × IsSync B.row × IsSend T.row × AtEach (T.ready book.now) back.now }
+        ensures { Each (T.done book.entry.now) back.entry.now back.exit.now }
+    { work_slice(rt, book, high, back) };
+    join_mut(rt, &mut first, &mut second);
+}
+
+/// Works all tasks by at most this many workers, 1 to 64. Each worker has an even part of the tasks, in their order. No memory is taken.
+pub fn work_tasks<R: Threads + Sync, B: Sync, T: Task<B> + Send>(
+    rt: &R,
+    book: &B,
+    tasks: &mut Vec<T>,
+    workers: u32,
+)
+    requires low { 1 ≤ workers }
+    requires high { workers ≤ 64 }
+    requires ready { AtEach (T.ready book.now) tasks.old.items }
+    ensures { Each (T.done book.now) tasks.old.items tasks.new.items }
+{
+    let parts = (workers as usize).min(tasks.len());
+    work_slice(rt, book, parts, tasks.as_mut_slice());
+}
+
+#[cfg(test)]
+mod tests;
