@@ -1,0 +1,36 @@
+-- What calls ask of the book, of the shape and of their own arguments, and what a set shares with the book.
+use Rattle.std.specs.Prelude.{ℕ, suc, ◌≡◌, ◌<◌, ◌^◌, All, IsSomeAnd, length, Some, true, slice_get, ⊤}
+use Rattle.std.specs.Option.{ForSome}
+use Rattle.papi_base.specs.declared.native.Native.{Native}
+use Rattle.papi_base.specs.declared.native.EventRef.{EventRef}
+use Rattle.papi_base.specs.declared.native.EventRef.TheVariants as event
+use Rattle.postfix_rules.specs.Rules.{IsDerived}
+use Rattle.postfix_rules.specs.Presets.{Book, entry, lead, rule_of_event}
+use Rattle.event_sets.specs.AtRest.{AtRest, Widths, is_plain, widths_at}
+
+-- the native's component is one of the shape's, and it is allowed only counters of it
+pub record Fits (shape : Widths) (n : Native) : Type 0 where
+  pub has_component : n.comp < length shape
+  pub has_counters : n.allowed < 2 ^ length (widths_at shape (Some n.comp))
+
+-- so is each native of the book
+pub record BookFits (shape : Widths) (book : Book) : Type 0 where
+  pub each : All (λ place. ForSome place (λ d. All (Fits shape) d.natives)) book
+
+-- a preset is one that the book holds
+abbrev pub IsHeld : Book → EventRef → Type 0
+IsHeld book (event.Native n) = ⊤
+IsHeld book (event.Preset row) = IsSomeAnd (entry book row) IsDerived
+
+abbrev pub EventFits : Widths → EventRef → Type 0
+EventFits shape (event.Native n) = Fits shape n
+EventFits shape (event.Preset row) = ⊤
+
+-- The set agrees with the book: its presets are held, no event stands twice, an event with a threshold is plain, and no two of these count the same native.
+pub record Agrees (book : Book) (s : AtRest) : Type 0 where
+  pub held : All (IsHeld book) s.events
+  pub one_each : length s.thresholds ≡ length s.events
+  pub distinct : (i j : ℕ) (e : EventRef) → slice_get s.events i ≡ Some e → slice_get s.events j ≡ Some e → i ≡ j
+  pub plain : (i t : ℕ) (e : EventRef) → slice_get s.thresholds i ≡ Some (suc t) → slice_get s.events i ≡ Some e → is_plain (rule_of_event book e) ≡ true
+  pub apart : (i j t u : ℕ) (e f : EventRef) (n : Native) → slice_get s.thresholds i ≡ Some (suc t) → slice_get s.thresholds j ≡ Some (suc u) → slice_get s.events i ≡ Some e → slice_get s.events j ≡ Some f
+      → lead book e ≡ Some n → lead book f ≡ Some n → i ≡ j

@@ -1,0 +1,124 @@
+-- A set that does not run: what it holds, what its calls look at, and what they change.
+use Rattle.std.specs.Prelude.{ℕ, ◌^◌, min, Bool, true, false, ◌||◌, ◌&&◌, not, ◌==◌, nat_le, nat_lt, List, [], ◌∷◌, ◌++◌, length, remove, Option, Some, None, slice_get, slice_set, unwrap_or}
+use Rattle.std.specs.Option.{option_map_or}
+use Rattle.std.specs.List.{list_any, position_or_len}
+use Rattle.papi_base.specs.declared.bits.Domain.{Domain}
+use Rattle.papi_base.specs.declared.native.Native.{Native}
+use Rattle.papi_base.specs.declared.native.EventRef.{EventRef}
+use Rattle.postfix_rules.specs.declared.rule.Rule.{Rule}
+use Rattle.postfix_rules.specs.declared.rule.Rule.TheVariants as rule
+use Rattle.postfix_rules.specs.Sameness.{same_event, same_native}
+use Rattle.postfix_rules.specs.Presets.{Book, component_of_event, lead, natives_of, rule_of_event}
+use Rattle.event_sets.specs.declared.refusal.Clash.{Clash}
+use Rattle.event_sets.specs.Assigning.{clash_of}
+
+-- for each component the widths of its counters
+abbrev pub Widths : Type 0
+Widths = List (List ℕ)
+
+-- its events, for each its threshold or 0, its component once that is fixed, its domain, and its slice where it is multiplexed
+pub record AtRest : Type 0 where
+  pub events : List EventRef
+  pub thresholds : List ℕ
+  pub component : Option ℕ
+  pub domain : Domain
+  pub slice : Option ℕ
+
+-- a new set: PAPI_create_eventset(3), the domain of PAPI_set_domain(3) being that of the user
+abbrev pub new_set : AtRest
+new_set = record { events = []; thresholds = []; component = None; domain = record { 0 = 1 }; slice = None }
+
+abbrev pub has_event : EventRef → AtRest → Bool
+has_event e s = list_any (same_event e) s.events
+
+abbrev pub place_of : EventRef → AtRest → ℕ
+place_of e s = position_or_len (same_event e) s.events
+
+abbrev pub set_natives : Book → AtRest → List Native
+set_natives book s = natives_of book s.events
+
+-- the natives with those of one more event
+abbrev pub natives_with : Book → EventRef → AtRest → List Native
+natives_with book e s = natives_of book (s.events ++ e ∷ [])
+
+-- a component is fixed, and it is another one
+abbrev pub is_other : Option ℕ → Option ℕ → Bool
+is_other None comp = false
+is_other (Some fixed) None = false
+is_other (Some fixed) (Some comp) = not (fixed == comp)
+
+-- PAPI_add_event(3): the event is of another component, or is in the set
+abbrev pub cannot_take : Book → EventRef → AtRest → Bool
+cannot_take book e s = is_other s.component (component_of_event book e) || has_event e s
+
+-- events or natives would be more than 32
+abbrev pub is_full : Book → EventRef → AtRest → Bool
+is_full book e s = nat_le 32 (length s.events) || nat_lt 32 (length (natives_with book e s))
+
+abbrev pub clash_with : Book → EventRef → AtRest → Option Clash
+clash_with book e s = clash_of s.slice (length (set_natives book s)) (natives_with book e s)
+
+-- some event has a threshold
+abbrev pub is_armed : AtRest → Bool
+is_armed s = list_any (λ t. nat_lt 0 t) s.thresholds
+
+abbrev pub is_plain : Rule → Bool
+is_plain rule.Plain = true
+is_plain rule.Sum = false
+is_plain rule.Sub = false
+is_plain (rule.Postfix f) = false
+
+-- PAPI_overflow(3): the event is not in the set, or is derived
+abbrev pub cannot_arm : Book → EventRef → AtRest → Bool
+cannot_arm book e s = not (has_event e s) || not (is_plain (rule_of_event book e))
+
+-- the widths of the set's component's counters
+abbrev pub widths_at : Widths → Option ℕ → List ℕ
+widths_at shape None = []
+widths_at shape (Some comp) = unwrap_or (slice_get shape comp) []
+
+abbrev pub least_width : List ℕ → ℕ
+least_width [] = 0
+least_width (w ∷ []) = w
+least_width (w ∷ v ∷ ws) = min w (least_width (v ∷ ws))
+
+-- the threshold is neither 0 nor from 256 to the last value of each register
+abbrev pub is_bad_threshold : Widths → ℕ → AtRest → Bool
+is_bad_threshold shape t s = not (t == 0) && not (nat_le 256 t && nat_lt t (2 ^ least_width (widths_at shape s.component)))
+
+-- the native is the event's first
+abbrev pub leads : Book → Native → EventRef → Bool
+leads book n e = option_map_or (same_native n) (lead book e) false
+
+-- an event other than this one has a threshold on the native
+abbrev pub armed_elsewhere : Book → EventRef → Native → List EventRef → List ℕ → Bool
+armed_elsewhere book e n [] ts = false
+armed_elsewhere book e n (x ∷ xs) [] = false
+armed_elsewhere book e n (x ∷ xs) (t ∷ ts) = (not (same_event e x) && nat_lt 0 t && leads book n x) || armed_elsewhere book e n xs ts
+
+abbrev pub shares_native : Book → EventRef → ℕ → AtRest → Bool
+shares_native book e t s = not (t == 0) && option_map_or (λ n. armed_elsewhere book e n s.events s.thresholds) (lead book e) false
+
+-- PAPI_set_domain(3): USER, KERNEL or both
+abbrev pub is_bad_domain : ℕ → Bool
+is_bad_domain bits = (bits == 0) || nat_lt 3 bits
+
+-- the slice is from 1 to 1,000,000 ticks
+abbrev pub is_bad_slice : ℕ → Bool
+is_bad_slice slice = (slice == 0) || nat_lt 1000000 slice
+
+-- PAPI_add_event(3)
+abbrev pub with_event : Book → EventRef → AtRest → AtRest
+with_event book e s = record s { events = s.events ++ e ∷ []; thresholds = s.thresholds ++ 0 ∷ []; component = component_of_event book e }
+
+-- PAPI_remove_event(3)
+abbrev pub without_event : EventRef → AtRest → AtRest
+without_event e s = record s { events = remove s.events (place_of e s); thresholds = remove s.thresholds (place_of e s) }
+
+-- PAPI_cleanup_eventset(3): the domain stays
+abbrev pub emptied : AtRest → AtRest
+emptied s = record new_set { domain = s.domain }
+
+-- PAPI_overflow(3)
+abbrev pub with_threshold : EventRef → ℕ → AtRest → AtRest
+with_threshold e t s = record s { thresholds = slice_set s.thresholds (place_of e s) t }

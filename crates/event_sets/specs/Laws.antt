@@ -1,0 +1,27 @@
+-- The changes of a set keep its agreement with the book, where the tests of their refusals fail.
+use Rattle.std.specs.Prelude.{ℕ, ◌≡◌, true, false, Some}
+use Rattle.papi_base.specs.declared.native.Native.{Native}
+use Rattle.papi_base.specs.declared.native.EventRef.{EventRef}
+use Rattle.postfix_rules.specs.Presets.{Book, lead, rule_of_event}
+use Rattle.event_sets.specs.AtRest.{AtRest, emptied, has_event, is_plain, shares_native, with_event, with_threshold, without_event}
+use Rattle.event_sets.specs.Agreement.{Agrees, IsHeld}
+
+-- with all events gone
+abbrev pub EmptiedAgrees : Type 0
+EmptiedAgrees = (book : Book) (s : AtRest) → Agrees book (emptied s)
+
+-- with one more event
+abbrev pub AddedAgrees : Type 0
+AddedAgrees = (book : Book) (e : EventRef) (s : AtRest) → IsHeld book e → has_event e s ≡ false → Agrees book s → Agrees book (with_event book e s)
+
+-- with an event gone
+abbrev pub RemovedAgrees : Type 0
+RemovedAgrees = (book : Book) (e : EventRef) (s : AtRest) → Agrees book s → Agrees book (without_event e s)
+
+-- with a threshold on an event of the set
+abbrev pub ArmedAgrees : Type 0
+ArmedAgrees = (book : Book) (e : EventRef) (t : ℕ) (s : AtRest) → has_event e s ≡ true → is_plain (rule_of_event book e) ≡ true → shares_native book e t s ≡ false → Agrees book s → Agrees book (with_threshold e t s)
+
+-- an event that the book holds has a first native
+abbrev pub HeldHaveNatives : Type 0
+HeldHaveNatives = (book : Book) (e : EventRef) → IsHeld book e → (n : Native) × (lead book e ≡ Some n)

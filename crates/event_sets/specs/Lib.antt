@@ -1,0 +1,4 @@
+pub mod Assigning
+pub mod AtRest
+pub mod Agreement
+pub mod Laws
