@@ -1,0 +1,53 @@
+-- How what words ask for follows from their matches, for any command.
+use Rattle.std.proofs.Common.{◌≡◌, ◌⊎◌, inl, inr, Bool, true, false, List, [], ◌∷◌, Option, None, Result, Err, refl, subst}
+use Rattle.std.specs.Prelude.{◌&&◌}
+use Rattle.clap.specs.Kinds.{IsAmong, Kinds}
+use Rattle.clap.specs.Words.{App, Row, Text, fault_of, is_simple, is_simple_and_free, matches_of}
+use Rattle.clap.specs.declared.error.kind.ErrorKind.{ErrorKind}
+use Rattle.clap.specs.declared.error.kind.ErrorKind.TheVariants as kind
+use Rattle.tool_words.specs.declared.fault.WordsFault.{WordsFault}
+use Rattle.tool_words.specs.declared.fault.WordsFault.TheVariants.{BadWords, Memory}
+use Rattle.tool_words.specs.Words.{Answers, IsMatched, IsRefused, fault_by, read_by, unless_refused}
+
+-- a kind of refusal is among those that there are
+pub some_kind : (k : ErrorKind) (kinds : Kinds) → IsAmong k kinds → IsRefused kinds
+some_kind k [] h = absurd h
+some_kind k (x ∷ xs) h = tt
+
+-- words that `clap` refuses, or at which memory ran out
+pub refused : (app : App) (words : List Text) (k : ErrorKind) → (k ≡ kind.OutOfMemory) ⊎ IsAmong k (fault_of app words)
+    → IsMatched (Err (fault_by k)) app words
+refused app words k (inl e) = rw e tt
+refused app words k (inr h) = by (fault_by k)
+  where
+    by : (fault : WordsFault) → IsMatched (Err fault) app words
+    by BadWords = some_kind k (fault_of app words) h
+    by Memory = tt
+
+-- what refused words ask for
+pub nothing_asked : {A : Type 0} (kinds : Kinds) (given : Option A) → IsRefused kinds → unless_refused kinds given ≡ None
+nothing_asked [] given h = absurd h
+nothing_asked (k ∷ ks) given h = refl
+
+-- a fault of the matches is the answer
+pub answers_fault : {A : Type 0} (app own : App) (asked : List Row → Option A) (words : List Text) (fault : WordsFault) → own ≡ app
+    → IsMatched (Err fault) own words → Answers (Err fault) (read_by app asked words)
+answers_fault app own asked words BadWords e h =
+    nothing_asked (fault_of app words) (asked (matches_of app words)) (subst (λ (a : App). IsRefused (fault_of a words)) e h)
+answers_fault app own asked words Memory e h = tt
+
+-- what the matches ask for is the answer
+pub answers_matches : {A : Type 0} (app own : App) (asked : List Row → Option A) (words : List Text) (rows : List Row) (answer : Result A WordsFault) → own ≡ app
+    → (fault_of own words ≡ []) × (rows ≡ matches_of own words) → Answers answer (asked rows) → Answers answer (read_by app asked words)
+answers_matches app own asked words rows answer e h a =
+    let fine : fault_of app words ≡ [] = subst (λ (a : App). fault_of a words ≡ []) e h.0 in
+    let same : rows ≡ matches_of app words = subst (λ (a : App). rows ≡ matches_of a words) e h.1 in
+    rw fine (subst (λ (r : List Row). Answers answer (asked r)) same a)
+
+-- a command whose faults are known is one whose matches are
+pub simple_too : (app : App) → is_simple_and_free app ≡ true → is_simple app ≡ true
+simple_too app h = go (is_simple app) _ h
+  where
+    go : (simple free : Bool) → simple && free ≡ true → simple ≡ true
+    go true free h = refl
+    go false free h = cc

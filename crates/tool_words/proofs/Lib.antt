@@ -1,0 +1,3 @@
+pub mod FormLemmas
+pub mod RunFormLemmas
+pub mod Examples

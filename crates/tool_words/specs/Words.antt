@@ -1,0 +1,39 @@
+-- How a tool's words are read: by the matches that `clap` defines for a simple command.
+use Rattle.std.specs.Prelude.{◌≡◌, List, [], ◌∷◌, Option, None, Some, Result, Ok, Err}
+use Rattle.clap.specs.Words.{App, Kinds, Row, Text, fault_of, found_of, matches_of, rows_of}
+use Rattle.clap.specs.declared.error.kind.ErrorKind.{ErrorKind}
+use Rattle.clap.specs.declared.error.kind.ErrorKind.TheVariants as kind
+use Rattle.clap.specs.declared.parser.matches.ArgMatches.{ArgMatches}
+use Rattle.tool_words.specs.declared.fault.WordsFault.{WordsFault}
+use Rattle.tool_words.specs.declared.fault.WordsFault.TheVariants.{BadWords, Memory}
+
+-- nothing, where there is a kind of refusal
+abbrev pub unless_refused : {A : Type 0} → Kinds → Option A → Option A
+unless_refused [] given = given
+unless_refused (k ∷ ks) given = None
+
+-- what words ask for: nothing where the command refuses them, else what their matches come to
+abbrev pub read_by : {A : Type 0} → App → (List Row → Option A) → List Text → Option A
+read_by app asked words = unless_refused (fault_of app words) (asked (matches_of app words))
+
+-- The answer to words that ask for this, or for nothing. Memory may run out at any words.
+abbrev pub Answers : {A : Type 0} → Result A WordsFault → Option A → Type 0
+Answers (Ok value) asked = asked ≡ Some value
+Answers (Err BadWords) asked = asked ≡ None
+Answers (Err Memory) asked = Unit {0}
+
+-- there is a kind of refusal
+abbrev pub IsRefused : Kinds → Type 0
+IsRefused [] = ⊥
+IsRefused (k ∷ ks) = Unit {0}
+
+-- the matches of words under a command
+abbrev pub IsMatched : Result ArgMatches WordsFault → App → List Text → Type 0
+IsMatched (Ok matches) app words = (fault_of app words ≡ []) × (rows_of (found_of matches) ≡ matches_of app words)
+IsMatched (Err BadWords) app words = IsRefused (fault_of app words)
+IsMatched (Err Memory) app words = Unit {0}
+
+-- the fault of words at which `clap` answers with an error of this kind
+abbrev pub fault_by : ErrorKind → WordsFault
+fault_by kind.OutOfMemory = Memory
+fault_by _ = BadWords

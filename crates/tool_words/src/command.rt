@@ -1,0 +1,10 @@
+//! What the words ask for.
+
+use crate::run::RunWords;
+
+/// A tool, with what its words ask for.
+#[derive(Drop)]
+pub enum Command {
+    /// `papi_run`: carries out a script.
+    Run(RunWords),
+}

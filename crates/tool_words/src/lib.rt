@@ -1,0 +1,45 @@
+//! The words of each tool, read by `clap`, and what they ask for.
+#![tactic(auto)]
+
+ghost use Rattle.std.specs.Prelude.{◌≡◌, map, string_bytes};
+ghost use Rattle.tool_words.specs.Form.{form, tool_of};
+ghost use Rattle.tool_words.specs.Words.{Answers};
+
+pub mod command;
+pub mod fault;
+mod matches;
+pub mod run;
+pub mod texts;
+
+pub use command::Command;
+pub use fault::WordsFault;
+pub use run::RunWords;
+use run::read_run_words;
+use std::alloc::Global;
+pub use texts::Texts;
+
+/// What a program's words behind its own name ask for: the first is a tool's name, the others are that tool's words.
+///
+/// Each tool's words are those of a simple command of `clap`. A name that is no tool's, words outside the tool's form,
+/// and a request for help or for the version are bad words.
+pub fn read_words(alloc: Global, words: &[String]) -> Result<Command, WordsFault>
+    ensures { Answers result (form (map string_bytes words.now)) }
+{
+    match tool_in(words) {
+        "papi_run" => Ok(Command::Run(read_run_words(alloc, words)?)),
+        _ => Err(WordsFault::BadWords),
+    }
+}
+
+// The tool that the words name, or an empty text where there are no words.
+fn tool_in(words: &[String]) -> &str
+    ensures { result.now ≡ tool_of (map string_bytes words.now) }
+{
+    match words.first() {
+        Some(tool) => tool.as_str(),
+        None => "",
+    }
+}
+
+#[cfg(test)]
+mod tests;

@@ -1,0 +1,50 @@
+//! The words as `clap` matches them, and the values of their arguments.
+
+ghost use Rattle.std.specs.Prelude.{◌≡◌, ◌≤◌, [], IfOk, length, map, option_map, string_bytes, true};
+ghost use Rattle.clap.specs.Words.{all_of, app_of, first_of, found_of, is_simple_and_free, rows_of};
+ghost use Rattle.tool_words.specs.Words.{IsMatched};
+
+use crate::fault::{WordsFault, fault_by};
+use crate::texts::Texts;
+use clap::ArgMatches;
+use papi_base::Text;
+use std::alloc::{AllocError, Global};
+
+// The matches of the words, of which the first is the tool's name.
+pub(crate) fn matches_in<'a>(
+    command: clap::Command<'a>,
+    words: &'a [String],
+) -> Result<ArgMatches<'a>, WordsFault>
+    requires { is_simple_and_free (app_of command) ≡ true }
+    ensures { IsMatched result (app_of command.entry) (map string_bytes words.now) }
+{
+    match command.try_get_matches_from(words) {
+        Ok(matches) => Ok(matches),
+        Err(error) => Err(fault_by(error.kind())),
+    }
+}
+
+// The first value of an argument.
+pub(crate) fn text_of<'a>(matches: &ArgMatches<'a>, id: &str) -> Option<&'a str>
+    ensures { option_map (λ s. s.now) result ≡ first_of id.now (rows_of (found_of matches.now)) }
+{
+    matches.get_str(id)
+}
+
+// All values of an argument.
+pub(crate) fn texts_of<'m, 'a>(matches: &'m ArgMatches<'a>, id: &str) -> Option<&'m [&'a str]>
+    ensures { option_map (λ s. map (λ v. v.now) s.now) result ≡ all_of id.now (rows_of (found_of matches.now)) }
+{
+    matches.get_strs(id)
+}
+
+// The texts, copied.
+pub(crate) fn copied(alloc: Global, texts: &[&str]) -> Result<Texts, AllocError>
+    ensures { IfOk result (λ all. all ≡ map (λ s. s.now) texts.now) }
+{
+    let mut all = Vec::new(alloc);
+    for text in texts {
+        all.push(Text::copy_of(alloc, *text)?)?;
+    }
+    Ok(Texts::new(all))
+}

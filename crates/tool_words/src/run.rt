@@ -1,0 +1,118 @@
+//! The words of `papi_run`: `-U UNIT SCRIPT [STREAM]`.
+
+ghost use Rattle.std.specs.Prelude.{◌≡◌, IfOk, false, map, option_map, string_bytes};
+ghost use Rattle.clap.specs.Words.{app_of, found_of, rows_of, rule_of};
+ghost use Rattle.tool_words.specs.RunForm.{run_app, run_form, run_words, run_words_in, script_rule, streams_rule, unit_rule};
+ghost use Rattle.tool_words.specs.RunForm as RunForm;
+ghost use Rattle.tool_words.specs.Words.{Answers};
+
+use crate::fault::WordsFault;
+use crate::matches::{copied, matches_in, text_of, texts_of};
+use crate::texts::Texts;
+use clap::{Arg, ArgAction, ArgMatches};
+use papi_base::Text;
+use std::alloc::{AllocError, Global};
+
+/// What the words of `papi_run` ask for: the names of the unit file and of the script, and the names of the streams in
+/// the order of their threads, of which there is at most one.
+#[derive(Drop)]
+pub struct RunWords {
+    pub unit: Text,
+    pub script: Text,
+    pub streams: Texts,
+}
+
+// ---- the command
+
+#[tactic(auto, unfolding(crate::specs::RunForm::unit_rule))]
+fn unit_argument<'a>(alloc: Global) -> Arg<'a>
+    ensures rule { rule_of result ≡ unit_rule }
+    ensures local { result.global ≡ false }
+{
+    Arg::new(alloc, "unit").short('U').required(true)
+}
+
+#[tactic(auto, unfolding(crate::specs::RunForm::script_rule))]
+fn script_argument<'a>(alloc: Global) -> Arg<'a>
+    ensures rule { rule_of result ≡ script_rule }
+    ensures local { result.global ≡ false }
+{
+    Arg::new(alloc, "script").required(true)
+}
+
+#[tactic(auto, unfolding(crate::specs::RunForm::streams_rule))]
+fn streams_argument<'a>(alloc: Global) -> Arg<'a>
+    ensures rule { rule_of result ≡ streams_rule }
+    ensures local { result.global ≡ false }
+{
+    Arg::new(alloc, "streams")
+        .action(ArgAction::Append)
+        .num_args(0..=1)
+}
+
+// The command that reads the words.
+fn run_command<'a>(alloc: Global) -> Result<clap::Command<'a>, AllocError>
+    ensures { IfOk result (λ command. app_of command ≡ run_app) }
+{
+    clap::Command::new(alloc, "papi_run")
+        .arg(unit_argument(alloc))?
+        .arg(script_argument(alloc))?
+        .arg(streams_argument(alloc))
+}
+
+// ---- the values
+
+// The streams that are named, of which there is at most one.
+fn few_streams(alloc: Global, names: Option<&[&str]>) -> Result<Texts, WordsFault>
+    ensures { Answers result (RunForm.few_streams (option_map (λ s. map (λ v. v.now) s.now) names.entry)) }
+{
+    match names {
+        None => Ok(Texts::new(Vec::new(alloc))),
+        Some(names) => {
+            if names.len() > 1 {
+                return Err(WordsFault::BadWords);
+            }
+            Ok(copied(alloc, names)?)
+        }
+    }
+}
+
+// What the values of the arguments ask for.
+fn asked(
+    alloc: Global,
+    unit: Option<&str>,
+    script: Option<&str>,
+    streams: Option<&[&str]>,
+) -> Result<RunWords, WordsFault>
+    ensures { Answers result (run_words (option_map (λ s. s.now) unit.entry) (option_map (λ s. s.now) script.entry)
+        (option_map (λ s. map (λ v. v.now) s.now) streams.entry)) }
+{
+    let (Some(unit), Some(script)) = (unit, script) else {
+        return Err(WordsFault::BadWords);
+    };
+    let streams = few_streams(alloc, streams)?;
+    Ok(RunWords {
+        unit: Text::copy_of(alloc, unit)?,
+        script: Text::copy_of(alloc, script)?,
+        streams,
+    })
+}
+
+// What the matches of the words ask for.
+#[tactic(auto, unfolding(crate::specs::RunForm::run_words_in))]
+fn asked_by(alloc: Global, matches: &ArgMatches<'_>) -> Result<RunWords, WordsFault>
+    ensures { Answers result (run_words_in (rows_of (found_of matches.now))) }
+{
+    let unit = text_of(matches, "unit");
+    let script = text_of(matches, "script");
+    let streams = texts_of(matches, "streams");
+    asked(alloc, unit, script, streams)
+}
+
+// What the words of `papi_run` ask for, of which the first is the tool's name.
+pub(crate) fn read_run_words(alloc: Global, words: &[String]) -> Result<RunWords, WordsFault>
+    ensures { Answers result (run_form (map string_bytes words.now)) }
+{
+    let matches = matches_in(run_command(alloc)?, words)?;
+    asked_by(alloc, &matches)
+}
