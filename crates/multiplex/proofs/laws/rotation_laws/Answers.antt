@@ -1,0 +1,14 @@
+use Rattle.multiplex.proofs.Ticks.{runs_evenly, active_in_turns, active_within, one_group_active}
+use Rattle.multiplex.proofs.Estimates.{one_group_estimate}
+use Rattle.multiplex.proofs.Grouping.{each_has_group}
+use Rattle.multiplex.proofs.laws.rotation_laws.Goals as goal
+
+pub returns : goal.returns
+returns c = record {
+  runs_evenly = runs_evenly;
+  active_in_turns = active_in_turns;
+  active_within = active_within;
+  one_group_active = one_group_active;
+  one_group_estimate = one_group_estimate;
+  each_has_group = each_has_group;
+}

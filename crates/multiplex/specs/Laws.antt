@@ -1,0 +1,34 @@
+-- Laws of groups and their turns.
+use Rattle.std.specs.Prelude.{ℕ, ◌+◌, ◌-◌, ◌*◌, ◌/◌, ◌%◌, ◌≡◌, ◌≤◌, ◌<◌, ◌==◌, min, count_by, List, length}
+use Rattle.std.specs.List.{range_with_len}
+use Rattle.multiplex.specs.Groups.{groups}
+use Rattle.multiplex.specs.Turns.{Turns, active, estimate}
+
+-- how many of the first n slices run the group, where there are so many groups
+abbrev pub slices_run : ℕ → ℕ → ℕ → ℕ
+slices_run count group n = count_by (λ s. (s % count) == group) (range_with_len 0 n)
+
+-- the numbers of finished slices of two groups differ by at most one
+abbrev pub RunsEvenly : Type 0
+RunsEvenly = (count j k n : ℕ) → j < count → k < count → slices_run count j n ≤ slices_run count k n + 1
+
+-- a group's ticks: those of the whole turns, and its part of the last one
+abbrev pub ActiveInTurns : Type 0
+ActiveInTurns = (t : Turns) (group total : ℕ) → 0 < t.slice → group < t.count
+    → active t group total ≡ total / (t.slice * t.count) * t.slice + min (total % (t.slice * t.count) - group * t.slice) t.slice
+
+-- a group has no more ticks than there are
+abbrev pub ActiveWithin : Type 0
+ActiveWithin = (t : Turns) (group total : ℕ) → active t group total ≤ total
+
+-- one group has every tick
+abbrev pub OneGroupActive : Type 0
+OneGroupActive = (t : Turns) (total : ℕ) → t.count ≡ 1 → active t 0 total ≡ total
+
+-- of one group the estimate is the count
+abbrev pub OneGroupEstimate : Type 0
+OneGroupEstimate = (t : Turns) (count total : ℕ) → t.count ≡ 1 → (total ≡ 0 → count ≡ 0) → estimate count total (active t 0 total) ≡ count
+
+-- each place has a group
+abbrev pub EachHasGroup : Type 0
+EachHasGroup = (masks : List ℕ) → length (groups masks) ≡ length masks

@@ -1,0 +1,8 @@
+//! Groups of native events that take turns on the counters, and estimates of what they would have counted.
+#![tactic(auto)]
+
+pub use laws::rotation_laws;
+pub use rotation::{Rotation, estimate};
+
+mod laws;
+mod rotation;
