@@ -1,0 +1,14 @@
+pub mod Account
+pub mod Counts
+pub mod Estimates
+pub mod Values
+pub mod Registers
+pub mod Thresholds
+pub mod Faces
+pub mod Refusals
+pub mod Changes
+pub mod Replies
+pub mod Step
+pub mod World
+pub mod Bounds
+pub mod Conditions
