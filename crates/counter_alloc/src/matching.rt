@@ -22,7 +22,7 @@ pub struct Blame {
 /// A list of at most 32 sets of allowed counters, bit k for counter k, with a counter of its own for each.
 ///
 /// A place is the position of a native event in the list. No call takes memory.
-#[derive(Clone, Debug, Drop)]
+#[derive(Debug, Drop)]
 pub struct Matching {
     counters: u32,
     count: usize,
@@ -133,17 +133,24 @@ impl Matching {
         requires in_range { EachIndex more.now (λ i. slice_index more.now i < 2 ^ self.now.counters) }
         ensures { IsTrue result ↔ Assignable (self.now.allowed ++ more.now) }
     {
-        let mut trial = Matching {
-            counters: self.counters,
-            count: self.count,
-            allowed: self.allowed,
-            chosen: self.chosen,
-        };
+        let mut trial = self.copy();
         for allowed in more {
             if trial.add(*allowed).is_err() {
                 return false;
             }
         }
         true
+    }
+
+    /// The same list once more.
+    pub fn copy(&self) -> Matching
+        ensures { result ≡ self.now }
+    {
+        Matching {
+            counters: self.counters,
+            count: self.count,
+            allowed: self.allowed,
+            chosen: self.chosen,
+        }
     }
 }
