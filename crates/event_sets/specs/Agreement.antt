@@ -1,11 +1,11 @@
 -- What calls ask of the book, of the shape and of their own arguments, and what a set shares with the book.
-use Rattle.std.specs.Prelude.{ℕ, suc, ◌≡◌, ◌<◌, ◌^◌, All, IsSomeAnd, length, Some, true, slice_get, ⊤}
+use Rattle.std.specs.Prelude.{ℕ, suc, ◌≡◌, ◌<◌, ◌^◌, All, IsSomeAnd, length, Option, Some, true, slice_get, ⊤}
 use Rattle.std.specs.Option.{ForSome}
 use Rattle.papi_base.specs.declared.native.Native.{Native}
 use Rattle.papi_base.specs.declared.native.EventRef.{EventRef}
 use Rattle.papi_base.specs.declared.native.EventRef.TheVariants as event
 use Rattle.postfix_rules.specs.Rules.{IsDerived}
-use Rattle.postfix_rules.specs.Presets.{Book, entry, lead, rule_of_event}
+use Rattle.postfix_rules.specs.Presets.{Book, entry, lead, natives_of_event, rule_of_event}
 use Rattle.event_sets.specs.AtRest.{AtRest, Widths, is_plain, widths_at}
 
 -- the native's component is one of the shape's, and it is allowed only counters of it
@@ -26,9 +26,14 @@ abbrev pub EventFits : Widths → EventRef → Type 0
 EventFits shape (event.Native n) = Fits shape n
 EventFits shape (event.Preset row) = ⊤
 
--- The set agrees with the book: its presets are held, no event stands twice, an event with a threshold is plain, and no two of these count the same native.
+-- each native of the event is of this component
+abbrev pub IsOwned : Book → Option ℕ → EventRef → Type 0
+IsOwned book component e = All (λ n. component ≡ Some n.comp) (natives_of_event book e)
+
+-- The set agrees with the book: its presets are held, its natives are of its component, no event stands twice, an event with a threshold is plain, and no two of these count the same native.
 pub record Agrees (book : Book) (s : AtRest) : Type 0 where
   pub held : All (IsHeld book) s.events
+  pub owned : All (IsOwned book s.component) s.events
   pub one_each : length s.thresholds ≡ length s.events
   pub distinct : (i j : ℕ) (e : EventRef) → slice_get s.events i ≡ Some e → slice_get s.events j ≡ Some e → i ≡ j
   pub plain : (i t : ℕ) (e : EventRef) → slice_get s.thresholds i ≡ Some (suc t) → slice_get s.events i ≡ Some e → is_plain (rule_of_event book e) ≡ true

@@ -1,9 +1,9 @@
 -- The changes of a set keep its agreement with the book, where the tests of their refusals fail.
-use Rattle.std.specs.Prelude.{ℕ, ◌≡◌, true, false, Some}
+use Rattle.std.specs.Prelude.{ℕ, ◌≡◌, true, false, Some, slice_get}
 use Rattle.papi_base.specs.declared.native.Native.{Native}
 use Rattle.papi_base.specs.declared.native.EventRef.{EventRef}
 use Rattle.postfix_rules.specs.Presets.{Book, lead, rule_of_event}
-use Rattle.event_sets.specs.AtRest.{AtRest, emptied, has_event, is_plain, shares_native, with_event, with_threshold, without_event}
+use Rattle.event_sets.specs.AtRest.{AtRest, cannot_take, emptied, has_event, is_other, is_plain, set_natives, shares_native, with_event, with_threshold, without_event}
 use Rattle.event_sets.specs.Agreement.{Agrees, IsHeld}
 
 -- with all events gone
@@ -12,7 +12,11 @@ EmptiedAgrees = (book : Book) (s : AtRest) → Agrees book (emptied s)
 
 -- with one more event
 abbrev pub AddedAgrees : Type 0
-AddedAgrees = (book : Book) (e : EventRef) (s : AtRest) → IsHeld book e → has_event e s ≡ false → Agrees book s → Agrees book (with_event book e s)
+AddedAgrees = (book : Book) (e : EventRef) (s : AtRest) → IsHeld book e → cannot_take book e s ≡ false → Agrees book s → Agrees book (with_event book e s)
+
+-- with another component, where the set has no other one
+abbrev pub AssignedAgrees : Type 0
+AssignedAgrees = (book : Book) (comp : ℕ) (s : AtRest) → is_other s.component (Some comp) ≡ false → Agrees book s → Agrees book (record s { component = Some comp })
 
 -- with an event gone
 abbrev pub RemovedAgrees : Type 0
@@ -25,3 +29,7 @@ ArmedAgrees = (book : Book) (e : EventRef) (t : ℕ) (s : AtRest) → has_event 
 -- an event that the book holds has a first native
 abbrev pub HeldHaveNatives : Type 0
 HeldHaveNatives = (book : Book) (e : EventRef) → IsHeld book e → (n : Native) × (lead book e ≡ Some n)
+
+-- the natives of a set that agrees are of its component
+abbrev pub NativesAreOwned : Type 0
+NativesAreOwned = (book : Book) (s : AtRest) (i : ℕ) (n : Native) → Agrees book s → slice_get (set_natives book s) i ≡ Some n → s.component ≡ Some n.comp

@@ -1,15 +1,17 @@
 // Laws of the definitions, each the contract of a function that does nothing.
-ghost use Rattle.event_sets.specs.Laws.{AddedAgrees, ArmedAgrees, EmptiedAgrees, HeldHaveNatives, RemovedAgrees};
+ghost use Rattle.event_sets.specs.Laws.{AddedAgrees, ArmedAgrees, AssignedAgrees, EmptiedAgrees, HeldHaveNatives, NativesAreOwned, RemovedAgrees};
 
 /// The changes of a set keep its agreement with the book, where the tests of refusals fail.
 pub fn agreement_laws()
     ensures emptied { EmptiedAgrees }
     ensures added { AddedAgrees }
+    ensures assigned { AssignedAgrees }
     ensures removed { RemovedAgrees }
     ensures armed { ArmedAgrees }
 {}
 
-/// An event that the book holds has a first native event.
-pub fn lead_laws()
+/// An event that the book holds has a first native event, and the native events of a set that agrees are of its component.
+pub fn natives_laws()
     ensures held { HeldHaveNatives }
+    ensures owned { NativesAreOwned }
 {}

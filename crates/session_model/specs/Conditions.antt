@@ -9,7 +9,7 @@ use Rattle.event_sets.specs.AtRest.{Widths}
 use Rattle.event_sets.specs.Agreement.{Agrees, EventFits, IsHeld}
 use Rattle.session_model.specs.declared.call.Call.{Call}
 use Rattle.session_model.specs.declared.call.Call.TheVariants as call
-use Rattle.session_model.specs.Account.{Kept}
+use Rattle.session_model.specs.Faces.{Face}
 
 -- a code with which an event's text is refused: PAPI_event_name_to_code(3)
 abbrev pub IsNameCode : Code → Type 0
@@ -27,6 +27,6 @@ IsGood book shape (call.Remove k e) = IsNamed book shape e
 IsGood book shape (call.Overflow k e t) = IsNamed book shape e
 IsGood book shape call = ⊤
 
--- each set of the account agrees with the book
-pub record AllAgree (book : Book) (sets : List (Option Kept)) : Type 0 where
-  pub each : All (λ place. ForSome place (λ s. Agrees book s.set)) sets
+-- each set agrees with the book
+pub record AllAgree (book : Book) (faces : List (Option Face)) : Type 0 where
+  pub each : All (λ place. ForSome place (λ f. Agrees book f.set)) faces

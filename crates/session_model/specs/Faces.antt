@@ -1,5 +1,5 @@
 -- Sets under their numbers, and what a refusal looks at of each: PAPI_create_eventset(3).
-use Rattle.std.specs.Prelude.{ℕ, ◌+◌, Bool, false, ◌&&◌, ◌==◌, List, [], ◌∷◌, Option, Some, None, is_none, slice_get, slice_set, unwrap_or}
+use Rattle.std.specs.Prelude.{ℕ, ◌+◌, Bool, false, ◌&&◌, ◌==◌, List, [], ◌∷◌, Option, Some, None, is_none, map, slice_get, slice_set, unwrap_or}
 use Rattle.std.specs.Option.{option_map, option_map_or}
 use Rattle.std.specs.List.{list_any}
 use Rattle.event_sets.specs.AtRest.{AtRest}
@@ -12,6 +12,9 @@ pub record Face : Type 0 where
 
 abbrev pub face_of : Kept → Face
 face_of s = record { set = s.set; running = s.running }
+
+abbrev pub faces_of : List (Option Kept) → List (Option Face)
+faces_of sets = map (option_map face_of) sets
 
 -- the item under a number, if there is one
 abbrev pub at : {X : Type 0} → List (Option X) → ℕ → Option X

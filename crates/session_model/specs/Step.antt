@@ -1,6 +1,5 @@
 -- What a call does to a thread's account, what it replies, and what it notes: the manual pages of PAPI's low-level calls.
-use Rattle.std.specs.Prelude.{ℕ, min, nat_lt, Bool, true, false, if◌then◌else◌, List, [], ◌∷◌, ◌++◌, take, drop, map, length, Option, Some, None}
-use Rattle.std.specs.Option.{option_map}
+use Rattle.std.specs.Prelude.{ℕ, min, nat_lt, Bool, true, false, if◌then◌else◌, List, [], ◌∷◌, ◌++◌, take, drop, length, Option, Some, None}
 use Rattle.papi_base.specs.declared.code.Code.{Code}
 use Rattle.papi_base.specs.declared.code.Code.TheVariants as code
 use Rattle.overflow_dispatch.specs.declared.handler.Note.{Note}
@@ -16,7 +15,7 @@ use Rattle.event_sets.specs.AtRest.{Widths}
 use Rattle.papi_base.specs.Streams.{Mark, Dry, Bad, Fault}
 use Rattle.session_model.specs.Account.{Account}
 use Rattle.session_model.specs.Thresholds.{notes_over}
-use Rattle.session_model.specs.Faces.{face_of}
+use Rattle.session_model.specs.Faces.{faces_of}
 use Rattle.session_model.specs.Refusals.{refusal_of}
 use Rattle.session_model.specs.Changes.{new_kept, kept_after, sets_after}
 use Rattle.session_model.specs.Replies.{refused, reply_over, sight_of_kept}
@@ -74,7 +73,7 @@ unless (Some r) a outcome = record { account = a; reply = refused r; notes = [] 
 unless None a outcome = outcome
 
 abbrev pub account_refusal : Book → Widths → Account → Call → Option Refusal
-account_refusal book shape a call = refusal_of book shape a.registered (map (option_map face_of) a.sets) call
+account_refusal book shape a call = refusal_of book shape a.registered (faces_of a.sets) call
 
 abbrev pub step : Book → Widths → Account → Call → Outcome
 step book shape a call = unless (account_refusal book shape a call) a (performed book shape a call)
