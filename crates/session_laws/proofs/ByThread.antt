@@ -1,0 +1,142 @@
+-- The world looked at on one thread: by induction on the lines of the script.
+use Rattle.std.proofs.Common.{◌≡◌, ◌≢◌, ℕ, Bool, true, false, ◌==◌, ◌&&◌, if◌then◌else◌, List, [], ◌∷◌, ◌++◌, refl, sym, ◌∙◌, ap, ap₂, subst, arith, append_assoc, append-nil, slice_get, slice_set, slice_index_or, unwrap_or, zero, suc, ◌+◌, ◌<◌, Some}
+use Rattle.std.proofs.lemmas.Bool.Decides.{nat_tests}
+use Rattle.papi_base.specs.declared.native.Native.{Native}
+use Rattle.postfix_rules.specs.Presets.{Book}
+use Rattle.session_model.specs.declared.call.Call.{Call}
+use Rattle.session_model.specs.declared.line.Asked.{Asked}
+use Rattle.session_model.specs.declared.line.Asked.TheVariants as asked
+use Rattle.session_model.specs.declared.reply.Reply.{Reply}
+use Rattle.event_sets.specs.AtRest.{Widths}
+use Rattle.papi_base.specs.Streams.{Coming, Dry}
+use Rattle.session_model.specs.Account.{Account, opening}
+use Rattle.session_model.specs.Step.{step, account_after, replies_to, notes_to}
+use Rattle.session_model.specs.World.{Setting, account_at, turn, mentioned_after, world_after_line, call_of, is_call, calls_at, opening_accounts}
+use Rattle.session_laws.specs.Worlds.{AccountByThread, NotesByThread, OpensByThread, RepliesByThread}
+use Rattle.session_laws.proofs.Places.{set_same, set_other}
+
+-- the calls of a line that are the thread's
+abbrev own : ℕ → ℕ → Asked → List Call
+own s t a = if s == t then call_of a else []
+
+account-append : (book : Book) (shape : Widths) (a : Account) (xs ys : List Call) → account_after book shape a (xs ++ ys) ≡ account_after book shape (account_after book shape a xs) ys
+account-append book shape a [] ys = refl
+account-append book shape a (x ∷ xs) ys = account-append book shape (step book shape a x).account xs ys
+
+same_of : (s t : ℕ) → (s == t) ≡ true → s ≡ t
+same_of s t e = grind (arith, nat_tests, e)
+
+apart_of : (s t : ℕ) → (s == t) ≡ false → t ≢ s
+apart_of s t e = λ q. grind (arith, nat_tests, e, q)
+
+-- the account that a line's own thread has
+found : (accounts : List Account) (s : ℕ) (a : Account) → slice_get accounts s ≡ Some a → account_at accounts s ≡ a
+found accounts s a e = ap (λ o. unwrap_or o (opening s [] Dry)) e
+
+-- nothing of a thread's own: its account stays
+stays : (book : Book) (shape : Widths) (a : Account) (b : Bool) → Some a ≡ Some (account_after book shape a (if b then [] else []))
+stays book shape a true = refl
+stays book shape a false = refl
+
+call_account : (at : Setting) (accounts : List Account) (s t : ℕ) (c : Call) (a : Account) → slice_get accounts t ≡ Some a → (b : Bool) → (s == t) ≡ b
+    → slice_get (slice_set accounts s (step at.book at.shape (account_at accounts s) c).account) t ≡ Some (account_after at.book at.shape a (if b then c ∷ [] else []))
+call_account at accounts s t c a e true q =
+    subst (λ i. slice_get (slice_set accounts i (step at.book at.shape (account_at accounts i) c).account) t ≡ Some (step at.book at.shape a c).account) (sym (same_of s t q))
+    (set_same accounts t a (step at.book at.shape (account_at accounts t) c).account e ∙ ap (λ x. Some (step at.book at.shape x c).account) (found accounts t a e))
+call_account at accounts s t c a e false q = set_other accounts s t a (step at.book at.shape (account_at accounts s) c).account e (apart_of s t q)
+
+-- one line: its thread makes a step, and the others stay
+line_account : (at : Setting) (accounts : List Account) (m : List Native) (s t : ℕ) (x : Asked) (a : Account) → slice_get accounts t ≡ Some a
+    → slice_get (turn at accounts m s x).accounts t ≡ Some (account_after at.book at.shape a (own s t x))
+line_account at accounts m s t (asked.Call c) a e = call_account at accounts s t c a e (s == t) refl
+line_account at accounts m s t (asked.CodeOf n) a e = e ∙ stays at.book at.shape a (s == t)
+line_account at accounts m s t (asked.NameOf c) a e = e ∙ stays at.book at.shape a (s == t)
+line_account at accounts m s t asked.Threads a e = e ∙ stays at.book at.shape a (s == t)
+
+pub account_by_thread : AccountByThread
+account_by_thread at w [] t a e = e
+account_by_thread at w (l ∷ ls) t a e =
+    account_by_thread at (world_after_line at w l) ls t (account_after at.book at.shape a (own l.thread t l.asked)) (line_account at w.accounts (mentioned_after w.mentioned l) l.thread t l.asked a e)
+    ∙ ap (λ x. Some x) (sym (account-append at.book at.shape a (own l.thread t l.asked) (calls_at t ls)))
+
+replies-append : (book : Book) (shape : Widths) (a : Account) (xs ys : List Call)
+    → replies_to book shape a (xs ++ ys) ≡ replies_to book shape a xs ++ replies_to book shape (account_after book shape a xs) ys
+replies-append book shape a [] ys = refl
+replies-append book shape a (x ∷ xs) ys = ap (λ rs. (step book shape a x).reply ∷ rs) (replies-append book shape (step book shape a x).account xs ys)
+
+none : (book : Book) (shape : Widths) (a : Account) (r : Reply) (b : Bool) → (if (b && false) then r ∷ [] else []) ≡ replies_to book shape a (if b then [] else [])
+none book shape a r true = refl
+none book shape a r false = refl
+
+call_reply : (at : Setting) (accounts : List Account) (s t : ℕ) (c : Call) (a : Account) → slice_get accounts t ≡ Some a → (b : Bool) → (s == t) ≡ b
+    → (if (b && true) then (step at.book at.shape (account_at accounts s) c).reply ∷ [] else []) ≡ replies_to at.book at.shape a (if b then c ∷ [] else [])
+call_reply at accounts s t c a e true q = ap (λ x. (step at.book at.shape x c).reply ∷ []) (ap (account_at accounts) (same_of s t q) ∙ found accounts t a e)
+call_reply at accounts s t c a e false q = refl
+
+line_reply : (at : Setting) (accounts : List Account) (m : List Native) (s t : ℕ) (x : Asked) (a : Account) → slice_get accounts t ≡ Some a
+    → (if ((s == t) && is_call x) then (turn at accounts m s x).reply ∷ [] else []) ≡ replies_to at.book at.shape a (own s t x)
+line_reply at accounts m s t (asked.Call c) a e = call_reply at accounts s t c a e (s == t) refl
+line_reply at accounts m s t (asked.CodeOf n) a e = none at.book at.shape a (turn at accounts m s (asked.CodeOf n)).reply (s == t)
+line_reply at accounts m s t (asked.NameOf c) a e = none at.book at.shape a (turn at accounts m s (asked.NameOf c)).reply (s == t)
+line_reply at accounts m s t asked.Threads a e = none at.book at.shape a (turn at accounts m s asked.Threads).reply (s == t)
+
+pub replies_by_thread : RepliesByThread
+replies_by_thread at w [] t a e = refl
+replies_by_thread at w (l ∷ ls) t a e =
+    let mine = own l.thread t l.asked in
+    let m = mentioned_after w.mentioned l in
+    let next = account_after at.book at.shape a mine in
+    ap₂ (λ xs ys. xs ++ ys) (line_reply at w.accounts m l.thread t l.asked a e) (replies_by_thread at (world_after_line at w l) ls t next (line_account at w.accounts m l.thread t l.asked a e))
+    ∙ sym (replies-append at.book at.shape a mine (calls_at t ls))
+
+notes-append : (book : Book) (shape : Widths) (a : Account) (xs ys : List Call)
+    → notes_to book shape a (xs ++ ys) ≡ notes_to book shape a xs ++ notes_to book shape (account_after book shape a xs) ys
+notes-append book shape a [] ys = refl
+notes-append book shape a (x ∷ xs) ys =
+    ap (λ ns. (step book shape a x).notes ++ ns) (notes-append book shape (step book shape a x).account xs ys)
+    ∙ sym (append_assoc (step book shape a x).notes _ _)
+
+no_notes : (book : Book) (shape : Widths) (a : Account) (b : Bool) → (if b then [] else []) ≡ notes_to book shape a (if b then [] else [])
+no_notes book shape a true = refl
+no_notes book shape a false = refl
+
+call_notes : (at : Setting) (accounts : List Account) (s t : ℕ) (c : Call) (a : Account) → slice_get accounts t ≡ Some a → (b : Bool) → (s == t) ≡ b
+    → (if b then (step at.book at.shape (account_at accounts s) c).notes else []) ≡ notes_to at.book at.shape a (if b then c ∷ [] else [])
+call_notes at accounts s t c a e true q = ap (λ x. (step at.book at.shape x c).notes) (ap (account_at accounts) (same_of s t q) ∙ found accounts t a e) ∙ sym (append-nil (step at.book at.shape a c).notes)
+call_notes at accounts s t c a e false q = refl
+
+line_notes : (at : Setting) (accounts : List Account) (m : List Native) (s t : ℕ) (x : Asked) (a : Account) → slice_get accounts t ≡ Some a
+    → (if s == t then (turn at accounts m s x).notes else []) ≡ notes_to at.book at.shape a (own s t x)
+line_notes at accounts m s t (asked.Call c) a e = call_notes at accounts s t c a e (s == t) refl
+line_notes at accounts m s t (asked.CodeOf n) a e = no_notes at.book at.shape a (s == t)
+line_notes at accounts m s t (asked.NameOf c) a e = no_notes at.book at.shape a (s == t)
+line_notes at accounts m s t asked.Threads a e = no_notes at.book at.shape a (s == t)
+
+pub notes_by_thread : NotesByThread
+notes_by_thread at w [] t a e = refl
+notes_by_thread at w (l ∷ ls) t a e =
+    let mine = own l.thread t l.asked in
+    let m = mentioned_after w.mentioned l in
+    let next = account_after at.book at.shape a mine in
+    ap₂ (λ xs ys. xs ++ ys) (line_notes at w.accounts m l.thread t l.asked a e) (notes_by_thread at (world_after_line at w l) ls t next (line_account at w.accounts m l.thread t l.asked a e))
+    ∙ sym (notes-append at.book at.shape a mine (calls_at t ls))
+
+-- ---- the opening world
+
+abbrev no_stream : Coming
+no_stream = record { rest = []; mark = Dry }
+
+opens : (n t : ℕ) (streams : List Coming) (k : ℕ) → k < n
+    → slice_get (opening_accounts n t streams) k ≡ Some (opening (t + k) (slice_index_or streams k no_stream).rest (slice_index_or streams k no_stream).mark)
+opens zero t streams k h = absurd (omega (arith, h))
+opens (suc n) t [] zero h = ap (λ (i : ℕ). Some (opening i [] Dry)) (let e : t ≡ t + 0 = omega arith in e)
+opens (suc n) t [] (suc k) h = opens n (t + 1) [] k (omega (arith, h)) ∙ ap (λ (i : ℕ). Some (opening i [] Dry)) (let e : t + 1 + k ≡ t + suc k = omega arith in e)
+opens (suc n) t (s ∷ ss) zero h = ap (λ (i : ℕ). Some (opening i s.rest s.mark)) (let e : t ≡ t + 0 = omega arith in e)
+opens (suc n) t (s ∷ ss) (suc k) h =
+    opens n (t + 1) ss k (omega (arith, h))
+    ∙ ap (λ (i : ℕ). Some (opening i (slice_index_or ss k no_stream).rest (slice_index_or ss k no_stream).mark)) (let e : t + 1 + k ≡ t + suc k = omega arith in e)
+
+pub opens_by_thread : OpensByThread
+opens_by_thread streams t h =
+    opens 64 0 streams t h
+    ∙ ap (λ (i : ℕ). Some (opening i (slice_index_or streams t no_stream).rest (slice_index_or streams t no_stream).mark)) (let e : 0 + t ≡ t = omega arith in e)

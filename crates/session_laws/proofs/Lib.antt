@@ -1,0 +1,8 @@
+pub mod Places
+pub mod Pushing
+pub mod CountsInTurns
+pub mod ByThread
+pub mod Sets
+pub mod AgreementStays
+pub mod Within
+pub mod Apart

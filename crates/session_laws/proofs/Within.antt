@@ -1,0 +1,132 @@
+-- Windows lie in the past, and stamps rise.
+use Rattle.std.proofs.Common.{◌≤◌, ◌+◌, ℕ, Bool, true, false, List, [], ◌∷◌, ◌++◌, length, take, drop, min, sym, ◌∙◌, ap, subst, arith, append_assoc, length-append, Option, Some, None, Ok, Err}
+use Rattle.std.specs.Prelude.{if◌then◌else◌}
+use Rattle.std.specs.Option.{ForSome}
+use Rattle.std.proofs.lemmas.List.{take-append-drop}
+use Rattle.std.proofs.lemmas.List.Elements.{All-replicate}
+use Rattle.papi_base.specs.declared.occurrence.Occ.{Occ}
+use Rattle.postfix_rules.specs.Presets.{Book}
+use Rattle.event_sets.specs.AtRest.{Widths}
+use Rattle.session_model.specs.declared.call.Call.{Call}
+use Rattle.session_model.specs.declared.call.Call.TheVariants as call
+use Rattle.session_model.specs.Account.{Account, Kept, last_after, time_after, zeroed}
+use Rattle.session_model.specs.Bounds.{AllWithin, IsWithin, Rises}
+use Rattle.session_model.specs.Changes.{kept_after, new_kept, sets_after}
+use Rattle.session_model.specs.Step.{performed, step}
+use Rattle.session_laws.specs.Keeping.{OpeningWithin, RiseStays, WithinStays}
+use Rattle.session_laws.proofs.Sets.{sets_each, step_has}
+
+end_bounds : (now : ℕ) (b : Bool) (from to : ℕ) → from ≤ to → to ≤ now → (from ≤ (if b then now else to)) × ((if b then now else to) ≤ now)
+end_bounds now true from to h k = (omega (arith, h, k), omega arith)
+end_bounds now false from to h k = (h, k)
+
+zeroed_within : (now : ℕ) (s : Kept) → IsWithin now s → IsWithin now (zeroed now s)
+zeroed_within now s h = record { in_order = omega arith; past = (end_bounds now s.running s.from s.to h.in_order h.past).1 }
+
+kept_within : (book : Book) (past : List Occ) (c : Call) (s : Kept) → IsWithin (length past) s → IsWithin (length past) (kept_after book past c s)
+kept_within book past (call.Cleanup k) s h = let z = zeroed_within (length past) s h in record { in_order = z.in_order; past = z.past }
+kept_within book past (call.Add k (Ok e)) s h = let z = zeroed_within (length past) s h in record { in_order = z.in_order; past = z.past }
+kept_within book past (call.Add k (Err c)) s h = h
+kept_within book past (call.Remove k (Ok e)) s h = let z = zeroed_within (length past) s h in record { in_order = z.in_order; past = z.past }
+kept_within book past (call.Remove k (Err c)) s h = h
+kept_within book past (call.AssignComponent k comp) s h = record { in_order = h.in_order; past = h.past }
+kept_within book past (call.SetDomain k bits) s h = let z = zeroed_within (length past) s h in record { in_order = z.in_order; past = z.past }
+kept_within book past (call.SetMultiplex k slice) s h = let z = zeroed_within (length past) s h in record { in_order = z.in_order; past = z.past }
+kept_within book past (call.Overflow k (Ok e) t) s h = let z = zeroed_within (length past) s h in record { in_order = z.in_order; past = z.past }
+kept_within book past (call.Overflow k (Err c) t) s h = h
+kept_within book past (call.Start k) s h = record { in_order = omega arith; past = omega arith }
+kept_within book past (call.Stop k) s h =
+    let e = end_bounds (length past) s.running s.from s.to h.in_order h.past in
+    record { in_order = e.0; past = e.1 }
+kept_within book past (call.Accum k) s h = let z = zeroed_within (length past) s h in record { in_order = z.in_order; past = z.past }
+kept_within book past (call.Reset k) s h = zeroed_within (length past) s h
+kept_within book past call.Register s h = h
+kept_within book past call.Unregister s h = h
+kept_within book past call.Create s h = h
+kept_within book past (call.Destroy k) s h = h
+kept_within book past (call.Read k) s h = h
+kept_within book past (call.State k) s h = h
+kept_within book past (call.ListEvents k) s h = h
+kept_within book past (call.Assign k) s h = h
+kept_within book past (call.Raw k c) s h = h
+kept_within book past (call.Run n) s h = h
+
+-- windows that lie in the past go on to do so
+pub within_more : (now later : ℕ) (sets : List (Option Kept)) → now ≤ later → AllWithin now sets → AllWithin later sets
+within_more now later sets more h = record { each = λ k d below s e. go s (h.each k d below s e) } where
+  go : (s : Kept) → IsWithin now s → IsWithin later s
+  go s w = let p = w.past in record { in_order = w.in_order; past = omega (arith, p, more) }
+
+-- the sets after a call at the same time
+same_time : (book : Book) (a : Account) (c : Call) → AllWithin (length a.past) a.sets → AllWithin (length a.past) (sets_after new_kept (kept_after book a.past) c a.sets)
+same_time book a c h = record { each = sets_each (IsWithin (length a.past)) book a.past c a.sets (record { in_order = omega arith; past = omega arith }) (λ k s q e g. kept_within book a.past c s g) h.each }
+
+performed_within : (book : Book) (shape : Widths) (a : Account) (c : Call) → AllWithin (length a.past) a.sets → AllWithin (length (performed book shape a c).account.past) (performed book shape a c).account.sets
+performed_within book shape a (call.Run n) h = within_more (length a.past) (length (a.past ++ take (min n (length a.rest)) a.rest)) a.sets (omega (arith, length-append a.past (take (min n (length a.rest)) a.rest))) h
+performed_within book shape a call.Register h = h
+performed_within book shape a call.Unregister h = h
+performed_within book shape a call.Create h = same_time book a call.Create h
+performed_within book shape a (call.Destroy k) h = same_time book a (call.Destroy k) h
+performed_within book shape a (call.Cleanup k) h = same_time book a (call.Cleanup k) h
+performed_within book shape a (call.Add k e) h = same_time book a (call.Add k e) h
+performed_within book shape a (call.Remove k e) h = same_time book a (call.Remove k e) h
+performed_within book shape a (call.AssignComponent k comp) h = same_time book a (call.AssignComponent k comp) h
+performed_within book shape a (call.SetDomain k bits) h = same_time book a (call.SetDomain k bits) h
+performed_within book shape a (call.SetMultiplex k slice) h = same_time book a (call.SetMultiplex k slice) h
+performed_within book shape a (call.Overflow k e t) h = same_time book a (call.Overflow k e t) h
+performed_within book shape a (call.Start k) h = same_time book a (call.Start k) h
+performed_within book shape a (call.Stop k) h = same_time book a (call.Stop k) h
+performed_within book shape a (call.Accum k) h = same_time book a (call.Accum k) h
+performed_within book shape a (call.Reset k) h = same_time book a (call.Reset k) h
+performed_within book shape a (call.Read k) h = h
+performed_within book shape a (call.State k) h = h
+performed_within book shape a (call.ListEvents k) h = h
+performed_within book shape a (call.Assign k) h = h
+performed_within book shape a (call.Raw k c) h = h
+
+pub within_stays : WithinStays
+within_stays book shape a c h = step_has (λ b. AllWithin (length b.past) b.sets) book shape a c h (λ q. performed_within book shape a c h)
+
+-- ---- stamps
+
+pub rises-front : (time : ℕ) (xs ys : List Occ) → Rises time (xs ++ ys) → Rises time xs
+rises-front time [] ys h = tt
+rises-front time (x ∷ xs) ys h = (h.0, h.1, rises-front (x.stamp + 1) xs ys h.2)
+
+-- one occurrence more, after the clock
+pub rises-push : (before : Option Occ) (past : List Occ) (o : Occ) → Rises (time_after before) past → time_after (last_after before past) ≤ o.stamp → o.amount ≤ 255 → Rises (time_after before) (past ++ o ∷ [])
+rises-push before [] o h late small = (late, small, tt)
+rises-push before (x ∷ past) o h late small = (h.0, h.1, rises-push (Some x) past o h.2 late small)
+
+performed_rises : (book : Book) (shape : Widths) (a : Account) (c : Call) → Rises 0 (a.past ++ a.rest) → Rises 0 ((performed book shape a c).account.past ++ (performed book shape a c).account.rest)
+performed_rises book shape a (call.Run n) h =
+    let k = min n (length a.rest) in
+    subst (Rises 0) (sym (append_assoc a.past (take k a.rest) (drop k a.rest) ∙ ap (λ xs. a.past ++ xs) (take-append-drop k a.rest))) h
+performed_rises book shape a call.Register h = h
+performed_rises book shape a call.Unregister h = h
+performed_rises book shape a call.Create h = h
+performed_rises book shape a (call.Destroy k) h = h
+performed_rises book shape a (call.Cleanup k) h = h
+performed_rises book shape a (call.Add k e) h = h
+performed_rises book shape a (call.Remove k e) h = h
+performed_rises book shape a (call.AssignComponent k comp) h = h
+performed_rises book shape a (call.SetDomain k bits) h = h
+performed_rises book shape a (call.SetMultiplex k slice) h = h
+performed_rises book shape a (call.Overflow k e t) h = h
+performed_rises book shape a (call.Start k) h = h
+performed_rises book shape a (call.Stop k) h = h
+performed_rises book shape a (call.Accum k) h = h
+performed_rises book shape a (call.Reset k) h = h
+performed_rises book shape a (call.Read k) h = h
+performed_rises book shape a (call.State k) h = h
+performed_rises book shape a (call.ListEvents k) h = h
+performed_rises book shape a (call.Assign k) h = h
+performed_rises book shape a (call.Raw k c) h = h
+
+pub rise_stays : RiseStays
+rise_stays book shape a c h =
+    let all = step_has (λ b. Rises 0 (b.past ++ b.rest)) book shape a c h (λ q. performed_rises book shape a c h) in
+    (rises-front 0 (step book shape a c).account.past (step book shape a c).account.rest all, all)
+
+pub opening_within : OpeningWithin
+opening_within thread rest mark = record { each = All-replicate (λ place. ForSome place (IsWithin 0)) 64 None (λ x e. cc) }
