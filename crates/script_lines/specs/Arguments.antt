@@ -1,0 +1,29 @@
+-- The arguments of a call of a script: this project's own format, docs/FORMATS.md.
+use Rattle.std.specs.Prelude.{ℕ, List, [], ◌∷◌, Option, Some, None, Result, Ok, Err, if◌then◌else◌}
+use Rattle.table_rows.specs.Texts.{Text, decimal_in, is_printable}
+use Rattle.script_lines.specs.declared.fault.ScriptCause.{ScriptCause}
+use Rattle.script_lines.specs.declared.fault.ScriptCause.TheVariants.{BadArguments, BadNumber}
+use Rattle.script_lines.specs.Answers.{made_of}
+
+abbrev pub number_or : ScriptCause → Option ℕ → Result ℕ ScriptCause
+number_or cause (Some number) = Ok number
+number_or cause None = Err cause
+
+-- a number of 32 bits
+abbrev pub number_in : Text → Result ℕ ScriptCause
+number_in word = number_or BadNumber (decimal_in 0 4294967295 word)
+
+-- no argument
+abbrev pub nothing : List Text → Result (Unit {0}) ScriptCause
+nothing [] = Ok tt
+nothing (word ∷ words) = Err BadArguments
+
+-- one number
+abbrev pub one_number : List Text → Result ℕ ScriptCause
+one_number (word ∷ []) = number_in word
+one_number _ = Err BadArguments
+
+-- the number of a set, and an event, which has no bytes but printable ones; a word has no blanks
+abbrev pub set_and_event : List Text → Result (ℕ × Text) ScriptCause
+set_and_event (set ∷ event ∷ []) = if is_printable event then made_of (λ number. (number, event)) (number_in set) else Err BadArguments
+set_and_event _ = Err BadArguments

@@ -1,0 +1,78 @@
+-- The calls of a script by their words, in the order of the table of calls: this project's own format, docs/FORMATS.md.
+use Rattle.std.specs.Prelude.{ℕ, List, [], ◌∷◌, Option, Some, None, Result, Err, if◌then◌else◌, codes, slice_get}
+use Rattle.std.specs.Str.{bytes_eq}
+use Rattle.table_rows.specs.Texts.{Text}
+use Rattle.script_lines.specs.declared.call.ScriptCall.{ScriptCall}
+use Rattle.script_lines.specs.declared.call.ScriptCall.TheVariants as call
+use Rattle.script_lines.specs.declared.fault.ScriptCause.{ScriptCause}
+use Rattle.script_lines.specs.declared.fault.ScriptCause.TheVariants.{UnknownCall}
+use Rattle.script_lines.specs.Answers.{made_of}
+use Rattle.script_lines.specs.Arguments.{nothing, one_number, set_and_event}
+
+-- what arguments a call has, and the call that they make
+pub data Form : Type 0 where
+  Nothing : ScriptCall → Form
+  Number : (ℕ → ScriptCall) → Form
+  SetAndEvent : (ℕ → Text → ScriptCall) → Form
+
+-- a call's word, and its form where it is built
+pub record CallRow : Type 0 where
+  pub word : Text
+  pub form : Option Form
+
+abbrev pub built : Text → Form → CallRow
+built word form = record { word = word; form = Some form }
+
+abbrev pub not_built : Text → CallRow
+not_built word = record { word = word; form = None }
+
+unfoldable pub call_rows : List CallRow
+call_rows =
+    not_built (codes "register")
+    ∷ not_built (codes "unregister")
+    ∷ not_built (codes "threads")
+    ∷ built (codes "create") (Nothing call.Create)
+    ∷ not_built (codes "destroy")
+    ∷ not_built (codes "cleanup")
+    ∷ built (codes "add") (SetAndEvent (λ set event. call.Add set event))
+    ∷ not_built (codes "remove")
+    ∷ not_built (codes "component")
+    ∷ not_built (codes "domain")
+    ∷ not_built (codes "multiplex")
+    ∷ not_built (codes "overflow")
+    ∷ built (codes "start") (Number (λ set. call.Start set))
+    ∷ built (codes "stop") (Number (λ set. call.Stop set))
+    ∷ built (codes "read") (Number (λ set. call.Read set))
+    ∷ not_built (codes "accum")
+    ∷ not_built (codes "reset")
+    ∷ not_built (codes "state")
+    ∷ built (codes "events") (Number (λ set. call.Events set))
+    ∷ built (codes "assign") (Number (λ set. call.Assign set))
+    ∷ not_built (codes "raw")
+    ∷ built (codes "run") (Number (λ count. call.Run count))
+    ∷ not_built (codes "code")
+    ∷ not_built (codes "name")
+    ∷ []
+
+abbrev pub word_in : Option CallRow → Text
+word_in None = []
+word_in (Some row) = row.word
+
+-- the word in a row of the table, from 0
+unfoldable pub word_at : ℕ → Text
+word_at row = word_in (slice_get call_rows row)
+
+-- the form of the call that a word names, where there is one that is built
+abbrev pub form_of : Text → List CallRow → Option Form
+form_of word [] = None
+form_of word (row ∷ rows) = if bytes_eq row.word word then row.form else form_of word rows
+
+-- the call of a form with its arguments
+abbrev pub call_by : Option Form → List Text → Result ScriptCall ScriptCause
+call_by None arguments = Err UnknownCall
+call_by (Some (Nothing call)) arguments = made_of (λ none. call) (nothing arguments)
+call_by (Some (Number make)) arguments = made_of make (one_number arguments)
+call_by (Some (SetAndEvent make)) arguments = made_of (λ p. make p.0 p.1) (set_and_event arguments)
+
+abbrev pub call_of : Text → List Text → Result ScriptCall ScriptCause
+call_of word arguments = call_by (form_of word call_rows) arguments

@@ -1,0 +1,9 @@
+pub mod Answers
+pub mod Arguments
+pub mod Calls
+pub mod Causes
+pub mod Lines
+pub mod Rows
+pub mod Scripts
+pub mod Words
+pub use Rattle.table_rows.specs.Texts

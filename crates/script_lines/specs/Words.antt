@@ -1,0 +1,23 @@
+-- The words of a line of a script, this project's own format: docs/FORMATS.md.
+use Rattle.std.specs.Prelude.{◌==◌, ◌||◌, ℕ, Bool, true, List, [], ◌∷◌, if◌then◌else◌}
+
+abbrev pub is_blank : ℕ → Bool
+is_blank b = (b == 32) || (b == 9)
+
+-- whether a word ends before these bytes
+abbrev pub ends_here : List ℕ → Bool
+ends_here [] = true
+ends_here (b ∷ rest) = is_blank b
+
+-- a byte more in front of the first word
+abbrev pub in_first : ℕ → List (List ℕ) → List (List ℕ)
+in_first b [] = (b ∷ []) ∷ []
+in_first b (word ∷ words) = (b ∷ word) ∷ words
+
+-- the longest runs of bytes that are no spaces or tabs, in order
+unfoldable pub words_of : List ℕ → List (List ℕ)
+words_of [] = []
+words_of (b ∷ rest) =
+    if is_blank b then words_of rest
+    else if ends_here rest then (b ∷ []) ∷ words_of rest
+    else in_first b (words_of rest)

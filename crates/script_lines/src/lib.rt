@@ -1,0 +1,16 @@
+//! Scripts: lines that each ask one call of one thread.
+#![tactic(auto)]
+
+mod arguments;
+pub mod call;
+pub mod fault;
+mod line;
+pub mod script;
+mod words;
+
+pub use call::{ScriptCall, call_word};
+pub use fault::{ScriptCause, ScriptFault, cause_text};
+pub use script::{Script, ScriptLine, read_script};
+
+#[cfg(test)]
+mod tests;

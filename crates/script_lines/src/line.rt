@@ -1,0 +1,150 @@
+//! One line of a script.
+
+ghost use Rattle.std.specs.Prelude.{◌≡◌, ◌==◌, ◌≤◌, ◌<◌, ◌∷◌, length, position, map, option_map, Some, None, if◌then◌else◌};
+ghost use Rattle.std.specs.Str.Lines.{lines, strip_carriage_return};
+ghost use Rattle.script_lines.specs.Answers.{Answers};
+ghost use Rattle.script_lines.specs.Lines as Lines;
+ghost use Rattle.script_lines.specs.Calls as Calls;
+
+use crate::arguments::{nothing, one_number, set_and_event};
+use crate::call::ScriptCall;
+use crate::fault::{LineFault, ScriptCause};
+use crate::script::ScriptLine;
+use crate::words::split_words;
+use std::alloc::Global;
+use table_rows::{decimal_in, printable_text};
+
+// How many call lines a script has at most, and how many threads there are.
+const MOST_CALLS: usize = 100_000;
+
+const THREADS: u64 = 1;
+
+// A line without the carriage return at its end.
+fn without_return(line: &[u8]) -> &[u8]
+    ensures { result.now ≡ strip_carriage_return line.now }
+{
+    let n = line.len();
+    if n > 0 && line[n - 1] == b'\r' {
+        return &line[..n - 1];
+    }
+    line
+}
+
+// The place of the first newline.
+fn newline_in(bytes: &[u8]) -> Option<usize>
+    ensures { result ≡ position (λ b. b == 10) bytes.now }
+{
+    bytes.iter().position(|b| *b == b'\n')
+}
+
+// The first line, and the bytes behind its newline.
+pub(crate) fn cut_line(bytes: &[u8]) -> (&[u8], &[u8])
+    requires { 0 < length bytes.now }
+    ensures line { lines bytes.now ≡ result.0.now ∷ lines result.1.now }
+    ensures shorter { length result.1.now < length bytes.now }
+{
+    match newline_in(bytes) {
+        Some(end) => (without_return(&bytes[..end]), &bytes[end + 1..]),
+        None => (bytes, &[]),
+    }
+}
+
+// Whether a line is passed over: it is empty, or begins with `#`.
+pub(crate) fn is_skipped(line: &[u8]) -> bool
+    ensures { result ≡ Lines.is_skipped line.now }
+{
+    line.len() == 0 || line[0] == b'#'
+}
+
+// The thread that a word names.
+fn thread_in(word: &[u8]) -> Result<u32, ScriptCause>
+    ensures { result ≡ Lines.thread_in word.now }
+{
+    match decimal_in(0, THREADS - 1, word) {
+        Some(thread) => Ok(thread as u32),
+        None => Err(ScriptCause::BadThread),
+    }
+}
+
+// The call of a name and its arguments.
+#[tactic(auto, unfolding(crate::specs::Calls::call_rows))]
+fn call_named(alloc: Global, name: &str, arguments: &[&[u8]]) -> Result<ScriptCall, LineFault>
+    ensures { Answers result (Calls.call_of name.now (map (λ w. w.now) arguments.now)) }
+{
+    match name {
+        "create" => {
+            nothing(arguments)?;
+            Ok(ScriptCall::Create)
+        }
+        "add" => {
+            let (set, event) = set_and_event(alloc, arguments)?;
+            Ok(ScriptCall::Add { set, event })
+        }
+        "start" => Ok(ScriptCall::Start {
+            set: one_number(arguments)?,
+        }),
+        "stop" => Ok(ScriptCall::Stop {
+            set: one_number(arguments)?,
+        }),
+        "read" => Ok(ScriptCall::Read {
+            set: one_number(arguments)?,
+        }),
+        "events" => Ok(ScriptCall::Events {
+            set: one_number(arguments)?,
+        }),
+        "assign" => Ok(ScriptCall::Assign {
+            set: one_number(arguments)?,
+        }),
+        "run" => Ok(ScriptCall::Run {
+            count: one_number(arguments)?,
+        }),
+        _ => Err(LineFault::Cause(ScriptCause::UnknownCall)),
+    }
+}
+
+// The call of a word and its arguments.
+fn call_of(alloc: Global, word: &[u8], arguments: &[&[u8]]) -> Result<ScriptCall, LineFault>
+    ensures { Answers result (Calls.call_of word.now (map (λ w. w.now) arguments.now)) }
+{
+    match printable_text(word) {
+        Some(name) => call_named(alloc, name, arguments),
+        None => Err(LineFault::Cause(ScriptCause::UnknownCall)),
+    }
+}
+
+// The call line of some words.
+fn line_of_words(alloc: Global, number: u64, words: &[&[u8]]) -> Result<ScriptLine, LineFault>
+    ensures { Answers result (Lines.line_of_words number (map (λ w. w.now) words.now)) }
+{
+    let [thread, words @ ..] = words else {
+        return Err(LineFault::Cause(ScriptCause::BadThread));
+    };
+    let thread = thread_in(*thread)?;
+    let [word, arguments @ ..] = words else {
+        return Err(LineFault::Cause(ScriptCause::UnknownCall));
+    };
+    let call = call_of(alloc, *word, arguments)?;
+    Ok(ScriptLine {
+        line: number,
+        thread,
+        call,
+    })
+}
+
+// The call line of this number, where so many call lines stand above it.
+#[tactic(auto, unfolding(crate::specs::Lines::call_line))]
+pub(crate) fn call_line(
+    alloc: Global,
+    number: u64,
+    above: usize,
+    line: &[u8],
+) -> Result<ScriptLine, LineFault>
+    ensures call { Answers result (Lines.call_line number above line.now) }
+    ensures few { Lines.IsAllowed above result }
+{
+    if above >= MOST_CALLS {
+        return Err(LineFault::Cause(ScriptCause::OverLimit));
+    }
+    let words = split_words(alloc, line)?;
+    line_of_words(alloc, number, words.as_slice())
+}

@@ -1,0 +1,69 @@
+//! A whole script.
+
+ghost use Rattle.std.specs.Prelude.{◌≡◌, ◌≤◌, length};
+ghost use Rattle.script_lines.specs.Scripts.{ReadsScript};
+
+use crate::call::ScriptCall;
+use crate::fault::ScriptFault;
+use crate::line::{call_line, cut_line, is_skipped};
+use std::alloc::Global;
+use std::marker::Model;
+
+/// A line that asks a call of a thread, with its number in the script, from 1.
+#[derive(Drop)]
+pub struct ScriptLine {
+    pub line: u64,
+    pub thread: u32,
+    pub call: ScriptCall,
+}
+
+/// The call lines of a script in order, which contracts see as their list; there are at most 100,000.
+#[derive(Drop)]
+pub struct Script {
+    lines: Vec<ScriptLine>,
+}
+
+impl Model for Script {
+    ghost use Rattle.std.specs.Prelude.{List, ◌≤◌, length};
+    ghost use Rattle.script_lines.specs.declared.script.ScriptLine.{ScriptLine};
+
+    ghost Value = { List ScriptLine };
+
+    ghost view = { λ s. s.lines.items };
+
+    ghost invariant = { λ s. length s.lines.items ≤ 100000 };
+}
+
+impl Script {
+    /// The call lines, of which there are at most 100,000.
+    pub fn lines(&self) -> &[ScriptLine]
+        ensures lines { result.now ≡ self.now }
+        ensures few { length self.now ≤ 100000 }
+    {
+        self.lines.as_slice()
+    }
+}
+
+/// The script of some bytes, or its first line that is none, with the first cause that it has.
+///
+/// Lines end in a newline, the last one need not; a carriage return before a newline is dropped. Empty lines and lines that begin
+/// with `#` are passed over, and numbered. Each other line has words between spaces and tabs: a thread, a call and its arguments.
+pub fn read_script(alloc: Global, bytes: &[u8]) -> Result<Script, ScriptFault>
+    ensures { ReadsScript result bytes.now }
+{
+    let mut lines = Vec::new(alloc);
+    let mut rest = bytes;
+    let mut number = 0;
+    while rest.len() > 0 {
+        let (line, behind) = cut_line(rest);
+        rest = behind;
+        number += 1;
+        if !is_skipped(line) {
+            match call_line(alloc, number, lines.len(), line) {
+                Ok(line) => lines.push(line)?,
+                Err(fault) => return Err(fault.at_line(number)),
+            }
+        }
+    }
+    Ok(Script { lines })
+}
