@@ -1,5 +1,5 @@
 -- What a program's words ask for: the first names the tool.
-use Rattle.std.specs.Prelude.{List, [], ◌∷◌, Option, None, if◌then◌else◌, codes, option_map}
+use Rattle.std.specs.Prelude.{◌≤◌, List, [], ◌∷◌, length, Option, None, if◌then◌else◌, codes, option_map}
 use Rattle.std.specs.Str.{bytes_eq}
 use Rattle.clap.specs.Words.{Text}
 use Rattle.tool_words.specs.declared.command.Command.{Command}
@@ -14,3 +14,7 @@ tool_of (tool ∷ words) = tool
 -- the command that the words ask for, where they are of a tool's form
 abbrev pub form : List Text → Option Command
 form words = if bytes_eq (tool_of words) (codes "papi_run") then option_map Run (run_form words) else None
+
+-- a command names at most 64 streams
+abbrev pub HasFewStreams : Command → Type 0
+HasFewStreams (Run words) = length words.streams ≤ 64

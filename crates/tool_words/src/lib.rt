@@ -1,8 +1,8 @@
 //! The words of each tool, read by `clap`, and what they ask for.
 #![tactic(auto)]
 
-ghost use Rattle.std.specs.Prelude.{◌≡◌, map, string_bytes};
-ghost use Rattle.tool_words.specs.Form.{form, tool_of};
+ghost use Rattle.std.specs.Prelude.{◌≡◌, IfOk, map, string_bytes};
+ghost use Rattle.tool_words.specs.Form.{HasFewStreams, form, tool_of};
 ghost use Rattle.tool_words.specs.Words.{Answers};
 
 pub mod command;
@@ -23,7 +23,8 @@ pub use texts::Texts;
 /// Each tool's words are those of a simple command of `clap`. A name that is no tool's, words outside the tool's form,
 /// and a request for help or for the version are bad words.
 pub fn read_words(alloc: Global, words: &[String]) -> Result<Command, WordsFault>
-    ensures { Answers result (form (map string_bytes words.now)) }
+    ensures few { IfOk result HasFewStreams }
+    ensures asked { Answers result (form (map string_bytes words.now)) }
 {
     match tool_in(words) {
         "papi_run" => Ok(Command::Run(read_run_words(alloc, words)?)),

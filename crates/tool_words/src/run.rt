@@ -1,6 +1,6 @@
 //! The words of `papi_run`: `-U UNIT SCRIPT [STREAM]`.
 
-ghost use Rattle.std.specs.Prelude.{◌≡◌, IfOk, false, map, option_map, string_bytes};
+ghost use Rattle.std.specs.Prelude.{◌≡◌, ◌≤◌, IfOk, false, length, map, option_map, string_bytes};
 ghost use Rattle.clap.specs.Words.{app_of, found_of, rows_of, rule_of};
 ghost use Rattle.tool_words.specs.RunForm.{run_app, run_form, run_words, run_words_in, script_rule, streams_rule, unit_rule};
 ghost use Rattle.tool_words.specs.RunForm as RunForm;
@@ -64,7 +64,8 @@ fn run_command<'a>(alloc: Global) -> Result<clap::Command<'a>, AllocError>
 
 // The streams that are named, of which there is at most one.
 fn few_streams(alloc: Global, names: Option<&[&str]>) -> Result<Texts, WordsFault>
-    ensures { Answers result (RunForm.few_streams (option_map (λ s. map (λ v. v.now) s.now) names.entry)) }
+    ensures few { IfOk result (λ streams. length streams ≤ 64) }
+    ensures asked { Answers result (RunForm.few_streams (option_map (λ s. map (λ v. v.now) s.now) names.entry)) }
 {
     match names {
         None => Ok(Texts::new(Vec::new(alloc))),
@@ -84,7 +85,8 @@ fn asked(
     script: Option<&str>,
     streams: Option<&[&str]>,
 ) -> Result<RunWords, WordsFault>
-    ensures { Answers result (run_words (option_map (λ s. s.now) unit.entry) (option_map (λ s. s.now) script.entry)
+    ensures few { IfOk result (λ words. length words.streams ≤ 64) }
+    ensures asked { Answers result (run_words (option_map (λ s. s.now) unit.entry) (option_map (λ s. s.now) script.entry)
         (option_map (λ s. map (λ v. v.now) s.now) streams.entry)) }
 {
     let (Some(unit), Some(script)) = (unit, script) else {
@@ -101,7 +103,8 @@ fn asked(
 // What the matches of the words ask for.
 #[tactic(auto, unfolding(crate::specs::RunForm::run_words_in))]
 fn asked_by(alloc: Global, matches: &ArgMatches<'_>) -> Result<RunWords, WordsFault>
-    ensures { Answers result (run_words_in (rows_of (found_of matches.now))) }
+    ensures few { IfOk result (λ words. length words.streams ≤ 64) }
+    ensures asked { Answers result (run_words_in (rows_of (found_of matches.now))) }
 {
     let unit = text_of(matches, "unit");
     let script = text_of(matches, "script");
@@ -111,7 +114,8 @@ fn asked_by(alloc: Global, matches: &ArgMatches<'_>) -> Result<RunWords, WordsFa
 
 // What the words of `papi_run` ask for, of which the first is the tool's name.
 pub(crate) fn read_run_words(alloc: Global, words: &[String]) -> Result<RunWords, WordsFault>
-    ensures { Answers result (run_form (map string_bytes words.now)) }
+    ensures few { IfOk result (λ words. length words.streams ≤ 64) }
+    ensures asked { Answers result (run_form (map string_bytes words.now)) }
 {
     let matches = matches_in(run_command(alloc)?, words)?;
     asked_by(alloc, &matches)
