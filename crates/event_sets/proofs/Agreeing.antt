@@ -46,7 +46,7 @@ neither true b h = cc
 neither false b h = (refl, h)
 
 -- an event that is in the list is found there
-found : (e : EventRef) (es : List EventRef) (i : ℕ) → slice_get es i ≡ Some e → list_any (same_event e) es ≡ true
+pub found : (e : EventRef) (es : List EventRef) (i : ℕ) → slice_get es i ≡ Some e → list_any (same_event e) es ≡ true
 found e [] i h = cc
 found e (f ∷ es) zero h = let same : f ≡ e = cc in rw (same, event_self e) refl
 found e (f ∷ es) (suc i) h = or_right (same_event e f) (list_any (same_event e) es) (found e es i h)

@@ -1,2 +1,6 @@
+pub mod Steps
 pub mod Removing
 pub mod Agreeing
+pub mod JoinedNatives
+pub mod Clashing
+pub mod Adding

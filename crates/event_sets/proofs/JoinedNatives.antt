@@ -1,0 +1,43 @@
+-- Native events that join a list.
+use Rattle.std.proofs.Common.{◌≡◌, ℕ, suc, ◌+◌, ◌<◌, ◌≤◌, Bool, true, false, List, [], ◌∷◌, ◌++◌, length, drop, ap, sym, ◌∙◌, arith, slice_get, Some, length-append}
+use Rattle.std.specs.Prelude.{All, if◌then◌else◌}
+use Rattle.std.proofs.lemmas.List.Elements.{All-push}
+use Rattle.papi_base.specs.declared.native.Native.{Native}
+use Rattle.postfix_rules.specs.Sameness.{among, joined_by}
+use Rattle.event_sets.proofs.Steps.{drop_at}
+
+next_grows : (b : Bool) (n : Native) (seen : List Native) → length seen ≤ length (if b then seen else seen ++ n ∷ [])
+next_grows true n seen = omega arith
+next_grows false n seen = omega (arith, length-append seen (n ∷ []))
+
+-- a list does not shrink
+pub joined_grows : (seen more : List Native) → length seen ≤ length (joined_by seen more)
+joined_grows seen [] = omega arith
+joined_grows seen (n ∷ more) = omega (arith, next_grows (among n seen) n seen, joined_grows (if among n seen then seen else seen ++ n ∷ []) more)
+
+-- one native more that is new, and one that is there
+pub joins_new : (seen more all : List Native) (i : ℕ) (n : Native) → slice_get more i ≡ Some n → among n seen ≡ false → joined_by seen (drop i more) ≡ all
+    → joined_by (seen ++ n ∷ []) (drop (i + 1) more) ≡ all
+joins_new seen more all i n e new h =
+    ap (λ b. joined_by (if b then seen else seen ++ n ∷ []) (drop (i + 1) more)) (sym new) ∙ (ap (joined_by seen) (sym (drop_at more i n e)) ∙ h)
+
+pub joins_old : (seen more all : List Native) (i : ℕ) (n : Native) → slice_get more i ≡ Some n → among n seen ≡ true → joined_by seen (drop i more) ≡ all
+    → joined_by seen (drop (i + 1) more) ≡ all
+joins_old seen more all i n e old h =
+    ap (λ b. joined_by (if b then seen else seen ++ n ∷ []) (drop (i + 1) more)) (sym old) ∙ (ap (joined_by seen) (sym (drop_at more i n e)) ∙ h)
+
+-- a new one where there is no room makes too many
+pub joined_over : (seen more all : List Native) (i : ℕ) (n : Native) → slice_get more i ≡ Some n → among n seen ≡ false → joined_by seen (drop i more) ≡ all
+    → length seen < length all
+joined_over seen more all i n e new h =
+    let is = ap length (joins_new seen more all i n e new h) in
+    omega (arith, length-append seen (n ∷ []), joined_grows (seen ++ n ∷ []) (drop (i + 1) more), is)
+
+next_all : (P : Native → Type 0) (b : Bool) (n : Native) (seen : List Native) → All P seen → P n → All P (if b then seen else seen ++ n ∷ [])
+next_all P true n seen h p = h
+next_all P false n seen h p = All-push P seen n h p
+
+-- what holds of both holds of all
+pub joined_all : (P : Native → Type 0) (seen more : List Native) → All P seen → All P more → All P (joined_by seen more)
+joined_all P seen [] h g = h
+joined_all P seen (n ∷ more) h g = joined_all P (if among n seen then seen else seen ++ n ∷ []) more (next_all P (among n seen) n seen h (g 0 n (omega arith))) (λ k d b. g (suc k) d (omega arith))

@@ -1,0 +1,192 @@
+// Event sets that do not run.
+ghost use Rattle.std.specs.Prelude.{◌≡◌, ◌<◌, ◌≤◌, ◌↔◌, if◌then◌else◌, [], All, IfErr, IfSome, IsNone, IsSome, OnErr, OnOk, None, Some, is_some, length, slice_index};
+ghost use Rattle.counter_alloc.specs.Listing.{least};
+ghost use Rattle.counter_alloc.specs.Masks.{masks_of};
+ghost use Rattle.postfix_rules.specs.Presets.{natives_of_event};
+ghost use Rattle.event_sets.specs.Adding.{add_refusal};
+ghost use Rattle.event_sets.specs.Agreement.{Fits, IsHeld};
+ghost use Rattle.event_sets.specs.AtRest.{is_other, new_set, set_natives, widths_at, with_event};
+ghost use Rattle.event_sets.specs.Sets.{IsSound, SetView, set_view};
+
+use crate::Refusal;
+use crate::clashes::clash;
+use crate::joining::{joined, natives_of};
+use crate::sameness::has_event;
+use counter_alloc::Matching;
+use papi_base::{Code, Counts, Domain, EventRef, Events, Natives, Places, Shape};
+use postfix_rules::PresetBook;
+use std::marker::Model;
+
+/// An event set that does not run, of at most 32 events that count at most 32 native events: PAPI_create_eventset(3).
+///
+/// No call takes memory. A refused call changes nothing.
+#[derive(Drop)]
+pub struct EventSet {
+    events: Events,
+    /// The threshold of each event, or 0.
+    thresholds: Counts,
+    component: Option<u32>,
+    /// How many counters the component has.
+    counters: u32,
+    domain: Domain,
+    /// The length of a time slice in ticks, where the native events take turns.
+    slice: Option<u32>,
+    natives: Natives,
+    /// The native events on counters of their own, unless they take turns.
+    matching: Matching,
+}
+
+impl Model for EventSet {
+    ghost use Rattle.std.specs.Prelude.{ℕ, ◌≡◌};
+    ghost use Rattle.event_sets.specs.Sets.{SetView, IsSound, IsMatched};
+
+    ghost Value = { SetView };
+
+    ghost view = { λ s. record {
+      rest = record { events = s.events; thresholds = s.thresholds; component = s.component; domain = s.domain; slice = s.slice };
+      natives = s.natives;
+      counters = s.counters;
+    } };
+
+    ghost invariant = { λ s. let view : SetView = record {
+      rest = record { events = s.events; thresholds = s.thresholds; component = s.component; domain = s.domain; slice = s.slice };
+      natives = s.natives;
+      counters = s.counters;
+    } in IsSound view × IsMatched view s.matching };
+}
+
+/// Whether a component is fixed that is another one.
+fn is_other(fixed: Option<u32>, comp: u32) -> bool
+    ensures { result ≡ is_other fixed (Some comp) }
+{
+    match fixed {
+        None => false,
+        Some(component) => component != comp,
+    }
+}
+
+/// The matching to which native events are added: the one that is kept, or a new one where no component was fixed.
+fn begun(fixed: Option<u32>, kept: &Matching, counters: u32) -> Matching
+    requires { counters ≤ 32 }
+    ensures { result ≡ (if is_some fixed then kept.now else record { counters = counters; allowed = [] }) }
+{
+    match fixed {
+        Some(_) => kept.copy(),
+        None => Matching::empty(counters),
+    }
+}
+
+impl EventSet {
+    /// A set without events, component or slice, in the domain of the user.
+    pub fn new() -> EventSet
+        ensures { result ≡ record { rest = new_set; natives = []; counters = 0 } }
+    {
+        EventSet {
+            events: Events::new(),
+            thresholds: Counts::new(),
+            component: None,
+            counters: 0,
+            domain: Domain::USER,
+            slice: None,
+            natives: Natives::new(),
+            matching: Matching::empty(0),
+        }
+    }
+
+    /// Adds an event with threshold 0, and fixes the component to the event's: PAPI_add_event(3).
+    ///
+    /// EINVAL where the event is of another component or is in the set; ECOUNT where events or native events would be
+    /// more than 32; a conflict where the native events with the new ones cannot have counters of their own, or, where
+    /// the set is multiplexed, where a new one is allowed no counter.
+    pub fn add(&mut self, book: &PresetBook, shape: &Shape, e: &EventRef) -> Result<(), Refusal>
+        requires held { IsHeld book.now e.now }
+        requires fits { All (Fits shape.now) (natives_of_event book.now e.now) }
+        requires natives { self.old.natives ≡ set_natives book.now self.old.rest }
+        requires counters { self.old.counters ≡ length (widths_at shape.now self.old.rest.component) }
+        ensures added { OnOk result (self.new ≡ set_view book.now shape.now (with_event book.now e.now self.old.rest)) }
+        ensures taken { OnOk result (add_refusal book.now e.now self.old.rest ≡ None) }
+        ensures refused { IfErr result (λ r. add_refusal book.now e.now self.old.rest ≡ Some r) }
+        ensures unchanged { OnErr result (self.new ≡ self.old) }
+    {
+        let given = natives_of(book, e);
+        let comp = given.at(0).comp;
+        if is_other(self.component, comp) || has_event(&self.events, e) {
+            return Err(Refusal::Plain(Code::Einval));
+        }
+        if self.events.len() >= 32 {
+            return Err(Refusal::Plain(Code::Ecount));
+        }
+        let Some(natives) = joined(&self.natives, &given) else {
+            return Err(Refusal::Plain(Code::Ecount));
+        };
+        let counters = shape.comp(comp).counters();
+        let mut matching = begun(self.component, &self.matching, counters);
+        if let Some(clash) = clash(self.slice, &mut matching, &natives, self.natives.len()) {
+            return Err(Refusal::Conflict(clash));
+        }
+        self.events.push(*e);
+        self.thresholds.push(0);
+        self.component = Some(comp);
+        self.counters = counters;
+        self.natives = natives;
+        self.matching = matching;
+        Ok(())
+    }
+
+    /// The native events of the set's events in order, without later repeats.
+    pub fn natives(&self) -> &Natives
+        ensures natives { result.now ≡ self.now.natives }
+        ensures sound { IsSound self.now }
+    {
+        &self.natives
+    }
+
+    /// The events in the order in which they were added.
+    pub fn events(&self) -> &Events
+        ensures events { result.now ≡ self.now.rest.events }
+        ensures sound { IsSound self.now }
+    {
+        &self.events
+    }
+
+    /// The component, where it is fixed.
+    pub fn component(&self) -> Option<u32>
+        ensures { result ≡ self.now.rest.component }
+    {
+        self.component
+    }
+
+    /// The domain in which the native events without a privilege modifier count: PAPI_set_domain(3).
+    pub fn domain(&self) -> Domain
+        ensures { result ≡ self.now.rest.domain }
+    {
+        self.domain
+    }
+
+    /// The length of a time slice in ticks, where the native events take turns: PAPI_set_multiplex(3).
+    pub fn slice(&self) -> Option<u32>
+        ensures { result ≡ self.now.rest.slice }
+    {
+        self.slice
+    }
+
+    /// The threshold of the event at an index, or 0: PAPI_overflow(3).
+    pub fn threshold(&self, index: u32) -> u64
+        requires { index < length self.now.rest.events }
+        ensures { result ≡ slice_index self.now.rest.thresholds index }
+    {
+        self.thresholds.at(index)
+    }
+
+    /// The counter of each native event in the assignment that comes first, compared place by place; none where the set
+    /// is multiplexed.
+    pub fn assignment(&self) -> Option<Places>
+        ensures multiplexed { IsNone result ↔ IsSome self.now.rest.slice }
+        ensures least { IfSome result (λ places. least (masks_of self.now.natives) ≡ Some places) }
+    {
+        if self.slice.is_some() {
+            return None;
+        }
+        Some(self.matching.least())
+    }
+}

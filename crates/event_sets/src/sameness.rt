@@ -1,0 +1,58 @@
+// Equal events and native events.
+ghost use Rattle.std.specs.Prelude.{◌≡◌};
+ghost use Rattle.std.specs.List.{list_any};
+ghost use Rattle.postfix_rules.specs.Sameness.{among, same_event, same_native};
+
+use papi_base::{EventRef, Events, Native, Natives};
+
+/// Whether two native events are equal in all fields.
+pub fn is_same(m: &Native, n: &Native) -> bool
+    ensures { result ≡ same_native m.now n.now }
+{
+    m.comp == n.comp
+        && m.event == n.event
+        && m.select == n.select
+        && m.masks == n.masks
+        && m.umask == n.umask
+        && m.mods.user == n.mods.user
+        && m.mods.kernel == n.mods.kernel
+        && m.mods.edge == n.mods.edge
+        && m.mods.invert == n.mods.invert
+        && m.mods.cmask == n.mods.cmask
+        && m.allowed == n.allowed
+}
+
+/// Whether two events are equal.
+pub fn is_same_event(e: &EventRef, f: &EventRef) -> bool
+    ensures { result ≡ same_event e.now f.now }
+{
+    match (e, f) {
+        (EventRef::Preset(i), EventRef::Preset(j)) => i == j,
+        (EventRef::Native(m), EventRef::Native(n)) => is_same(m, n),
+        _ => false,
+    }
+}
+
+/// Whether the native event is in the list.
+pub fn has_native(natives: &Natives, n: &Native) -> bool
+    ensures { result ≡ among n.now natives.now }
+{
+    for i in 0..natives.len() {
+        if is_same(n, &natives.at(i)) {
+            return true;
+        }
+    }
+    false
+}
+
+/// Whether the event is in the list.
+pub fn has_event(events: &Events, e: &EventRef) -> bool
+    ensures { result ≡ list_any (same_event e.now) events.now }
+{
+    for i in 0..events.len() {
+        if is_same_event(e, &events.at(i)) {
+            return true;
+        }
+    }
+    false
+}
