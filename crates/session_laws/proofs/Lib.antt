@@ -6,3 +6,5 @@ pub mod Sets
 pub mod AgreementStays
 pub mod Within
 pub mod Apart
+pub mod Mapped
+pub mod Counted

@@ -1,12 +1,12 @@
 -- What calls keep.
-use Rattle.std.specs.Prelude.{ℕ, ◌++◌, List, length}
+use Rattle.std.specs.Prelude.{◌≡◌, ℕ, ◌++◌, List, length}
 use Rattle.papi_base.specs.declared.occurrence.Occ.{Occ}
 use Rattle.papi_base.specs.Streams.{Mark}
 use Rattle.postfix_rules.specs.Presets.{Book}
 use Rattle.event_sets.specs.AtRest.{Widths}
 use Rattle.session_model.specs.declared.call.Call.{Call}
 use Rattle.session_model.specs.Account.{Account, opening}
-use Rattle.session_model.specs.Bounds.{AllWithin, AreApart, Rises}
+use Rattle.session_model.specs.Bounds.{AllValued, AllWithin, AreApart, Rises}
 use Rattle.session_model.specs.Conditions.{AllAgree, IsGood}
 use Rattle.session_model.specs.Faces.{faces_of}
 use Rattle.session_model.specs.Step.{step}
@@ -38,3 +38,14 @@ OpeningApart = (thread : ℕ) (rest : List Occ) (mark : Mark) → AreApart (face
 -- of each component at most one set runs
 abbrev pub ApartStays : Type 0
 ApartStays = (book : Book) (shape : Widths) (a : Account) (call : Call) → AreApart (faces_of a.sets) → AreApart (faces_of (step book shape a call).account.sets)
+
+-- the places of a thread's sets
+abbrev pub PlacesStay : Type 0
+PlacesStay = (book : Book) (shape : Widths) (a : Account) (call : Call) → length (step book shape a call).account.sets ≡ length a.sets
+
+abbrev pub OpeningValued : Type 0
+OpeningValued = (thread : ℕ) (rest : List Occ) (mark : Mark) → AllValued (opening thread rest mark).sets
+
+-- the caller's values of each set are one for each event
+abbrev pub ValuesStay : Type 0
+ValuesStay = (book : Book) (shape : Widths) (a : Account) (call : Call) → AllValued a.sets → AllValued (step book shape a call).account.sets

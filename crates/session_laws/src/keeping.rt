@@ -1,5 +1,5 @@
 // What calls keep.
-ghost use Rattle.session_laws.specs.Keeping.{AgreementStays, ApartStays, OpeningAgrees, OpeningApart, OpeningWithin, RiseStays, WithinStays};
+ghost use Rattle.session_laws.specs.Keeping.{AgreementStays, ApartStays, OpeningAgrees, OpeningApart, OpeningValued, OpeningWithin, PlacesStay, RiseStays, ValuesStay, WithinStays};
 
 /// The agreement of the sets with the book holds at the beginning and is kept by each good call.
 pub fn agreement_laws()
@@ -14,4 +14,11 @@ pub fn window_laws()
     ensures rises { RiseStays }
     ensures opening_apart { OpeningApart }
     ensures apart { ApartStays }
+{}
+
+/// A thread keeps its 64 places of sets, and each set one value of the caller for each event.
+pub fn place_laws()
+    ensures places { PlacesStay }
+    ensures opening_valued { OpeningValued }
+    ensures values { ValuesStay }
 {}

@@ -1,5 +1,5 @@
 -- What holds of every account that calls lead to, and that this project's proofs rest on.
-use Rattle.std.specs.Prelude.{ℕ, ◌+◌, ◌≤◌, List, [], ◌∷◌, All, Option, Some, count_by}
+use Rattle.std.specs.Prelude.{ℕ, ◌+◌, ◌≤◌, ◌≡◌, length, List, [], ◌∷◌, All, Option, Some, count_by}
 use Rattle.std.specs.Option.{ForSome}
 use Rattle.papi_base.specs.declared.occurrence.Occ.{Occ}
 use Rattle.session_model.specs.Account.{Kept}
@@ -22,3 +22,11 @@ pub record AllWithin (end : ℕ) (sets : List (Option Kept)) : Type 0 where
 -- of each component at most one set runs
 pub record AreApart (faces : List (Option Face)) : Type 0 where
   pub each : (c : ℕ) → count_by (runs_on (Some c)) faces ≤ 1
+
+-- the caller's values are one for each event
+pub record IsValued (s : Kept) : Type 0 where
+  pub one_each : length s.values ≡ length s.set.events
+
+-- so are each set's
+pub record AllValued (sets : List (Option Kept)) : Type 0 where
+  pub each : All (λ place. ForSome place IsValued) sets
