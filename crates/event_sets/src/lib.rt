@@ -7,6 +7,8 @@ mod joining;
 pub mod laws;
 pub mod refusal;
 mod sameness;
+#[cfg(test)]
+mod tests;
 
 pub use event_set::EventSet;
 pub use joining::natives_of;

@@ -1,0 +1,147 @@
+ghost use Rattle.std.specs.Prelude.{◌≡◌, ◌<◌, ◌≤◌, ◌^◌, Some, length};
+ghost use Rattle.event_sets.specs.AtRest.{widths_at};
+ghost use Rattle.event_sets.specs.Sets.{set_view};
+
+use crate::{EventSet, Refusal};
+use papi_base::{CompShape, EventRef, Mods, Native, Shape};
+use postfix_rules::PresetBook;
+use std::alloc::Global;
+use std::process::Abort;
+
+/// A set over one component, without presets.
+#[derive(Drop)]
+struct Bench {
+    counters: u32,
+    book: PresetBook,
+    shape: Shape,
+    set: EventSet,
+    ghost one_component: { 0 < length shape },
+    ghost counted: { length (widths_at shape (Some 0)) ≡ counters },
+    ghost kept: { set ≡ set_view book shape set.rest },
+}
+
+impl Bench {
+    fn new(alloc: Global, counters: u32) -> Bench
+        requires { counters ≤ 32 }
+        ensures { result.counters ≡ counters }
+    {
+        let mut comp = CompShape::new();
+        for _i in 0..counters {
+            comp.push(48);
+        }
+        let mut shape = Shape::new();
+        shape.push(comp);
+        Bench {
+            counters,
+            book: PresetBook::new(Vec::new(alloc)),
+            shape,
+            set: EventSet::new(),
+        }
+    }
+
+    fn add(&mut self, n: Native) -> Result<(), Refusal>
+        requires comp { n.comp ≡ 0 }
+        requires allowed { n.allowed < 2 ^ self.old.counters }
+        ensures { self.new.counters ≡ self.old.counters }
+    {
+        self.set.add(&self.book, &self.shape, &EventRef::Native(n))
+    }
+}
+
+/// A native event of the component that is allowed these counters.
+fn native(event: u32, cmask: u8, allowed: u32) -> Native
+    ensures comp { result.comp ≡ 0 }
+    ensures allowed { result.allowed ≡ allowed }
+{
+    Native {
+        comp: 0,
+        event,
+        select: 0xc0,
+        masks: 0,
+        umask: 0,
+        mods: Mods {
+            user: false,
+            kernel: false,
+            edge: false,
+            invert: false,
+            cmask,
+        },
+        allowed,
+    }
+}
+
+/// The answer is a conflict of these native events and counters.
+fn assert_conflict(
+    rt: &impl Abort,
+    answer: Result<(), Refusal>,
+    natives: &[Native],
+    counters: u32,
+) {
+    let Err(Refusal::Conflict(clash)) = answer else {
+        panic!(rt; "no conflict");
+    };
+    assert_eq!(rt; clash.counters, counters);
+    assert_eq!(rt; clash.natives.len() as usize, natives.len());
+    for (i, n) in natives.iter().enumerate() {
+        assert_eq!(rt; clash.natives.get(i as u32), Some(*n));
+    }
+}
+
+/// The set's native events are on these counters.
+fn assert_counters(rt: &impl Abort, set: &EventSet, counters: &[u8]) {
+    let Some(places) = set.assignment() else {
+        panic!(rt; "multiplexed");
+    };
+    assert_eq!(rt; places.len() as usize, counters.len());
+    for (i, counter) in counters.iter().enumerate() {
+        assert_eq!(rt; places.get(i as u32), Some(*counter));
+    }
+}
+
+#[test]
+fn branches_share_one_counter(rt: HostRuntime) {
+    let retired = native(0, 0, 0b111);
+    let cycles = native(1, 0, 0b011);
+    let branches = native(2, 0, 0b001);
+    let missed = native(3, 0, 0b001);
+
+    let mut bench = Bench::new(rt.alloc(), 3);
+    assert!(rt; bench.add(branches).is_ok());
+    let answer = bench.add(missed);
+    assert_conflict(&rt, answer, &[branches, missed], 0b001);
+    assert_eq!(rt; bench.set.events().len(), 1);
+    assert_counters(&rt, &bench.set, &[0]);
+
+    let mut bench = Bench::new(rt.alloc(), 3);
+    assert!(rt; bench.add(cycles).is_ok());
+    assert!(rt; bench.add(branches).is_ok());
+    assert_counters(&rt, &bench.set, &[1, 0]);
+
+    let mut bench = Bench::new(rt.alloc(), 3);
+    assert!(rt; bench.add(retired).is_ok());
+    assert!(rt; bench.add(branches).is_ok());
+    let answer = bench.add(missed);
+    assert_conflict(&rt, answer, &[branches, missed], 0b001);
+}
+
+#[test]
+fn a_native_event_too_many_is_refused_quickly(rt: HostRuntime) {
+    let all: u32 = 0x3fff_ffff;
+    let mut bench = Bench::new(rt.alloc(), 30);
+    'fill: for i in 1..31u8 {
+        assert!(rt; bench.add(native(0, i, all)).is_ok());
+    }
+    let Some(places) = bench.set.assignment() else {
+        panic!(rt; "multiplexed");
+    };
+    for i in 0..30u8 {
+        assert_eq!(rt; places.get(u32::from(i)), Some(i));
+    }
+    'refuse: for _ in 0..1000u32 {
+        let Err(Refusal::Conflict(clash)) = bench.add(native(0, 31, all)) else {
+            panic!(rt; "31 places on 30 counters");
+        };
+        assert_eq!(rt; clash.natives.len(), 31);
+        assert_eq!(rt; clash.counters, all);
+    }
+}
