@@ -8,3 +8,4 @@ pub mod Within
 pub mod Apart
 pub mod Mapped
 pub mod Counted
+pub mod Merging

@@ -7,4 +7,4 @@ pub mod worlds;
 
 pub use keeping::{agreement_laws, place_laws, window_laws};
 pub use turning::turn_laws;
-pub use worlds::world_laws;
+pub use worlds::{merge_laws, world_laws};

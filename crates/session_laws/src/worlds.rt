@@ -1,5 +1,5 @@
 // The world, looked at on one thread.
-ghost use Rattle.session_laws.specs.Worlds.{AccountByThread, NotesByThread, OpensByThread, RepliesByThread};
+ghost use Rattle.session_laws.specs.Worlds.{AccountByThread, MergesToWorld, NotesByThread, OpensByThread, RegisteredFollows, RepliesByThread};
 
 /// All threads' calls in one order, looked at on one thread, are that thread's calls alone.
 pub fn world_laws()
@@ -7,4 +7,11 @@ pub fn world_laws()
     ensures account { AccountByThread }
     ensures replies { RepliesByThread }
     ensures notes { NotesByThread }
+{}
+
+/// Each thread's replies, merged in the order of the script, are those of the world; a thread's registration follows from the
+/// replies to its calls.
+pub fn merge_laws()
+    ensures registered { RegisteredFollows }
+    ensures merges { MergesToWorld }
 {}
