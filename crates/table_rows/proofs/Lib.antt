@@ -1,6 +1,7 @@
 pub mod Texts
 pub mod Trimming
 pub mod Numerals
+pub mod Ranges
 pub mod Records
 pub mod RowsBack
 pub mod NoCommas

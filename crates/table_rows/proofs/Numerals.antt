@@ -66,7 +66,7 @@ digits-ten : (t : List ℕ) → list_all is_digit t ≡ true → AllDigits 10 t
 digits-ten [] e = tt
 digits-ten (b ∷ t) e = (digit-value b (both _ _ e).0, digits-ten t (both _ _ e).1)
 
-digits-sixteen : (t : List ℕ) → list_all is_hex_digit t ≡ true → AllDigits 16 t
+pub digits-sixteen : (t : List ℕ) → list_all is_hex_digit t ≡ true → AllDigits 16 t
 digits-sixteen [] e = tt
 digits-sixteen (b ∷ t) e = (ltb-true (digit_value b) 16 (both _ _ e).0, digits-sixteen t (both _ _ e).1)
 

@@ -48,10 +48,10 @@ pub fn trimmed(bytes: &[u8]) -> &[u8]
 
 /// The field at a place from 0, trimmed, and nothing where the row has none.
 #[tactic(auto, unfolding(crate::specs::Texts::text_at))]
-pub fn text_at(record: &ByteRecord, i: usize) -> &[u8]
-    ensures { result.now ≡ Texts.text_at (fields_of record.now) i }
+pub fn text_at(row: &ByteRecord, i: usize) -> &[u8]
+    ensures { result.now ≡ Texts.text_at (fields_of row.now) i }
 {
-    match record.get(i) {
+    match row.get(i) {
         Some(field) => trimmed(field),
         None => &[],
     }

@@ -1,0 +1,121 @@
+-- A list whose last item is changed in place.
+use Rattle.std.proofs.Common.{◌≡◌, ◌∙◌, ◌+◌, ◌-◌, ◌<◌, ◌∷◌, ℕ, zero, suc, List, [], Option, Some, None, Bor, map, length, get_or, refl, sym, ap, subst, arith}
+use Rattle.std.proofs.Math.ListN.{set}
+use Rattle.std.proofs.lemmas.List.{length-map}
+use Rattle.std.proofs.lemmas.Option.{slice_get-get_or, slice_get-map}
+use Rattle.std.specs.Prelude.{⊤}
+use Rattle.std.specs.List.{AllByRecursion}
+use Rattle.std.specs.Option.{option_map_or}
+use Rattle.table_rows.specs.Texts.{Text}
+use Rattle.event_tables.specs.Tables.{ComponentText, EventText}
+use Rattle.event_tables.specs.Lines.{Line, skipped, bad, component, counter, event, umask, row_line}
+use Rattle.event_tables.specs.Unit.{cause_in, last_of, mask_cause}
+use Rattle.event_tables.specs.Steps.{CanGrow, grown, on_last, with_line}
+use Rattle.event_tables.specs.Views.{component_text}
+use Rattle.event_tables.specs.declared.component.Component.{Component}
+use Rattle.event_tables.specs.declared.row.Row.{Row}
+use Rattle.event_tables.specs.declared.row.Row.TheVariants as row
+use Rattle.event_tables.specs.declared.fault.RowCause.{RowCause}
+use Rattle.event_tables.specs.declared.fault.RowCause.TheVariants as cause
+
+pub on_last-set : {X Y : Type 0} (view : X → Y) (f : Y → Y) (xs : List X) (i : ℕ) (new d : X) → i + 1 ≡ length xs → view new ≡ f (view (get_or xs i d))
+    → map view (set xs i new) ≡ on_last f (map view xs)
+unfolding on_last
+on_last-set view f [] i new d e h = absurd (omega arith)
+on_last-set view f (x ∷ []) zero new d e h = ap (λ t. t ∷ []) h
+on_last-set view f (x ∷ []) (suc i) new d e h = absurd (omega arith)
+on_last-set view f (x ∷ y ∷ rest) zero new d e h = absurd (omega arith)
+on_last-set view f (x ∷ y ∷ rest) (suc i) new d e h = ap (λ t. view x ∷ t) (on_last-set view f (y ∷ rest) i new d (omega arith) h)
+
+pub on_last-same : {X : Type 0} (xs : List X) → on_last (λ x. x) xs ≡ xs
+unfolding on_last
+on_last-same [] = refl
+on_last-same (x ∷ []) = refl
+on_last-same (x ∷ y ∷ rest) = ap (λ t. x ∷ t) (on_last-same (y ∷ rest))
+
+-- ---- a row that belongs to a component
+
+abbrev pub IsInner : Line → Type 0
+IsInner (counter name width fixed) = ⊤
+IsInner (event name select names text) = ⊤
+IsInner (umask m) = ⊤
+IsInner line = ⊥
+
+pub inner-row : (r : Row) → (r ≡ row.Skipped → ⊥) → (r ≡ row.Bad → ⊥) → ((n p : Bor Text) → r ≡ row.Component n p → ⊥) → IsInner (row_line r)
+inner-row row.Skipped s b k = absurd (s refl)
+inner-row row.Bad s b k = absurd (b refl)
+inner-row (row.Component n p) s b k = absurd (k n p refl)
+inner-row (row.Counter n w f) s b k = tt
+inner-row (row.Event n s' c t) s b k = tt
+inner-row (row.Umask n b' f t) s b k = tt
+
+-- a row that belongs to nothing has a cause
+pub inner-below : (above : List ComponentText) (line : Line) → IsInner line → cause_in above line ≡ None → 0 < length above
+unfolding cause_in
+inner-below [] (counter n w f) i e = cc e
+inner-below [] (event n s ns t) i e = cc e
+inner-below [] (umask m) i e = cc e
+inner-below [] skipped i e = absurd i
+inner-below [] bad i e = absurd i
+inner-below [] (component n p) i e = absurd i
+inner-below (c ∷ above) line i e = omega arith
+
+events-filled : (events : List EventText) (o : EventText → Option RowCause) → option_map_or o (last_of events) (Some cause.BadRow) ≡ None → 0 < length events
+events-filled [] o e = cc e
+events-filled (x ∷ xs) o e = omega arith
+
+pub inner-grows : (above : List ComponentText) (line : Line) (c : ComponentText) → IsInner line → last_of above ≡ Some c → cause_in above line ≡ None → CanGrow line c
+unfolding cause_in
+inner-grows above (counter n w f) c i l e = tt
+inner-grows above (event n s ns t) c i l e = tt
+inner-grows above (umask m) c i l e = events-filled c.events (λ x. mask_cause x.masks m.name m.preset_choice) (rw l at e)
+inner-grows above skipped c i l e = tt
+inner-grows above bad c i l e = tt
+inner-grows above (component n p) c i l e = tt
+
+pub inner-with : (above : List ComponentText) (line : Line) → IsInner line → with_line above line ≡ on_last (grown line) above
+inner-with above (counter n w f) i = refl
+inner-with above (event n s ns t) i = refl
+inner-with above (umask m) i = refl
+inner-with above skipped i = refl
+inner-with above bad i = refl
+inner-with above (component n p) i = absurd i
+
+pub last_of-at : {X Y : Type 0} (view : X → Y) (xs : List X) (i : ℕ) (d : X) → i + 1 ≡ length xs → last_of (map view xs) ≡ Some (view (get_or xs i d))
+last_of-at view xs i d e =
+    let n : length (map view xs) - 1 ≡ i = omega (arith, length-map xs view) in
+    rw (n, slice_get-map view xs i, slice_get-get_or xs i d (omega arith)) refl
+
+pub last_of-later : {X : Type 0} (y z : X) (rest : List X) → last_of (y ∷ z ∷ rest) ≡ last_of (z ∷ rest)
+last_of-later y z rest =
+    let n : length (y ∷ z ∷ rest) - 1 ≡ suc (length (z ∷ rest) - 1) = omega arith in
+    rw n refl
+
+pub all-at : {X : Type 0} (P : X → Type 0) (xs : List X) (x : X) → AllByRecursion P xs → last_of xs ≡ Some x → P x
+all-at P [] x h e = cc e
+all-at P (y ∷ []) x h e = let same : y ≡ x = cc e in subst P same h.0
+all-at P (y ∷ z ∷ rest) x h e = all-at P (z ∷ rest) x h.1 (sym (last_of-later y z rest) ∙ e)
+
+-- the component to which a row with no cause belongs
+pub record Owner (xs : List Component) (i : ℕ) (x : Component) (line : Line) : Type 0 where
+  pub at_last : i + 1 ≡ length xs
+  pub last : last_of (map component_text xs) ≡ Some (component_text x)
+  pub grows : CanGrow line (component_text x)
+
+pub filled : (xs : List Component) (r : Row) → (r ≡ row.Skipped → ⊥) → (r ≡ row.Bad → ⊥) → ((n p : Bor Text) → r ≡ row.Component n p → ⊥)
+    → cause_in (map component_text xs) (row_line r) ≡ None → 0 < length xs
+filled xs r s b k e =
+    let lt = inner-below (map component_text xs) (row_line r) (inner-row r s b k) e in
+    omega (arith, lt, length-map xs component_text)
+
+pub owner : (xs : List Component) (r : Row) (i : ℕ) (x : Component) → (r ≡ row.Skipped → ⊥) → (r ≡ row.Bad → ⊥) → ((n p : Bor Text) → r ≡ row.Component n p → ⊥)
+    → cause_in (map component_text xs) (row_line r) ≡ None → i ≡ length xs - 1 → x ≡ get_or xs i x → Owner xs i x (row_line r)
+owner xs r i x s b k e n is =
+    let lt = filled xs r s b k e in
+    let at : i + 1 ≡ length xs = omega (arith, lt) in
+    let last : last_of (map component_text xs) ≡ Some (component_text x) = last_of-at component_text xs i x at ∙ ap (λ (t : Component). Some (component_text t)) (sym is) in
+    record {
+      at_last = at;
+      last = last;
+      grows = inner-grows (map component_text xs) (row_line r) (component_text x) (inner-row r s b k) last e;
+    }

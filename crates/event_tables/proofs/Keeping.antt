@@ -1,0 +1,293 @@
+-- A row with no cause keeps what the tables keep.
+use Rattle.std.proofs.Common.{◌≡◌, ◌∙◌, ◌<◌, ◌≤◌, ◌^◌, ◌∷◌, ◌++◌, ℕ, List, [], Option, Some, None, Bool, true, false, length, refl, ap, arith, length-append}
+use Rattle.std.proofs.Math.Pow.{pow-lt}
+use Rattle.std.proofs.lemmas.Bool.{leb-false}
+use Rattle.std.specs.Prelude.{⊤, ◌&&◌, ◌||◌, IfSome, is_some, if◌then◌else◌, nat_le, unwrap_or}
+use Rattle.std.specs.List.{AllByRecursion, list_all, list_any}
+use Rattle.std.specs.Str.{bytes_eq}
+use Rattle.table_rows.specs.Texts.{Text, is_empty, is_name}
+use Rattle.table_rows.proofs.Texts.{all-append, all-map}
+use Rattle.event_tables.specs.Tables.{ComponentText, CounterText, EventText, MaskText, same_name}
+use Rattle.event_tables.specs.Lines.{Line, skipped, bad, component, counter, event, umask}
+use Rattle.event_tables.specs.Unit.{bits_of, cause_in, component_cause, component_of, counter_cause, counter_place, counter_row, counters_in, event_cause, event_row, events_in, inner_mask_cause, is_modifier, last_of, mask_cause, modifier_words}
+use Rattle.event_tables.specs.Steps.{grown, on_last, with_counter, with_event, with_inner_mask, with_line, with_mask}
+use Rattle.event_tables.specs.Kept.{IsComponent, IsCounter, IsEvent, IsMask, IsTables, NoRepeats}
+use Rattle.event_tables.specs.declared.fault.RowCause.TheVariants as cause
+use Rattle.event_tables.proofs.Bits.{bits_of-lt, bits_of-some}
+use Rattle.event_tables.proofs.Growing.{last_of-later}
+
+-- ---- tests
+
+if-none : {X : Type 0} (b : Bool) (x : X) (o : Option X) → (if b then Some x else o) ≡ None → (b ≡ false) × (o ≡ None)
+if-none true x o e = cc e
+if-none false x o e = (refl, e)
+
+either : (a b : Bool) → (a || b) ≡ false → (a ≡ false) × (b ≡ false)
+either false b e = (refl, e)
+either true b e = cc e
+
+none-each : {X : Type 0} (p : X → Bool) (xs : List X) → list_any p xs ≡ false → AllByRecursion (λ x. p x ≡ false) xs
+none-each p [] e = tt
+none-each p (x ∷ xs) e = let h = either (p x) (list_any p xs) e in (h.0, none-each p xs h.1)
+
+either-none : {X : Type 0} (p q : X → Bool) (xs : List X) → list_any (λ x. p x || q x) xs ≡ false → (list_any p xs ≡ false) × (list_any q xs ≡ false)
+either-none p q [] e = (refl, refl)
+either-none p q (x ∷ xs) e =
+    let h = either (p x || q x) (list_any (λ y. p y || q y) xs) e in
+    let here = either (p x) (q x) h.0 in
+    let more = either-none p q xs h.1 in
+    (rw (here.0, more.0) refl, rw (here.1, more.1) refl)
+
+-- ---- lists with one item more, and with the last one changed
+
+no_repeats-more : {X : Type 0} (same : X → X → Bool) (xs : List X) (n : X) → NoRepeats same xs → list_any (λ x. same x n) xs ≡ false → NoRepeats same (xs ++ n ∷ [])
+no_repeats-more same [] n h e = (tt, tt)
+no_repeats-more same (x ∷ xs) n h e =
+    let p = either (same x n) (list_any (λ y. same y n) xs) e in
+    (all-append (λ y. same x y ≡ false) xs (n ∷ []) h.0 (p.0, tt), no_repeats-more same xs n h.1 p.1)
+
+all-on_last : {X : Type 0} (P : X → Type 0) (f : X → X) (xs : List X) → AllByRecursion P xs → ((x : X) → last_of xs ≡ Some x → P x → P (f x)) → AllByRecursion P (on_last f xs)
+unfolding on_last
+all-on_last P f [] h g = tt
+all-on_last P f (x ∷ []) h g = (g x refl h.0, tt)
+all-on_last P f (x ∷ y ∷ rest) h g = (h.0, all-on_last P f (y ∷ rest) h.1 (λ z e. g z (last_of-later x y rest ∙ e)))
+
+length-on_last : {X : Type 0} (f : X → X) (xs : List X) → length (on_last f xs) ≡ length xs
+unfolding on_last
+length-on_last f [] = refl
+length-on_last f (x ∷ []) = refl
+length-on_last f (x ∷ y ∷ rest) = let more = length-on_last f (y ∷ rest) in omega (arith, more)
+
+no_repeats-on_last : {X : Type 0} (same : X → X → Bool) (f : X → X) (xs : List X) → ((x y : X) → same x (f y) ≡ same x y) → NoRepeats same xs → NoRepeats same (on_last f xs)
+unfolding on_last
+no_repeats-on_last same f [] e h = tt
+no_repeats-on_last same f (x ∷ []) e h = (tt, tt)
+no_repeats-on_last same f (x ∷ y ∷ rest) e h =
+    (all-on_last (λ z. same x z ≡ false) f (y ∷ rest) h.0 (λ z l k. e x z ∙ k), no_repeats-on_last same f (y ∷ rest) e h.1)
+
+-- ---- what a row by itself keeps
+
+abbrev pub IsWidth : ℕ → Type 0
+IsWidth w = (16 ≤ w) × (w ≤ 48)
+
+pub record IsEventLine (name : Text) (select : ℕ) (names : List Text) : Type 0 where
+  pub named : is_name name ≡ true
+  pub byte : select < 2 ^ 8
+  pub some : is_empty names ≡ false
+
+abbrev pub IsLine : Line → Type 0
+IsLine skipped = ⊤
+IsLine bad = ⊤
+IsLine (component name pmu) = (is_name name ≡ true) × (is_name pmu ≡ true)
+IsLine (counter name width fixed) = (is_name name ≡ true) × IfSome width IsWidth
+IsLine (event name select names text) = IsEventLine name select names
+IsLine (umask m) = (is_name m.name ≡ true) × (m.bits < 2 ^ 8)
+
+-- ---- a component
+
+component-kept : (above : List ComponentText) (name pmu : Text) → is_name name ≡ true → is_name pmu ≡ true → component_cause above name pmu ≡ None
+    → IsTables above → IsTables (above ++ component_of name pmu [] ∷ [])
+unfolding counters_in events_in
+component-kept above name pmu n p e h =
+    let few = if-none (nat_le 16 (length above)) cause.OverLimit _ e in
+    let fresh = if-none (list_any (λ (c : ComponentText). same_name c.name name || same_name c.pmu pmu) above) cause.RepeatedName None few.1 in
+    let distinct = either-none (λ (c : ComponentText). same_name c.name name) (λ (c : ComponentText). same_name c.pmu pmu) above fresh.0 in
+    let new : ComponentText = component_of name pmu [] in
+    let is : IsComponent new = record {
+      named = n;
+      pmu_named = p;
+      few_counters = omega arith;
+      few_events = omega arith;
+      counters = tt;
+      counters_distinct = tt;
+      events = tt;
+      events_distinct = tt;
+    } in
+    let low = leb-false 16 (length above) few.0 in
+    record {
+      few = omega (arith, length-append above (new ∷ []), low);
+      each = all-append IsComponent above (new ∷ []) h.each (is, tt);
+      names_distinct = no_repeats-more (λ (a b : ComponentText). same_name a.name b.name) above new h.names_distinct distinct.0;
+      pmus_distinct = no_repeats-more (λ (a b : ComponentText). same_name a.pmu b.pmu) above new h.pmus_distinct distinct.1;
+    }
+
+-- ---- a counter
+
+wide : (w : Option ℕ) → IfSome w IsWidth → is_some w ≡ true → IsWidth (unwrap_or w 0)
+wide (Some n) h e = h
+wide None h e = cc e
+
+some-width : (w : Option ℕ) → (if is_some w then None else Some cause.BadWidth) ≡ None → is_some w ≡ true
+some-width (Some n) e = refl
+some-width None e = cc e
+
+-- an event has the counters that it had
+event-wider : (n m : ℕ) → n < m → (e : EventText) → IsEvent n e → IsEvent m e
+event-wider n m lt e h =
+    let up = pow-lt lt in
+    record {
+      named = h.named;
+      byte = h.byte;
+      counted = h.counted;
+      within = omega (arith, h.within, up);
+      few = h.few;
+      each = h.each;
+      distinct = h.distinct;
+      one_default = h.one_default;
+    }
+
+counter-kept : (c : ComponentText) (name : Text) (width : Option ℕ) (fixed : Bool) → is_name name ≡ true → IfSome width IsWidth → counter_cause c.counters name width ≡ None
+    → IsComponent c → IsComponent (with_counter (counter_row name width fixed) c)
+counter-kept c name width fixed n w e h =
+    let few = if-none (nat_le 32 (length c.counters)) cause.OverLimit _ e in
+    let fresh = if-none (list_any (λ (k : CounterText). bytes_eq k.name name) c.counters) cause.RepeatedName _ few.1 in
+    let range = wide width w (some-width width fresh.1) in
+    let low = leb-false 32 (length c.counters) few.0 in
+    let more = length-append c.counters (counter_row name width fixed ∷ []) in
+    record {
+      named = h.named;
+      pmu_named = h.pmu_named;
+      few_counters = omega (arith, low, more);
+      few_events = h.few_events;
+      counters = all-append IsCounter c.counters (counter_row name width fixed ∷ []) h.counters (record { named = n; narrow = range.0; wide = range.1 }, tt);
+      counters_distinct = no_repeats-more (λ (a b : CounterText). bytes_eq a.name b.name) c.counters (counter_row name width fixed) h.counters_distinct fresh.0;
+      events = all-map (IsEvent (length c.counters)) (IsEvent (length (c.counters ++ counter_row name width fixed ∷ []))) c.events (event-wider _ _ (omega (arith, more))) h.events;
+      events_distinct = h.events_distinct;
+    }
+
+-- ---- an event
+
+some-known : (counters : List CounterText) (names : List Text) → is_empty names ≡ false → list_all (λ n. is_some (counter_place counters n)) names ≡ true → 0 < bits_of counters names
+some-known counters [] e h = cc e
+some-known counters (n ∷ names) e h = bits_of-some counters n names (go (is_some (counter_place counters n)) h)
+  where
+    go : (b : Bool) → (b && list_all (λ n. is_some (counter_place counters n)) names) ≡ true → b ≡ true
+    go true q = refl
+    go false q = cc q
+
+all-known : (b : Bool) → (if b then None else Some cause.UnknownCounter) ≡ None → b ≡ true
+all-known true e = refl
+all-known false e = cc e
+
+event-kept : (c : ComponentText) (name : Text) (select : ℕ) (names : List Text) (text : Text) → IsEventLine name select names → event_cause c name names ≡ None
+    → IsComponent c → IsComponent (with_event (event_row c.counters name select names text []) c)
+event-kept c name select names text i e h =
+    let few = if-none (nat_le 1024 (length c.events)) cause.OverLimit _ e in
+    let fresh = if-none (list_any (λ (x : EventText). same_name x.name name) c.events) cause.RepeatedName _ few.1 in
+    let known = all-known (list_all (λ n. is_some (counter_place c.counters n)) names) fresh.1 in
+    let new : EventText = event_row c.counters name select names text [] in
+    let is : IsEvent (length c.counters) new = record {
+      named = i.named;
+      byte = i.byte;
+      counted = some-known c.counters names i.some known;
+      within = bits_of-lt c.counters names;
+      few = omega arith;
+      each = tt;
+      distinct = tt;
+      one_default = tt;
+    } in
+    let low = leb-false 1024 (length c.events) few.0 in
+    record {
+      named = h.named;
+      pmu_named = h.pmu_named;
+      few_counters = h.few_counters;
+      few_events = omega (arith, low, length-append c.events (new ∷ []));
+      counters = h.counters;
+      counters_distinct = h.counters_distinct;
+      events = all-append (IsEvent (length c.counters)) c.events (new ∷ []) h.events (is, tt);
+      events_distinct = no_repeats-more (λ (a b : EventText). same_name a.name b.name) c.events new h.events_distinct fresh.0;
+    }
+
+-- ---- a umask
+
+no-default : (m : MaskText) (masks : List MaskText) → (m.preset_choice && list_any (λ (o : MaskText). o.preset_choice) masks) ≡ false
+    → list_any (λ (o : MaskText). o.preset_choice && m.preset_choice) masks ≡ false
+no-default m masks e = go m.preset_choice masks e
+  where
+    none : (o : Bool) → (o && false) ≡ false
+    none true = refl
+    none false = refl
+
+    same : (o : Bool) → (o && true) ≡ o
+    same true = refl
+    same false = refl
+
+    go : (b : Bool) (xs : List MaskText) → (b && list_any (λ (o : MaskText). o.preset_choice) xs) ≡ false → list_any (λ (o : MaskText). o.preset_choice && b) xs ≡ false
+    go b [] q = refl
+    go false (x ∷ xs) q = rw (none x.preset_choice) (go false xs refl)
+    go true (x ∷ xs) q = let p = either x.preset_choice _ q in rw (same x.preset_choice, p.0) (go true xs p.1)
+
+mask-kept : (n : ℕ) (e : EventText) (m : MaskText) → is_name m.name ≡ true → m.bits < 2 ^ 8 → mask_cause e.masks m.name m.preset_choice ≡ None → IsEvent n e → IsEvent n (with_mask m e)
+mask-kept n e m named byte none h =
+    let one = if-none (m.preset_choice && list_any (λ (o : MaskText). o.preset_choice) e.masks) cause.BadRow _ none in
+    let few = if-none (nat_le 16 (length e.masks)) cause.OverLimit _ one.1 in
+    let fresh = if-none (is_modifier m.name || list_any (λ (o : MaskText). same_name o.name m.name) e.masks) cause.RepeatedName None few.1 in
+    let names = either (is_modifier m.name) _ fresh.0 in
+    let low = leb-false 16 (length e.masks) few.0 in
+    record {
+      named = h.named;
+      byte = h.byte;
+      counted = h.counted;
+      within = h.within;
+      few = omega (arith, low, length-append e.masks (m ∷ []));
+      each = all-append IsMask e.masks (m ∷ []) h.each (record { named = named; no_modifier = none-each (λ w. same_name m.name w) modifier_words names.0; byte = byte }, tt);
+      distinct = no_repeats-more (λ (a b : MaskText). same_name a.name b.name) e.masks m h.distinct names.1;
+      one_default = no_repeats-more (λ (a b : MaskText). a.preset_choice && b.preset_choice) e.masks m h.one_default (no-default m e.masks one.0);
+    }
+
+inner_mask-kept : (c : ComponentText) (m : MaskText) → is_name m.name ≡ true → m.bits < 2 ^ 8 → inner_mask_cause c m.name m.preset_choice ≡ None
+    → IsComponent c → IsComponent (with_inner_mask m c)
+inner_mask-kept c m named byte none h = record {
+  named = h.named;
+  pmu_named = h.pmu_named;
+  few_counters = h.few_counters;
+  few_events = let l = length-on_last (with_mask m) c.events in omega (arith, h.few_events, l);
+  counters = h.counters;
+  counters_distinct = h.counters_distinct;
+  events = all-on_last (IsEvent (length c.counters)) (with_mask m) c.events h.events (λ e l k. mask-kept (length c.counters) e m named byte (rw l at none) k);
+  events_distinct = no_repeats-on_last (λ (a b : EventText). same_name a.name b.name) (with_mask m) c.events (λ x y. refl) h.events_distinct;
+}
+
+-- ---- any row
+
+grown-kept : (above : List ComponentText) (line : Line) (c : ComponentText) → IsLine line → cause_in above line ≡ None → last_of above ≡ Some c → IsComponent c → IsComponent (grown line c)
+unfolding cause_in
+grown-kept above skipped c i e l h = h
+grown-kept above bad c i e l h = h
+grown-kept above (component n p) c i e l h = h
+grown-kept above (counter n w f) c i e l h = counter-kept c n w f i.0 i.1 (rw l at e) h
+grown-kept above (event n s ns t) c i e l h = event-kept c n s ns t i (rw l at e) h
+grown-kept above (umask m) c i e l h = inner_mask-kept c m i.0 i.1 (rw l at e) h
+
+grown-name : (line : Line) (c : ComponentText) → (grown line c).name ≡ c.name
+grown-name skipped c = refl
+grown-name bad c = refl
+grown-name (component n p) c = refl
+grown-name (counter n w f) c = refl
+grown-name (event n s ns t) c = refl
+grown-name (umask m) c = refl
+
+grown-pmu : (line : Line) (c : ComponentText) → (grown line c).pmu ≡ c.pmu
+grown-pmu skipped c = refl
+grown-pmu bad c = refl
+grown-pmu (component n p) c = refl
+grown-pmu (counter n w f) c = refl
+grown-pmu (event n s ns t) c = refl
+grown-pmu (umask m) c = refl
+
+inner-kept : (above : List ComponentText) (line : Line) → IsLine line → cause_in above line ≡ None → IsTables above → IsTables (on_last (grown line) above)
+inner-kept above line i e h = record {
+  few = let l = length-on_last (grown line) above in omega (arith, h.few, l);
+  each = all-on_last IsComponent (grown line) above h.each (λ c l k. grown-kept above line c i e l k);
+  names_distinct = no_repeats-on_last (λ (a b : ComponentText). same_name a.name b.name) (grown line) above (λ x y. ap (same_name x.name) (grown-name line y)) h.names_distinct;
+  pmus_distinct = no_repeats-on_last (λ (a b : ComponentText). same_name a.pmu b.pmu) (grown line) above (λ x y. ap (same_name x.pmu) (grown-pmu line y)) h.pmus_distinct;
+}
+
+pub kept : (above : List ComponentText) (line : Line) → IsLine line → cause_in above line ≡ None → IsTables above → IsTables (with_line above line)
+unfolding cause_in
+kept above skipped i e h = inner-kept above skipped i e h
+kept above bad i e h = cc e
+kept above (component n p) i e h = component-kept above n p i.0 i.1 e h
+kept above (counter n w f) i e h = inner-kept above (counter n w f) i e h
+kept above (event n s ns t) i e h = inner-kept above (event n s ns t) i e h
+kept above (umask m) i e h = inner-kept above (umask m) i e h

@@ -1,0 +1,70 @@
+-- The rows that were read, and those that are left.
+use Rattle.std.proofs.Common.{◌≡◌, ◌∙◌, ◌+◌, ◌<◌, ◌≤◌, ℕ, List, [], Some, None, map, length, get_or, take, drop, refl, sym, ap, subst, arith}
+use Rattle.std.proofs.lemmas.List.{take_all, drop_more, take_more, drop_all, get_or-map, length-map, length-take-le}
+use Rattle.std.specs.Prelude.{Err}
+use Rattle.csv.specs.Records.{Row, fields_of}
+use Rattle.event_tables.specs.Tables.{ComponentText}
+use Rattle.event_tables.specs.Lines.{Line, line_of, skipped}
+use Rattle.event_tables.specs.Unit.{ReadsUnit, cause_in, components_in, fault_from, lines_of, unit_fault, unit_tables}
+use Rattle.event_tables.specs.Steps.{AddsRow, fault_at, with_line}
+use Rattle.event_tables.specs.Kept.{IsTables}
+use Rattle.event_tables.specs.declared.fault.RowCause.{RowCause}
+use Rattle.event_tables.specs.declared.adding.Refusal.{Refusal}
+use Rattle.event_tables.specs.declared.adding.Refusal.TheVariants as refusal
+use Rattle.event_tables.proofs.Keeping.{IsLine, kept}
+use Rattle.event_tables.proofs.RowsMore.{components-more}
+
+fault-none : (lines : List Line) (i : ℕ) → i < length lines → cause_in (components_in (take i lines)) (get_or lines i skipped) ≡ None
+    → fault_from (take i lines) (drop i lines) ≡ fault_from (take (i + 1) lines) (drop (i + 1) lines)
+unfolding fault_from
+fault-none lines i lt e = rw (drop_more lines i skipped lt, e, take_more lines i skipped lt) refl
+
+fault-some : (lines : List Line) (i : ℕ) (cause : RowCause) → i < length lines → cause_in (components_in (take i lines)) (get_or lines i skipped) ≡ Some cause
+    → fault_from (take i lines) (drop i lines) ≡ Some (i + 1, cause)
+unfolding fault_from
+fault-some lines i cause lt e =
+    let n : length (take i lines) ≡ i = length-take-le i lines (omega arith) in
+    rw (drop_more lines i skipped lt, e, n) refl
+
+fault-end : (lines : List Line) (i : ℕ) → length lines ≤ i → fault_from (take i lines) (drop i lines) ≡ None
+unfolding fault_from
+fault-end lines i h = rw (drop_all i lines h) refl
+
+tables-more : (lines : List Line) (i : ℕ) → i < length lines → components_in (take (i + 1) lines) ≡ with_line (components_in (take i lines)) (get_or lines i skipped)
+tables-more lines i lt = rw (take_more lines i skipped lt) (components-more (take i lines) (get_or lines i skipped))
+
+pub line-at : (rows : List Row) (i : ℕ) (r : Row) → i < length rows → get_or (map line_of (map fields_of rows)) i skipped ≡ line_of (fields_of (get_or rows i r))
+line-at rows i r lt =
+    get_or-map line_of (map fields_of rows) i (fields_of r) skipped (omega (arith, length-map rows fields_of))
+    ∙ ap line_of (get_or-map fields_of rows i r (fields_of r) lt)
+
+-- what a loop over rows keeps, with the first i rows added
+pub record Added (lines : List Line) (i : ℕ) (read : List ComponentText) : Type 0 where
+  pub fault : fault_from [] lines ≡ fault_from (take i lines) (drop i lines)
+  pub tables : read ≡ components_in (take i lines)
+  pub kept : IsTables read
+
+pub none-added : (lines : List Line) → Added lines 0 []
+unfolding components_in
+none-added lines = record { fault = refl; tables = refl; kept = record { few = omega arith; each = tt; names_distinct = tt; pmus_distinct = tt } }
+
+pub added : (lines : List Line) (i : ℕ) (line : Line) (above new : List ComponentText) → i < length lines → get_or lines i skipped ≡ line → IsLine line → Added lines i above
+    → cause_in above line ≡ None → new ≡ with_line above line → Added lines (i + 1) new
+added lines i line above new lt at_i good a none is = record {
+  fault = a.fault ∙ fault-none lines i lt (rw (← a.tables, at_i) none);
+  tables = is ∙ sym (rw (← a.tables, at_i) at (tables-more lines i lt));
+  kept = subst IsTables (sym is) (kept above line good none a.kept);
+}
+
+pub refused : (bytes : List ℕ) (lines : List Line) (i : ℕ) (line : Line) (above new : List ComponentText) (r : Refusal) → lines_of bytes ≡ lines → i < length lines → get_or lines i skipped ≡ line
+    → Added lines i above → AddsRow above line new (Err r) → ReadsUnit (Err (fault_at i r)) bytes
+unfolding unit_fault
+refused bytes lines i line above new (refusal.Cause cause) from lt at_i a h =
+    ap (fault_from []) from ∙ a.fault ∙ fault-some lines i cause lt (rw (← a.tables, at_i) h)
+refused bytes lines i line above new refusal.Memory from lt at_i a h = tt
+
+pub all-added : (bytes : List ℕ) (lines : List Line) (i : ℕ) (tables : List ComponentText) → lines_of bytes ≡ lines → length lines ≤ i → Added lines i tables
+    → (unit_fault bytes ≡ None) × (tables ≡ unit_tables bytes)
+unfolding unit_fault unit_tables
+all-added bytes lines i tables from h a =
+    (ap (fault_from []) from ∙ a.fault ∙ fault-end lines i h, a.tables ∙ ap components_in (take_all i lines h) ∙ sym (ap components_in from))

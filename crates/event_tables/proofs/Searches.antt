@@ -1,0 +1,36 @@
+-- Searches of rows by a test of what callers see of them.
+use Rattle.std.proofs.Common.{◌≡◌, ◌+◌, ◌<◌, ◌∷◌, ℕ, List, [], Option, Some, Bool, true, false, map, length, refl, ap, arith}
+use Rattle.std.specs.Prelude.{◌||◌, ◌==◌, not, if◌then◌else◌}
+use Rattle.std.specs.List.{filter, list_any, position_from, slice_split}
+use Rattle.table_rows.specs.Texts.{Text, is_empty}
+use Rattle.event_tables.specs.Lines.{words_of}
+
+pub list_any-map : {X Y : Type 0} (p : Y → Bool) (h : X → Y) (xs : List X) → list_any (λ x. p (h x)) xs ≡ list_any p (map h xs)
+list_any-map p h [] = refl
+list_any-map p h (x ∷ xs) = ap (λ b. p (h x) || b) (list_any-map p h xs)
+
+pub position_from-map : {X Y : Type 0} (p : Y → Bool) (h : X → Y) (i : ℕ) (xs : List X) → position_from (λ x. p (h x)) i xs ≡ position_from p i (map h xs)
+position_from-map p h i [] = refl
+position_from-map p h i (x ∷ xs) = ap (λ (o : Option ℕ). if p (h x) then Some i else o) (position_from-map p h (i + 1) xs)
+
+-- some item passes where the filtered list has one
+filled : {X : Type 0} (p : X → Bool) (xs : List X) → list_any p xs ≡ not (is_empty (filter p xs))
+filled p [] = refl
+filled p (x ∷ xs) = go (p x) (filled p xs)
+  where
+    go : (b : Bool) → list_any p xs ≡ not (is_empty (filter p xs)) → (b || list_any p xs) ≡ not (is_empty (if b then x ∷ filter p xs else filter p xs))
+    go true h = refl
+    go false h = h
+
+pub has_word-filled : (t : Text) → list_any (λ w. not (is_empty w)) (slice_split (λ b. b == 32) t) ≡ not (is_empty (words_of t))
+unfolding words_of
+has_word-filled t = filled (λ w. not (is_empty w)) (slice_split (λ b. b == 32) t)
+
+-- what is found is in the list
+pub position_from-lt : {X : Type 0} (p : X → Bool) (i : ℕ) (xs : List X) (k : ℕ) → position_from p i xs ≡ Some k → k < i + length xs
+position_from-lt p i [] k e = cc e
+position_from-lt p i (x ∷ xs) k e = go (p x) e (position_from-lt p (i + 1) xs k)
+  where
+    go : (b : Bool) → (if b then Some i else position_from p (i + 1) xs) ≡ Some k → (position_from p (i + 1) xs ≡ Some k → k < i + 1 + length xs) → k < i + length (x ∷ xs)
+    go true e more = let same : i ≡ k = cc e in omega arith
+    go false e more = let lt = more e in omega (arith, lt)

@@ -1,0 +1,20 @@
+use Rattle.std.proofs.Common.{◌≡◌, ◌∙◌, ◌+◌, ◌-◌, ◌∷◌, [], List, length, map, ap, arith}
+use Rattle.std.proofs.lemmas.List.{map-append}
+use Rattle.std.specs.Prelude.{string_bytes}
+use Rattle.event_tables.specs.Tables.{ComponentText, EventText, MaskText}
+use Rattle.event_tables.specs.Steps.{with_mask}
+use Rattle.event_tables.specs.Views.{counter_text, event_text, mask_text}
+use Rattle.event_tables.specs.declared.component.EventRow.{EventRow}
+use Rattle.event_tables.proofs.Growing.{on_last-set}
+use Rattle.event_tables.proofs.adding.add_mask.Goals as goal
+
+pub returns : goal.returns
+returns c =
+    let old = c.args.component.now in
+    let x = c.index_mut.result.now in
+    let m = mask_text c.args.mask in
+    let at_last : (c.len-last.result - 1) + 1 ≡ length old.events.items = omega arith in
+    let masks = ap (map mask_text) c.in_ok-push.ensures.items ∙ map-append mask_text x.masks.items (c.args.mask ∷ []) in
+    let here = ap (λ (ms : List MaskText). let r : EventText = record { name = string_bytes x.name; select = x.select; allowed = x.allowed; text = string_bytes x.text; masks = ms } in r) masks in
+    let events = on_last-set event_text (with_mask m) old.events.items (c.len-last.result - 1) _ x at_last (here ∙ ap (λ (e : EventRow). with_mask m (event_text e)) c.index_mut.ensures.value) in
+    ap (λ (es : List EventText). let r : ComponentText = record { name = string_bytes old.name; pmu = string_bytes old.pmu; counters = map counter_text old.counters.items; events = es } in r) events

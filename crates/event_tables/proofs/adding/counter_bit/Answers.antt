@@ -1,0 +1,23 @@
+use Rattle.std.proofs.Common.{◌∙◌, ◌<◌, map, sym, ap, arith}
+use Rattle.std.proofs.lemmas.List.{length-map}
+use Rattle.std.specs.Str.{bytes_eq}
+use Rattle.event_tables.specs.Unit.{place_bit}
+use Rattle.event_tables.specs.Views.{counter_text}
+use Rattle.event_tables.specs.Tables.{CounterText}
+use Rattle.event_tables.proofs.Searches.{position_from-lt}
+use Rattle.event_tables.proofs.Bits.{bit-shifted}
+use Rattle.event_tables.proofs.adding.counter_bit.Goals as goal
+
+small : (c : goal.In-Some) → c.in-Some.place < 32
+small c =
+    let lt = position_from-lt (λ (k : CounterText). bytes_eq k.name c.args.name.now) 0 (map counter_text c.args.counters.now) c.in-Some.place (sym c.counter_place.ensures ∙ c.in-Some.is) in
+    omega (arith, lt, length-map c.args.counters.now counter_text)
+
+pub overflow_cast-result : goal.overflow_cast-result
+overflow_cast-result c = omega (arith, small c)
+
+pub overflow_shl-result : goal.overflow_shl-result
+overflow_shl-result c = small c
+
+pub returns-in-Some : goal.returns-in-Some
+returns-in-Some c = bit-shifted c.in-Some.place (small c) ∙ ap place_bit (sym c.in-Some.is ∙ c.counter_place.ensures)

@@ -1,0 +1,16 @@
+use Rattle.std.proofs.Common.{◌∙◌, rules, tests}
+use Rattle.std.specs.Prelude.{string_bytes}
+use Rattle.std.proofs.lemmas.Iterator.{YieldsList-from_slice}
+use Rattle.std.proofs.lemmas.Iterator.Search.{position_from_yields_List}
+use Rattle.std.proofs.lemmas.Iterator.Adapters.{position_from-zero}
+use Rattle.std.specs.Str.{bytes_eq}
+use Rattle.event_tables.specs.declared.component.Counter.{Counter}
+use Rattle.event_tables.specs.Views.{counter_text}
+use Rattle.event_tables.proofs.Searches.{position_from-map}
+use Rattle.event_tables.proofs.cause.counter_place.Goals as goal
+
+pub returns : goal.returns
+returns c =
+    position_from_yields_List (λ x. bytes_eq (string_bytes x.name) c.args.name.now) _ _ _ c.position.ensures.ran (YieldsList-from_slice c.args.counters.now cc) (λ x b q k. search (rules, tests))
+    ∙ position_from-zero (λ (x : Counter). bytes_eq (string_bytes x.name) c.args.name.now) c.args.counters.now
+    ∙ position_from-map (λ k. bytes_eq k.name c.args.name.now) counter_text 0 c.args.counters.now

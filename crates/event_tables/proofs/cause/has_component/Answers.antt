@@ -1,0 +1,13 @@
+use Rattle.std.proofs.Common.{◌∙◌, rules, tests}
+use Rattle.std.specs.Prelude.{◌||◌, string_bytes}
+use Rattle.std.proofs.lemmas.Iterator.{YieldsList-from_slice}
+use Rattle.std.proofs.lemmas.Iterator.Search.{any_from_yields_List}
+use Rattle.event_tables.specs.Tables.{same_name}
+use Rattle.event_tables.specs.Views.{component_text}
+use Rattle.event_tables.proofs.Searches.{list_any-map}
+use Rattle.event_tables.proofs.cause.has_component.Goals as goal
+
+pub returns : goal.returns
+returns c =
+    any_from_yields_List (λ x. same_name (string_bytes x.name) c.args.name.now || same_name (string_bytes x.pmu) c.args.pmu.now) _ _ _ c.any.ensures.ran (YieldsList-from_slice c.args.above.now cc) (λ x b q k. search (rules, tests))
+    ∙ list_any-map (λ k. same_name k.name c.args.name.now || same_name k.pmu c.args.pmu.now) component_text c.args.above.now

@@ -1,0 +1,11 @@
+use Rattle.std.proofs.Common.{◌∙◌, rules, tests}
+use Rattle.std.proofs.lemmas.Iterator.{YieldsList-from_slice}
+use Rattle.std.proofs.lemmas.Iterator.Search.{any_from_yields_List}
+use Rattle.event_tables.specs.Views.{mask_text}
+use Rattle.event_tables.proofs.Searches.{list_any-map}
+use Rattle.event_tables.proofs.cause.has_default.Goals as goal
+
+pub returns : goal.returns
+returns c =
+    any_from_yields_List (λ x. x.preset_choice) _ _ _ c.any.ensures.ran (YieldsList-from_slice c.args.above.now cc) (λ x b q k. search (rules, tests))
+    ∙ list_any-map (λ m. m.preset_choice) mask_text c.args.above.now

@@ -1,0 +1,13 @@
+use Rattle.std.proofs.Common.{◌∙◌, rules, tests}
+use Rattle.std.specs.Prelude.{string_bytes}
+use Rattle.std.proofs.lemmas.Iterator.{YieldsList-from_slice}
+use Rattle.std.proofs.lemmas.Iterator.Search.{any_from_yields_List}
+use Rattle.event_tables.specs.Tables.{same_name}
+use Rattle.event_tables.specs.Views.{mask_text}
+use Rattle.event_tables.proofs.Searches.{list_any-map}
+use Rattle.event_tables.proofs.cause.has_mask.Goals as goal
+
+pub returns : goal.returns
+returns c =
+    any_from_yields_List (λ x. same_name (string_bytes x.name) c.args.name.now) _ _ _ c.any.ensures.ran (YieldsList-from_slice c.args.above.now cc) (λ x b q k. search (rules, tests))
+    ∙ list_any-map (λ m. same_name m.name c.args.name.now) mask_text c.args.above.now

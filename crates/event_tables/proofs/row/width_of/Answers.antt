@@ -1,0 +1,8 @@
+use Rattle.std.proofs.Common.{◌∙◌, sym, arith}
+use Rattle.table_rows.proofs.Ranges.{decimal_in-range}
+use Rattle.event_tables.proofs.row.width_of.Goals as goal
+
+pub overflow_cast-result : goal.overflow_cast-result
+overflow_cast-result c =
+    let r = decimal_in-range 16 48 c.args.bytes.now c.in-Some.n (sym c.decimal_in.ensures ∙ c.in-Some.is) in
+    omega (arith, r.1)

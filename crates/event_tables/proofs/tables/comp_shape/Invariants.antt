@@ -1,0 +1,6 @@
+use Rattle.std.proofs.Common.{◌≡◌, map, take}
+use Rattle.event_tables.specs.Views.{counter_text}
+use Rattle.event_tables.proofs.tables.comp_shape.Given as goal
+
+abbrev pub invariant-loop-k : goal.invariant-loop-k
+invariant-loop-k l = l.shape ≡ map (λ k. k.width) (map counter_text (take l.k-index l.counters))

@@ -1,0 +1,49 @@
+-- What the tables of a unit keep: the limits, the forms of names, and that no name is repeated.
+use Rattle.std.specs.Prelude.{⊤, ◌≡◌, ◌<◌, ◌≤◌, ◌^◌, ◌&&◌, ℕ, Bool, true, false, List, [], ◌∷◌, length}
+use Rattle.std.specs.List.{AllByRecursion}
+use Rattle.std.specs.Str.{bytes_eq}
+use Rattle.table_rows.specs.Texts.{is_name}
+use Rattle.event_tables.specs.Tables.{ComponentText, CounterText, EventText, MaskText, same_name}
+use Rattle.event_tables.specs.Unit.{modifier_words}
+
+-- no item repeats an earlier one
+abbrev pub NoRepeats : {X : Type 0} → (X → X → Bool) → List X → Type 0
+NoRepeats same [] = ⊤
+NoRepeats same (x ∷ xs) = AllByRecursion (λ y. same x y ≡ false) xs × NoRepeats same xs
+
+pub record IsCounter (k : CounterText) : Type 0 where
+  pub named : is_name k.name ≡ true
+  pub narrow : 16 ≤ k.width
+  pub wide : k.width ≤ 48
+
+pub record IsMask (m : MaskText) : Type 0 where
+  pub named : is_name m.name ≡ true
+  pub no_modifier : AllByRecursion (λ w. same_name m.name w ≡ false) modifier_words
+  pub byte : m.bits < 2 ^ 8
+
+-- an event of a component with so many counters
+pub record IsEvent (counters : ℕ) (e : EventText) : Type 0 where
+  pub named : is_name e.name ≡ true
+  pub byte : e.select < 2 ^ 8
+  pub counted : 0 < e.allowed
+  pub within : e.allowed < 2 ^ counters
+  pub few : length e.masks ≤ 16
+  pub each : AllByRecursion IsMask e.masks
+  pub distinct : NoRepeats (λ (a b : MaskText). same_name a.name b.name) e.masks
+  pub one_default : NoRepeats (λ (a b : MaskText). a.preset_choice && b.preset_choice) e.masks
+
+pub record IsComponent (c : ComponentText) : Type 0 where
+  pub named : is_name c.name ≡ true
+  pub pmu_named : is_name c.pmu ≡ true
+  pub few_counters : length c.counters ≤ 32
+  pub few_events : length c.events ≤ 1024
+  pub counters : AllByRecursion IsCounter c.counters
+  pub counters_distinct : NoRepeats (λ (a b : CounterText). bytes_eq a.name b.name) c.counters
+  pub events : AllByRecursion (IsEvent (length c.counters)) c.events
+  pub events_distinct : NoRepeats (λ (a b : EventText). same_name a.name b.name) c.events
+
+pub record IsTables (tables : List ComponentText) : Type 0 where
+  pub few : length tables ≤ 16
+  pub each : AllByRecursion IsComponent tables
+  pub names_distinct : NoRepeats (λ (a b : ComponentText). same_name a.name b.name) tables
+  pub pmus_distinct : NoRepeats (λ (a b : ComponentText). same_name a.pmu b.pmu) tables

@@ -1,0 +1,89 @@
+-- What one row of a unit file says, by itself. The file format is this project's own.
+use Rattle.std.specs.Prelude.{◌&&◌, ◌||◌, ◌==◌, ℕ, Bool, true, false, not, List, length, Option, Some, None}
+use Rattle.std.specs.Prelude.{if◌then◌else◌, nat_le, codes}
+use Rattle.std.specs.List.{filter, list_all, slice_split}
+use Rattle.std.specs.Str.{bytes_eq}
+use Rattle.table_rows.specs.Texts.{Text, decimal_in, hex_in, is_decimal, is_empty, is_name, is_printable, is_skipped, text_at}
+use Rattle.event_tables.specs.Tables.{MaskText}
+use Rattle.event_tables.specs.declared.row.Row.{Row}
+use Rattle.event_tables.specs.declared.row.Row.TheVariants as row
+use Rattle.event_tables.specs.declared.row.Flags.{Flags}
+
+-- a row by its kind: a counter out of range has no width, an event names its counters, and a row that has none of the forms is `bad`
+pub data Line : Type 0 where
+  skipped : Line
+  bad : Line
+  component : Text → Text → Line
+  counter : Text → Option ℕ → Bool → Line
+  event : Text → ℕ → List Text → Text → Line
+  umask : MaskText → Line
+
+-- the parts between spaces that are not empty
+unfoldable pub words_of : Text → List Text
+words_of t = filter (λ w. not (is_empty w)) (slice_split (λ b. b == 32) t)
+
+-- one or more names
+abbrev pub are_names : List Text → Bool
+are_names words = not (is_empty words) && list_all is_name words
+
+-- 0 to 200 characters from a space to `~`
+abbrev pub is_description : Text → Bool
+is_description t = is_printable t && nat_le (length t) 200
+
+abbrev pub flags : Bool → Bool → Flags
+flags preset_choice alone = record { preset_choice = preset_choice; alone = alone }
+
+-- `-`, or `d` and `n`, each at most once
+unfoldable pub flags_of : Text → Option Flags
+flags_of t =
+    if bytes_eq t (codes "-") then Some (flags false false)
+    else if bytes_eq t (codes "d") then Some (flags true false)
+    else if bytes_eq t (codes "n") then Some (flags false true)
+    else if bytes_eq t (codes "dn") || bytes_eq t (codes "nd") then Some (flags true true)
+    else None
+
+abbrev pub component_line : Text → Text → Line
+component_line name pmu = if is_name name && is_name pmu then component name pmu else bad
+
+abbrev pub counter_line : Text → Text → Text → Line
+counter_line name width kind =
+    if is_name name && is_decimal width && (bytes_eq kind (codes "P") || bytes_eq kind (codes "F"))
+    then counter name (decimal_in 16 48 width) (bytes_eq kind (codes "F")) else bad
+
+abbrev pub event_line : Text → Text → Text → Text → Line
+event_line name select counters text = go (hex_in 1 2 select)
+  where
+    go : Option ℕ → Line
+    go None = bad
+    go (Some n) = if is_name name && are_names (words_of counters) && is_description text then event name n (words_of counters) text else bad
+
+abbrev pub mask_of : Text → ℕ → Flags → Text → MaskText
+mask_of name bits f text = record { name = name; bits = bits; preset_choice = f.preset_choice; alone = f.alone; text = text }
+
+abbrev pub umask_line : Text → Text → Text → Text → Line
+umask_line name bits letters text = go (hex_in 1 2 bits) (flags_of letters)
+  where
+    go : Option ℕ → Option Flags → Line
+    go None f = bad
+    go (Some n) None = bad
+    go (Some n) (Some f) = if is_name name && is_description text then umask (mask_of name n f text) else bad
+
+unfoldable pub line_of : List Text → Line
+line_of fields =
+    let first = text_at fields 0 in
+    let n = length fields in
+    if is_skipped first then skipped
+    else if bytes_eq first (codes "COMPONENT") && (n == 3) then component_line (text_at fields 1) (text_at fields 2)
+    else if bytes_eq first (codes "COUNTER") && (n == 4) then counter_line (text_at fields 1) (text_at fields 2) (text_at fields 3)
+    else if bytes_eq first (codes "EVENT") && (n == 5) then event_line (text_at fields 1) (text_at fields 2) (text_at fields 3) (text_at fields 4)
+    else if bytes_eq first (codes "UMASK") && (n == 5) then umask_line (text_at fields 1) (text_at fields 2) (text_at fields 3) (text_at fields 4)
+    else bad
+
+-- what a row that was read says
+abbrev pub row_line : Row → Line
+row_line row.Skipped = skipped
+row_line row.Bad = bad
+row_line (row.Component name pmu) = component name.now pmu.now
+row_line (row.Counter name width fixed) = counter name.now width fixed
+row_line (row.Event name select counters text) = event name.now select (words_of counters.now) text.now
+row_line (row.Umask name bits f text) = umask (mask_of name.now bits f text.now)

@@ -1,0 +1,57 @@
+-- The tables of some rows and of one row more.
+use Rattle.std.specs.Prelude.{⊤, ◌≡◌, ◌+◌, ◌<◌, length, ℕ, List, [], ◌∷◌, ◌++◌, Some, None, Result, Ok, Err}
+use Rattle.event_tables.specs.Lines.{Line, skipped, bad, component, counter, event, umask}
+use Rattle.event_tables.specs.Tables.{ComponentText, CounterText, EventText, MaskText}
+use Rattle.event_tables.specs.Unit.{cause_in, component_of, counter_row, event_row}
+use Rattle.event_tables.specs.declared.fault.TableFault.{TableFault}
+use Rattle.event_tables.specs.declared.fault.TableFault.TheVariants as fault
+use Rattle.event_tables.specs.declared.adding.Refusal.{Refusal}
+use Rattle.event_tables.specs.declared.adding.Refusal.TheVariants as refusal
+
+-- a list with its last item changed
+unfoldable pub on_last : {X : Type 0} → (X → X) → List X → List X
+on_last f [] = []
+on_last f (x ∷ []) = f x ∷ []
+on_last f (x ∷ y ∷ rest) = x ∷ on_last f (y ∷ rest)
+
+-- a component with one counter or one event more, and an event with one umask more
+abbrev pub with_counter : CounterText → ComponentText → ComponentText
+with_counter k c = record c { counters = c.counters ++ k ∷ [] }
+
+abbrev pub with_event : EventText → ComponentText → ComponentText
+with_event e c = record c { events = c.events ++ e ∷ [] }
+
+abbrev pub with_mask : MaskText → EventText → EventText
+with_mask m e = record e { masks = e.masks ++ m ∷ [] }
+
+abbrev pub with_inner_mask : MaskText → ComponentText → ComponentText
+with_inner_mask m c = record c { events = on_last (with_mask m) c.events }
+
+-- a component with a row of its own, that is no component
+abbrev pub grown : Line → ComponentText → ComponentText
+grown skipped c = c
+grown bad c = c
+grown (component name pmu) c = c
+grown (counter name width fixed) c = with_counter (counter_row name width fixed) c
+grown (event name select names text) c = with_event (event_row c.counters name select names text []) c
+grown (umask m) c = with_inner_mask m c
+
+-- a umask has an event above it
+abbrev pub CanGrow : Line → ComponentText → Type 0
+CanGrow (umask m) c = 0 < length c.events
+CanGrow line c = ⊤
+
+abbrev pub with_line : List ComponentText → Line → List ComponentText
+with_line above (component name pmu) = above ++ component_of name pmu [] ∷ []
+with_line above line = on_last (grown line) above
+
+-- one row is added, or refused for its cause
+abbrev pub AddsRow : List ComponentText → Line → List ComponentText → Result Unit Refusal → Type 0
+AddsRow old line new (Ok u) = (cause_in old line ≡ None) × (new ≡ with_line old line)
+AddsRow old line new (Err (refusal.Cause cause)) = cause_in old line ≡ Some cause
+AddsRow old line new (Err refusal.Memory) = ⊤
+
+-- the fault of a refused row, whose place is from 0
+abbrev pub fault_at : ℕ → Refusal → TableFault
+fault_at place (refusal.Cause cause) = fault.Row (place + 1) cause
+fault_at place refusal.Memory = fault.Memory

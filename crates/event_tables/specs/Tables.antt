@@ -1,0 +1,56 @@
+-- The tables of a unit file, as lists and texts: what the file format of this project's unit files states.
+use Rattle.std.specs.Prelude.{ℕ, Bool, List, map, Option, slice_get}
+use Rattle.std.specs.List.{position_from}
+use Rattle.std.specs.Option.{option_and_then}
+use Rattle.std.specs.Str.{str_eq_ignore_ascii_case}
+use Rattle.table_rows.specs.Texts.{Text}
+
+-- a umask of an event: its bits of the umask byte, whether it is the default one, and whether it cannot be combined
+pub record MaskText : Type 0 where
+  pub name : Text
+  pub bits : ℕ
+  pub preset_choice : Bool
+  pub alone : Bool
+  pub text : Text
+
+-- an event: its select code, the counters that can count it as bits, its description and its umasks
+pub record EventText : Type 0 where
+  pub name : Text
+  pub select : ℕ
+  pub allowed : ℕ
+  pub text : Text
+  pub masks : List MaskText
+
+-- a counter: its width in bits, and whether it is a fixed one
+pub record CounterText : Type 0 where
+  pub name : Text
+  pub width : ℕ
+  pub fixed : Bool
+
+pub record ComponentText : Type 0 where
+  pub name : Text
+  pub pmu : Text
+  pub counters : List CounterText
+  pub events : List EventText
+
+-- names are equal, without regard to ASCII case
+abbrev pub same_name : Text → Text → Bool
+same_name a b = str_eq_ignore_ascii_case a b
+
+-- the event in a row of a component, and a counter of a component, where there are such
+abbrev pub event_at : List ComponentText → ℕ → ℕ → Option EventText
+event_at tables comp row = option_and_then (λ c. slice_get c.events row) (slice_get tables comp)
+
+abbrev pub counter_at : List ComponentText → ℕ → ℕ → Option CounterText
+counter_at tables comp k = option_and_then (λ c. slice_get c.counters k) (slice_get tables comp)
+
+-- the first component of this name
+abbrev pub component_of_name : List ComponentText → Text → Option ℕ
+component_of_name tables name = position_from (λ c. same_name c.name name) 0 tables
+
+-- the widths of each component's counters
+abbrev pub widths_of : ComponentText → List ℕ
+widths_of c = map (λ k. k.width) c.counters
+
+abbrev pub shape_of : List ComponentText → List (List ℕ)
+shape_of tables = map widths_of tables

@@ -1,0 +1,164 @@
+-- The tables of a unit file's rows, and the first fault. The file format is this project's own.
+use Rattle.std.specs.Prelude.{◌≡◌, ◌&&◌, ◌||◌, ◌+◌, ◌-◌, ◌^◌, ℕ, Bool, List, [], ◌∷◌, ◌++◌, length, map, Option, Some, None, Result, Ok, Err}
+use Rattle.std.specs.Prelude.{is_some, unwrap_or, if◌then◌else◌, nat_le, slice_get, codes}
+use Rattle.std.specs.List.{fold, list_all, list_any, position_from}
+use Rattle.std.specs.Option.{option_map_or}
+use Rattle.std.specs.Str.{bytes_eq}
+use Rattle.std.specs.Int.RustNames.{bit_or}
+use Rattle.table_rows.specs.Rows.{rows_of}
+use Rattle.table_rows.specs.Texts.{Text}
+use Rattle.event_tables.specs.Lines.{Line, skipped, bad, component, counter, event, umask, line_of}
+use Rattle.event_tables.specs.Tables.{ComponentText, CounterText, EventText, MaskText, same_name}
+use Rattle.event_tables.specs.declared.fault.RowCause.{RowCause}
+use Rattle.event_tables.specs.declared.fault.RowCause.TheVariants as cause
+use Rattle.event_tables.specs.declared.fault.TableFault.{TableFault}
+use Rattle.event_tables.specs.declared.fault.TableFault.TheVariants as fault
+use Rattle.event_tables.specs.declared.tables.Tables.{Tables}
+
+-- ---- the tables of some rows: each row under the row to which it belongs
+
+abbrev pub counter_row : Text → Option ℕ → Bool → CounterText
+counter_row name width fixed = record { name = name; width = unwrap_or width 0; fixed = fixed }
+
+-- the place of a counter, by its exact name
+abbrev pub counter_place : List CounterText → Text → Option ℕ
+counter_place counters name = position_from (λ k. bytes_eq k.name name) 0 counters
+
+-- a counter as a bit
+abbrev pub place_bit : Option ℕ → ℕ
+place_bit None = 0
+place_bit (Some p) = 2 ^ p
+
+-- the counters of these names, as bits
+abbrev pub bits_of : List CounterText → List Text → ℕ
+bits_of counters names = fold (λ bits name. bit_or bits (place_bit (counter_place counters name))) 0 names
+
+abbrev pub event_row : List CounterText → Text → ℕ → List Text → Text → List MaskText → EventText
+event_row counters name select names text masks = record { name = name; select = select; allowed = bits_of counters names; text = text; masks = masks }
+
+-- the umasks of the rows up to the next event or component
+unfoldable pub masks_in : List Line → List MaskText
+masks_in [] = []
+masks_in (skipped ∷ rest) = masks_in rest
+masks_in (bad ∷ rest) = masks_in rest
+masks_in (component name pmu ∷ rest) = []
+masks_in (counter name width fixed ∷ rest) = masks_in rest
+masks_in (event name select names text ∷ rest) = []
+masks_in (umask m ∷ rest) = m ∷ masks_in rest
+
+-- the counters of the rows up to the next component
+unfoldable pub counters_in : List Line → List CounterText
+counters_in [] = []
+counters_in (skipped ∷ rest) = counters_in rest
+counters_in (bad ∷ rest) = counters_in rest
+counters_in (component name pmu ∷ rest) = []
+counters_in (counter name width fixed ∷ rest) = counter_row name width fixed ∷ counters_in rest
+counters_in (event name select names text ∷ rest) = counters_in rest
+counters_in (umask m ∷ rest) = counters_in rest
+
+-- the events of the rows up to the next component, where `above` are the counters of the component above them
+unfoldable pub events_in : List CounterText → List Line → List EventText
+events_in above [] = []
+events_in above (skipped ∷ rest) = events_in above rest
+events_in above (bad ∷ rest) = events_in above rest
+events_in above (component name pmu ∷ rest) = []
+events_in above (counter name width fixed ∷ rest) = events_in (above ++ counter_row name width fixed ∷ []) rest
+events_in above (event name select names text ∷ rest) = event_row above name select names text (masks_in rest) ∷ events_in above rest
+events_in above (umask m ∷ rest) = events_in above rest
+
+abbrev pub component_of : Text → Text → List Line → ComponentText
+component_of name pmu rest = record { name = name; pmu = pmu; counters = counters_in rest; events = events_in [] rest }
+
+-- the components, each with the rows below it up to the next one
+unfoldable pub components_in : List Line → List ComponentText
+components_in [] = []
+components_in (skipped ∷ rest) = components_in rest
+components_in (bad ∷ rest) = components_in rest
+components_in (component name pmu ∷ rest) = component_of name pmu rest ∷ components_in rest
+components_in (counter name width fixed ∷ rest) = components_in rest
+components_in (event name select names text ∷ rest) = components_in rest
+components_in (umask m ∷ rest) = components_in rest
+
+-- ---- the cause of a row, in view of the tables of the rows above it; the causes are tried in the order of `RowCause`
+
+abbrev pub component_cause : List ComponentText → Text → Text → Option RowCause
+component_cause above name pmu =
+    if nat_le 16 (length above) then Some cause.OverLimit
+    else if list_any (λ c. same_name c.name name || same_name c.pmu pmu) above then Some cause.RepeatedName
+    else None
+
+abbrev pub counter_cause : List CounterText → Text → Option ℕ → Option RowCause
+counter_cause above name width =
+    if nat_le 32 (length above) then Some cause.OverLimit
+    else if list_any (λ k. bytes_eq k.name name) above then Some cause.RepeatedName
+    else if is_some width then None
+    else Some cause.BadWidth
+
+abbrev pub event_cause : ComponentText → Text → List Text → Option RowCause
+event_cause above name names =
+    if nat_le 1024 (length above.events) then Some cause.OverLimit
+    else if list_any (λ e. same_name e.name name) above.events then Some cause.RepeatedName
+    else if list_all (λ n. is_some (counter_place above.counters n)) names then None
+    else Some cause.UnknownCounter
+
+-- `u`, `k`, `i`, `c` and `e` are the modifiers of event names
+abbrev pub modifier_words : List Text
+modifier_words = codes "u" ∷ codes "k" ∷ codes "e" ∷ codes "i" ∷ codes "c" ∷ []
+
+abbrev pub is_modifier : Text → Bool
+is_modifier name = list_any (λ w. same_name name w) modifier_words
+
+-- a umask of this name, which may be a default one, below others of its event
+abbrev pub mask_cause : List MaskText → Text → Bool → Option RowCause
+mask_cause above name preset_choice =
+    if preset_choice && list_any (λ o. o.preset_choice) above then Some cause.BadRow
+    else if nat_le 16 (length above) then Some cause.OverLimit
+    else if is_modifier name || list_any (λ o. same_name o.name name) above then Some cause.RepeatedName
+    else None
+
+abbrev pub last_of : {X : Type 0} → List X → Option X
+last_of xs = slice_get xs (length xs - 1)
+
+abbrev pub inner_mask_cause : ComponentText → Text → Bool → Option RowCause
+inner_mask_cause above name preset_choice = option_map_or (λ e. mask_cause e.masks name preset_choice) (last_of above.events) (Some cause.BadRow)
+
+unfoldable pub cause_in : List ComponentText → Line → Option RowCause
+cause_in above skipped = None
+cause_in above bad = Some cause.BadRow
+cause_in above (component name pmu) = component_cause above name pmu
+cause_in above (counter name width fixed) = option_map_or (λ c. counter_cause c.counters name width) (last_of above) (Some cause.BadRow)
+cause_in above (event name select names text) = option_map_or (λ c. event_cause c name names) (last_of above) (Some cause.BadRow)
+cause_in above (umask m) = option_map_or (λ c. inner_mask_cause c m.name m.preset_choice) (last_of above) (Some cause.BadRow)
+
+-- the first row below `above` that has a cause in view of the rows above it, and its cause
+unfoldable pub fault_from : List Line → List Line → Option (ℕ × RowCause)
+fault_from above [] = None
+fault_from above (line ∷ rest) =
+    option_map_or (λ cause. Some (length above + 1, cause)) (cause_in (components_in above) line) (fault_from (above ++ line ∷ []) rest)
+
+abbrev pub lines_of : List ℕ → List Line
+lines_of bytes = map line_of (rows_of bytes)
+
+-- ---- what a caller gets
+
+-- the first faulty row of a unit file, from 1, and its first cause
+unfoldable pub unit_fault : List ℕ → Option (ℕ × RowCause)
+unit_fault bytes = fault_from [] (lines_of bytes)
+
+-- the tables of a unit file that has no faulty row
+unfoldable pub unit_tables : List ℕ → List ComponentText
+unit_tables bytes = components_in (lines_of bytes)
+
+-- the tables where no row is faulty, or the first fault, or want of memory
+abbrev pub ReadsUnit : Result Tables TableFault → List ℕ → Type 0
+ReadsUnit (Ok tables) bytes = (unit_fault bytes ≡ None) × (tables ≡ unit_tables bytes)
+ReadsUnit (Err (fault.Row row cause)) bytes = unit_fault bytes ≡ Some (row, cause)
+ReadsUnit (Err fault.Memory) bytes = Unit {0}
+
+-- a cause as it is written on the line that names it
+abbrev pub cause_text : RowCause → Text
+cause_text cause.BadRow = codes "bad row"
+cause_text cause.OverLimit = codes "over a limit"
+cause_text cause.RepeatedName = codes "repeated name"
+cause_text cause.BadWidth = codes "width out of range"
+cause_text cause.UnknownCounter = codes "unknown counter"

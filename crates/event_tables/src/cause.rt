@@ -1,0 +1,183 @@
+// Why a row is refused, in view of the tables of the rows above it.
+
+ghost use Rattle.std.specs.Prelude.{◌≡◌, ◌||◌, map, is_some, string_bytes};
+ghost use Rattle.std.specs.List.{list_all, list_any};
+ghost use Rattle.event_tables.specs.Lines.{row_line, words_of, mask_of};
+ghost use Rattle.event_tables.specs.Tables as Tables;
+ghost use Rattle.event_tables.specs.Unit as Unit;
+ghost use Rattle.event_tables.specs.Views.{component_text, counter_text, event_text, mask_text};
+ghost use Rattle.std.specs.Str.{bytes_eq};
+
+use crate::component::{Component, Counter, EventRow, UmaskRow};
+use crate::fault::RowCause;
+use crate::row::{Flags, Row};
+
+fn same_name(a: &str, b: &str) -> bool
+    ensures { result ≡ Tables.same_name a.now b.now }
+{
+    a.eq_ignore_ascii_case(b)
+}
+
+// Whether a component has this name or this pmu.
+fn has_component(above: &[Component], name: &str, pmu: &str) -> bool
+    ensures { result ≡ list_any (λ c. Tables.same_name c.name name.now || Tables.same_name c.pmu pmu.now) (map component_text above.now) }
+{
+    above.iter().any(|c| same_name(c.name.as_str(), name) || same_name(c.pmu.as_str(), pmu))
+}
+
+/// The place of a counter, by its exact name.
+pub fn counter_place(counters: &[Counter], name: &[u8]) -> Option<usize>
+    ensures { result ≡ Unit.counter_place (map counter_text counters.now) name.now }
+{
+    counters.iter().position(|k| k.name.as_bytes() == name)
+}
+
+fn has_counter(above: &[Counter], name: &str) -> bool
+    ensures { result ≡ list_any (λ k. bytes_eq k.name name.now) (map counter_text above.now) }
+{
+    above.iter().any(|k| k.name.as_str() == name)
+}
+
+fn has_event(above: &[EventRow], name: &str) -> bool
+    ensures { result ≡ list_any (λ e. Tables.same_name e.name name.now) (map event_text above.now) }
+{
+    above.iter().any(|e| same_name(e.name.as_str(), name))
+}
+
+fn has_mask(above: &[UmaskRow], name: &str) -> bool
+    ensures { result ≡ list_any (λ o. Tables.same_name o.name name.now) (map mask_text above.now) }
+{
+    above.iter().any(|m| same_name(m.name.as_str(), name))
+}
+
+fn has_default(above: &[UmaskRow]) -> bool
+    ensures { result ≡ list_any (λ o. o.preset_choice) (map mask_text above.now) }
+{
+    above.iter().any(|m| m.preset_choice)
+}
+
+// Whether a name is one of the modifiers of event names.
+fn is_modifier(name: &str) -> bool
+    ensures { result ≡ Unit.is_modifier name.now }
+{
+    same_name(name, "u")
+        || same_name(name, "k")
+        || same_name(name, "e")
+        || same_name(name, "i")
+        || same_name(name, "c")
+}
+
+// Whether the component has all of these counters.
+fn knows_all(counters: &[Counter], names: &[u8]) -> bool
+    ensures { result ≡ list_all (λ n. is_some (Unit.counter_place (map counter_text counters.now) n)) (words_of names.now) }
+{
+    names
+        .split(|&b| b == b' ')
+        .filter(|name| !name.is_empty())
+        .all(|name| counter_place(counters, name).is_some())
+}
+
+fn component_cause(above: &[Component], name: &str, pmu: &str) -> Option<RowCause>
+    ensures { result ≡ Unit.component_cause (map component_text above.now) name.now pmu.now }
+{
+    if above.len() >= 16 {
+        return Some(RowCause::OverLimit);
+    }
+    if has_component(above, name, pmu) {
+        return Some(RowCause::RepeatedName);
+    }
+    None
+}
+
+fn counter_cause(above: &[Counter], name: &str, width: Option<u8>) -> Option<RowCause>
+    ensures { result ≡ Unit.counter_cause (map counter_text above.now) name.now width }
+{
+    if above.len() >= 32 {
+        return Some(RowCause::OverLimit);
+    }
+    if has_counter(above, name) {
+        return Some(RowCause::RepeatedName);
+    }
+    match width {
+        Some(_) => None,
+        None => Some(RowCause::BadWidth),
+    }
+}
+
+fn event_cause(above: &Component, name: &str, counters: &[u8]) -> Option<RowCause>
+    ensures { result ≡ Unit.event_cause (component_text above.now) name.now (words_of counters.now) }
+{
+    if above.events.len() >= 1024 {
+        return Some(RowCause::OverLimit);
+    }
+    if has_event(above.events.as_slice(), name) {
+        return Some(RowCause::RepeatedName);
+    }
+    if knows_all(above.counters.as_slice(), counters) {
+        None
+    } else {
+        Some(RowCause::UnknownCounter)
+    }
+}
+
+fn mask_cause(above: &[UmaskRow], name: &str, preset_choice: bool) -> Option<RowCause>
+    ensures { result ≡ Unit.mask_cause (map mask_text above.now) name.now preset_choice }
+{
+    if preset_choice && has_default(above) {
+        return Some(RowCause::BadRow);
+    }
+    if above.len() >= 16 {
+        return Some(RowCause::OverLimit);
+    }
+    if is_modifier(name) || has_mask(above, name) {
+        return Some(RowCause::RepeatedName);
+    }
+    None
+}
+
+fn inner_mask_cause(above: &Component, name: &str, preset_choice: bool) -> Option<RowCause>
+    ensures { result ≡ Unit.inner_mask_cause (component_text above.now) name.now preset_choice }
+{
+    match above.events.last() {
+        None => Some(RowCause::BadRow),
+        Some(e) => mask_cause(e.masks.as_slice(), name, preset_choice),
+    }
+}
+
+/// The first cause of a row, and `None` where it has none.
+#[tactic(auto, unfolding(crate::specs::Unit::cause_in))]
+pub fn cause_of(above: &[Component], row: &Row<'_>) -> Option<RowCause>
+    ensures { result ≡ Unit.cause_in (map component_text above.now) (row_line row.now) }
+{
+    match row {
+        Row::Skipped => None,
+        Row::Bad => Some(RowCause::BadRow),
+        Row::Component { name, pmu } => component_cause(above, *name, *pmu),
+        Row::Counter {
+            name,
+            width,
+            fixed: _,
+        } => match above.last() {
+            None => Some(RowCause::BadRow),
+            Some(c) => counter_cause(c.counters.as_slice(), *name, *width),
+        },
+        Row::Event {
+            name,
+            select: _,
+            counters,
+            text: _,
+        } => match above.last() {
+            None => Some(RowCause::BadRow),
+            Some(c) => event_cause(c, *name, *counters),
+        },
+        Row::Umask {
+            name,
+            bits: _,
+            flags,
+            text: _,
+        } => match above.last() {
+            None => Some(RowCause::BadRow),
+            Some(c) => inner_mask_cause(c, *name, flags.preset_choice),
+        },
+    }
+}

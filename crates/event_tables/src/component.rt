@@ -1,0 +1,38 @@
+// The rows of a unit's tables.
+
+/// A counter: its name, its width from 16 to 48 bits, and whether it is a fixed one.
+#[derive(Debug, Drop)]
+pub struct Counter {
+    pub name: String,
+    pub width: u8,
+    pub fixed: bool,
+}
+
+/// A umask of an event: its bits, whether it is the event's default, and whether it cannot be combined with another.
+#[derive(Debug, Drop)]
+pub struct UmaskRow {
+    pub name: String,
+    pub bits: u8,
+    pub preset_choice: bool,
+    pub alone: bool,
+    pub text: String,
+}
+
+/// An event: its select code, the counters that can count it as bits, its description, and its umasks.
+#[derive(Debug, Drop)]
+pub struct EventRow {
+    pub name: String,
+    pub select: u8,
+    pub allowed: u32,
+    pub text: String,
+    pub masks: Vec<UmaskRow>,
+}
+
+/// A component: its name, the name of its pmu in libpfm4's sense, its counters and its events.
+#[derive(Debug, Drop)]
+pub struct Component {
+    pub name: String,
+    pub pmu: String,
+    pub counters: Vec<Counter>,
+    pub events: Vec<EventRow>,
+}

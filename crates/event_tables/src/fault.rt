@@ -1,0 +1,58 @@
+// Why a unit file is refused.
+
+ghost use Rattle.std.specs.Prelude.{◌≡◌};
+ghost use Rattle.event_tables.specs.Unit as Unit;
+ghost use Rattle.event_tables.specs.declared.fault.TableFault.TheVariants.{Memory};
+
+use std::alloc::AllocError;
+use thiserror::Error;
+
+/// Why a row is refused, in the order in which the causes are tried.
+#[derive(Clone, Copy, Debug, PartialEq, Eq, Error)]
+pub enum RowCause {
+    /// It has none of the forms, belongs to nothing, or is a second default umask.
+    #[error("bad row")]
+    BadRow,
+    /// One component, counter, event or umask too many.
+    #[error("over a limit")]
+    OverLimit,
+    /// A name that stands above already, or a umask with a modifier's name.
+    #[error("repeated name")]
+    RepeatedName,
+    /// A width that is not from 16 to 48.
+    #[error("width out of range")]
+    BadWidth,
+    /// A counter that the component does not have above this row.
+    #[error("unknown counter")]
+    UnknownCounter,
+}
+
+/// Why a unit file is refused: its first faulty row, numbered from 1, with the row's first cause, or want of memory.
+#[derive(Debug, Drop, Error)]
+pub enum TableFault {
+    #[error("row {row}: {cause}")]
+    Row { row: u64, cause: RowCause },
+    #[error("out of memory")]
+    Memory,
+}
+
+impl From<AllocError> for TableFault {
+    ghost from_gives = { λ _ e. e ≡ Memory };
+
+    fn from(_e: AllocError) -> TableFault {
+        TableFault::Memory
+    }
+}
+
+/// A cause as it is written on the line that names it.
+pub fn cause_text(cause: RowCause) -> &'static str
+    ensures { result.now ≡ Unit.cause_text cause }
+{
+    match cause {
+        RowCause::BadRow => "bad row",
+        RowCause::OverLimit => "over a limit",
+        RowCause::RepeatedName => "repeated name",
+        RowCause::BadWidth => "width out of range",
+        RowCause::UnknownCounter => "unknown counter",
+    }
+}

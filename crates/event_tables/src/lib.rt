@@ -1,0 +1,18 @@
+//! Unit files: the components of a machine, their counters, and their events with umasks.
+#![tactic(auto)]
+
+mod adding;
+mod cause;
+mod component;
+mod fault;
+mod row;
+mod tables;
+mod unit;
+
+pub use crate::component::{Component, Counter, EventRow, UmaskRow};
+pub use crate::fault::{RowCause, TableFault, cause_text};
+pub use crate::tables::Tables;
+pub use crate::unit::read_unit;
+
+#[cfg(test)]
+mod tests;

@@ -1,0 +1,236 @@
+// One row of a unit file, by itself.
+
+ghost use Rattle.std.specs.Prelude.{◌≡◌, ◌&&◌, not, true, if◌then◌else◌, option_map, Some, None};
+ghost use Rattle.std.specs.List.{list_all};
+ghost use Rattle.csv.specs.Records.{fields_of};
+ghost use Rattle.table_rows.specs.Texts as Texts;
+ghost use Rattle.event_tables.specs.Lines as Lines;
+ghost use Rattle.event_tables.specs.Lines.{line_of, row_line, words_of};
+
+use table_rows::{
+    ByteRecord, decimal_in, hex_in, is_decimal, is_name, is_skipped, name_text, printable_text,
+    text_at,
+};
+
+/// The letters of a umask: `d` and `n`.
+#[derive(Clone, Copy)]
+pub struct Flags {
+    pub preset_choice: bool,
+    pub alone: bool,
+}
+
+/// A row by its kind. An event has the names of its counters as they stand, with spaces between them.
+#[derive(Clone, Copy)]
+pub enum Row<'r> {
+    Skipped,
+    Bad,
+    Component {
+        name: &'r str,
+        pmu: &'r str,
+    },
+    Counter {
+        name: &'r str,
+        width: Option<u8>,
+        fixed: bool,
+    },
+    Event {
+        name: &'r str,
+        select: u8,
+        counters: &'r [u8],
+        text: &'r str,
+    },
+    Umask {
+        name: &'r str,
+        bits: u8,
+        flags: Flags,
+        text: &'r str,
+    },
+}
+
+// Whether some part between spaces is not empty.
+fn has_word(bytes: &[u8]) -> bool
+    ensures { result ≡ not (Texts.is_empty (words_of bytes.now)) }
+{
+    bytes.split(|&b| b == b' ').any(|word| !word.is_empty())
+}
+
+// Whether each part between spaces that is not empty is a name.
+fn are_all_names(bytes: &[u8]) -> bool
+    ensures { result ≡ list_all Texts.is_name (words_of bytes.now) }
+{
+    bytes
+        .split(|&b| b == b' ')
+        .filter(|word| !word.is_empty())
+        .all(|word| is_name(word))
+}
+
+fn are_names(bytes: &[u8]) -> bool
+    ensures { result ≡ Lines.are_names (words_of bytes.now) }
+{
+    has_word(bytes) && are_all_names(bytes)
+}
+
+// The text of bytes that are a description.
+fn description(bytes: &[u8]) -> Option<&str>
+    ensures { option_map (λ s. s.now) result ≡ (if Lines.is_description bytes.now then Some bytes.now else None) }
+{
+    if bytes.len() <= 200 {
+        printable_text(bytes)
+    } else {
+        None
+    }
+}
+
+// The byte that one or two hexadecimal digits write.
+fn byte_of(bytes: &[u8]) -> Option<u8>
+    ensures { result ≡ Texts.hex_in 1 2 bytes.now }
+{
+    match hex_in(1, 2, bytes) {
+        Some(n) => Some(n as u8),
+        None => None,
+    }
+}
+
+// The width that a decimal number says, where it is in its range.
+fn width_of(bytes: &[u8]) -> Option<u8>
+    ensures { result ≡ Texts.decimal_in 16 48 bytes.now }
+{
+    match decimal_in(16, 48, bytes) {
+        Some(n) => Some(n as u8),
+        None => None,
+    }
+}
+
+#[tactic(auto, unfolding(crate::specs::Lines::flags_of))]
+fn flags_of(letters: &[u8]) -> Option<Flags>
+    ensures { result ≡ Lines.flags_of letters.now }
+{
+    let (preset_choice, alone) = if letters == b"-".as_slice() {
+        (false, false)
+    } else if letters == b"d".as_slice() {
+        (true, false)
+    } else if letters == b"n".as_slice() {
+        (false, true)
+    } else if letters == b"dn".as_slice() || letters == b"nd".as_slice() {
+        (true, true)
+    } else {
+        return None;
+    };
+    Some(Flags {
+        preset_choice,
+        alone,
+    })
+}
+
+fn component_row<'r>(name: &'r [u8], pmu: &'r [u8]) -> Row<'r>
+    ensures { row_line result ≡ Lines.component_line name.now pmu.now }
+{
+    let Some(name) = name_text(name) else {
+        return Row::Bad;
+    };
+    match name_text(pmu) {
+        Some(pmu) => Row::Component { name, pmu },
+        None => Row::Bad,
+    }
+}
+
+fn counter_row<'r>(name: &'r [u8], width: &'r [u8], kind: &[u8]) -> Row<'r>
+    ensures { row_line result ≡ Lines.counter_line name.now width.now kind.now }
+{
+    let fixed = kind == b"F".as_slice();
+    if !fixed && kind != b"P".as_slice() {
+        return Row::Bad;
+    }
+    if !is_decimal(width) {
+        return Row::Bad;
+    }
+    match name_text(name) {
+        Some(name) => Row::Counter {
+            name,
+            width: width_of(width),
+            fixed,
+        },
+        None => Row::Bad,
+    }
+}
+
+fn event_row<'r>(name: &'r [u8], select: &[u8], counters: &'r [u8], text: &'r [u8]) -> Row<'r>
+    ensures { row_line result ≡ Lines.event_line name.now select.now counters.now text.now }
+{
+    let Some(select) = byte_of(select) else {
+        return Row::Bad;
+    };
+    let Some(name) = name_text(name) else {
+        return Row::Bad;
+    };
+    if !are_names(counters) {
+        return Row::Bad;
+    }
+    match description(text) {
+        Some(text) => Row::Event {
+            name,
+            select,
+            counters,
+            text,
+        },
+        None => Row::Bad,
+    }
+}
+
+fn umask_row<'r>(name: &'r [u8], bits: &[u8], letters: &[u8], text: &'r [u8]) -> Row<'r>
+    ensures { row_line result ≡ Lines.umask_line name.now bits.now letters.now text.now }
+{
+    let Some(bits) = byte_of(bits) else {
+        return Row::Bad;
+    };
+    let Some(flags) = flags_of(letters) else {
+        return Row::Bad;
+    };
+    let Some(name) = name_text(name) else {
+        return Row::Bad;
+    };
+    match description(text) {
+        Some(text) => Row::Umask {
+            name,
+            bits,
+            flags,
+            text,
+        },
+        None => Row::Bad,
+    }
+}
+
+/// What a record says, by itself.
+#[tactic(auto, unfolding(crate::specs::Lines::line_of))]
+pub fn row_of(row: &ByteRecord) -> Row<'_>
+    ensures { row_line result ≡ line_of (fields_of row.now) }
+{
+    let first = text_at(row, 0);
+    let n = row.len();
+    if is_skipped(first) {
+        return Row::Skipped;
+    }
+    if first == b"COMPONENT".as_slice() && n == 3 {
+        return component_row(text_at(row, 1), text_at(row, 2));
+    }
+    if first == b"COUNTER".as_slice() && n == 4 {
+        return counter_row(text_at(row, 1), text_at(row, 2), text_at(row, 3));
+    }
+    if first == b"EVENT".as_slice() && n == 5 {
+        return event_row(
+            text_at(row, 1),
+            text_at(row, 2),
+            text_at(row, 3),
+            text_at(row, 4),
+        );
+    }
+    if first == b"UMASK".as_slice() && n == 5 {
+        return umask_row(
+            text_at(row, 1),
+            text_at(row, 2),
+            text_at(row, 3),
+            text_at(row, 4),
+        );
+    }
+    Row::Bad
+}
