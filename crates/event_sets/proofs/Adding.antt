@@ -112,7 +112,7 @@ module _ (book : Book) (shape : Widths) (e : EventRef) (s : SetView) (n : Native
         let events : nat_le 32 (length s.rest.events) ≡ false = grind (arith, nat_tests, few_events) in
         ap₂ (λ a b. a || b) events (ap (λ ns. nat_lt 32 (length ns)) (sym all_is) ∙ le-ltb 32 (length all) few)
 
-    clash_is : clash_with book e s.rest ≡ clash_of s.rest.slice (length s.natives) all
+    pub clash_is : clash_with book e s.rest ≡ clash_of s.rest.slice (length s.natives) all
     clash_is = ap₂ (λ ns xs. clash_of s.rest.slice (length ns) xs) (sym ready.natives) (sym all_is)
 
     -- the refusals that come after the first

@@ -4,3 +4,4 @@ pub mod Agreeing
 pub mod JoinedNatives
 pub mod Clashing
 pub mod Adding
+pub mod Sound

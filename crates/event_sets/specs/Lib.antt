@@ -4,3 +4,4 @@ pub mod Agreement
 pub mod Laws
 pub mod Sets
 pub mod Adding
+pub mod Soundness

@@ -1,5 +1,6 @@
 // Laws of the definitions, each the contract of a function that does nothing.
 ghost use Rattle.event_sets.specs.Laws.{AddedAgrees, ArmedAgrees, AssignedAgrees, EmptiedAgrees, HeldHaveNatives, NativesAreOwned, RemovedAgrees};
+ghost use Rattle.event_sets.specs.Soundness.{AddedIsSound, HeldFit, NewIsSound};
 
 /// The changes of a set keep its agreement with the book, where the tests of refusals fail.
 pub fn agreement_laws()
@@ -14,4 +15,11 @@ pub fn agreement_laws()
 pub fn natives_laws()
     ensures held { HeldHaveNatives }
     ensures owned { NativesAreOwned }
+{}
+
+/// A new set keeps what each set keeps, and so does one with one more event that is not refused.
+pub fn soundness_laws()
+    ensures new { NewIsSound }
+    ensures added { AddedIsSound }
+    ensures fit { HeldFit }
 {}

@@ -1,0 +1,97 @@
+-- What each set keeps, from the definitions alone.
+use Rattle.std.proofs.Common.{◌≡◌, ℕ, zero, suc, ◌<◌, ◌≤◌, Bool, true, false, List, [], ◌∷◌, length, refl, ap, sym, subst, ◌∙◌, arith, slice_get, Option, Some, None, IsSomeAnd, get_or}
+use Rattle.std.specs.Prelude.{All, if◌then◌else◌, nat_le, nat_lt, unwrap_or}
+use Rattle.std.specs.Option.{option_map, option_map_or, ForSome}
+use Rattle.std.proofs.lemmas.Bool.Decides.{nat_tests}
+use Rattle.papi_base.specs.declared.native.Native.{Native}
+use Rattle.papi_base.specs.declared.native.EventRef.TheVariants as event
+use Rattle.papi_base.specs.declared.code.Code.TheVariants.{Einval, Ecount}
+use Rattle.counter_alloc.specs.Assignments.{Assignable}
+use Rattle.counter_alloc.specs.Listing.{is_assignable}
+use Rattle.counter_alloc.specs.Masks.{masks_of}
+use Rattle.counter_alloc.proofs.Fitting.{assignable_of}
+use Rattle.postfix_rules.specs.Rules.{DerivedView, IsDerived}
+use Rattle.postfix_rules.proofs.Joined.{one_more_joins}
+use Rattle.event_sets.specs.declared.refusal.Clash.{Clash}
+use Rattle.event_sets.specs.declared.refusal.Refusal.TheVariants.{Plain, Conflict}
+use Rattle.event_sets.specs.Agreement.{Fits}
+use Rattle.event_sets.specs.Assigning.{blamed_unless, clash_of}
+use Rattle.event_sets.specs.AtRest.{Widths, cannot_take, clash_with, has_event, is_full, is_other, natives_with, widths_at}
+use Rattle.event_sets.specs.Sets.{IsSound, set_view}
+use Rattle.event_sets.specs.Soundness.{AddedIsSound, HeldFit, NewIsSound}
+use Rattle.event_sets.proofs.Agreeing.{held_have_natives, neither, numbered}
+use Rattle.event_sets.proofs.Clashing.{are_masks}
+use Rattle.event_sets.proofs.Adding.{Ready, added_sound, added_view, all_in_range, clash_is}
+
+pub new_is_sound : NewIsSound
+new_is_sound book shape = record {
+  few_events = omega arith;
+  few_natives = omega arith;
+  few_counters = omega arith;
+  one_threshold_each = refl;
+  distinct = λ i j e a b. cc;
+  owned = λ k d below. absurd (omega arith);
+  in_range = λ k d below. absurd (omega arith);
+  good_domain = refl;
+  assignable = λ unshared. ([], record { one_each = refl; is_allowed = λ i below. absurd (omega arith); distinct = λ i j a b. absurd (omega arith) });
+  shared = λ slice is. cc;
+}
+
+-- where no refusal comes, no row does
+no_rows : (a b : Bool) (c : Option Clash) → (if a then Some (Plain Einval) else if b then Some (Plain Ecount) else option_map Conflict c) ≡ None → (a ≡ false) × (b ≡ false) × (c ≡ None)
+no_rows true b c h = cc
+no_rows false true c h = cc
+no_rows false false None h = (refl, refl, refl)
+no_rows false false (Some clash) h = cc
+
+-- natives without a clash have an assignment
+fits_of : (b : Bool) (natives : List Native) → blamed_unless b natives ≡ None → b ≡ true
+fits_of true natives h = refl
+fits_of false natives h = cc
+
+few_counters : (shape : Widths) (comp : ℕ) → All (λ widths. length widths ≤ 32) shape → length (widths_at shape (Some comp)) ≤ 32
+few_counters shape comp few = go (slice_get shape comp) refl where
+  go : (o : Option (List ℕ)) → slice_get shape comp ≡ o → length (unwrap_or o []) ≤ 32
+  go None e = omega arith
+  go (Some widths) e = numbered (λ (ws : List ℕ). length ws ≤ 32) shape few comp widths e
+
+pub added_is_sound : AddedIsSound
+added_is_sound book shape e s held fits few taken sound =
+    let rows = no_rows (cannot_take book e s) (is_full book e s) (clash_with book e s) taken in
+    let lead = held_have_natives book e held in
+    let n = lead.0 in
+    let view = set_view book shape s in
+    let owner : is_other s.component (Some n.comp) ≡ false = ap (is_other s.component) (sym (ap (option_map (λ (m : Native). m.comp)) lead.1)) ∙ (neither (is_other s.component _) (has_event e s) rows.0).0 in
+    let ready : Ready book shape e view n = record {
+      held = held;
+      fits = fits;
+      natives = refl;
+      known = refl;
+      sound = sound;
+      first = lead.1;
+      own = owner;
+      absent = (neither (is_other s.component _) (has_event e s) rows.0).1;
+    } in
+    let all = natives_with book e s in
+    let joins = one_more_joins book s.events e in
+    let counters = length (widths_at shape (Some n.comp)) in
+    let size = few_counters shape n.comp few in
+    let room = neither (nat_le 32 (length s.events)) (nat_lt 32 (length all)) rows.1 in
+    let few_events : length s.events < 32 = grind (arith, nat_tests, room.0) in
+    let few_natives : length all ≤ 32 = grind (arith, nat_tests, room.1) in
+    let clear : clash_of s.slice (length view.natives) all ≡ None = sym (clash_is book shape e view n ready all joins) ∙ rows.2 in
+    let assignable : s.slice ≡ None → Assignable (masks_of all) = λ unshared.
+    assignable_of (masks_of all) (are_masks counters all size (all_in_range book shape e view n ready all joins counters refl))
+    (fits_of (is_assignable (masks_of all)) all (ap (λ o. clash_of o (length view.natives) all) (sym unshared) ∙ clear)) in
+    subst IsSound (added_view book shape e view n ready all joins counters refl) (added_sound book shape e view n ready all joins counters refl few_events few_natives size assignable clear)
+
+pub held_fit : HeldFit
+held_fit book shape (event.Native n) fit held own = λ k d below. one k d below where
+  one : (k : ℕ) (d : Native) → k < 1 → Fits shape (get_or (n ∷ []) k d)
+  one zero d below = own
+  one (suc k) d below = absurd (omega arith)
+held_fit book shape (event.Preset row) fit held own = go (slice_get book row) refl held where
+  go : (o : Option (Option DerivedView)) → slice_get book row ≡ o → IsSomeAnd (unwrap_or o None) IsDerived → All (Fits shape) (option_map_or (λ d. d.natives) (unwrap_or o None) [])
+  go None e held = absurd held
+  go (Some None) e held = absurd held
+  go (Some (Some d)) e held = numbered (λ (place : Option DerivedView). ForSome place (λ x. All (Fits shape) x.natives)) book fit.each row (Some d) e d refl
