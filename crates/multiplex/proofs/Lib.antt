@@ -1,3 +1,4 @@
 pub mod Ticks
 pub mod Estimates
 pub mod Grouping
+pub mod Parts

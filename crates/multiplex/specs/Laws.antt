@@ -1,6 +1,8 @@
 -- Laws of groups and their turns.
-use Rattle.std.specs.Prelude.{ℕ, ◌+◌, ◌-◌, ◌*◌, ◌/◌, ◌%◌, ◌≡◌, ◌≤◌, ◌<◌, ◌==◌, min, count_by, List, length}
-use Rattle.std.specs.List.{range_with_len}
+use Rattle.std.specs.Prelude.{ℕ, ◌+◌, ◌-◌, ◌*◌, ◌/◌, ◌%◌, ◌≡◌, ◌≤◌, ◌<◌, ◌==◌, All, true, false, min, count_by, List, [], ◌∷◌, ◌++◌, length, replicate}
+use Rattle.std.specs.List.{concat, range_with_len}
+use Rattle.counter_alloc.specs.Listing.{is_assignable}
+use Rattle.counter_alloc.specs.Masks.{AreMasks}
 use Rattle.multiplex.specs.Groups.{groups}
 use Rattle.multiplex.specs.Turns.{Turns, active, estimate}
 
@@ -32,3 +34,30 @@ OneGroupEstimate = (t : Turns) (count total : ℕ) → t.count ≡ 1 → (total 
 -- each place has a group
 abbrev pub EachHasGroup : Type 0
 EachHasGroup = (masks : List ℕ) → length (groups masks) ≡ length masks
+
+-- the first place of the next part does not fit in with this one
+abbrev pub IsLong : List ℕ → List ℕ → Type 0
+IsLong part [] = ⊥
+IsLong part (mask ∷ next) = is_assignable (part ++ mask ∷ []) ≡ false
+
+-- each part is assignable, and as long as it can be
+abbrev pub AreLongest : List (List ℕ) → Type 0
+AreLongest [] = Unit {0}
+AreLongest (part ∷ []) = is_assignable part ≡ true
+AreLongest (part ∷ next ∷ parts) = (is_assignable part ≡ true) × IsLong part next × AreLongest (next ∷ parts)
+
+-- the number of its part for each place, where the first part has this number
+abbrev pub numbered : ℕ → List (List ℕ) → List ℕ
+numbered number [] = []
+numbered number (part ∷ parts) = replicate (length part) number ++ numbered (number + 1) parts
+
+-- the list in consecutive parts, each as long as it can be while assignable, and these numbers of theirs
+pub record IsCut (masks numbers : List ℕ) : Type 0 where
+  pub parts : List (List ℕ)
+  pub whole : concat parts ≡ masks
+  pub longest : AreLongest parts
+  pub numbers_are : numbers ≡ numbered 0 parts
+
+-- where each place has an allowed counter, the groups are these parts
+abbrev pub GroupsAreParts : Type 0
+GroupsAreParts = (masks : List ℕ) → AreMasks masks → All (λ mask. 0 < mask) masks → IsCut masks (groups masks)

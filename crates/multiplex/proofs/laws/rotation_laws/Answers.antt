@@ -1,6 +1,7 @@
 use Rattle.multiplex.proofs.Ticks.{runs_evenly, active_in_turns, active_within, one_group_active}
 use Rattle.multiplex.proofs.Estimates.{one_group_estimate}
 use Rattle.multiplex.proofs.Grouping.{each_has_group}
+use Rattle.multiplex.proofs.Parts.{groups_are_parts}
 use Rattle.multiplex.proofs.laws.rotation_laws.Goals as goal
 
 pub returns : goal.returns
@@ -11,4 +12,5 @@ returns c = record {
   one_group_active = one_group_active;
   one_group_estimate = one_group_estimate;
   each_has_group = each_has_group;
+  groups_are_parts = groups_are_parts;
 }
