@@ -85,7 +85,7 @@ one_of (Some d) h i n e =
     ap (option_map (λ m. m.comp)) first.1 ∙ ap Some (same 0 first.0 first.1 ∙ sym (same i n e))
 
 -- the natives of an event that the book holds are of its component
-event_owned : (book : Book) (e : EventRef) → IsHeld book e → (i : ℕ) (n : Native) → slice_get (natives_of_event book e) i ≡ Some n → component_of_event book e ≡ Some n.comp
+pub event_owned : (book : Book) (e : EventRef) → IsHeld book e → (i : ℕ) (n : Native) → slice_get (natives_of_event book e) i ≡ Some n → component_of_event book e ≡ Some n.comp
 event_owned book (event.Native m) h zero n e = let same : m ≡ n = cc in ap (λ (x : Native). Some x.comp) same
 event_owned book (event.Native m) h (suc i) n e = cc
 event_owned book (event.Preset row) h i n e = one_of (entry book row) h i n e
@@ -107,7 +107,7 @@ moved_owner book old new es same h = λ k d below. by_number (λ n. Some new ≡
     (λ i n e. same_component old new n.comp same (numbered (λ n. old ≡ Some n.comp) (natives_of_event book (get_or es k d)) (h k d below) i n e))
 
 -- an event that the book holds has a component
-held_component : (book : Book) (e : EventRef) → IsHeld book e → (g : ℕ) × (component_of_event book e ≡ Some g)
+pub held_component : (book : Book) (e : EventRef) → IsHeld book e → (g : ℕ) × (component_of_event book e ≡ Some g)
 held_component book e h = let first = held_have_natives book e h in (first.0.comp, ap (option_map (λ n. n.comp)) first.1)
 
 added_owner : (book : Book) (old : Option ℕ) (e : EventRef) (es : List EventRef) → IsHeld book e → is_other old (component_of_event book e) ≡ false → All (IsOwned book old) es → All (IsOwned book (component_of_event book e)) es

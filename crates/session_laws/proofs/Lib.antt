@@ -9,3 +9,6 @@ pub mod Apart
 pub mod Mapped
 pub mod Counted
 pub mod Merging
+pub mod Sublists
+pub mod Fits
+pub mod FitStays

@@ -4,10 +4,12 @@ use Rattle.papi_base.specs.declared.occurrence.Occ.{Occ}
 use Rattle.papi_base.specs.Streams.{Mark}
 use Rattle.postfix_rules.specs.Presets.{Book}
 use Rattle.event_sets.specs.AtRest.{Widths}
+use Rattle.event_sets.specs.Agreement.{BookFits}
 use Rattle.session_model.specs.declared.call.Call.{Call}
 use Rattle.session_model.specs.Account.{Account, opening}
 use Rattle.session_model.specs.Bounds.{AllValued, AllWithin, AreApart, Rises}
 use Rattle.session_model.specs.Conditions.{AllAgree, IsGood}
+use Rattle.session_model.specs.Fitness.{AreFit, IsShape}
 use Rattle.session_model.specs.Faces.{faces_of}
 use Rattle.session_model.specs.Step.{step}
 
@@ -49,3 +51,10 @@ OpeningValued = (thread : ℕ) (rest : List Occ) (mark : Mark) → AllValued (op
 -- the caller's values of each set are one for each event
 abbrev pub ValuesStay : Type 0
 ValuesStay = (book : Book) (shape : Widths) (a : Account) (call : Call) → AllValued a.sets → AllValued (step book shape a call).account.sets
+
+abbrev pub OpeningFits : Type 0
+OpeningFits = (book : Book) (shape : Widths) (thread : ℕ) (rest : List Occ) (mark : Mark) → AreFit book shape (opening thread rest mark).sets
+
+-- each set goes on to fit the book and the shape
+abbrev pub FitStays : Type 0
+FitStays = (book : Book) (shape : Widths) (a : Account) (call : Call) → IsShape shape → BookFits shape book → IsGood book shape call → AreFit book shape a.sets → AreFit book shape (step book shape a call).account.sets

@@ -1,5 +1,5 @@
 // What calls keep.
-ghost use Rattle.session_laws.specs.Keeping.{AgreementStays, ApartStays, OpeningAgrees, OpeningApart, OpeningValued, OpeningWithin, PlacesStay, RiseStays, ValuesStay, WithinStays};
+ghost use Rattle.session_laws.specs.Keeping.{AgreementStays, ApartStays, FitStays, OpeningAgrees, OpeningApart, OpeningFits, OpeningValued, OpeningWithin, PlacesStay, RiseStays, ValuesStay, WithinStays};
 
 /// The agreement of the sets with the book holds at the beginning and is kept by each good call.
 pub fn agreement_laws()
@@ -21,4 +21,10 @@ pub fn place_laws()
     ensures places { PlacesStay }
     ensures opening_valued { OpeningValued }
     ensures values { ValuesStay }
+{}
+
+/// Sets fit the book and the shape: at the beginning, and after each good call.
+pub fn fit_laws()
+    ensures opening { OpeningFits }
+    ensures stays { FitStays }
 {}

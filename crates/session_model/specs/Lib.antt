@@ -12,3 +12,4 @@ pub mod Step
 pub mod World
 pub mod Bounds
 pub mod Conditions
+pub mod Fitness
