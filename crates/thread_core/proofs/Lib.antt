@@ -1,0 +1,13 @@
+pub mod Lists
+pub mod Programs
+pub mod Carries
+pub mod Placing
+pub mod Weighing
+pub mod Squares
+pub mod Others
+pub mod Owners
+pub mod Occurring
+pub mod Turning
+pub mod Chosen
+pub mod Taking
+pub mod Opening

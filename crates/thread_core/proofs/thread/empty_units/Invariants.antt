@@ -1,0 +1,12 @@
+use Rattle.std.proofs.Common.{◌≡◌, ℕ, ◌++◌, ◌<◌, ◌≤◌, List, map, drop, length, vec_len, slice_get, Some}
+use Rattle.papi_base.specs.Widths.{AreWidths}
+use Rattle.thread_core.specs.CoreView.{empty_unit}
+use Rattle.thread_core.proofs.thread.empty_units.Given as goal
+
+abbrev pub invariant-loop-comp : goal.invariant-loop-comp
+invariant-loop-comp l = record {
+  done : l.units.items ++ map empty_unit (drop l.comp l.shape) ≡ map empty_unit l.shape;
+  len : vec_len l.units ≡ l.comp;
+  few : (c : ℕ) (widths : List ℕ) → c < l.comp → slice_get l.shape c ≡ Some widths → length widths ≤ 32;
+  widths : (c : ℕ) (widths : List ℕ) → c < l.comp → slice_get l.shape c ≡ Some widths → AreWidths widths;
+}

@@ -1,0 +1,39 @@
+//! An event set under its number, and what is kept of it.
+ghost use Rattle.std.specs.Prelude.{◌≡◌, IfOk, None, replicate};
+
+use crate::pins::Pins;
+use event_sets::EventSet;
+use multiplex::Rotation;
+use overflow_dispatch::Thresholds;
+use papi_base::{Counts, Values};
+use std::alloc::{AllocError, Global};
+
+/// An event set, and what is kept of it. A running set keeps for each native event what was carried away out of its
+/// register, or, where the native events take turns, what it counted; a stopped set keeps what each counted.
+#[derive(Drop)]
+pub struct Slot {
+    pub set: EventSet,
+    pub running: bool,
+    /// The caller's value of each event, PAPI_accum(3).
+    pub values: Values,
+    /// The native events on their counters, while the set runs and is not multiplexed.
+    pub pins: Pins,
+    /// The events with thresholds, while it does.
+    pub armed: Thresholds,
+    /// The turns of the native events, while the set runs and is multiplexed.
+    pub rotation: Option<Rotation>,
+    /// The time at which these turns began, in ticks.
+    pub begun: u64,
+    pub kept: Counts,
+}
+
+/// 64 places without sets.
+pub(crate) fn empty_places(alloc: Global) -> Result<Vec<Option<Slot>>, AllocError>
+    ensures { IfOk result (λ slots. slots.items ≡ replicate 64 None) }
+{
+    let mut slots = Vec::with_capacity(alloc, 64)?;
+    for _ in 0..64usize {
+        slots.push(None)?;
+    }
+    Ok(slots)
+}

@@ -1,0 +1,99 @@
+//! The sets of one thread.
+ghost use Rattle.std.specs.Prelude.{◌≡◌, ◌+◌, ◌<◌, ◌≤◌, [], IfOk, List, Some, map};
+ghost use Rattle.papi_base.specs.Streams.{Mark};
+ghost use Rattle.papi_base.specs.declared.occurrence.Occ.{Occ};
+ghost use Rattle.postfix_rules.specs.Presets.{Book};
+ghost use Rattle.session_model.specs.Account.{Account, opening, time_after};
+ghost use Rattle.session_model.specs.Thresholds.{note, notes_at};
+ghost use Rattle.thread_core.specs.CoreView.{empty_unit};
+ghost use Rattle.thread_core.specs.Stands.{IsShape};
+
+use crate::counting::{Taken, count_all};
+use crate::slot::{Slot, empty_places};
+use counter_unit::Unit;
+use papi_base::{Occ, Shape};
+use std::alloc::{AllocError, Global};
+use std::marker::Model;
+
+/// The event sets of one thread, and the units on which they count. A core knows nothing of streams and handlers.
+///
+/// No call takes memory but `new`.
+#[derive(Drop)]
+pub struct Core {
+    thread: u32,
+    registered: bool,
+    shape: Shape,
+    slots: Vec<Option<Slot>>,
+    units: Vec<Unit>,
+    taken: u32,
+    last: Option<Occ>,
+}
+
+impl Model for Core {
+    ghost use Rattle.thread_core.specs.CoreView.{CoreView};
+    ghost use Rattle.thread_core.specs.Stands.{IsBacked};
+
+    ghost Value = { CoreView };
+
+    ghost view = { λ c. record { thread = c.thread; registered = c.registered; shape = c.shape; slots = c.slots.items; units = c.units.items; taken = c.taken; last = c.last } };
+
+    ghost invariant = { λ c. IsBacked (record { thread = c.thread; registered = c.registered; shape = c.shape; slots = c.slots.items; units = c.units.items; taken = c.taken; last = c.last }) };
+}
+
+/// A unit for each component, on which nothing is programmed.
+fn empty_units(alloc: Global, shape: &Shape) -> Result<Vec<Unit>, AllocError>
+    ensures units { IfOk result (λ units. units.items ≡ map empty_unit shape.now) }
+    ensures shape { IfOk result (λ units. IsShape shape.now) }
+{
+    let mut units = Vec::with_capacity(alloc, 16)?;
+    for comp in 0..shape.comps() {
+        let unit = Unit::new(shape.comp(comp));
+        units.push(unit)?;
+    }
+    Ok(units)
+}
+
+impl Core {
+    ghost use Rattle.thread_core.specs.CoreView.{opening_core};
+    ghost use Rattle.thread_core.specs.Stands.{AgreesWith, CoreStands, consumed};
+
+    /// A core without sets, for units of this shape. It takes the memory for 64 sets.
+    pub fn new(alloc: Global, thread: u32, shape: Shape) -> Result<Core, AllocError>
+        ensures core { IfOk result (λ core. core ≡ opening_core thread shape) }
+        ensures stands { (book : Book) (rest : List Occ) (mark : Mark) → IfOk result (λ core. CoreStands book core (opening thread rest mark)) }
+        ensures agrees { (book : Book) → IfOk result (AgreesWith book) }
+    {
+        let slots = empty_places(alloc)?;
+        let units = empty_units(alloc, &shape)?;
+        Ok(Core {
+            thread,
+            registered: false,
+            shape,
+            slots,
+            units,
+            taken: 0,
+            last: None,
+        })
+    }
+
+    /// Consumes one occurrence, and gives the events whose thresholds it passes.
+    pub fn take(&mut self, o: &Occ) -> Taken
+        requires few { self.old.taken < 5200000 }
+        requires stamp { o.now.stamp ≤ 4294967294 }
+        requires rises { time_after self.old.last ≤ o.now.stamp }
+        ensures taken { self.new.taken ≡ self.old.taken + 1 }
+        ensures last { self.new.last ≡ Some o.now }
+        ensures shape { self.new.shape ≡ self.old.shape }
+        ensures stands { (book : Book) (a : Account) → CoreStands book self.old a → CoreStands book self.new (consumed a o.now) }
+        ensures agrees { (book : Book) → AgreesWith book self.old → AgreesWith book self.new }
+        ensures notes { (book : Book) (a : Account) → CoreStands book self.old a → notes_at book a.thread a.past o.now 0 a.sets ≡ map (note a.thread result.set o.now) result.passed }
+        ensures none { result.passed ≡ [] → result.set ≡ 0 }
+    {
+        let _amount = o.amount;
+        let before = self.last;
+        let taken = count_all(&mut self.units, &mut self.slots, before.as_ref(), o);
+        self.taken += 1;
+        self.last = Some(*o);
+        taken
+    }
+}
