@@ -5,3 +5,7 @@ pub mod Laws
 pub mod Sets
 pub mod Adding
 pub mod Soundness
+pub use Rattle.counter_alloc.specs.Listing
+pub use Rattle.counter_alloc.specs.Masks
+pub use Rattle.postfix_rules.specs.Presets
+pub use Rattle.postfix_rules.specs.Sameness
