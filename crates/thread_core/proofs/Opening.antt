@@ -9,11 +9,12 @@ use Rattle.event_sets.specs.AtRest.{Widths}
 use Rattle.session_model.specs.Account.{Kept, opening}
 use Rattle.session_model.specs.Faces.{faces_of}
 use Rattle.session_laws.proofs.Apart.{opening_apart}
-use Rattle.session_laws.proofs.Counted.{opening_valued}
+use Rattle.session_laws.proofs.FitStays.{opening_fits}
 use Rattle.session_laws.proofs.Within.{opening_within}
 use Rattle.thread_core.specs.CoreView.{empty_unit, opening_core}
 use Rattle.thread_core.specs.Slots.{slots_of}
-use Rattle.thread_core.specs.Stands.{AgreesWith, CoreStands, IsShape}
+use Rattle.session_model.specs.Fitness.{IsShape}
+use Rattle.thread_core.specs.Stands.{AgreesWith, CoreStands}
 use Rattle.thread_core.specs.Units.{owner_from, registers_by, units_from}
 use Rattle.thread_core.proofs.Lists.{drop_at}
 use Rattle.thread_core.proofs.Owners.{runner-none}
@@ -31,11 +32,6 @@ no_units book past n comp [] = refl
 no_units book past n comp (ws ∷ shape) =
     ap₂ (λ (s : Option Kept) (us : List UnitView). record { widths = ws; registers = registers_by book ws past s } ∷ us) (runner-none (replicate n None) comp (none_owns comp 0 n)) (no_units book past n (comp + 1) shape)
 
-none_there : (n k : ℕ) (s : Kept) → slice_get (replicate n None) k ≡ Some (Some s) → ⊥
-none_there zero k s e = cc
-none_there (suc n) zero s e = cc
-none_there (suc n) (suc k) s e = none_there n k s e
-
 length-places : (n : ℕ) → length (replicate {A = Option Kept} n None) ≡ n
 length-places zero = refl
 length-places (suc n) = ap suc (length-places n)
@@ -52,8 +48,7 @@ opening_stands book thread shape rest mark shapely = record {
   rises = tt;
   within = opening_within thread rest mark;
   apart = opening_apart thread rest mark;
-  valued = opening_valued thread rest mark;
-  fit = record { fit = λ k s e. absurd (none_there 64 k s e) };
+  fit = opening_fits book shape thread rest mark;
   shape = shapely;
 }
 

@@ -22,7 +22,7 @@ use Rattle.session_laws.proofs.Pushing.{clock_stays, weighed_running}
 use Rattle.thread_core.specs.declared.pins.Pin.{Pin}
 use Rattle.thread_core.specs.Pinned.{pins_of, programs, bank_of}
 use Rattle.thread_core.specs.Slots.{slot_of, running_slot, turned, numbers_of}
-use Rattle.thread_core.specs.Stands.{IsFit}
+use Rattle.session_model.specs.Fitness.{IsFit}
 use Rattle.thread_core.specs.Units.{running_registers}
 use Rattle.thread_core.proofs.Lists.{all_at, map_same_on}
 use Rattle.thread_core.proofs.Placing.{pin_made, lead_among, get_position}

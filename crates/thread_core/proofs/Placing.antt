@@ -24,7 +24,7 @@ use Rattle.event_sets.specs.AtRest.{AtRest, Widths, set_natives, widths_at, leas
 use Rattle.session_model.specs.Registers.{threshold_among}
 use Rattle.thread_core.specs.declared.pins.Pin.{Pin}
 use Rattle.thread_core.specs.Pinned.{pins_from, pins_of, ArePinned}
-use Rattle.thread_core.specs.Stands.{IsFit}
+use Rattle.session_model.specs.Fitness.{IsFit}
 use Rattle.thread_core.proofs.Lists.{all_at, get_at, get-map_some}
 
 -- each of the natives is on a counter of its own that exists

@@ -37,7 +37,7 @@ use Rattle.thread_core.specs.declared.slot.Slot.{Slot}
 use Rattle.thread_core.specs.Counted.{Counted, counted, carry_of, with_turn}
 use Rattle.thread_core.specs.Pinned.{pins_of, place_of_lead, armed_event, armed_from, armed_of, programs, bank_of, with_carries}
 use Rattle.thread_core.specs.Slots.{slot_of, running_slot, stopped_slot, turned, numbers_of}
-use Rattle.thread_core.specs.Stands.{IsFit, IsShape}
+use Rattle.session_model.specs.Fitness.{IsFit, IsShape}
 use Rattle.thread_core.specs.Units.{running_registers}
 use Rattle.thread_core.proofs.Carries.{pin_carries, AreTold, banks_follow, pin_passes}
 use Rattle.thread_core.proofs.Lists.{all_at, get_at, map_same}

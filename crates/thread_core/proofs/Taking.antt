@@ -29,7 +29,8 @@ use Rattle.thread_core.specs.Counted.{CountedAll, counted_all, counted_over, cou
 use Rattle.thread_core.specs.CoreView.{CoreView}
 use Rattle.thread_core.specs.Pinned.{pins_of, bank_of, ArePinned}
 use Rattle.thread_core.specs.Slots.{slot_of, slots_of, turned, numbers_of, rotation_of, face_of_slot}
-use Rattle.thread_core.specs.Stands.{AgreesWith, CoreStands, IsFit, consumed}
+use Rattle.session_model.specs.Fitness.{IsFit}
+use Rattle.thread_core.specs.Stands.{AgreesWith, CoreStands, consumed}
 use Rattle.thread_core.specs.Units.{owner_from, unit_at, units_of}
 use Rattle.thread_core.proofs.Lists.{get_at, get-map_some}
 use Rattle.thread_core.proofs.Occurring.{all_follow, get-units, length-units}
@@ -144,7 +145,6 @@ taken_stands book core a o c is small rises h =
       rises = rises-push 0 a.past o h.rises small (omega arith) time;
       within = within_more (length a.past) (length (a.past ++ o ∷ [])) a.sets (omega arith) h.within;
       apart = h.apart;
-      valued = h.valued;
       fit = h.fit;
       shape = h.shape;
     }

@@ -6,7 +6,7 @@ ghost use Rattle.postfix_rules.specs.Presets.{Book};
 ghost use Rattle.session_model.specs.Account.{Account, opening, time_after};
 ghost use Rattle.session_model.specs.Thresholds.{note, notes_at};
 ghost use Rattle.thread_core.specs.CoreView.{empty_unit};
-ghost use Rattle.thread_core.specs.Stands.{IsShape};
+ghost use Rattle.session_model.specs.Fitness.{IsShape};
 
 use crate::counting::{Taken, count_all};
 use crate::slot::{Slot, empty_places};
