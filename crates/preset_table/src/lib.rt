@@ -1,0 +1,158 @@
+//! The table of preset events: their symbols, codes and descriptions.
+//!
+//! Symbols and codes are those of PAPI's list of presets, PAPI_presets(3). The choice of rows and the descriptions are this project's own.
+#![tactic(auto)]
+
+ghost use Rattle.std.specs.Prelude.{◌≡◌, ◌<◌};
+ghost use Rattle.preset_table.specs.Table as Table;
+
+/// How many rows the table has.
+pub fn preset_count() -> u32
+    ensures count { result ≡ Table.preset_count }
+{
+    26
+}
+
+/// The symbol in a row below 26.
+#[tactic(auto, unfolding(crate::specs::Table::preset_rows, crate::specs::Table::symbol_at))]
+pub fn preset_symbol(row: u32) -> &'static str
+    requires { row < 26 }
+    ensures symbol { result.now ≡ Table.symbol_at row }
+{
+    match row {
+        0 => "PAPI_L1_DCM",
+        1 => "PAPI_L1_ICM",
+        2 => "PAPI_L2_DCM",
+        3 => "PAPI_L2_ICM",
+        4 => "PAPI_L1_TCM",
+        5 => "PAPI_L2_TCM",
+        6 => "PAPI_L3_TCM",
+        7 => "PAPI_TLB_DM",
+        8 => "PAPI_TLB_IM",
+        9 => "PAPI_L1_LDM",
+        10 => "PAPI_L1_STM",
+        11 => "PAPI_BR_UCN",
+        12 => "PAPI_BR_CN",
+        13 => "PAPI_BR_TKN",
+        14 => "PAPI_BR_NTK",
+        15 => "PAPI_BR_MSP",
+        16 => "PAPI_BR_PRC",
+        17 => "PAPI_TOT_INS",
+        18 => "PAPI_LD_INS",
+        19 => "PAPI_SR_INS",
+        20 => "PAPI_BR_INS",
+        21 => "PAPI_RES_STL",
+        22 => "PAPI_TOT_CYC",
+        23 => "PAPI_LST_INS",
+        24 => "PAPI_FP_OPS",
+        _ => "PAPI_REF_CYC",
+    }
+}
+
+/// The code in a row below 26, which has bit 31 set.
+#[tactic(auto, unfolding(crate::specs::Table::preset_rows, crate::specs::Table::code_at))]
+pub fn preset_code(row: u32) -> u32
+    requires { row < 26 }
+    ensures code { result ≡ Table.code_at row }
+{
+    match row {
+        0 => 0x80000000,
+        1 => 0x80000001,
+        2 => 0x80000002,
+        3 => 0x80000003,
+        4 => 0x80000006,
+        5 => 0x80000007,
+        6 => 0x80000008,
+        7 => 0x80000014,
+        8 => 0x80000015,
+        9 => 0x80000017,
+        10 => 0x80000018,
+        11 => 0x8000002a,
+        12 => 0x8000002b,
+        13 => 0x8000002c,
+        14 => 0x8000002d,
+        15 => 0x8000002e,
+        16 => 0x8000002f,
+        17 => 0x80000032,
+        18 => 0x80000035,
+        19 => 0x80000036,
+        20 => 0x80000037,
+        21 => 0x80000039,
+        22 => 0x8000003b,
+        23 => 0x8000003c,
+        24 => 0x80000066,
+        _ => 0x8000006b,
+    }
+}
+
+/// The description in a row below 26.
+#[tactic(auto, unfolding(crate::specs::Table::preset_rows, crate::specs::Table::description_at))]
+pub fn preset_text(row: u32) -> &'static str
+    requires { row < 26 }
+    ensures description { result.now ≡ Table.description_at row }
+{
+    match row {
+        0 => "Level 1 data cache misses",
+        1 => "Level 1 instruction cache misses",
+        2 => "Level 2 data cache misses",
+        3 => "Level 2 instruction cache misses",
+        4 => "Level 1 cache misses",
+        5 => "Level 2 cache misses",
+        6 => "Level 3 cache misses",
+        7 => "Data translation lookaside buffer misses",
+        8 => "Instruction translation lookaside buffer misses",
+        9 => "Level 1 load misses",
+        10 => "Level 1 store misses",
+        11 => "Unconditional branches",
+        12 => "Conditional branches",
+        13 => "Conditional branches taken",
+        14 => "Conditional branches not taken",
+        15 => "Conditional branches mispredicted",
+        16 => "Conditional branches predicted",
+        17 => "Instructions completed",
+        18 => "Load instructions",
+        19 => "Store instructions",
+        20 => "Branch instructions",
+        21 => "Cycles stalled on any resource",
+        22 => "Total cycles",
+        23 => "Load and store instructions",
+        24 => "Floating point operations",
+        _ => "Reference clock cycles",
+    }
+}
+
+/// The row of a symbol, and `None` where the text is none of the table.
+#[tactic(auto, unfolding(crate::specs::Table::preset_rows, crate::specs::Table::row_of))]
+pub fn preset_row(symbol: &str) -> Option<u32>
+    ensures row { result ≡ Table.row_of symbol.now }
+{
+    match symbol {
+        "PAPI_L1_DCM" => Some(0),
+        "PAPI_L1_ICM" => Some(1),
+        "PAPI_L2_DCM" => Some(2),
+        "PAPI_L2_ICM" => Some(3),
+        "PAPI_L1_TCM" => Some(4),
+        "PAPI_L2_TCM" => Some(5),
+        "PAPI_L3_TCM" => Some(6),
+        "PAPI_TLB_DM" => Some(7),
+        "PAPI_TLB_IM" => Some(8),
+        "PAPI_L1_LDM" => Some(9),
+        "PAPI_L1_STM" => Some(10),
+        "PAPI_BR_UCN" => Some(11),
+        "PAPI_BR_CN" => Some(12),
+        "PAPI_BR_TKN" => Some(13),
+        "PAPI_BR_NTK" => Some(14),
+        "PAPI_BR_MSP" => Some(15),
+        "PAPI_BR_PRC" => Some(16),
+        "PAPI_TOT_INS" => Some(17),
+        "PAPI_LD_INS" => Some(18),
+        "PAPI_SR_INS" => Some(19),
+        "PAPI_BR_INS" => Some(20),
+        "PAPI_RES_STL" => Some(21),
+        "PAPI_TOT_CYC" => Some(22),
+        "PAPI_LST_INS" => Some(23),
+        "PAPI_FP_OPS" => Some(24),
+        "PAPI_REF_CYC" => Some(25),
+        _ => None,
+    }
+}
