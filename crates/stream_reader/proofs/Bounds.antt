@@ -1,0 +1,318 @@
+-- The stamps of a stream rise, and it has at most 5,162,220 occurrences.
+use Rattle.std.proofs.Common.{◌≡◌, ◌∙◌, ◌+◌, ◌*◌, ◌<◌, ◌≤◌, ◌==◌, ◌&&◌, ◌∷◌, ℕ, Bool, true, false, List, [], Option, Some, None, length, refl, sym, ap, subst, arith, nat_lt, nat_le, codes, bytes_eq, IfSome, ◌⊎◌, inl, inr}
+use Rattle.std.specs.Prelude.{if◌then◌else◌, cond}
+use Rattle.std.specs.List.{list_all, slice_split, onto_first}
+use Rattle.std.specs.Option.{option_map, option_map_or}
+use Rattle.std.specs.Str.Parse.{digits_value}
+use Rattle.std.proofs.lemmas.Bool.{and_parts, leb-true, ltb-false, lt-ltb, eqb-true}
+use Rattle.papi_base.specs.Numerals.{decimal_in, flag_bit, hex_in, is_decimal, is_hex_digit, is_numeral}
+use Rattle.papi_base.specs.declared.outside.Ending.{Ending}
+use Rattle.papi_base.specs.declared.occurrence.Occ.{Occ}
+use Rattle.papi_base.specs.declared.occurrence.LineCause.TheVariants as cause
+use Rattle.stream_reader.specs.Lines.{Line, tape_lines}
+use Rattle.stream_reader.specs.declared.line.LineStart.{LineStart}
+use Rattle.stream_reader.specs.declared.line.Judgement.{Judgement}
+use Rattle.stream_reader.specs.declared.line.Judgement.TheVariants.{Bad, Skipped, Version, Occurs}
+use Rattle.stream_reader.specs.Judged.{field, fields_judged, fields_of, given, is_above, is_skipped, judged, line_text, mode_of, occ_of, stamp_of, text_judged, without_return}
+use Rattle.stream_reader.specs.Occurs.{IsStart, Rise, after, behind, joined, occurs_from, occurs_of, first_start}
+
+-- ---- how long fields are
+
+-- the bytes of some parts, with one more for each
+abbrev parts_size : List (List ℕ) → ℕ
+parts_size [] = 0
+parts_size (p ∷ rest) = length p + 1 + parts_size rest
+
+split-size : (p : ℕ → Bool) (t : List ℕ) → parts_size (slice_split p t) ≡ length t + 1
+split-size p [] = refl
+split-size p (b ∷ t) = go (p b) (slice_split p t) (split-size p t)
+  where
+    go : (c : Bool) (parts : List (List ℕ)) → parts_size parts ≡ length t + 1 → parts_size (cond c ([] ∷ parts) (onto_first b parts)) ≡ length (b ∷ t) + 1
+    go true parts e = omega (arith, e)
+    go false [] e = omega (arith, e)
+    go false (q ∷ parts) e = omega (arith, e)
+
+record Given {X Y : Type 0} (o : Option X) (next : X → Option Y) (y : Y) : Type 0 where
+  value : X
+  there : o ≡ Some value
+  rest : next value ≡ Some y
+
+given-some : {X Y : Type 0} (o : Option X) (next : X → Option Y) (y : Y) → given o next ≡ Some y → Given o next y
+given-some None next y e = cc e
+given-some (Some x) next y e = record { value = x; there = refl; rest = e }
+
+decimal-size : (low high n : ℕ) (t : List ℕ) → decimal_in low high t ≡ Some n → 1 ≤ length t
+unfolding decimal_in is_decimal is_numeral
+decimal-size low high n [] e = cc e
+decimal-size low high n (b ∷ t) e = omega arith
+
+hex-size : (few many n : ℕ) (t : List ℕ) → hex_in few many t ≡ Some n → few ≤ length t
+unfolding hex_in
+hex-size few many n t e = go (list_all is_hex_digit t && (nat_le few (length t) && nat_le (length t) many)) refl e
+  where
+    go : (b : Bool) → (list_all is_hex_digit t && (nat_le few (length t) && nat_le (length t) many)) ≡ b → (if b then Some (digits_value 16 t) else None) ≡ Some n → few ≤ length t
+    go true p q =
+        let r = and_parts (list_all is_hex_digit t) (nat_le few (length t) && nat_le (length t) many) p in
+        leb-true few (length t) (and_parts (nat_le few (length t)) (nat_le (length t) many) r.1).0
+    go false p q = cc q
+
+mode-size : (k : Bool) (t : List ℕ) → mode_of t ≡ Some k → 1 ≤ length t
+unfolding mode_of
+mode-size k [] e = cc e
+mode-size k (b ∷ t) e = omega arith
+
+decimal-below : (low high n : ℕ) (t : List ℕ) → decimal_in low high t ≡ Some n → n ≤ high
+unfolding decimal_in
+decimal-below low high n t e = go (is_decimal t && (nat_le low (digits_value 10 t) && nat_le (digits_value 10 t) high)) refl e
+  where
+    go : (b : Bool) → (is_decimal t && (nat_le low (digits_value 10 t) && nat_le (digits_value 10 t) high)) ≡ b → (if b then Some (digits_value 10 t) else None) ≡ Some n → n ≤ high
+    go true p q =
+        let r = and_parts (is_decimal t) (nat_le low (digits_value 10 t) && nat_le (digits_value 10 t) high) p in
+        let s = and_parts (nat_le low (digits_value 10 t)) (nat_le (digits_value 10 t) high) r.1 in
+        let is : digits_value 10 t ≡ n = cc q in
+        subst (λ (k : ℕ). k ≤ high) is (leb-true (digits_value 10 t) high s.1)
+    go false p q = cc q
+
+decimal-least : (low high n : ℕ) (t : List ℕ) → decimal_in low high t ≡ Some n → low ≤ n
+unfolding decimal_in
+decimal-least low high n t e = go (is_decimal t && (nat_le low (digits_value 10 t) && nat_le (digits_value 10 t) high)) refl e
+  where
+    go : (b : Bool) → (is_decimal t && (nat_le low (digits_value 10 t) && nat_le (digits_value 10 t) high)) ≡ b → (if b then Some (digits_value 10 t) else None) ≡ Some n → low ≤ n
+    go true p q =
+        let r = and_parts (is_decimal t) (nat_le low (digits_value 10 t) && nat_le (digits_value 10 t) high) p in
+        let s = and_parts (nat_le low (digits_value 10 t)) (nat_le (digits_value 10 t) high) r.1 in
+        let is : digits_value 10 t ≡ n = cc q in
+        subst (λ (k : ℕ). low ≤ k) is (leb-true low (digits_value 10 t) s.0)
+    go false p q = cc q
+
+-- the ranges of an occurrence
+pub record IsFit (o : Occ) : Type 0 where
+  pub comp : o.comp ≤ 15
+  pub least : 1 ≤ o.amount
+  pub greatest : o.amount ≤ 255
+
+-- what the fields of an occurrence are
+record IsRead (stamped : Bool) (count : ℕ) (fields : List (List ℕ)) (o : Occ) : Type 0 where
+  size : 8 ≤ length (field fields 0) + length (field fields 1) + length (field fields 2) + length (field fields 3) + length (field fields 4) + length (field fields 5)
+  stamp : stamp_of stamped count fields ≡ Some o.stamp
+  fit : IsFit o
+
+read-fields : (stamped : Bool) (count : ℕ) (fields : List (List ℕ)) (o : Occ) → occ_of stamped count fields ≡ Some o → IsRead stamped count fields o
+unfolding occ_of
+read-fields stamped count fields o e =
+    let a = given-some (decimal_in 0 15 (field fields 0)) _ o e in
+    let b = given-some (hex_in 2 2 (field fields 1)) _ o a.rest in
+    let c = given-some (hex_in 2 2 (field fields 2)) _ o b.rest in
+    let d = given-some (mode_of (field fields 3)) _ o c.rest in
+    let f = given-some (decimal_in 1 255 (field fields 4)) _ o d.rest in
+    let g = given-some (hex_in 1 16 (field fields 5)) _ o f.rest in
+    let h = given-some (stamp_of stamped count fields) _ o g.rest in
+    let a1 = decimal-size 0 15 a.value (field fields 0) a.there in
+    let b1 = hex-size 2 2 b.value (field fields 1) b.there in
+    let c1 = hex-size 2 2 c.value (field fields 2) c.there in
+    let d1 = mode-size d.value (field fields 3) d.there in
+    let f1 = decimal-size 1 255 f.value (field fields 4) f.there in
+    let g1 = hex-size 1 16 g.value (field fields 5) g.there in
+    record {
+      size = omega (arith, a1, b1, c1, d1, f1, g1);
+      stamp = h.there ∙ ap (λ (x : Option Occ). option_map (λ (y : Occ). y.stamp) x) h.rest;
+      fit =
+          let comp : a.value ≡ o.comp = ap (λ (x : Option Occ). option_map_or (λ (y : Occ). y.comp) x 0) h.rest in
+          let amount : f.value ≡ o.amount = ap (λ (x : Option Occ). option_map_or (λ (y : Occ). y.amount) x 0) h.rest in
+          record {
+            comp = rw (← comp) (decimal-below 0 15 a.value (field fields 0) a.there);
+            least = rw (← amount) (decimal-least 1 255 f.value (field fields 4) f.there);
+            greatest = rw (← amount) (decimal-below 1 255 f.value (field fields 4) f.there);
+          };
+    }
+
+all-size : (two : Bool) (fields : List (List ℕ)) → length fields ≡ 6 + flag_bit two
+    → 8 ≤ length (field fields 0) + length (field fields 1) + length (field fields 2) + length (field fields 3) + length (field fields 4) + length (field fields 5) → 14 ≤ parts_size fields
+all-size false (a ∷ b ∷ c ∷ d ∷ e ∷ f ∷ []) n h = omega (arith, h)
+all-size true (a ∷ b ∷ c ∷ d ∷ e ∷ f ∷ g ∷ []) n h = omega (arith, h)
+all-size two [] n h = absurd (omega (arith, h))
+all-size two (a ∷ []) n h = absurd (omega (arith, n))
+all-size two (a ∷ b ∷ []) n h = absurd (omega (arith, n))
+all-size two (a ∷ b ∷ c ∷ []) n h = absurd (omega (arith, n))
+all-size two (a ∷ b ∷ c ∷ d ∷ []) n h = absurd (omega (arith, n))
+all-size two (a ∷ b ∷ c ∷ d ∷ e ∷ []) n h = absurd (omega (arith, n))
+all-size true (a ∷ b ∷ c ∷ d ∷ e ∷ f ∷ []) n h = absurd (omega (arith, n))
+all-size false (a ∷ b ∷ c ∷ d ∷ e ∷ f ∷ g ∷ rest) n h = absurd (omega (arith, n))
+all-size true (a ∷ b ∷ c ∷ d ∷ e ∷ f ∷ g ∷ i ∷ rest) n h = absurd (omega (arith, n))
+
+-- ---- what an occurrence's line keeps
+
+record IsOccurrence (st : LineStart) (o : Occ) (text : List ℕ) : Type 0 where
+  fit : IsFit o
+  size : 13 ≤ length text
+  first : st.stamped ≡ false → o.stamp ≡ st.given
+  second : st.stamped ≡ true → (is_above st.last o.stamp ≡ true) × (o.stamp ≤ 4294967294)
+
+stamp-first : (stamped : Bool) (count n : ℕ) (fields : List (List ℕ)) → stamp_of stamped count fields ≡ Some n → stamped ≡ false → n ≡ count
+stamp-first false count n fields e q = cc
+stamp-first true count n fields e q = cc q
+
+stamp-second : (stamped : Bool) (count n : ℕ) (fields : List (List ℕ)) → stamp_of stamped count fields ≡ Some n → stamped ≡ true → n ≤ 4294967294
+stamp-second false count n fields e q = cc q
+stamp-second true count n fields e q = decimal-below 0 4294967294 n (field fields 6) e
+
+fields-occurrence : (st : LineStart) (text : List ℕ) (o : Occ) → fields_judged st (fields_of text) ≡ Occurs o → IsOccurrence st o text
+unfolding fields_judged
+fields-occurrence st text o e = go (length fields == (6 + flag_bit st.stamped)) (occ_of st.stamped st.given fields) refl refl e
+  where
+    fields : List (List ℕ)
+    fields = fields_of text
+
+    made : (x : Occ) → length fields ≡ 6 + flag_bit st.stamped → occ_of st.stamped st.given fields ≡ Some x → (st.stamped ≡ true → is_above st.last x.stamp ≡ true) → IsOccurrence st x text
+    made x n r above =
+        let read = read-fields st.stamped st.given fields x r in
+        let size = all-size st.stamped fields n read.size in
+        let whole = split-size (λ b. b == 32) text in
+        record {
+          fit = read.fit;
+          size = omega (arith, size, whole);
+          first = stamp-first st.stamped st.given x.stamp fields read.stamp;
+          second = λ q. (above q, stamp-second st.stamped st.given x.stamp fields read.stamp q);
+        }
+
+    pick : (x : Occ) (a b : Bool) → st.stamped ≡ a → is_above st.last x.stamp ≡ b → length fields ≡ 6 + flag_bit st.stamped → occ_of st.stamped st.given fields ≡ Some x
+        → (if a then if b then Occurs x else Bad cause.Stamp else Occurs x) ≡ Occurs o → IsOccurrence st o text
+    pick x true true p q n r h = let is : x ≡ o = cc h in subst (λ (y : Occ). IsOccurrence st y text) is (made x n r (λ t. q))
+    pick x true false p q n r h = cc h
+    pick x false b p q n r h = let is : x ≡ o = cc h in subst (λ (y : Occ). IsOccurrence st y text) is (made x n r (λ t. cc (sym p ∙ t)))
+
+    go : (c : Bool) (r : Option Occ) → (length fields == (6 + flag_bit st.stamped)) ≡ c → occ_of st.stamped st.given fields ≡ r
+        → (if c then option_map_or (λ (x : Occ). if st.stamped then if is_above st.last x.stamp then Occurs x else Bad cause.Stamp else Occurs x) r (Bad cause.Field) else Bad cause.Fields) ≡ Occurs o → IsOccurrence st o text
+    go true (Some x) p q h = pick x st.stamped (is_above st.last x.stamp) refl refl (eqb-true (length fields) (6 + flag_bit st.stamped) p) q h
+    go true None p q h = cc h
+    go false r p q h = cc h
+
+text-occurrence : (st : LineStart) (text : List ℕ) (o : Occ) → text_judged st text ≡ Occurs o → IsOccurrence st o text
+unfolding text_judged
+text-occurrence st text o e = go ((st.number == 1) && bytes_eq text (codes "version 2")) (is_skipped text) e
+  where
+    go : (a b : Bool) → (if a then Version else if b then Skipped else fields_judged st (fields_of text)) ≡ Occurs o → IsOccurrence st o text
+    go true b h = cc h
+    go false true h = cc h
+    go false false h = fields-occurrence st text o h
+
+return-size : (t : List ℕ) → length (without_return t) ≤ length t
+unfolding without_return
+return-size [] = omega arith
+return-size (b ∷ []) = go (b == 13)
+  where
+    go : (c : Bool) → length (if c then [] else b ∷ []) ≤ 1
+    go true = omega arith
+    go false = omega arith
+return-size (b ∷ c ∷ rest) = let more = return-size (c ∷ rest) in omega (arith, more)
+
+line-size : (line : Line) → length (line_text line) ≤ length line.bytes
+line-size line = go line.ended
+  where
+    go : (b : Bool) → length (if b then without_return line.bytes else line.bytes) ≤ length line.bytes
+    go true = return-size line.bytes
+    go false = omega arith
+
+pub record IsLine (st : LineStart) (o : Occ) (line : Line) : Type 0 where
+  pub fit : IsFit o
+  pub size : 13 ≤ length line.bytes
+  pub within : st.passed + length line.bytes ≤ 67108864
+  first : st.stamped ≡ false → o.stamp ≡ st.given
+  second : st.stamped ≡ true → (is_above st.last o.stamp ≡ true) × (o.stamp ≤ 4294967294)
+
+pub line-occurrence : (st : LineStart) (line : Line) (o : Occ) → judged st line ≡ Occurs o → IsLine st o line
+unfolding judged
+line-occurrence st line o e = go (nat_lt 128 (length line.bytes)) (nat_lt 67108864 (st.passed + length line.bytes)) refl e
+  where
+    go : (a b : Bool) → nat_lt 67108864 (st.passed + length line.bytes) ≡ b → (if a then Bad cause.Long else if b then Bad cause.Size else text_judged st (line_text line)) ≡ Occurs o → IsLine st o line
+    go true b p h = cc h
+    go false true p h = cc h
+    go false false p h =
+        let t = text-occurrence st (line_text line) o h in
+        let s = line-size line in
+        let w = ltb-false 67108864 (st.passed + length line.bytes) p in
+        record { fit = t.fit; size = omega (arith, s, t.size); within = w; first = t.first; second = t.second }
+
+-- ---- the whole stream
+
+-- an occurrence is above the last one, and its stamp is in range
+pub stamp-fits : (st : LineStart) (line : Line) (o : Occ) → IsStart st → IsLine st o line → (is_above st.last o.stamp ≡ true) × (o.stamp ≤ 4294967294)
+stamp-fits st line o s l = go st.stamped refl
+  where
+    above : (last : Option ℕ) → IfSome last (λ x. x < st.given) → is_above last st.given ≡ true
+    above None h = refl
+    above (Some x) h = lt-ltb x st.given h
+
+    go : (b : Bool) → st.stamped ≡ b → (is_above st.last o.stamp ≡ true) × (o.stamp ≤ 4294967294)
+    go true e = l.second e
+    go false e =
+        let is = l.first e in
+        let c = s.counted in
+        let w = l.within in
+        let z = l.size in
+        (rw is (above st.last (s.below e)), rw is (omega (arith, c, w, z)))
+
+state-behind : (st : LineStart) (line : Line) → IsStart st → IsStart (behind st line)
+state-behind st line s = let c = s.counted in record { counted = omega (arith, c); below = s.below }
+
+state-after : (st : LineStart) (line : Line) (o : Occ) → IsStart st → IsLine st o line → IsStart (after st line (Occurs o))
+state-after st line o s l =
+    let c = s.counted in
+    let z = l.size in
+    record { counted = omega (arith, c, z); below = λ e. let is = l.first e in omega (arith, is) }
+
+pub state-next : (st : LineStart) (line : Line) (j : Judgement) → judged st line ≡ j → IsStart st → IsStart (after st line j)
+state-next st line (Bad c) e s = state-behind st line s
+state-next st line Skipped e s = state-behind st line s
+state-next st line Version e s = let c = s.counted in record { counted = omega (arith, c); below = λ q. cc q }
+state-next st line (Occurs o) e s = state-after st line o s (line-occurrence st line o e)
+
+-- the stamps of what is left rise from above the last one
+pub rise-from : (e : Ending) (st : LineStart) (lines : List Line) → IsStart st → Rise st.last (occurs_from e st lines).rest
+unfolding occurs_from Rise
+rise-from e st [] s = tt
+rise-from e st (line ∷ rest) s = go (judged st line) refl (rise-from e (after st line (judged st line)) rest (state-next st line (judged st line) refl s))
+  where
+    go : (j : Judgement) → judged st line ≡ j → Rise (after st line j).last (occurs_from e (after st line j) rest).rest → Rise st.last (joined st.number j (occurs_from e (after st line j) rest)).rest
+    go (Bad c) q more = tt
+    go Skipped q more = more
+    go Version q more = more
+    go (Occurs o) q more = let f = stamp-fits st line o s (line-occurrence st line o q) in (f.0, f.1, more)
+
+-- the occurrences of what is left take 13 bytes each
+pub few-from : (e : Ending) (st : LineStart) (lines : List Line) → IsStart st → ((occurs_from e st lines).rest ≡ []) ⊎ (13 * (st.given + length (occurs_from e st lines).rest) ≤ 67108864)
+unfolding occurs_from
+few-from e st [] s = inl refl
+few-from e st (line ∷ rest) s = go (judged st line) refl (few-from e (after st line (judged st line)) rest (state-next st line (judged st line) refl s))
+  where
+    go : (j : Judgement) → judged st line ≡ j
+        → ((occurs_from e (after st line j) rest).rest ≡ []) ⊎ (13 * ((after st line j).given + length (occurs_from e (after st line j) rest).rest) ≤ 67108864)
+        → ((joined st.number j (occurs_from e (after st line j) rest)).rest ≡ []) ⊎ (13 * (st.given + length (joined st.number j (occurs_from e (after st line j) rest)).rest) ≤ 67108864)
+    go (Bad c) q more = inl refl
+    go Skipped q more = more
+    go Version q more = more
+    go (Occurs o) q (inl none) =
+        let l = line-occurrence st line o q in
+        let c = s.counted in
+        let z = l.size in
+        let w = l.within in
+        let n : length (occurs_from e (after st line (Occurs o)) rest).rest ≡ 0 = rw none refl in
+        inr (omega (arith, c, z, w, n))
+    go (Occurs o) q (inr more) = inr (omega (arith, more))
+
+first_start-state : IsStart first_start
+first_start-state = record { counted = omega arith; below = λ e. tt }
+
+-- the stamps of a tape rise
+pub stamps-rise : (e : Ending) (bytes : List ℕ) → Rise None (occurs_of e bytes).rest
+unfolding occurs_of
+stamps-rise e bytes = rise-from e first_start (tape_lines e bytes) first_start-state
+
+-- and it has at most 5,162,220 occurrences
+pub few-occurrences : (e : Ending) (bytes : List ℕ) → length (occurs_of e bytes).rest ≤ 5162220
+unfolding occurs_of
+few-occurrences e bytes = go (few-from e first_start (tape_lines e bytes) first_start-state)
+  where
+    go : ((occurs_from e first_start (tape_lines e bytes)).rest ≡ []) ⊎ (13 * (0 + length (occurs_from e first_start (tape_lines e bytes)).rest) ≤ 67108864) → length (occurs_from e first_start (tape_lines e bytes)).rest ≤ 5162220
+    go (inl none) = rw none (omega arith)
+    go (inr le) = omega (arith, le)

@@ -1,0 +1,132 @@
+-- The number of a field of hexadecimal digits, byte by byte.
+use Rattle.std.proofs.Common.{◌≡◌, ◌∙◌, ◌+◌, ◌*◌, ◌^◌, ◌<◌, ◌≤◌, ◌≢◌, ◌==◌, ◌&&◌, ◌∷◌, ℕ, Bool, true, false, List, [], Option, Some, None, length, drop, get_or, refl, sym, arith, nat_le, add-one}
+use Rattle.std.specs.Prelude.{if◌then◌else◌, cond}
+use Rattle.std.specs.List.{list_all}
+use Rattle.std.specs.Char.{digit_value}
+use Rattle.std.specs.Str.Parse.{digits_value, digits_value_after}
+use Rattle.std.proofs.Math.Seq.{drop-cons}
+use Rattle.std.proofs.Math.Nat.{pow-suc, pow-le-pow_right}
+use Rattle.std.proofs.lemmas.List.{drop_all}
+use Rattle.std.proofs.lemmas.Bool.{lt-leb, le-leb, ltb-true}
+use Rattle.std.proofs.lemmas.Bool.Decides.{nat_tests}
+use Rattle.papi_base.specs.Numerals.{hex_in, is_hex_digit}
+use Rattle.stream_reader.specs.Fields.{first_field, hex_on}
+
+hex_on-value : (n : ℕ) (t : List ℕ) → hex_on n t ≡ (if list_all is_hex_digit (first_field t) then Some (digits_value_after 16 n (first_field t)) else None)
+unfolding hex_on first_field
+hex_on-value n [] = refl
+hex_on-value n (b ∷ t) = go (b == 32) (is_hex_digit b) refl (hex_on-value (n * 16 + digit_value b) t)
+  where
+    go : (x y : Bool) → is_hex_digit b ≡ y → hex_on (n * 16 + digit_value b) t ≡ (if list_all is_hex_digit (first_field t) then Some (digits_value_after 16 (n * 16 + digit_value b) (first_field t)) else None)
+        → (if x then Some n else if y then hex_on (n * 16 + digit_value b) t else None)
+        ≡ (if list_all is_hex_digit (cond x [] (b ∷ first_field t)) then Some (digits_value_after 16 n (cond x [] (b ∷ first_field t))) else None)
+    go true y e h = refl
+    go false true e h = rw e h
+    go false false e h = rw e refl
+
+pub hex-none : (few many : ℕ) (t : List ℕ) → hex_on 0 t ≡ None → hex_in few many (first_field t) ≡ None
+unfolding hex_in
+hex-none few many t h = go (list_all is_hex_digit (first_field t)) refl (sym (hex_on-value 0 t) ∙ h)
+  where
+    go : (x : Bool) → list_all is_hex_digit (first_field t) ≡ x → (if x then Some (digits_value 16 (first_field t)) else None) ≡ None
+        → (if list_all is_hex_digit (first_field t) && (nat_le few (length (first_field t)) && nat_le (length (first_field t)) many) then Some (digits_value 16 (first_field t)) else None) ≡ None
+    go true p q = cc q
+    go false p q = rw p refl
+
+-- a test that fails
+no-value : (a b : Bool) (v : Option ℕ) → (if a && (b && false) then v else None) ≡ None
+no-value true true v = refl
+no-value true false v = refl
+no-value false b v = refl
+
+none-value : (a b : Bool) (v : Option ℕ) → (if a && (false && b) then v else None) ≡ None
+none-value true b v = refl
+none-value false b v = refl
+
+pub hex-long : (few many : ℕ) (f : List ℕ) → many < length f → hex_in few many f ≡ None
+unfolding hex_in
+hex-long few many f h = rw (lt-leb (length f) many h) (no-value (list_all is_hex_digit f) (nat_le few (length f)) (Some (digits_value 16 f)))
+
+pub hex-short : (few many : ℕ) (f : List ℕ) → length f < few → hex_in few many f ≡ None
+unfolding hex_in
+hex-short few many f h = rw (lt-leb few (length f) h) (none-value (list_all is_hex_digit f) (nat_le (length f) many) (Some (digits_value 16 f)))
+
+pub hex-within : (few many n : ℕ) (t : List ℕ) → hex_on 0 t ≡ Some n → few ≤ length (first_field t) → length (first_field t) ≤ many → hex_in few many (first_field t) ≡ Some n
+unfolding hex_in
+hex-within few many n t h low high = go (list_all is_hex_digit (first_field t)) refl (sym (hex_on-value 0 t) ∙ h)
+  where
+    go : (x : Bool) → list_all is_hex_digit (first_field t) ≡ x → (if x then Some (digits_value 16 (first_field t)) else None) ≡ Some n
+        → (if list_all is_hex_digit (first_field t) && (nat_le few (length (first_field t)) && nat_le (length (first_field t)) many) then Some (digits_value 16 (first_field t)) else None) ≡ Some n
+    go true p q = rw (p, le-leb few (length (first_field t)) low, le-leb (length (first_field t)) many high) q
+    go false p q = cc q
+
+-- ---- byte by byte
+
+cut-at : (t : List ℕ) (i : ℕ) → i < length t → drop i t ≡ get_or t i 0 ∷ drop (i + 1) t
+cut-at t i h = rw add-one (drop-cons t i 0 h)
+
+space : (b : ℕ) → b ≢ 32 → (b == 32) ≡ false
+space b h = grind (arith, nat_tests)
+
+pub record Ends (t : List ℕ) (i v : ℕ) : Type 0 where
+  pub value : hex_on v (drop i t) ≡ Some v
+  pub long : length (first_field (drop i t)) ≡ 0
+
+pub at-space : (t : List ℕ) (i v : ℕ) → i < length t → get_or t i 0 ≡ 32 → Ends t i v
+unfolding hex_on first_field
+at-space t i v h e = record { value = rw (cut-at t i h, e) refl; long = rw (cut-at t i h, e) refl }
+
+pub at-end : (t : List ℕ) (i v : ℕ) → length t ≤ i → Ends t i v
+unfolding hex_on first_field
+at-end t i v h = let none = drop_all i t h in record { value = rw none refl; long = rw none refl }
+
+pub at-other : (t : List ℕ) (i v : ℕ) → i < length t → get_or t i 0 ≢ 32 → is_hex_digit (get_or t i 0) ≡ false → hex_on v (drop i t) ≡ None
+unfolding hex_on
+at-other t i v h e o = rw (cut-at t i h, space (get_or t i 0) e, o) refl
+
+pub record Goes (t : List ℕ) (i v : ℕ) : Type 0 where
+  pub value : is_hex_digit (get_or t i 0) ≡ true → hex_on v (drop i t) ≡ hex_on (v * 16 + digit_value (get_or t i 0)) (drop (i + 1) t)
+  pub long : length (first_field (drop i t)) ≡ length (first_field (drop (i + 1) t)) + 1
+
+pub at-digit : (t : List ℕ) (i v : ℕ) → i < length t → get_or t i 0 ≢ 32 → Goes t i v
+unfolding hex_on first_field
+at-digit t i v h other =
+    record {
+      value = λ d. rw (cut-at t i h, space (get_or t i 0) other, d) refl;
+      long = rw (cut-at t i h, space (get_or t i 0) other) (omega arith);
+    }
+
+-- the result of `hex_digit`
+pub record IsDigit (b d : ℕ) : Type 0 where
+  pub test : is_hex_digit b ≡ true
+  pub value : d ≡ digit_value b
+  pub small : d < 16
+
+pub digit-some : (b d : ℕ) → Some d ≡ (if is_hex_digit b then Some (digit_value b) else None) → IsDigit b d
+digit-some b d e = go (is_hex_digit b) refl e
+  where
+    go : (x : Bool) → is_hex_digit b ≡ x → Some d ≡ (if x then Some (digit_value b) else None) → IsDigit b d
+    go true p q = let same : d ≡ digit_value b = cc q in record { test = p; value = same; small = rw same (ltb-true (digit_value b) 16 p) }
+    go false p q = cc q
+
+pub digit-none : (b : ℕ) → None ≡ (if is_hex_digit b then Some (digit_value b) else None) → is_hex_digit b ≡ false
+digit-none b e = go (is_hex_digit b) refl e
+  where
+    go : (x : Bool) → is_hex_digit b ≡ x → None ≡ (if x then Some (digit_value b) else None) → is_hex_digit b ≡ false
+    go true p q = cc q
+    go false p q = p
+
+-- ---- a number of at most 16 digits
+
+pub record IsSmall (i v d : ℕ) : Type 0 where
+  pub below : v * 16 + d < 16 ^ (i + 1)
+  pub fits : v * 16 + d < 2 ^ 64
+
+pub hex-small : (i many v d : ℕ) → i < many → many ≤ 16 → v < 16 ^ i → d < 16 → IsSmall i v d
+hex-small i many v d in_many many_in small digit =
+    let below : i ≤ 15 = omega arith in
+    let top : 16 ^ i ≤ 16 ^ 15 = pow-le-pow_right {n = 16} (omega arith) below in
+    record {
+      below = rw (add-one, pow-suc) (omega arith);
+      fits = omega (arith, top);
+    }

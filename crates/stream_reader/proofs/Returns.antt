@@ -1,0 +1,34 @@
+-- A carriage return at the end of a line.
+use Rattle.std.proofs.Common.{◌≡◌, ◌+◌, ◌-◌, ◌<◌, ◌≢◌, ◌==◌, ◌∷◌, ℕ, zero, suc, false, List, [], length, take, get_or, refl, ap, arith, eq-eqb}
+use Rattle.std.proofs.lemmas.Bool.Decides.{nat_tests}
+use Rattle.stream_reader.specs.Judged.{without_return}
+
+last-return : (t : List ℕ) (n : ℕ) → n + 1 ≡ length t → get_or t n 0 ≡ 13 → without_return t ≡ take n t
+unfolding without_return
+last-return [] n h e = absurd (omega arith)
+last-return (b ∷ []) zero h e = rw (eq-eqb b 13 e) refl
+last-return (b ∷ []) (suc n) h e = absurd (omega arith)
+last-return (b ∷ c ∷ t) zero h e = absurd (omega arith)
+last-return (b ∷ c ∷ t) (suc n) h e = ap (λ u. b ∷ u) (last-return (c ∷ t) n (omega arith) e)
+
+test : (b : ℕ) → b ≢ 13 → (b == 13) ≡ false
+test b h = grind (arith, nat_tests)
+
+other-last : (t : List ℕ) (n : ℕ) → n + 1 ≡ length t → get_or t n 0 ≢ 13 → without_return t ≡ t
+unfolding without_return
+other-last [] n h e = refl
+other-last (b ∷ []) zero h e = rw (test b e) refl
+other-last (b ∷ []) (suc n) h e = absurd (omega arith)
+other-last (b ∷ c ∷ t) zero h e = absurd (omega arith)
+other-last (b ∷ c ∷ t) (suc n) h e = ap (λ u. b ∷ u) (other-last (c ∷ t) n (omega arith) e)
+
+pub with-return : (t : List ℕ) → 0 < length t → get_or t (length t - 1) 0 ≡ 13 → without_return t ≡ take (length t - 1) t
+with-return t h e = last-return t (length t - 1) (omega arith) e
+
+pub no-return : (t : List ℕ) → 0 < length t → get_or t (length t - 1) 0 ≢ 13 → without_return t ≡ t
+no-return t h e = other-last t (length t - 1) (omega arith) e
+
+pub nothing : (t : List ℕ) → length t ≡ 0 → without_return t ≡ t
+unfolding without_return
+nothing [] h = refl
+nothing (b ∷ t) h = absurd (omega arith)

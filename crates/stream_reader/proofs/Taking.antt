@@ -1,0 +1,101 @@
+-- A line taken from the bytes held.
+use Rattle.std.proofs.Common.{◌≡◌, ◌∙◌, ◌+◌, ◌-◌, ◌<◌, ◌≤◌, ℕ, Bool, true, false, List, length, take, drop, Option, refl, sym, ap, arith, nat_lt}
+use Rattle.std.specs.Prelude.{if◌then◌else◌}
+use Rattle.std.proofs.lemmas.Bool.{ltb-false}
+use Rattle.std.proofs.lemmas.List.{length-take-le}
+use mir.Val.{bool_byte}
+use Rattle.papi_base.specs.Numerals.{flag_bit}
+use Rattle.papi_base.specs.declared.occurrence.LineCause.TheVariants as cause
+use Rattle.stream_reader.specs.declared.line.LineStart.{LineStart}
+use Rattle.stream_reader.specs.declared.line.Judgement.{Judgement}
+use Rattle.stream_reader.specs.declared.line.Judgement.TheVariants.{Bad, Skipped, Version, Occurs}
+use Rattle.stream_reader.specs.Lines.{Line}
+use Rattle.stream_reader.specs.Judged.{judged, line_text, text_judged}
+use Rattle.stream_reader.specs.Occurs.{IsStart, after, is_bad}
+use Rattle.stream_reader.specs.Reader.{Gave, ReaderView, SourceView}
+use Rattle.stream_reader.specs.Inside.{answer_of, line_at, line_taken}
+use Rattle.stream_reader.proofs.Bounds.{line-occurrence, stamp-fits, state-next}
+use Rattle.stream_reader.proofs.Room.{held-drop, held-take, length-held}
+
+pub flag-is : (b : Bool) → bool_byte b ≡ flag_bit b
+flag-is true = refl
+flag-is false = refl
+
+-- a line that is not bad does not reach past the largest stream
+pub judged-within : (start : LineStart) (line : Line) → is_bad (judged start line) ≡ false → start.passed + length line.bytes ≤ 67108864
+unfolding judged
+judged-within start line h = go (nat_lt 128 (length line.bytes)) (nat_lt 67108864 (start.passed + length line.bytes)) refl h
+  where
+    go : (a b : Bool) → nat_lt 67108864 (start.passed + length line.bytes) ≡ b → is_bad (if a then Bad cause.Long else if b then Bad cause.Size else text_judged start (line_text line)) ≡ false → start.passed + length line.bytes ≤ 67108864
+    go true b e h = cc h
+    go false true e h = cc h
+    go false false e h = ltb-false 67108864 (start.passed + length line.bytes) e
+
+pub record IsKept (start : LineStart) : Type 0 where
+  pub starts : IsStart start
+  pub passed : start.passed ≤ 67108865
+  pub numbered : start.number ≤ start.passed + 1
+
+flag-small : (b : Bool) → flag_bit b ≤ 1
+flag-small true = omega arith
+flag-small false = omega arith
+
+-- what is kept behind a line that is not bad
+pub after-kept : (start : LineStart) (line : Line) (j : Judgement) → judged start line ≡ j → is_bad j ≡ false → 0 < length line.bytes + flag_bit line.ended → IsKept start → IsKept (after start line j)
+after-kept start line j e h some k =
+    let within : start.passed + length line.bytes ≤ 67108864 = judged-within start line (ap is_bad e ∙ h) in
+    let flag = flag-small line.ended in
+    let starts = state-next start line j e k.starts in
+    go j h starts within flag
+  where
+    go : (j : Judgement) → is_bad j ≡ false → IsStart (after start line j) → start.passed + length line.bytes ≤ 67108864 → flag_bit line.ended ≤ 1 → IsKept (after start line j)
+    go (Bad c) h s within flag = cc h
+    go Skipped h s within flag = let n = k.numbered in record { starts = s; passed = omega arith; numbered = omega arith }
+    go Version h s within flag = let n = k.numbered in record { starts = s; passed = omega arith; numbered = omega arith }
+    go (Occurs o) h s within flag = let n = k.numbered in record { starts = s; passed = omega arith; numbered = omega arith }
+
+-- what a line that is not bad gives
+pub after-counts : (start : LineStart) (line : Line) (j : Judgement) (n : ℕ) → judged start line ≡ j → is_bad j ≡ false → IsStart start → Gave start (answer_of n j) (after start line j)
+after-counts start line (Bad c) n e h s = cc h
+after-counts start line Skipped n e h s = record { last = refl; given = refl }
+after-counts start line Version n e h s = record { last = refl; given = refl }
+after-counts start line (Occurs o) n e h s =
+    let l = line-occurrence start line o e in
+    let f = stamp-fits start line o s l in
+    record { above = f.0; stamp = f.1; least = l.fit.least; greatest = l.fit.greatest; comp = l.fit.comp; last = refl; given = refl }
+
+pub taken-good : (v : ReaderView) (size : ℕ) (ended : Bool) (j : Judgement) → is_bad j ≡ false → line_taken v size ended j ≡ record v { start = after v.start (line_at v size ended) j; held = drop (size + flag_bit ended) v.held }
+taken-good v size ended (Bad c) h = cc h
+taken-good v size ended Skipped h = refl
+taken-good v size ended Version h = refl
+taken-good v size ended (Occurs o) h = refl
+
+-- ---- the bytes of a line
+
+pub line-bytes : (from to size : ℕ) (bytes : List ℕ) → size ≤ to - from → take ((from + size) - from) (drop from bytes) ≡ take size (take (to - from) (drop from bytes))
+line-bytes from to size bytes le = let same : (from + size) - from ≡ size = omega arith in ap (λ n. take n (drop from bytes)) same ∙ held-take from to size bytes le
+
+pub line-size : (from to size : ℕ) (bytes : List ℕ) → from ≤ to → to ≤ length bytes → size ≤ to - from → length (take ((from + size) - from) (drop from bytes)) ≡ size
+line-size from to size bytes order room le =
+    let long = length-held from to bytes order room in
+    ap length (line-bytes from to size bytes le) ∙ length-take-le size (take (to - from) (drop from bytes)) (omega (arith, long))
+
+-- the reader behind a line that is not bad, as its fields stand
+pub view-taken : (from to size r : ℕ) (bytes : List ℕ) (ended : Bool) (start later : LineStart) (over asked : Bool) (source : Option SourceView) (j : Judgement)
+    → r ≡ flag_bit ended → size + flag_bit ended ≤ to - from
+    → j ≡ judged start (record { bytes = take ((from + size) - from) (drop from bytes); ended = ended })
+    → later ≡ after start (record { bytes = take ((from + size) - from) (drop from bytes); ended = ended }) j → is_bad j ≡ false
+    → ◌≡◌ {A = ReaderView} (record { start = later; held = take (to - (from + (size + r))) (drop (from + (size + r)) bytes); over = over; asked = asked; source = source })
+    (line_taken (record { start = start; held = take (to - from) (drop from bytes); over = over; asked = asked; source = source }) size ended
+    (judged start (record { bytes = take size (take (to - from) (drop from bytes)); ended = ended })))
+view-taken from to size r bytes ended start later over asked source j r_is le j_is later_is good =
+    let same = line-bytes from to size bytes (omega arith) in
+    let line : Line = record { bytes = take size (take (to - from) (drop from bytes)); ended = ended } in
+    let judged_is : j ≡ judged start line = j_is ∙ ap (λ (bs : List ℕ). judged start (record { bytes = bs; ended = ended })) same in
+    let start_is : later ≡ after start line j = later_is ∙ ap (λ (bs : List ℕ). after start (record { bytes = bs; ended = ended }) j) same in
+    let size_is : size + r ≡ size + flag_bit ended = ap (λ n. size + n) r_is in
+    let held_is : take (to - (from + (size + r))) (drop (from + (size + r)) bytes) ≡ drop (size + flag_bit ended) (take (to - from) (drop from bytes)) =
+    held-drop from to (size + r) bytes (omega arith) ∙ ap (λ n. drop n (take (to - from) (drop from bytes))) size_is in
+    let view : LineStart → List ℕ → ReaderView = λ s h. record { start = s; held = h; over = over; asked = asked; source = source } in
+    let v : ReaderView = view start (take (to - from) (drop from bytes)) in
+    ap (λ s. view s (take (to - (from + (size + r))) (drop (from + (size + r)) bytes))) start_is ∙ ap (view (after start line j)) held_is ∙ sym (taken-good v size ended j good) ∙ ap (line_taken v size ended) judged_is

@@ -1,0 +1,19 @@
+use Rattle.std.proofs.Common.{◌≡◌, ◌≤◌, true, false}
+use Rattle.std.specs.Prelude.{is_some}
+use Rattle.stream_reader.specs.Reader.{GaveNothing, faults_of, has_answer}
+use Rattle.stream_reader.specs.Inside.{Passes, left_of}
+use Rattle.stream_reader.proofs.reader.StreamReader.next.Given as goal
+
+abbrev pub invariant-loop-next : goal.invariant-loop-next
+invariant-loop-next g l = record {
+  over : l.self.over ≡ false;
+  passes : Passes l.fn.self l.self;
+  counts : GaveNothing l.fn.self.start l.self.start;
+  hand : has_answer l.fn.self ≡ true → (l.self.source ≡ l.fn.self.source) × (has_answer l.self ≡ true);
+  asked : l.self.asked ≡ true;
+  kept : is_some l.self.source ≡ is_some l.fn.self.source;
+  faults : faults_of l.fn.self ≤ faults_of l.self;
+}
+
+abbrev pub decreases-loop-next : goal.decreases-loop-next
+decreases-loop-next g l = left_of l.self

@@ -1,0 +1,68 @@
+-- The fields of a line one by one, each up to its space.
+use Rattle.std.specs.Prelude.{◌==◌, ◌-◌, ◌+◌, ◌*◌, ◌&&◌, ◌||◌, not, nat_lt, ℕ, Bool, List, [], ◌∷◌, Option, Some, None, if◌then◌else◌}
+use Rattle.std.specs.Char.{digit_value}
+use Rattle.papi_base.specs.Numerals.{decimal_in, hex_in, is_digit, is_hex_digit}
+use Rattle.stream_reader.specs.Judged.{given, mode_of}
+use Rattle.papi_base.specs.declared.occurrence.Occ.{Occ}
+use Rattle.stream_reader.specs.declared.occurrence.Tail.{Tail}
+
+-- the field that begins a text
+unfoldable pub first_field : List ℕ → List ℕ
+first_field [] = []
+first_field (b ∷ t) = if b == 32 then [] else b ∷ first_field t
+
+-- the text behind the space that ends this field, where there is one
+unfoldable pub behind_field : List ℕ → Option (List ℕ)
+behind_field [] = None
+behind_field (b ∷ t) = if b == 32 then Some t else behind_field t
+
+-- the number of a field of digits that goes on from a number
+unfoldable pub digits_on : ℕ → List ℕ → Option ℕ
+digits_on n [] = Some n
+digits_on n (b ∷ t) = if b == 32 then Some n else if is_digit b then digits_on (n * 10 + (b - 48)) t else None
+
+-- the number of a field of hexadecimal digits that goes on from a number
+unfoldable pub hex_on : ℕ → List ℕ → Option ℕ
+hex_on n [] = Some n
+hex_on n (b ∷ t) = if b == 32 then Some n else if is_hex_digit b then hex_on (n * 16 + digit_value b) t else None
+
+-- a field of digits with this length and first byte is not empty and has no leading zero
+abbrev pub has_form : ℕ → ℕ → Bool
+has_form size first = nat_lt 0 size && ((size == 1) || not (first == 48))
+
+-- the first field of a text with this length and second byte is one byte, unless the first is a space
+abbrev pub is_one_byte : ℕ → ℕ → Bool
+is_one_byte size second = nat_lt 0 size && ((size == 1) || (second == 32))
+
+-- a text that ends here
+abbrev pub ends_with : {X : Type 0} → Option (List ℕ) → X → Option X
+ends_with None x = Some x
+ends_with (Some t) x = None
+
+-- the stamp behind the program counter
+abbrev pub stamp_behind : Bool → ℕ → Option (List ℕ) → Option ℕ
+stamp_behind stamped count more =
+    if stamped then given more (λ t. given (decimal_in 0 4294967294 (first_field t)) (ends_with (behind_field t))) else ends_with more count
+
+-- the last fields of an occurrence: amount, program counter and stamp
+unfoldable pub tail_on : Bool → ℕ → List ℕ → Option Tail
+tail_on stamped count t =
+    given (decimal_in 1 255 (first_field t)) (λ amount.
+    given (behind_field t) (λ u.
+    given (hex_in 1 16 (first_field u)) (λ pc.
+    given (stamp_behind stamped count (behind_field u)) (λ stamp.
+    Some (record { amount = amount; pc = pc; stamp = stamp })))))
+
+-- the fields of an occurrence
+unfoldable pub occurrence_on : Bool → ℕ → List ℕ → Option Occ
+occurrence_on stamped count t =
+    given (decimal_in 0 15 (first_field t)) (λ comp.
+    given (behind_field t) (λ u.
+    given (hex_in 2 2 (first_field u)) (λ select.
+    given (behind_field u) (λ v.
+    given (hex_in 2 2 (first_field v)) (λ umask.
+    given (behind_field v) (λ w.
+    given (mode_of (first_field w)) (λ kernel.
+    given (behind_field w) (λ x.
+    given (tail_on stamped count x) (λ tail.
+    Some (record { comp = comp; select = select; umask = umask; kernel = kernel; amount = tail.amount; pc = tail.pc; stamp = tail.stamp }))))))))))

@@ -1,0 +1,69 @@
+-- What a reader keeps inside, and what its turns do.
+use Rattle.std.specs.Prelude.{◌≡◌, ◌≤◌, ◌<◌, ◌+◌, ◌-◌, ◌++◌, ℕ, Bool, true, List, [], ◌∷◌, length, take, drop, Option, Some, None, IfSome, Result, MatchResult}
+use Rattle.std.specs.Option.{option_map}
+use Rattle.papi_base.specs.Numerals.{flag_bit}
+use Rattle.papi_base.specs.Outside.{Tape}
+use Rattle.papi_base.specs.declared.outside.Failed as failed
+use Rattle.papi_base.specs.declared.outside.Ending.{Ending}
+use Rattle.papi_base.specs.declared.outside.Ending.TheVariants as ending
+use Rattle.stream_reader.specs.declared.line.LineStart.{LineStart}
+use Rattle.stream_reader.specs.declared.line.Judgement.{Judgement}
+use Rattle.stream_reader.specs.declared.line.Judgement.TheVariants as judgement
+use Rattle.stream_reader.specs.declared.next.Next.{Next}
+use Rattle.stream_reader.specs.declared.next.Next.TheVariants as next
+use Rattle.stream_reader.specs.Lines.{IsOneLine, Line}
+use Rattle.stream_reader.specs.Occurs.{IsStart, after}
+use Rattle.stream_reader.specs.Reader.{ReaderView, before_rest, comes, tape_of}
+
+-- The bytes held lie in the array and end behind the place of a line, and the stream was not too large so far.
+pub record IsReader (from to : ℕ) (bytes : List ℕ) (start : LineStart) : Type 0 where
+  pub room : length bytes ≡ 4224
+  pub in_order : from ≤ to
+  pub within : to ≤ 4224
+  pub behind : 128 ≤ to
+  pub starts : IsStart start
+  pub passed : start.passed ≤ 67108865
+  pub numbered : start.number ≤ start.passed + 1
+
+-- Some bytes were taken from the source, and all that was to come is still to come.
+pub record Passes (old new : ReaderView) : Type 0 where
+  pub taken : List ℕ
+  pub tape : tape_of old ≡ option_map (before_rest taken) (tape_of new)
+  pub says : (e : Ending) (more : List ℕ) → comes old e (taken ++ more) ≡ comes new e more
+
+-- where a text has its first newline
+abbrev pub FindsNewline : List ℕ → Option ℕ → Type 0
+FindsNewline text None = IsOneLine text
+FindsNewline text (Some n) = (n < length text) × IsOneLine (take n text) × (text ≡ take n text ++ 10 ∷ drop (n + 1) text)
+
+-- ---- a line, or a piece
+
+-- the front of the bytes held as a line
+abbrev pub line_at : ReaderView → ℕ → Bool → Line
+line_at v size ended = record { bytes = take size v.held; ended = ended }
+
+abbrev pub answer_of : ℕ → Judgement → Option Next
+answer_of number (judgement.Bad c) = Some (next.Bad number c)
+answer_of number (judgement.Occurs o) = Some (next.Occ o)
+answer_of number judgement.Skipped = None
+answer_of number judgement.Version = None
+
+-- the reader behind a line that was judged so
+abbrev pub line_taken : ReaderView → ℕ → Bool → Judgement → ReaderView
+line_taken v size ended (judgement.Bad c) = record v { over = true }
+line_taken v size ended j = record v { start = after v.start (line_at v size ended) j; held = drop (size + flag_bit ended) v.held }
+
+-- what is still to be read before the stream is too large
+abbrev pub left_of : ReaderView → ℕ
+left_of v = (67108866 - v.start.passed) + (67113090 - (v.start.passed + length v.held))
+
+-- A piece was asked for: the bytes taken stand behind those held.
+pub record Refills (old : ReaderView) (answer : Result ℕ failed.Failed) (new : ReaderView) : Type 0 where
+  pub piece : List ℕ
+  pub size : MatchResult answer (λ n. length piece ≡ n) (λ _. piece ≡ [])
+  pub held : new.held ≡ old.held ++ piece
+  pub start : new.start ≡ old.start
+  pub over : new.over ≡ old.over
+  pub asked : new.asked ≡ old.asked
+  pub tape : tape_of old ≡ option_map (before_rest piece) (tape_of new)
+  pub ends : MatchResult answer (λ n. n ≡ 0 → IfSome (tape_of new) (λ (t : Tape). (t.bytes ≡ []) × (t.ending ≡ ending.End))) (λ _. IfSome (tape_of new) (λ (t : Tape). (t.bytes ≡ []) × (t.ending ≡ ending.Fault)))

@@ -1,0 +1,9 @@
+pub mod Fields
+pub mod Inside
+pub mod Judged
+pub mod Lines
+pub mod Occurs
+pub mod Reader
+pub use Rattle.papi_base.specs.Numerals
+pub use Rattle.papi_base.specs.Outside
+pub use Rattle.papi_base.specs.Streams

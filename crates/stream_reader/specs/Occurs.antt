@@ -1,0 +1,68 @@
+-- The occurrences of a tape, and how it ends: this project's own stream format, docs/FORMATS.md.
+use Rattle.std.specs.Prelude.{◌≡◌, ◌≤◌, ◌<◌, ◌*◌, ⊤, IfSome, ◌+◌, ℕ, Bool, true, false, List, [], ◌∷◌, length, Option, Some, None}
+use Rattle.papi_base.specs.Numerals.{flag_bit}
+use Rattle.papi_base.specs.Streams.{Mark, Dry, Bad, Fault, Coming}
+use Rattle.papi_base.specs.declared.outside.Ending.{Ending}
+use Rattle.papi_base.specs.declared.outside.Ending.TheVariants as ending
+use Rattle.papi_base.specs.declared.occurrence.Occ.{Occ}
+use Rattle.stream_reader.specs.declared.line.LineStart.{LineStart}
+use Rattle.stream_reader.specs.declared.line.Judgement.{Judgement}
+use Rattle.stream_reader.specs.declared.line.Judgement.TheVariants as judgement
+use Rattle.stream_reader.specs.Lines.{Line, tape_lines}
+use Rattle.stream_reader.specs.Judged.{is_above, judged}
+
+abbrev pub is_bad : Judgement → Bool
+is_bad (judgement.Bad c) = true
+is_bad judgement.Skipped = false
+is_bad judgement.Version = false
+is_bad (judgement.Occurs o) = false
+
+abbrev pub end_mark : Ending → Mark
+end_mark ending.End = Dry
+end_mark ending.Fault = Fault
+
+-- what is known behind a line
+abbrev pub behind : LineStart → Line → LineStart
+behind start line = record start { number = start.number + 1; passed = start.passed + length line.bytes + flag_bit line.ended }
+
+abbrev pub after : LineStart → Line → Judgement → LineStart
+after start line (judgement.Bad c) = behind start line
+after start line judgement.Skipped = behind start line
+after start line judgement.Version = record (behind start line) { stamped = true }
+after start line (judgement.Occurs o) = record (behind start line) { given = start.given + 1; last = Some o.stamp }
+
+-- a line's judgement before what the lines below it say
+abbrev pub joined : ℕ → Judgement → Coming → Coming
+joined number (judgement.Bad c) more = record { rest = []; mark = Bad number c }
+joined number judgement.Skipped more = more
+joined number judgement.Version more = more
+joined number (judgement.Occurs o) more = record more { rest = o ∷ more.rest }
+
+-- the occurrences of the lines before the first bad one, and the mark
+unfoldable pub occurs_from : Ending → LineStart → List Line → Coming
+occurs_from e start [] = record { rest = []; mark = end_mark e }
+occurs_from e start (line ∷ rest) = joined start.number (judged start line) (occurs_from e (after start line (judged start line)) rest)
+
+-- where a tape begins
+abbrev pub first_start : LineStart
+first_start = record { number = 1; passed = 0; stamped = false; given = 0; last = None }
+
+-- what the rest of a tape says
+abbrev pub occurs_on : Ending → LineStart → List ℕ → Coming
+occurs_on e start bytes = occurs_from e start (tape_lines e bytes)
+
+-- what a tape says
+unfoldable pub occurs_of : Ending → List ℕ → Coming
+occurs_of e bytes = occurs_on e first_start bytes
+
+-- ---- what every stream keeps
+
+-- the stamps rise strictly, from above the last one, and are in range
+unfoldable pub Rise : Option ℕ → List Occ → Type 0
+Rise last [] = ⊤
+Rise last (o ∷ rest) = (is_above last o.stamp ≡ true) × (o.stamp ≤ 4294967294) × Rise (Some o.stamp) rest
+
+-- what is so where a line begins: occurrences take 13 bytes each, and those of version 1 are numbered
+pub record IsStart (start : LineStart) : Type 0 where
+  pub counted : 13 * start.given ≤ start.passed
+  pub below : start.stamped ≡ false → IfSome start.last (λ l. l < start.given)

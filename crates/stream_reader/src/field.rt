@@ -1,0 +1,129 @@
+// The fields of a line, each read in one pass up to its space.
+ghost use Rattle.std.specs.Prelude.{◌≡◌, ◌<◌, ◌≤◌, ◌^◌, length, Some, None, IfSome, MatchOption, if◌then◌else◌, nat_lt, slice_index};
+ghost use Rattle.std.specs.Char.{digit_value};
+ghost use Rattle.std.specs.Option.{option_map, option_copied};
+ghost use Rattle.papi_base.specs.Numerals.{decimal_in, hex_in, is_hex_digit};
+ghost use Rattle.stream_reader.specs.Judged.{mode_of};
+ghost use Rattle.stream_reader.specs.Fields.{first_field, behind_field, digits_on, has_form, hex_on, is_one_byte};
+
+/// The number that a field writes, and the field's length.
+#[derive(Clone, Copy)]
+pub(crate) struct Field {
+    pub value: u64,
+    pub size: usize,
+}
+
+// The number of a field of decimal digits; one that is too large may be given or not.
+fn digits(text: &[u8], greatest: u64) -> Option<Field>
+    requires { greatest < 2 ^ 32 }
+    ensures { MatchOption result (IfSome (digits_on 0 text.now) (λ n. greatest < n)) (λ f. (digits_on 0 text.now ≡ Some f.value) × (f.size ≡ length (first_field text.now)) × (f.size ≤ length text.now)) }
+{
+    let mut value: u64 = 0;
+    for (size, byte) in text.iter().enumerate() {
+        let byte = *byte;
+        if byte == b' ' {
+            return Some(Field { value, size });
+        }
+        if byte < b'0' || byte > b'9' || value > greatest {
+            return None;
+        }
+        value = value * 10 + u64::from(byte - b'0');
+    }
+    Some(Field {
+        value,
+        size: text.len(),
+    })
+}
+
+// Whether a field of digits is not empty and has no leading zero.
+fn has_form(text: &[u8], size: usize) -> bool
+    requires { size ≤ length text.now }
+    ensures { result ≡ has_form size (slice_index text.now 0) }
+{
+    size == 1 || (size > 1 && text[0] != b'0')
+}
+
+/// A decimal number without leading zeros, in a range.
+pub(crate) fn decimal(text: &[u8], least: u64, greatest: u64) -> Option<Field>
+    requires { greatest < 2 ^ 32 }
+    ensures value { option_map (λ f. f.value) result ≡ decimal_in least greatest (first_field text.now) }
+    ensures size { IfSome result (λ f. f.size ≡ length (first_field text.now)) }
+    ensures most { IfSome result (λ f. f.value ≤ greatest) }
+{
+    let field = digits(text, greatest)?;
+    if !has_form(text, field.size) {
+        return None;
+    }
+    if least <= field.value && field.value <= greatest {
+        return Some(field);
+    }
+    None
+}
+
+// The value of a hexadecimal digit in either case.
+fn hex_digit(byte: u8) -> Option<u64>
+    ensures { result ≡ (if is_hex_digit byte then Some (digit_value byte) else None) }
+{
+    match byte {
+        b'0'..=b'9' => Some(u64::from(byte - b'0')),
+        b'a'..=b'f' => Some(u64::from(byte - b'a') + 10),
+        b'A'..=b'F' => Some(u64::from(byte - b'A') + 10),
+        _ => None,
+    }
+}
+
+/// The number of hexadecimal digits, at least `few` and at most `many`.
+pub(crate) fn hexadecimal(text: &[u8], few: usize, many: usize) -> Option<Field>
+    requires { many ≤ 16 }
+    ensures value { option_map (λ f. f.value) result ≡ hex_in few many (first_field text.now) }
+    ensures size { IfSome result (λ f. f.size ≡ length (first_field text.now)) }
+    ensures most { IfSome result (λ f. (f.value < 16 ^ f.size) × (few ≤ f.size) × (f.size ≤ many)) }
+{
+    let mut value: u64 = 0;
+    let mut size = 0;
+    while size < text.len() && text[size] != b' ' {
+        let digit = hex_digit(text[size])?;
+        if size == many {
+            return None;
+        }
+        value = value * 16 + digit;
+        size += 1;
+    }
+    if size < few {
+        return None;
+    }
+    Some(Field { value, size })
+}
+
+// Whether the first field is one byte, unless that is a space.
+fn is_one_byte(text: &[u8]) -> bool
+    ensures { result ≡ is_one_byte (length text.now) (slice_index text.now 1) }
+{
+    text.len() == 1 || (text.len() > 1 && text[1] == b' ')
+}
+
+/// The mode, `u` or `k`: whether it is the kernel's.
+pub(crate) fn mode(text: &[u8]) -> Option<bool>
+    ensures { result ≡ mode_of (first_field text.now) }
+{
+    if !is_one_byte(text) {
+        return None;
+    }
+    match text[0] {
+        b'u' => Some(false),
+        b'k' => Some(true),
+        _ => None,
+    }
+}
+
+/// The text behind the space that ends the first field, which has this length.
+pub(crate) fn behind(text: &[u8], size: usize) -> Option<&[u8]>
+    requires { size ≡ length (first_field text.now) }
+    ensures { option_map (λ rest. rest.now) result ≡ behind_field text.now }
+{
+    if size < text.len() {
+        Some(&text[size + 1..])
+    } else {
+        None
+    }
+}

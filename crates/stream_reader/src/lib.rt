@@ -1,0 +1,12 @@
+//! Streams of occurrences, read piece by piece: two versions of a text format, with the line and the cause of the first bad line.
+#![tactic(auto)]
+
+mod field;
+mod line;
+mod next;
+mod occurrence;
+mod reader;
+
+pub use line::{Judgement, LineStart};
+pub use next::Next;
+pub use reader::StreamReader;

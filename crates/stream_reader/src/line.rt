@@ -1,0 +1,178 @@
+// Lines, and what each of them is.
+ghost use Rattle.std.specs.Prelude.{◌≡◌, ◌<◌, ◌≤◌, ◌^◌, length, if◌then◌else◌};
+ghost use Rattle.stream_reader.specs.Judged.{fields_judged, fields_of, has_fields, is_above, judged, occurrence_judged, text_judged, without_return};
+ghost use Rattle.stream_reader.specs.Occurs.{after, is_bad};
+ghost use Rattle.papi_base.specs.declared.occurrence.LineCause.TheVariants as cause;
+
+use crate::occurrence::occurrence;
+use papi_base::{LineCause, Occ};
+
+/// What is known where a line of a stream begins.
+#[derive(Clone, Copy)]
+pub struct LineStart {
+    /// The line's number, from 1.
+    pub number: u64,
+    /// How many bytes of the stream come before it.
+    pub passed: u64,
+    /// Whether the stream has version 2, whose occurrences carry stamps of their own.
+    pub stamped: bool,
+    /// How many occurrences come before it.
+    pub given: u64,
+    /// The stamp of the last of them.
+    pub last: Option<u64>,
+}
+
+/// What a line is.
+#[derive(Clone, Copy)]
+pub enum Judgement {
+    Bad(LineCause),
+    /// An empty line or a comment.
+    Skipped,
+    /// The first line of a stream of version 2.
+    Version,
+    Occurs(Occ),
+}
+
+impl Judgement {
+    /// Whether the stream is given up at the line.
+    pub fn is_bad(&self) -> bool
+        ensures { result ≡ is_bad self.now }
+    {
+        match self {
+            Judgement::Bad(_) => true,
+            _ => false,
+        }
+    }
+}
+
+/// The most bytes of a line, without its newline.
+pub const LONGEST: usize = 128;
+
+/// The most bytes of a stream.
+pub const LARGEST: u64 = 67_108_864;
+
+// How many fields a line has.
+fn number_of_fields(text: &[u8]) -> usize
+    ensures { result ≡ length (fields_of text.now) }
+{
+    let mut spaces = 0;
+    for byte in text {
+        if *byte == b' ' {
+            spaces += 1;
+        }
+    }
+    spaces + 1
+}
+
+// Why a line that is not skipped writes no occurrence.
+#[cold]
+fn cause_of(start: &LineStart, text: &[u8]) -> LineCause
+    ensures { result ≡ (if has_fields start.now.stamped (fields_of text.now) then cause.Field else cause.Fields) }
+{
+    let wanted = if start.stamped { 7 } else { 6 };
+    if number_of_fields(text) == wanted {
+        LineCause::Field
+    } else {
+        LineCause::Fields
+    }
+}
+
+// Whether a stamp is above the last one.
+fn is_above(last: Option<u64>, stamp: u64) -> bool
+    ensures { result ≡ is_above last stamp }
+{
+    match last {
+        None => true,
+        Some(last) => last < stamp,
+    }
+}
+
+// Judges a line that is neither skipped nor the version.
+fn judge_fields(start: &LineStart, text: &[u8]) -> Judgement
+    ensures { result ≡ fields_judged start.now (fields_of text.now) }
+{
+    match occurrence(start, text) {
+        Some(o) if start.stamped && !is_above(start.last, o.stamp) => Judgement::Bad(
+            LineCause::Stamp,
+        ),
+        Some(o) => Judgement::Occurs(o),
+        None => Judgement::Bad(cause_of(start, text)),
+    }
+}
+
+// Judges a line without its carriage return.
+#[tactic(auto, unfolding(crate::specs::Judged::text_judged))]
+fn judge_text(start: &LineStart, text: &[u8]) -> Judgement
+    ensures { result ≡ text_judged start.now text.now }
+{
+    if start.number == 1 && text == b"version 2".as_slice() {
+        return Judgement::Version;
+    }
+    if text.is_empty() || text[0] == b'#' {
+        return Judgement::Skipped;
+    }
+    judge_fields(start, text)
+}
+
+// The line without a carriage return at its end.
+fn without_return(line: &[u8]) -> &[u8]
+    ensures { result.now ≡ without_return line.now }
+{
+    if !line.is_empty() && line[line.len() - 1] == b'\r' {
+        return &line[..line.len() - 1];
+    }
+    line
+}
+
+impl LineStart {
+    /// The place where a stream begins.
+    pub const FIRST: LineStart = LineStart {
+        number: 1,
+        passed: 0,
+        stamped: false,
+        given: 0,
+        last: None,
+    };
+
+    /// What the line that begins here is, which a newline ends or not.
+    #[tactic(auto, unfolding(crate::specs::Judged::judged))]
+    pub fn judge(&self, line: &[u8], ended: bool) -> Judgement
+        requires { self.now.passed < 2 ^ 32 }
+        ensures { result ≡ judged self.now (record { bytes = line.now; ended = ended }) }
+    {
+        if line.len() > LONGEST {
+            return Judgement::Bad(LineCause::Long);
+        }
+        if self.passed + line.len() as u64 > LARGEST {
+            return Judgement::Bad(LineCause::Size);
+        }
+        judge_text(self, if ended { without_return(line) } else { line })
+    }
+
+    /// What is known behind this line.
+    pub fn after(&self, line: &[u8], ended: bool, judgement: &Judgement) -> LineStart
+        requires number { self.now.number < 2 ^ 32 }
+        requires passed { self.now.passed < 2 ^ 32 }
+        requires given { self.now.given < 2 ^ 32 }
+        requires size { length line.now ≤ 4224 }
+        ensures { result ≡ after self.now (record { bytes = line.now; ended = ended }) judgement.now }
+    {
+        let behind = LineStart {
+            number: self.number + 1,
+            passed: self.passed + line.len() as u64 + u64::from(ended),
+            ..*self
+        };
+        match judgement {
+            Judgement::Bad(_) | Judgement::Skipped => behind,
+            Judgement::Version => LineStart {
+                stamped: true,
+                ..behind
+            },
+            Judgement::Occurs(o) => LineStart {
+                given: self.given + 1,
+                last: Some(o.stamp),
+                ..behind
+            },
+        }
+    }
+}

@@ -1,0 +1,75 @@
+// The occurrence that a line writes, field by field.
+ghost use Rattle.std.specs.Prelude.{◌≡◌};
+ghost use Rattle.std.specs.Option.{option_map};
+ghost use Rattle.stream_reader.specs.Fields.{occurrence_on, stamp_behind, tail_on};
+
+use crate::field::{behind, decimal, hexadecimal, mode};
+use crate::line::LineStart;
+use papi_base::Occ;
+
+/// The last fields of an occurrence.
+#[derive(Clone, Copy)]
+pub(crate) struct Tail {
+    pub amount: u8,
+    pub pc: u64,
+    pub stamp: u64,
+}
+
+// The stamp, where this stands behind the program counter's space, if it has one.
+fn stamp_behind(start: &LineStart, rest: Option<&[u8]>) -> Option<u64>
+    ensures { result ≡ stamp_behind start.now.stamped start.now.given (option_map (λ text. text.now) rest.entry) }
+{
+    if !start.stamped {
+        return match rest {
+            None => Some(start.given),
+            Some(_) => None,
+        };
+    }
+    let text = rest?;
+    let stamp = decimal(text, 0, 4_294_967_294)?;
+    match behind(text, stamp.size) {
+        None => Some(stamp.value),
+        Some(_) => None,
+    }
+}
+
+// The amount, the program counter and the stamp.
+#[tactic(auto, unfolding(crate::specs::Fields::tail_on))]
+fn read_tail(start: &LineStart, text: &[u8]) -> Option<Tail>
+    ensures { result ≡ tail_on start.now.stamped start.now.given text.now }
+{
+    let amount = decimal(text, 1, 255)?;
+    let rest = behind(text, amount.size)?;
+    let pc = hexadecimal(rest, 1, 16)?;
+    let stamp = stamp_behind(start, behind(rest, pc.size))?;
+    Some(Tail {
+        amount: amount.value as u8,
+        pc: pc.value,
+        stamp,
+    })
+}
+
+/// The occurrence that a line writes, or `None` where its fields are not as many as they should be, or one is out of its form.
+#[tactic(auto, unfolding(crate::specs::Fields::occurrence_on))]
+pub(crate) fn occurrence(start: &LineStart, line: &[u8]) -> Option<Occ>
+    ensures { result ≡ occurrence_on start.now.stamped start.now.given line.now }
+{
+    let comp = decimal(line, 0, 15)?;
+    let rest = behind(line, comp.size)?;
+    let select = hexadecimal(rest, 2, 2)?;
+    let rest = behind(rest, select.size)?;
+    let umask = hexadecimal(rest, 2, 2)?;
+    let rest = behind(rest, umask.size)?;
+    let kernel = mode(rest)?;
+    let rest = behind(rest, 1)?;
+    let tail = read_tail(start, rest)?;
+    Some(Occ {
+        comp: comp.value as u8,
+        select: select.value as u8,
+        umask: umask.value as u8,
+        kernel,
+        amount: tail.amount,
+        pc: tail.pc,
+        stamp: tail.stamp,
+    })
+}

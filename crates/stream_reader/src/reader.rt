@@ -1,0 +1,329 @@
+// Readers: a piece of the source, and the lines in it.
+ghost use Rattle.std.specs.Prelude.{◌≡◌, ◌<◌, ◌≤◌, ◌+◌, ◌-◌, ◌++◌, take, drop, length, Option, Some, None, IfSome, IfNone, IfOk, OnErr, Bool, true, false, [], Result, is_some};
+ghost use Rattle.std.specs.Option.{option_map, option_map_or, option_and_then};
+ghost use Rattle.papi_base.specs.Numerals.{flag_bit};
+ghost use Rattle.papi_base.specs.Outside.{Gives, Rose, tape_after};
+ghost use Rattle.stream_reader.specs.Inside.{answer_of};
+
+use crate::line::{Judgement, LONGEST, LineStart};
+use crate::next::Next;
+use memchr::memchr;
+use papi_base::{Failed, LineCause, Source};
+use std::marker::Model;
+
+/// How many bytes are asked for at a time.
+const PIECE: usize = 4096;
+
+/// All bytes of a reader: a piece, and before it what the piece before left of a line.
+const ROOM: usize = LONGEST + PIECE;
+
+/// Gives the occurrences of a source one by one, with no memory but its own.
+///
+/// It reads only where it holds no whole line.
+#[derive(Drop)]
+pub struct StreamReader<S: Source> {
+    source: Option<S>,
+    bytes: [u8; ROOM],
+    from: usize,
+    to: usize,
+    start: LineStart,
+    over: bool,
+    asked: bool,
+}
+
+impl<S: Source> Model for StreamReader<S> {
+    ghost use Rattle.std.specs.Prelude.{◌-◌, take, drop};
+    ghost use Rattle.std.specs.Option.{option_map};
+    ghost use Rattle.stream_reader.specs.Reader.{ReaderView};
+    ghost use Rattle.stream_reader.specs.Inside.{IsReader};
+
+    ghost Value = { ReaderView };
+
+    ghost view = { λ r. record {
+      start = r.start;
+      held = take (r.to - r.from) (drop r.from r.bytes);
+      over = r.over;
+      asked = r.asked;
+      source = option_map (λ s. record { tape = S.tape s; faults = S.faults s }) r.source;
+    } };
+
+    ghost invariant = { λ r. IsReader r.from r.to r.bytes r.start };
+}
+
+// What a line with this number and judgement gives.
+fn answer_of(number: u64, judgement: &Judgement) -> Option<Next>
+    ensures { result ≡ answer_of number judgement.now }
+{
+    match judgement {
+        Judgement::Bad(cause) => Some(Next::Bad {
+            line: number,
+            cause: *cause,
+        }),
+        Judgement::Occurs(o) => Some(Next::Occ(*o)),
+        Judgement::Skipped | Judgement::Version => None,
+    }
+}
+
+// Asks the source for a piece. A reader with no source is at the end of it.
+fn read_piece<S: Source>(source: &mut Option<S>, piece: &mut [u8]) -> Result<usize, Failed>
+    ensures bound { IfOk result (λ n. n ≤ length piece.new) }
+    ensures tape { option_and_then S.tape source.new ≡ tape_after result (option_and_then S.tape source.old) }
+    ensures gives { IfSome (option_and_then S.tape source.old) (λ tape. Gives tape result piece.new) }
+    ensures kept { is_some source.new ≡ is_some source.old }
+    ensures falls_never { option_map_or S.faults source.old 0 ≤ option_map_or S.faults source.new 0 }
+    ensures failed { OnErr result (Rose (option_map_or S.faults source.old 0) (option_map_or S.faults source.new 0)) }
+{
+    match source {
+        Some(source) => source.read(piece),
+        None => Ok(0),
+    }
+}
+
+// Moves these bytes before the place of a piece.
+fn move_rest(bytes: &mut [u8; ROOM], from: usize, to: usize)
+    requires in_order { from ≤ to }
+    requires within { to ≤ 4224 }
+    requires short { to - from ≤ 128 }
+    ensures { take 128 bytes.new ≡ take (128 - (to - from)) bytes.old ++ take (to - from) (drop from bytes.old) }
+{
+    bytes.copy_within(from..to, LONGEST - (to - from));
+}
+
+// Puts a piece behind the place of a line.
+fn fill<S: Source>(source: &mut Option<S>, bytes: &mut [u8; ROOM]) -> Result<usize, Failed>
+    ensures room { length bytes.new ≡ 4224 }
+    ensures front { take 128 bytes.new ≡ take 128 bytes.old }
+    ensures bound { IfOk result (λ n. n ≤ 4096) }
+    ensures tape { option_and_then S.tape source.new ≡ tape_after result (option_and_then S.tape source.old) }
+    ensures gives { IfSome (option_and_then S.tape source.old) (λ tape. Gives tape result (drop 128 bytes.new)) }
+    ensures kept { is_some source.new ≡ is_some source.old }
+    ensures falls_never { option_map_or S.faults source.old 0 ≤ option_map_or S.faults source.new 0 }
+    ensures failed { OnErr result (Rose (option_map_or S.faults source.old 0) (option_map_or S.faults source.new 0)) }
+{
+    read_piece(source, &mut bytes[LONGEST..])
+}
+
+impl<S: Source> StreamReader<S> {
+    ghost use Rattle.papi_base.specs.declared.outside.Ending.TheVariants.{End};
+    ghost use Rattle.stream_reader.specs.Lines.{IsOneLine};
+    ghost use Rattle.stream_reader.specs.Judged.{judged};
+    ghost use Rattle.stream_reader.specs.Occurs.{occurs_of};
+    ghost use Rattle.stream_reader.specs.Reader.{ReaderView, Gave, IsWithin, NextGives, Takes, coming, faults_of, has_answer, is_last, new_view, nothing, tape_of};
+    ghost use Rattle.stream_reader.specs.Inside.{FindsNewline, Passes, Refills, answer_of, left_of, line_at, line_taken};
+
+    /// A reader of a stream from its first line on.
+    pub fn new(source: S) -> StreamReader<S>
+        ensures view { result ≡ new_view (Some (record { tape = S.tape source; faults = S.faults source })) false }
+        ensures coming { coming result ≡ option_map (λ tape. occurs_of tape.ending tape.bytes) (S.tape source) }
+    {
+        StreamReader::with(Some(source), false)
+    }
+
+    /// A reader of a stream with no line.
+    pub fn ended() -> StreamReader<S>
+        ensures view { result ≡ new_view None true }
+        ensures coming { coming result ≡ Some nothing }
+    {
+        StreamReader::with(None, true)
+    }
+
+    fn with(source: Option<S>, over: bool) -> StreamReader<S>
+        ensures { result ≡ new_view (option_map (λ s. record { tape = S.tape s; faults = S.faults s }) source) over }
+    {
+        StreamReader {
+            source,
+            bytes: [0; ROOM],
+            from: LONGEST,
+            to: LONGEST,
+            start: LineStart::FIRST,
+            over,
+            asked: false,
+        }
+    }
+
+    /// The source as the reader left it, or `None` from a reader made by `ended`.
+    pub fn into_source(self) -> Option<S>
+        ensures { option_map (λ s. record { tape = S.tape s; faults = S.faults s }) result ≡ self.source }
+    {
+        self.source
+    }
+
+    // Takes the front of the bytes held as a line.
+    fn take_line(&mut self, size: usize, ended: bool) -> Option<Next>
+        requires over { self.old.over ≡ false }
+        requires within { size + flag_bit ended ≤ length self.old.held }
+        requires some { 0 < size + flag_bit ended }
+        ensures answer { result ≡ answer_of self.old.start.number (judged self.old.start (line_at self.old size ended)) }
+        ensures after { self.new ≡ line_taken self.old size ended (judged self.old.start (line_at self.old size ended)) }
+        ensures counts { Gave self.old.start result self.new.start }
+        ensures nearer { IfNone result (left_of self.new < left_of self.old) }
+        ensures within { IsWithin self.new }
+    {
+        let start = self.start;
+        let line = &self.bytes[self.from..self.from + size];
+        let judgement = start.judge(line, ended);
+        let behind = start.after(line, ended, &judgement);
+        if judgement.is_bad() {
+            self.over = true;
+            return answer_of(start.number, &judgement);
+        }
+        self.start = behind;
+        self.from += size + usize::from(ended);
+        answer_of(start.number, &judgement)
+    }
+
+    // Asks for a piece behind the bytes held.
+    fn refill(&mut self) -> Result<usize, Failed>
+        requires { length self.old.held ≤ 128 }
+        ensures refills { Refills self.old result self.new }
+        ensures kept { is_some self.new.source ≡ is_some self.old.source }
+        ensures within { IsWithin self.new }
+        ensures faults { faults_of self.old ≤ faults_of self.new }
+        ensures failed { OnErr result (Rose (faults_of self.old) (faults_of self.new)) }
+        ensures nearer { IfOk result (λ n. 0 < n → left_of self.new < left_of self.old) }
+    {
+        move_rest(&mut self.bytes, self.from, self.to);
+        self.from = LONGEST - (self.to - self.from);
+        self.to = LONGEST;
+        match fill(&mut self.source, &mut self.bytes) {
+            Ok(size) => {
+                self.to += size;
+                Ok(size)
+            }
+            Err(failed) => Err(failed),
+        }
+    }
+
+    // How many bytes are held.
+    fn held_len(&self) -> usize
+        ensures { result ≡ length self.now.held }
+    {
+        self.to - self.from
+    }
+
+    // The length of the next line, where it is whole.
+    fn line_len(&self) -> Option<usize>
+        ensures { FindsNewline self.now.held result }
+    {
+        memchr(b'\n', &self.bytes[self.from..self.to])
+    }
+
+    // Gives nothing from now on.
+    fn give_up(&mut self)
+        ensures over { self.new ≡ record self.old { over = true } }
+        ensures within { IsWithin self.new }
+    {
+        self.over = true;
+    }
+
+    // The last line, where the source has ended.
+    fn take_last(&mut self) -> Next
+        requires over { self.old.over ≡ false }
+        requires line { IsOneLine self.old.held }
+        requires ended { IfSome (tape_of self.old) (λ tape. (tape.bytes ≡ []) × (tape.ending ≡ End)) }
+        ensures takes { Takes self.old result self.new }
+        ensures counts { Gave self.old.start (Some result) self.new.start }
+        ensures over { self.new.over ≡ true }
+        ensures source { self.new.source ≡ self.old.source }
+        ensures asked { self.new.asked ≡ self.old.asked }
+        ensures within { IsWithin self.new }
+        ensures sound { result ≡ Next.ReadFault → ⊥ }
+    {
+        let size = self.held_len();
+        if size == 0 {
+            self.give_up();
+            return Next::End;
+        }
+        let answer = self.take_line(size, false);
+        self.give_up();
+        answer.unwrap_or(Next::End)
+    }
+
+    // The next piece, or what stands where the source ended or failed.
+    fn take_piece(&mut self) -> Option<Next>
+        requires over { self.old.over ≡ false }
+        requires short { length self.old.held ≤ 128 }
+        requires line { IsOneLine self.old.held }
+        ensures takes { IfSome result (λ next. Takes self.old next self.new) }
+        ensures passes { IfNone result (Passes self.old self.new) }
+        ensures counts { Gave self.old.start result self.new.start }
+        ensures over { IfNone result (self.new.over ≡ false) }
+        ensures last { IfSome result (λ _. self.new.over ≡ true) }
+        ensures asked { self.new.asked ≡ self.old.asked }
+        ensures kept { is_some self.new.source ≡ is_some self.old.source }
+        ensures within { IsWithin self.new }
+        ensures faults { faults_of self.old ≤ faults_of self.new }
+        ensures failed { result ≡ Some Next.ReadFault → Rose (faults_of self.old) (faults_of self.new) }
+        ensures nearer { IfNone result (left_of self.new < left_of self.old) }
+    {
+        match self.refill() {
+            Ok(0) => Some(self.take_last()),
+            Ok(_) => None,
+            Err(Failed) => {
+                self.give_up();
+                Some(Next::ReadFault)
+            }
+        }
+    }
+
+    // One turn: the next line where it is whole, else the next piece.
+    fn turn(&mut self) -> Option<Next>
+        requires { self.old.over ≡ false }
+        ensures takes { IfSome result (λ next. Takes self.old next self.new) }
+        ensures passes { IfNone result (Passes self.old self.new) }
+        ensures counts { Gave self.old.start result self.new.start }
+        ensures over { IfNone result (self.new.over ≡ false) }
+        ensures last { IfSome result (λ next. is_last next ≡ true → self.new.over ≡ true) }
+        ensures asked { self.new.asked ≡ self.old.asked }
+        ensures kept { is_some self.new.source ≡ is_some self.old.source }
+        ensures within { IsWithin self.new }
+        ensures faults { faults_of self.old ≤ faults_of self.new }
+        ensures failed { result ≡ Some Next.ReadFault → Rose (faults_of self.old) (faults_of self.new) }
+        ensures at_hand { has_answer self.old ≡ true → (self.new.source ≡ self.old.source) × IfNone result (has_answer self.new ≡ true) }
+        ensures nearer { IfNone result (left_of self.new < left_of self.old) }
+    {
+        if let Some(size) = self.line_len() {
+            return self.take_line(size, true);
+        }
+        if self.held_len() > LONGEST {
+            let line = self.start.number;
+            self.give_up();
+            return Some(Next::Bad {
+                line,
+                cause: LineCause::Long,
+            });
+        }
+        self.take_piece()
+    }
+
+    /// The next occurrence, or why there is none.
+    pub fn next(&mut self) -> Next
+        ensures told { NextGives (coming self.old) result (coming self.new) }
+
+        // Told or not, the answer is what the bytes held and those taken in this call say.
+        ensures takes { Takes self.old result self.new }
+        ensures counts { Gave self.old.start (Some result) self.new.start }
+        ensures within { IsWithin self.new }
+
+        // It answers `End` for ever behind `End`, a bad line or a fault.
+        ensures over { is_last result ≡ true → self.new.over ≡ true }
+        ensures ended { self.old.over ≡ true → (result ≡ Next.End) × (self.new ≡ record self.old { asked = true }) }
+
+        // It takes nothing where a whole line is at hand that is not skipped.
+        ensures at_hand { has_answer self.old ≡ true → self.new.source ≡ self.old.source }
+        ensures kept { is_some self.new.source ≡ is_some self.old.source }
+        ensures faults { faults_of self.old ≤ faults_of self.new }
+        ensures failed { result ≡ Next.ReadFault → Rose (faults_of self.old) (faults_of self.new) }
+        ensures asked { self.new.asked ≡ true }
+    {
+        self.asked = true;
+        if self.over {
+            return Next::End;
+        }
+        loop {
+            if let Some(next) = self.turn() {
+                return next;
+            }
+        }
+    }
+}
