@@ -76,6 +76,13 @@ impl Core {
         })
     }
 
+    /// The thread's number.
+    pub fn thread(&self) -> u32
+        ensures { result ≡ self.now.thread }
+    {
+        self.thread
+    }
+
     /// Consumes one occurrence, and gives the events whose thresholds it passes.
     pub fn take(&mut self, o: &Occ) -> Taken
         requires few { self.old.taken < 5200000 }
