@@ -1,6 +1,7 @@
 -- The script of some bytes, line by line.
 use Rattle.std.proofs.Common.{◌≡◌, ◌∙◌, ◌<◌, ◌≤◌, ◌+◌, ◌∷◌, ◌++◌, ℕ, true, false, List, [], length, refl, sym, ap, arith, append_assoc, length-append}
 use Rattle.std.proofs.lemmas.List.{append-nil}
+use Rattle.std.proofs.lemmas.List.Elements.{All-nil, All-push}
 use Rattle.std.specs.Prelude.{Result, Ok, Err}
 use Rattle.std.specs.Str.Lines.{lines}
 use Rattle.table_rows.specs.Texts.{Text}
@@ -10,6 +11,7 @@ use Rattle.script_lines.specs.declared.fault.LineFault.{LineFault}
 use Rattle.script_lines.specs.declared.fault.LineFault.TheVariants.{Cause, Memory}
 use Rattle.script_lines.specs.Answers.{Answers}
 use Rattle.script_lines.specs.Causes.{fault_at}
+use Rattle.script_lines.specs.Kept.{IsScript}
 use Rattle.script_lines.specs.Lines.{call_line, is_skipped}
 use Rattle.script_lines.specs.Scripts.{ReadsScript, Refused, behind, onto, script_from, script_of}
 
@@ -17,7 +19,7 @@ use Rattle.script_lines.specs.Scripts.{ReadsScript, Refused, behind, onto, scrip
 pub record Reads (bytes rest : List ℕ) (number : ℕ) (calls : List ScriptLine) : Type 0 where
   pub same : script_of bytes ≡ behind calls (script_from (number + 1) (length calls) (lines rest))
   pub small : number + length rest ≤ length bytes
-  pub few : length calls ≤ 100000
+  pub kept : IsScript calls
 
 behind-nothing : (r : Result (List ScriptLine) Refused) → r ≡ behind [] r
 behind-nothing (Ok below) = refl
@@ -29,7 +31,7 @@ behind-behind above more (Err refused) = refl
 
 pub reads-start : (bytes : List ℕ) → Reads bytes bytes 0 []
 unfolding script_of
-reads-start bytes = record { same = behind-nothing (script_from 1 0 (lines bytes)); small = omega arith; few = omega arith }
+reads-start bytes = record { same = behind-nothing (script_from 1 0 (lines bytes)); small = omega arith; kept = record { few = omega arith; threads = All-nil (λ l. l.thread < 64) } }
 
 skipped : (number above : ℕ) (line : Text) (rest : List Text) → is_skipped line ≡ true → script_from number above (line ∷ rest) ≡ script_from (number + 1) above rest
 unfolding script_from
@@ -45,11 +47,12 @@ pub reads-skipped : (bytes rest rest' line : List ℕ) (number : ℕ) (calls : L
 reads-skipped bytes rest rest' line number calls cut less s r = record {
   same = r.same ∙ ap (λ (ls : List Text). behind calls (script_from (number + 1) (length calls) ls)) cut ∙ ap (behind calls) (skipped (number + 1) (length calls) line (lines rest') s);
   small = omega (arith, r.small);
-  few = r.few;
+  kept = r.kept;
 }
 
 pub reads-call : (bytes rest rest' line : List ℕ) (number : ℕ) (calls : List ScriptLine) (call : ScriptLine) → lines rest ≡ line ∷ lines rest' → length rest' < length rest → is_skipped line ≡ false
-    → call_line (number + 1) (length calls) line ≡ Ok call → length calls < 100000 → Reads bytes rest number calls → Reads bytes rest' (number + 1) (calls ++ call ∷ [])
+    → call_line (number + 1) (length calls) line ≡ Ok call → (length calls < 100000) × (call.thread < 64) → Reads bytes rest number calls
+    → Reads bytes rest' (number + 1) (calls ++ call ∷ [])
 reads-call bytes rest rest' line number calls call cut less s is more r =
     let below = script_from (number + 1 + 1) (length calls + 1) (lines rest') in
     let one : length (calls ++ call ∷ []) ≡ length calls + 1 = length-append calls (call ∷ []) in record {
@@ -58,7 +61,7 @@ reads-call bytes rest rest' line number calls call cut less s is more r =
           ∙ behind-behind calls (call ∷ []) below
           ∙ ap (λ (n : ℕ). behind (calls ++ call ∷ []) (script_from (number + 1 + 1) n (lines rest'))) (sym one);
       small = omega (arith, r.small);
-      few = omega (arith, one);
+      kept = record { few = omega (arith, one, more.0); threads = All-push (λ l. l.thread < 64) calls call r.kept.threads more.1 };
     }
 
 pub reads-refused : (bytes rest rest' line : List ℕ) (number : ℕ) (calls : List ScriptLine) (cause : ScriptCause) → lines rest ≡ line ∷ lines rest' → is_skipped line ≡ false

@@ -2,6 +2,7 @@ pub mod Answers
 pub mod Arguments
 pub mod Calls
 pub mod Causes
+pub mod Kept
 pub mod Lines
 pub mod Rows
 pub mod Scripts

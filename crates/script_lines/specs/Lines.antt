@@ -43,6 +43,6 @@ line_of_words number (thread ∷ words) = and_then (thread_in thread) (λ thread
 unfoldable pub call_line : ℕ → ℕ → Text → Result ScriptLine ScriptCause
 call_line number above line = if nat_le most_calls above then Err OverLimit else line_of_words number (words_of line)
 
--- a line was read where fewer than the most stand above it
+-- a line was read where fewer than the most stand above it, and its thread is one of 64
 abbrev pub IsAllowed : ℕ → Result ScriptLine LineFault → Type 0
-IsAllowed above read = IfOk read (λ line. above < most_calls)
+IsAllowed above read = IfOk read (λ line. (above < most_calls) × (line.thread < 64))

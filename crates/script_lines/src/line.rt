@@ -1,6 +1,6 @@
 //! One line of a script.
 
-ghost use Rattle.std.specs.Prelude.{◌≡◌, ◌==◌, ◌≤◌, ◌<◌, ◌∷◌, length, position, map, option_map, Some, None, if◌then◌else◌};
+ghost use Rattle.std.specs.Prelude.{IfOk, ◌≡◌, ◌==◌, ◌≤◌, ◌<◌, ◌∷◌, length, position, map, option_map, Some, None, if◌then◌else◌};
 ghost use Rattle.std.specs.Str.Lines.{lines, strip_carriage_return};
 ghost use Rattle.script_lines.specs.Answers.{Answers};
 ghost use Rattle.script_lines.specs.Lines as Lines;
@@ -58,7 +58,8 @@ pub(crate) fn is_skipped(line: &[u8]) -> bool
 
 // The thread that a word names.
 fn thread_in(word: &[u8]) -> Result<u32, ScriptCause>
-    ensures { result ≡ Lines.thread_in word.now }
+    ensures thread { result ≡ Lines.thread_in word.now }
+    ensures below { IfOk result (λ thread. thread < 64) }
 {
     match decimal_in(0, THREADS - 1, word) {
         Some(thread) => Ok(thread as u32),
@@ -114,7 +115,8 @@ fn call_of(alloc: Global, word: &[u8], arguments: &[&[u8]]) -> Result<ScriptCall
 
 // The call line of some words.
 fn line_of_words(alloc: Global, number: u64, words: &[&[u8]]) -> Result<ScriptLine, LineFault>
-    ensures { Answers result (Lines.line_of_words number (map (λ w. w.now) words.now)) }
+    ensures line { Answers result (Lines.line_of_words number (map (λ w. w.now) words.now)) }
+    ensures thread { IfOk result (λ line. line.thread < 64) }
 {
     let [thread, words @ ..] = words else {
         return Err(LineFault::Cause(ScriptCause::BadThread));

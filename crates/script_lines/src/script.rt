@@ -1,6 +1,7 @@
 //! A whole script.
 
-ghost use Rattle.std.specs.Prelude.{◌≡◌, ◌≤◌, length};
+ghost use Rattle.std.specs.Prelude.{◌≡◌};
+ghost use Rattle.script_lines.specs.Kept.{IsScript};
 ghost use Rattle.script_lines.specs.Scripts.{ReadsScript};
 
 use crate::call::ScriptCall;
@@ -17,28 +18,29 @@ pub struct ScriptLine {
     pub call: ScriptCall,
 }
 
-/// The call lines of a script in order, which contracts see as their list; there are at most 100,000.
+/// The call lines of a script in order, which contracts see as their list. There are at most 100,000, each of a thread below 64.
 #[derive(Drop)]
 pub struct Script {
     lines: Vec<ScriptLine>,
 }
 
 impl Model for Script {
-    ghost use Rattle.std.specs.Prelude.{List, ◌≤◌, length};
+    ghost use Rattle.std.specs.Prelude.{List};
     ghost use Rattle.script_lines.specs.declared.script.ScriptLine.{ScriptLine};
+    ghost use Rattle.script_lines.specs.Kept.{IsScript};
 
     ghost Value = { List ScriptLine };
 
     ghost view = { λ s. s.lines.items };
 
-    ghost invariant = { λ s. length s.lines.items ≤ 100000 };
+    ghost invariant = { λ s. IsScript s.lines.items };
 }
 
 impl Script {
-    /// The call lines, of which there are at most 100,000.
+    /// The call lines.
     pub fn lines(&self) -> &[ScriptLine]
         ensures lines { result.now ≡ self.now }
-        ensures few { length self.now ≤ 100000 }
+        ensures kept { IsScript self.now }
     {
         self.lines.as_slice()
     }

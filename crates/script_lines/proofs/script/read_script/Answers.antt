@@ -7,12 +7,12 @@ loop-rest-init c = subst (Reads c.args.bytes.now c.args.bytes.now 0) (sym c.new-
 
 pub loop-rest-preserved-in-Continue-1 : goal.loop-rest-preserved-in-Continue-1
 loop-rest-preserved-in-Continue-1 c =
-    let few : length c.loop-rest.lines.items < 100000 = omega (arith, c.len.ensures, c.in-Ok.ensures.few) in
+    let few : length c.loop-rest.lines.items < 100000 = omega (arith, c.len.ensures, c.in-Ok.ensures.few.0) in
     let above : c.len.result ≡ length c.loop-rest.lines.items = omega (arith, c.len.ensures) in
     let call = rw above at c.in-Ok.ensures.call in
     subst (Reads c.args.bytes.now c.cut_line.result.1.now (c.loop-rest.number + 1)) (sym c.in_ok-push-in-Ok.ensures.items)
     (reads-call c.args.bytes.now c.loop-rest.rest.now c.cut_line.result.1.now c.cut_line.result.0.now c.loop-rest.number c.loop-rest.lines.items c.in-Ok.line
-    c.cut_line.ensures.line c.cut_line.ensures.shorter (sym c.is_skipped.ensures ∙ c.if-not-is_skipped.true) call few c.loop-rest.invariant)
+    c.cut_line.ensures.line c.cut_line.ensures.shorter (sym c.is_skipped.ensures ∙ c.if-not-is_skipped.true) call (few, c.in-Ok.ensures.few.1) c.loop-rest.invariant)
 
 pub loop-rest-preserved : goal.loop-rest-preserved
 loop-rest-preserved c =
