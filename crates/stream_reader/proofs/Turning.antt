@@ -241,3 +241,19 @@ pub whole-hand : (v later : ReaderView) (n : ℕ) (answer : Option Next) → v.o
     → later ≡ line_taken v n true (judged v.start (line_at v n true)) → has_answer v ≡ true → (later.source ≡ v.source) × IfNone answer (has_answer later ≡ true)
 whole-hand v later n None on w a l has = (ap (λ (r : ReaderView). r.source) l ∙ source-stays v n true (judged v.start (line_at v n true)), subst (λ (r : ReaderView). has_answer r ≡ true) (sym l) (answer-line v n on w.one w.is (sym a) has))
 whole-hand v later n (Some answer) on w a l has = (ap (λ (r : ReaderView). r.source) l ∙ source-stays v n true (judged v.start (line_at v n true)), tt)
+
+-- what the taking of a last line says
+pub end-takes-line : (v later : ReaderView) (size : ℕ) (given : Option Next) (answer : Next) → v.over ≡ false → IsOneLine v.held → 0 < size → IfSome (tape_of v) (λ (t : Tape). (t.bytes ≡ []) × (t.ending ≡ ending.End))
+    → size ≡ length v.held → given ≡ answer_of v.start.number (judged v.start (line_at v size false)) → later ≡ line_taken v size false (judged v.start (line_at v size false))
+    → answer ≡ unwrap_or given next.End → Takes v answer (record later { over = true })
+end-takes-line v later size given answer on one some told long g l a =
+    let some_held : 0 < length v.held = subst (λ (n : ℕ). 0 < n) long some in
+    let given_is : given ≡ answer_of v.start.number (judged v.start (line_at v (length v.held) false)) = subst (λ (n : ℕ). given ≡ answer_of v.start.number (judged v.start (line_at v n false))) long g in
+    let later_is : later ≡ line_taken v (length v.held) false (judged v.start (line_at v (length v.held) false)) = subst (λ (n : ℕ). later ≡ line_taken v n false (judged v.start (line_at v n false))) long l in
+    let answer_is : answer ≡ last_answer v.start.number (judged v.start (line_at v (length v.held) false)) = subst (λ (o : Option Next). answer ≡ unwrap_or o next.End) given_is a in
+    subst (λ (n : Next). Takes v n (record later { over = true })) (sym answer_is) (last-takes v later on one some_held told later_is)
+
+pub end-sound : (v : ReaderView) (size : ℕ) (given : Option Next) (answer : Next) → given ≡ answer_of v.start.number (judged v.start (line_at v size false)) → answer ≡ unwrap_or given next.End → answer ≡ next.ReadFault → ⊥
+end-sound v size given answer g a fails =
+    let answer_is : answer ≡ last_answer v.start.number (judged v.start (line_at v size false)) = subst (λ (o : Option Next). answer ≡ unwrap_or o next.End) g a in
+    last-sound v.start.number (judged v.start (line_at v size false)) (subst (λ (n : Next). n ≡ next.ReadFault) answer_is fails)

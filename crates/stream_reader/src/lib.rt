@@ -6,6 +6,8 @@ mod line;
 mod next;
 mod occurrence;
 mod reader;
+#[cfg(test)]
+mod tests;
 
 pub use line::{Judgement, LineStart};
 pub use next::Next;
