@@ -1,0 +1,122 @@
+-- A canonical name names its native.
+use Rattle.std.proofs.Common.{◌≡◌, ◌∙◌, ◌+◌, ◌<◌, ◌≤◌, ◌∷◌, ◌++◌, ℕ, Bool, true, false, List, [], Option, Some, None, Ok, length, slice_get, refl, sym, ap, ap₂, subst, arith, codes, decimal, nat_lt, tests}
+use Rattle.std.specs.List.{AllByRecursion}
+use Rattle.std.proofs.lemmas.List.{map-append}
+use Rattle.event_tables.specs.Kept.{IsEvent, IsMask, IsTables, NoRepeats}
+use Rattle.event_tables.specs.Tables.{ComponentText, MaskText}
+use Rattle.table_rows.specs.Texts.{Text}
+use Rattle.table_rows.proofs.Texts.{Digits, all-append, all-map, decimal-digits}
+use Rattle.std.specs.Str.{str_eq_ignore_ascii_case}
+use Rattle.papi_base.specs.declared.native.Mods.{Mods}
+use Rattle.papi_base.specs.declared.native.Native.{Native}
+use Rattle.name_encoder.specs.declared.fault.NameFault.{NameFault}
+use Rattle.name_encoder.specs.Split.{Split, attribute_of, split}
+use Rattle.name_encoder.specs.Names.{Found, Said, chosen, fault_from, found_from, mods_of, named_event, named_found, named_from, names, native_of, native_or, said_of, saids_of}
+use Rattle.name_encoder.specs.Canonical.{ReadsBack, canonical}
+use Rattle.name_encoder.proofs.Bounds.{cmask-bound}
+use Rattle.name_encoder.proofs.Chosen.{Choice, choice-of, mods-own, named-own}
+use Rattle.name_encoder.proofs.Faultless.{Lower, masks-faultless, mods-faultless}
+use Rattle.name_encoder.proofs.Finds.{component-found, found-again, found-kept}
+use Rattle.name_encoder.proofs.Saids.{chosen_words, mask_saids, masks-words, mod_saids, mod_words, mods-said, mods-words, word_if, words-said}
+use Rattle.name_encoder.proofs.Splits.{InWord, IsWord, name-word, split-name, tail-append, tail_text}
+
+-- ---- the canonical text and its parts
+
+abbrev own_words : Found → List Bool → Mods → List Text
+own_words f flags mods = chosen_words flags f.event.masks ++ mod_words mods
+
+own-text : (tables : List ComponentText) (f : Found) (flags : List Bool) (mods : Mods) → slice_get tables f.comp ≡ Some f.component → slice_get f.component.events f.row ≡ Some f.event
+    → canonical tables (native_of f flags mods) ≡ f.component.pmu ++ (58 ∷ 58 ∷ (f.event.name ++ tail_text (own_words f flags mods)))
+unfolding canonical
+own-text tables f flags mods c e =
+    rw (c, e) (ap (λ (t : Text). f.component.pmu ++ (58 ∷ 58 ∷ (f.event.name ++ t)))
+    (ap₂ (λ (x y : Text). x ++ y) (masks-words flags f.event.masks) (mods-words mods) ∙ sym (tail-append (chosen_words flags f.event.masks) (mod_words mods))))
+
+words-plain : (flags : List Bool) (masks : List MaskText) → AllByRecursion IsMask masks → AllByRecursion IsWord (chosen_words flags masks)
+unfolding chosen_words
+words-plain [] masks h = tt
+words-plain (b ∷ flags) [] h = tt
+words-plain (true ∷ flags) (m ∷ masks) h = (name-word m.name h.0.named, words-plain flags masks h.1)
+words-plain (false ∷ flags) (m ∷ masks) h = words-plain flags masks h.1
+
+digits-word : (t : Text) → Digits t → AllByRecursion InWord t
+digits-word t h = all-map (λ b. (48 ≤ b) × (b ≤ 57)) InWord t (λ b r. (grind (arith, tests, r), grind (arith, tests, r))) h
+
+count-word : (n : ℕ) → n < 256 → IsWord (99 ∷ 61 ∷ decimal n)
+count-word n lt = ((refl, refl), ((refl, refl), digits-word (decimal n) (decimal-digits n (omega (arith, lt)))))
+
+word-plain : (b : Bool) (w : Text) → IsWord w → AllByRecursion IsWord (word_if b w)
+word-plain true w h = (h, tt)
+word-plain false w h = tt
+
+mods-plain : (m : Mods) → m.cmask < 256 → AllByRecursion IsWord (mod_words m)
+mods-plain m lt =
+    all-append IsWord _ _ (word-plain m.user (codes "u") ((refl, refl), tt))
+    (all-append IsWord _ _ (word-plain m.kernel (codes "k") ((refl, refl), tt))
+    (all-append IsWord _ _ (word-plain m.edge (codes "e") ((refl, refl), tt))
+    (all-append IsWord _ _ (word-plain m.invert (codes "i") ((refl, refl), tt))
+    (word-plain (nat_lt 0 m.cmask) (99 ∷ 61 ∷ decimal m.cmask) (count-word m.cmask lt)))))
+
+-- ---- what the attributes of the canonical name are judged as
+
+own-saids : (masks : List MaskText) (flags : List Bool) (mods : Mods) → AllByRecursion IsMask masks → NoRepeats (λ (a b : MaskText). str_eq_ignore_ascii_case a.name b.name) masks → length flags ≡ length masks
+    → saids_of masks (chosen_words flags masks ++ mod_words mods) ≡ mask_saids 0 flags ++ mod_saids mods
+own-saids masks flags mods h d n =
+    map-append (λ (a : Text). said_of masks (attribute_of a)) (chosen_words flags masks) (mod_words mods)
+    ∙ ap₂ (λ (x y : List Said). x ++ y) (words-said masks [] masks flags refl d h n) (mods-said masks mods h)
+
+masks-lower : (k : ℕ) (flags : List Bool) → AllByRecursion (Lower 0) (mask_saids k flags)
+unfolding mask_saids
+masks-lower k [] = tt
+masks-lower k (true ∷ flags) = (tt, masks-lower (k + 1) flags)
+masks-lower k (false ∷ flags) = masks-lower (k + 1) flags
+
+own-faultless : (masks : List MaskText) (flags : List Bool) (mods : Mods) → mods.cmask < 256 → Choice masks flags → fault_from masks [] (mask_saids 0 flags ++ mod_saids mods) ≡ None
+own-faultless masks flags mods lt c =
+    masks-faultless masks c.F [] 0 flags (mod_saids mods) c.pairs tt c.all ∙ mods-faultless masks (mask_saids 0 flags) mods lt (masks-lower 0 flags)
+
+own-event : (counters : ℕ) (f : Found) (flags : List Bool) (mods : Mods) → mods.cmask < 256 → IsEvent counters f.event → Choice f.event.masks flags
+    → named_event f (saids_of f.event.masks (own_words f flags mods)) ≡ Ok (native_of f flags mods)
+own-event counters f flags mods lt e c =
+    let masks = f.event.masks in
+    rw (own-saids masks flags mods e.each e.distinct c.len) (rw (own-faultless masks flags mods lt c, named-own flags mods masks c.len, c.again) (ap (λ (m : Mods). Ok (native_of f flags m)) (mods-own flags mods lt)))
+
+-- the canonical name of what an event and a choice of umasks and modifiers give
+own-back : (tables : List ComponentText) (s : Split) (f : Found) (flags : List Bool) (mods : Mods) → IsTables tables → found_from s 0 tables ≡ Some f → mods.cmask < 256 → Choice f.event.masks flags
+    → ReadsBack tables (native_of f flags mods)
+unfolding names
+own-back tables s f flags mods t found lt c =
+    let kept = found-kept s 0 tables f found t.each in
+    let places = component-found s 0 tables f found in
+    let comp_at : slice_get tables f.comp ≡ Some f.component = subst (λ (n : ℕ). slice_get tables n ≡ Some f.component) (sym (places.comp_is ∙ omega arith)) places.component_at in
+    let ws = own_words f flags mods in
+    let plain = all-append IsWord (chosen_words flags f.event.masks) (mod_words mods) (words-plain flags f.event.masks kept.1.each) (mods-plain mods lt) in
+    let parts = split-name f.component.pmu f.event.name ws (word-all f.component.pmu (name-word f.component.pmu kept.0.pmu_named)) (name-word f.event.name kept.1.named) plain in
+    let again = found-again s ws 0 tables f found t.each t.pmus_distinct in
+    rw (own-text tables f flags mods comp_at places.event_at, parts, again) (own-event (length f.component.counters) f flags mods lt kept.1 c)
+  where
+    word-all : (w : Text) → IsWord w → AllByRecursion InWord w
+    word-all [] h = absurd h
+    word-all (b ∷ w) h = h
+
+-- a canonical name names its native, for each native that some text names
+pub names-back : (tables : List ComponentText) (text : Text) (n : Native) → IsTables tables → names tables text ≡ Ok n → ReadsBack tables n
+unfolding names
+names-back tables text n t e = go (found_from (split text) 0 tables) refl e
+  where
+    go : (o : Option Found) → found_from (split text) 0 tables ≡ o → named_found (split text) o ≡ Ok n → ReadsBack tables n
+    go None found q = cc q
+    go (Some f) found q = judge (fault_from f.event.masks [] said) (chosen f.event.masks (named_from said 0 f.event.masks)) refl refl q
+      where
+        said : List Said
+        said = saids_of f.event.masks (split text).attributes
+
+        judge : (a : Option NameFault) (b : Option (List Bool)) → fault_from f.event.masks [] said ≡ a → chosen f.event.masks (named_from said 0 f.event.masks) ≡ b
+            → native_or f (mods_of said) a b ≡ Ok n → ReadsBack tables n
+        judge (Some x) b p r h = cc h
+        judge None None p r h = cc h
+        judge None (Some flags) p r h =
+            let is : native_of f flags (mods_of said) ≡ n = cc h in
+            let event = (found-kept (split text) 0 tables f found t.each).1 in
+            let choice = choice-of f.event.masks said flags event.one_default p r in
+            subst (ReadsBack tables) is (own-back tables (split text) f flags (mods_of said) t found (cmask-bound said) choice)

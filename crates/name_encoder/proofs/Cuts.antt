@@ -1,0 +1,76 @@
+-- A text that is cut at a mark.
+use Rattle.std.proofs.Common.{◌≡◌, ◌∙◌, ◌+◌, ◌<◌, ◌≤◌, ◌∷◌, ◌++◌, ℕ, List, [], Option, Some, None, Bool, true, false, length, get_or, drop, take, refl, sym, ap, nat_eq, option_map, append_assoc, append-nil}
+use Rattle.std.proofs.lemmas.List.{drop_more, drop_all, take_more}
+use Rattle.std.specs.Prelude.{◌==◌, ◌&&◌, if◌then◌else◌}
+use Rattle.std.proofs.lemmas.Bool.{eq-eqb, eqb-true, ne_eqb}
+use Rattle.std.specs.List.{onto_first, slice_split, starts_with}
+use Rattle.table_rows.specs.Texts.{Text}
+use Rattle.name_encoder.specs.Split.{cut_at}
+
+-- the parts of a text behind a front
+abbrev pub behind : Text → Option (Text × Text) → Option (Text × Text)
+behind front o = option_map (λ p. (front ++ p.0, p.1)) o
+
+behind-byte : (front : Text) (b : ℕ) (o : Option (Text × Text)) → behind front (option_map (λ p. (b ∷ p.0, p.1)) o) ≡ behind (front ++ b ∷ []) o
+behind-byte front b None = refl
+behind-byte front b (Some p) = ap (λ (t : Text). Some (t, p.1)) (sym (append_assoc front (b ∷ []) p.0))
+
+pub behind-none : (o : Option (Text × Text)) → behind [] o ≡ o
+behind-none None = refl
+behind-none (Some p) = refl
+
+pub cut-here : (mark text : Text) (i : ℕ) → i < length text → starts_with nat_eq (drop i text) mark ≡ true
+    → behind (take i text) (cut_at mark (drop i text)) ≡ Some (take i text, drop (length mark) (drop i text))
+unfolding cut_at
+cut-here mark text i lt e =
+    let d = drop_more text i 0 lt in
+    let here : starts_with nat_eq (get_or text i 0 ∷ drop (i + 1) text) mark ≡ true = rw d at e in
+    rw (d, here) (ap (λ (t : Text). Some (t, drop (length mark) (get_or text i 0 ∷ drop (i + 1) text))) (append-nil (take i text)))
+
+pub cut-later : (mark text : Text) (i : ℕ) → i < length text → starts_with nat_eq (drop i text) mark ≡ false
+    → behind (take i text) (cut_at mark (drop i text)) ≡ behind (take (i + 1) text) (cut_at mark (drop (i + 1) text))
+unfolding cut_at
+cut-later mark text i lt e =
+    let d = drop_more text i 0 lt in
+    let here : starts_with nat_eq (get_or text i 0 ∷ drop (i + 1) text) mark ≡ false = rw d at e in
+    let t = take_more text i 0 lt in
+    rw (d, here, t) (behind-byte (take i text) (get_or text i 0) (cut_at mark (drop (i + 1) text)))
+
+pub cut-never : (mark text : Text) (i : ℕ) → length text ≤ i → behind (take i text) (cut_at mark (drop i text)) ≡ None
+unfolding cut_at
+cut-never mark text i le = rw (drop_all i text le) refl
+
+-- ---- the parts between colons
+
+abbrev pub parts_after : Text → Option (Text × Text) → List Text
+parts_after t None = t ∷ []
+parts_after t (Some p) = p.0 ∷ slice_split (λ b. b == 58) p.1
+
+and-true : (b : Bool) → (b && true) ≡ b
+and-true true = refl
+and-true false = refl
+
+colon-first : (b : ℕ) (t : Text) → starts_with nat_eq (b ∷ t) (58 ∷ []) ≡ nat_eq 58 b
+colon-first b t = and-true (nat_eq 58 b)
+
+swapped : (b : ℕ) → nat_eq 58 b ≡ (b == 58)
+swapped b = go (b == 58) refl
+  where
+    go : (c : Bool) → (b == 58) ≡ c → nat_eq 58 b ≡ c
+    go true e = eq-eqb 58 b (sym (eqb-true b 58 e))
+    go false e = ne_eqb 58 b (λ q. cc (eq-eqb b 58 (sym q)))
+
+onto : (b : ℕ) (t : Text) (o : Option (Text × Text)) → onto_first b (parts_after t o) ≡ parts_after (b ∷ t) (option_map (λ p. (b ∷ p.0, p.1)) o)
+onto b t None = refl
+onto b t (Some p) = refl
+
+-- the first part, and those behind it
+pub parts-first : (t : Text) → slice_split (λ b. b == 58) t ≡ parts_after t (cut_at (58 ∷ []) t)
+unfolding cut_at
+parts-first [] = refl
+parts-first (b ∷ t) = go (b == 58) refl (parts-first t)
+  where
+    go : (c : Bool) → (b == 58) ≡ c → slice_split (λ b. b == 58) t ≡ parts_after t (cut_at (58 ∷ []) t)
+        → (if c then [] ∷ slice_split (λ b. b == 58) t else onto_first b (slice_split (λ b. b == 58) t)) ≡ parts_after (b ∷ t) (cut_at (58 ∷ []) (b ∷ t))
+    go true e more = let h = swapped b ∙ e in rw h refl
+    go false e more = let h = swapped b ∙ e in rw (h, more) (onto b t (cut_at (58 ∷ []) t))

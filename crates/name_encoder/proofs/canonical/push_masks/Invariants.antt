@@ -1,0 +1,10 @@
+use Rattle.std.proofs.Common.{◌≡◌, ◌++◌, drop, map}
+use Rattle.std.specs.Prelude.{string_bytes}
+use Rattle.event_tables.specs.Views.{mask_text}
+use Rattle.name_encoder.specs.Canonical.{masks_text}
+use Rattle.name_encoder.proofs.canonical.push_masks.Given as goal
+
+abbrev pub invariant-loop-m : goal.invariant-loop-m
+invariant-loop-m l =
+    string_bytes l.fn.name ++ masks_text l.bits (map mask_text l.masks)
+    ≡ string_bytes l.name ++ masks_text l.left (map mask_text (drop l.m-index l.masks))

@@ -1,0 +1,7 @@
+use Rattle.std.proofs.Common.{◌≡◌, drop}
+use Rattle.name_encoder.specs.Names.{found_from}
+use Rattle.name_encoder.specs.Views.{parts_split}
+use Rattle.name_encoder.proofs.found.find.Given as goal
+
+abbrev pub invariant-loop-comp : goal.invariant-loop-comp
+invariant-loop-comp l = found_from (parts_split l.parts) 0 l.tables ≡ found_from (parts_split l.parts) l.comp (drop l.comp l.tables)

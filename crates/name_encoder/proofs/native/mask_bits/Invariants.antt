@@ -1,0 +1,9 @@
+use Rattle.std.proofs.Common.{◌≡◌, ◌≤◌, length, drop}
+use Rattle.name_encoder.specs.Flags.{bits_of}
+use Rattle.name_encoder.proofs.native.mask_bits.Given as goal
+
+abbrev pub invariant-loop-i : goal.invariant-loop-i
+invariant-loop-i l = record { inside : l.i ≤ length l.flags; bits : l.bits ≡ bits_of (drop l.i l.flags) }
+
+abbrev pub decreases-loop-i : goal.decreases-loop-i
+decreases-loop-i l = l.i

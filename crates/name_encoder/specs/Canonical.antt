@@ -1,0 +1,41 @@
+-- The canonical name of a native, and its code of 64 bits.
+use Rattle.std.specs.Prelude.{◌||◌, ◌==◌, ◌+◌, ◌*◌, ◌/◌, ◌%◌, ◌^◌, ◌≡◌, ℕ, Bool, not, List, [], ◌∷◌, ◌++◌, Ok}
+use Rattle.std.specs.Prelude.{if◌then◌else◌, nat_lt, codes, decimal, slice_get}
+use Rattle.std.specs.Option.{option_map_or}
+use Rattle.event_tables.specs.Tables.{ComponentText, EventText, MaskText}
+use Rattle.table_rows.specs.Texts.{Text}
+use Rattle.name_encoder.specs.Flags.{flag_bit}
+use Rattle.papi_base.specs.declared.native.Mods.{Mods}
+use Rattle.papi_base.specs.declared.native.Native.{Native}
+use Rattle.name_encoder.specs.Names.{names}
+
+-- the names of the umasks whose bits are set, each behind a colon
+unfoldable pub masks_text : ℕ → List MaskText → Text
+masks_text bits [] = []
+masks_text bits (m ∷ rest) = (if bits % 2 == 1 then 58 ∷ m.name else []) ++ masks_text (bits / 2) rest
+
+abbrev pub text_if : Bool → Text → Text
+text_if on t = if on then t else []
+
+unfoldable pub mods_text : Mods → Text
+mods_text m = text_if m.user (codes ":u") ++ (text_if m.kernel (codes ":k") ++ (text_if m.edge (codes ":e") ++ (text_if m.invert (codes ":i")
+    ++ text_if (nat_lt 0 m.cmask) (codes ":c=" ++ decimal m.cmask))))
+
+abbrev pub event_text : Text → EventText → Native → Text
+event_text pmu e n = pmu ++ (codes "::" ++ (e.name ++ (masks_text n.masks e.masks ++ mods_text n.mods)))
+
+-- `pmu::EVENT`, the chosen umasks and the modifiers that are set
+unfoldable pub canonical : List ComponentText → Native → Text
+canonical tables n =
+    option_map_or (λ c. option_map_or (λ e. event_text c.pmu e n) (slice_get c.events n.event) []) (slice_get tables n.comp) []
+
+-- a canonical name names its native
+abbrev pub ReadsBack : List ComponentText → Native → Type 0
+ReadsBack tables n = names tables (canonical tables n) ≡ Ok n
+
+-- the layout of the event select register: user and kernel are both set where neither is asked for, bits 20 and 22 always
+unfoldable pub code64 : Native → ℕ
+code64 n =
+    let both = not (n.mods.user || n.mods.kernel) in
+    n.select + 2 ^ 8 * n.umask + 2 ^ 16 * flag_bit (n.mods.user || both) + 2 ^ 17 * flag_bit (n.mods.kernel || both)
+    + 2 ^ 18 * flag_bit n.mods.edge + 2 ^ 20 + 2 ^ 22 + 2 ^ 23 * flag_bit n.mods.invert + 2 ^ 24 * n.mods.cmask

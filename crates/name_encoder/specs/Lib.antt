@@ -1,0 +1,9 @@
+pub mod Flags
+pub mod Split
+pub mod Names
+pub mod Canonical
+pub mod Judged
+pub mod Views
+pub use Rattle.event_tables.specs.Tables
+pub use Rattle.event_tables.specs.Kept
+pub use Rattle.table_rows.specs.Texts

@@ -1,0 +1,268 @@
+-- What an event's text names, or why it names nothing.
+use Rattle.std.specs.Prelude.{◌&&◌, ◌||◌, ◌==◌, ◌<◌, ◌^◌, ◌+◌, length, ℕ, Bool, true, false, not, List, [], ◌∷◌, ◌++◌, drop, map, Option, Some, None, Result, Ok, Err}
+use Rattle.std.specs.Prelude.{if◌then◌else◌, nat_eq, nat_lt, codes, bytes_eq, slice_get, is_none, option_map, unwrap_or, find}
+use Rattle.std.specs.Int.RustNames.{bit_and, bit_or}
+use Rattle.std.specs.List.{list_any, position_from, starts_with}
+use Rattle.std.specs.Option.{option_map_or, option_or}
+use Rattle.std.specs.Str.{str_eq_ignore_ascii_case, str_to_ascii_lowercase}
+use Rattle.event_tables.specs.Tables.{ComponentText, CounterText, EventText, MaskText}
+use Rattle.table_rows.specs.Texts.{Text, decimal_in, hex_in}
+use Rattle.name_encoder.specs.Flags.{bits_of}
+use Rattle.papi_base.specs.declared.native.Mods.{Mods}
+use Rattle.papi_base.specs.declared.native.Native.{Native}
+use Rattle.name_encoder.specs.declared.fault.NameFault.{NameFault}
+use Rattle.name_encoder.specs.declared.fault.NameFault.TheVariants as name_fault
+use Rattle.papi_base.specs.declared.code.Code.{Code}
+use Rattle.papi_base.specs.declared.code.Code.TheVariants as code
+use Rattle.name_encoder.specs.Split.{Attribute, Split, attribute_of, split}
+
+-- ---- which event
+
+-- an event of a table, with its places
+pub record Found : Type 0 where
+  pub comp : ℕ
+  pub row : ℕ
+  pub component : ComponentText
+  pub event : EventText
+
+abbrev pub agrees : Option Text → Text → Bool
+agrees None name = true
+agrees (Some prefix) name = str_eq_ignore_ascii_case name prefix
+
+-- the first event of this name in the events from a row on
+unfoldable pub event_from : ℕ → ComponentText → Text → ℕ → List EventText → Option Found
+event_from comp component name row [] = None
+event_from comp component name row (e ∷ rest) =
+    if str_eq_ignore_ascii_case e.name name then Some (record { comp = comp; row = row; component = component; event = e })
+    else event_from comp component name (row + 1) rest
+
+-- the event in a component, where that agrees with the prefixes
+abbrev pub choice : Split → ℕ → ComponentText → Option Found
+choice s comp c = if agrees s.comp c.name && agrees s.pmu c.pmu then event_from comp c s.event 0 c.events else None
+
+-- the event in the first component that agrees with the prefixes and has it
+unfoldable pub found_from : Split → ℕ → List ComponentText → Option Found
+found_from s comp [] = None
+found_from s comp (c ∷ rest) =
+    option_or (choice s comp c) (found_from s (comp + 1) rest)
+
+-- ---- what an attribute says
+
+pub data Modifier : Type 0 where
+  user : Modifier
+  kernel : Modifier
+  edge : Modifier
+  invert : Modifier
+  cmask : Modifier
+
+pub data Meaning : Type 0 where
+  mask : ℕ → Meaning
+  modifier : Modifier → Meaning
+
+abbrev pub rank : Modifier → ℕ
+rank user = 0
+rank kernel = 1
+rank edge = 2
+rank invert = 3
+rank cmask = 4
+
+abbrev pub same_meaning : Meaning → Meaning → Bool
+same_meaning (mask a) (mask b) = a == b
+same_meaning (mask a) (modifier m) = false
+same_meaning (modifier m) (mask b) = false
+same_meaning (modifier m) (modifier n) = rank m == rank n
+
+-- the modifier of a name in lower case
+unfoldable pub modifier_of : Text → Option Modifier
+modifier_of name =
+    if bytes_eq name (codes "u") then Some user
+    else if bytes_eq name (codes "k") then Some kernel
+    else if bytes_eq name (codes "e") then Some edge
+    else if bytes_eq name (codes "i") then Some invert
+    else if bytes_eq name (codes "c") then Some cmask
+    else None
+
+-- the row of the umask of this name
+abbrev pub mask_row : List MaskText → Text → Option ℕ
+mask_row masks name = position_from (λ m. str_eq_ignore_ascii_case m.name name) 0 masks
+
+-- the umask row or the modifier of a name
+unfoldable pub meaning_of : List MaskText → Text → Option Meaning
+meaning_of masks name =
+    option_or (option_map mask (mask_row masks name))
+    (option_map modifier (modifier_of (str_to_ascii_lowercase name)))
+
+-- what an attribute says: what it names, and with which value
+pub record Said : Type 0 where
+  pub meaning : Option Meaning
+  pub value : Option Text
+
+abbrev pub said_of : List MaskText → Attribute → Said
+said_of masks a = record { meaning = meaning_of masks a.name; value = a.value }
+
+-- it is of this meaning
+abbrev pub means : Meaning → Said → Bool
+means what s = option_map_or (same_meaning what) s.meaning false
+
+abbrev pub is_mask : Meaning → Bool
+is_mask (mask row) = true
+is_mask (modifier m) = false
+
+abbrev pub names_mask : Said → Bool
+names_mask s = option_map_or is_mask s.meaning false
+
+-- the umask of a row cannot be combined
+abbrev pub row_alone : List MaskText → ℕ → Bool
+row_alone masks row = option_map_or (λ m. m.alone) (slice_get masks row) false
+
+abbrev pub is_alone : List MaskText → Meaning → Bool
+is_alone masks (mask row) = row_alone masks row
+is_alone masks (modifier m) = false
+
+abbrev pub names_alone : List MaskText → Said → Bool
+names_alone masks s = option_map_or (is_alone masks) s.meaning false
+
+-- the value of a flag: `0`, `n` and `f`, or `1`, `y` and `t`, in either case, and 1 where none is given
+unfoldable pub flag_value : Option Text → Option ℕ
+flag_value None = Some 1
+flag_value (Some v) =
+    let low = str_to_ascii_lowercase v in
+    if bytes_eq low (codes "0") || (bytes_eq low (codes "n") || bytes_eq low (codes "f")) then Some 0
+    else if bytes_eq low (codes "1") || (bytes_eq low (codes "y") || bytes_eq low (codes "t")) then Some 1
+    else None
+
+-- the value of the counter mask: decimal up to 255, or `0x` and one or two hexadecimal digits
+unfoldable pub cmask_value : Option Text → Option ℕ
+cmask_value None = None
+cmask_value (Some v) = if starts_with nat_eq v (codes "0x") then hex_in 1 2 (drop 2 v) else decimal_in 0 255 v
+
+abbrev pub value_of : Meaning → Option Text → Option ℕ
+value_of (mask row) None = Some 1
+value_of (mask row) (Some v) = None
+value_of (modifier user) v = flag_value v
+value_of (modifier kernel) v = flag_value v
+value_of (modifier edge) v = flag_value v
+value_of (modifier invert) v = flag_value v
+value_of (modifier cmask) v = cmask_value v
+
+-- ---- the faults of attributes
+
+-- it names a umask, as one before it does, and one of those named so far stands alone
+abbrev pub clashes : List MaskText → List Said → Said → Bool
+clashes masks above s = names_mask s && (list_any names_mask above && list_any (names_alone masks) (above ++ s ∷ []))
+
+abbrev pub meaning_fault : List MaskText → List Said → Said → Meaning → Option NameFault
+meaning_fault masks above s what =
+    if list_any (means what) above then Some name_fault.AttrSet
+    else if is_none (value_of what s.value) then Some name_fault.AttrVal
+    else if clashes masks above s then Some name_fault.FeatComb
+    else None
+
+-- the first check that fails of an attribute in view of those before it
+abbrev pub said_fault : List MaskText → List Said → Said → Option NameFault
+said_fault masks above s = option_map_or (meaning_fault masks above s) s.meaning (Some name_fault.Attr)
+
+-- the fault of the first attribute below `above` that has one in view of those before it
+unfoldable pub fault_from : List MaskText → List Said → List Said → Option NameFault
+fault_from masks above [] = None
+fault_from masks above (s ∷ rest) = option_or (said_fault masks above s) (fault_from masks (above ++ s ∷ []) rest)
+
+-- ---- the native of faultless attributes
+
+-- for each umask from a row on, whether an attribute names it
+unfoldable pub named_from : List Said → ℕ → List MaskText → List Bool
+named_from said row [] = []
+named_from said row (m ∷ rest) = list_any (means (mask row)) said ∷ named_from said (row + 1) rest
+
+abbrev pub has_true : List Bool → Bool
+has_true flags = list_any (λ b. b) flags
+
+abbrev pub choices : List MaskText → List Bool
+choices masks = map (λ m. m.preset_choice) masks
+
+-- the umasks that are named, else the default one; None where the event has umasks and there is neither
+abbrev pub chosen : List MaskText → List Bool → Option (List Bool)
+chosen [] named = Some []
+chosen (m ∷ rest) named =
+    if has_true named then Some named
+    else if has_true (choices (m ∷ rest)) then Some (choices (m ∷ rest))
+    else None
+
+-- the values of the chosen umasks, joined by OR
+unfoldable pub values_of : List Bool → List MaskText → ℕ
+values_of [] masks = 0
+values_of (b ∷ flags) [] = 0
+values_of (b ∷ flags) (m ∷ masks) = bit_or (if b then m.bits else 0) (values_of flags masks)
+
+-- the value that the attributes give a modifier, and 0 where they do not name it
+unfoldable pub set_to : List Said → Modifier → ℕ
+set_to said m = option_map_or (λ s. unwrap_or (value_of (modifier m) s.value) 0) (find (means (modifier m)) said) 0
+
+abbrev pub is_set : List Said → Modifier → Bool
+is_set said m = nat_lt 0 (set_to said m)
+
+abbrev pub mods_of : List Said → Mods
+mods_of said = record { user = is_set said user; kernel = is_set said kernel; edge = is_set said edge; invert = is_set said invert; cmask = set_to said cmask }
+
+-- the programmable counters as bits
+abbrev pub programmable : List CounterText → ℕ
+programmable counters = bits_of (map (λ k. not k.fixed) counters)
+
+-- the counters that may count with these modifiers
+abbrev pub allowed_with : Mods → List CounterText → ℕ → ℕ
+allowed_with mods counters allowed = if mods.edge || (mods.invert || nat_lt 0 mods.cmask) then bit_and allowed (programmable counters) else allowed
+
+abbrev pub native_of : Found → List Bool → Mods → Native
+native_of f flags mods = record {
+  comp = f.comp;
+  event = f.row;
+  select = f.event.select;
+  masks = bits_of flags;
+  umask = values_of flags f.event.masks;
+  mods = mods;
+  allowed = allowed_with mods f.component.counters f.event.allowed;
+}
+
+abbrev pub native_or : Found → Mods → Option NameFault → Option (List Bool) → Result Native NameFault
+native_or f mods (Some fault) flags = Err fault
+native_or f mods None None = Err name_fault.Umask
+native_or f mods None (Some flags) = Ok (native_of f flags mods)
+
+abbrev pub named_event : Found → List Said → Result Native NameFault
+named_event f said = native_or f (mods_of said) (fault_from f.event.masks [] said) (chosen f.event.masks (named_from said 0 f.event.masks))
+
+abbrev pub saids_of : List MaskText → List Text → List Said
+saids_of masks attributes = map (λ a. said_of masks (attribute_of a)) attributes
+
+abbrev pub named_found : Split → Option Found → Result Native NameFault
+named_found s None = Err name_fault.NotFound
+named_found s (Some f) = named_event f (saids_of f.event.masks s.attributes)
+
+-- what a text names in these tables
+unfoldable pub names : List ComponentText → Text → Result Native NameFault
+names tables text = named_found (split text) (found_from (split text) 0 tables)
+
+-- ---- what a fault is called, and which code it has
+
+abbrev pub word_of : NameFault → Text
+word_of name_fault.NotFound = codes "NOTFOUND"
+word_of name_fault.Umask = codes "UMASK"
+word_of name_fault.FeatComb = codes "FEATCOMB"
+word_of name_fault.Attr = codes "ATTR"
+word_of name_fault.AttrVal = codes "ATTR_VAL"
+word_of name_fault.AttrSet = codes "ATTR_SET"
+
+abbrev pub code_of : NameFault → Code
+code_of name_fault.NotFound = code.Enoevnt
+code_of name_fault.Umask = code.Eattr
+code_of name_fault.FeatComb = code.Ecombo
+code_of name_fault.Attr = code.Eattr
+code_of name_fault.AttrVal = code.Eattr
+code_of name_fault.AttrSet = code.Eattr
+
+-- ---- what fits a shape
+
+-- the native's component is one of the shape's, and it is allowed only counters of it
+pub record FitsShape (shape : List (List ℕ)) (n : Native) : Type 0 where
+  pub has_component : n.comp < length shape
+  pub has_counters : n.allowed < 2 ^ length (unwrap_or (slice_get shape n.comp) [])

@@ -1,0 +1,50 @@
+-- The parts of an event's text: `[component:::][pmu::]event[:attribute]..`.
+use Rattle.std.specs.Prelude.{◌==◌, List, [], ◌∷◌, length, drop, Option, Some, None, if◌then◌else◌, nat_eq, option_map, codes}
+use Rattle.std.specs.List.{slice_split, starts_with}
+use Rattle.table_rows.specs.Texts.{Text}
+
+-- the text before the first place where it goes on with the mark, and the text after that mark
+unfoldable pub cut_at : Text → Text → Option (Text × Text)
+cut_at mark [] = None
+cut_at mark (b ∷ rest) =
+    if starts_with nat_eq (b ∷ rest) mark then Some ([], drop (length mark) (b ∷ rest))
+    else option_map (λ p. (b ∷ p.0, p.1)) (cut_at mark rest)
+
+-- what stands before the mark, where the text has it, and the rest
+abbrev pub prefix_of : Text → Text → Option Text × Text
+prefix_of mark text = go (cut_at mark text)
+  where
+    go : Option (Text × Text) → Option Text × Text
+    go None = (None, text)
+    go (Some p) = (Some p.0, p.1)
+
+pub record Split : Type 0 where
+  pub comp : Option Text
+  pub pmu : Option Text
+  pub event : Text
+  pub attributes : List Text
+
+abbrev pub split_at : Option Text → Option Text → List Text → Split
+split_at comp pmu [] = record { comp = comp; pmu = pmu; event = []; attributes = [] }
+split_at comp pmu (event ∷ attributes) = record { comp = comp; pmu = pmu; event = event; attributes = attributes }
+
+abbrev pub split_behind : Option Text → Option Text × Text → Split
+split_behind comp p = split_at comp p.0 (slice_split (λ b. b == 58) p.1)
+
+unfoldable pub split : Text → Split
+split text = split_behind (prefix_of (codes ":::") text).0 (prefix_of (codes "::") (prefix_of (codes ":::") text).1)
+
+-- an attribute: a name, and a value where a `=` stands
+pub record Attribute : Type 0 where
+  pub name : Text
+  pub value : Option Text
+
+abbrev pub attribute : Text → Option Text → Attribute
+attribute name value = record { name = name; value = value }
+
+abbrev pub attribute_at : Text → Option (Text × Text) → Attribute
+attribute_at text None = attribute text None
+attribute_at text (Some p) = attribute p.0 (Some p.1)
+
+unfoldable pub attribute_of : Text → Attribute
+attribute_of text = attribute_at text (cut_at (codes "=") text)

@@ -1,0 +1,96 @@
+// The canonical name of a native event.
+
+ghost use Rattle.std.specs.Prelude.{◌≡◌, ◌++◌, ◌∷◌, List, ℕ, IfOk, OnOk, Ok, map, string_bytes, if◌then◌else◌, []};
+ghost use Rattle.event_tables.specs.Kept.{IsTables};
+ghost use Rattle.event_tables.specs.Views.{event_text, mask_text};
+ghost use Rattle.name_encoder.specs.Canonical as Canonical;
+ghost use Rattle.name_encoder.specs.Names as Names;
+
+use event_tables::{EventRow, Tables, UmaskRow};
+use papi_base::{Mods, Native};
+use std::alloc::{AllocError, Global};
+
+fn push_if(name: &mut String, on: bool, text: &str) -> Result<(), AllocError>
+    ensures { OnOk result (string_bytes name.new ≡ string_bytes name.old ++ Canonical.text_if on text.now) }
+{
+    if on {
+        name.push_str(text)?;
+    }
+    Ok(())
+}
+
+// A umask behind a colon, where its bit is set.
+fn push_mask(name: &mut String, on: bool, mask: &str) -> Result<(), AllocError>
+    ensures { OnOk result (string_bytes name.new ≡ string_bytes name.old ++ (if on then 58 ∷ mask.now else [])) }
+{
+    if on {
+        name.push_str(":")?;
+        name.push_str(mask)?;
+    }
+    Ok(())
+}
+
+// The umasks whose bits are set.
+fn push_masks(name: &mut String, bits: u16, masks: &[UmaskRow]) -> Result<(), AllocError>
+    ensures { OnOk result (string_bytes name.new ≡ string_bytes name.old ++ Canonical.masks_text bits (map mask_text masks.now)) }
+{
+    let mut left = bits;
+    for m in masks {
+        push_mask(name, left % 2 == 1, m.name.as_str())?;
+        left /= 2;
+    }
+    Ok(())
+}
+
+// The modifiers that are set.
+#[tactic(auto, unfolding(crate::specs::Canonical::mods_text))]
+fn push_mods(alloc: Global, name: &mut String, mods: &Mods) -> Result<(), AllocError>
+    ensures { OnOk result (string_bytes name.new ≡ string_bytes name.old ++ Canonical.mods_text mods.now) }
+{
+    let count = format!(in alloc; ":c={}", mods.cmask)?;
+    push_if(name, mods.user, ":u")?;
+    push_if(name, mods.kernel, ":k")?;
+    push_if(name, mods.edge, ":e")?;
+    push_if(name, mods.invert, ":i")?;
+    push_if(name, mods.cmask > 0, count.as_str())
+}
+
+fn event_name(alloc: Global, pmu: &str, event: &EventRow, n: &Native) -> Result<String, AllocError>
+    ensures { IfOk result (λ s. string_bytes s ≡ Canonical.event_text pmu.now (event_text event.now) n.now) }
+{
+    let mut name = String::from_str(alloc, pmu)?;
+    name.push_str("::")?;
+    name.push_str(event.name.as_str())?;
+    push_masks(&mut name, n.masks, event.masks.as_slice())?;
+    push_mods(alloc, &mut name, &n.mods)?;
+    Ok(name)
+}
+
+// The canonical name, which is empty where the native is outside the tables.
+#[tactic(auto, unfolding(crate::specs::Canonical::canonical))]
+fn canonical_name(alloc: Global, t: &Tables, n: &Native) -> Result<String, AllocError>
+    ensures name { IfOk result (λ s. string_bytes s ≡ Canonical.canonical t.now n.now) }
+    ensures kept { IsTables t.now }
+{
+    if n.comp >= t.components() {
+        return Ok(String::new(alloc));
+    }
+    let Some(component) = t.component(n.comp) else {
+        return Ok(String::new(alloc));
+    };
+    match t.event(n.comp, n.event) {
+        Some(event) => event_name(alloc, component.pmu.as_str(), event, n),
+        None => Ok(String::new(alloc)),
+    }
+}
+
+/// The canonical name of a native event: `pmu::EVENT` as the tables spell them, its umasks in table order, and its
+/// modifiers. Of a native that is outside the tables it is empty.
+///
+/// Where some text names the native, its canonical name names it too.
+pub fn write_name(alloc: Global, t: &Tables, n: &Native) -> Result<String, AllocError>
+    ensures name { IfOk result (λ s. string_bytes s ≡ Canonical.canonical t.now n.now) }
+    ensures back { IfOk result (λ s. (text : List ℕ) → Names.names t.now text ≡ Ok n.now → Names.names t.now (string_bytes s) ≡ Ok n.now) }
+{
+    canonical_name(alloc, t, n)
+}
