@@ -11,3 +11,4 @@ pub mod Turning
 pub mod Chosen
 pub mod Taking
 pub mod Opening
+pub mod Tests

@@ -5,3 +5,4 @@ pub mod Pinned
 pub mod Slots
 pub mod Stands
 pub mod Units
+pub mod Refusing

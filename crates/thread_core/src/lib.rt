@@ -8,5 +8,6 @@ pub use thread::Core;
 
 pub mod counting;
 pub mod pins;
+mod refusal;
 pub mod slot;
 pub mod thread;

@@ -1,0 +1,23 @@
+-- Calls whose refusals need no look into a set at rest but at its events, its slice and its component.
+use Rattle.std.specs.Prelude.{Bool, true, false, map, List, Option}
+use Rattle.std.specs.Option.{option_map}
+use Rattle.session_model.specs.declared.call.Call.{Call}
+use Rattle.session_model.specs.declared.call.Call.TheVariants as call
+use Rattle.session_model.specs.Faces.{Face}
+use Rattle.thread_core.specs.declared.slot.Slot.{Slot}
+use Rattle.thread_core.specs.Slots.{face_of_slot}
+
+abbrev pub slot_faces : List (Option Slot) → List (Option Face)
+slot_faces slots = map (option_map face_of_slot) slots
+
+-- the others ask the set at rest itself, or are runs
+abbrev pub asks_slots : Call → Bool
+asks_slots (call.Add k e) = false
+asks_slots (call.Remove k e) = false
+asks_slots (call.AssignComponent k comp) = false
+asks_slots (call.SetDomain k bits) = false
+asks_slots (call.SetMultiplex k slice) = false
+asks_slots (call.Overflow k e t) = false
+asks_slots (call.Raw k c) = false
+asks_slots (call.Run n) = false
+asks_slots made = true
