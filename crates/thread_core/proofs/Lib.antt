@@ -12,3 +12,5 @@ pub mod Chosen
 pub mod Taking
 pub mod Opening
 pub mod Tests
+pub mod Following
+pub mod Changing

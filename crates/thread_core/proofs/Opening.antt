@@ -5,6 +5,7 @@ use Rattle.papi_base.specs.declared.occurrence.Occ.{Occ}
 use Rattle.papi_base.specs.Streams.{Mark}
 use Rattle.counter_unit.specs.Counting.{UnitView}
 use Rattle.postfix_rules.specs.Presets.{Book}
+use Rattle.event_sets.specs.Agreement.{BookFits}
 use Rattle.event_sets.specs.AtRest.{Widths}
 use Rattle.session_model.specs.Account.{Kept, opening}
 use Rattle.session_model.specs.Faces.{faces_of}
@@ -52,8 +53,8 @@ opening_stands book thread shape rest mark shapely = record {
   shape = shapely;
 }
 
-pub opening_agrees : (book : Book) (thread : ℕ) (shape : Widths) (rest : List Occ) (mark : Mark) → IsShape shape → AgreesWith book (opening_core thread shape)
-opening_agrees book thread shape rest mark shapely = record { account = opening thread rest mark; stands = opening_stands book thread shape rest mark shapely; in_limits = omega arith; in_time = omega arith }
+pub opening_agrees : (book : Book) (thread : ℕ) (shape : Widths) (rest : List Occ) (mark : Mark) → IsShape shape → BookFits shape book → AgreesWith book (opening_core thread shape)
+opening_agrees book thread shape rest mark shapely fits = record { fits = fits; account = opening thread rest mark; stands = opening_stands book thread shape rest mark shapely; in_limits = omega arith; in_time = omega arith }
 
 -- one unit more
 pub unit_more : (shape : Widths) (done all : List UnitView) (i : ℕ) (ws : List ℕ) → slice_get shape i ≡ Some ws → done ++ map empty_unit (drop i shape) ≡ all → (done ++ empty_unit ws ∷ []) ++ map empty_unit (drop (i + 1) shape) ≡ all
@@ -67,3 +68,7 @@ one_more P shape i ws e p h c widths below f = elim (cases_lt c i) [
   | inl lt ↦ h c widths lt f
   | inr ge ↦ (let same : c ≡ i = omega arith in let is : Some ws ≡ Some widths = sym e ∙ ap (slice_get shape) (sym same) ∙ f in let one : ws ≡ widths = cc in subst P one p)
 ]
+
+-- a book without presets fits each shape
+pub no_book_fits : (shape : Widths) → BookFits shape []
+no_book_fits shape = record { each = λ k d below. absurd (omega arith) }

@@ -158,6 +158,7 @@ taken_notes book core a o c is small h =
 
 pub taken_agrees : (book : Book) (core : CoreView) (o : Occ) (c : CountedAll) → c ≡ counted_all core.last o core.units core.slots → o.amount ≤ 255 → time_after core.last ≤ o.stamp → o.stamp ≤ 4294967294 → core.taken < 5200000 → AgreesWith book core → AgreesWith book (after_taking core o c)
 taken_agrees book core o c is small rises stamp few h = record {
+  fits = h.fits;
   account = consumed h.account o;
   stands = taken_stands book core h.account o c is small rises h.stands;
   in_limits = omega arith;

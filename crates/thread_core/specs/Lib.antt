@@ -6,3 +6,4 @@ pub mod Slots
 pub mod Stands
 pub mod Units
 pub mod Refusing
+pub mod Following

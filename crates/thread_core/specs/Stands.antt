@@ -2,6 +2,7 @@
 use Rattle.std.specs.Prelude.{◌≤◌, ◌≡◌, [], ◌∷◌, ◌++◌, length, None}
 use Rattle.papi_base.specs.declared.occurrence.Occ.{Occ}
 use Rattle.postfix_rules.specs.Presets.{Book}
+use Rattle.event_sets.specs.Agreement.{BookFits}
 use Rattle.session_model.specs.Account.{Account, last_after, time_after}
 use Rattle.session_model.specs.Bounds.{AllWithin, AreApart, Rises}
 use Rattle.session_model.specs.Fitness.{AreFit, IsShape}
@@ -25,8 +26,9 @@ pub record CoreStands (book : Book) (core : CoreView) (a : Account) : Type 0 whe
   pub fit : AreFit book core.shape a.sets
   pub shape : IsShape core.shape
 
--- under the book there is an account for which the core stands: its sets agree with this book
+-- The book fits the core's shape, and under it there is an account for which the core stands: its sets agree with this book.
 pub record AgreesWith (book : Book) (core : CoreView) : Type 0 where
+  pub fits : BookFits core.shape book
   pub account : Account
   pub stands : CoreStands book core account
   pub in_limits : core.taken ≤ 5200000

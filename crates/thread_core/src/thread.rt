@@ -2,6 +2,7 @@
 ghost use Rattle.std.specs.Prelude.{◌≡◌, ◌+◌, ◌<◌, ◌≤◌, [], IfOk, List, Some, map};
 ghost use Rattle.papi_base.specs.Streams.{Mark};
 ghost use Rattle.papi_base.specs.declared.occurrence.Occ.{Occ};
+ghost use Rattle.event_sets.specs.Agreement.{BookFits};
 ghost use Rattle.postfix_rules.specs.Presets.{Book};
 ghost use Rattle.session_model.specs.Account.{Account, opening, time_after};
 ghost use Rattle.session_model.specs.Thresholds.{note, notes_at};
@@ -61,7 +62,7 @@ impl Core {
     pub fn new(alloc: Global, thread: u32, shape: Shape) -> Result<Core, AllocError>
         ensures core { IfOk result (λ core. core ≡ opening_core thread shape) }
         ensures stands { (book : Book) (rest : List Occ) (mark : Mark) → IfOk result (λ core. CoreStands book core (opening thread rest mark)) }
-        ensures agrees { (book : Book) → IfOk result (AgreesWith book) }
+        ensures agrees { (book : Book) → BookFits shape book → IfOk result (AgreesWith book) }
     {
         let slots = empty_places(alloc)?;
         let units = empty_units(alloc, &shape)?;
