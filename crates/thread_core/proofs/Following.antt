@@ -1,8 +1,10 @@
 -- A core that did what its refusals and its sets say follows each account that it stands for.
 use Rattle.std.proofs.Common.{◌≡◌, ℕ, ◌≤◌, Bool, true, false, List, [], length, map, refl, ap, ap₂, sym, subst, ◌∙◌, Option, Some, None, option_map}
+use Rattle.papi_base.specs.declared.code.Code.{Code}
 use Rattle.postfix_rules.specs.Presets.{Book}
 use Rattle.counter_unit.specs.Counting.{UnitView}
 use Rattle.event_sets.specs.declared.refusal.Refusal.{Refusal}
+use Rattle.event_sets.specs.declared.refusal.Refusal.TheVariants.{Plain}
 use Rattle.event_sets.specs.Agreement.{BookFits}
 use Rattle.event_sets.specs.AtRest.{Widths}
 use Rattle.session_model.specs.declared.call.Call.{Call}
@@ -15,7 +17,7 @@ use Rattle.session_model.specs.Changes.{kept_after, new_kept, sets_after}
 use Rattle.session_model.specs.Conditions.{IsGood}
 use Rattle.session_model.specs.Faces.{faces_of}
 use Rattle.session_model.specs.Refusals.{refusal_of}
-use Rattle.session_model.specs.Replies.{refused, reply_over, sight_of_kept}
+use Rattle.session_model.specs.Replies.{plain, refused, reply_over, sight_of_kept}
 use Rattle.session_model.specs.Step.{Outcome, account_refusal, performed, step, unless}
 use Rattle.session_laws.proofs.Apart.{apart_stays}
 use Rattle.session_laws.proofs.Counted.{places_stay}
@@ -136,3 +138,10 @@ done_follows book old new call reply agrees good on none same does = record {
   taken = same.taken;
   last = same.last;
 }
+
+-- the same of the code with which the core refuses
+pub code_follows : (book : Book) (core : CoreView) (call : Call) (result : Option Code) (c : Code) → AgreesWith book core → option_map Plain result ≡ refusal_of book core.shape core.registered (slot_faces core.slots) call → result ≡ Some c → Follows book core core call (plain c)
+code_follows book core call result c agrees e is = refused_follows book core call (Plain c) (plain c) agrees (sym e ∙ ap (option_map Plain) is) refl
+
+pub none_refuses : (book : Book) (core : CoreView) (call : Call) (result : Option Code) → option_map Plain result ≡ refusal_of book core.shape core.registered (slot_faces core.slots) call → result ≡ None → refusal_of book core.shape core.registered (slot_faces core.slots) call ≡ None
+none_refuses book core call result e is = sym e ∙ ap (option_map Plain) is

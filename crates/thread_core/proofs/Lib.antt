@@ -14,3 +14,4 @@ pub mod Opening
 pub mod Tests
 pub mod Following
 pub mod Changing
+pub mod Creating

@@ -1,5 +1,5 @@
 -- What a core keeps of a set of the account.
-use Rattle.std.specs.Prelude.{ℕ, if◌then◌else◌, List, [], ◌∷◌, map, replicate, Option, Some, None}
+use Rattle.std.specs.Prelude.{ℕ, false, if◌then◌else◌, List, [], ◌∷◌, map, replicate, Option, Some, None}
 use Rattle.std.specs.Option.{option_map}
 use Rattle.papi_base.specs.declared.occurrence.Occ.{Occ}
 use Rattle.papi_base.specs.declared.native.Native.{Native}
@@ -8,7 +8,7 @@ use Rattle.multiplex.specs.Groups.{groups, group_count}
 use Rattle.multiplex.specs.Rotations.{RotationView}
 use Rattle.multiplex.specs.Turns.{Turns, weight_in_turn}
 use Rattle.postfix_rules.specs.Presets.{Book}
-use Rattle.event_sets.specs.AtRest.{AtRest, Widths, set_natives, widths_at}
+use Rattle.event_sets.specs.AtRest.{AtRest, Widths, new_set, set_natives, widths_at}
 use Rattle.event_sets.specs.Sets.{set_view}
 use Rattle.session_model.specs.Account.{Kept, clock}
 use Rattle.session_model.specs.Counts.{count, weighed}
@@ -78,3 +78,16 @@ slots_of book shape past sets = map (option_map (slot_of book shape past)) sets
 -- what refusals look at
 abbrev pub face_of_slot : Slot → Face
 face_of_slot k = record { set = k.set.rest; running = k.running }
+
+-- what is kept of a new set
+abbrev pub new_slot : Slot
+new_slot = record {
+  set = record { rest = new_set; natives = []; counters = 0 };
+  running = false;
+  values = [];
+  pins = [];
+  armed = replicate 32 None;
+  rotation = None;
+  begun = 0;
+  kept = [];
+}

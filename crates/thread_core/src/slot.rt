@@ -1,5 +1,7 @@
 //! An event set under its number, and what is kept of it.
-ghost use Rattle.std.specs.Prelude.{◌≡◌, IfOk, None, replicate};
+ghost use Rattle.std.specs.Prelude.{◌≡◌, ◌<◌, ◌≤◌, IfOk, None, length, replicate};
+ghost use Rattle.session_model.specs.Faces.{free};
+ghost use Rattle.thread_core.specs.Slots.{new_slot};
 
 use crate::pins::Pins;
 use event_sets::EventSet;
@@ -25,6 +27,37 @@ pub struct Slot {
     /// The time at which these turns began, in ticks.
     pub begun: u64,
     pub kept: Counts,
+}
+
+/// A new set.
+pub(crate) fn new_slot() -> Slot
+    ensures { result ≡ new_slot }
+{
+    Slot {
+        set: EventSet::new(),
+        running: false,
+        values: Values::new(),
+        pins: Pins::new(),
+        armed: Thresholds::new(),
+        rotation: None,
+        begun: 0,
+        kept: Counts::new(),
+    }
+}
+
+/// The least number with no set under it, or the number of places.
+pub(crate) fn free_number(slots: &[Option<Slot>]) -> u32
+    requires { length slots.now ≤ 64 }
+    ensures { result ≡ free slots.now }
+{
+    let mut number = 0;
+    for place in slots {
+        if place.is_none() {
+            return number;
+        }
+        number += 1;
+    }
+    number
 }
 
 /// 64 places without sets.

@@ -10,9 +10,12 @@ ghost use Rattle.thread_core.specs.CoreView.{empty_unit};
 ghost use Rattle.session_model.specs.Fitness.{IsShape};
 
 use crate::counting::{Taken, count_all};
-use crate::slot::{Slot, empty_places};
+use crate::refusal::refusal;
+use crate::slot::{Slot, empty_places, free_number, new_slot};
 use counter_unit::Unit;
-use papi_base::{Occ, Shape};
+use papi_base::{Code, Occ, Shape};
+use postfix_rules::PresetBook;
+use session_model::Call;
 use std::alloc::{AllocError, Global};
 use std::marker::Model;
 
@@ -55,6 +58,15 @@ fn empty_units(alloc: Global, shape: &Shape) -> Result<Vec<Unit>, AllocError>
 }
 
 impl Core {
+    ghost use Rattle.std.specs.Prelude.{true};
+    ghost use Rattle.std.specs.Option.{option_map};
+    ghost use Rattle.event_sets.specs.declared.refusal.Refusal.TheVariants.{Plain};
+    ghost use Rattle.session_model.specs.Faces.{free};
+    ghost use Rattle.session_model.specs.Refusals.{refusal_of};
+    ghost use Rattle.thread_core.specs.Refusing.{asks_slots, slot_faces};
+    ghost use Rattle.session_model.specs.declared.call.Call.TheVariants as call;
+    ghost use Rattle.session_model.specs.declared.reply.Body.TheVariants as body;
+    ghost use Rattle.thread_core.specs.Following.{Follows, reply_of};
     ghost use Rattle.thread_core.specs.CoreView.{opening_core};
     ghost use Rattle.thread_core.specs.Stands.{AgreesWith, CoreStands, consumed};
 
@@ -82,6 +94,34 @@ impl Core {
         ensures { result ≡ self.now.thread }
     {
         self.thread
+    }
+
+    /// The code with which the call is refused, if it is.
+    fn refused(&self, call: &Call) -> Option<Code>
+        requires { asks_slots call.now ≡ true }
+        ensures { (book : Book) → option_map Plain result ≡ refusal_of book self.now.shape self.now.registered (slot_faces self.now.slots) call.now }
+    {
+        refusal(&self.slots, self.registered, call)
+    }
+
+    /// The least number with no set under it, or 64.
+    fn free_number(&self) -> u32
+        ensures { result ≡ free self.now.slots }
+    {
+        free_number(&self.slots)
+    }
+
+    /// A new set under the least free number: PAPI_create_eventset(3). ECOUNT where there are 64 sets.
+    pub fn create(&mut self, _book: &PresetBook) -> Result<u32, Code>
+        requires { AgreesWith _book.now self.old }
+        ensures { Follows _book.now self.old self.new call.Create (reply_of (λ n. body.SetNumber n) result) }
+    {
+        if let Some(code) = self.refused(&Call::Create) {
+            return Err(code);
+        }
+        let number = self.free_number();
+        self.slots[number as usize] = Some(new_slot());
+        Ok(number)
     }
 
     /// Consumes one occurrence, and gives the events whose thresholds it passes.
