@@ -23,7 +23,7 @@ use Rattle.thread_core.specs.Following.{Follows}
 use Rattle.thread_core.specs.Refusing.{slot_faces}
 use Rattle.thread_core.specs.Slots.{new_slot, slot_of, slots_of}
 use Rattle.thread_core.specs.Stands.{AgreesWith, CoreStands}
-use Rattle.thread_core.proofs.Changing.{slots_put, units_stay}
+use Rattle.thread_core.proofs.Putting.{slots_put, units_stay}
 use Rattle.thread_core.proofs.Following.{Does, done_follows}
 use Rattle.thread_core.proofs.Tests.{all_some_of_map}
 

@@ -13,5 +13,6 @@ pub mod Taking
 pub mod Opening
 pub mod Tests
 pub mod Following
-pub mod Changing
+pub mod Putting
 pub mod Creating
+pub mod Extending

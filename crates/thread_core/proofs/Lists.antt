@@ -1,7 +1,7 @@
 -- Items of lists by their numbers.
 use Rattle.std.proofs.Common.{◌≡◌, ℕ, zero, suc, ◌+◌, ◌<◌, List, [], ◌∷◌, length, map, set, get_or, drop, refl, ap, ap₂, sym, subst, ◌∙◌, arith, Option, Some, None, option_map, slice_get}
-use Rattle.std.specs.Prelude.{All, unwrap_or}
-use Rattle.std.proofs.lemmas.Option.{slice_get_within, slice_get-get_or, get_or_from_slice_get}
+use Rattle.std.specs.Prelude.{All, OnOk, Result, Ok, Err, unwrap_or}
+use Rattle.std.proofs.lemmas.Option.{slice_get_within, slice_get-get_or, slice_get_read, get_or_from_slice_get}
 use Rattle.session_model.specs.Faces.{at}
 
 -- a fact that holds of all items
@@ -73,3 +73,19 @@ at-some {X = X} places k x e = go (slice_get places k) refl where
 
 pub some-at : {X : Type 0} (places : List (Option X)) (k : ℕ) (x : X) → slice_get places k ≡ Some (Some x) → at places k ≡ Some x
 some-at places k x e = ap (λ y. unwrap_or y None) e
+
+-- what the code reads under a number
+pub place_is : {X : Type 0} (places : List (Option X)) (k : ℕ) (place : Option X) (x : X) → k < length places → place ≡ get_or places k place → at places k ≡ Some x → place ≡ Some x
+place_is places k place x below reads e =
+    let is : Some place ≡ Some (Some x) = sym (slice_get_read places (length places) k place refl below reads) ∙ at-some places k x e in
+    cc
+
+pub on_ok : {X E P Q : Type 0} (r : Result X E) → (P → Q) → OnOk r P → OnOk r Q
+on_ok (Ok x) f p = f p
+on_ok (Err e) f p = tt
+
+-- a list with an item put where it stands
+pub set-same : {X : Type 0} (xs : List X) (k : ℕ) (x : X) → slice_get xs k ≡ Some x → set xs k x ≡ xs
+set-same [] k x e = refl
+set-same (y ∷ xs) zero x e = let same : y ≡ x = cc in ap (λ z. z ∷ xs) (sym same)
+set-same (y ∷ xs) (suc k) x e = ap (λ zs. y ∷ zs) (set-same xs k x e)

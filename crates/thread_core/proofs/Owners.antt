@@ -80,7 +80,7 @@ one_meets p (z ∷ xs) (suc i) zero x y most e f g h =
 one_meets p (z ∷ xs) (suc i) (suc j) x y most e f g h = ap suc (one_meets p xs i j x y (omega (arith, count-cons p z xs)) e f g h)
 
 -- what refusals look at is the same in the core and in the account
-face_same : (book : Book) (shape : Widths) (past : List Occ) (s : Kept) → face_of_slot (slot_of book shape past s) ≡ face_of s
+pub face_same : (book : Book) (shape : Widths) (past : List Occ) (s : Kept) → face_of_slot (slot_of book shape past s) ≡ face_of s
 face_same book shape past s = go s.running s.set.slice refl refl where
   go : (b : Bool) (m : Option ℕ) → s.running ≡ b → s.set.slice ≡ m → face_of_slot (slot_of book shape past s) ≡ face_of s
   go true None e f = ap face_of_slot (slot_of-running book shape past s None e f)

@@ -7,3 +7,4 @@ pub mod Stands
 pub mod Units
 pub mod Refusing
 pub mod Following
+pub mod Changed

@@ -6,6 +6,7 @@ pub use pins::Pin;
 pub use slot::Slot;
 pub use thread::Core;
 
+mod changing;
 pub mod counting;
 pub mod pins;
 mod refusal;

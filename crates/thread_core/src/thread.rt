@@ -10,12 +10,14 @@ ghost use Rattle.thread_core.specs.CoreView.{empty_unit};
 ghost use Rattle.session_model.specs.Fitness.{IsShape};
 
 use crate::counting::{Taken, count_all};
-use crate::refusal::refusal;
+use crate::changing::add_under;
+use crate::refusal::{is_absent, refusal, runs};
 use crate::slot::{Slot, empty_places, free_number, new_slot};
 use counter_unit::Unit;
+use event_sets::Refusal;
 use papi_base::{Code, Occ, Shape};
 use postfix_rules::PresetBook;
-use session_model::Call;
+use session_model::{Call, Named};
 use std::alloc::{AllocError, Global};
 use std::marker::Model;
 
@@ -61,12 +63,13 @@ impl Core {
     ghost use Rattle.std.specs.Prelude.{true};
     ghost use Rattle.std.specs.Option.{option_map};
     ghost use Rattle.event_sets.specs.declared.refusal.Refusal.TheVariants.{Plain};
+    ghost use Rattle.session_model.specs.Conditions.{IsNamed};
     ghost use Rattle.session_model.specs.Faces.{free};
     ghost use Rattle.session_model.specs.Refusals.{refusal_of};
-    ghost use Rattle.thread_core.specs.Refusing.{asks_slots, slot_faces};
+    ghost use Rattle.thread_core.specs.Refusing.{asks_slots, rest_code, slot_faces};
     ghost use Rattle.session_model.specs.declared.call.Call.TheVariants as call;
     ghost use Rattle.session_model.specs.declared.reply.Body.TheVariants as body;
-    ghost use Rattle.thread_core.specs.Following.{Follows, reply_of};
+    ghost use Rattle.thread_core.specs.Following.{Follows, changed_reply, reply_of};
     ghost use Rattle.thread_core.specs.CoreView.{opening_core};
     ghost use Rattle.thread_core.specs.Stands.{AgreesWith, CoreStands, consumed};
 
@@ -122,6 +125,37 @@ impl Core {
         let number = self.free_number();
         self.slots[number as usize] = Some(new_slot());
         Ok(number)
+    }
+
+    /// The code with which a change of the set at rest is refused before the set is asked, if it is.
+    fn not_at_rest(&self, set: u32) -> Option<Code>
+        ensures { result ≡ rest_code (slot_faces self.now.slots) set }
+    {
+        if is_absent(&self.slots, set) {
+            return Some(Code::Enoevst);
+        }
+        if runs(&self.slots, set) {
+            return Some(Code::Eisrun);
+        }
+        None
+    }
+
+    /// Adds an event to a set, and zeroes its counts: PAPI_add_event(3).
+    ///
+    /// ENOEVST where there is no such set, EISRUN where it runs, the name's code where the event's text was refused, then
+    /// the refusals of the set at rest.
+    pub fn add(&mut self, book: &PresetBook, set: u32, e: &Named) -> Result<(), Refusal>
+        requires agrees { AgreesWith book.now self.old }
+        requires named { IsNamed book.now self.old.shape e.now }
+        ensures { Follows book.now self.old self.new (call.Add set e.now) (changed_reply result) }
+    {
+        if let Some(code) = self.not_at_rest(set) {
+            return Err(Refusal::Plain(code));
+        }
+        match e {
+            Err(code) => Err(Refusal::Plain(*code)),
+            Ok(e) => add_under(&mut self.slots, book, &self.shape, set, e),
+        }
     }
 
     /// Consumes one occurrence, and gives the events whose thresholds it passes.
