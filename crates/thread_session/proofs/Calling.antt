@@ -1,0 +1,150 @@
+-- A call that is no run leaves the stream alone, and notes nothing.
+use Rattle.std.proofs.Common.{◌≡◌, ℕ, false, List, [], ◌++◌, refl, ap, sym, subst, ◌∙◌, ap₂, arith, append-nil, Option, Some, None}
+use Rattle.std.specs.Option.{option_map}
+use Rattle.papi_base.specs.declared.occurrence.Occ.{Occ}
+use Rattle.papi_base.specs.Streams.{Coming, Mark}
+use Rattle.overflow_dispatch.specs.Notes.{PartAdded}
+use Rattle.overflow_dispatch.specs.declared.handler.Note.{Note}
+use Rattle.postfix_rules.specs.Presets.{Book}
+use Rattle.event_sets.specs.AtRest.{Widths}
+use Rattle.event_sets.specs.declared.refusal.Refusal.{Refusal}
+use Rattle.event_sets.specs.declared.refusal.Refusal.TheVariants.{Plain, Conflict}
+use Rattle.session_model.specs.declared.call.Call.{Call}
+use Rattle.session_model.specs.declared.call.Call.TheVariants as call
+use Rattle.session_model.specs.declared.reply.Body.{Body}
+use Rattle.session_model.specs.declared.reply.Reply.{Reply}
+use Rattle.session_model.specs.Account.{Account}
+use Rattle.session_model.specs.Faces.{at}
+use Rattle.session_model.specs.Replies.{refused, shown}
+use Rattle.session_model.specs.Step.{account_refusal, performed, step, unless}
+use Rattle.stream_reader.specs.Reader.{ReaderView, coming, nothing}
+use Rattle.thread_core.specs.CoreView.{CoreView}
+use Rattle.thread_core.specs.Following.{Follows}
+use Rattle.thread_core.specs.Stands.{AgreesWith}
+use Rattle.thread_session.specs.Faults.{IsFault, IsFaultBody}
+use Rattle.thread_session.specs.Follows.{Does, FollowsAs, expecting}
+use Rattle.thread_session.specs.Offered.{is_run}
+use Rattle.thread_session.specs.SessionView.{AreInStep, SessionView}
+use Rattle.thread_session.proofs.Endings.{core_at, follows_reply, follows_stands}
+
+-- what a call leaves of the stream, its notes, and that the source did not fail
+record IsQuiet (a : Account) (after : Account) (reply : Reply) (notes : List Note) : Type 0 where
+  pub rest : after.rest ≡ a.rest
+  pub mark : after.mark ≡ a.mark
+  pub none : notes ≡ []
+  pub sound : IsFault reply → ⊥
+
+shown_sound : {X : Type 0} (f : X → Body) → ((x : X) → IsFaultBody (f x) → ⊥) → (place : Option X) → (sets : List (Option X)) (k : ℕ) → at sets k ≡ place → IsFault (shown f sets k) → ⊥
+shown_sound f sound None sets k e = rw e (λ x. x)
+shown_sound f sound (Some x) sets k e = rw e (sound x)
+
+performed_quiet : (book : Book) (shape : Widths) (a : Account) (made : Call) → is_run made ≡ false → IsQuiet a (performed book shape a made).account (performed book shape a made).reply (performed book shape a made).notes
+performed_quiet book shape a (call.Run n) e = absurd cc
+performed_quiet book shape a call.Register e = record { rest = refl; mark = refl; none = refl; sound = λ x. x }
+performed_quiet book shape a call.Unregister e = record { rest = refl; mark = refl; none = refl; sound = λ x. x }
+performed_quiet book shape a call.Create e = record { rest = refl; mark = refl; none = refl; sound = λ x. x }
+performed_quiet book shape a (call.Destroy k) e = record { rest = refl; mark = refl; none = refl; sound = λ x. x }
+performed_quiet book shape a (call.Cleanup k) e = record { rest = refl; mark = refl; none = refl; sound = λ x. x }
+performed_quiet book shape a (call.Add k x) e = record { rest = refl; mark = refl; none = refl; sound = λ x. x }
+performed_quiet book shape a (call.Remove k x) e = record { rest = refl; mark = refl; none = refl; sound = λ x. x }
+performed_quiet book shape a (call.AssignComponent k x) e = record { rest = refl; mark = refl; none = refl; sound = λ x. x }
+performed_quiet book shape a (call.SetDomain k x) e = record { rest = refl; mark = refl; none = refl; sound = λ x. x }
+performed_quiet book shape a (call.SetMultiplex k x) e = record { rest = refl; mark = refl; none = refl; sound = λ x. x }
+performed_quiet book shape a (call.Overflow k x t) e = record { rest = refl; mark = refl; none = refl; sound = λ x. x }
+performed_quiet book shape a (call.Start k) e = record { rest = refl; mark = refl; none = refl; sound = λ x. x }
+performed_quiet book shape a (call.Reset k) e = record { rest = refl; mark = refl; none = refl; sound = λ x. x }
+performed_quiet book shape a (call.Stop k) e = record { rest = refl; mark = refl; none = refl; sound = shown_sound _ (λ s x. x) _ a.sets k refl }
+performed_quiet book shape a (call.Read k) e = record { rest = refl; mark = refl; none = refl; sound = shown_sound _ (λ s x. x) _ a.sets k refl }
+performed_quiet book shape a (call.Accum k) e = record { rest = refl; mark = refl; none = refl; sound = shown_sound _ (λ s x. x) _ a.sets k refl }
+performed_quiet book shape a (call.State k) e = record { rest = refl; mark = refl; none = refl; sound = shown_sound _ (λ s x. x) _ a.sets k refl }
+performed_quiet book shape a (call.ListEvents k) e = record { rest = refl; mark = refl; none = refl; sound = shown_sound _ (λ s x. x) _ a.sets k refl }
+performed_quiet book shape a (call.Assign k) e = record { rest = refl; mark = refl; none = refl; sound = shown_sound _ (λ s x. x) _ a.sets k refl }
+performed_quiet book shape a (call.Raw k c) e = record { rest = refl; mark = refl; none = refl; sound = shown_sound _ (λ s x. x) _ a.sets k refl }
+
+refused_sound : (r : Refusal) → IsFault (refused r) → ⊥
+refused_sound (Plain c) x = x
+refused_sound (Conflict clash) x = x
+
+step_quiet : (book : Book) (shape : Widths) (a : Account) (made : Call) → is_run made ≡ false → IsQuiet a (step book shape a made).account (step book shape a made).reply (step book shape a made).notes
+step_quiet book shape a made e = go (account_refusal book shape a made) where
+  go : (r : Option Refusal) → IsQuiet a (unless r a (performed book shape a made)).account (unless r a (performed book shape a made)).reply (unless r a (performed book shape a made)).notes
+  go None = performed_quiet book shape a made e
+  go (Some r) = record { rest = refl; mark = refl; none = refl; sound = refused_sound r }
+
+-- what is to come, where it is told
+abbrev expected_of : Option Coming → Coming
+expected_of None = nothing
+expected_of (Some c) = c
+
+expected_told : (was : Option Coming) (c : Coming) → was ≡ Some c → c ≡ expected_of was
+expected_told None c e = absurd cc
+expected_told (Some d) c e = let h : Some d ≡ Some c = e in cc
+
+pub call_follows : (book : Book) (old : SessionView) (core : CoreView) (made : Call) (reply : Reply) (notes : List Note) → is_run made ≡ false → Follows book old.core core made reply
+    → FollowsAs book old (record { core = core; reader = old.reader }) made reply notes notes
+call_follows book old core made reply notes still f =
+    let c = expected_of (coming old.reader) in
+    let q : (a : Account) → IsQuiet (expecting c a) (step book old.core.shape (expecting c a) made).account (step book old.core.shape (expecting c a) made).reply (step book old.core.shape (expecting c a) made).notes =
+    λ a. step_quiet book old.core.shape (expecting c a) made still in
+    record {
+      expected = c;
+      core = λ a h. f.account (expecting c a) (core_at book old.core a c.rest c.mark h);
+      reply = λ a h. f.reply (expecting c a) (core_at book old.core a c.rest c.mark h);
+      notes = λ a h. sym (ap (λ (xs : List Note). notes ++ xs) (q a).none ∙ append-nil notes);
+      told = expected_told (coming old.reader);
+      left = λ a h t. t ∙ ap₂ (λ (r : List Occ) (m : Mark). Some (record { rest = r; mark = m })) (sym (q a).rest) (sym (q a).mark);
+    }
+
+-- the source did not fail
+pub call_sound : (book : Book) (old core : CoreView) (made : Call) (reply : Reply) → is_run made ≡ false → Follows book old core made reply → AgreesWith book old → IsFault reply → ⊥
+call_sound book old core made reply still f agrees x =
+    (step_quiet book old.shape agrees.account made still).sound (subst IsFault (f.reply agrees.account agrees.stands) x)
+
+pub call_does : (book : Book) (old : SessionView) (core : CoreView) (made : Call) (reply : Reply) → is_run made ≡ false → Follows book old.core core made reply → Does book old (record { core = core; reader = old.reader }) made reply
+call_does book old core made reply still f =
+    let whole = call_follows book old core made reply [] still f in
+    record {
+      kept = f;
+      reader = refl;
+      stands = λ a h. follows_stands book old (record { core = core; reader = old.reader }) made reply [] [] a whole h;
+      reply = λ a h. follows_reply book old (record { core = core; reader = old.reader }) made reply [] [] a whole h;
+    }
+
+pub does_follows : (book : Book) (old new : SessionView) (made : Call) (reply : Reply) (notes : List Note) → is_run made ≡ false → Does book old new made reply → FollowsAs book old new made reply notes notes
+does_follows book old new made reply notes still d =
+    subst (λ (r : ReaderView). FollowsAs book old (record { core = new.core; reader = r }) made reply notes notes) (sym d.reader) (call_follows book old new.core made reply notes still d.kept)
+
+pub still_by : (made : Call) → ((n : ℕ) → made ≡ call.Run n → ⊥) → is_run made ≡ false
+still_by call.Register other = refl
+still_by call.Unregister other = refl
+still_by call.Create other = refl
+still_by (call.Destroy k) other = refl
+still_by (call.Cleanup k) other = refl
+still_by (call.Add k x) other = refl
+still_by (call.Remove k x) other = refl
+still_by (call.AssignComponent k x) other = refl
+still_by (call.SetDomain k x) other = refl
+still_by (call.SetMultiplex k x) other = refl
+still_by (call.Overflow k x t) other = refl
+still_by (call.Start k) other = refl
+still_by (call.Stop k) other = refl
+still_by (call.Read k) other = refl
+still_by (call.Accum k) other = refl
+still_by (call.Reset k) other = refl
+still_by (call.State k) other = refl
+still_by (call.ListEvents k) other = refl
+still_by (call.Assign k) other = refl
+still_by (call.Raw k x) other = refl
+still_by (call.Run n) other = absurd (other n refl)
+
+-- the notes of a run that is this call
+pub part_of_call : (book : Book) (shape : Widths) (a : Account) (made run : Call) (before after : List Note) → made ≡ run → PartAdded before (step book shape a run).notes after → PartAdded before (step book shape a made).notes after
+part_of_call book shape a made run before after e part = subst (λ (k : Call). PartAdded before (step book shape a k).notes after) (sym e) part
+
+-- the core has taken what the reader has given, as before
+pub in_step_same : (book : Book) (core core_then : CoreView) (reader : ReaderView) (made : Call) (reply : Reply) → Follows book core core_then made reply → AreInStep core reader → AreInStep core_then reader
+in_step_same book core core_then reader made reply f s = record {
+  taken = f.taken ∙ s.taken;
+  few = omega (arith, f.taken, s.few);
+  last = ap (option_map (λ (o : Occ). o.stamp)) f.last ∙ s.last;
+}

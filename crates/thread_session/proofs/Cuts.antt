@@ -1,0 +1,76 @@
+-- A run in which memory was refused.
+use Rattle.std.proofs.Common.{◌≡◌, ℕ, suc, ◌+◌, ◌-◌, ◌<◌, List, [], ◌∷◌, ◌++◌, length, map, take, min, ap, ap₂, sym, subst, ◌∙◌, arith, append_assoc, length-append}
+use Rattle.std.proofs.Math.Seq.{take-append-add}
+use Rattle.std.proofs.lemmas.List.{take-append-le}
+use Rattle.papi_base.specs.declared.occurrence.Occ.{Occ}
+use Rattle.overflow_dispatch.specs.Notes.{PartAdded}
+use Rattle.overflow_dispatch.specs.declared.handler.Note.{Note}
+use Rattle.postfix_rules.specs.Presets.{Book}
+use Rattle.session_model.specs.declared.call.Call.TheVariants.{Run}
+use Rattle.session_model.specs.Account.{Account}
+use Rattle.session_model.specs.Step.{step}
+use Rattle.session_model.specs.Thresholds.{note, notes_at, notes_over}
+use Rattle.stream_reader.specs.declared.next.Next.TheVariants as next
+use Rattle.stream_reader.specs.Reader.{NextGives, ReaderView, coming}
+use Rattle.thread_core.specs.CoreView.{CoreView}
+use Rattle.thread_core.specs.Stands.{CoreStands, consumed}
+use Rattle.thread_session.specs.SessionView.{SessionView}
+use Rattle.thread_session.specs.Stands.{Stands}
+use Rattle.thread_session.specs.Follows.{IsCut, consuming}
+use Rattle.thread_session.proofs.Runs.{Running, notes_over-append}
+use Rattle.thread_session.proofs.Telling.{gave_more}
+
+pub cut_at : (book : Book) (old : SessionView) (core core_then : CoreView) (reader reader_then : ReaderView) (before after after_then : List Note) (k count n thread set : ℕ) (passed : List ℕ) (o : Occ)
+    → k < n
+    → thread ≡ old.core.thread
+    → ((b : Book) (a : Account) → CoreStands b core a → CoreStands b core_then (consumed a o))
+    → ((b : Book) (a : Account) → CoreStands b core a → notes_at b a.thread a.past o 0 a.sets ≡ map (note a.thread set o) passed)
+    → NextGives (coming reader) (next.Occ o) (coming reader_then)
+    → PartAdded after (map (note thread set o) passed) after_then
+    → Running book old core reader before after k count → IsCut book old (record { core = core_then; reader = reader_then }) n before after_then
+cut_at book old core core_then reader reader_then before after after_then k count n thread set passed o less same stands notes gives part r =
+    let its : (a : Account) → CoreStands book old.core a → map (note thread set o) passed ≡ notes_at book a.thread (a.past ++ r.os) o 0 a.sets =
+    λ a h. ap (λ (t : ℕ). map (note t set o) passed) (same ∙ h.thread) ∙ sym (notes book (consuming r.os a) (r.taking.stands a h)) in
+    record {
+      earlier = r.os;
+      last = o;
+      below = omega (arith, r.number, less);
+      core = λ a h. subst (λ (past : List Occ). CoreStands book core_then (record a { past = past })) (append_assoc a.past r.os (o ∷ [])) (stands book (consuming r.os a) (r.taking.stands a h));
+      notes = λ a h. (
+        part.0,
+        subst (λ (xs : List Note). part.0 < length xs) (its a h) part.1,
+        part.2 ∙ ap₂ (λ (xs ys : List Note). xs ++ take part.0 ys) (r.taking.notes a h) (its a h),
+      );
+      told = λ a h.
+          let g = gave_more (record { rest = a.rest; mark = a.mark }) r.os (coming reader) (coming reader_then) o (r.taking.told (record { rest = a.rest; mark = a.mark }) h.told) gives in
+          (g.later, g.rest ∙ append_assoc r.os (o ∷ []) g.later, g.left);
+    }
+
+-- a proper prefix of the middle, behind the first part, is one of the whole
+part_of : (before first middle last after : List Note) → PartAdded (before ++ first) middle after → PartAdded before (first ++ (middle ++ last)) after
+part_of before first middle last after (m, less, e) = (
+  length first + m,
+  omega (arith, less, length-append first (middle ++ last), length-append middle last),
+  e ∙ append_assoc before first (take m middle)
+      ∙ ap (λ (xs : List Note). before ++ xs) (ap (λ (xs : List Note). first ++ xs) (sym (take-append-le m middle last (omega (arith, less)))) ∙ sym (take-append-add first (middle ++ last) m)),
+)
+
+-- the first of these, one more, and some of those behind
+take_past : (earlier later : List Occ) (o : Occ) (k : ℕ) → length earlier < k → take k (earlier ++ o ∷ later) ≡ earlier ++ (o ∷ [] ++ take (k - (length earlier + 1)) later)
+take_past earlier later o k less =
+    let j : ℕ = k - (length earlier + 1) in
+    let is : k ≡ length earlier + suc j = omega (arith, less) in
+    ap (λ (x : ℕ). take x (earlier ++ o ∷ later)) is ∙ take-append-add earlier (o ∷ later) (suc j)
+
+pub cut_part : (book : Book) (old new : SessionView) (n : ℕ) (before after : List Note) (a : Account) → IsCut book old new n before after → Stands book old a → PartAdded before (step book old.core.shape a (Run n)).notes after
+cut_part book old new n before after a cut h =
+    let t = cut.told a h in
+    let k : ℕ = min n (length a.rest) in
+    let long : length a.rest ≡ length cut.earlier + suc (length t.0) = ap length t.1 ∙ length-append cut.earlier (cut.last ∷ t.0) in
+    let less : length cut.earlier < k = omega (arith, cut.below, long) in
+    let j : ℕ = k - (length cut.earlier + 1) in
+    let taken : take k a.rest ≡ cut.earlier ++ (cut.last ∷ [] ++ take j t.0) = ap (λ (xs : List Occ). take k xs) t.1 ∙ take_past cut.earlier t.0 cut.last k less in
+    let is : (step book old.core.shape a (Run n)).notes ≡ notes_over book a.thread a.sets a.past cut.earlier ++ (notes_at book a.thread (a.past ++ cut.earlier) cut.last 0 a.sets ++ notes_over book a.thread a.sets ((a.past ++ cut.earlier) ++ cut.last ∷ []) (take j t.0)) =
+    ap (λ (xs : List Occ). notes_over book a.thread a.sets a.past xs) taken ∙ notes_over-append book a.thread a.sets a.past cut.earlier (cut.last ∷ [] ++ take j t.0) in
+    subst (λ (xs : List Note). PartAdded before xs after) (sym is) (part_of before (notes_over book a.thread a.sets a.past cut.earlier) (notes_at book a.thread (a.past ++ cut.earlier) cut.last 0 a.sets)
+    (notes_over book a.thread a.sets ((a.past ++ cut.earlier) ++ cut.last ∷ []) (take j t.0)) after (cut.notes a h.kept))

@@ -1,0 +1,9 @@
+pub mod Telling
+pub mod Runs
+pub mod Outcomes
+pub mod Endings
+pub mod Cuts
+pub mod Failing
+pub mod Results
+pub mod Delivering
+pub mod Calling

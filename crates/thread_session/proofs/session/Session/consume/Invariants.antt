@@ -1,0 +1,23 @@
+use Rattle.std.proofs.Common.{◌-◌, ◌≡◌, ◌≤◌, ◌*◌}
+use Rattle.session_model.specs.declared.reply.Ended.TheVariants as ended
+use Rattle.thread_core.specs.Stands.{AgreesWith}
+use Rattle.thread_session.specs.Faults.{FaultsKept, fault_count}
+use Rattle.thread_session.specs.SessionView.{AreInStep}
+use Rattle.thread_session.proofs.Runs.{Running}
+use Rattle.thread_session.proofs.session.Session.consume.Given as goal
+
+abbrev pub invariant-loop-consumed : goal.invariant-loop-consumed
+invariant-loop-consumed g l = record {
+  most : l.consumed ≤ l.n;
+  few : l.notes ≤ 32 * l.consumed;
+  going : l.ended ≡ ended.Going;
+  own : l.thread ≡ l.fn.self.core.thread;
+  shape : l.self-inside.core.shape ≡ l.fn.self.core.shape;
+  agrees : AgreesWith l.book l.self-inside.core;
+  in_step : AreInStep l.self-inside.core l.self-inside.reader;
+  faults : FaultsKept (fault_count l.fn.self.reader) (fault_count l.self-inside.reader);
+  running : Running l.book l.fn.self l.self-inside.core l.self-inside.reader ((goal.Handler-dyn g l.initial.h.now).notes l.initial.h.now.1) ((goal.Handler-dyn g l.h.now).notes l.h.now.1) l.consumed l.notes;
+}
+
+abbrev pub decreases-loop-consumed : goal.decreases-loop-consumed
+decreases-loop-consumed g l = l.n - l.consumed

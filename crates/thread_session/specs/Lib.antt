@@ -1,0 +1,16 @@
+pub mod SessionView
+pub mod Faults
+pub mod Stands
+pub mod Follows
+pub mod Offered
+pub use Rattle.event_sets.specs.Agreement
+pub use Rattle.overflow_dispatch.specs.Notes
+pub use Rattle.papi_base.specs.Streams
+pub use Rattle.postfix_rules.specs.Presets
+pub use Rattle.session_model.specs.Account
+pub use Rattle.session_model.specs.Conditions
+pub use Rattle.session_model.specs.Step
+pub use Rattle.session_model.specs.Thresholds
+pub use Rattle.stream_reader.specs.Reader
+pub use Rattle.thread_core.specs.CoreView
+pub use Rattle.thread_core.specs.Following

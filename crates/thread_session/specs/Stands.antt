@@ -1,0 +1,16 @@
+-- When a session stands for an account, and when calls may be made on it.
+use Rattle.std.specs.Prelude.{◌≡◌, Some}
+use Rattle.postfix_rules.specs.Presets.{Book}
+use Rattle.session_model.specs.Account.{Account}
+use Rattle.stream_reader.specs.Reader.{coming}
+use Rattle.thread_core.specs.Stands.{AgreesWith, CoreStands}
+use Rattle.thread_session.specs.SessionView.{SessionView}
+
+-- The core keeps what the account says, and the reader tells what is to come.
+pub record Stands (book : Book) (s : SessionView) (a : Account) : Type 0 where
+  pub kept : CoreStands book s.core a
+  pub told : coming s.reader ≡ Some (record { rest = a.rest; mark = a.mark })
+
+-- The book fits the core's shape, and the sets agree with it.
+pub record IsReady (book : Book) (s : SessionView) : Type 0 where
+  pub agrees : AgreesWith book s.core

@@ -1,0 +1,10 @@
+//! A thread's session: its event sets, and the stream of the occurrences that they count.
+#![tactic(auto)]
+
+mod answers;
+mod calls;
+mod delivery;
+mod running;
+pub mod session;
+
+pub use session::Session;

@@ -1,0 +1,64 @@
+//! Sessions.
+ghost use Rattle.std.specs.Prelude.{◌≡◌, IfOk, Some};
+ghost use Rattle.std.specs.Option.{option_map};
+ghost use Rattle.postfix_rules.specs.Presets.{Book};
+ghost use Rattle.event_sets.specs.Agreement.{BookFits};
+ghost use Rattle.papi_base.specs.Streams.{Coming};
+ghost use Rattle.session_model.specs.Account.{Account, opening};
+
+use papi_base::{Shape, Source};
+use std::alloc::{AllocError, Global};
+use std::marker::Model;
+use stream_reader::StreamReader;
+use thread_core::Core;
+
+/// The event sets of one thread, and the reader of the stream of occurrences that they count.
+///
+/// Of the calls only `new`, `run`, and `call` where it runs, take memory.
+#[derive(Drop)]
+pub struct Session<S: Source> {
+    pub(crate) core: Core,
+    pub(crate) reader: StreamReader<S>,
+}
+
+impl<S: Source> Model for Session<S> {
+    ghost use Rattle.thread_session.specs.SessionView.{AreInStep, SessionView};
+
+    ghost Value = { SessionView };
+
+    ghost view = { λ s. record { core = s.core; reader = s.reader } };
+
+    ghost invariant = { λ s. AreInStep s.core s.reader };
+}
+
+impl<S: Source> Session<S> {
+    ghost use Rattle.stream_reader.specs.Reader.{coming};
+    ghost use Rattle.thread_session.specs.Faults.{fault_count};
+    ghost use Rattle.thread_session.specs.SessionView.{IsFresh};
+    ghost use Rattle.thread_session.specs.Stands.{IsReady, Stands};
+
+    /// A session without sets, for units of this shape, that reads its thread's stream from the beginning. It takes the
+    /// memory for 64 sets; where that is refused, the reader is dropped.
+    pub fn new(
+        alloc: Global,
+        thread: u32,
+        shape: Shape,
+        reader: StreamReader<S>,
+    ) -> Result<Session<S>, AllocError>
+        requires fresh { IsFresh reader }
+        ensures shape { IfOk result (λ s. s.core.shape ≡ shape) }
+        ensures reader { IfOk result (λ s. s.reader ≡ reader) }
+        ensures ready { (book : Book) → BookFits shape book → IfOk result (λ s. IsReady book s) }
+        ensures stands { (book : Book) (stream : Coming) → coming reader ≡ Some stream → IfOk result (λ s. Stands book s (opening thread stream.rest stream.mark)) }
+    {
+        let core = Core::new(alloc, thread, shape)?;
+        Ok(Session { core, reader })
+    }
+
+    /// The source as the session left it, or `None` where the reader was made without one.
+    pub fn into_source(self) -> Option<S>
+        ensures { option_map S.faults result ≡ fault_count self.reader }
+    {
+        self.reader.into_source()
+    }
+}
