@@ -1,0 +1,130 @@
+//! A unit's events and the presets over them.
+
+ghost use Rattle.std.specs.Prelude.{◌≡◌, IfOk, string_bytes};
+ghost use Rattle.component_table.specs.Catalogs as Catalogs;
+ghost use Rattle.component_table.specs.Catalogs.{catalog_of, looked_up, preset_looked_up};
+ghost use Rattle.component_table.specs.EventNames as EventNames;
+ghost use Rattle.event_sets.specs.Agreement.{BookFits};
+ghost use Rattle.event_tables.specs.Tables.{shape_of};
+ghost use Rattle.preset_table.specs.Table as Table;
+ghost use Rattle.session_model.specs.Conditions.{IsNamed};
+
+use event_tables::Tables;
+use name_encoder::{cause_code, encode, write_name};
+use papi_base::{Code, EventRef, Shape};
+use postfix_rules::PresetBook;
+use preset_table::{preset_count, preset_row, preset_symbol};
+use std::alloc::{AllocError, Global};
+use std::marker::Model;
+
+/// The tables of a unit, and the book of the presets that are available over them.
+#[derive(Drop)]
+pub struct Catalog {
+    tables: Tables,
+    book: PresetBook,
+}
+
+impl Model for Catalog {
+    ghost use Rattle.event_sets.specs.Agreement.{BookFits};
+    ghost use Rattle.event_tables.specs.Tables.{shape_of};
+    ghost use Rattle.component_table.specs.Catalogs.{CatalogView};
+
+    ghost Value = { CatalogView };
+
+    ghost view = { λ c. record { tables = c.tables; book = c.book } };
+
+    ghost invariant = { λ c. BookFits (shape_of c.tables) c.book };
+}
+
+// Whether a text begins as a preset's symbol does.
+fn is_symbol(text: &str) -> bool
+    ensures { result ≡ Catalogs.is_symbol text.now }
+{
+    text.starts_with("PAPI_")
+}
+
+// The symbol of a preset, and an empty text where there is no such row.
+fn symbol_of(row: u32) -> &'static str
+    ensures { result.now ≡ Table.symbol_at row }
+{
+    if row < preset_count() {
+        preset_symbol(row)
+    } else {
+        ""
+    }
+}
+
+impl Catalog {
+    /// The catalog of a unit without presets.
+    pub fn build(alloc: Global, tables: Tables) -> Result<Catalog, AllocError>
+        ensures catalog { IfOk result (λ c. c ≡ catalog_of tables) }
+    {
+        Ok(Catalog {
+            tables,
+            book: PresetBook::new(Vec::new(alloc)),
+        })
+    }
+
+    /// The tables of the unit.
+    pub fn tables(&self) -> &Tables
+        ensures tables { result.now ≡ self.now.tables }
+    {
+        &self.tables
+    }
+
+    /// The book of the presets that are available.
+    pub fn book(&self) -> &PresetBook
+        ensures book { result.now ≡ self.now.book }
+        ensures fits { BookFits (shape_of self.now.tables) self.now.book }
+    {
+        &self.book
+    }
+
+    /// The components' counters and their widths.
+    pub fn shape(&self) -> Shape
+        ensures shape { result ≡ shape_of self.now.tables }
+    {
+        self.tables.shape()
+    }
+
+    // The preset of a symbol, where it is available.
+    fn preset_of(&self, symbol: &str) -> Result<EventRef, Code>
+        ensures preset { result ≡ preset_looked_up self.now.book (Table.row_of symbol.now) }
+        ensures named { IsNamed self.now.book (shape_of self.now.tables) result }
+    {
+        let Some(row) = preset_row(symbol) else {
+            return Err(Code::Enoevnt);
+        };
+        match self.book.get(row) {
+            Some(_) => Ok(EventRef::Preset(row)),
+            None => Err(Code::Enoevnt),
+        }
+    }
+
+    /// The event that a text names, PAPI_event_name_to_code(3), or the code that refuses it.
+    ///
+    /// A text that begins with `PAPI_` is the symbol of a preset, and Enoevnt where that is no symbol of the table or not
+    /// available. Any other text is the name of a native event.
+    pub fn lookup(&self, text: &str) -> Result<EventRef, Code>
+        ensures event { result ≡ looked_up self.now text.now }
+        ensures named { IsNamed self.now.book (shape_of self.now.tables) result }
+    {
+        if is_symbol(text) {
+            return self.preset_of(text);
+        }
+        match encode(&self.tables, text) {
+            Ok(native) => Ok(EventRef::Native(native)),
+            Err(fault) => Err(cause_code(fault)),
+        }
+    }
+
+    /// What an event is called: a preset by its symbol, a native event by its canonical name, PAPI_event_code_to_name(3).
+    pub fn event_name(&self, alloc: Global, event: &EventRef) -> Result<String, AllocError>
+        ensures name { IfOk result (λ name. string_bytes name ≡ EventNames.event_name self.now.tables event.now) }
+    {
+        match event {
+            EventRef::Preset(row) => String::from_str(alloc, symbol_of(*row)),
+            EventRef::Native(native) => write_name(alloc, &self.tables, native),
+        }
+    }
+}

@@ -1,0 +1,45 @@
+//! A catalog over a small unit.
+use crate::Catalog;
+use event_tables::{Tables, read_unit};
+use papi_base::Code;
+use std::alloc::Global;
+
+const UNIT: &[u8] =
+    b"COMPONENT,cpu,lab\nCOUNTER,P0,16,P\nEVENT,BR_INST,c4,P0,x\nUMASK,ALL,01,d,x\nUMASK,TAKEN,02,n,x\n";
+
+fn unit(alloc: Global) -> Option<Tables> {
+    read_unit(alloc, UNIT).ok()
+}
+
+// The name of the event that a text names, or the code that refuses it.
+fn name_of(alloc: Global, catalog: &Catalog, text: &str) -> Result<String, Code> {
+    let event = catalog.lookup(text)?;
+    catalog.event_name(alloc, &event).map_err(|_| Code::Esys)
+}
+
+#[test]
+fn names_of_events(rt: HostRuntime) {
+    let alloc = rt.alloc();
+    let tables = unit(alloc).expect(&rt, "a unit");
+    let catalog = Catalog::build(alloc, tables).expect(&rt, "memory");
+    for (text, name) in [
+        ("br_inst", "lab::BR_INST:ALL"),
+        ("cpu:::BR_INST:taken:u", "lab::BR_INST:TAKEN:u"),
+    ] {
+        match name_of(alloc, &catalog, text) {
+            Ok(found) => assert!(rt; found.as_str() == name),
+            Err(_) => assert!(rt; false),
+        }
+    }
+    for (text, code) in [
+        ("NOPE", Code::Enoevnt),
+        ("PAPI_TOT_INS", Code::Enoevnt),
+        ("BR_INST:x", Code::Eattr),
+        ("BR_INST:ALL:TAKEN", Code::Ecombo),
+    ] {
+        match name_of(alloc, &catalog, text) {
+            Ok(_) => assert!(rt; false),
+            Err(refused) => assert!(rt; refused == code),
+        }
+    }
+}

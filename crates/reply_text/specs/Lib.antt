@@ -1,0 +1,3 @@
+pub mod Hexadecimal
+pub mod Replies
+pub use Rattle.event_tables.specs.Tables
