@@ -7,3 +7,4 @@ pub mod Failing
 pub mod Results
 pub mod Delivering
 pub mod Calling
+pub mod Folding

@@ -6,5 +6,6 @@ mod calls;
 mod delivery;
 mod running;
 pub mod session;
+mod several;
 
 pub use session::Session;
