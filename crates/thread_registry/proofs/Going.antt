@@ -1,0 +1,249 @@
+-- A job after its first calls, and after all of them.
+use Rattle.std.proofs.Common.{◌≡◌, ℕ, ◌+◌, ◌<◌, ◌≤◌, Bool, true, false, List, [], ◌∷◌, ◌++◌, All, length, take, get_or, refl, ap, ap₂, sym, ◌∙◌, append_assoc, length-append, arith, subst, inl, inr}
+use Rattle.std.proofs.lemmas.Bool.{cases_lt}
+use Rattle.std.proofs.lemmas.List.{append-nil, take_all}
+use Rattle.std.proofs.lemmas.List.Elements.{All-push}
+use Rattle.std.specs.Bool.{MatchBool}
+use Rattle.postfix_rules.specs.Presets.{Book}
+use Rattle.overflow_dispatch.specs.declared.handler.Note.{Note}
+use Rattle.overflow_dispatch.specs.Notes.{Begun, PartAdded}
+use Rattle.session_model.specs.declared.call.Call.{Call}
+use Rattle.session_model.specs.declared.reply.Reply.{Reply}
+use Rattle.session_model.specs.Account.{Account}
+use Rattle.session_model.specs.Step.{step, account_after, replies_to, notes_to}
+use Rattle.thread_session.specs.Faults.{FaultsKept, FaultsRose, IsFault, fault_count}
+use Rattle.thread_session.specs.SessionView.{SessionView}
+use Rattle.thread_session.specs.Stands.{IsReady, Stands}
+use Rattle.thread_registry.specs.Seen.{Seen, Worked, Finished, Cut, seen_of}
+use Rattle.thread_registry.proofs.Folds.{after-more, replies-more, notes-more, replies-front, notes-part}
+use Rattle.thread_registry.proofs.Faults.{kept-same, kept-kept, kept-rose, rose-kept}
+
+-- the account, the replies and the notes after k calls
+pub record Along (book : Book) (a : Account) (x y : Seen) (k : ℕ) : Type 0 where
+  pub stands : Stands book y.session (account_after book x.session.core.shape a (take k x.calls))
+  pub replies : y.replies ≡ x.replies ++ replies_to book x.session.core.shape a (take k x.calls)
+  pub notes : y.notes ≡ x.notes ++ notes_to book x.session.core.shape a (take k x.calls)
+
+-- the replies that were made by k calls
+pub record Made (x y : Seen) (k : ℕ) (made : List Reply) : Type 0 where
+  pub appended : y.replies ≡ x.replies ++ made
+  pub counted : length made ≡ k
+  pub faulty : All (λ r. IsFault r → FaultsRose (fault_count x.session.reader) (fault_count y.session.reader)) made
+
+-- y is the job x after its first k calls
+pub record Going (book : Book) (x y : Seen) (k : ℕ) : Type 0 where
+  pub calls : y.calls ≡ x.calls
+  pub starved : y.starved ≡ false
+  pub shape : y.session.core.shape ≡ x.session.core.shape
+  pub ready : IsReady book y.session
+  pub faults : FaultsKept (fault_count x.session.reader) (fault_count y.session.reader)
+  pub made : (made : List Reply) × Made x y k made
+  pub along : (a : Account) → Stands book x.session a → Along book a x y k
+
+All-nil : {X : Type 0} (P : X → Type 0) → All P []
+All-nil P = λ k d l. absurd (omega (arith, l))
+
+pub going-none : (book : Book) (x y : Seen) → IsReady book x.session → y ≡ x → x.starved ≡ false → Going book x y 0
+going-none book x y ready e q =
+    subst (λ z. Going book x z 0) (sym e)
+    (record {
+      calls = refl;
+      starved = q;
+      shape = refl;
+      ready = ready;
+      faults = kept-same (fault_count x.session.reader);
+      made = ([], record { appended = sym (append-nil x.replies); counted = refl; faulty = All-nil (λ r. IsFault r → FaultsRose (fault_count x.session.reader) (fault_count x.session.reader)) });
+      along = λ a s. record { stands = s; replies = sym (append-nil x.replies); notes = sym (append-nil x.notes) };
+    })
+
+-- what a call gave
+pub record Called (book : Book) (y z : Seen) (c : Call) (r : Reply) : Type 0 where
+  pub shape : z.session.core.shape ≡ y.session.core.shape
+  pub ready : IsReady book z.session
+  pub faults : FaultsKept (fault_count y.session.reader) (fault_count z.session.reader)
+  pub faulty : IsFault r → FaultsRose (fault_count y.session.reader) (fault_count z.session.reader)
+  pub follows : (a : Account) → Stands book y.session a
+      → Stands book z.session (step book y.session.core.shape a c).account
+      × (r ≡ (step book y.session.core.shape a c).reply)
+      × (z.notes ≡ y.notes ++ (step book y.session.core.shape a c).notes)
+
+-- replies that spoke of a fault before speak so still
+still : (u v w : SessionView) (rs : List Reply) → FaultsKept (fault_count u.reader) (fault_count v.reader) → FaultsKept (fault_count v.reader) (fault_count w.reader)
+    → All (λ r. IsFault r → FaultsRose (fault_count u.reader) (fault_count v.reader)) rs → All (λ r. IsFault r → FaultsRose (fault_count u.reader) (fault_count w.reader)) rs
+still u v w rs h i all = λ k d l f. rose-kept (fault_count u.reader) (fault_count v.reader) (fault_count w.reader) h (all k d l f) i
+
+-- the replies made by one call more
+made-more : (x y z : Seen) (k : ℕ) (r : Reply) (rs : List Reply) → FaultsKept (fault_count x.session.reader) (fault_count y.session.reader)
+    → FaultsKept (fault_count y.session.reader) (fault_count z.session.reader) → (IsFault r → FaultsRose (fault_count y.session.reader) (fault_count z.session.reader))
+    → z.replies ≡ y.replies ++ r ∷ [] → Made x y k rs → Made x z (k + 1) (rs ++ r ∷ [])
+made-more x y z k r rs h i f p m =
+    record {
+      appended = p ∙ (ap (λ v. v ++ r ∷ []) m.appended ∙ append_assoc x.replies rs (r ∷ []));
+      counted = omega (arith, length-append rs (r ∷ []), m.counted);
+      faulty =
+          All-push (λ r. IsFault r → FaultsRose (fault_count x.session.reader) (fault_count z.session.reader)) rs r
+          (still x.session y.session z.session rs h i m.faulty)
+          (λ g. kept-rose (fault_count x.session.reader) (fault_count y.session.reader) (fault_count z.session.reader) h (f g));
+    }
+
+along-more : (book : Book) (x y z : Seen) (k : ℕ) (c : Call) (r : Reply) (a : Account) → k < length x.calls → get_or x.calls k c ≡ c
+    → y.session.core.shape ≡ x.session.core.shape → Called book y z c r → z.replies ≡ y.replies ++ r ∷ []
+    → Along book a x y k → Along book a x z (k + 1)
+along-more book x y z k c r a h e shape called p g =
+    let w = x.session.core.shape in
+    let b = account_after book w a (take k x.calls) in
+    let follows = called.follows b g.stands in
+    let f = subst (λ v. Stands book z.session (step book v b c).account × (r ≡ (step book v b c).reply) × (z.notes ≡ y.notes ++ (step book v b c).notes)) shape follows in
+    record {
+      stands = subst (Stands book z.session) (sym (after-more book w a x.calls k c h e)) f.0;
+      replies =
+          p
+          ∙ (ap₂ (λ u v. u ++ v ∷ []) g.replies f.1
+          ∙ (append_assoc x.replies (replies_to book w a (take k x.calls)) ((step book w b c).reply ∷ [])
+          ∙ ap (λ v. x.replies ++ v) (sym (replies-more book w a x.calls k c h e))));
+      notes =
+          f.2
+          ∙ (ap (λ u. u ++ (step book w b c).notes) g.notes
+          ∙ (append_assoc x.notes (notes_to book w a (take k x.calls)) (step book w b c).notes
+          ∙ ap (λ v. x.notes ++ v) (sym (notes-more book w a x.calls k c h e))));
+    }
+
+pub going-more : (book : Book) (x y z : Seen) (k : ℕ) (c : Call) (r : Reply) → Going book x y k → k < length x.calls → get_or x.calls k c ≡ c
+    → Called book y z c r → z.calls ≡ y.calls → z.starved ≡ false → z.replies ≡ y.replies ++ r ∷ []
+    → Going book x z (k + 1)
+going-more book x y z k c r g h e called p q rs =
+    record {
+      calls = p ∙ g.calls;
+      starved = q;
+      shape = called.shape ∙ g.shape;
+      ready = called.ready;
+      faults = kept-kept (fault_count x.session.reader) (fault_count y.session.reader) (fault_count z.session.reader) g.faults called.faults;
+      made = (g.made.0 ++ r ∷ [], made-more x y z k r g.made.0 g.faults called.faults called.faulty rs g.made.1);
+      along = λ a s. along-more book x y z k c r a h e g.shape called rs (g.along a s);
+    }
+
+-- what a call left to which memory was refused
+pub record Refused (book : Book) (y z : Seen) (c : Call) : Type 0 where
+  pub shape : z.session.core.shape ≡ y.session.core.shape
+  pub ready : IsReady book z.session
+  pub faults : FaultsKept (fault_count y.session.reader) (fault_count z.session.reader)
+  pub part : (a : Account) → Stands book y.session a → Begun y.notes (step book y.session.core.shape a c).notes z.notes
+
+begun-of : (before given after : List Note) (n : ℕ) → after ≡ before ++ take n given → Begun before given after
+begun-of before given after n e =
+    elim (cases_lt n (length given)) [
+      | inl l ↦ (n, omega (arith, l), e)
+      | inr l ↦ (length given, omega arith, e ∙ ap (λ v. before ++ v) (take_all n given (omega arith) ∙ sym (take_all (length given) given (omega arith))))
+    ]
+
+cut-along : (book : Book) (x y z : Seen) (k : ℕ) (c : Call) (a : Account) → k < length x.calls → get_or x.calls k c ≡ c
+    → y.session.core.shape ≡ x.session.core.shape → Refused book y z c → z.replies ≡ y.replies
+    → Along book a x y k → Cut book a x z
+cut-along book x y z k c a h e shape refused p g =
+    let w = x.session.core.shape in
+    let b = account_after book w a (take k x.calls) in
+    let ps = notes_to book w a (take k x.calls) in
+    let part = subst (λ v. Begun y.notes (step book v b c).notes z.notes) shape (refused.part b g.stands) in
+    let n = part.0 in
+    let front = notes-part book w a x.calls k n c h e part.1 in
+    let all = notes_to book w a x.calls in
+    record {
+      replies = (k, h, p ∙ (g.replies ∙ ap (λ v. x.replies ++ v) (replies-front book w a x.calls k (omega arith))));
+      notes = begun-of x.notes all z.notes (length ps + n) (part.2 ∙ (ap (λ u. u ++ take n (step book w b c).notes) g.notes ∙ (append_assoc x.notes ps (take n (step book w b c).notes) ∙ ap (λ v. x.notes ++ v) front)));
+    }
+
+pub begun-of-part : (before given after : List Note) → PartAdded before given after → Begun before given after
+begun-of-part before given after h = (h.0, omega (arith, h.1), h.2)
+
+-- a call that was made, where its reply could not be kept
+pub refused-of : (book : Book) (y z : Seen) (c : Call) (r : Reply) → Called book y z c r → Refused book y z c
+refused-of book y z c r called =
+    record {
+      shape = called.shape;
+      ready = called.ready;
+      faults = called.faults;
+      part =
+          λ a s.
+          let ns = (step book y.session.core.shape a c).notes in
+          (length ns, omega arith, (called.follows a s).2 ∙ ap (λ v. y.notes ++ v) (sym (take_all (length ns) ns (omega arith))));
+    }
+
+pub going-cut : (book : Book) (x y z : Seen) (k : ℕ) (c : Call) → Going book x y k → k < length x.calls → get_or x.calls k c ≡ c
+    → Refused book y z c → z.calls ≡ y.calls → z.starved ≡ true → z.replies ≡ y.replies
+    → Worked book x z
+going-cut book x y z k c g h e refused p q rs =
+    record {
+      calls = p ∙ g.calls;
+      shape = refused.shape ∙ g.shape;
+      ready = refused.ready;
+      faults = kept-kept (fault_count x.session.reader) (fault_count y.session.reader) (fault_count z.session.reader) g.faults refused.faults;
+      replied = (
+        g.made.0,
+        record {
+          appended = rs ∙ g.made.1.appended;
+          counted = λ f. absurd (cc);
+          faulty = still x.session y.session z.session g.made.0 g.faults refused.faults g.made.1.faulty;
+        },
+      );
+      outcome = λ a s. subst (λ b. MatchBool b (Cut book a x z) (Finished book a x z)) (sym q) (cut-along book x y z k c a h e g.shape refused rs (g.along a s));
+    }
+
+-- all calls were made
+pub going-end : (book : Book) (x y : Seen) (k : ℕ) → Going book x y k → k ≡ length x.calls → Worked book x y
+going-end book x y k g e =
+    let h : length x.calls ≤ k = omega (arith, e) in
+    let all : take k x.calls ≡ x.calls = take_all k x.calls h in
+    let w = x.session.core.shape in
+    record {
+      calls = g.calls;
+      shape = g.shape;
+      ready = g.ready;
+      faults = g.faults;
+      replied = (
+        g.made.0,
+        record { appended = g.made.1.appended; counted = λ f. g.made.1.counted ∙ e; faulty = g.made.1.faulty },
+      );
+      outcome =
+          λ a s.
+          let f = g.along a s in
+          let done : Finished book a x y =
+          record {
+            stands = subst (λ cs. Stands book y.session (account_after book w a cs)) all f.stands;
+            replies = f.replies ∙ ap (λ cs. x.replies ++ replies_to book w a cs) all;
+            notes = f.notes ∙ ap (λ cs. x.notes ++ notes_to book w a cs) all;
+          } in
+          subst (λ b. MatchBool b (Cut book a x y) (Finished book a x y)) (sym g.starved) done;
+    }
+
+-- how it ended does not look at whether memory was refused before
+outcome-as : (book : Book) (a : Account) (x y : Seen) (before b : Bool)
+    → MatchBool b (Cut book a x y) (Finished book a x y)
+    → MatchBool b (Cut book a (seen_of x.session x.notes x.calls x.replies before) y) (Finished book a (seen_of x.session x.notes x.calls x.replies before) y)
+outcome-as book a x y before true h = record { replies = h.replies; notes = h.notes }
+outcome-as book a x y before false h = record { stands = h.stands; replies = h.replies; notes = h.notes }
+
+-- the job is seen the same by its parts
+pub worked-same : (book : Book) (x x' y y' : Seen) → Worked book x y
+    → x'.session ≡ x.session → x'.notes ≡ x.notes → x'.calls ≡ x.calls → x'.replies ≡ x.replies
+    → y'.session ≡ y.session → y'.notes ≡ y.notes → y'.calls ≡ y.calls → y'.replies ≡ y.replies → y'.starved ≡ y.starved
+    → Worked book x' y'
+worked-same book x x' y y' w a n c r a' n' c' r' s' =
+    let b = x'.starved in
+    let p0 : Worked book (seen_of x.session x.notes x.calls x.replies b) y =
+    record {
+      calls = w.calls;
+      shape = w.shape;
+      ready = w.ready;
+      faults = w.faults;
+      replied = (w.replied.0, record { appended = w.replied.1.appended; counted = w.replied.1.counted; faulty = w.replied.1.faulty });
+      outcome = λ e s. outcome-as book e x y b y.starved (w.outcome e s);
+    } in
+    let p1 = subst (λ v. Worked book (seen_of v x.notes x.calls x.replies b) y) (sym a) p0 in
+    let p2 = subst (λ v. Worked book (seen_of x'.session v x.calls x.replies b) y) (sym n) p1 in
+    let p3 = subst (λ v. Worked book (seen_of x'.session x'.notes v x.replies b) y) (sym c) p2 in
+    let p4 = subst (λ v. Worked book (seen_of x'.session x'.notes x'.calls v b) y) (sym r) p3 in
+    let q1 = subst (λ v. Worked book x' (seen_of v y.notes y.calls y.replies y.starved)) (sym a') p4 in
+    let q2 = subst (λ v. Worked book x' (seen_of y'.session v y.calls y.replies y.starved)) (sym n') q1 in
+    let q3 = subst (λ v. Worked book x' (seen_of y'.session y'.notes v y.replies y.starved)) (sym c') q2 in
+    let q4 = subst (λ v. Worked book x' (seen_of y'.session y'.notes y'.calls v y.starved)) (sym r') q3 in
+    subst (λ v. Worked book x' (seen_of y'.session y'.notes y'.calls y'.replies v)) (sym s') q4

@@ -1,0 +1,4 @@
+pub mod Folds
+pub mod Faults
+pub mod Listed
+pub mod Going

@@ -1,0 +1,14 @@
+pub mod Seen
+pub mod JobView
+pub use Rattle.overflow_dispatch.specs.Notes
+pub use Rattle.parallel_tasks.specs.Each
+pub use Rattle.postfix_rules.specs.Presets
+pub use Rattle.session_laws.specs.Worlds
+pub use Rattle.session_model.specs.Account
+pub use Rattle.session_model.specs.Conditions
+pub use Rattle.session_model.specs.Step
+pub use Rattle.session_model.specs.World
+pub use Rattle.thread_session.specs.Faults
+pub use Rattle.thread_session.specs.Offered
+pub use Rattle.thread_session.specs.SessionView
+pub use Rattle.thread_session.specs.Stands

@@ -1,0 +1,59 @@
+-- What is seen of a thread's job, before and after its work.
+use Rattle.std.specs.Prelude.{◌≡◌, ℕ, ◌<◌, Bool, true, false, List, All, ◌++◌, length, take}
+use Rattle.std.specs.Bool.{MatchBool}
+use Rattle.postfix_rules.specs.Presets.{Book}
+use Rattle.overflow_dispatch.specs.declared.handler.Note.{Note}
+use Rattle.overflow_dispatch.specs.Notes.{Begun}
+use Rattle.session_model.specs.declared.call.Call.{Call}
+use Rattle.session_model.specs.declared.reply.Reply.{Reply}
+use Rattle.session_model.specs.Account.{Account}
+use Rattle.session_model.specs.Conditions.{IsGood}
+use Rattle.session_model.specs.Step.{account_after, replies_to, notes_to}
+use Rattle.thread_session.specs.Faults.{FaultsKept, FaultsRose, IsFault, fault_count}
+use Rattle.thread_session.specs.Offered.{is_offered}
+use Rattle.thread_session.specs.SessionView.{SessionView}
+use Rattle.thread_session.specs.Stands.{IsReady, Stands}
+
+-- the session, what the handler was told, the calls to make, the replies so far, and whether memory was refused
+pub record Seen : Type 0 where
+  pub session : SessionView
+  pub notes : List Note
+  pub calls : List Call
+  pub replies : List Reply
+  pub starved : Bool
+
+-- the session and the calls meet the conditions of calls with this book, and sessions offer the calls
+pub record CanWork (book : Book) (session : SessionView) (calls : List Call) : Type 0 where
+  pub ready : IsReady book session
+  pub good : All (IsGood book session.core.shape) calls
+  pub offered : All (λ c. is_offered c ≡ true) calls
+
+-- These replies were made, whether or not the session's source tells its bytes. One that says that the source failed comes only where the count of faults rose.
+pub record Replied (x y : Seen) (made : List Reply) : Type 0 where
+  pub appended : y.replies ≡ x.replies ++ made
+  pub counted : y.starved ≡ false → length made ≡ length x.calls
+  pub faulty : All (λ r. IsFault r → FaultsRose (fault_count x.session.reader) (fault_count y.session.reader)) made
+
+-- all calls were made, on a session that stood for the account
+pub record Finished (book : Book) (a : Account) (x y : Seen) : Type 0 where
+  pub stands : Stands book y.session (account_after book x.session.core.shape a x.calls)
+  pub replies : y.replies ≡ x.replies ++ replies_to book x.session.core.shape a x.calls
+  pub notes : y.notes ≡ x.notes ++ notes_to book x.session.core.shape a x.calls
+
+-- memory was refused at one call: the replies of the calls before it are there, and a part of the notes
+pub record Cut (book : Book) (a : Account) (x y : Seen) : Type 0 where
+  pub replies : (k : ℕ) × (k < length x.calls) × (y.replies ≡ x.replies ++ take k (replies_to book x.session.core.shape a x.calls))
+  pub notes : Begun x.notes (notes_to book x.session.core.shape a x.calls) y.notes
+
+-- y is the job x after its work
+pub record Worked (book : Book) (x y : Seen) : Type 0 where
+  pub calls : y.calls ≡ x.calls
+  pub shape : y.session.core.shape ≡ x.session.core.shape
+  pub ready : IsReady book y.session
+  pub faults : FaultsKept (fault_count x.session.reader) (fault_count y.session.reader)
+  pub replied : (made : List Reply) × Replied x y made
+  pub outcome : (a : Account) → Stands book x.session a → MatchBool y.starved (Cut book a x y) (Finished book a x y)
+
+-- a job by its parts
+abbrev pub seen_of : SessionView → List Note → List Call → List Reply → Bool → Seen
+seen_of session notes calls replies starved = record { session = session; notes = notes; calls = calls; replies = replies; starved = starved }

@@ -1,0 +1,84 @@
+//! The work of one thread.
+ghost use Rattle.std.specs.Prelude.{false};
+ghost use Rattle.std.specs.Result.{is_err};
+ghost use Rattle.thread_registry.specs.Seen.{Worked, CanWork, seen_of};
+ghost use Rattle.thread_registry.specs.JobView.{seen};
+
+use overflow_dispatch::Handler;
+use papi_base::Source;
+use parallel_tasks::Task;
+use postfix_rules::PresetBook;
+use session_model::{Call, Reply};
+use std::alloc::AllocError;
+use std::marker::Send;
+use thread_session::Session;
+
+/// A thread's session and handler, the calls that it is to make in order, the replies so far, and whether memory was refused.
+#[derive(Drop)]
+pub struct Job<S: Source> {
+    pub session: Session<S>,
+    pub handler: Box<dyn Handler + Send>,
+    pub calls: Vec<Call>,
+    pub replies: Vec<Reply>,
+    pub starved: bool,
+}
+
+/// Makes the calls in order, until memory is refused.
+fn make_calls<S: Source>(
+    session: &mut Session<S>,
+    book: &PresetBook,
+    h: &mut dyn Handler,
+    calls: &[Call],
+    replies: &mut Vec<Reply>,
+) -> Result<(), AllocError>
+    requires { CanWork book.now session.old calls.now }
+    ensures { Worked book.now (seen_of session.old (notes h.old) calls.now replies.old.items false) (seen_of session.new (notes h.new) calls.now replies.new.items (is_err result)) }
+{
+    for call in calls {
+        let reply = session.call(book, call, h)?;
+        replies.push(reply)?;
+    }
+    Ok(())
+}
+
+/// The same, told to a boxed handler.
+fn make_boxed<S: Source>(
+    session: &mut Session<S>,
+    book: &PresetBook,
+    h: &mut Box<dyn Handler + Send>,
+    calls: &[Call],
+    replies: &mut Vec<Reply>,
+) -> Result<(), AllocError>
+    requires { CanWork book.now session.old calls.now }
+    ensures { Worked book.now (seen_of session.old (notes h.old) calls.now replies.old.items false) (seen_of session.new (notes h.new) calls.now replies.new.items (is_err result)) }
+{
+    make_calls(session, book, &mut **h, calls, replies)
+}
+
+/// Makes the calls of the job.
+fn work_job<S: Source>(job: &mut Job<S>, book: &PresetBook)
+    requires { CanWork book.now job.old.session job.old.calls.items }
+    ensures { Worked book.now (seen (notes job.old.handler) job.old) (seen (notes job.new.handler) job.new) }
+{
+    let made = make_boxed(
+        &mut job.session,
+        book,
+        &mut job.handler,
+        job.calls.as_slice(),
+        &mut job.replies,
+    );
+    job.starved = made.is_err();
+}
+
+impl<S: Source> Task<PresetBook> for Job<S> {
+    ghost use Rattle.thread_registry.specs.Seen.{Worked, CanWork};
+    ghost use Rattle.thread_registry.specs.JobView.{seen};
+
+    ghost ready = { λ book j. CanWork book j.session j.calls.items };
+
+    ghost done = { λ book x y. Worked book (seen ((Handler-box x.handler).notes x.handler.value) x) (seen ((Handler-box y.handler).notes y.handler.value) y) };
+
+    fn work(&mut self, book: &PresetBook) {
+        work_job(self, book);
+    }
+}

@@ -1,0 +1,10 @@
+//! The jobs of all threads, and which threads are registered (PAPI_register_thread(3)).
+#![tactic(auto)]
+
+pub mod job;
+pub mod registry;
+pub mod work;
+
+pub use job::Job;
+pub use registry::Registry;
+pub use work::work_all;

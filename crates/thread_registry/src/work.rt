@@ -1,0 +1,27 @@
+//! All jobs, worked by several workers.
+ghost use Rattle.std.specs.Prelude.{ℕ, ◌≤◌};
+ghost use Rattle.parallel_tasks.specs.Each.{Each, AtEach};
+ghost use Rattle.thread_registry.specs.Seen.{Worked, CanWork};
+ghost use Rattle.thread_registry.specs.JobView.{seen};
+
+use crate::job::Job;
+use papi_base::Source;
+use parallel_tasks::work_tasks;
+use postfix_rules::PresetBook;
+use std::marker::{Send, Sync};
+use std::thread::Threads;
+
+/// Makes the calls of all jobs, by at most this many workers, 1 to 64. Each job's replies are those of its calls in order, whatever the number of workers.
+pub fn work_all<R: Threads + Sync, S: Source + Send>(
+    rt: &R,
+    jobs: &mut Vec<Job<S>>,
+    book: &PresetBook,
+    workers: u32,
+)
+    requires low { 1 ≤ workers }
+    requires high { workers ≤ 64 }
+    requires ready { AtEach (λ j. CanWork book.now j.session j.calls.items) jobs.old.items }
+    ensures worked { Each (λ x y. Worked book.now (seen (notes x.handler) x) (seen (notes y.handler) y)) jobs.old.items jobs.new.items }
+{
+    work_tasks(rt, book, jobs, workers);
+}
