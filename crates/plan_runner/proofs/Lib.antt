@@ -1,0 +1,10 @@
+pub mod Ends
+pub mod Taken
+pub mod Dealt
+pub mod Outcomes
+pub mod Merged
+pub mod Counts
+pub mod Served
+pub mod Scripts
+pub mod Worlds
+pub mod Failing

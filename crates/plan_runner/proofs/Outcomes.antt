@@ -1,0 +1,78 @@
+-- What the jobs left, in the order of the threads.
+use Rattle.std.proofs.Common.{◌≡◌, ℕ, ◌-◌, ◌<◌, Bool, false, List, [], ◌∷◌, ◌++◌, All, length, map, reverse, get_or, refl, sym, ◌∙◌, ap, subst, arith, Option}
+use Rattle.std.proofs.lemmas.List.{reverse-append, map-append, get_or-reverse, get_or-map, length-reverse, length-map, reverse-reverse}
+use Rattle.std.proofs.lemmas.List.Elements.{All-map}
+use Rattle.overflow_dispatch.specs.declared.handler.Note.{Note}
+use Rattle.parallel_tasks.specs.Each.{Each}
+use Rattle.postfix_rules.specs.Presets.{Book}
+use Rattle.session_model.specs.declared.reply.Reply.{Reply}
+use Rattle.thread_session.specs.Faults.{fault_count}
+use Rattle.thread_registry.specs.Seen.{Seen, Worked}
+use Rattle.plan_runner.specs.Jobs.{Left}
+
+pub map-reverse : {A B : Type 0} (f : A → B) (xs : List A) → map f (reverse xs) ≡ reverse (map f xs)
+map-reverse f [] = refl
+map-reverse f (x ∷ xs) =
+    ap (map f) (reverse-append (x ∷ []) xs)
+    ∙ (map-append f (reverse xs) (x ∷ [])
+    ∙ (ap (λ u. u ++ f x ∷ []) (map-reverse f xs)
+    ∙ sym (reverse-append (f x ∷ []) (map f xs))))
+
+map-both : {A B C : Type 0} (f : A → B) (g : B → C) (xs : List A) → map g (map f xs) ≡ map (λ x. g (f x)) xs
+map-both f g [] = refl
+map-both f g (x ∷ xs) = ap (λ u. g (f x) ∷ u) (map-both f g xs)
+
+-- what holds of each element holds of it in the list turned round
+pub all-reverse : {A : Type 0} (P : A → Type 0) (xs : List A) → All P xs → All P (reverse xs)
+all-reverse P xs all = λ k d h.
+    let inside : k < length xs = omega (arith, h, length-reverse xs) in
+    subst P (sym (get_or-reverse xs k d inside)) (all (length xs - 1 - k) d (omega (arith, inside)))
+
+pub each-map : {A B : Type 0} (f : A → B) (R : B → B → Type 0) (xs ys : List A) → Each (λ x y. R (f x) (f y)) xs ys → Each R (map f xs) (map f ys)
+each-map f R [] ys e = record { len = length-map ys f ∙ e.len; at = λ k d h. absurd (omega (arith, h)) }
+each-map f R (x ∷ xs) ys e =
+    record {
+      len = length-map ys f ∙ (e.len ∙ sym (length-map (x ∷ xs) f));
+      at =
+          λ k d h.
+          let inside : k < length (x ∷ xs) = omega (arith, h, length-map (x ∷ xs) f) in
+          let there : k < length ys = omega (arith, inside, e.len) in
+          subst (λ v. R v (get_or (map f ys) k d)) (sym (get_or-map f (x ∷ xs) k x d inside))
+          (subst (λ v. R (f (get_or (x ∷ xs) k x)) v) (sym (get_or-map f ys k x d there)) (e.at k x inside));
+    }
+
+pub each-reverse : {A : Type 0} (R : A → A → Type 0) (xs ys : List A) → Each R xs ys → Each R (reverse xs) (reverse ys)
+each-reverse R xs ys e =
+    record {
+      len = length-reverse ys ∙ (e.len ∙ sym (length-reverse xs));
+      at =
+          λ k d h.
+          let inside : k < length xs = omega (arith, h, length-reverse xs) in
+          let there : k < length ys = omega (arith, inside, e.len) in
+          subst (λ v. R v (get_or (reverse ys) k d)) (sym (get_or-reverse xs k d inside))
+          (subst (λ v. R (get_or xs (length xs - 1 - k) d) v) (sym (get_or-reverse ys k d there))
+          (subst (λ n. R (get_or xs (length xs - 1 - k) d) (get_or ys (n - 1 - k) d)) (sym e.len) (e.at (length xs - 1 - k) d (omega (arith, inside)))));
+    }
+
+-- each job can be worked
+pub ready-by : {J : Type 0} (f : J → Seen) (P : Seen → Type 0) (js : List J) (xs : List Seen) → map f js ≡ reverse xs → All P xs → (k : ℕ) (d : J) → k < length js → P (f (get_or js k d))
+ready-by f P js xs e all k d h =
+    let turned = subst (All P) (sym e) (all-reverse P xs all) in
+    subst P (get_or-map f js k d (f d) h) (turned k (f d) (omega (arith, h, length-map js f)))
+
+-- jobs were made, worked and taken apart
+pub left-of : {J : Type 0} (f : J → Seen) (book : Book) (refused : Bool) (xs : List Seen) (js js' : List J) (notes : List (List Note)) (replies : List (List Reply)) (faults : List (Option ℕ))
+    → map f js ≡ reverse xs → Each (λ x y. Worked book (f x) (f y)) js js'
+    → notes ≡ reverse (map (λ j. (f j).notes) js') → replies ≡ reverse (map (λ j. (f j).replies) js') → faults ≡ reverse (map (λ j. fault_count (f j).session.reader) js')
+    → (refused ≡ false → All (λ j. (f j).starved ≡ false) js')
+    → Left book refused xs notes replies faults
+left-of f book refused xs js js' notes replies faults e w n r s d =
+    let back : reverse (map f js) ≡ xs = ap reverse e ∙ reverse-reverse xs in
+    record {
+      afters = reverse (map f js');
+      worked = subst (λ v. Each (Worked book) v (reverse (map f js'))) back (each-reverse (Worked book) (map f js) (map f js') (each-map f (Worked book) js js' w));
+      told = n ∙ sym (map-reverse (λ (y : Seen). y.notes) (map f js') ∙ ap reverse (map-both f (λ (y : Seen). y.notes) js'));
+      replied = r ∙ sym (map-reverse (λ (y : Seen). y.replies) (map f js') ∙ ap reverse (map-both f (λ (y : Seen). y.replies) js'));
+      counted = s ∙ sym (map-reverse (λ (y : Seen). (fault_count y.session.reader)) (map f js') ∙ ap reverse (map-both f (λ (y : Seen). (fault_count y.session.reader)) js'));
+      whole = λ z. all-reverse (λ (y : Seen). y.starved ≡ false) (map f js') (All-map (λ (y : Seen). y.starved ≡ false) f js' (d z));
+    }

@@ -1,0 +1,10 @@
+pub mod Plans
+pub mod Runs
+pub mod Jobs
+pub mod Merges
+pub use Rattle.event_sets.specs.Agreement
+pub use Rattle.overflow_dispatch.specs.Notes
+pub use Rattle.papi_base.specs.Streams
+pub use Rattle.session_model.specs.World
+pub use Rattle.thread_session.specs.Faults
+pub use Rattle.thread_session.specs.SessionView

@@ -1,0 +1,47 @@
+-- The lines of a plan, answered one after another: each call's reply is the next one of its thread's.
+use Rattle.std.specs.Prelude.{ℕ, Bool, false, List, [], ◌∷◌, drop, Some, None, Ok, Err, slice_index_or, slice_set}
+use Rattle.papi_base.specs.declared.code.Code.TheVariants as code
+use Rattle.session_model.specs.declared.reply.Body.TheVariants as body
+use Rattle.session_model.specs.declared.reply.Reply.{Reply}
+use Rattle.session_model.specs.Replies.{done, plain}
+use Rattle.session_laws.specs.Worlds.{Ahead, bits_from, next_reply, registered_after}
+use Rattle.plan_runner.specs.declared.plan.Planned.{Planned}
+use Rattle.plan_runner.specs.declared.plan.Planned.TheVariants as planned
+use Rattle.plan_runner.specs.declared.plan.PlanLine.{PlanLine}
+use Rattle.plan_runner.specs.declared.result.ReplyLine.{ReplyLine}
+
+-- the reply to a line, where its thread has these further replies and these threads are registered
+abbrev pub reply_by : List Bool → List Reply → Planned → Reply
+reply_by flags replies (planned.Call c) = next_reply replies
+reply_by flags replies (planned.Code (Ok n)) = done (body.EventCode n)
+reply_by flags replies (planned.Code (Err c)) = plain c
+reply_by flags replies (planned.Name (Some e)) = done (body.EventName e)
+reply_by flags replies (planned.Name None) = plain code.Enoevnt
+reply_by flags replies planned.Threads = done (body.Threads (bits_from 1 flags))
+
+-- the thread's replies behind the line's
+abbrev pub rest_by : List Reply → Planned → List Reply
+rest_by replies (planned.Call c) = drop 1 replies
+rest_by replies (planned.Code c) = replies
+rest_by replies (planned.Name e) = replies
+rest_by replies planned.Threads = replies
+
+-- the threads that are registered after the line
+abbrev pub flags_by : List Bool → List Reply → ℕ → Planned → List Bool
+flags_by flags replies t (planned.Call c) = slice_set flags t (registered_after c (next_reply replies).code (slice_index_or flags t false))
+flags_by flags replies t (planned.Code c) = flags
+flags_by flags replies t (planned.Name e) = flags
+flags_by flags replies t planned.Threads = flags
+
+abbrev pub ahead_behind : Ahead → ℕ → Planned → Ahead
+ahead_behind x t p = record {
+  flags = flags_by x.flags (slice_index_or x.replies t []) t p;
+  replies = slice_set x.replies t (rest_by (slice_index_or x.replies t []) p);
+}
+
+-- the lines' replies
+abbrev pub lines_by : Ahead → List PlanLine → List ReplyLine
+lines_by x [] = []
+lines_by x (l ∷ ls) =
+    record { line = l.number; thread = l.thread; word = l.word; reply = reply_by x.flags (slice_index_or x.replies l.thread []) l.planned }
+    ∷ lines_by (ahead_behind x l.thread l.planned) ls

@@ -1,0 +1,89 @@
+-- Plans, and the script's lines of which they are made: the script is this project's own, docs/FORMATS.md.
+use Rattle.std.specs.Prelude.{ℕ, ◌≡◌, ◌<◌, ◌==◌, if◌then◌else◌, true, List, [], ◌∷◌, ◌++◌, All, map, Option, Some, None, Ok, Err, position, slice_get, unwrap_or, ⊤}
+use Rattle.papi_base.specs.declared.native.EventRef.{EventRef}
+use Rattle.papi_base.specs.declared.native.EventRef.TheVariants as event
+use Rattle.papi_base.specs.declared.native.Native.{Native}
+use Rattle.postfix_rules.specs.Presets.{Book}
+use Rattle.event_sets.specs.AtRest.{Widths}
+use Rattle.session_model.specs.declared.call.Call.{Call}
+use Rattle.session_model.specs.declared.line.Asked.{Asked}
+use Rattle.session_model.specs.declared.line.Asked.TheVariants as asked
+use Rattle.session_model.specs.declared.line.Line.{Line}
+use Rattle.session_model.specs.Conditions.{IsGood}
+use Rattle.session_model.specs.World.{Setting, mentioned_after, native_code, native_named}
+use Rattle.thread_session.specs.Offered.{is_offered}
+use Rattle.plan_runner.specs.declared.plan.Planned.{Planned}
+use Rattle.plan_runner.specs.declared.plan.Planned.TheVariants as planned
+use Rattle.plan_runner.specs.declared.plan.PlanLine.{PlanLine}
+
+-- each line is of a thread below 64
+pub record AreThreads (plan : List PlanLine) : Type 0 where
+  pub each : All (λ l. l.thread < 64) plan
+
+-- the event under a preset's row, or else a native
+abbrev pub event_by : Option ℕ → Option Native → Option EventRef
+event_by (Some row) native = Some (event.Preset row)
+event_by None (Some n) = Some (event.Native n)
+event_by None None = None
+
+-- what a line asks for, looked up where these natives are mentioned
+abbrev pub looked_up : Setting → List Native → Asked → Planned
+looked_up at mentioned (asked.Call c) = planned.Call c
+looked_up at mentioned (asked.CodeOf (Ok (event.Native n))) = planned.Code (Ok (native_code mentioned n))
+looked_up at mentioned (asked.CodeOf (Ok (event.Preset row))) = planned.Code (Ok (unwrap_or (slice_get at.codes row) 0))
+looked_up at mentioned (asked.CodeOf (Err c)) = planned.Code (Err c)
+looked_up at mentioned (asked.NameOf c) = planned.Name (event_by (position (λ x. x == c) at.codes) (native_named mentioned c))
+looked_up at mentioned asked.Threads = planned.Threads
+
+-- a thread and what it asks for
+pub record Ask : Type 0 where
+  pub thread : ℕ
+  pub planned : Planned
+
+abbrev pub ask_of : PlanLine → Ask
+ask_of l = record { thread = l.thread; planned = l.planned }
+
+-- what the lines of a script ask for, one after another, where these natives were mentioned before
+abbrev pub asks_from : Setting → List Native → List Line → List Ask
+asks_from at mentioned [] = []
+asks_from at mentioned (l ∷ ls) = record { thread = l.thread; planned = looked_up at (mentioned_after mentioned l) l.asked } ∷ asks_from at (mentioned_after mentioned l) ls
+
+-- the plan is that of the script's lines
+pub record IsPlanOf (at : Setting) (script : List Line) (plan : List PlanLine) : Type 0 where
+  pub asks : map ask_of plan ≡ asks_from at [] script
+
+-- the calls that a line makes on its thread's session
+abbrev pub calls_in : Planned → List Call
+calls_in (planned.Call c) = c ∷ []
+calls_in (planned.Code c) = []
+calls_in (planned.Name e) = []
+calls_in planned.Threads = []
+
+-- the thread's calls in a line
+abbrev pub calls_on : ℕ → PlanLine → List Call
+calls_on t l = if l.thread == t then calls_in l.planned else []
+
+-- a thread's calls, in order
+abbrev pub planned_at : ℕ → List PlanLine → List Call
+planned_at t [] = []
+planned_at t (l ∷ ls) = calls_on t l ++ planned_at t ls
+
+-- a call's event is one that the book holds and that fits the shape, or was refused by a code of names
+abbrev pub IsGoodFor : Book → Widths → Planned → Type 0
+IsGoodFor book shape (planned.Call c) = IsGood book shape c
+IsGoodFor book shape (planned.Code c) = ⊤
+IsGoodFor book shape (planned.Name e) = ⊤
+IsGoodFor book shape planned.Threads = ⊤
+
+pub record AreGood (book : Book) (shape : Widths) (plan : List PlanLine) : Type 0 where
+  pub each : All (λ l. IsGoodFor book shape l.planned) plan
+
+-- sessions offer the call so far
+abbrev pub IsOfferedBy : Planned → Type 0
+IsOfferedBy (planned.Call c) = is_offered c ≡ true
+IsOfferedBy (planned.Code c) = ⊤
+IsOfferedBy (planned.Name e) = ⊤
+IsOfferedBy planned.Threads = ⊤
+
+pub record AreOffered (plan : List PlanLine) : Type 0 where
+  pub each : All (λ l. IsOfferedBy l.planned) plan

@@ -1,0 +1,15 @@
+//! A plan of many threads' calls, run by several workers: the replies come back in the order of the script.
+#![tactic(auto)]
+
+mod deal;
+mod jobs;
+mod merge;
+pub mod plan;
+pub mod result;
+mod run;
+mod sessions;
+mod sources;
+
+pub use plan::{Plan, PlanLine, Planned};
+pub use result::{ReplyLine, RunResult};
+pub use run::run_plan;

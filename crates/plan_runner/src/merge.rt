@@ -1,0 +1,115 @@
+//! The replies of the threads, in the order of the plan.
+ghost use Rattle.std.specs.Prelude.{false, ◌≡◌, ◌<◌, ◌≤◌, ℕ, [], length, map, replicate, reverse, slice_index_or, slice_set, vec_len, vec_capacity};
+ghost use Rattle.session_laws.specs.Worlds.{registered_after};
+ghost use Rattle.plan_runner.specs.Plans.{AreThreads, calls_in, planned_at};
+ghost use Rattle.plan_runner.specs.Merges.{reply_by, rest_by, flags_by, lines_by};
+
+use crate::plan::{PlanLine, Planned};
+use crate::result::ReplyLine;
+use papi_base::{Code, EventRef};
+use session_model::{Body, Call, Reply};
+use thread_registry::Registry;
+
+/// Keeps which threads are registered, after a call to which this code was replied.
+fn keep_registered(registry: &mut Registry, thread: u32, call: &Call, code: Code)
+    requires thread { thread < 64 }
+    ensures registered { registry.new ≡ slice_set registry.old thread (registered_after call.now code (slice_index_or registry.old thread false)) }
+{
+    match *call {
+        Call::Register => registry.set(thread, true),
+        Call::Unregister if code == Code::Ok => registry.set(thread, false),
+        _ => {}
+    }
+}
+
+/// A reply that is the code alone.
+fn plain_reply(code: Code) -> Reply
+    ensures { result ≡ record { code = code; body = Body.Nothing } }
+{
+    Reply {
+        code,
+        body: Body::Nothing,
+    }
+}
+
+/// The code of an event, or the code with which its text was refused.
+fn code_reply(event: Result<u32, Code>) -> Reply
+    ensures { result ≡ reply_by [] [] (Planned.Code event) }
+{
+    match event {
+        Ok(number) => Reply {
+            code: Code::Ok,
+            body: Body::EventCode(number),
+        },
+        Err(code) => plain_reply(code),
+    }
+}
+
+/// The event of a code.
+fn name_reply(event: Option<EventRef>) -> Reply
+    ensures { result ≡ reply_by [] [] (Planned.Name event) }
+{
+    match event {
+        Some(event) => Reply {
+            code: Code::Ok,
+            body: Body::EventName(event),
+        },
+        None => plain_reply(Code::Enoevnt),
+    }
+}
+
+/// Answers a line. The further replies of its thread stand in `replies`, the next one last.
+fn answer_line(line: &PlanLine, replies: &mut Vec<Reply>, registry: &mut Registry) -> Reply
+    requires thread { line.now.thread < 64 }
+    requires replied { length (calls_in line.now.planned) ≤ vec_len replies.old }
+    ensures reply { result ≡ reply_by registry.old (reverse replies.old.items) line.now.planned }
+    ensures rest { reverse replies.new.items ≡ rest_by (reverse replies.old.items) line.now.planned }
+    ensures registered { registry.new ≡ flags_by registry.old (reverse replies.old.items) line.now.thread line.now.planned }
+{
+    match line.planned {
+        Planned::Call(call) => {
+            let reply = replies.take_last();
+            keep_registered(registry, line.thread, &call, reply.code);
+            reply
+        }
+        Planned::Code(event) => code_reply(event),
+        Planned::Name(event) => name_reply(event),
+        Planned::Threads => Reply {
+            code: Code::Ok,
+            body: Body::Threads(registry.listed()),
+        },
+    }
+}
+
+/// Turns the replies of each thread round.
+fn turn_round(replies: &mut Vec<Vec<Reply>>)
+    ensures len { vec_len replies.new ≡ vec_len replies.old }
+    ensures turned { map (λ r. reverse r.items) replies.new.items ≡ map (λ r. r.items) replies.old.items }
+{
+    for thread in 0..replies.len() {
+        replies[thread].reverse();
+    }
+}
+
+/// Answers the lines in their order. Each thread has as many replies as it has calls.
+pub fn merge(plan: &[PlanLine], replies: &mut Vec<Vec<Reply>>, lines: &mut Vec<ReplyLine>)
+    requires threads { AreThreads plan.now }
+    requires len { vec_len replies.old ≡ 64 }
+    requires counts { (t : ℕ) → t < 64 → length (slice_index_or (map (λ r. r.items) replies.old.items) t []) ≡ length (planned_at t plan.now) }
+    requires none { vec_len lines.old ≡ 0 }
+    requires room { length plan.now ≤ vec_capacity lines.old }
+    ensures lines { lines.new.items ≡ lines_by (record { flags = replicate 64 false; replies = map (λ r. r.items) replies.old.items }) plan.now }
+{
+    turn_round(replies);
+    let mut registry = Registry::new();
+    for line in plan {
+        let list = &mut replies[line.thread as usize];
+        let reply = answer_line(line, list, &mut registry);
+        lines.push_reserved(ReplyLine {
+            line: line.number,
+            thread: line.thread,
+            word: line.word,
+            reply,
+        });
+    }
+}
