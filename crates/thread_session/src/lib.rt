@@ -7,5 +7,7 @@ mod delivery;
 mod running;
 pub mod session;
 mod several;
+#[cfg(test)]
+mod tests;
 
 pub use session::Session;

@@ -8,12 +8,15 @@ pub loop-c-preserved : goal.loop-c-preserved
 loop-c-preserved g c =
     let calls = c.args.calls.now in
     let i = c.loop-c.c-index in
+    let before = (goal.Handler-dyn g c.args.h.now).notes c.args.h.now.1 in
+    let so_far = (goal.Handler-dyn g c.loop-c.h.now).notes c.loop-c.h.now.1 in
+    let after = (goal.Handler-dyn g (c.loop-c.h.now.0, c.call.new.h)).notes c.call.new.h in
     let inv = c.loop-c.invariant in
     let told = c.in_ok-reply.ensures in
     record {
       ready = told.ready;
       shape = told.shape ∙ inv.shape;
-      way = λ a h. rw c.in_ok-push.ensures.items (one_more c.args.book.now c.args.self.now.core.shape c.loop-c.self c.call.new.self (get_or calls i Register) c.in_ok-reply.reply (drop i calls) (drop (i + 1) calls) c.loop-c.replies.items _ _ _ a calls
+      way = λ a h. rw c.in_ok-push.ensures.items (one_more c.args.book.now c.args.self.now.core.shape c.loop-c.self c.call.new.self (get_or calls i Register) c.in_ok-reply.reply (drop i calls) (drop (i + 1) calls) c.loop-c.replies.items before so_far after a calls
           (drop_more calls i Register c.loop-c-test.true) inv.shape told.stands told.reply told.notes (inv.way a h));
     }
 
@@ -21,14 +24,20 @@ pub returns-in_err-reply-clause-begun : goal.returns-in_err-reply-clause-begun
 returns-in_err-reply-clause-begun g c a h =
     let calls = c.args.calls.now in
     let i = c.loop-c.c-index in
-    begun_in c.args.book.now c.args.self.now.core.shape c.loop-c.self (get_or calls i Register) (drop i calls) (drop (i + 1) calls) c.loop-c.replies.items _ _ _ a calls (drop_more calls i Register c.loop-c-test.true) c.loop-c.invariant.shape c.in_err-reply.ensures.part (c.loop-c.invariant.way a h)
+    let before = (goal.Handler-dyn g c.args.h.now).notes c.args.h.now.1 in
+    let so_far = (goal.Handler-dyn g c.loop-c.h.now).notes c.loop-c.h.now.1 in
+    let after = (goal.Handler-dyn g (c.loop-c.h.now.0, c.call.new.h)).notes c.call.new.h in
+    begun_in c.args.book.now c.args.self.now.core.shape c.loop-c.self (get_or calls i Register) (drop i calls) (drop (i + 1) calls) c.loop-c.replies.items before so_far after a calls (drop_more calls i Register c.loop-c-test.true) c.loop-c.invariant.shape c.in_err-reply.ensures.part (c.loop-c.invariant.way a h)
 
 pub returns-in_err-push-clause-begun : goal.returns-in_err-push-clause-begun
 returns-in_err-push-clause-begun g c a h =
     let calls = c.args.calls.now in
     let i = c.loop-c.c-index in
+    let before = (goal.Handler-dyn g c.args.h.now).notes c.args.h.now.1 in
+    let so_far = (goal.Handler-dyn g c.loop-c.h.now).notes c.loop-c.h.now.1 in
+    let after = (goal.Handler-dyn g (c.loop-c.h.now.0, c.call.new.h)).notes c.call.new.h in
     let told = c.in_ok-reply.ensures in
-    begun _ _ _ _ _ _ _ a calls (one_more c.args.book.now c.args.self.now.core.shape c.loop-c.self c.call.new.self (get_or calls i Register) c.in_ok-reply.reply (drop i calls) (drop (i + 1) calls) c.loop-c.replies.items _ _ _ a calls
+    begun _ _ _ _ _ _ _ a calls (one_more c.args.book.now c.args.self.now.core.shape c.loop-c.self c.call.new.self (get_or calls i Register) c.in_ok-reply.reply (drop i calls) (drop (i + 1) calls) c.loop-c.replies.items before so_far after a calls
     (drop_more calls i Register c.loop-c-test.true) c.loop-c.invariant.shape told.stands told.reply told.notes (c.loop-c.invariant.way a h))
 
 pub returns-clause-begun : goal.returns-clause-begun

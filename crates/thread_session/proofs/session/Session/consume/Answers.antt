@@ -29,6 +29,9 @@ loop-consumed-init g c =
 pub loop-consumed-preserved : goal.loop-consumed-preserved
 loop-consumed-preserved g c =
     let inv = c.loop-consumed.invariant in
+    let before = (goal.Handler-dyn g c.args.h.now).notes c.args.h.now.1 in
+    let so_far = (goal.Handler-dyn g c.loop-consumed.h.now).notes c.loop-consumed.h.now.1 in
+    let told = (goal.Handler-dyn g (c.loop-consumed.h.now.0, c.deliver.new.h)).notes c.deliver.new.h in
     record {
       most = omega (arith, c.loop-consumed-test.true);
       few = omega (arith, inv.few, c.from-notes.ensures, c.len.ensures.length, c.len.ensures.short);
@@ -38,7 +41,7 @@ loop-consumed-preserved g c =
       agrees = c.take-taken.ensures.agrees c.args.book.now inv.agrees;
       in_step = in_step_then c.loop-consumed.self-inside.core c.take-taken.new.self c.loop-consumed.self-inside.reader c.next.new.self c.in-Occ.o c.take-taken.ensures.taken c.take-taken.ensures.last c.in-Occ.ensures.within.few inv.in_step c.in-Occ.ensures.counts;
       faults = kept_on c.args.self.now.reader c.loop-consumed.self-inside.reader c.next.new.self inv.faults c.in-Occ.ensures.kept c.in-Occ.ensures.faults;
-      running = one_more c.args.book.now c.args.self.now c.loop-consumed.self-inside.core c.take-taken.new.self c.loop-consumed.self-inside.reader c.next.new.self _ _ _ _ _ _ c.thread-thread.result c.take-taken.result.set c.take-taken.result.passed c.in-Occ.o inv.own (c.from-notes.ensures ∙ c.len.ensures.length)
+      running = one_more c.args.book.now c.args.self.now c.loop-consumed.self-inside.core c.take-taken.new.self c.loop-consumed.self-inside.reader c.next.new.self before so_far told c.loop-consumed.consumed c.loop-consumed.notes c.from-notes.result c.thread-thread.result c.take-taken.result.set c.take-taken.result.passed c.in-Occ.o inv.own (c.from-notes.ensures ∙ c.len.ensures.length)
           c.take-taken.ensures.stands c.take-taken.ensures.notes c.in-Occ.ensures.told c.in_ok-deliver-in-Occ.ensures.whole inv.running;
     }
 
