@@ -1,17 +1,15 @@
 -- A new set.
-use Rattle.std.proofs.Common.{◌≡◌, ℕ, zero, suc, ◌+◌, ◌<◌, ◌≤◌, Bool, true, false, ◌&&◌, List, [], ◌∷◌, length, map, refl, ap, ap₂, sym, subst, ◌∙◌, arith, Option, Some, None, option_map, slice_get, slice_set}
+use Rattle.std.proofs.Common.{◌≡◌, ℕ, suc, ◌+◌, ◌<◌, Bool, true, false, List, [], ◌∷◌, length, refl, ap, ap₂, sym, ◌∙◌, arith, Option, Some, None, option_map, slice_get, slice_set}
 use Rattle.std.specs.Prelude.{if◌then◌else◌, is_some}
 use Rattle.std.specs.List.{list_all}
 use Rattle.std.proofs.lemmas.List.{length-map}
 use Rattle.papi_base.specs.declared.code.Code.TheVariants as code
-use Rattle.papi_base.specs.declared.occurrence.Occ.{Occ}
 use Rattle.postfix_rules.specs.Presets.{Book}
-use Rattle.event_sets.specs.AtRest.{Widths}
 use Rattle.event_sets.specs.declared.refusal.Refusal.{Refusal}
 use Rattle.event_sets.specs.declared.refusal.Refusal.TheVariants.{Plain}
 use Rattle.session_model.specs.declared.call.Call.TheVariants as call
 use Rattle.session_model.specs.declared.reply.Body.TheVariants as body
-use Rattle.session_model.specs.Account.{Account, Kept}
+use Rattle.session_model.specs.Account.{Account}
 use Rattle.session_model.specs.Changes.{new_kept}
 use Rattle.session_model.specs.Faces.{free}
 use Rattle.session_model.specs.Refusals.{refusal_of}
@@ -21,7 +19,7 @@ use Rattle.thread_core.specs.declared.slot.Slot.{Slot}
 use Rattle.thread_core.specs.CoreView.{CoreView}
 use Rattle.thread_core.specs.Following.{Follows}
 use Rattle.thread_core.specs.Refusing.{slot_faces}
-use Rattle.thread_core.specs.Slots.{new_slot, slot_of, slots_of}
+use Rattle.thread_core.specs.Slots.{new_slot, slot_of}
 use Rattle.thread_core.specs.Stands.{AgreesWith, CoreStands}
 use Rattle.thread_core.proofs.Putting.{slots_put, units_stay}
 use Rattle.thread_core.proofs.Following.{Does, done_follows}

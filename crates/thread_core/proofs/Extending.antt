@@ -1,11 +1,8 @@
 -- A set with one more event.
-use Rattle.std.proofs.Common.{◌≡◌, ℕ, zero, suc, ◌+◌, ◌-◌, ◌<◌, ◌⊎◌, inl, inr, Bool, true, false, List, [], ◌∷◌, length, map, take, drop, replicate, refl, ap, ap₂, sym, subst, ◌∙◌, arith, Option, Some, None, option_map, slice_get, slice_set}
-use Rattle.std.specs.Prelude.{All, IfErr, OnErr, OnOk, Result, Ok, Err, ⊤, ◌&&◌, ◌==◌, if◌then◌else◌, is_none, is_some, sum, unwrap_or}
+use Rattle.std.proofs.Common.{◌≡◌, ℕ, ◌-◌, ◌⊎◌, inl, inr, Bool, true, false, List, [], ◌∷◌, length, map, replicate, refl, ap, ap₂, sym, subst, ◌∙◌, arith, Option, Some, None, option_map, slice_set}
+use Rattle.std.specs.Prelude.{IfErr, OnErr, OnOk, Result, Ok, Err, ⊤, ◌&&◌, ◌==◌, if◌then◌else◌, is_none, is_some}
 use Rattle.std.specs.Option.{option_map_or, option_and_then}
-use Rattle.std.specs.List.{position_or_len}
 use Rattle.std.proofs.lemmas.Bool.{cases_Bool, cond-true, cond-false}
-use Rattle.std.proofs.lemmas.List.{length-map}
-use Rattle.std.proofs.lemmas.Option.{slice_get_within}
 use Rattle.papi_base.specs.declared.code.Code.{Code}
 use Rattle.papi_base.specs.declared.code.Code.TheVariants as code
 use Rattle.papi_base.specs.declared.code.Code.TheVariants.{Ecount, Einval, Eisrun, Enoevst}
@@ -21,14 +18,13 @@ use Rattle.event_sets.specs.declared.refusal.Refusal.TheVariants.{Conflict, Plai
 use Rattle.event_sets.specs.Adding.{add_refusal}
 use Rattle.event_sets.specs.AtRest.{AtRest, Widths, cannot_take, clash_with, is_full, set_natives, with_event}
 use Rattle.event_sets.specs.Sets.{SetView, set_view}
-use Rattle.session_model.specs.declared.call.Call.{Call}
 use Rattle.session_model.specs.declared.call.Call.TheVariants as call
 use Rattle.session_model.specs.Account.{Account, Kept, clock, end}
 use Rattle.session_model.specs.Changes.{altered, kept_after, with_zeros}
 use Rattle.session_model.specs.Conditions.{IsNamed}
-use Rattle.session_model.specs.Counts.{along, weighed}
-use Rattle.session_model.specs.Estimates.{estimated, estimated_in, total}
-use Rattle.session_model.specs.Faces.{Face, at, change, face_of, has, is_absent, runs}
+use Rattle.session_model.specs.Counts.{weighed}
+use Rattle.session_model.specs.Estimates.{estimated_in, total}
+use Rattle.session_model.specs.Faces.{Face, at, change, face_of, is_absent, runs}
 use Rattle.session_model.specs.Refusals.{conflict_of, refusal_of}
 use Rattle.session_model.specs.Replies.{plain, refused}
 use Rattle.session_model.specs.Values.{measured}
@@ -41,8 +37,8 @@ use Rattle.thread_core.specs.Refusing.{rest_code, slot_faces}
 use Rattle.thread_core.specs.Slots.{face_of_slot, slot_of, slots_of, stopped_slot}
 use Rattle.thread_core.specs.Stands.{AgreesWith, CoreStands}
 use Rattle.thread_core.specs.Units.{units_of}
-use Rattle.thread_core.proofs.Following.{Does, done_follows, faces_stand, refused_follows}
-use Rattle.thread_core.proofs.Lists.{at-some, set-same}
+use Rattle.thread_core.proofs.Following.{Does, done_follows, refused_follows}
+use Rattle.thread_core.proofs.Lists.{at-some}
 use Rattle.thread_core.proofs.Owners.{face_same}
 use Rattle.thread_core.proofs.Putting.{IsQuiet, change_put, slots_put, units_stay}
 use Rattle.thread_core.proofs.Squares.{slot_of-running, slot_of-stopped}
@@ -84,7 +80,7 @@ pub record Rests (book : Book) (core : CoreView) (a : Account) (k : ℕ) : Type 
   pub stopped : set.running ≡ false
   pub at_slot : at core.slots k ≡ Some (slot_of book core.shape a.past set)
 
-slot_at : (book : Book) (core : CoreView) (a : Account) (k : ℕ) → CoreStands book core a → at core.slots k ≡ option_map (slot_of book core.shape a.past) (at a.sets k)
+pub slot_at : (book : Book) (core : CoreView) (a : Account) (k : ℕ) → CoreStands book core a → at core.slots k ≡ option_map (slot_of book core.shape a.past) (at a.sets k)
 slot_at book core a k h = ap (λ xs. at xs k) h.slots ∙ at_map (slot_of book core.shape a.past) a.sets k
 
 faces_at : (slots : List (Option Slot)) (k : ℕ) → at (slot_faces slots) k ≡ option_map face_of_slot (at slots k)
@@ -146,7 +142,7 @@ rest_refuses book shape registered faces k (Err code) c h = two_rows _ c (is_abs
 pub name_refuses : (book : Book) (shape : Widths) (registered : Bool) (faces : List (Option Face)) (k : ℕ) (code : Code) → rest_code faces k ≡ None → refusal_of book shape registered faces (call.Add k (Err code)) ≡ Some (Plain code)
 name_refuses book shape registered faces k code h = third_row (Some (Plain code)) (is_absent faces k) (runs faces k) h
 
-rest_same : (book : Book) (shape : Widths) (past : List Occ) (s : Kept) → (slot_of book shape past s).set.rest ≡ s.set
+pub rest_same : (book : Book) (shape : Widths) (past : List Occ) (s : Kept) → (slot_of book shape past s).set.rest ≡ s.set
 rest_same book shape past s = ap (λ (f : Face). f.set) (face_same book shape past s)
 
 -- what the table says of the event, for one account
@@ -193,7 +189,7 @@ add_follows book core k e (Err r) new agrees named ready added taken refuses sam
     subst (λ (xs : List (Option Slot)). Follows book core (with_slots core xs) (call.Add k (Ok e)) (refused r)) (sym same) (refused_follows book core (call.Add k (Ok e)) r (refused r) agrees says refl)
 
 -- the set at rest of a slot, by the book and the shape
-set_same : (book : Book) (shape : Widths) (past : List Occ) (s : Kept) → (slot_of book shape past s).set ≡ set_view book shape s.set
+pub set_same : (book : Book) (shape : Widths) (past : List Occ) (s : Kept) → (slot_of book shape past s).set ≡ set_view book shape s.set
 set_same book shape past s = go (cases_Bool s.running) s.set.slice refl where
   go : (s.running ≡ true) ⊎ (s.running ≡ false) → (m : Option ℕ) → s.set.slice ≡ m → (slot_of book shape past s).set ≡ set_view book shape s.set
   go (inl run) None e = ap (λ (k : Slot). k.set) (slot_of-running book shape past s None run e)

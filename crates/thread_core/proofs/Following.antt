@@ -1,8 +1,7 @@
 -- A core that did what its refusals and its sets say follows each account that it stands for.
-use Rattle.std.proofs.Common.{◌≡◌, ℕ, ◌≤◌, Bool, true, false, List, [], length, map, refl, ap, ap₂, sym, subst, ◌∙◌, Option, Some, None, option_map}
+use Rattle.std.proofs.Common.{◌≡◌, ◌≤◌, true, [], length, refl, ap, ap₂, sym, subst, ◌∙◌, Option, Some, None, option_map}
 use Rattle.papi_base.specs.declared.code.Code.{Code}
 use Rattle.postfix_rules.specs.Presets.{Book}
-use Rattle.counter_unit.specs.Counting.{UnitView}
 use Rattle.event_sets.specs.declared.refusal.Refusal.{Refusal}
 use Rattle.event_sets.specs.declared.refusal.Refusal.TheVariants.{Plain}
 use Rattle.event_sets.specs.Agreement.{BookFits}
@@ -10,8 +9,8 @@ use Rattle.event_sets.specs.AtRest.{Widths}
 use Rattle.session_model.specs.declared.call.Call.{Call}
 use Rattle.session_model.specs.declared.call.Call.TheVariants as call
 use Rattle.session_model.specs.declared.reply.Reply.{Reply}
-use Rattle.session_model.specs.Account.{Account, Kept, time_after}
-use Rattle.session_model.specs.Bounds.{AllWithin, AreApart, Rises}
+use Rattle.session_model.specs.Account.{Account, time_after}
+use Rattle.session_model.specs.Bounds.{AllWithin, AreApart}
 use Rattle.session_model.specs.Fitness.{AreFit}
 use Rattle.session_model.specs.Changes.{kept_after, new_kept, sets_after}
 use Rattle.session_model.specs.Conditions.{IsGood}
@@ -23,7 +22,6 @@ use Rattle.session_laws.proofs.Apart.{apart_stays}
 use Rattle.session_laws.proofs.Counted.{places_stay}
 use Rattle.session_laws.proofs.FitStays.{fit_stays}
 use Rattle.session_laws.proofs.Within.{within_stays}
-use Rattle.thread_core.specs.declared.slot.Slot.{Slot}
 use Rattle.thread_core.specs.CoreView.{CoreView}
 use Rattle.thread_core.specs.Following.{Follows, is_on_sets}
 use Rattle.thread_core.specs.Refusing.{slot_faces}

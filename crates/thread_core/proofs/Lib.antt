@@ -16,3 +16,9 @@ pub mod Following
 pub mod Putting
 pub mod Creating
 pub mod Extending
+pub mod Telling
+pub mod Searching
+pub mod Beginning
+pub mod Windows
+pub mod Starts
+pub mod Looking

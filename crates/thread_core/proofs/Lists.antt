@@ -2,6 +2,7 @@
 use Rattle.std.proofs.Common.{◌≡◌, ℕ, zero, suc, ◌+◌, ◌<◌, List, [], ◌∷◌, length, map, set, get_or, drop, refl, ap, ap₂, sym, subst, ◌∙◌, arith, Option, Some, None, option_map, slice_get}
 use Rattle.std.specs.Prelude.{All, OnOk, Result, Ok, Err, unwrap_or}
 use Rattle.std.proofs.lemmas.Option.{slice_get_within, slice_get-get_or, slice_get_read, get_or_from_slice_get}
+use Rattle.std.specs.Option.{option_and_then}
 use Rattle.session_model.specs.Faces.{at}
 
 -- a fact that holds of all items
@@ -89,3 +90,17 @@ pub set-same : {X : Type 0} (xs : List X) (k : ℕ) (x : X) → slice_get xs k �
 set-same [] k x e = refl
 set-same (y ∷ xs) zero x e = let same : y ≡ x = cc in ap (λ z. z ∷ xs) (sym same)
 set-same (y ∷ xs) (suc k) x e = ap (λ zs. y ∷ zs) (set-same xs k x e)
+
+pub and_then_some : {X Y : Type 0} (f : X → Option Y) (o : Option X) (y : Y) → option_and_then f o ≡ Some y → (x : X) × (o ≡ Some x) × (f x ≡ Some y)
+and_then_some f None y e = cc
+and_then_some f (Some x) y e = (x, refl, e)
+
+-- what is under a number, as the code reads it
+pub at_read : {X : Type 0} (places : List (Option X)) (k : ℕ) (place : Option X) (x : X) → k < length places → place ≡ get_or places k place → place ≡ Some x → at places k ≡ Some x
+at_read places k place x below reads is = some-at places k x (slice_get_read places (length places) k place refl below reads ∙ ap Some is)
+
+pub item_read : {X : Type 0} (xs : List X) (k : ℕ) (x y : X) → k < length xs → y ≡ get_or xs k y → slice_get xs k ≡ Some x → y ≡ x
+item_read xs k x y below reads e = let both : Some y ≡ Some x = sym (slice_get_read xs (length xs) k y refl below reads) ∙ e in cc
+
+pub same_some : {X : Type 0} (x y : X) → Some x ≡ Some y → x ≡ y
+same_some x y e = cc

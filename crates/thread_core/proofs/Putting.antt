@@ -1,8 +1,8 @@
 -- Sets where one is put anew: what is kept of them.
-use Rattle.std.proofs.Common.{◌≡◌, ℕ, zero, suc, ◌+◌, ◌<◌, ◌⊎◌, inl, inr, Bool, true, false, List, [], ◌∷◌, length, map, set, refl, ap, ap₂, sym, subst, ◌∙◌, arith, Option, Some, None, option_map, slice_get, slice_set}
+use Rattle.std.proofs.Common.{◌≡◌, ℕ, zero, suc, ◌+◌, ◌<◌, inl, inr, true, false, List, [], ◌∷◌, length, set, refl, ap, sym, subst, ◌∙◌, arith, Option, Some, None, option_map, slice_get, slice_set}
 use Rattle.std.specs.Prelude.{if◌then◌else◌, unwrap_or}
 use Rattle.std.specs.Option.{option_and_then}
-use Rattle.std.proofs.lemmas.Bool.{cases_Bool, cases_eq, cond-true, cond-false}
+use Rattle.std.proofs.lemmas.Bool.{cases_eq, cond-true, cond-false}
 use Rattle.std.proofs.lemmas.List.{length-map}
 use Rattle.std.proofs.lemmas.Option.{slice_get_within}
 use Rattle.papi_base.specs.declared.occurrence.Occ.{Occ}
@@ -37,7 +37,7 @@ owner_from-set comp number (x ∷ faces) zero f g e h i =
 owner_from-set comp number (x ∷ faces) (suc k) f g e h i = ap (λ o. if runs_on (Some comp) x then Some number else o) (owner_from-set comp (number + 1) faces k f g e h i)
 
 -- no set runs on the component
-owner_from-none : (comp number : ℕ) (faces : List (Option Face)) → ((i : ℕ) (f : Option Face) → slice_get faces i ≡ Some f → runs_on (Some comp) f ≡ false) → owner_from comp number faces ≡ None
+pub owner_from-none : (comp number : ℕ) (faces : List (Option Face)) → ((i : ℕ) (f : Option Face) → slice_get faces i ≡ Some f → runs_on (Some comp) f ≡ false) → owner_from comp number faces ≡ None
 owner_from-none comp number [] h = refl
 owner_from-none comp number (x ∷ faces) h = cond-false (runs_on (Some comp) x) (Some number) (owner_from comp (number + 1) faces) (h 0 x refl) ∙ owner_from-none comp (number + 1) faces (λ i f e. h (suc i) f e)
 

@@ -42,7 +42,7 @@ use Rattle.thread_core.proofs.Weighing.{rises-push, turn_small, weighed-le, weig
 bank-le : (ws : List ℕ) (counts : Native → ℕ) (p : Pin) → bank_of ws counts p ≤ counts p.native
 bank-le ws counts p = let split = div-add-mod' (counts p.native) (period (get_or ws p.counter 0) p.threshold) in omega arith
 
-length-turned : (t : Turns) (past : List Occ) (s : Kept) (ns : List Native) (gs : List ℕ) → length gs ≡ length ns → length (turned t past s ns gs) ≡ length ns
+pub length-turned : (t : Turns) (past : List Occ) (s : Kept) (ns : List Native) (gs : List ℕ) → length gs ≡ length ns → length (turned t past s ns gs) ≡ length ns
 length-turned t past s [] gs e = refl
 length-turned t past s (n ∷ ns) [] e = absurd (omega arith)
 length-turned t past s (n ∷ ns) (g ∷ gs) e = ap suc (length-turned t past s ns gs (omega arith))

@@ -1,5 +1,5 @@
 -- What calls leave of a slot whose set does not run.
-use Rattle.std.specs.Prelude.{pos, length, replicate}
+use Rattle.std.specs.Prelude.{ℕ, List, [], false, pos, length, replicate, None}
 use Rattle.papi_base.specs.declared.native.EventRef.{EventRef}
 use Rattle.postfix_rules.specs.Presets.{Book}
 use Rattle.event_sets.specs.AtRest.{AtRest, Widths, set_natives, with_event}
@@ -13,3 +13,7 @@ renewed book shape s slot = record slot { set = set_view book shape s; values = 
 -- one more event: PAPI_add_event(3)
 abbrev pub slot_with_event : Book → Widths → EventRef → Slot → Slot
 slot_with_event book shape e slot = renewed book shape (with_event book e slot.set.rest) slot
+
+-- a set that stopped with these numbers
+abbrev pub rested : List ℕ → Slot → Slot
+rested numbers slot = record slot { running = false; pins = []; armed = replicate 32 None; rotation = None; begun = 0; kept = numbers }

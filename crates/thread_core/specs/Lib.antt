@@ -8,3 +8,5 @@ pub mod Units
 pub mod Refusing
 pub mod Following
 pub mod Changed
+pub mod Shown
+pub mod Starting

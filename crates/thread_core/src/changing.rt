@@ -40,7 +40,12 @@ fn add_event(slot: &mut Slot, book: &PresetBook, shape: &Shape, e: &EventRef) ->
 }
 
 /// Adds an event to what is under a number.
-fn add_place(place: &mut Option<Slot>, book: &PresetBook, shape: &Shape, e: &EventRef) -> Result<(), Refusal>
+fn add_place(
+    place: &mut Option<Slot>,
+    book: &PresetBook,
+    shape: &Shape,
+    e: &EventRef,
+) -> Result<(), Refusal>
     requires held { IsHeld book.now e.now }
     requires fits { All (Fits shape.now) (natives_of_event book.now e.now) }
     requires view { (slot : Slot) → place.old ≡ Some slot → slot.set ≡ set_view book.now shape.now slot.set.rest }

@@ -8,7 +8,13 @@ pub use thread::Core;
 
 mod changing;
 pub mod counting;
+mod measuring;
 pub mod pins;
+mod places;
 mod refusal;
+mod showing;
 pub mod slot;
+mod starting;
+mod stopping;
 pub mod thread;
+mod values;

@@ -9,15 +9,17 @@ ghost use Rattle.session_model.specs.Thresholds.{note, notes_at};
 ghost use Rattle.thread_core.specs.CoreView.{empty_unit};
 ghost use Rattle.session_model.specs.Fitness.{IsShape};
 
-use crate::counting::{Taken, count_all};
 use crate::changing::add_under;
+use crate::counting::{Taken, count_all};
 use crate::refusal::{is_absent, refusal, runs};
+use crate::showing::{assigned_under, events_under};
 use crate::slot::{Slot, empty_places, free_number, new_slot};
+use crate::starting::begin_under;
 use counter_unit::Unit;
 use event_sets::Refusal;
-use papi_base::{Code, Occ, Shape};
+use papi_base::{Code, Events, Occ, Shape};
 use postfix_rules::PresetBook;
-use session_model::{Call, Named};
+use session_model::{Assigned, Call, Named};
 use std::alloc::{AllocError, Global};
 use std::marker::Model;
 
@@ -66,6 +68,7 @@ impl Core {
     ghost use Rattle.session_model.specs.Conditions.{IsNamed};
     ghost use Rattle.session_model.specs.Faces.{free};
     ghost use Rattle.session_model.specs.Refusals.{refusal_of};
+    ghost use Rattle.session_model.specs.Replies.{plain};
     ghost use Rattle.thread_core.specs.Refusing.{asks_slots, rest_code, slot_faces};
     ghost use Rattle.session_model.specs.declared.call.Call.TheVariants as call;
     ghost use Rattle.session_model.specs.declared.reply.Body.TheVariants as body;
@@ -156,6 +159,54 @@ impl Core {
             Err(code) => Err(Refusal::Plain(*code)),
             Ok(e) => add_under(&mut self.slots, book, &self.shape, set, e),
         }
+    }
+
+    /// The time in ticks, which is one after the last occurrence and 0 before the first.
+    fn time(&self) -> u64
+        requires { time_after self.now.last ≤ 4294967295 }
+        ensures { result ≡ time_after self.now.last }
+    {
+        match &self.last {
+            Some(o) => o.stamp + 1,
+            None => 0,
+        }
+    }
+
+    /// Starts a set: PAPI_start(3). ENOEVST where there is no such set, EISRUN where it runs or another one does on its
+    /// component, EINVAL where it has no events.
+    pub fn start(&mut self, book: &PresetBook, set: u32) -> Code
+        requires { AgreesWith book.now self.old }
+        ensures { Follows book.now self.old self.new (call.Start set) (plain result) }
+    {
+        if let Some(code) = self.refused(&Call::Start { set }) {
+            return code;
+        }
+        let now = self.time();
+        begin_under(&mut self.units, &mut self.slots, book, set, now);
+        Code::Ok
+    }
+
+    /// The events of a set in the order in which they were added: PAPI_list_events(3). ENOEVST where there is no such set.
+    pub fn list_events(&self, _book: &PresetBook, set: u32) -> Result<Events, Code>
+        requires { AgreesWith _book.now self.now }
+        ensures { Follows _book.now self.now self.now (call.ListEvents set) (reply_of (λ events. body.Events events) result) }
+    {
+        if let Some(code) = self.refused(&Call::ListEvents { set }) {
+            return Err(code);
+        }
+        Ok(events_under(&self.slots, set))
+    }
+
+    /// The native events of a set, and the counter of each, as they are when the set starts. ENOEVST where there is no such
+    /// set, ECOMBO where it is multiplexed.
+    pub fn assign(&self, _book: &PresetBook, set: u32) -> Result<Assigned, Code>
+        requires { AgreesWith _book.now self.now }
+        ensures { Follows _book.now self.now self.now (call.Assign set) (reply_of (λ assigned. body.Assigned assigned) result) }
+    {
+        if let Some(code) = self.refused(&Call::Assign { set }) {
+            return Err(code);
+        }
+        Ok(assigned_under(&self.slots, set))
     }
 
     /// Consumes one occurrence, and gives the events whose thresholds it passes.

@@ -1,5 +1,4 @@
 use Rattle.std.proofs.Common.{ap, set}
-use Rattle.std.specs.Prelude.{Some}
 use Rattle.thread_core.proofs.Lists.{on_ok, place_is}
 use Rattle.thread_core.proofs.changing.add_under.Goals as goal
 

@@ -1,11 +1,8 @@
-use Rattle.std.proofs.Common.{◌≡◌, List, Option, Some, None, ap, sym, subst, refl, ◌∙◌, arith, length}
+use Rattle.std.proofs.Common.{◌≡◌, None, sym, subst, refl, ◌∙◌}
 use Rattle.std.specs.Prelude.{Err, Ok}
-use Rattle.event_sets.proofs.Sound.{held_fit}
-use Rattle.event_sets.specs.Sets.{set_view}
 use Rattle.event_sets.specs.declared.refusal.Refusal.TheVariants.{Plain}
 use Rattle.session_model.specs.declared.call.Call.TheVariants as call
 use Rattle.session_model.specs.Conditions.{IsNamed}
-use Rattle.session_model.specs.Faces.{at}
 use Rattle.session_model.specs.Replies.{plain}
 use Rattle.thread_core.specs.CoreView.{CoreView}
 use Rattle.thread_core.specs.Following.{Follows, changed_reply}
