@@ -13,3 +13,6 @@ mod sources;
 pub use plan::{Plan, PlanLine, Planned};
 pub use result::{ReplyLine, RunResult};
 pub use run::run_plan;
+
+#[cfg(test)]
+mod tests;

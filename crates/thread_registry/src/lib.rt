@@ -8,3 +8,6 @@ pub mod work;
 pub use job::Job;
 pub use registry::Registry;
 pub use work::work_all;
+
+#[cfg(test)]
+mod tests;
