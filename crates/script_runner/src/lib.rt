@@ -1,0 +1,15 @@
+//! Scripts, from their lines to the text of their replies.
+#![tactic(auto)]
+
+mod resolving;
+mod writing;
+
+pub use plan_runner::{Plan, PlanLine, Planned, ReplyLine, RunResult, run_plan};
+pub use resolving::resolve;
+pub use script_lines::{
+    Script, ScriptCall, ScriptCause, ScriptFault, ScriptLine, call_word, cause_text, read_script,
+};
+pub use writing::write_replies;
+
+#[cfg(test)]
+mod tests;
