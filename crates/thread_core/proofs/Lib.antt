@@ -22,3 +22,5 @@ pub mod Beginning
 pub mod Windows
 pub mod Starts
 pub mod Looking
+pub mod Shows
+pub mod Ends

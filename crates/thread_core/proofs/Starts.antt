@@ -158,7 +158,7 @@ unit_alone book core a k r o h =
 pub the_slot : (book : Book) (core : CoreView) (a : Account) (k : ℕ) (r : Ready book core a k) → at core.slots k ≡ Some (stopped_slot book core.shape a.past r.set)
 the_slot book core a k r = r.at_slot ∙ ap Some (slot_of-stopped book core.shape a.past r.set r.stopped)
 
-fit_of : (book : Book) (core : CoreView) (a : Account) (k : ℕ) (s : Kept) → CoreStands book core a → at a.sets k ≡ Some s → IsFit book core.shape s.set
+pub fit_of : (book : Book) (core : CoreView) (a : Account) (k : ℕ) (s : Kept) → CoreStands book core a → at a.sets k ≡ Some s → IsFit book core.shape s.set
 fit_of book core a k s h e = h.fit.fit k s (at-some a.sets k s e)
 
 -- what the code asks for when it starts the set

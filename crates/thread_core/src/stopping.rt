@@ -1,5 +1,5 @@
 //! What is left of a set that stops (PAPI_stop(3)).
-ghost use Rattle.std.specs.Prelude.{◌≡◌, ℕ, ◌<◌, List, slice_get, slice_set, length, Some};
+ghost use Rattle.std.specs.Prelude.{◌≡◌, ℕ, ◌<◌, List, slice_get, slice_set, length, None, Some};
 ghost use Rattle.session_model.specs.Faces.{at};
 ghost use Rattle.thread_core.specs.CoreView.{empty_unit};
 ghost use Rattle.thread_core.specs.Changed.{rested};
@@ -59,6 +59,7 @@ pub(crate) fn stop_under(
     requires has_widths { (comp : ℕ) (slot : Slot) → at slots.old.items set ≡ Some slot → slot.set.rest.component ≡ Some comp → comp < length shape.now }
     requires measurable { (slot : Slot) → at slots.old.items set ≡ Some slot → IsMeasurable units.old.items slot time }
     ensures units { (comp : ℕ) (widths : List ℕ) (slot : Slot) → at slots.old.items set ≡ Some slot → slot.set.rest.component ≡ Some comp → slice_get shape.now comp ≡ Some widths → units.new.items ≡ slice_set units.old.items comp (empty_unit widths) }
+    ensures same_units { (slot : Slot) → at slots.old.items set ≡ Some slot → slot.set.rest.component ≡ None → units.new.items ≡ units.old.items }
     ensures slots { (slot : Slot) → at slots.old.items set ≡ Some slot → slots.new.items ≡ slice_set slots.old.items set (Some (rested (numbers_shown units.old.items time slot) slot)) }
 {
     let component = component_under(slots, set);

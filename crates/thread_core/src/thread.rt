@@ -12,12 +12,13 @@ ghost use Rattle.session_model.specs.Fitness.{IsShape};
 use crate::changing::add_under;
 use crate::counting::{Taken, count_all};
 use crate::refusal::{is_absent, refusal, runs};
-use crate::showing::{assigned_under, events_under};
+use crate::showing::{assigned_under, events_under, values_under};
 use crate::slot::{Slot, empty_places, free_number, new_slot};
 use crate::starting::begin_under;
+use crate::stopping::stop_under;
 use counter_unit::Unit;
 use event_sets::Refusal;
-use papi_base::{Code, Events, Occ, Shape};
+use papi_base::{Code, Events, Occ, Shape, Values};
 use postfix_rules::PresetBook;
 use session_model::{Assigned, Call, Named};
 use std::alloc::{AllocError, Global};
@@ -72,7 +73,7 @@ impl Core {
     ghost use Rattle.thread_core.specs.Refusing.{asks_slots, rest_code, slot_faces};
     ghost use Rattle.session_model.specs.declared.call.Call.TheVariants as call;
     ghost use Rattle.session_model.specs.declared.reply.Body.TheVariants as body;
-    ghost use Rattle.thread_core.specs.Following.{Follows, changed_reply, reply_of};
+    ghost use Rattle.thread_core.specs.Following.{Follows, changed_reply, reply_of, values_reply};
     ghost use Rattle.thread_core.specs.CoreView.{opening_core};
     ghost use Rattle.thread_core.specs.Stands.{AgreesWith, CoreStands, consumed};
 
@@ -183,6 +184,34 @@ impl Core {
         }
         let now = self.time();
         begin_under(&mut self.units, &mut self.slots, book, set, now);
+        Code::Ok
+    }
+
+    /// Stops a set, and writes the value of each of its events: PAPI_stop(3). ENOEVST where there is no such set, ENOTRUN
+    /// where it does not run.
+    pub fn stop(&mut self, book: &PresetBook, set: u32, into: &mut Values) -> Code
+        requires { AgreesWith book.now self.old }
+        ensures { Follows book.now self.old self.new (call.Stop set) (values_reply result into.new) }
+    {
+        if let Some(code) = self.refused(&Call::Stop { set }) {
+            return code;
+        }
+        let now = self.time();
+        *into = values_under(&self.slots, &self.units, book, set, now);
+        stop_under(&mut self.units, &mut self.slots, &self.shape, set, now);
+        Code::Ok
+    }
+
+    /// Writes the value of each event of a set: PAPI_read(3). ENOEVST where there is no such set.
+    pub fn read(&self, book: &PresetBook, set: u32, into: &mut Values) -> Code
+        requires { AgreesWith book.now self.now }
+        ensures { Follows book.now self.now self.now (call.Read set) (values_reply result into.new) }
+    {
+        if let Some(code) = self.refused(&Call::Read { set }) {
+            return code;
+        }
+        let now = self.time();
+        *into = values_under(&self.slots, &self.units, book, set, now);
         Code::Ok
     }
 
