@@ -10,6 +10,7 @@ pub use Rattle.papi_base.specs.Streams
 pub use Rattle.postfix_rules.specs.Presets
 pub use Rattle.session_model.specs.Account
 pub use Rattle.session_model.specs.Conditions
+pub use Rattle.session_model.specs.Replies
 pub use Rattle.session_model.specs.Step
 pub use Rattle.session_model.specs.Thresholds
 pub use Rattle.stream_reader.specs.Reader

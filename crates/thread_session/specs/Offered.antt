@@ -11,5 +11,8 @@ is_run made = false
 abbrev pub is_offered : Call → Bool
 is_offered call.Create = true
 is_offered (call.Add k e) = true
+is_offered (call.Start k) = true
+is_offered (call.ListEvents k) = true
+is_offered (call.Assign k) = true
 is_offered (call.Run n) = true
 is_offered made = false

@@ -8,9 +8,9 @@ ghost use Rattle.thread_session.specs.Follows.{run_reply};
 ghost use Rattle.thread_session.specs.Offered.{is_offered, is_run};
 
 use event_sets::Refusal;
-use papi_base::Code;
+use papi_base::{Code, Events};
 use postfix_rules::PresetBook;
-use session_model::{Body, Call, Ended, Ran, Reply};
+use session_model::{Assigned, Body, Call, Ended, Ran, Reply};
 use thread_core::Core;
 
 /// A code alone.
@@ -48,6 +48,30 @@ fn changed_reply(answer: Result<(), Refusal>) -> Reply
     }
 }
 
+fn events_reply(answer: Result<Events, Code>) -> Reply
+    ensures { result ≡ reply_of (λ events. body.Events events) answer }
+{
+    match answer {
+        Ok(events) => Reply {
+            code: Code::Ok,
+            body: Body::Events(events),
+        },
+        Err(code) => plain(code),
+    }
+}
+
+fn assigned_reply(answer: Result<Assigned, Code>) -> Reply
+    ensures { result ≡ reply_of (λ assigned. body.Assigned assigned) answer }
+{
+    match answer {
+        Ok(assigned) => Reply {
+            code: Code::Ok,
+            body: Body::Assigned(assigned),
+        },
+        Err(code) => plain(code),
+    }
+}
+
 /// What a run did.
 pub(crate) fn run_reply(ran: Ran) -> Reply
     ensures { result ≡ run_reply ran }
@@ -73,6 +97,9 @@ pub(crate) fn make(core: &mut Core, book: &PresetBook, c: &Call) -> Reply
     match c {
         Call::Create => number_reply(core.create(book)),
         Call::Add { set, e } => changed_reply(core.add(book, *set, e)),
+        Call::Start { set } => plain(core.start(book, *set)),
+        Call::ListEvents { set } => events_reply(core.list_events(book, *set)),
+        Call::Assign { set } => assigned_reply(core.assign(book, *set)),
         Call::Register
         | Call::Unregister
         | Call::Destroy { .. }
@@ -82,14 +109,11 @@ pub(crate) fn make(core: &mut Core, book: &PresetBook, c: &Call) -> Reply
         | Call::SetDomain { .. }
         | Call::SetMultiplex { .. }
         | Call::Overflow { .. }
-        | Call::Start { .. }
         | Call::Stop { .. }
         | Call::Read { .. }
         | Call::Accum { .. }
         | Call::Reset { .. }
         | Call::State { .. }
-        | Call::ListEvents { .. }
-        | Call::Assign { .. }
         | Call::Raw { .. }
         | Call::Run { .. } => unreachable!(),
     }

@@ -6,15 +6,16 @@ ghost use Rattle.session_model.specs.Conditions.{IsGood, IsNamed};
 ghost use Rattle.session_model.specs.Step.{step};
 ghost use Rattle.session_model.specs.declared.call.Call.TheVariants as call;
 ghost use Rattle.session_model.specs.declared.reply.Body.TheVariants as body;
+ghost use Rattle.session_model.specs.Replies.{plain};
 ghost use Rattle.thread_core.specs.Following.{changed_reply, reply_of};
 
 use crate::answers::{make, run_reply};
 use crate::session::Session;
 use event_sets::Refusal;
 use overflow_dispatch::Handler;
-use papi_base::{Code, Source};
+use papi_base::{Code, Events, Source};
 use postfix_rules::PresetBook;
-use session_model::{Call, Named, Reply};
+use session_model::{Assigned, Call, Named, Reply};
 use std::alloc::AllocError;
 
 impl<S: Source> Session<S> {
@@ -38,6 +39,32 @@ impl<S: Source> Session<S> {
         ensures { Does book.now self.old self.new (call.Add set e.now) (changed_reply result) }
     {
         self.core.add(book, set, e)
+    }
+
+    /// Starts a set: PAPI_start(3). ENOEVST where there is no such set, EISRUN where it runs or another one does on its
+    /// component, EINVAL where it has no events.
+    pub fn start(&mut self, book: &PresetBook, set: u32) -> Code
+        requires ready { IsReady book.now self.old }
+        ensures { Does book.now self.old self.new (call.Start set) (plain result) }
+    {
+        self.core.start(book, set)
+    }
+
+    /// The events of a set in the order in which they were added: PAPI_list_events(3). ENOEVST where there is no such set.
+    pub fn list_events(&self, book: &PresetBook, set: u32) -> Result<Events, Code>
+        requires ready { IsReady book.now self.now }
+        ensures { Does book.now self.now self.now (call.ListEvents set) (reply_of (λ events. body.Events events) result) }
+    {
+        self.core.list_events(book, set)
+    }
+
+    /// The native events of a set, and the counter of each, as they are when the set starts. ENOEVST where there is no such
+    /// set, ECOMBO where it is multiplexed.
+    pub fn assign(&self, book: &PresetBook, set: u32) -> Result<Assigned, Code>
+        requires ready { IsReady book.now self.now }
+        ensures { Does book.now self.now self.now (call.Assign set) (reply_of (λ assigned. body.Assigned assigned) result) }
+    {
+        self.core.assign(book, set)
     }
 
     // A call that is no run.
