@@ -14,5 +14,7 @@ is_offered (call.Add k e) = true
 is_offered (call.Start k) = true
 is_offered (call.ListEvents k) = true
 is_offered (call.Assign k) = true
+is_offered (call.Stop k) = true
+is_offered (call.Read k) = true
 is_offered (call.Run n) = true
 is_offered made = false

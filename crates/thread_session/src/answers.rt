@@ -2,13 +2,13 @@
 ghost use Rattle.std.specs.Prelude.{◌≡◌, false, true};
 ghost use Rattle.session_model.specs.Conditions.{IsGood};
 ghost use Rattle.session_model.specs.declared.reply.Body.TheVariants as body;
-ghost use Rattle.thread_core.specs.Following.{Follows, changed_reply, reply_of};
+ghost use Rattle.thread_core.specs.Following.{Follows, changed_reply, reply_of, values_reply};
 ghost use Rattle.thread_core.specs.Stands.{AgreesWith};
 ghost use Rattle.thread_session.specs.Follows.{run_reply};
 ghost use Rattle.thread_session.specs.Offered.{is_offered, is_run};
 
 use event_sets::Refusal;
-use papi_base::{Code, Events};
+use papi_base::{Code, Events, Values};
 use postfix_rules::PresetBook;
 use session_model::{Assigned, Body, Call, Ended, Ran, Reply};
 use thread_core::Core;
@@ -72,6 +72,19 @@ fn assigned_reply(answer: Result<Assigned, Code>) -> Reply
     }
 }
 
+/// The values where the code is OK.
+fn values_reply(code: Code, values: Values) -> Reply
+    ensures { result ≡ values_reply code values }
+{
+    match code {
+        Code::Ok => Reply {
+            code,
+            body: Body::Values(values),
+        },
+        _ => plain(code),
+    }
+}
+
 /// What a run did.
 pub(crate) fn run_reply(ran: Ran) -> Reply
     ensures { result ≡ run_reply ran }
@@ -100,6 +113,16 @@ pub(crate) fn make(core: &mut Core, book: &PresetBook, c: &Call) -> Reply
         Call::Start { set } => plain(core.start(book, *set)),
         Call::ListEvents { set } => events_reply(core.list_events(book, *set)),
         Call::Assign { set } => assigned_reply(core.assign(book, *set)),
+        Call::Stop { set } => {
+            let mut values = Values::new();
+            let code = core.stop(book, *set, &mut values);
+            values_reply(code, values)
+        }
+        Call::Read { set } => {
+            let mut values = Values::new();
+            let code = core.read(book, *set, &mut values);
+            values_reply(code, values)
+        }
         Call::Register
         | Call::Unregister
         | Call::Destroy { .. }
@@ -109,8 +132,6 @@ pub(crate) fn make(core: &mut Core, book: &PresetBook, c: &Call) -> Reply
         | Call::SetDomain { .. }
         | Call::SetMultiplex { .. }
         | Call::Overflow { .. }
-        | Call::Stop { .. }
-        | Call::Read { .. }
         | Call::Accum { .. }
         | Call::Reset { .. }
         | Call::State { .. }

@@ -7,13 +7,13 @@ ghost use Rattle.session_model.specs.Step.{step};
 ghost use Rattle.session_model.specs.declared.call.Call.TheVariants as call;
 ghost use Rattle.session_model.specs.declared.reply.Body.TheVariants as body;
 ghost use Rattle.session_model.specs.Replies.{plain};
-ghost use Rattle.thread_core.specs.Following.{changed_reply, reply_of};
+ghost use Rattle.thread_core.specs.Following.{changed_reply, reply_of, values_reply};
 
 use crate::answers::{make, run_reply};
 use crate::session::Session;
 use event_sets::Refusal;
 use overflow_dispatch::Handler;
-use papi_base::{Code, Events, Source};
+use papi_base::{Code, Events, Source, Values};
 use postfix_rules::PresetBook;
 use session_model::{Assigned, Call, Named, Reply};
 use std::alloc::AllocError;
@@ -65,6 +65,23 @@ impl<S: Source> Session<S> {
         ensures { Does book.now self.now self.now (call.Assign set) (reply_of (λ assigned. body.Assigned assigned) result) }
     {
         self.core.assign(book, set)
+    }
+
+    /// Stops a set, and gives the value of each event: PAPI_stop(3). ENOEVST where there is no such set, ENOTRUN where it does
+    /// not run.
+    pub fn stop(&mut self, book: &PresetBook, set: u32, into: &mut Values) -> Code
+        requires ready { IsReady book.now self.old }
+        ensures does { Does book.now self.old self.new (call.Stop set) (values_reply result into.new) }
+    {
+        self.core.stop(book, set, into)
+    }
+
+    /// Gives the value of each event of a set: PAPI_read(3). ENOEVST where there is no such set.
+    pub fn read(&self, book: &PresetBook, set: u32, into: &mut Values) -> Code
+        requires ready { IsReady book.now self.now }
+        ensures does { Does book.now self.now self.now (call.Read set) (values_reply result into.new) }
+    {
+        self.core.read(book, set, into)
     }
 
     // A call that is no run.

@@ -72,8 +72,24 @@ fn counts(
         set: 0,
         e: Ok(EventRef::Native(INST)),
     };
-    let calls = [Call::Create, add, Call::Run { n: 3 }, Call::Run { n: 1 }];
-    let expected = [(Code::Ok, 0), (Code::Ok, 0), (Code::Ok, 2), (Code::Ok, 0)];
+    let calls = [
+        Call::Create,
+        add,
+        Call::Start { set: 0 },
+        Call::Run { n: 3 },
+        Call::Read { set: 0 },
+        Call::Run { n: 1 },
+        Call::Stop { set: 0 },
+    ];
+    let expected = [
+        (Code::Ok, 0),
+        (Code::Ok, 0),
+        (Code::Ok, 0),
+        (Code::Ok, 2),
+        (Code::Ok, sum),
+        (Code::Ok, 0),
+        (Code::Ok, sum),
+    ];
     let replies = session.call_all(alloc, &book, &calls, &mut recorder)?;
     assert_eq!(rt; replies.len(), expected.len());
     for (reply, want) in replies.iter().zip(&expected) {
