@@ -1,13 +1,14 @@
 //! A script's lines, with their events looked up.
 
-ghost use Rattle.std.specs.Prelude.{◌≡◌, IfOk, List, map};
+ghost use Rattle.std.specs.Prelude.{◌≡◌, IfOk, List, map, true};
 ghost use Rattle.component_table.specs.Catalogs.{shape_of};
-ghost use Rattle.plan_runner.specs.Plans.{AreGood, AreThreads, IsPlanOf};
+ghost use Rattle.plan_runner.specs.Plans.{AreGood, AreOffered, AreThreads, IsOfferedBy, IsPlanOf};
 ghost use Rattle.plan_runner.specs.Runs.{reply_lines};
 ghost use Rattle.script_runner.specs.Resolving as Resolving;
 ghost use Rattle.script_runner.specs.Resolving.{lines_of, plan_line, reply_lines_of, setting_of};
 ghost use Rattle.session_model.specs.Conditions.{IsGood};
 ghost use Rattle.session_model.specs.World.{Told};
+ghost use Rattle.thread_session.specs.Offered.{is_offered};
 
 use component_table::Catalog;
 use plan_runner::{Plan, PlanLine, Planned};
@@ -19,6 +20,7 @@ use std::alloc::{AllocError, Global};
 fn call_of(catalog: &Catalog, call: &ScriptCall) -> Call
     ensures call { result ≡ Resolving.call_of catalog.now call.now }
     ensures good { IsGood catalog.now.book (shape_of catalog.now.tables) result }
+    ensures offered { is_offered result ≡ true }
 {
     match call {
         ScriptCall::Create => Call::Create,
@@ -39,6 +41,7 @@ fn call_of(catalog: &Catalog, call: &ScriptCall) -> Call
 fn plan_line_of(catalog: &Catalog, line: &ScriptLine) -> PlanLine
     ensures line { result ≡ plan_line catalog.now line.now }
     ensures good { Resolving.IsGoodLine catalog.now result }
+    ensures offered { IsOfferedBy result.planned }
 {
     PlanLine {
         number: line.line,
@@ -55,6 +58,7 @@ pub fn resolve(alloc: Global, script: &Script, catalog: &Catalog) -> Result<Plan
     ensures plan { IfOk result (λ plan. IsPlanOf (setting_of catalog.now) (lines_of catalog.now script.now) plan) }
     ensures heads { IfOk result (λ plan. (told : List Told) → reply_lines plan told ≡ reply_lines_of script.now told) }
     ensures good { IfOk result (λ plan. AreGood catalog.now.book (shape_of catalog.now.tables) plan) }
+    ensures offered { IfOk result AreOffered }
 {
     let mut lines = Vec::new(alloc);
     for line in script.lines() {
