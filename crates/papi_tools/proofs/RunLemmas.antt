@@ -1,0 +1,92 @@
+-- What is said of a run is what the definition says.
+use Rattle.std.proofs.Common.{◌≡◌, ◌<◌, ℕ, List, length, map, Some, Result, Ok, Err, OnOk, [], ◌∷◌, refl, sym, ap, ◌∙◌, arith, get_or, All, zero, suc, true}
+use Rattle.std.proofs.lemmas.List.{get_or-map, length-map}
+use Rattle.event_sets.specs.AtRest.{Widths}
+use Rattle.postfix_rules.specs.Presets.{Book}
+use Rattle.papi_base.specs.Outside.{Rose}
+use Rattle.session_model.specs.World.{Told}
+use Rattle.stream_reader.specs.Reader.{ReaderView, coming}
+use Rattle.component_table.specs.Catalogs.{CatalogView, catalog_of, shape_of}
+use Rattle.script_lines.specs.declared.call.ScriptCall.{ScriptCall}
+use Rattle.script_lines.specs.declared.call.ScriptCall.TheVariants as script
+use Rattle.script_lines.specs.declared.script.ScriptLine.{ScriptLine}
+use Rattle.thread_session.specs.Offered.{is_offered}
+use Rattle.plan_runner.specs.declared.plan.Planned.TheVariants.{Threads}
+use Rattle.plan_runner.specs.declared.plan.PlanLine.{PlanLine}
+use Rattle.plan_runner.specs.declared.result.ReplyLine.{ReplyLine}
+use Rattle.plan_runner.specs.Plans.{AreOffered, AreThreads, IsOfferedBy, IsPlanOf}
+use Rattle.plan_runner.specs.Runs.{AreInOrder, Tells, reply_lines}
+use Rattle.script_runner.specs.Resolving.{call_of, lines_of, plan_line, reply_lines_of, setting_of}
+use Rattle.papi_tools.specs.declared.said.Said.{Said}
+use Rattle.papi_tools.specs.declared.status.Outcome.{Outcome}
+use Rattle.papi_tools.specs.declared.status.Outcome.TheVariants.{Whole, No, Refused, ReadFault}
+use Rattle.papi_tools.specs.Causes.{MetCause}
+use Rattle.papi_tools.specs.Marks.{marks_in, outcome_at}
+use Rattle.papi_tools.specs.Run.{catalog_in, ran_said, replies_said, told_in}
+use Rattle.papi_tools.specs.RunInput.{RunGiven, streams_of}
+use Rattle.papi_tools.proofs.FaultLemmas.{SomeFault, fault_replied}
+
+-- what runs met is the cause of how a call ends
+met_of : (catalog : CatalogView) (lines : List ReplyLine) (f f' : ℕ) → (SomeFault lines → Rose f f') → MetCause (replies_said catalog lines).outcome f f' (replies_said catalog lines)
+met_of catalog lines f f' h = go (outcome_at (marks_in lines)) refl
+  where
+    go : (o : Outcome) → outcome_at (marks_in lines) ≡ o → MetCause o f f' (replies_said catalog lines)
+    go Whole e = tt
+    go No e = tt
+    go Refused e = (marks_in lines, e, refl)
+    go ReadFault e = h (fault_replied lines e)
+
+pub met_in_said : (catalog : CatalogView) (lines : List ReplyLine) (f f' : ℕ) (said : Said) → said ≡ replies_said catalog lines → (SomeFault lines → Rose f f') → MetCause said.outcome f f' said
+met_in_said catalog lines f f' said e h = rw e (met_of catalog lines f f' h)
+
+-- the replies are of threads below 64, as the plan's lines are
+pub threads_below : (plan : List PlanLine) (lines : List ReplyLine) → AreThreads plan → AreInOrder plan lines → All (λ l. l.thread < 64) lines
+threads_below plan lines below order k d small =
+    let p : PlanLine = record { number = 0; thread = d.thread; word = 0; planned = Threads } in
+    let long : length lines ≡ length plan = sym (length-map lines (λ l. l.thread)) ∙ ap length order.threads ∙ length-map plan (λ l. l.thread) in
+    let same : (get_or lines k d).thread ≡ (get_or plan k p).thread =
+    sym (get_or-map (λ l. l.thread) lines k d 0 small) ∙ ap (λ ts. get_or ts k 0) order.threads ∙ get_or-map (λ l. l.thread) plan k p 0 (omega arith) in
+    rw same (below.each k p (omega arith))
+
+-- sessions offer each call of a script
+call_offered : (catalog : CatalogView) (c : ScriptCall) → is_offered (call_of catalog c) ≡ true
+call_offered catalog script.Create = refl
+call_offered catalog (script.Add set event) = refl
+call_offered catalog (script.Start set) = refl
+call_offered catalog (script.Stop set) = refl
+call_offered catalog (script.Read set) = refl
+call_offered catalog (script.Events set) = refl
+call_offered catalog (script.Assign set) = refl
+call_offered catalog (script.Run count) = refl
+
+lines_offered : (catalog : CatalogView) (lines : List ScriptLine) (k : ℕ) (d : PlanLine) → k < length (map (plan_line catalog) lines) → IsOfferedBy (get_or (map (plan_line catalog) lines) k d).planned
+lines_offered catalog [] k d small = absurd (omega arith)
+lines_offered catalog (l ∷ ls) zero d small = call_offered catalog l.call
+lines_offered catalog (l ∷ ls) (suc k) d small = lines_offered catalog ls k d (omega arith)
+
+pub plan_offered : (catalog : CatalogView) (lines : List ScriptLine) (plan : List PlanLine) → plan ≡ map (plan_line catalog) lines → AreOffered plan
+plan_offered catalog lines plan e = rw e (record { each = lines_offered catalog lines })
+
+-- the readers tell what is given
+pub tells : (catalog : CatalogView) (script : List ScriptLine) (given : RunGiven) (book : Book) (shape : Widths) (plan : List PlanLine) (readers : List ReaderView) →
+    catalog ≡ catalog_of given.tables → script ≡ given.script → book ≡ catalog.book → shape ≡ shape_of catalog.tables → IsPlanOf (setting_of catalog) (lines_of catalog script) plan →
+    map coming readers ≡ map (λ s. Some s) (streams_of given.tapes) →
+    Tells (setting_of (catalog_in given)) (lines_of (catalog_in given) given.script) (streams_of given.tapes) book shape plan readers
+tells catalog script given book shape plan readers c s b w p r = record {
+  same_book = ap (λ k. k.book) (sym c) ∙ sym b;
+  same_shape = ap (λ k. shape_of k.tables) (sym c) ∙ sym w;
+  looked_up = rw (c, s) at p;
+  streams_told = r;
+}
+
+-- the replies and their marks are what the definition says
+pub ran_is : (catalog : CatalogView) (script : List ScriptLine) (given : RunGiven) (plan : List PlanLine) (lines : List ReplyLine) →
+    catalog ≡ catalog_of given.tables → script ≡ given.script → lines ≡ reply_lines plan (told_in given) → ((told : List Told) → reply_lines plan told ≡ reply_lines_of script told) →
+    replies_said catalog lines ≡ ran_said given
+unfolding ran_said
+ran_is catalog script given plan lines c s l heads =
+    ap (λ k. replies_said k lines) c ∙ ap (replies_said (catalog_in given)) (l ∙ heads (told_in given) ∙ ap (λ ls. reply_lines_of ls (told_in given)) s)
+
+pub on_ok : {A E : Type 0} {P : Type 0} (r : Result A E) → P → OnOk r P
+on_ok (Ok value) p = p
+on_ok (Err error) p = tt

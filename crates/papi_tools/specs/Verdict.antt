@@ -1,0 +1,47 @@
+-- What a call of the program comes to, as a function of its words and of the files that are held.
+use Rattle.std.specs.Prelude.{◌≡◌, ℕ, List, [], Option, Some, None, IsOkAnd, Result, Ok, Err}
+use Rattle.papi_base.specs.Outside.{Held}
+use Rattle.overflow_dispatch.specs.declared.handler.Note.{Note}
+use Rattle.overflow_dispatch.specs.Notes.{EachAdded, EachBegun}
+use Rattle.tool_words.specs.Form.{form}
+use Rattle.tool_words.specs.declared.command.Command.{Command}
+use Rattle.tool_words.specs.declared.command.Command.TheVariants.{Run}
+use Rattle.papi_tools.specs.ErrorLines.{line_of, outcome_of}
+use Rattle.papi_tools.specs.Run.{Verdict, run_verdict}
+use Rattle.papi_tools.specs.declared.refusal.Refusal.{Refusal}
+use Rattle.papi_tools.specs.declared.refusal.Refusal.TheVariants.{BadWords}
+use Rattle.papi_tools.specs.declared.refusal.Stop.{Stop}
+use Rattle.papi_tools.specs.declared.refusal.Stop.TheVariants as stop
+use Rattle.papi_tools.specs.declared.said.Said.{Said}
+
+-- what a command comes to
+abbrev pub command_verdict : Held → Command → Result Verdict Refusal
+command_verdict held (Run words) = run_verdict held words
+
+-- what the words come to, where they are a command
+abbrev pub verdict_for : Held → Option Command → Result Verdict Refusal
+verdict_for held None = Err BadWords
+verdict_for held (Some command) = command_verdict held command
+
+-- a refusal says its line and nothing else, and there are no notes
+abbrev pub refused_said : Refusal → Said
+refused_said refusal = record { outcome = outcome_of refusal; out = []; err = line_of refusal }
+
+abbrev pub ended : Result Verdict Refusal → Verdict
+ended (Ok verdict) = verdict
+ended (Err refusal) = record { said = refused_said refusal; notes = [] }
+
+abbrev pub verdict : List (List ℕ) → Held → Verdict
+verdict words held = ended (verdict_for held (form words))
+
+-- The answer of a tool says what is expected, or memory ran out.
+abbrev pub AnswersSaid : Result Said Stop → Result Verdict Refusal → Type 0
+AnswersSaid (Ok said) expected = IsOkAnd expected (λ verdict. verdict.said ≡ said)
+AnswersSaid (Err (stop.Refused refusal)) expected = expected ≡ Err refusal
+AnswersSaid (Err stop.Memory) expected = Unit {0}
+
+-- With this answer a tool has told each handler the notes of its thread, after want of memory some of the first of them.
+abbrev pub TellsBy : Result Said Stop → List (List Note) → List (List Note) → List (List Note) → Type 0
+TellsBy (Ok said) given before after = EachAdded before given after
+TellsBy (Err (stop.Refused refusal)) given before after = EachAdded before given after
+TellsBy (Err stop.Memory) given before after = EachBegun before given after

@@ -1,0 +1,26 @@
+//! The tools, and the top call that carries out what the words ask for.
+#![tactic(auto)]
+
+pub mod marks;
+pub mod opening;
+pub mod output;
+pub mod readers;
+pub mod refusal;
+pub mod run;
+pub mod run_input;
+pub mod said;
+pub mod saying;
+pub mod status;
+pub mod streams;
+pub mod tool;
+pub mod top;
+
+pub use output::Output;
+pub use refusal::{Refusal, Stop};
+pub use said::Said;
+pub use status::{Outcome, Status, status_number};
+pub use tool::run_tool;
+pub use top::papi_main;
+
+#[cfg(test)]
+mod tests;

@@ -1,0 +1,101 @@
+//! The marks that runs met, thread by thread, and what is said of them.
+ghost use Rattle.std.specs.Prelude.{◌≡◌, ◌<◌, All, IfOk, codes, length, string_bytes};
+ghost use Rattle.std.specs.List.{list_any};
+ghost use Rattle.session_model.specs.World.{met_in};
+ghost use Rattle.papi_tools.specs.Marks.{cause_words, is_bad, is_fault, mark_line, mark_lines, marks_in, outcome_at};
+
+use crate::Outcome;
+use papi_base::{Bytes, LineCause};
+use plan_runner::ReplyLine;
+use session_model::{Body, Ended, Reply};
+use std::alloc::{AllocError, Global};
+
+// The mark that a reply carries, where it is that of a run that met one.
+fn met(reply: &Reply) -> Option<Ended>
+    ensures { result ≡ met_in reply.now.body }
+{
+    match &reply.body {
+        Body::Ran(ran) => match ran.ended {
+            Ended::Going => None,
+            mark => Some(mark),
+        },
+        _ => None,
+    }
+}
+
+/// The mark that the runs of each thread met, where they met one.
+pub fn marks_of(lines: &[ReplyLine]) -> [Option<Ended>; 64]
+    requires threads { All (λ l. l.thread < 64) lines.now }
+    ensures marks { result ≡ marks_in lines.now }
+{
+    let mut marks = [None; 64];
+    for line in lines {
+        let t = line.thread as usize;
+        marks[t] = marks[t].or(met(&line.reply));
+    }
+    marks
+}
+
+fn has_fault(marks: &[Option<Ended>]) -> bool
+    ensures { result ≡ list_any is_fault marks.now }
+{
+    marks.iter().any(|mark| matches!(mark, Some(Ended::Fault)))
+}
+
+fn has_bad_line(marks: &[Option<Ended>]) -> bool
+    ensures { result ≡ list_any is_bad marks.now }
+{
+    marks.iter().any(|mark| matches!(mark, Some(Ended::Bad { line: _, cause: _ })))
+}
+
+/// How a call ends whose runs met these marks.
+pub fn outcome_of(marks: &[Option<Ended>]) -> Outcome
+    ensures { result ≡ outcome_at marks.now }
+{
+    if has_fault(marks) {
+        Outcome::ReadFault
+    } else if has_bad_line(marks) {
+        Outcome::Refused
+    } else {
+        Outcome::Whole
+    }
+}
+
+// What is wrong with a line of a stream.
+fn cause_text(cause: LineCause) -> &'static str
+    ensures { result.now ≡ cause_words cause }
+{
+    match cause {
+        LineCause::Long => "line too long",
+        LineCause::Size => "stream too long",
+        LineCause::Fields => "wrong number of fields",
+        LineCause::Field => "bad field",
+        LineCause::Stamp => "stamp does not rise",
+    }
+}
+
+// The line of a thread's mark, where it has one.
+fn line_of(alloc: Global, t: usize, mark: Option<Ended>) -> Result<String, AllocError>
+    ensures { IfOk result (λ line. string_bytes line ≡ mark_line t mark) }
+{
+    match mark {
+        Some(Ended::Bad { line, cause }) => {
+            let words = cause_text(cause);
+            format!(in alloc; "papi: stream {t}: line {line}: {words}\n")
+        }
+        Some(Ended::Fault) => format!(in alloc; "papi: stream {t}: read failed\n"),
+        Some(Ended::Going) | None => Ok(String::new(alloc)),
+    }
+}
+
+/// The lines on standard error of these marks, in the order of their threads.
+pub fn lines_of(alloc: Global, marks: &[Option<Ended>]) -> Result<Bytes, AllocError>
+    ensures { IfOk result (λ lines. lines ≡ mark_lines 0 marks.now) }
+{
+    let mut lines = Bytes::new(Vec::new(alloc));
+    for t in 0..marks.len() {
+        let line = line_of(alloc, t, marks[t])?;
+        lines.append(line.as_bytes())?;
+    }
+    Ok(lines)
+}

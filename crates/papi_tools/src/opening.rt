@@ -1,0 +1,61 @@
+//! Files by name: opened, or read whole.
+ghost use Rattle.std.specs.Prelude.{◌≡◌, ◌≤◌, IfSome, IfOk, length};
+ghost use Rattle.std.specs.Option.{option_map};
+ghost use Rattle.papi_base.specs.Outside.{opened};
+ghost use Rattle.papi_tools.specs.Opening.{file_bytes, tape_under};
+ghost use Rattle.papi_tools.specs.Answers.{Answers, AnswersSource, StopsByFile};
+
+use crate::{Refusal, Stop};
+use papi_base::{Bytes, Files, OpenFail, Text, WholeFault, read_whole};
+use std::alloc::Global;
+
+/// Opens a file, or says why not.
+pub fn open_named<F: Files>(alloc: Global, files: &mut F, name: &str) -> Result<F::S, Stop>
+    ensures told { IfSome (F.held files.old) (λ held. AnswersSource F.S.tape result (tape_under held name.now)) }
+    ensures held { F.held files.new ≡ option_map opened (F.held files.old) }
+    ensures cause { StopsByFile result (F.misses files.old) (F.misses files.new) (F.faults files.old) (F.faults files.new) }
+    ensures misses_stay { F.misses files.old ≤ F.misses files.new }
+    ensures faults_stay { F.faults files.old ≤ F.faults files.new }
+{
+    let answer = files.open_source(name);
+    match answer {
+        Ok(source) => Ok(source),
+        Err(OpenFail::Absent) => Err(Stop::Refused(Refusal::NoSuchFile(Text::copy_of(
+            alloc, name,
+        )?))),
+        Err(OpenFail::Failed) => Err(Stop::Refused(Refusal::CannotRead(Text::copy_of(
+            alloc, name,
+        )?))),
+        Err(OpenFail::Memory) => Err(Stop::Memory),
+    }
+}
+
+/// Opens a file of at most `limit` bytes, reads it whole and closes it, or says why not.
+#[tactic(auto, unfolding(crate::specs::Opening::file_bytes))]
+pub fn whole_file<F: Files>(
+    alloc: Global,
+    files: &mut F,
+    name: &str,
+    limit: usize,
+) -> Result<Bytes, Stop>
+    ensures told { IfSome (F.held files.old) (λ held. Answers result (file_bytes limit held name.now)) }
+    ensures small { IfOk result (λ bytes. length bytes ≤ limit) }
+    ensures held { F.held files.new ≡ option_map opened (F.held files.old) }
+    ensures cause { StopsByFile result (F.misses files.old) (F.misses files.new) (F.faults files.old) (F.faults files.new) }
+    ensures misses_stay { F.misses files.old ≤ F.misses files.new }
+    ensures faults_stay { F.faults files.old ≤ F.faults files.new }
+{
+    let mut source = open_named(alloc, files, name)?;
+    let answer = read_whole(alloc, &mut source, limit);
+    files.close_source(source);
+    match answer {
+        Ok(bytes) => Ok(Bytes::new(bytes)),
+        Err(WholeFault::TooLarge) => Err(Stop::Refused(Refusal::TooLarge(Text::copy_of(
+            alloc, name,
+        )?))),
+        Err(WholeFault::Failed) => Err(Stop::Refused(Refusal::CannotRead(Text::copy_of(
+            alloc, name,
+        )?))),
+        Err(WholeFault::Memory) => Err(Stop::Memory),
+    }
+}

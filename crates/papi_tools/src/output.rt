@@ -1,0 +1,73 @@
+//! What a tool writes on standard output.
+ghost use Rattle.std.specs.Prelude.{◌≡◌, ◌≤◌, ℕ, length, take, OnOk, OnErr, IsErrOf};
+ghost use Rattle.papi_base.specs.Outside.{Rose, appended};
+ghost use Rattle.script_runner.specs.Replies.{reply_text};
+
+use component_table::Catalog;
+use papi_base::{Bytes, Sink, WriteFail, write_whole};
+use plan_runner::ReplyLine;
+use script_runner::write_replies;
+use std::alloc::Global;
+use std::marker::Model;
+
+#[derive(Drop)]
+enum Content {
+    Text(Bytes),
+    Replies(Vec<ReplyLine>, Catalog),
+}
+
+/// What a tool writes on standard output: a text, or replies that are made into text as they are written. Contracts
+/// see the bytes.
+#[derive(Drop)]
+pub struct Output {
+    content: Content,
+}
+
+impl Model for Output {
+    ghost use Rattle.std.specs.Prelude.{List, ℕ};
+    ghost use Rattle.papi_tools.specs.Outputs.{content_bytes};
+
+    ghost Value = { List ℕ };
+
+    ghost view = { λ o. content_bytes o.content };
+}
+
+impl Output {
+    /// A text.
+    pub fn text(text: Bytes) -> Output
+        ensures { result ≡ text }
+    {
+        Output {
+            content: Content::Text(text),
+        }
+    }
+
+    /// The replies of a run.
+    pub fn replies(lines: Vec<ReplyLine>, catalog: Catalog) -> Output
+        ensures { result ≡ reply_text catalog lines.items }
+    {
+        Output {
+            content: Content::Replies(lines, catalog),
+        }
+    }
+
+    /// Writes all of it in order. After an error a first part of it is written.
+    pub fn write<K: Sink>(&self, alloc: Global, out: &mut K) -> Result<(), WriteFail>
+        ensures ok { OnOk result (K.taken out.new ≡ appended (K.taken out.old) self.now) }
+        ensures part { OnErr result ((k : ℕ) × (k ≤ length self.now) × (K.taken out.new ≡ appended (K.taken out.old) (take k self.now))) }
+        ensures failed { IsErrOf result WriteFail.Failed → Rose (K.faults out.old) (K.faults out.new) }
+        ensures quiet { OnOk result (K.faults out.new ≡ K.faults out.old) }
+        ensures memory { IsErrOf result WriteFail.Memory → K.faults out.new ≡ K.faults out.old }
+        ensures falls_never { K.faults out.old ≤ K.faults out.new }
+    {
+        match &self.content {
+            Content::Text(text) => write_whole(out, text.as_slice()),
+            Content::Replies(lines, catalog) => write_replies(
+                alloc,
+                lines.as_slice(),
+                catalog,
+                out,
+            ),
+        }
+    }
+}

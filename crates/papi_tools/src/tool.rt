@@ -1,0 +1,61 @@
+//! The tools by themselves, each over the words behind its name.
+ghost use Rattle.std.specs.Prelude.{◌≡◌, ◌<◌, ◌⊎◌, ◌∷◌, IfOk, IfSome, codes, map, string_bytes, vec_len};
+ghost use Rattle.papi_base.specs.Outside.{Rose};
+ghost use Rattle.tool_words.specs.Form.{form};
+ghost use Rattle.papi_tools.specs.Causes.{IsCaused};
+ghost use Rattle.papi_tools.specs.Saying.{HasSinkCause, IsJudged, Says, Tells};
+ghost use Rattle.papi_tools.specs.Verdict.{verdict};
+ghost use Rattle.papi_tools.specs.declared.said.Said.{Said};
+
+use crate::{Outcome, Status, papi_main};
+use overflow_dispatch::Handler;
+use papi_base::{Files, Sink};
+use std::alloc::{AllocError, Global};
+use std::marker::{Send, Sync};
+use std::thread::Threads;
+
+// The words with a tool's name before them.
+fn named(alloc: Global, tool: &str, words: &[String]) -> Result<Vec<String>, AllocError>
+    ensures { IfOk result (λ all. map string_bytes all.items ≡ tool.now ∷ map string_bytes words.now) }
+{
+    let mut all = Vec::new(alloc);
+    all.push(String::from_str(alloc, tool)?)?;
+    for word in words {
+        all.push(String::from_str(alloc, word.as_str())?)?;
+    }
+    Ok(all)
+}
+
+/// `papi_run` over the words behind its name, as `papi_main` does it.
+pub fn run_tool<R: Threads + Sync, F: Files, K: Sink>(
+    rt: &R,
+    alloc: Global,
+    words: &[String],
+    files: &mut F,
+    out: &mut K,
+    err: &mut K,
+    handlers: &mut Vec<Box<dyn Handler + Send>>,
+) -> Status
+    requires handlers { vec_len handlers.old ≡ 64 }
+    ensures len { vec_len handlers.new ≡ 64 }
+
+    // Where the files tell what they hold, this is said, and the handlers are told these notes.
+    ensures says { IfSome (F.held files.old) (λ held. Says result (verdict (codes "papi_run" ∷ map string_bytes words.now) held).said
+        (K.taken out.old) (K.taken out.new) (K.taken err.old) (K.taken err.new)) }
+    ensures tells { IfSome (F.held files.old) (λ held. Tells result (verdict (codes "papi_run" ∷ map string_bytes words.now) held).notes
+        (map (λ b. notes b) handlers.old.items) (map (λ b. notes b) handlers.new.items)) }
+    ensures refused { IfSome (F.held files.old) (λ held. result ≡ Status.Refused → (verdict (codes "papi_run" ∷ map string_bytes words.now) held).said.outcome ≡ Outcome.Refused) }
+
+    // Told or not, a refusal has its cause, and is what is said.
+    ensures cause { (said : Said) × Says result said (K.taken out.old) (K.taken out.new) (K.taken err.old) (K.taken err.new)
+        × IsCaused (form (codes "papi_run" ∷ map string_bytes words.now)) (F.misses files.old) (F.misses files.new) (F.faults files.old) (F.faults files.new) said }
+    ensures read_fault { result ≡ Status.ReadFault → Rose (F.faults files.old) (F.faults files.new) }
+    ensures sinks { HasSinkCause result (K.faults out.old) (K.faults out.new) (K.faults err.old) (K.faults err.new) }
+    ensures rises { (K.faults out.old < K.faults out.new) ⊎ (K.faults err.old < K.faults err.new) → (result ≡ Status.WriteFault) ⊎ (result ≡ Status.Memory) }
+    ensures complete { ¬ (Rose (F.faults files.old) (F.faults files.new)) → ¬ (Rose (K.faults out.old) (K.faults out.new)) → ¬ (Rose (K.faults err.old) (K.faults err.new)) → IsJudged result }
+{
+    match named(alloc, "papi_run", words) {
+        Ok(all) => papi_main(rt, alloc, &all, files, out, err, handlers),
+        Err(_) => Status::Memory,
+    }
+}
