@@ -1,0 +1,80 @@
+// The files of the disk.
+ghost use Rattle.std.specs.Prelude.{None};
+
+use papi_base::{Failed, Files, OpenFail, Source};
+use std::fs;
+use std::fs::File;
+use std::io::{ErrorKind, Read};
+
+/// A file of the disk that is read. It tells nothing of its bytes, and each error of a read is a fault.
+#[derive(Drop)]
+pub struct DiskSource {
+    file: File,
+    faults: u64,
+}
+
+impl Source for DiskSource {
+    ghost faults = { λ s. s.faults };
+
+    ghost tape = { λ _. None };
+
+    fn read(&mut self, buf: &mut [u8]) -> Result<usize, Failed> {
+        match self.file.read(buf) {
+            Ok(n) => Ok(n),
+            Err(_) => {
+                self.faults = self.faults.saturating_add(1);
+                Err(Failed)
+            }
+        }
+    }
+}
+
+/// The files of the disk, by their paths. They tell nothing of what they hold.
+#[derive(Drop)]
+pub struct DiskFiles<'a> {
+    rt: &'a HostRuntime,
+    misses: u64,
+    faults: u64,
+}
+
+impl<'a> DiskFiles<'a> {
+    /// No misses and no faults so far.
+    pub fn new(rt: &'a HostRuntime) -> Self {
+        DiskFiles {
+            rt,
+            misses: 0,
+            faults: 0,
+        }
+    }
+}
+
+impl<'a> Files for DiskFiles<'a> {
+    type S = DiskSource;
+
+    ghost misses = { λ f. f.misses };
+
+    ghost faults = { λ f. f.faults };
+
+    ghost held = { λ _. None };
+
+    fn open_source(&mut self, name: &str) -> Result<DiskSource, OpenFail> {
+        match fs::open(self.rt, name) {
+            Ok(file) => Ok(DiskSource { file, faults: 0 }),
+            Err(error) => {
+                if error.kind() == ErrorKind::NotFound {
+                    self.misses = self.misses.saturating_add(1);
+                    Err(OpenFail::Absent)
+                } else {
+                    self.faults = self.faults.saturating_add(1);
+                    Err(OpenFail::Failed)
+                }
+            }
+        }
+    }
+
+    fn close_source(&mut self, source: DiskSource) {
+        if source.faults != 0 {
+            self.faults = self.faults.saturating_add(1);
+        }
+    }
+}
