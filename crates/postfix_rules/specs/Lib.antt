@@ -5,4 +5,6 @@ pub mod Stack
 pub mod Rules
 pub mod Sameness
 pub mod Presets
+pub mod Tokens
+pub mod Reading
 pub mod Laws

@@ -12,7 +12,7 @@ pub mod token;
 
 pub use book::PresetBook;
 pub use derived::Derived;
-pub use fault::FormulaCause;
+pub use fault::{FormulaCause, FormulaFault};
 pub use formula::Formula;
 pub use rule::{Rule, value_of};
 pub use stack::eval;
