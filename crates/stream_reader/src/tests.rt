@@ -137,14 +137,18 @@ fn bad_lines(rt: HostRuntime) -> Result<(), Fail> {
     Ok(())
 }
 
-// So many `#`, and then these bytes.
-fn comment(alloc: Global, size: usize, rest: &[u8]) -> Result<Vec<u8>, AllocError> {
+// This byte so often, and then these bytes.
+fn repeated(alloc: Global, byte: u8, size: usize, rest: &[u8]) -> Result<Vec<u8>, AllocError> {
     let mut bytes = Vec::new(alloc);
     for _ in 0..size {
-        bytes.push(b'#')?;
+        bytes.push(byte)?;
     }
     bytes.extend_from_slice(rest)?;
     Ok(bytes)
+}
+
+fn comment(alloc: Global, size: usize, rest: &[u8]) -> Result<Vec<u8>, AllocError> {
+    repeated(alloc, b'#', size, rest)
 }
 
 #[test]
@@ -161,6 +165,31 @@ fn long_lines(rt: HostRuntime) -> Result<(), Fail> {
     reads(&rt, alloc, &bytes, Ending::Fault, &long)?;
     let bytes = comment(alloc, 128, b"")?;
     reads(&rt, alloc, &bytes, Ending::Fault, &[Next::ReadFault])?;
+    let bytes = repeated(alloc, b'x', 128, b"\n")?;
+    reads(
+        &rt,
+        alloc,
+        &bytes,
+        Ending::End,
+        &[bad(1, LineCause::Fields)],
+    )?;
+    let bytes = repeated(alloc, b'x', 129, b"\n")?;
+    reads(&rt, alloc, &bytes, Ending::End, &long)?;
+    Ok(())
+}
+
+// A carriage return is the last byte of a piece, and its newline the first of the next one.
+#[test]
+fn a_return_at_the_end_of_a_piece(rt: HostRuntime) -> Result<(), Fail> {
+    let alloc = rt.alloc();
+    let mut bytes = Vec::new(alloc);
+    for _ in 0..34u32 {
+        bytes.extend_from_slice(&comment(alloc, 119, b"\n")?)?;
+    }
+    bytes.extend_from_slice(b"0 c0 00 u 1 001\r\n0 c0 00 u 2 2\r\n")?;
+    let two = [occ(0xc0, 0, 1, 1, 0), occ(0xc0, 0, 2, 2, 1)];
+    assert_eq!(&rt; bytes.get(4095).copied(), Some(b'\r'));
+    reads(&rt, alloc, &bytes, Ending::End, &two)?;
     Ok(())
 }
 
