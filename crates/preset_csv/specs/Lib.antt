@@ -1,0 +1,10 @@
+pub mod Kinds
+pub mod Defs
+pub mod Tables
+pub mod Lines
+pub mod Entries
+pub mod Presets
+pub mod Written
+pub use Rattle.table_rows.specs.Rows
+pub use Rattle.table_rows.specs.Texts
+pub use Rattle.preset_table.specs.Table

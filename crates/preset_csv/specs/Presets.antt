@@ -1,0 +1,110 @@
+-- The presets of a file for one cpu, and its first fault: papi_events.csv.
+use Rattle.std.specs.Prelude.{◌≡◌, ◌+◌, ◌&&◌, ℕ, Bool, true, false, not, List, [], ◌∷◌, ◌++◌, length, map, fold, Option, Some, None, Result, Ok, Err, is_some, if◌then◌else◌, codes}
+use Rattle.std.specs.List.{list_any}
+use Rattle.std.specs.Option.{option_map_or}
+use Rattle.std.specs.Str.{bytes_eq}
+use Rattle.table_rows.specs.Texts.{Text}
+use Rattle.preset_table.specs.Table.{row_of}
+use Rattle.preset_csv.specs.Entries.{judged}
+use Rattle.preset_csv.specs.Lines.{Derivation, Line, cpu, lines_of, other, preset}
+use Rattle.preset_csv.specs.Tables.{TableView, symbols}
+use Rattle.preset_csv.specs.declared.entry.Entry.{Entry}
+use Rattle.preset_csv.specs.declared.entry.Entry.TheVariants as entry
+use Rattle.preset_csv.specs.declared.fault.PresetCause.{PresetCause}
+use Rattle.preset_csv.specs.declared.fault.PresetCause.TheVariants as cause
+use Rattle.preset_csv.specs.declared.fault.PresetFault.{PresetFault}
+use Rattle.preset_csv.specs.declared.fault.PresetFault.TheVariants as fault
+use Rattle.preset_csv.specs.declared.table.PresetTable.{PresetTable}
+
+-- ---- the group of cpus to which a row belongs
+
+unfoldable pub has_cpu : List Line → Bool
+has_cpu [] = false
+has_cpu (other ∷ rest) = has_cpu rest
+has_cpu (cpu name ∷ rest) = true
+has_cpu (preset r ∷ rest) = has_cpu rest
+
+-- a PRESET row stands in the rows, and a CPU row below it: what stands above the rows is cut off
+unfoldable pub cuts_off : List Line → Bool
+cuts_off [] = false
+cuts_off (other ∷ rest) = cuts_off rest
+cuts_off (cpu name ∷ rest) = cuts_off rest
+cuts_off (preset r ∷ rest) = has_cpu rest
+
+-- the names of the CPU rows that are not cut off from the end of the rows
+unfoldable pub group : List Line → List Text
+group [] = []
+group (other ∷ rest) = group rest
+group (cpu name ∷ rest) = if cuts_off rest then group rest else name ∷ group rest
+group (preset r ∷ rest) = group rest
+
+-- ---- the rows that are read
+
+-- a PRESET row below these rows is read for this cpu
+abbrev pub is_read : Text → List Line → Derivation → Bool
+is_read name above r = list_any (λ n. bytes_eq name n) (group above) && is_some (row_of r.symbol)
+
+-- the rows that are read of some rows below `above`
+unfoldable pub read_from : Text → List Line → List Line → List Derivation
+read_from name above [] = []
+read_from name above (other ∷ rest) = read_from name (above ++ other ∷ []) rest
+read_from name above (cpu n ∷ rest) = read_from name (above ++ cpu n ∷ []) rest
+read_from name above (preset r ∷ rest) = if is_read name above r then r ∷ read_from name (above ++ preset r ∷ []) rest else read_from name (above ++ preset r ∷ []) rest
+
+-- ---- the entries
+
+abbrev pub entry_or : Entry → Result Entry PresetCause → Entry
+entry_or old (Ok e) = e
+entry_or old (Err why) = old
+
+-- the entry of a symbol: that of its last row
+unfoldable pub entry_of : List Derivation → Text → Entry
+entry_of rows symbol = fold (λ e r. if bytes_eq r.symbol symbol then entry_or e (judged r) else e) entry.Missing rows
+
+-- the entries of the preset table's symbols
+unfoldable pub presets : Text → List Line → List Entry
+presets name lines = map (entry_of (read_from name [] lines)) symbols
+
+-- ---- the first fault
+
+abbrev pub judged_cause : Result Entry PresetCause → Option PresetCause
+judged_cause (Ok e) = None
+judged_cause (Err why) = Some why
+
+-- the cause of a row below these rows
+abbrev pub line_cause : Text → List Line → Line → Option PresetCause
+line_cause name above other = None
+line_cause name above (cpu n) = None
+line_cause name above (preset r) =
+    if not (has_cpu above) then Some cause.NoCpu
+    else if is_read name above r then judged_cause (judged r)
+    else None
+
+-- the first row below `above` that has a cause, and its cause
+unfoldable pub fault_from : Text → List Line → List Line → Option (ℕ × PresetCause)
+fault_from name above [] = None
+fault_from name above (line ∷ rest) =
+    option_map_or (λ why. Some (length above + 1, why)) (line_cause name above line) (fault_from name (above ++ line ∷ []) rest)
+
+-- ---- what a caller gets
+
+-- the first faulty row of a preset file, from 1, and its first cause
+unfoldable pub preset_fault : Text → List ℕ → Option (ℕ × PresetCause)
+preset_fault name bytes = fault_from name [] (lines_of bytes)
+
+-- the presets for a cpu in a file that has no faulty row
+unfoldable pub presets_in : Text → List ℕ → TableView
+presets_in name bytes = record { cpu = name; rows = presets name (lines_of bytes) }
+
+-- the presets where no row is faulty, or the first fault, or want of memory
+abbrev pub ReadsPresets : Result PresetTable PresetFault → List ℕ → Text → Type 0
+ReadsPresets (Ok table) bytes name = (preset_fault name bytes ≡ None) × (table ≡ presets_in name bytes)
+ReadsPresets (Err (fault.Row row why)) bytes name = preset_fault name bytes ≡ Some (row, why)
+ReadsPresets (Err fault.Memory) bytes name = Unit {0}
+
+-- a cause as it is written on the line that names it
+abbrev pub cause_text : PresetCause → Text
+cause_text cause.NoCpu = codes "preset before cpu"
+cause_text cause.BadField = codes "bad field"
+cause_text cause.OverLimit = codes "over a limit"
+cause_text (cause.BadFormula why) = codes "broken formula"

@@ -1,0 +1,55 @@
+// Why a preset file is refused.
+
+ghost use Rattle.std.specs.Prelude.{◌≡◌};
+ghost use Rattle.preset_csv.specs.Presets as Presets;
+ghost use Rattle.preset_csv.specs.declared.fault.PresetFault.TheVariants.{Memory};
+
+use postfix_rules::FormulaCause;
+use std::alloc::AllocError;
+use thiserror::Error;
+
+/// Why a row is refused, in the order in which the causes are tried.
+#[derive(Clone, Copy, Debug, PartialEq, Eq, Error)]
+pub enum PresetCause {
+    /// A PRESET row above the first CPU row.
+    #[error("preset before cpu")]
+    NoCpu,
+    /// A derived type that is none, or a formula or a native with a byte that is not printable.
+    #[error("bad field")]
+    BadField,
+    /// More than 8 natives.
+    #[error("over a limit")]
+    OverLimit,
+    /// A formula in postfix order that is none over the row's natives.
+    #[error("broken formula")]
+    BadFormula(FormulaCause),
+}
+
+/// Why a preset file is refused: its first faulty row, numbered from 1, with the row's first cause, or want of memory.
+#[derive(Debug, Drop, Error)]
+pub enum PresetFault {
+    #[error("row {row}: {cause}")]
+    Row { row: u64, cause: PresetCause },
+    #[error("out of memory")]
+    Memory,
+}
+
+impl From<AllocError> for PresetFault {
+    ghost from_gives = { λ _ e. e ≡ Memory };
+
+    fn from(_e: AllocError) -> PresetFault {
+        PresetFault::Memory
+    }
+}
+
+/// A cause as it is written on the line that names it.
+pub fn cause_text(cause: PresetCause) -> &'static str
+    ensures { result.now ≡ Presets.cause_text cause }
+{
+    match cause {
+        PresetCause::NoCpu => "preset before cpu",
+        PresetCause::BadField => "bad field",
+        PresetCause::OverLimit => "over a limit",
+        PresetCause::BadFormula(_) => "broken formula",
+    }
+}

@@ -1,0 +1,16 @@
+//! Preset files: what the events of the preset table are derived from, for one cpu. Source: PAPI's papi_events.csv.
+#![tactic(auto)]
+
+mod definition;
+mod entry;
+mod fault;
+mod kind;
+mod row;
+mod table;
+
+pub use crate::definition::Def;
+pub use crate::entry::Entry;
+pub use crate::fault::{PresetCause, PresetFault, cause_text};
+pub use crate::kind::{DerivedType, Kind, kind_text};
+pub use crate::table::PresetTable;
+pub use preset_table::{preset_code, preset_count, preset_row, preset_symbol, preset_text};
