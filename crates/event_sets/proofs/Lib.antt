@@ -5,3 +5,4 @@ pub mod JoinedNatives
 pub mod Clashing
 pub mod Adding
 pub mod Sound
+pub mod Kept

@@ -4,6 +4,7 @@ pub mod Agreement
 pub mod Laws
 pub mod Sets
 pub mod Adding
+pub mod Changing
 pub mod Soundness
 pub use Rattle.counter_alloc.specs.Listing
 pub use Rattle.counter_alloc.specs.Masks

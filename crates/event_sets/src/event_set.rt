@@ -1,17 +1,20 @@
 // Event sets that do not run.
-ghost use Rattle.std.specs.Prelude.{◌≡◌, ◌<◌, ◌≤◌, ◌↔◌, if◌then◌else◌, [], All, IfErr, IfSome, IsNone, IsSome, OnErr, OnOk, None, Some, is_some, length, slice_index};
+ghost use Rattle.std.specs.Prelude.{◌≡◌, false, true, ◌<◌, ◌≤◌, ◌↔◌, if◌then◌else◌, [], All, IfErr, IfSome, IsNone, IsSome, OnErr, OnOk, None, Some, is_some, length, slice_index};
+ghost use Rattle.papi_base.specs.declared.code.Code.TheVariants.{Einval};
 ghost use Rattle.counter_alloc.specs.Listing.{least};
 ghost use Rattle.counter_alloc.specs.Masks.{masks_of};
 ghost use Rattle.postfix_rules.specs.Presets.{natives_of_event};
 ghost use Rattle.event_sets.specs.Adding.{add_refusal};
 ghost use Rattle.event_sets.specs.Agreement.{Fits, IsHeld};
-ghost use Rattle.event_sets.specs.AtRest.{is_other, new_set, set_natives, widths_at, with_event};
+ghost use Rattle.event_sets.specs.AtRest.{emptied, is_bad_domain, is_other, new_set, set_natives, widths_at, with_event};
+ghost use Rattle.event_sets.specs.Changing.{assign_refusal, multiplex_refusal};
 ghost use Rattle.event_sets.specs.Sets.{IsSound, SetView, set_view};
 
 use crate::Refusal;
 use crate::clashes::clash;
 use crate::joining::{joined, natives_of};
 use crate::sameness::has_event;
+use crate::thresholds::is_armed;
 use counter_alloc::Matching;
 use papi_base::{Code, Counts, Domain, EventRef, Events, Natives, Places, Shape};
 use postfix_rules::PresetBook;
@@ -77,20 +80,28 @@ fn begun(fixed: Option<u32>, kept: &Matching, counters: u32) -> Matching
 }
 
 impl EventSet {
-    /// A set without events, component or slice, in the domain of the user.
-    pub fn new() -> EventSet
-        ensures { result ≡ record { rest = new_set; natives = []; counters = 0 } }
+    /// A set without events, component or slice, in this domain.
+    fn empty(domain: Domain) -> EventSet
+        requires { is_bad_domain domain.0 ≡ false }
+        ensures { result ≡ record { rest = record new_set { domain = domain }; natives = []; counters = 0 } }
     {
         EventSet {
             events: Events::new(),
             thresholds: Counts::new(),
             component: None,
             counters: 0,
-            domain: Domain::USER,
+            domain,
             slice: None,
             natives: Natives::new(),
             matching: Matching::empty(0),
         }
+    }
+
+    /// A set without events, component or slice, in the domain of the user.
+    pub fn new() -> EventSet
+        ensures { result ≡ record { rest = new_set; natives = []; counters = 0 } }
+    {
+        EventSet::empty(Domain::USER)
     }
 
     /// Adds an event with threshold 0, and fixes the component to the event's: PAPI_add_event(3).
@@ -124,12 +135,77 @@ impl EventSet {
         if let Some(clash) = clash(self.slice, &mut matching, &natives, self.natives.len()) {
             return Err(Refusal::Conflict(clash));
         }
-        self.events.push(*e);
-        self.thresholds.push(0);
         self.component = Some(comp);
         self.counters = counters;
         self.natives = natives;
         self.matching = matching;
+        self.events.push(*e);
+        self.thresholds.push(0);
+        Ok(())
+    }
+
+    /// Takes away all events, the slice and the component: PAPI_cleanup_eventset(3). The domain stays.
+    pub fn cleanup(&mut self)
+        ensures { self.new ≡ record { rest = emptied self.old.rest; natives = []; counters = 0 } }
+    {
+        *self = EventSet::empty(self.domain);
+    }
+
+    /// Fixes the domain in which the native events without a privilege modifier count: PAPI_set_domain(3).
+    ///
+    /// EINVAL where the bits are 0 or have another one than 1 for the user and 2 for the kernel.
+    pub fn set_domain(&mut self, bits: u32) -> Result<(), Code>
+        ensures set { OnOk result (self.new ≡ record self.old { rest = record self.old.rest { domain = record { 0 = bits } } }) }
+        ensures good { OnOk result (is_bad_domain bits ≡ false) }
+        ensures refused { IfErr result (λ c. (c ≡ Einval) × (is_bad_domain bits ≡ true)) }
+        ensures unchanged { OnErr result (self.new ≡ self.old) }
+    {
+        if bits == 0 || bits > 3 {
+            return Err(Code::Einval);
+        }
+        self.domain = Domain(bits as u8);
+        Ok(())
+    }
+
+    /// Has the native events take turns, each for a slice of so many ticks: PAPI_set_multiplex(3).
+    ///
+    /// EINVAL where the slice is not from 1 to 1,000,000 ticks, else ECOMBO where an event has a threshold.
+    pub fn set_multiplex(&mut self, slice: u32) -> Result<(), Code>
+        ensures set { OnOk result (self.new ≡ record self.old { rest = record self.old.rest { slice = Some slice } }) }
+        ensures taken { OnOk result (multiplex_refusal slice self.old.rest ≡ None) }
+        ensures refused { IfErr result (λ c. multiplex_refusal slice self.old.rest ≡ Some c) }
+        ensures unchanged { OnErr result (self.new ≡ self.old) }
+    {
+        if slice == 0 || slice > 1_000_000 {
+            return Err(Code::Einval);
+        }
+        if is_armed(&self.thresholds) {
+            return Err(Code::Ecombo);
+        }
+        self.slice = Some(slice);
+        Ok(())
+    }
+
+    /// Fixes the component: PAPI_assign_eventset_component(3).
+    ///
+    /// ENOCMP where there is no such component, else EINVAL where another one is fixed.
+    pub fn assign_component(&mut self, comp: u32, shape: &Shape) -> Result<(), Code>
+        requires counters { self.old.counters ≡ length (widths_at shape.now self.old.rest.component) }
+        ensures set { OnOk result (self.new ≡ record self.old { rest = record self.old.rest { component = Some comp }; counters = length (widths_at shape.now (Some comp)) }) }
+        ensures taken { OnOk result (assign_refusal shape.now comp self.old.rest ≡ None) }
+        ensures refused { IfErr result (λ c. assign_refusal shape.now comp self.old.rest ≡ Some c) }
+        ensures unchanged { OnErr result (self.new ≡ self.old) }
+    {
+        if comp >= shape.comps() {
+            return Err(Code::Enocmp);
+        }
+        if is_other(self.component, comp) {
+            return Err(Code::Einval);
+        }
+        let counters = shape.comp(comp).counters();
+        self.matching = begun(self.component, &self.matching, counters);
+        self.component = Some(comp);
+        self.counters = counters;
         Ok(())
     }
 

@@ -9,6 +9,7 @@ pub mod refusal;
 mod sameness;
 #[cfg(test)]
 mod tests;
+mod thresholds;
 
 pub use event_set::EventSet;
 pub use joining::natives_of;

@@ -3,7 +3,7 @@ ghost use Rattle.event_sets.specs.AtRest.{widths_at};
 ghost use Rattle.event_sets.specs.Sets.{set_view};
 
 use crate::{EventSet, Refusal};
-use papi_base::{CompShape, EventRef, Mods, Native, Shape};
+use papi_base::{Code, CompShape, Domain, EventRef, Mods, Native, Shape};
 use postfix_rules::PresetBook;
 use std::alloc::Global;
 use std::process::Abort;
@@ -144,4 +144,53 @@ fn a_native_event_too_many_is_refused_quickly(rt: HostRuntime) {
         assert_eq!(rt; clash.natives.len(), 31);
         assert_eq!(rt; clash.counters, all);
     }
+}
+
+#[test]
+fn domains_are_of_two_bits(rt: HostRuntime) {
+    let mut set = EventSet::new();
+    for (bits, answer, domain) in [
+        (0, Err(Code::Einval), Domain::USER),
+        (2, Ok(()), Domain::KERNEL),
+        (1, Ok(()), Domain::USER),
+        (3, Ok(()), Domain(3)),
+        (4, Err(Code::Einval), Domain(3)),
+    ] {
+        assert_eq!(rt; set.set_domain(bits), answer);
+        assert_eq!(rt; set.domain(), domain);
+    }
+    set.cleanup();
+    assert_eq!(rt; set.domain(), Domain(3));
+}
+
+#[test]
+fn slices_are_from_1_to_1_000_000_ticks(rt: HostRuntime) {
+    let mut set = EventSet::new();
+    for (slice, answer, kept) in [
+        (0, Err(Code::Einval), None),
+        (1, Ok(()), Some(1)),
+        (1_000_001, Err(Code::Einval), Some(1)),
+        (1_000_000, Ok(()), Some(1_000_000)),
+    ] {
+        assert_eq!(rt; set.set_multiplex(slice), answer);
+        assert_eq!(rt; set.slice(), kept);
+    }
+    set.cleanup();
+    assert_eq!(rt; set.slice(), None);
+}
+
+#[test]
+fn a_component_is_fixed_until_cleanup(rt: HostRuntime) {
+    let mut shape = Shape::new();
+    shape.push(CompShape::new());
+    shape.push(CompShape::new());
+    let mut set = EventSet::new();
+    assert_eq!(rt; set.assign_component(2, &shape), Err(Code::Enocmp));
+    assert_eq!(rt; set.assign_component(1, &shape), Ok(()));
+    assert_eq!(rt; set.assign_component(1, &shape), Ok(()));
+    assert_eq!(rt; set.assign_component(0, &shape), Err(Code::Einval));
+    assert_eq!(rt; set.component(), Some(1));
+    set.cleanup();
+    assert_eq!(rt; set.component(), None);
+    assert_eq!(rt; set.assign_component(0, &shape), Ok(()));
 }
