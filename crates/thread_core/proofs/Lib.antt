@@ -24,3 +24,6 @@ pub mod Starts
 pub mod Looking
 pub mod Shows
 pub mod Ends
+pub mod Registrations
+pub mod Destroying
+pub mod States

@@ -62,7 +62,7 @@ present book core a k h there = go (at a.sets k) refl where
     at_face = at_map face_of a.sets k ∙ ap (option_map face_of) e;
   }
 
-one_row : (absent : Bool) → (if absent then Some (Plain Enoevst) else None) ≡ None → absent ≡ false
+pub one_row : (absent : Bool) → (if absent then Some (Plain Enoevst) else None) ≡ None → absent ≡ false
 one_row true h = cc
 one_row false h = refl
 

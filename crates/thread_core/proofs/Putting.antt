@@ -55,30 +55,34 @@ owner_from-put comp number (x ∷ faces) (suc k) f below h i =
 abbrev pub IsQuiet : ℕ → Option Kept → Type 0
 IsQuiet comp place = runs_on (Some comp) (option_map face_of place) ≡ false
 
--- who runs on a component stays, where neither the old set nor the new one does
-pub runner_stays : (sets : List (Option Kept)) (k comp : ℕ) (t : Kept) (place : Option Kept) → slice_get sets k ≡ Some place → IsQuiet comp place → IsQuiet comp (Some t) → runner comp (slice_set sets k (Some t)) ≡ runner comp sets
-runner_stays sets k comp t place e quiet new = ap (λ o. option_and_then (at (slice_set sets k (Some t))) o) owners ∙ go (owner_from comp 0 (faces_of sets)) refl where
+-- who runs on a component stays, where neither what was in the place nor what comes there does
+pub runner_same : (sets : List (Option Kept)) (k comp : ℕ) (t place : Option Kept) → slice_get sets k ≡ Some place → IsQuiet comp place → IsQuiet comp t → runner comp (slice_set sets k t) ≡ runner comp sets
+runner_same sets k comp t place e quiet new = ap (λ o. option_and_then (at (slice_set sets k t)) o) owners ∙ go (owner_from comp 0 (faces_of sets)) refl where
   old_face : slice_get (faces_of sets) k ≡ Some (option_map face_of place)
   old_face = get-map_some (option_map face_of) sets k place e
 
-  owners : owner_from comp 0 (faces_of (slice_set sets k (Some t))) ≡ owner_from comp 0 (faces_of sets)
-  owners = ap (owner_from comp 0) (faces_put sets k t) ∙ owner_from-set comp 0 (faces_of sets) k (Some (face_of t)) (option_map face_of place) old_face quiet new
+  owners : owner_from comp 0 (faces_of (slice_set sets k t)) ≡ owner_from comp 0 (faces_of sets)
+  owners = ap (owner_from comp 0) (sym (map_put (option_map face_of) sets k t)) ∙ owner_from-set comp 0 (faces_of sets) k (option_map face_of t) (option_map face_of place) old_face quiet new
 
-  go : (m : Option ℕ) → owner_from comp 0 (faces_of sets) ≡ m → option_and_then (at (slice_set sets k (Some t))) (owner_from comp 0 (faces_of sets)) ≡ option_and_then (at sets) (owner_from comp 0 (faces_of sets))
+  go : (m : Option ℕ) → owner_from comp 0 (faces_of sets) ≡ m → option_and_then (at (slice_set sets k t)) (owner_from comp 0 (faces_of sets)) ≡ option_and_then (at sets) (owner_from comp 0 (faces_of sets))
   go None q = rw q refl
   go (Some j) q =
       let o = owner_some comp 0 (faces_of sets) j q in
       let index : o.index ≡ j = omega (arith, o.is) in
       let apart : j ≡ k → ⊥ = λ z. (let both : Some (Some o.face) ≡ Some (option_map face_of place) = sym o.at ∙ ap (slice_get (faces_of sets)) (index ∙ z) ∙ old_face in let face : Some o.face ≡ option_map face_of place = cc in let runs = ap (runs_on (Some comp)) (sym face) ∙ o.runs in cc) in
-      rw q (ap (λ x. unwrap_or x None) (get-set_other sets k j (Some t) apart))
+      rw q (ap (λ x. unwrap_or x None) (get-set_other sets k j t apart))
 
 -- the units stay where neither runs
+pub units_same : (book : Book) (shape : Widths) (past : List Occ) (sets : List (Option Kept)) (k : ℕ) (t place : Option Kept) → slice_get sets k ≡ Some place → ((comp : ℕ) → IsQuiet comp place) → ((comp : ℕ) → IsQuiet comp t)
+    → units_of book shape past sets ≡ units_of book shape past (slice_set sets k t)
+units_same book shape past sets k t place e quiet new = same_items _ _ (λ c. get-units book shape past sets c ∙ unit c (slice_get shape c) ∙ sym (get-units book shape past (slice_set sets k t) c)) where
+  unit : (c : ℕ) (ws : Option (List ℕ)) → option_map (unit_at book past sets c) ws ≡ option_map (unit_at book past (slice_set sets k t) c) ws
+  unit c None = refl
+  unit c (Some ws) = ap (λ (x : Option Kept). Some (record { widths = ws; registers = registers_by book ws past x })) (sym (runner_same sets k c t place e (quiet c) (new c)))
+
 pub units_stay : (book : Book) (shape : Widths) (past : List Occ) (sets : List (Option Kept)) (k : ℕ) (t : Kept) (place : Option Kept) → slice_get sets k ≡ Some place → ((comp : ℕ) → IsQuiet comp place) → ((comp : ℕ) → IsQuiet comp (Some t))
     → units_of book shape past sets ≡ units_of book shape past (slice_set sets k (Some t))
-units_stay book shape past sets k t place e quiet new = same_items _ _ (λ c. get-units book shape past sets c ∙ unit c (slice_get shape c) ∙ sym (get-units book shape past (slice_set sets k (Some t)) c)) where
-  unit : (c : ℕ) (ws : Option (List ℕ)) → option_map (unit_at book past sets c) ws ≡ option_map (unit_at book past (slice_set sets k (Some t)) c) ws
-  unit c None = refl
-  unit c (Some ws) = ap (λ (x : Option Kept). Some (record { widths = ws; registers = registers_by book ws past x })) (sym (runner_stays sets k c t place e (quiet c) (new c)))
+units_stay book shape past sets k t place e quiet new = units_same book shape past sets k (Some t) place e quiet new
 
 -- the units where one changes
 pub units_put : (book : Book) (shape : Widths) (past : List Occ) (sets : List (Option Kept)) (k : ℕ) (t : Kept) (place : Option Kept) (comp : ℕ) (ws : List ℕ) (u : UnitView) → slice_get sets k ≡ Some place → slice_get shape comp ≡ Some ws
@@ -101,7 +105,7 @@ units_put book shape past sets k t place comp ws u e at_comp is quiet new = same
   ] where
     unit : (c ≡ comp → ⊥) → (w : Option (List ℕ)) → option_map (unit_at book past sets c) w ≡ option_map (unit_at book past (slice_set sets k (Some t)) c) w
     unit other None = refl
-    unit other (Some w) = ap (λ (x : Option Kept). Some (record { widths = w; registers = registers_by book w past x })) (sym (runner_stays sets k c t place e (quiet c other) (new c other)))
+    unit other (Some w) = ap (λ (x : Option Kept). Some (record { widths = w; registers = registers_by book w past x })) (sym (runner_same sets k c (Some t) place e (quiet c other) (new c other)))
 
 -- the set that is put runs alone
 pub runner_put : (sets : List (Option Kept)) (k comp : ℕ) (t : Kept) → k < length sets → ((i : ℕ) (p : Option Kept) → (i ≡ k → ⊥) → slice_get sets i ≡ Some p → IsQuiet comp p) → runs_on (Some comp) (Some (face_of t)) ≡ true → runner comp (slice_set sets k (Some t)) ≡ Some t

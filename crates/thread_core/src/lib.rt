@@ -8,13 +8,16 @@ pub use thread::Core;
 
 mod changing;
 pub mod counting;
+mod emptying;
 mod measuring;
 pub mod pins;
 mod places;
 mod refusal;
+mod registering;
 mod showing;
 pub mod slot;
 mod starting;
+mod state;
 mod stopping;
 pub mod thread;
 mod values;

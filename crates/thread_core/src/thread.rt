@@ -30,9 +30,9 @@ use std::marker::Model;
 #[derive(Drop)]
 pub struct Core {
     thread: u32,
-    registered: bool,
+    pub(crate) registered: bool,
     shape: Shape,
-    slots: Vec<Option<Slot>>,
+    pub(crate) slots: Vec<Option<Slot>>,
     units: Vec<Unit>,
     taken: u32,
     last: Option<Occ>,
@@ -104,7 +104,7 @@ impl Core {
     }
 
     /// The code with which the call is refused, if it is.
-    fn refused(&self, call: &Call) -> Option<Code>
+    pub(crate) fn refused(&self, call: &Call) -> Option<Code>
         requires { asks_slots call.now ≡ true }
         ensures { (book : Book) → option_map Plain result ≡ refusal_of book self.now.shape self.now.registered (slot_faces self.now.slots) call.now }
     {

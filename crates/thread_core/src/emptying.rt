@@ -1,0 +1,25 @@
+//! The calls that take a set away, or what is in it (PAPI_destroy_eventset(3), PAPI_cleanup_eventset(3)).
+use crate::thread::Core;
+use papi_base::Code;
+use postfix_rules::PresetBook;
+use session_model::Call;
+
+impl Core {
+    ghost use Rattle.session_model.specs.Replies.{plain};
+    ghost use Rattle.session_model.specs.declared.call.Call.TheVariants as call;
+    ghost use Rattle.thread_core.specs.Following.{Follows};
+    ghost use Rattle.thread_core.specs.Stands.{AgreesWith};
+
+    /// Takes a set away, so that its number is free: PAPI_destroy_eventset(3). ENOEVST where there is no such set, EISRUN
+    /// where it runs, EINVAL where it has events.
+    pub fn destroy(&mut self, _book: &PresetBook, set: u32) -> Code
+        requires { AgreesWith _book.now self.old }
+        ensures { Follows _book.now self.old self.new (call.Destroy set) (plain result) }
+    {
+        if let Some(code) = self.refused(&Call::Destroy { set }) {
+            return code;
+        }
+        self.slots[set as usize] = None;
+        Code::Ok
+    }
+}
