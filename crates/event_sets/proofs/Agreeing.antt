@@ -153,7 +153,7 @@ assigned_agrees book comp s same h = record {
   apart = h.apart;
 }
 
-length-remove : {X : Type 0} (xs : List X) (p : ℕ) → length (remove xs p) ≡ min p (length xs) + (length xs - suc p)
+pub length-remove : {X : Type 0} (xs : List X) (p : ℕ) → length (remove xs p) ≡ min p (length xs) + (length xs - suc p)
 length-remove xs p = omega (arith, length-append (take p xs) (drop (suc p) xs), length-take p xs, length-drop (suc p) xs)
 
 -- with an event gone

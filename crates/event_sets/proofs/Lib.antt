@@ -6,3 +6,5 @@ pub mod Clashing
 pub mod Adding
 pub mod Sound
 pub mod Kept
+pub mod Sublists
+pub mod Removed

@@ -1,7 +1,7 @@
 -- Lists item by item, as loops go through them.
-use Rattle.std.proofs.Common.{◌≡◌, ℕ, zero, suc, ◌+◌, ◌<◌, Bool, ◌||◌, List, [], ◌∷◌, ◌++◌, length, take, drop, refl, ap, subst, arith, slice_get, Some}
+use Rattle.std.proofs.Common.{◌≡◌, ℕ, zero, suc, ◌+◌, ◌<◌, Bool, true, false, ◌||◌, List, [], ◌∷◌, ◌++◌, length, take, drop, refl, ap, subst, ◌∙◌, arith, slice_get, Some}
 use Rattle.std.specs.Prelude.{find, if◌then◌else◌}
-use Rattle.std.specs.List.{list_any}
+use Rattle.std.specs.List.{list_any, position_or_len}
 
 -- the item at i begins what is left
 pub drop_at : {X : Type 0} (xs : List X) (i : ℕ) (x : X) → slice_get xs i ≡ Some x → drop i xs ≡ x ∷ drop (i + 1) xs
@@ -30,3 +30,10 @@ pub get_at : {X : Type 0} (xs : List X) (i : ℕ) → i < length xs → (x : X) 
 get_at [] i below = absurd (omega arith)
 get_at (x ∷ xs) zero below = (x, refl)
 get_at (x ∷ xs) (suc i) below = get_at xs i (omega arith)
+
+-- the first item of what is left is the first where the test holds, and it is not
+pub found_here : {X : Type 0} (p : X → Bool) (xs : List X) (i : ℕ) (x : X) → slice_get xs i ≡ Some x → p x ≡ true → position_or_len p (drop i xs) ≡ 0
+found_here p xs i x e h = ap (position_or_len p) (drop_at xs i x e) ∙ rw h refl
+
+pub found_later : {X : Type 0} (p : X → Bool) (xs : List X) (i : ℕ) (x : X) → slice_get xs i ≡ Some x → p x ≡ false → position_or_len p (drop i xs) ≡ 1 + position_or_len p (drop (i + 1) xs)
+found_later p xs i x e h = ap (position_or_len p) (drop_at xs i x e) ∙ rw h refl

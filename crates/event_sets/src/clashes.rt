@@ -46,7 +46,7 @@ fn without_counter(natives: &Natives, from: u32) -> Option<Native>
 }
 
 /// Gives counters to the native events from the place on. The matching is of those before it.
-fn give_counters(matching: &mut Matching, natives: &Natives, from: u32) -> Result<(), Blame>
+pub fn give_counters(matching: &mut Matching, natives: &Natives, from: u32) -> Result<(), Blame>
     requires from { from ≤ length natives.now }
     requires few { matching.old.counters ≤ 32 }
     requires in_range { All (λ n. n.allowed < 2 ^ matching.old.counters) natives.now }

@@ -6,14 +6,15 @@ ghost use Rattle.counter_alloc.specs.Masks.{masks_of};
 ghost use Rattle.postfix_rules.specs.Presets.{natives_of_event};
 ghost use Rattle.event_sets.specs.Adding.{add_refusal};
 ghost use Rattle.event_sets.specs.Agreement.{Fits, IsHeld};
-ghost use Rattle.event_sets.specs.AtRest.{emptied, is_bad_domain, is_other, new_set, set_natives, widths_at, with_event};
+ghost use Rattle.event_sets.specs.AtRest.{emptied, has_event as has_event_in, is_bad_domain, is_other, new_set, set_natives, widths_at, with_event, without_event};
 ghost use Rattle.event_sets.specs.Changing.{assign_refusal, multiplex_refusal};
 ghost use Rattle.event_sets.specs.Sets.{IsSound, SetView, set_view};
 
 use crate::Refusal;
 use crate::clashes::clash;
-use crate::joining::{joined, natives_of};
-use crate::sameness::has_event;
+use crate::joining::{joined, natives_of, natives_of_all};
+use crate::removal::{counts_without, events_without, matched};
+use crate::sameness::{has_event, place_of};
 use crate::thresholds::is_armed;
 use counter_alloc::Matching;
 use papi_base::{Code, Counts, Domain, EventRef, Events, Natives, Places, Shape};
@@ -141,6 +142,29 @@ impl EventSet {
         self.matching = matching;
         self.events.push(*e);
         self.thresholds.push(0);
+        Ok(())
+    }
+
+    /// Takes an event away, with its threshold and the native events that no other event has: PAPI_remove_event(3).
+    ///
+    /// EINVAL where the event is not in the set.
+    pub fn remove(&mut self, book: &PresetBook, e: &EventRef) -> Result<(), Code>
+        requires natives { self.old.natives ≡ set_natives book.now self.old.rest }
+        ensures removed { OnOk result (self.new ≡ record self.old { rest = without_event e.now self.old.rest; natives = set_natives book.now (without_event e.now self.old.rest) }) }
+        ensures taken { OnOk result (has_event_in e.now self.old.rest ≡ true) }
+        ensures refused { IfErr result (λ c. c ≡ Einval) }
+        ensures absent { OnErr result (has_event_in e.now self.old.rest ≡ false) }
+        ensures unchanged { OnErr result (self.new ≡ self.old) }
+    {
+        let Some(place) = place_of(&self.events, e) else {
+            return Err(Code::Einval);
+        };
+        let events = events_without(&self.events, place);
+        let natives = natives_of_all(book, &events);
+        self.matching = matched(self.slice, self.counters, &natives);
+        self.thresholds = counts_without(&self.thresholds, place);
+        self.events = events;
+        self.natives = natives;
         Ok(())
     }
 

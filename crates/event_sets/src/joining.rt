@@ -1,10 +1,10 @@
 // The native events of an event, and those of a set with them.
 ghost use Rattle.std.specs.Prelude.{◌≡◌, ◌<◌, ◌≤◌, length, IfSome, IfNone};
-ghost use Rattle.postfix_rules.specs.Presets.{natives_of_event};
+ghost use Rattle.postfix_rules.specs.Presets.{natives_of as natives_of_events, natives_of_event};
 ghost use Rattle.postfix_rules.specs.Sameness.{joined_by};
 
 use crate::sameness::has_native;
-use papi_base::{EventRef, Natives};
+use papi_base::{EventRef, Events, Natives};
 use postfix_rules::PresetBook;
 
 /// The native events of an event, in the preset's order; none of a preset that the book does not hold.
@@ -42,4 +42,29 @@ pub fn joined(natives: &Natives, more: &Natives) -> Option<Natives>
         }
     }
     Some(all)
+}
+
+/// Joins those of `more` that are new, where there is room for them.
+fn join(natives: &mut Natives, more: &Natives)
+    requires { length (joined_by natives.old more.now) ≤ 32 }
+    ensures { natives.new ≡ joined_by natives.old more.now }
+{
+    for i in 0..more.len() {
+        let n = more.at(i);
+        if !has_native(natives, &n) {
+            natives.push(n);
+        }
+    }
+}
+
+/// The native events of the events in order, without later repeats.
+pub fn natives_of_all(book: &PresetBook, events: &Events) -> Natives
+    requires { length (natives_of_events book.now events.now) ≤ 32 }
+    ensures { result ≡ natives_of_events book.now events.now }
+{
+    let mut natives = Natives::new();
+    for i in 0..events.len() {
+        join(&mut natives, &natives_of(book, &events.at(i)));
+    }
+    natives
 }

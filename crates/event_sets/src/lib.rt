@@ -6,6 +6,7 @@ pub mod event_set;
 mod joining;
 pub mod laws;
 pub mod refusal;
+mod removal;
 mod sameness;
 #[cfg(test)]
 mod tests;

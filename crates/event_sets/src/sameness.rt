@@ -1,6 +1,6 @@
 // Equal events and native events.
-ghost use Rattle.std.specs.Prelude.{◌≡◌};
-ghost use Rattle.std.specs.List.{list_any};
+ghost use Rattle.std.specs.Prelude.{◌≡◌, ◌<◌, IfSome, is_some, length};
+ghost use Rattle.std.specs.List.{list_any, position_or_len};
 ghost use Rattle.postfix_rules.specs.Sameness.{among, same_event, same_native};
 
 use papi_base::{EventRef, Events, Native, Natives};
@@ -45,14 +45,23 @@ pub fn has_native(natives: &Natives, n: &Native) -> bool
     false
 }
 
+/// The place of the event in the list.
+pub fn place_of(events: &Events, e: &EventRef) -> Option<u32>
+    ensures there { is_some result ≡ list_any (same_event e.now) events.now }
+    ensures first { IfSome result (λ place. place ≡ position_or_len (same_event e.now) events.now) }
+    ensures within { IfSome result (λ place. place < length events.now) }
+{
+    for i in 0..events.len() {
+        if is_same_event(e, &events.at(i)) {
+            return Some(i);
+        }
+    }
+    None
+}
+
 /// Whether the event is in the list.
 pub fn has_event(events: &Events, e: &EventRef) -> bool
     ensures { result ≡ list_any (same_event e.now) events.now }
 {
-    for i in 0..events.len() {
-        if is_same_event(e, &events.at(i)) {
-            return true;
-        }
-    }
-    false
+    place_of(events, e).is_some()
 }

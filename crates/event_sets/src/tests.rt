@@ -46,6 +46,12 @@ impl Bench {
     {
         self.set.add(&self.book, &self.shape, &EventRef::Native(n))
     }
+
+    fn remove(&mut self, n: Native) -> Result<(), Code>
+        ensures { self.new.counters ≡ self.old.counters }
+    {
+        self.set.remove(&self.book, &EventRef::Native(n))
+    }
 }
 
 /// A native event of the component that is allowed these counters.
@@ -144,6 +150,26 @@ fn a_native_event_too_many_is_refused_quickly(rt: HostRuntime) {
         assert_eq!(rt; clash.natives.len(), 31);
         assert_eq!(rt; clash.counters, all);
     }
+}
+
+#[test]
+fn an_event_in_the_middle_is_taken_away(rt: HostRuntime) {
+    let retired = native(0, 0, 0b111);
+    let cycles = native(1, 0, 0b011);
+    let branches = native(2, 0, 0b001);
+
+    let mut bench = Bench::new(rt.alloc(), 3);
+    assert_eq!(rt; bench.remove(cycles), Err(Code::Einval));
+    assert!(rt; bench.add(cycles).is_ok());
+    assert!(rt; bench.add(branches).is_ok());
+    assert!(rt; bench.add(retired).is_ok());
+    assert_counters(&rt, &bench.set, &[1, 0, 2]);
+    assert_eq!(rt; bench.remove(branches), Ok(()));
+    assert_eq!(rt; bench.remove(branches), Err(Code::Einval));
+    assert_eq!(rt; bench.set.events().len(), 2);
+    assert_eq!(rt; bench.set.natives().get(0), Some(cycles));
+    assert_eq!(rt; bench.set.natives().get(1), Some(retired));
+    assert_counters(&rt, &bench.set, &[0, 1]);
 }
 
 #[test]

@@ -27,7 +27,7 @@ use Rattle.event_sets.proofs.Clashing.{are_masks}
 use Rattle.event_sets.proofs.JoinedNatives.{joined_all}
 use Rattle.event_sets.proofs.Removing.{get_removed, stood}
 use Rattle.session_model.specs.Fitness.{IsFit, IsShape}
-use Rattle.session_laws.proofs.Sublists.{no_more, of_among, sub_assignable}
+use Rattle.event_sets.proofs.Sublists.{no_more, of_among, sub_assignable}
 
 abbrev Fitting : Widths → Option ℕ → ℕ → Type 0
 Fitting shape component t = (t ≡ 0) ⊎ ((256 ≤ t) × (t < 2 ^ least_width (widths_at shape component)))

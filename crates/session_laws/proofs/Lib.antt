@@ -9,6 +9,5 @@ pub mod Apart
 pub mod Mapped
 pub mod Counted
 pub mod Merging
-pub mod Sublists
 pub mod Fits
 pub mod FitStays

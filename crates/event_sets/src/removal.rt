@@ -1,0 +1,52 @@
+// What is left of a set without one of its events: PAPI_remove_event(3).
+ghost use Rattle.std.specs.Prelude.{◌≡◌, ◌≤◌, ◌<◌, ◌^◌, All, None, remove};
+ghost use Rattle.counter_alloc.specs.Assignments.{Assignable};
+ghost use Rattle.counter_alloc.specs.Masks.{masks_of};
+
+use crate::clashes::give_counters;
+use counter_alloc::Matching;
+use papi_base::{Counts, Events, Natives};
+
+/// The events without the one at the place.
+pub fn events_without(events: &Events, place: u32) -> Events
+    ensures { result ≡ remove events.now place }
+{
+    let mut left = Events::new();
+    for i in 0..events.len() {
+        if i != place {
+            left.push(events.at(i));
+        }
+    }
+    left
+}
+
+/// The counts without the one at the place.
+pub fn counts_without(counts: &Counts, place: u32) -> Counts
+    ensures { result ≡ remove counts.now place }
+{
+    let mut left = Counts::new();
+    for i in 0..counts.len() {
+        if i != place {
+            left.push(counts.at(i));
+        }
+    }
+    left
+}
+
+/// A new matching over so many counters, of the native events unless they take turns.
+pub fn matched(slice: Option<u32>, counters: u32, natives: &Natives) -> Matching
+    requires few { counters ≤ 32 }
+    requires in_range { All (λ n. n.allowed < 2 ^ counters) natives.now }
+    requires assignable { slice ≡ None → Assignable (masks_of natives.now) }
+    ensures counters { result.counters ≡ counters }
+    ensures natives { slice ≡ None → result.allowed ≡ masks_of natives.now }
+{
+    let mut matching = Matching::empty(counters);
+    if slice.is_some() {
+        return matching;
+    }
+    let given = give_counters(&mut matching, natives, 0);
+    let fits = given.is_ok();
+    prove!(fits);
+    matching
+}
