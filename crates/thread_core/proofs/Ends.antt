@@ -1,17 +1,14 @@
 -- A core that reads a set, and one that stops a set.
-use Rattle.std.proofs.Common.{◌≡◌, ℕ, ℤ, ◌+◌, ◌<◌, ◌≤◌, ◌⊎◌, inl, inr, Bool, true, false, not, List, [], ◌∷◌, length, map, replicate, refl, ap, ap₂, sym, subst, ◌∙◌, arith, Option, Some, None, option_map, slice_get, slice_set}
-use Rattle.std.specs.Prelude.{◌&&◌, ◌==◌, if◌then◌else◌, unwrap_or}
+use Rattle.std.proofs.Common.{◌≡◌, ℕ, ℤ, ◌<◌, ◌≤◌, ◌⊎◌, inl, inr, Bool, true, false, not, List, length, map, refl, ap, ap₂, sym, subst, ◌∙◌, arith, Option, Some, None, option_map, slice_get, slice_set}
+use Rattle.std.specs.Prelude.{◌==◌, if◌then◌else◌}
 use Rattle.std.specs.Option.{option_map_or}
 use Rattle.std.proofs.lemmas.Bool.{and_right, cases_Bool, ne_eqb}
 use Rattle.std.proofs.lemmas.Option.{slice_get_within}
 use Rattle.papi_base.specs.declared.code.Code.{Code}
-use Rattle.papi_base.specs.declared.code.Code.TheVariants as code
 use Rattle.papi_base.specs.declared.code.Code.TheVariants.{Enoevst, Enotrun}
-use Rattle.papi_base.specs.declared.native.Native.{Native}
 use Rattle.papi_base.specs.declared.occurrence.Occ.{Occ}
 use Rattle.counter_unit.specs.Counting.{UnitView}
 use Rattle.postfix_rules.specs.Presets.{Book}
-use Rattle.event_sets.specs.declared.refusal.Refusal.{Refusal}
 use Rattle.event_sets.specs.declared.refusal.Refusal.TheVariants.{Plain}
 use Rattle.event_sets.specs.AtRest.{AtRest, Widths, set_natives}
 use Rattle.session_model.specs.declared.call.Call.TheVariants as call
@@ -21,7 +18,7 @@ use Rattle.session_model.specs.Changes.{kept_after}
 use Rattle.session_model.specs.Bounds.{AreApart}
 use Rattle.session_model.specs.Faces.{Face, at, change, face_of, faces_of, is_absent, runs, runs_on}
 use Rattle.session_model.specs.Refusals.{refusal_of}
-use Rattle.session_model.specs.Replies.{done, plain}
+use Rattle.session_model.specs.Replies.{done}
 use Rattle.session_model.specs.Values.{measured, values_of}
 use Rattle.thread_core.specs.declared.slot.Slot.{Slot}
 use Rattle.thread_core.specs.Changed.{rested}
@@ -29,7 +26,7 @@ use Rattle.thread_core.specs.CoreView.{CoreView, empty_unit}
 use Rattle.thread_core.specs.Following.{Follows, values_reply}
 use Rattle.thread_core.specs.Refusing.{slot_faces}
 use Rattle.thread_core.specs.Shown.{numbers_shown, values_shown}
-use Rattle.thread_core.specs.Slots.{running_slot, slot_of, slots_of, stopped_slot}
+use Rattle.thread_core.specs.Slots.{slot_of, slots_of, stopped_slot}
 use Rattle.thread_core.specs.Stands.{AgreesWith, CoreStands}
 use Rattle.thread_core.specs.Units.{registers_by, unit_at, units_of}
 use Rattle.thread_core.proofs.Extending.{quiet_by, rest_same}
@@ -45,7 +42,7 @@ use Rattle.thread_core.proofs.Weighing.{within_at}
 use Rattle.thread_core.proofs.Windows.{measured-stop, stopped}
 
 -- the codes with which a reading is refused
-one_code : (absent : Bool) (c : Code) → (if absent then Some (Plain Enoevst) else None) ≡ Some (Plain c) → Enoevst ≡ c
+pub one_code : (absent : Bool) (c : Code) → (if absent then Some (Plain Enoevst) else None) ≡ Some (Plain c) → Enoevst ≡ c
 one_code true c h = cc
 one_code false c h = cc
 
@@ -119,13 +116,13 @@ rested_is book shape past s (Some slice) run is inside =
     let same = map_same (measured s.set.slice book past s) (measured s.set.slice book past t) (λ n. sym (measured-stop book past s s.set.slice n run inside)) (set_natives book s.set) in
     ap (rested (map (measured s.set.slice book past s) (set_natives book s.set))) (slot_of-running book shape past s (Some slice) run is) ∙ ap (λ (ks : List ℕ). record (stopped_slot book shape past t) { kept = ks }) same
 
-quiet_none : (s : Kept) → s.set.component ≡ None → (comp : ℕ) → IsQuiet comp (Some s)
+pub quiet_none : (s : Kept) → s.set.component ≡ None → (comp : ℕ) → IsQuiet comp (Some s)
 quiet_none s is comp = and_right s.running (option_map_or (λ c. c == comp) s.set.component false) (ap (λ (x : Option ℕ). option_map_or (λ c. c == comp) x false) is)
 
-quiet_other : (s : Kept) (own comp : ℕ) → s.set.component ≡ Some own → (comp ≡ own → ⊥) → IsQuiet comp (Some s)
+pub quiet_other : (s : Kept) (own comp : ℕ) → s.set.component ≡ Some own → (comp ≡ own → ⊥) → IsQuiet comp (Some s)
 quiet_other s own comp is apart = and_right s.running (option_map_or (λ c. c == comp) s.set.component false) (ap (λ (x : Option ℕ). option_map_or (λ c. c == comp) x false) is ∙ ne_eqb own comp (λ e. apart (sym e)))
 
-quiet_rest : (sets : List (Option Kept)) (k i comp : ℕ) (s : Kept) (p : Option Kept) → AreApart (faces_of sets) → slice_get sets k ≡ Some (Some s) → runs_on (Some comp) (Some (face_of s)) ≡ true → (i ≡ k → ⊥) → slice_get sets i ≡ Some p → IsQuiet comp p
+pub quiet_rest : (sets : List (Option Kept)) (k i comp : ℕ) (s : Kept) (p : Option Kept) → AreApart (faces_of sets) → slice_get sets k ≡ Some (Some s) → runs_on (Some comp) (Some (face_of s)) ≡ true → (i ≡ k → ⊥) → slice_get sets i ≡ Some p → IsQuiet comp p
 quiet_rest sets k i comp s None apart at_k here other e = refl
 quiet_rest sets k i comp s (Some u) apart at_k here other e = elim (cases_Bool (runs_on (Some comp) (Some (face_of u)))) [
   | inl runs ↦ absurd (other (other_runs sets comp i k u s apart e at_k runs here))

@@ -60,7 +60,7 @@ measured_empty book past s (Some slice) n stopped same = go _ _ where
   go : (t : Turns) (group : ℕ) → estimated_in past s t group n ≡ 0
   go t group = ap₂ (λ (c e : ℕ). estimate c e (active t group e)) (weighed_empty (weight_in_turn t group n s.set.domain) past s stopped same) (total_empty past s stopped same)
 
-map_zero : {X : Type 0} (f : X → ℕ) → ((x : X) → f x ≡ 0) → (xs : List X) → map f xs ≡ replicate (length xs) 0
+pub map_zero : {X : Type 0} (f : X → ℕ) → ((x : X) → f x ≡ 0) → (xs : List X) → map f xs ≡ replicate (length xs) 0
 map_zero f h [] = refl
 map_zero f h (x ∷ xs) = ap₂ ◌∷◌ (h x) (map_zero f h xs)
 

@@ -27,3 +27,6 @@ pub mod Ends
 pub mod Registrations
 pub mod Destroying
 pub mod States
+pub mod Zeroes
+pub mod Accumulates
+pub mod RawRegisters

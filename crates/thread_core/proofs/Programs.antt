@@ -55,7 +55,7 @@ length-programs ws d counts [] rs = refl
 length-programs ws d counts (p ∷ ps) rs = let r = Some (register_at (get_or ws p.counter 0) p.native d p.threshold (counts p.native)) in length-programs ws d counts ps (set rs p.counter r) ∙ length-set_place rs p.counter r
 
 -- a counter that no pin is on keeps what it has
-programs-other : (ws : List ℕ) (d : Domain) (counts : Native → ℕ) (c : ℕ) (pins : List Pin) (rs : List (Option Register)) → ((k : ℕ) (q : Pin) → slice_get pins k ≡ Some q → c ≡ q.counter → ⊥) → at_place (programs ws d counts pins rs) c ≡ at_place rs c
+pub programs-other : (ws : List ℕ) (d : Domain) (counts : Native → ℕ) (c : ℕ) (pins : List Pin) (rs : List (Option Register)) → ((k : ℕ) (q : Pin) → slice_get pins k ≡ Some q → c ≡ q.counter → ⊥) → at_place (programs ws d counts pins rs) c ≡ at_place rs c
 programs-other ws d counts c [] rs h = refl
 programs-other ws d counts c (p ∷ ps) rs h =
     let r = Some (register_at (get_or ws p.counter 0) p.native d p.threshold (counts p.native)) in

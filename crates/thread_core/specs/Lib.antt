@@ -10,3 +10,6 @@ pub mod Following
 pub mod Changed
 pub mod Shown
 pub mod Starting
+pub mod Zeroed
+pub mod Accumulated
+pub mod RawRegister

@@ -95,7 +95,7 @@ fn armed_on(book: &PresetBook, set: &EventSet, counters: &Places) -> Thresholds
 }
 
 /// Programs each pin on its counter.
-fn program_all(unit: &mut Unit, pins: &Pins, domain: Domain)
+pub(crate) fn program_all(unit: &mut Unit, pins: &Pins, domain: Domain)
     requires pinned { ArePinned unit.old.widths pins.now }
     requires widths { AreWidths unit.old.widths }
     ensures { unit.new ≡ record unit.old { registers = programs unit.old.widths domain (λ n. 0) pins.now unit.old.registers } }

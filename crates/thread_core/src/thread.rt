@@ -33,7 +33,7 @@ pub struct Core {
     pub(crate) registered: bool,
     shape: Shape,
     pub(crate) slots: Vec<Option<Slot>>,
-    units: Vec<Unit>,
+    pub(crate) units: Vec<Unit>,
     taken: u32,
     last: Option<Occ>,
 }
@@ -163,7 +163,7 @@ impl Core {
     }
 
     /// The time in ticks, which is one after the last occurrence and 0 before the first.
-    fn time(&self) -> u64
+    pub(crate) fn time(&self) -> u64
         requires { time_after self.now.last ≤ 4294967295 }
         ensures { result ≡ time_after self.now.last }
     {
