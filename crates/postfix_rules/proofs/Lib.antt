@@ -3,6 +3,13 @@ pub mod Equal
 pub mod Joined
 pub mod Piles
 pub mod Spelled
+pub mod Faults
+pub mod Refusals
+pub mod Written
 mod Divided
 mod Stacks
 mod Sums
+mod Trimming
+mod Digits
+mod Pieces
+mod SoFar

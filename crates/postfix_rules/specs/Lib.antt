@@ -6,5 +6,6 @@ pub mod Rules
 pub mod Sameness
 pub mod Presets
 pub mod Tokens
+pub mod Judged
 pub mod Reading
 pub mod Laws

@@ -1,6 +1,7 @@
 -- The tokens of a formula's text, and the text of tokens: papi_events.csv.
-use Rattle.std.specs.Prelude.{◌&&◌, ◌||◌, ◌==◌, ℕ, Bool, List, [], ◌∷◌, ◌++◌, map, reverse, Some, None, if◌then◌else◌, codes, bytes_eq, decimal}
+use Rattle.std.specs.Prelude.{◌||◌, ◌==◌, ℕ, Bool, List, [], ◌∷◌, ◌++◌, map, reverse, Option, Some, None, if◌then◌else◌, codes, bytes_eq, decimal}
 use Rattle.std.specs.List.{slice_split}
+use Rattle.std.specs.Option.{option_map_or}
 use Rattle.std.specs.Str.Parse.{digits_value}
 use Rattle.papi_base.specs.Numerals.{is_digit, is_empty, is_numeral}
 use Rattle.postfix_rules.specs.declared.token.Operator.{Operator}
@@ -40,20 +41,35 @@ without_blank_last (p ∷ q ∷ rest) = p ∷ without_blank_last (q ∷ rest)
 unfoldable pub pieces_of : Text → List Text
 pieces_of text = without_blank_last (slice_split is_bar text)
 
--- `N` and one or more decimal digits
-unfoldable pub native_part : Text → Part
-native_part [] = None
-native_part (b ∷ digits) = if (b == 78) && is_numeral digits then Some (token.Native (digits_value 10 digits)) else None
+-- an operator's sign
+abbrev pub operator_of : Text → Option Operator
+operator_of t =
+    if bytes_eq t (codes "+") then Some op.Plus
+    else if bytes_eq t (codes "-") then Some op.Minus
+    else if bytes_eq t (codes "*") then Some op.Times
+    else if bytes_eq t (codes "/") then Some op.Over
+    else None
 
--- the token that a text with no blanks round it is: an operator, one or more decimal digits, or a native's number
+-- a constant by its digits
+abbrev pub constant_part : Text → Part
+constant_part digits = Some (token.Constant (digits_value 10 digits))
+
+-- a native by one or more digits
+abbrev pub native_part : Text → Part
+native_part digits = if is_numeral digits then Some (token.Native (digits_value 10 digits)) else None
+
+-- `N` and digits
+abbrev pub lettered_part : Text → Part
+lettered_part [] = None
+lettered_part (b ∷ digits) = if b == 78 then native_part digits else None
+
+-- one or more digits, or `N` and such
+abbrev pub operand_part : Text → Part
+operand_part t = if is_numeral t then constant_part t else lettered_part t
+
+-- the token that a text with no blanks round it is: an operator or an operand
 unfoldable pub part_of : Text → Part
-part_of t =
-    if bytes_eq t (codes "+") then Some (token.Operator op.Plus)
-    else if bytes_eq t (codes "-") then Some (token.Operator op.Minus)
-    else if bytes_eq t (codes "*") then Some (token.Operator op.Times)
-    else if bytes_eq t (codes "/") then Some (token.Operator op.Over)
-    else if is_numeral t then Some (token.Constant (digits_value 10 t))
-    else native_part t
+part_of t = option_map_or (λ o. Some (token.Operator o)) (operator_of t) (operand_part t)
 
 -- the parts of a text: its pieces without the blanks round them, as tokens
 unfoldable pub parts_of : Text → List Part

@@ -2,7 +2,7 @@
 ghost use Rattle.std.specs.Prelude.{◌≡◌};
 ghost use Rattle.postfix_rules.specs.declared.fault.FormulaFault.TheVariants.{Memory};
 
-use std::alloc::AllocError;
+use std::alloc::{AllocError, AllocFailed};
 use thiserror::Error;
 
 /// Why a text is no formula at a token, in the order in which the causes are tried.
@@ -43,6 +43,14 @@ impl From<AllocError> for FormulaFault {
     ghost from_gives = { λ _ fault. fault ≡ Memory };
 
     fn from(_error: AllocError) -> FormulaFault {
+        FormulaFault::Memory
+    }
+}
+
+impl<T: Drop> From<AllocFailed<T>> for FormulaFault {
+    ghost from_gives = { λ _ fault. fault ≡ Memory };
+
+    fn from(_error: AllocFailed<T>) -> FormulaFault {
         FormulaFault::Memory
     }
 }

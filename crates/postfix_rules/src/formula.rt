@@ -1,5 +1,6 @@
 // Formulas.
 use crate::Token;
+use std::alloc::{AllocError, Global};
 use std::marker::Model;
 
 /// A formula in postfix order over so many native events: its tokens spell one tree. Source: papi_events.csv.
@@ -20,8 +21,24 @@ impl Model for Formula {
 }
 
 impl Formula {
-    ghost use Rattle.std.specs.Prelude.{◌≡◌};
+    ghost use Rattle.std.specs.Prelude.{◌≡◌, IfOk};
     ghost use Rattle.postfix_rules.specs.Faults.{IsFormula};
+
+    // The formula of these tokens.
+    pub(crate) fn new(tokens: Vec<Token>, natives: u32) -> Formula
+        requires { IsFormula natives tokens.items }
+        ensures { result ≡ record { tokens = tokens.items; natives = natives } }
+    {
+        Formula { tokens, natives }
+    }
+
+    /// A copy of a formula.
+    pub fn copy_of(alloc: Global, f: &Formula) -> Result<Formula, AllocError>
+        ensures { IfOk result (λ copy. copy ≡ f.now) }
+    {
+        let tokens = Vec::from_slice(alloc, f.tokens())?;
+        Ok(Formula::new(tokens, f.natives))
+    }
 
     /// The tokens in order.
     pub fn tokens(&self) -> &[Token]

@@ -1,5 +1,6 @@
 // Laws of the definitions, each the contract of a function that does nothing.
 ghost use Rattle.postfix_rules.specs.Laws.{EachIsAmong, EarlierStay, FormulasSpell, NoneTwice, OneMoreJoins, SameEvents, SameNatives};
+ghost use Rattle.postfix_rules.specs.Reading.{FirstFaults, FromOne, SameTokens, WrittenBytes, WrittenRead};
 
 /// The tests for equal events mean equality.
 pub fn sameness_laws()
@@ -18,4 +19,18 @@ pub fn natives_laws()
 /// The tokens of a formula spell one tree.
 pub fn formula_laws()
     ensures spell { FormulasSpell }
+{}
+
+/// A text is a formula exactly where its parts are the formula's tokens, and is refused exactly at its first fault, which
+/// is the least place where the parts before it are a pile of at most 16 trees and the part there has a cause.
+pub fn reading_laws()
+    ensures tokens { SameTokens }
+    ensures faults { FirstFaults }
+    ensures places { FromOne }
+{}
+
+/// The written text of a formula reads as that formula, and has digits, `N`, `|` and operators alone.
+pub fn writing_laws()
+    ensures read { WrittenRead }
+    ensures bytes { WrittenBytes }
 {}

@@ -1,19 +1,26 @@
 //! Formulas in postfix order, derived events, and the values that rules give of counts.
 #![tactic(auto)]
 
+mod blank;
 pub mod book;
 pub mod derived;
 pub mod fault;
 pub mod formula;
+mod judging;
 pub mod laws;
+mod piece;
+pub mod reading;
 pub mod rule;
 pub mod stack;
 pub mod token;
+pub mod writing;
 
 pub use book::PresetBook;
 pub use derived::Derived;
 pub use fault::{FormulaCause, FormulaFault};
 pub use formula::Formula;
+pub use reading::read_postfix;
 pub use rule::{Rule, value_of};
 pub use stack::eval;
 pub use token::{Operator, Token};
+pub use writing::write_formula;

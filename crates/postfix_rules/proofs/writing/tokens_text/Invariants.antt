@@ -1,0 +1,7 @@
+use Rattle.std.proofs.Common.{◌≡◌, ◌++◌, drop}
+use Rattle.std.specs.Prelude.{string_bytes}
+use Rattle.postfix_rules.specs.Tokens.{formula_text}
+use Rattle.postfix_rules.proofs.writing.tokens_text.Given as goal
+
+abbrev pub invariant-loop-token : goal.invariant-loop-token
+invariant-loop-token l = string_bytes l.text ++ formula_text (drop l.token-index l.tokens) ≡ formula_text l.tokens

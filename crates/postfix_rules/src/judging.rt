@@ -1,0 +1,174 @@
+// One token of a formula's text, and whether it may stand where it does.
+ghost use Rattle.std.specs.Prelude.{◌≡◌, ◌∷◌, ◌≤◌, ◌<◌, ◌^◌, true, Some, None, if◌then◌else◌, nat_lt};
+ghost use Rattle.std.specs.List.{list_all};
+ghost use Rattle.std.specs.Str.Parse.{digits_value};
+ghost use Rattle.papi_base.specs.Numerals as Numerals;
+ghost use Rattle.postfix_rules.specs.Faults as Faults;
+ghost use Rattle.postfix_rules.specs.Judged.{JudgesToken, ReadsToken};
+ghost use Rattle.postfix_rules.specs.Tokens as Tokens;
+
+use crate::{FormulaCause, Operator, Token};
+
+fn is_digit(b: u8) -> bool
+    ensures { result ≡ Numerals.is_digit b }
+{
+    48 <= b && b <= 57
+}
+
+fn are_digits(bytes: &[u8]) -> bool
+    ensures { result ≡ list_all Numerals.is_digit bytes.now }
+{
+    bytes.iter().all(|&b| is_digit(b))
+}
+
+// Whether bytes are one or more decimal digits.
+fn is_numeral(bytes: &[u8]) -> bool
+    ensures { result ≡ Numerals.is_numeral bytes.now }
+{
+    bytes.len() > 0 && are_digits(bytes)
+}
+
+// The value of decimal digits, and `None` where it needs more than 64 bits.
+fn value_of_digits(digits: &[u8]) -> Option<u64>
+    requires { Numerals.is_numeral digits.now ≡ true }
+    ensures { result ≡ (if nat_lt (digits_value 10 digits.now) (2 ^ 64) then Some (digits_value 10 digits.now) else None) }
+{
+    match str::from_utf8(digits) {
+        Ok(text) => text.parse::<u64>().ok(),
+        Err(_) => None,
+    }
+}
+
+fn constant_of(digits: &[u8]) -> Result<Token, FormulaCause>
+    requires { Numerals.is_numeral digits.now ≡ true }
+    ensures { ReadsToken result (Tokens.constant_part digits.now) }
+{
+    match value_of_digits(digits) {
+        Some(n) => Ok(Token::Constant(n)),
+        None => Err(FormulaCause::ConstantTooLarge),
+    }
+}
+
+fn native_of(digits: &[u8]) -> Result<Token, FormulaCause>
+    ensures { ReadsToken result (Tokens.native_part digits.now) }
+{
+    if !is_numeral(digits) {
+        return Err(FormulaCause::UnknownToken);
+    }
+    match value_of_digits(digits) {
+        Some(i) if i < 1 << 32 => Ok(Token::Native(i as u32)),
+        _ => Err(FormulaCause::NativeRange),
+    }
+}
+
+fn operator_of(piece: &[u8]) -> Option<Operator>
+    ensures { result ≡ Tokens.operator_of piece.now }
+{
+    if piece == b"+".as_slice() {
+        Some(Operator::Plus)
+    } else if piece == b"-".as_slice() {
+        Some(Operator::Minus)
+    } else if piece == b"*".as_slice() {
+        Some(Operator::Times)
+    } else if piece == b"/".as_slice() {
+        Some(Operator::Over)
+    } else {
+        None
+    }
+}
+
+// The token of a letter and what is behind it.
+fn behind_letter(letter: u8, digits: &[u8]) -> Result<Token, FormulaCause>
+    ensures { ReadsToken result (Tokens.lettered_part (letter ∷ digits.now)) }
+{
+    if letter == b'N' {
+        native_of(digits)
+    } else {
+        Err(FormulaCause::UnknownToken)
+    }
+}
+
+// The token of a piece that is no operator.
+fn operand_of(piece: &[u8]) -> Result<Token, FormulaCause>
+    ensures { ReadsToken result (Tokens.operand_part piece.now) }
+{
+    if is_numeral(piece) {
+        return constant_of(piece);
+    }
+    match piece.split_first() {
+        Some((letter, digits)) => behind_letter(*letter, digits),
+        None => Err(FormulaCause::UnknownToken),
+    }
+}
+
+// The token that a piece is, or the cause that it has wherever it stands.
+fn token_of(piece: &[u8]) -> Result<Token, FormulaCause>
+    ensures { ReadsToken result (Tokens.part_of piece.now) }
+{
+    match operator_of(piece) {
+        Some(operator) => Ok(Token::Operator(operator)),
+        None => operand_of(piece),
+    }
+}
+
+fn operand_cause(height: usize) -> Option<FormulaCause>
+    ensures { result ≡ Faults.operand_cause height }
+{
+    if height >= 16 {
+        Some(FormulaCause::TooDeep)
+    } else {
+        None
+    }
+}
+
+// The cause of a token behind so many operands.
+#[tactic(auto, unfolding(crate::specs::Faults::token_cause))]
+fn token_cause(natives: u32, height: usize, token: Token) -> Option<FormulaCause>
+    ensures { result ≡ Faults.token_cause natives height (Some token) }
+{
+    match token {
+        Token::Constant(n) if n >= 1 << 63 => Some(FormulaCause::ConstantTooLarge),
+        Token::Constant(_) => operand_cause(height),
+        Token::Native(i) if i >= natives => Some(FormulaCause::NativeRange),
+        Token::Native(_) => operand_cause(height),
+        Token::Operator(_) if height < 2 => Some(FormulaCause::OperandMissing),
+        Token::Operator(_) => None,
+    }
+}
+
+/// The token that a piece is behind so many operands of a formula over so many native events, or its cause.
+pub(crate) fn judge(natives: u32, height: usize, piece: &[u8]) -> Result<Token, FormulaCause>
+    ensures { JudgesToken result natives height (Tokens.part_of piece.now) }
+{
+    let token = token_of(piece)?;
+    match token_cause(natives, height, token) {
+        Some(cause) => Err(cause),
+        None => Ok(token),
+    }
+}
+
+/// The number of operands behind a token.
+pub(crate) fn height_after(height: usize, token: Token) -> usize
+    requires { height ≤ 16 }
+    ensures { result ≡ Faults.height_after height (Some token) }
+{
+    match token {
+        Token::Operator(_) => height.saturating_sub(1),
+        Token::Constant(_) => height + 1,
+        Token::Native(_) => height + 1,
+    }
+}
+
+/// The cause at the end of the text, behind so many operands.
+#[tactic(auto, unfolding(crate::specs::Faults::end_cause))]
+pub(crate) fn end_cause(height: usize) -> Option<FormulaCause>
+    ensures { result ≡ Faults.end_cause height }
+{
+    if height == 0 {
+        Some(FormulaCause::OperandMissing)
+    } else if height == 1 {
+        None
+    } else {
+        Some(FormulaCause::OperandsLeft)
+    }
+}

@@ -1,0 +1,47 @@
+// Formulas from their texts.
+ghost use Rattle.std.specs.Prelude.{◌≡◌, ◌+◌, ◌<◌, ◌^◌};
+ghost use Rattle.postfix_rules.specs.Reading.{ReadsFormula};
+ghost use Rattle.postfix_rules.specs.declared.fault.FormulaFault.TheVariants.{At};
+
+use crate::judging::{end_cause, height_after, judge};
+use crate::piece::next_piece;
+use crate::{Formula, FormulaCause, FormulaFault};
+use std::alloc::Global;
+
+// The fault of the token behind so many.
+fn fault_behind(tokens: usize, cause: FormulaCause) -> FormulaFault
+    requires { tokens < 2 ^ 63 }
+    ensures { result ≡ At (tokens + 1) cause }
+{
+    FormulaFault::At {
+        place: tokens as u64 + 1,
+        cause,
+    }
+}
+
+/// The formula that a text writes over so many native events, or the text's first fault.
+///
+/// Tokens are ended by `|`, the last one perhaps by nothing, with spaces and tabs round them: a constant in decimal, `N`
+/// and the number of a native event, or one of `+ - * /`. Source: papi_events.csv; the stack has 16 places, and a
+/// constant is at most 2^63 - 1.
+pub fn read_postfix(alloc: Global, text: &str, natives: u32) -> Result<Formula, FormulaFault>
+    ensures { ReadsFormula result natives text.now }
+{
+    let mut tokens = Vec::new(alloc);
+    let mut height = 0;
+    let mut rest = text.as_bytes();
+    while let Some((piece, behind)) = next_piece(rest) {
+        match judge(natives, height, piece) {
+            Ok(token) => {
+                height = height_after(height, token);
+                tokens.push(token)?;
+            }
+            Err(cause) => return Err(fault_behind(tokens.len(), cause)),
+        }
+        rest = behind;
+    }
+    match end_cause(height) {
+        Some(cause) => Err(fault_behind(tokens.len(), cause)),
+        None => Ok(Formula::new(tokens, natives)),
+    }
+}
