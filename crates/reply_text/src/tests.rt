@@ -1,8 +1,9 @@
 //! Replies over a small unit, as text.
-use crate::reply_line;
+use crate::{note_line, reply_line};
 use component_table::Catalog;
 use event_sets::Clash;
 use event_tables::read_unit;
+use overflow_dispatch::Note;
 use papi_base::{Code, EventRef, Natives, Values};
 use session_model::{Body, Ended, Ran, Reply};
 use std::alloc::Global;
@@ -78,4 +79,24 @@ fn lines_of_replies(rt: HostRuntime) {
         body: Body::State(0x12),
     };
     assert!(rt; is_line(alloc, &catalog, 17, &state, "3 0 state PAPI_OK 0x12\n"));
+}
+
+#[test]
+fn lines_of_notes(rt: HostRuntime) {
+    let cases = [
+        (0, 0, 0, 0x4, "note 0 0 0 0x4\n"),
+        (63, 5, 31, 0xfeed, "note 63 5 31 0xfeed\n"),
+    ];
+    for (thread, set, index, pc, text) in cases {
+        let note = Note {
+            thread,
+            set,
+            index,
+            pc,
+        };
+        match note_line(rt.alloc(), &note) {
+            Ok(line) => assert!(rt; line.as_str() == text),
+            Err(_) => assert!(rt; false),
+        }
+    }
 }
