@@ -1,5 +1,5 @@
 // Formulas from their texts.
-ghost use Rattle.std.specs.Prelude.{◌≡◌, ◌+◌, ◌<◌, ◌^◌};
+ghost use Rattle.std.specs.Prelude.{◌≡◌, ◌+◌, ◌<◌, ◌^◌, IfOk};
 ghost use Rattle.postfix_rules.specs.Reading.{ReadsFormula};
 ghost use Rattle.postfix_rules.specs.declared.fault.FormulaFault.TheVariants.{At};
 
@@ -25,7 +25,8 @@ fn fault_behind(tokens: usize, cause: FormulaCause) -> FormulaFault
 /// and the number of a native event, or one of `+ - * /`. Source: papi_events.csv; the stack has 16 places, and a
 /// constant is at most 2^63 - 1.
 pub fn read_postfix(alloc: Global, text: &str, natives: u32) -> Result<Formula, FormulaFault>
-    ensures { ReadsFormula result natives text.now }
+    ensures read { ReadsFormula result natives text.now }
+    ensures natives { IfOk result (λ f. f.natives ≡ natives) }
 {
     let mut tokens = Vec::new(alloc);
     let mut height = 0;

@@ -4,8 +4,8 @@ use Rattle.postfix_rules.specs.Tokens.{part_of}
 use Rattle.postfix_rules.proofs.SoFar.{so_far-ended, so_far-formula, so_far-more, so_far-refused, so_far-unended}
 use Rattle.postfix_rules.proofs.reading.read_postfix.Goals as goal
 
-pub returns-in-Err : goal.returns-in-Err
-returns-in-Err c =
+pub returns-in-Err-clause-read : goal.returns-in-Err-clause-read
+returns-in-Err-clause-read c =
     let s = c.loop-piece in
     let n : c.len.result ≡ length s.tokens.items = omega (arith, c.len.ensures) in
     rw (c.fault_behind.ensures, n)
@@ -23,14 +23,14 @@ new-requires c =
     let s = c.loop-piece in
     so_far-formula c.args.natives c.args.text.now s.rest.now s.tokens.items s.height c.in_default.ensures.parts (sym c.in-None.ensures) s.invariant
 
-pub returns-in-Some-end_cause : goal.returns-in-Some-end_cause
-returns-in-Some-end_cause c =
+pub returns-in-Some-end_cause-clause-read : goal.returns-in-Some-end_cause-clause-read
+returns-in-Some-end_cause-clause-read c =
     let s = c.loop-piece in
     let n : c.len-in-Some-end_cause.result ≡ length s.tokens.items = omega (arith, c.len-in-Some-end_cause.ensures) in
     rw (c.fault_behind-in-Some-end_cause.ensures, n)
     (so_far-unended c.args.natives c.args.text.now s.rest.now s.tokens.items s.height c.in-Some-end_cause.cause c.in_default.ensures.parts (sym c.in-Some-end_cause.ensures) s.invariant)
 
-pub returns-in-None : goal.returns-in-None
-returns-in-None c =
+pub returns-in-None-clause-read : goal.returns-in-None-clause-read
+returns-in-None-clause-read c =
     let s = c.loop-piece in
     so_far-ended c.args.natives c.args.text.now s.rest.now s.tokens.items s.height c.in_default.ensures.parts (sym c.in-None.ensures) s.invariant ∙ ap Ok (sym c.new.ensures)
