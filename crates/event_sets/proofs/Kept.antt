@@ -1,5 +1,6 @@
 -- What each set keeps is kept by its changes.
-use Rattle.std.proofs.Common.{◌≡◌, ◌⊎◌, inl, inr, ℕ, zero, suc, ◌<◌, ◌≤◌, ◌^◌, false, List, [], ◌∷◌, length, refl, ap, sym, subst, ◌∙◌, arith, slice_get, slice_index, Option, Some, None}
+use Rattle.std.proofs.Common.{◌≡◌, ◌⊎◌, inl, inr, ℕ, zero, suc, ◌<◌, ◌≤◌, ◌^◌, false, List, [], ◌∷◌, length, refl, ap, sym, subst, ◌∙◌, arith, slice_get, slice_index, slice_set, Option, Some, None}
+use Rattle.std.proofs.Math.ListN.{length-set}
 use Rattle.std.specs.Prelude.{All, is_some, if◌then◌else◌, nat_lt}
 use Rattle.std.specs.List.{list_any}
 use Rattle.std.proofs.lemmas.Bool.Decides.{nat_tests}
@@ -128,3 +129,19 @@ assigned_matched comp counters s kept own same h matched = go s.rest.component r
   go None is which = record { counters = refl; natives = λ unshared. ap masks_of (sym (no_natives s h is)) }
   go (Some c) is (inl none) = let both : Some c ≡ None = sym is ∙ none in cc
   go (Some c) is (inr some) = record { counters = matched.counters ∙ same some; natives = matched.natives }
+
+-- ---- a threshold
+
+pub armed_sound : (p t : ℕ) (s : SetView) → s.rest.slice ≡ None → IsSound s → IsSound (record s { rest = record (s.rest) { thresholds = slice_set s.rest.thresholds p t } })
+armed_sound p t s alone h = record {
+  few_events = h.few_events;
+  few_natives = h.few_natives;
+  few_counters = h.few_counters;
+  one_threshold_each = length-set s.rest.thresholds p t ∙ h.one_threshold_each;
+  distinct = h.distinct;
+  owned = h.owned;
+  in_range = h.in_range;
+  good_domain = h.good_domain;
+  assignable = h.assignable;
+  shared = λ slice is. let both : None ≡ Some slice = sym alone ∙ is in cc;
+}

@@ -8,3 +8,4 @@ pub mod Sound
 pub mod Kept
 pub mod Sublists
 pub mod Removed
+pub mod Arming

@@ -6,8 +6,8 @@ ghost use Rattle.counter_alloc.specs.Masks.{masks_of};
 ghost use Rattle.postfix_rules.specs.Presets.{natives_of_event};
 ghost use Rattle.event_sets.specs.Adding.{add_refusal};
 ghost use Rattle.event_sets.specs.Agreement.{Fits, IsHeld};
-ghost use Rattle.event_sets.specs.AtRest.{emptied, has_event as has_event_in, is_bad_domain, is_other, new_set, set_natives, widths_at, with_event, without_event};
-ghost use Rattle.event_sets.specs.Changing.{assign_refusal, multiplex_refusal};
+ghost use Rattle.event_sets.specs.AtRest.{emptied, has_event as has_event_in, is_bad_domain, is_other, new_set, set_natives, widths_at, with_event, with_threshold, without_event};
+ghost use Rattle.event_sets.specs.Changing.{assign_refusal, multiplex_refusal, threshold_refusal};
 ghost use Rattle.event_sets.specs.Sets.{IsSound, SetView, set_view};
 
 use crate::Refusal;
@@ -15,7 +15,7 @@ use crate::clashes::clash;
 use crate::joining::{joined, natives_of, natives_of_all};
 use crate::removal::{counts_without, events_without, matched};
 use crate::sameness::{has_event, place_of};
-use crate::thresholds::is_armed;
+use crate::thresholds::{is_armed, is_bad_threshold, is_plain, shares_native};
 use counter_alloc::Matching;
 use papi_base::{Code, Counts, Domain, EventRef, Events, Natives, Places, Shape};
 use postfix_rules::PresetBook;
@@ -230,6 +230,39 @@ impl EventSet {
         self.matching = begun(self.component, &self.matching, counters);
         self.component = Some(comp);
         self.counters = counters;
+        Ok(())
+    }
+
+    /// Gives an event of the set a threshold, or with 0 takes its threshold away: PAPI_overflow(3).
+    ///
+    /// EINVAL where the event is not in the set or is derived; where the threshold is neither 0 nor from 256 to the last
+    /// value of each register of the component; and where another event has a threshold on the same native event. Else
+    /// ECOMBO where the native events take turns.
+    pub fn set_threshold(
+        &mut self,
+        book: &PresetBook,
+        shape: &Shape,
+        e: &EventRef,
+        t: u64,
+    ) -> Result<(), Code>
+        ensures set { OnOk result (self.new ≡ record self.old { rest = with_threshold e.now t self.old.rest }) }
+        ensures taken { OnOk result (threshold_refusal book.now shape.now e.now t self.old.rest ≡ None) }
+        ensures refused { IfErr result (λ c. threshold_refusal book.now shape.now e.now t self.old.rest ≡ Some c) }
+        ensures unchanged { OnErr result (self.new ≡ self.old) }
+    {
+        let Some(place) = place_of(&self.events, e) else {
+            return Err(Code::Einval);
+        };
+        if !is_plain(book, e)
+            || is_bad_threshold(self, shape, t)
+            || shares_native(book, self, e, t)
+        {
+            return Err(Code::Einval);
+        }
+        if self.slice.is_some() {
+            return Err(Code::Ecombo);
+        }
+        self.thresholds.put(place, t);
         Ok(())
     }
 

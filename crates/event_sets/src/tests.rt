@@ -8,7 +8,7 @@ use postfix_rules::PresetBook;
 use std::alloc::Global;
 use std::process::Abort;
 
-/// A set over one component, without presets.
+/// A set over one component, whose counter 1 has 16 bits, without presets.
 #[derive(Drop)]
 struct Bench {
     counters: u32,
@@ -26,8 +26,8 @@ impl Bench {
         ensures { result.counters ≡ counters }
     {
         let mut comp = CompShape::new();
-        for _i in 0..counters {
-            comp.push(48);
+        for i in 0..counters {
+            comp.push(if i == 1 { 16 } else { 48 });
         }
         let mut shape = Shape::new();
         shape.push(comp);
@@ -45,6 +45,13 @@ impl Bench {
         ensures { self.new.counters ≡ self.old.counters }
     {
         self.set.add(&self.book, &self.shape, &EventRef::Native(n))
+    }
+
+    fn arm(&mut self, n: Native, threshold: u64) -> Result<(), Code>
+        ensures { self.new.counters ≡ self.old.counters }
+    {
+        self.set
+            .set_threshold(&self.book, &self.shape, &EventRef::Native(n), threshold)
     }
 
     fn remove(&mut self, n: Native) -> Result<(), Code>
@@ -170,6 +177,27 @@ fn an_event_in_the_middle_is_taken_away(rt: HostRuntime) {
     assert_eq!(rt; bench.set.natives().get(0), Some(cycles));
     assert_eq!(rt; bench.set.natives().get(1), Some(retired));
     assert_counters(&rt, &bench.set, &[0, 1]);
+}
+
+#[test]
+fn thresholds_are_from_256_to_the_last_value(rt: HostRuntime) {
+    let cycles = native(1, 0, 0b001);
+    let mut bench = Bench::new(rt.alloc(), 2);
+    assert_eq!(rt; bench.arm(cycles, 256), Err(Code::Einval));
+    assert!(rt; bench.add(cycles).is_ok());
+    for (threshold, answer) in [
+        (0, Ok(())),
+        (255, Err(Code::Einval)),
+        (256, Ok(())),
+        (65_535, Ok(())),
+        (65_536, Err(Code::Einval)),
+    ] {
+        assert_eq!(rt; bench.arm(cycles, threshold), answer);
+    }
+    assert_eq!(rt; bench.set.set_multiplex(1), Err(Code::Ecombo));
+    assert_eq!(rt; bench.arm(cycles, 0), Ok(()));
+    assert_eq!(rt; bench.set.set_multiplex(1), Ok(()));
+    assert_eq!(rt; bench.arm(cycles, 256), Err(Code::Ecombo));
 }
 
 #[test]
