@@ -72,7 +72,7 @@ fn accumulate_under(slots: &mut Vec<Option<Slot>>, set: u32, more: &Values) -> V
 
 impl Core {
     /// Adds the value of each event of a set to the caller's, writes the sums, and zeroes the counts of the set:
-    /// PAPI_accum(3). ENOEVST where there is no such set.
+    /// PAPI_accum(3). ENOEVST where there is no such set; `into` then stays as it is.
     pub fn accum(&mut self, book: &PresetBook, set: u32, into: &mut Values) -> Code
         requires { AgreesWith book.now self.old }
         ensures follows { Follows book.now self.old self.new (call.Accum set) (values_reply result into.new) }

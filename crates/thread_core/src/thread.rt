@@ -1,5 +1,5 @@
 //! The sets of one thread.
-ghost use Rattle.std.specs.Prelude.{◌≡◌, ◌+◌, ◌<◌, ◌≤◌, [], IfOk, List, Some, map};
+ghost use Rattle.std.specs.Prelude.{◌≡◌, ◌≢◌, ◌+◌, ◌<◌, ◌≤◌, [], IfOk, List, Some, map};
 ghost use Rattle.papi_base.specs.Streams.{Mark};
 ghost use Rattle.papi_base.specs.declared.occurrence.Occ.{Occ};
 ghost use Rattle.event_sets.specs.Agreement.{BookFits};
@@ -65,6 +65,7 @@ fn empty_units(alloc: Global, shape: &Shape) -> Result<Vec<Unit>, AllocError>
 impl Core {
     ghost use Rattle.std.specs.Prelude.{true};
     ghost use Rattle.std.specs.Option.{option_map};
+    ghost use Rattle.papi_base.specs.declared.code.Code.TheVariants as code;
     ghost use Rattle.event_sets.specs.declared.refusal.Refusal.TheVariants.{Plain};
     ghost use Rattle.session_model.specs.Conditions.{IsNamed};
     ghost use Rattle.session_model.specs.Faces.{free};
@@ -188,10 +189,11 @@ impl Core {
     }
 
     /// Stops a set, and writes the value of each of its events: PAPI_stop(3). ENOEVST where there is no such set, ENOTRUN
-    /// where it does not run.
+    /// where it does not run; `into` then stays as it is.
     pub fn stop(&mut self, book: &PresetBook, set: u32, into: &mut Values) -> Code
         requires { AgreesWith book.now self.old }
-        ensures { Follows book.now self.old self.new (call.Stop set) (values_reply result into.new) }
+        ensures follows { Follows book.now self.old self.new (call.Stop set) (values_reply result into.new) }
+        ensures kept { result ≢ code.Ok → into.new ≡ into.old }
     {
         if let Some(code) = self.refused(&Call::Stop { set }) {
             return code;
@@ -202,10 +204,12 @@ impl Core {
         Code::Ok
     }
 
-    /// Writes the value of each event of a set: PAPI_read(3). ENOEVST where there is no such set.
+    /// Writes the value of each event of a set: PAPI_read(3). ENOEVST where there is no such set; `into`
+    /// then stays as it is.
     pub fn read(&self, book: &PresetBook, set: u32, into: &mut Values) -> Code
         requires { AgreesWith book.now self.now }
-        ensures { Follows book.now self.now self.now (call.Read set) (values_reply result into.new) }
+        ensures follows { Follows book.now self.now self.now (call.Read set) (values_reply result into.new) }
+        ensures kept { result ≢ code.Ok → into.new ≡ into.old }
     {
         if let Some(code) = self.refused(&Call::Read { set }) {
             return code;

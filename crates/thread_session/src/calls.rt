@@ -1,6 +1,7 @@
 //! The calls on a session's sets, each as the core makes it.
-ghost use Rattle.std.specs.Prelude.{◌≡◌, ◌++◌, IfOk, OnErr, OnOk, false, true};
+ghost use Rattle.std.specs.Prelude.{◌≡◌, ◌≢◌, ◌++◌, IfOk, OnErr, OnOk, false, true};
 ghost use Rattle.overflow_dispatch.specs.Notes.{PartAdded};
+ghost use Rattle.papi_base.specs.declared.code.Code.TheVariants as code;
 ghost use Rattle.session_model.specs.Account.{Account};
 ghost use Rattle.session_model.specs.Conditions.{IsGood, IsNamed};
 ghost use Rattle.session_model.specs.Step.{step};
@@ -68,18 +69,21 @@ impl<S: Source> Session<S> {
     }
 
     /// Stops a set, and gives the value of each event: PAPI_stop(3). ENOEVST where there is no such set, ENOTRUN where it does
-    /// not run.
+    /// not run; `into` then stays as it is.
     pub fn stop(&mut self, book: &PresetBook, set: u32, into: &mut Values) -> Code
         requires ready { IsReady book.now self.old }
         ensures does { Does book.now self.old self.new (call.Stop set) (values_reply result into.new) }
+        ensures kept { result ≢ code.Ok → into.new ≡ into.old }
     {
         self.core.stop(book, set, into)
     }
 
-    /// Gives the value of each event of a set: PAPI_read(3). ENOEVST where there is no such set.
+    /// Gives the value of each event of a set: PAPI_read(3). ENOEVST where there is no such set; `into`
+    /// then stays as it is.
     pub fn read(&self, book: &PresetBook, set: u32, into: &mut Values) -> Code
         requires ready { IsReady book.now self.now }
         ensures does { Does book.now self.now self.now (call.Read set) (values_reply result into.new) }
+        ensures kept { result ≢ code.Ok → into.new ≡ into.old }
     {
         self.core.read(book, set, into)
     }

@@ -14,8 +14,8 @@ use Rattle.thread_core.proofs.Ends.{read_follows, read_inside, read_refused}
 use Rattle.thread_core.proofs.Shows.{tellable}
 use Rattle.thread_core.proofs.thread.Core.read.Goals as goal
 
-pub returns-in-Some : goal.returns-in-Some
-returns-in-Some c = read_refused c.args.book.now c.args.self.now c.args.set c.refused.result c.in-Some.code _ c.requires (c.refused.ensures c.args.book.now) c.in-Some.is
+pub returns-in-Some-clause-follows : goal.returns-in-Some-clause-follows
+returns-in-Some-clause-follows c = read_refused c.args.book.now c.args.self.now c.args.set c.refused.result c.in-Some.code _ c.requires (c.refused.ensures c.args.book.now) c.in-Some.is
 
 pub values_under-requires-clause-inside : goal.values_under-requires-clause-inside
 values_under-requires-clause-inside c =
@@ -33,8 +33,8 @@ values_under-requires-clause-tellable c slot here =
     let time = subst (λ (v : CoreView). c.time-now.result ≡ time_after v.last) (sym c.self.view_is) c.time-now.ensures in
     subst (λ (t : ℕ). IsTellable book core.units t slot) (sym time) (tellable book core c.args.set slot agrees here)
 
-pub returns : goal.returns
-returns c =
+pub returns-clause-follows : goal.returns-clause-follows
+returns-clause-follows c =
     let book = c.args.book.now in
     let core = c.args.self.now in
     let none = none_refuses book core (call.Read c.args.set) c.refused.result (c.refused.ensures book) c.in_default.is in

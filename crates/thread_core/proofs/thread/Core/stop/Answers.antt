@@ -17,8 +17,8 @@ use Rattle.thread_core.proofs.Shows.{tellable}
 use Rattle.thread_core.proofs.Starts.{comp_below, with_both}
 use Rattle.thread_core.proofs.thread.Core.stop.Goals as goal
 
-pub returns-in-Some : goal.returns-in-Some
-returns-in-Some c = stop_refused c.args.book.now c.args.self.now c.args.set c.refused.result c.in-Some.code _ c.requires (c.refused.ensures c.args.book.now) c.in-Some.is
+pub returns-in-Some-clause-follows : goal.returns-in-Some-clause-follows
+returns-in-Some-clause-follows c = stop_refused c.args.book.now c.args.self.now c.args.set c.refused.result c.in-Some.code _ c.requires (c.refused.ensures c.args.book.now) c.in-Some.is
 
 pub values_under-requires-clause-inside : goal.values_under-requires-clause-inside
 values_under-requires-clause-inside c =
@@ -79,8 +79,8 @@ invariant_of-self c =
     let f = stop_follows book core c.args.set c.time-now.result c.values_under.result c.stop_under.new.units.items c.stop_under.new.slots.items agrees none time c.values_under.ensures c.stop_under.ensures.units c.stop_under.ensures.same_units c.stop_under.ensures.slots in
     record { book = book; agrees = f.agrees }
 
-pub returns : goal.returns
-returns c =
+pub returns-clause-follows : goal.returns-clause-follows
+returns-clause-follows c =
     let q = c.self.inside in
     let core : CoreView = record { thread = q.thread; registered = q.registered; shape = q.shape; slots = q.slots.items; units = q.units.items; taken = q.taken; last = q.last } in
     let book = c.args.book.now in
