@@ -83,7 +83,7 @@ pub record Rests (book : Book) (core : CoreView) (a : Account) (k : ℕ) : Type 
 pub slot_at : (book : Book) (core : CoreView) (a : Account) (k : ℕ) → CoreStands book core a → at core.slots k ≡ option_map (slot_of book core.shape a.past) (at a.sets k)
 slot_at book core a k h = ap (λ xs. at xs k) h.slots ∙ at_map (slot_of book core.shape a.past) a.sets k
 
-faces_at : (slots : List (Option Slot)) (k : ℕ) → at (slot_faces slots) k ≡ option_map face_of_slot (at slots k)
+pub faces_at : (slots : List (Option Slot)) (k : ℕ) → at (slot_faces slots) k ≡ option_map face_of_slot (at slots k)
 faces_at slots k = at_map face_of_slot slots k
 
 pub rests : (book : Book) (core : CoreView) (a : Account) (k : ℕ) → CoreStands book core a → rest_code (slot_faces core.slots) k ≡ None → Rests book core a k
@@ -124,12 +124,12 @@ add_rows book shape registered faces k e f here stopped =
     clash (Some c) = refl
 
 -- where the code says no, so does the table
-two_rows : (more : Option Refusal) (c : Code) (absent running : Bool) → (if absent then Some Enoevst else if running then Some Eisrun else None) ≡ Some c → (if absent then Some (Plain Enoevst) else if running then Some (Plain Eisrun) else more) ≡ Some (Plain c)
+pub two_rows : (more : Option Refusal) (c : Code) (absent running : Bool) → (if absent then Some Enoevst else if running then Some Eisrun else None) ≡ Some c → (if absent then Some (Plain Enoevst) else if running then Some (Plain Eisrun) else more) ≡ Some (Plain c)
 two_rows more c true running q = let is : Enoevst ≡ c = cc in ap (λ (x : Code). Some (Plain x)) is
 two_rows more c false true q = let is : Eisrun ≡ c = cc in ap (λ (x : Code). Some (Plain x)) is
 two_rows more c false false q = cc
 
-third_row : (more : Option Refusal) (absent running : Bool) → (if absent then Some Enoevst else if running then Some Eisrun else None) ≡ None → (if absent then Some (Plain Enoevst) else if running then Some (Plain Eisrun) else more) ≡ more
+pub third_row : (more : Option Refusal) (absent running : Bool) → (if absent then Some Enoevst else if running then Some Eisrun else None) ≡ None → (if absent then Some (Plain Enoevst) else if running then Some (Plain Eisrun) else more) ≡ more
 third_row more true running q = cc
 third_row more false true q = cc
 third_row more false false q = refl

@@ -30,3 +30,4 @@ pub mod States
 pub mod Zeroes
 pub mod Accumulates
 pub mod RawRegisters
+pub mod Alterations

@@ -13,3 +13,4 @@ pub mod Starting
 pub mod Zeroed
 pub mod Accumulated
 pub mod RawRegister
+pub mod Altering

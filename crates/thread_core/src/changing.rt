@@ -7,21 +7,31 @@ ghost use Rattle.event_sets.specs.Sets.{set_view};
 ghost use Rattle.postfix_rules.specs.Presets.{natives_of_event};
 ghost use Rattle.session_model.specs.Faces.{at};
 ghost use Rattle.thread_core.specs.declared.slot.Slot.{Slot};
+ghost use Rattle.thread_core.specs.Altering.{call_of, change_refusal, lacks_component, slot_after};
 ghost use Rattle.thread_core.specs.Changed.{slot_with_event};
 
+use crate::refusal::{is_absent, runs};
 use crate::slot::Slot;
+use crate::thread::Core;
 use event_sets::Refusal;
-use papi_base::{Counts, EventRef, Shape, Values};
+use papi_base::{Code, Counts, EventRef, Shape, Values};
 use postfix_rules::PresetBook;
+
+/// The set has counted nothing.
+fn recount(slot: &mut Slot)
+    ensures { slot.new ≡ record slot.old { kept = replicate (length slot.old.set.natives) 0 } }
+{
+    let natives = slot.set.natives().len();
+    slot.kept = Counts::zeros(natives);
+}
 
 /// The set has counted nothing, and the caller's values are 0.
 fn renew(slot: &mut Slot)
     ensures { slot.new ≡ record slot.old { values = replicate (length slot.old.set.rest.events) (pos 0); kept = replicate (length slot.old.set.natives) 0 } }
 {
     let events = slot.set.events().len();
-    let natives = slot.set.natives().len();
     slot.values = Values::zeros(events);
-    slot.kept = Counts::zeros(natives);
+    recount(slot);
 }
 
 /// Adds an event to a set.
@@ -78,4 +88,135 @@ pub(crate) fn add_under(
     ensures unchanged { OnErr result (slots.new.items ≡ slots.old.items) }
 {
     add_place(&mut slots[set as usize], book, shape, e)
+}
+
+/// A change of a set that does not run, other than by one event more.
+#[derive(Clone, Copy)]
+pub enum Change {
+    /// Nothing is left but the domain: PAPI_cleanup_eventset(3).
+    Cleanup,
+    /// The component is fixed: PAPI_assign_eventset_component(3).
+    Component(u32),
+    /// Another domain, as bits: PAPI_set_domain(3).
+    Domain(u32),
+    /// Turns for so many ticks each: PAPI_set_multiplex(3).
+    Multiplex(u32),
+}
+
+/// Whether the change wants a component that the shape has not.
+fn lacks_component(shape: &Shape, change: &Change) -> bool
+    ensures { result ≡ lacks_component shape.now change.now }
+{
+    match change {
+        Change::Component(comp) => *comp >= shape.comps(),
+        _ => false,
+    }
+}
+
+/// Changes a set.
+fn change_slot(
+    slot: &mut Slot,
+    book: &PresetBook,
+    shape: &Shape,
+    change: &Change,
+) -> Result<(), Code>
+    requires view { slot.old.set ≡ set_view book.now shape.now slot.old.set.rest }
+    ensures changed { OnOk result (slot.new ≡ slot_after book.now shape.now change.now slot.old) }
+    ensures taken { OnOk result (change_refusal book.now shape.now change.now slot.old.set.rest ≡ None) }
+    ensures refused { IfErr result (λ c. change_refusal book.now shape.now change.now slot.old.set.rest ≡ Some c) }
+    ensures unchanged { OnErr result (slot.new ≡ slot.old) }
+{
+    match change {
+        Change::Cleanup => {
+            slot.set.cleanup();
+            renew(slot);
+            Ok(())
+        }
+        Change::Component(comp) => slot.set.assign_component(*comp, shape),
+        Change::Domain(bits) => {
+            slot.set.set_domain(*bits)?;
+            recount(slot);
+            Ok(())
+        }
+        Change::Multiplex(slice) => {
+            slot.set.set_multiplex(*slice)?;
+            recount(slot);
+            Ok(())
+        }
+    }
+}
+
+/// Changes what is under a number.
+fn change_place(
+    place: &mut Option<Slot>,
+    book: &PresetBook,
+    shape: &Shape,
+    change: &Change,
+) -> Result<(), Code>
+    requires view { (slot : Slot) → place.old ≡ Some slot → slot.set ≡ set_view book.now shape.now slot.set.rest }
+    ensures changed { (slot : Slot) → place.old ≡ Some slot → OnOk result (place.new ≡ Some (slot_after book.now shape.now change.now slot)) }
+    ensures taken { (slot : Slot) → place.old ≡ Some slot → OnOk result (change_refusal book.now shape.now change.now slot.set.rest ≡ None) }
+    ensures refused { (slot : Slot) → place.old ≡ Some slot → IfErr result (λ c. change_refusal book.now shape.now change.now slot.set.rest ≡ Some c) }
+    ensures unchanged { OnErr result (place.new ≡ place.old) }
+{
+    match place {
+        Some(slot) => change_slot(slot, book, shape, change),
+        None => Ok(()),
+    }
+}
+
+/// Changes the set under a number.
+fn change_under(
+    slots: &mut Vec<Option<Slot>>,
+    book: &PresetBook,
+    shape: &Shape,
+    set: u32,
+    change: &Change,
+) -> Result<(), Code>
+    requires inside { set < length slots.old.items }
+    requires view { (slot : Slot) → at slots.old.items set ≡ Some slot → slot.set ≡ set_view book.now shape.now slot.set.rest }
+    ensures changed { (slot : Slot) → at slots.old.items set ≡ Some slot → OnOk result (slots.new.items ≡ slice_set slots.old.items set (Some (slot_after book.now shape.now change.now slot))) }
+    ensures taken { (slot : Slot) → at slots.old.items set ≡ Some slot → OnOk result (change_refusal book.now shape.now change.now slot.set.rest ≡ None) }
+    ensures refused { (slot : Slot) → at slots.old.items set ≡ Some slot → IfErr result (λ c. change_refusal book.now shape.now change.now slot.set.rest ≡ Some c) }
+    ensures unchanged { OnErr result (slots.new.items ≡ slots.old.items) }
+{
+    change_place(&mut slots[set as usize], book, shape, change)
+}
+
+impl Core {
+    ghost use Rattle.session_model.specs.Replies.{plain};
+    ghost use Rattle.thread_core.specs.Altering.{code_before};
+    ghost use Rattle.thread_core.specs.Following.{Follows};
+    ghost use Rattle.thread_core.specs.Refusing.{slot_faces};
+    ghost use Rattle.thread_core.specs.Stands.{AgreesWith};
+
+    /// The code with which a change is refused before the set is asked, if it is.
+    fn code_before(&self, set: u32, change: &Change) -> Option<Code>
+        ensures { result ≡ code_before self.now.shape (slot_faces self.now.slots) set change.now }
+    {
+        if is_absent(&self.slots, set) {
+            return Some(Code::Enoevst);
+        }
+        if lacks_component(&self.shape, change) {
+            return Some(Code::Enocmp);
+        }
+        if runs(&self.slots, set) {
+            return Some(Code::Eisrun);
+        }
+        None
+    }
+
+    /// Makes a change of a set that does not run.
+    pub(crate) fn change(&mut self, book: &PresetBook, set: u32, change: &Change) -> Code
+        requires { AgreesWith book.now self.old }
+        ensures { Follows book.now self.old self.new (call_of set change.now) (plain result) }
+    {
+        if let Some(code) = self.code_before(set, change) {
+            return code;
+        }
+        match change_under(&mut self.slots, book, &self.shape, set, change) {
+            Ok(()) => Code::Ok,
+            Err(code) => code,
+        }
+    }
 }

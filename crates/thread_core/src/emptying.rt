@@ -1,4 +1,5 @@
 //! The calls that take a set away, or what is in it (PAPI_destroy_eventset(3), PAPI_cleanup_eventset(3)).
+use crate::changing::Change;
 use crate::thread::Core;
 use papi_base::Code;
 use postfix_rules::PresetBook;
@@ -21,5 +22,14 @@ impl Core {
         }
         self.slots[set as usize] = None;
         Code::Ok
+    }
+
+    /// Takes away the events of a set, its component and its turns, and zeroes its counts; the domain stays:
+    /// PAPI_cleanup_eventset(3). ENOEVST where there is no such set, EISRUN where it runs.
+    pub fn cleanup(&mut self, book: &PresetBook, set: u32) -> Code
+        requires { AgreesWith book.now self.old }
+        ensures { Follows book.now self.old self.new (call.Cleanup set) (plain result) }
+    {
+        self.change(book, set, &Change::Cleanup)
     }
 }

@@ -16,6 +16,7 @@ mod places;
 mod raw_reading;
 mod refusal;
 mod registering;
+mod settings;
 mod showing;
 pub mod slot;
 mod starting;

@@ -31,7 +31,7 @@ use std::marker::Model;
 pub struct Core {
     thread: u32,
     pub(crate) registered: bool,
-    shape: Shape,
+    pub(crate) shape: Shape,
     pub(crate) slots: Vec<Option<Slot>>,
     pub(crate) units: Vec<Unit>,
     taken: u32,
