@@ -7,8 +7,9 @@ ghost use Rattle.event_sets.specs.Sets.{set_view};
 ghost use Rattle.postfix_rules.specs.Presets.{natives_of_event};
 ghost use Rattle.session_model.specs.Faces.{at};
 ghost use Rattle.thread_core.specs.declared.slot.Slot.{Slot};
-ghost use Rattle.thread_core.specs.Altering.{call_of, change_refusal, lacks_component, slot_after};
+ghost use Rattle.thread_core.specs.Altering.{IsFor, call_of, change_refusal, lacks_component, slot_after};
 ghost use Rattle.thread_core.specs.Changed.{slot_with_event};
+ghost use Rattle.thread_core.specs.declared.changing.Change.TheVariants as change;
 
 use crate::refusal::{is_absent, runs};
 use crate::slot::Slot;
@@ -16,6 +17,7 @@ use crate::thread::Core;
 use event_sets::Refusal;
 use papi_base::{Code, Counts, EventRef, Shape, Values};
 use postfix_rules::PresetBook;
+use session_model::Named;
 
 /// The set has counted nothing.
 fn recount(slot: &mut Slot)
@@ -95,12 +97,16 @@ pub(crate) fn add_under(
 pub enum Change {
     /// Nothing is left but the domain: PAPI_cleanup_eventset(3).
     Cleanup,
+    /// An event is taken away: PAPI_remove_event(3).
+    Remove(Named),
     /// The component is fixed: PAPI_assign_eventset_component(3).
     Component(u32),
     /// Another domain, as bits: PAPI_set_domain(3).
     Domain(u32),
     /// Turns for so many ticks each: PAPI_set_multiplex(3).
     Multiplex(u32),
+    /// Another threshold of an event, or with 0 none: PAPI_overflow(3).
+    Overflow { e: Named, t: u64 },
 }
 
 /// Whether the change wants a component that the shape has not.
@@ -110,6 +116,48 @@ fn lacks_component(shape: &Shape, change: &Change) -> bool
     match change {
         Change::Component(comp) => *comp >= shape.comps(),
         _ => false,
+    }
+}
+
+/// Takes an event away from a set.
+fn remove_event(slot: &mut Slot, book: &PresetBook, shape: &Shape, e: &Named) -> Result<(), Code>
+    requires view { slot.old.set ≡ set_view book.now shape.now slot.old.set.rest }
+    ensures changed { OnOk result (slot.new ≡ slot_after book.now shape.now (change.Remove e.now) slot.old) }
+    ensures taken { OnOk result (change_refusal book.now shape.now (change.Remove e.now) slot.old.set.rest ≡ None) }
+    ensures refused { IfErr result (λ c. change_refusal book.now shape.now (change.Remove e.now) slot.old.set.rest ≡ Some c) }
+    ensures unchanged { OnErr result (slot.new ≡ slot.old) }
+{
+    match e {
+        Err(code) => Err(*code),
+        Ok(e) => {
+            slot.set.remove(book, e)?;
+            renew(slot);
+            Ok(())
+        }
+    }
+}
+
+/// Gives an event of a set another threshold.
+fn arm_event(
+    slot: &mut Slot,
+    book: &PresetBook,
+    shape: &Shape,
+    e: &Named,
+    t: u64,
+) -> Result<(), Code>
+    requires view { slot.old.set ≡ set_view book.now shape.now slot.old.set.rest }
+    ensures changed { OnOk result (slot.new ≡ slot_after book.now shape.now (change.Overflow e.now t) slot.old) }
+    ensures taken { OnOk result (change_refusal book.now shape.now (change.Overflow e.now t) slot.old.set.rest ≡ None) }
+    ensures refused { IfErr result (λ c. change_refusal book.now shape.now (change.Overflow e.now t) slot.old.set.rest ≡ Some c) }
+    ensures unchanged { OnErr result (slot.new ≡ slot.old) }
+{
+    match e {
+        Err(code) => Err(*code),
+        Ok(e) => {
+            slot.set.set_threshold(book, shape, e, t)?;
+            recount(slot);
+            Ok(())
+        }
     }
 }
 
@@ -132,6 +180,7 @@ fn change_slot(
             renew(slot);
             Ok(())
         }
+        Change::Remove(e) => remove_event(slot, book, shape, e),
         Change::Component(comp) => slot.set.assign_component(*comp, shape),
         Change::Domain(bits) => {
             slot.set.set_domain(*bits)?;
@@ -143,6 +192,7 @@ fn change_slot(
             recount(slot);
             Ok(())
         }
+        Change::Overflow { e, t } => arm_event(slot, book, shape, e, *t),
     }
 }
 
@@ -208,7 +258,8 @@ impl Core {
 
     /// Makes a change of a set that does not run.
     pub(crate) fn change(&mut self, book: &PresetBook, set: u32, change: &Change) -> Code
-        requires { AgreesWith book.now self.old }
+        requires agrees { AgreesWith book.now self.old }
+        requires named { IsFor book.now self.old.shape change.now }
         ensures { Follows book.now self.old self.new (call_of set change.now) (plain result) }
     {
         if let Some(code) = self.code_before(set, change) {

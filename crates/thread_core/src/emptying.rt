@@ -1,11 +1,13 @@
-//! The calls that take a set away, or what is in it (PAPI_destroy_eventset(3), PAPI_cleanup_eventset(3)).
+//! The calls that take a set away, or what is in it (PAPI_destroy_eventset(3), PAPI_cleanup_eventset(3),
+//! PAPI_remove_event(3)).
 use crate::changing::Change;
 use crate::thread::Core;
 use papi_base::Code;
 use postfix_rules::PresetBook;
-use session_model::Call;
+use session_model::{Call, Named};
 
 impl Core {
+    ghost use Rattle.session_model.specs.Conditions.{IsNamed};
     ghost use Rattle.session_model.specs.Replies.{plain};
     ghost use Rattle.session_model.specs.declared.call.Call.TheVariants as call;
     ghost use Rattle.thread_core.specs.Following.{Follows};
@@ -31,5 +33,15 @@ impl Core {
         ensures { Follows book.now self.old self.new (call.Cleanup set) (plain result) }
     {
         self.change(book, set, &Change::Cleanup)
+    }
+
+    /// Takes an event away from a set, and zeroes its counts: PAPI_remove_event(3). ENOEVST where there is no such set,
+    /// EISRUN where it runs, the name's code where the event's text was refused, EINVAL where the event is not in the set.
+    pub fn remove(&mut self, book: &PresetBook, set: u32, e: &Named) -> Code
+        requires agrees { AgreesWith book.now self.old }
+        requires named { IsNamed book.now self.old.shape e.now }
+        ensures { Follows book.now self.old self.new (call.Remove set e.now) (plain result) }
+    {
+        self.change(book, set, &Change::Remove(*e))
     }
 }

@@ -7,6 +7,7 @@ pub use slot::Slot;
 pub use thread::Core;
 
 mod accumulating;
+mod arming;
 mod changing;
 pub mod counting;
 mod emptying;
