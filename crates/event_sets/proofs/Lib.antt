@@ -4,8 +4,8 @@ pub mod Agreeing
 pub mod JoinedNatives
 pub mod Clashing
 pub mod Adding
-pub mod Sound
 pub mod Kept
 pub mod Sublists
 pub mod Removed
 pub mod Arming
+pub mod Sound

@@ -1,30 +1,41 @@
 -- What each set keeps, from the definitions alone.
 use Rattle.std.proofs.Common.{◌≡◌, ℕ, zero, suc, ◌<◌, ◌≤◌, Bool, true, false, List, [], ◌∷◌, length, refl, ap, sym, subst, ◌∙◌, arith, slice_get, Option, Some, None, IsSomeAnd, get_or}
-use Rattle.std.specs.Prelude.{All, if◌then◌else◌, nat_le, nat_lt, unwrap_or}
+use Rattle.std.specs.Prelude.{All, if◌then◌else◌, is_some, nat_le, nat_lt, unwrap_or}
 use Rattle.std.specs.Option.{option_map, option_map_or, ForSome}
 use Rattle.std.proofs.lemmas.Bool.Decides.{nat_tests}
+use Rattle.papi_base.specs.declared.bits.Domain.{Domain}
 use Rattle.papi_base.specs.declared.native.Native.{Native}
 use Rattle.papi_base.specs.declared.native.EventRef.TheVariants as event
-use Rattle.papi_base.specs.declared.code.Code.TheVariants.{Einval, Ecount}
+use Rattle.papi_base.specs.declared.code.Code.TheVariants.{Einval, Ecombo, Ecount, Enocmp}
 use Rattle.counter_alloc.specs.Assignments.{Assignable}
 use Rattle.counter_alloc.specs.Listing.{is_assignable}
 use Rattle.counter_alloc.specs.Masks.{masks_of}
 use Rattle.counter_alloc.proofs.Fitting.{assignable_of}
+use Rattle.postfix_rules.specs.Presets.{Book}
 use Rattle.postfix_rules.specs.Rules.{DerivedView, IsDerived}
 use Rattle.postfix_rules.proofs.Joined.{one_more_joins}
 use Rattle.event_sets.specs.declared.refusal.Clash.{Clash}
 use Rattle.event_sets.specs.declared.refusal.Refusal.TheVariants.{Plain, Conflict}
 use Rattle.event_sets.specs.Agreement.{Fits}
 use Rattle.event_sets.specs.Assigning.{blamed_unless, clash_of}
-use Rattle.event_sets.specs.AtRest.{Widths, cannot_take, clash_with, has_event, is_full, is_other, natives_with, widths_at}
+use Rattle.event_sets.specs.AtRest.{Widths, cannot_arm, cannot_take, clash_with, has_event, is_armed, is_bad_domain, is_bad_slice, is_bad_threshold, is_full, is_other, natives_with, new_set, place_of, shares_native, widths_at}
 use Rattle.event_sets.specs.Sets.{IsSound, set_view}
-use Rattle.event_sets.specs.Soundness.{AddedIsSound, HeldFit, NewIsSound}
+use Rattle.event_sets.specs.Soundness.{AddedIsSound, ArmedIsSound, AssignedIsSound, EmptiedIsSound, HeldFit, NewIsSound, RemovedIsSound, WithDomainIsSound, WithSliceIsSound}
 use Rattle.event_sets.proofs.Agreeing.{held_have_natives, neither, numbered}
 use Rattle.event_sets.proofs.Clashing.{are_masks}
+use Rattle.event_sets.proofs.Kept.{armed_sound, assigned_sound, domain_sound, sliced_sound}
+use Rattle.event_sets.proofs.Removed.{removed_sound}
 use Rattle.event_sets.proofs.Adding.{Ready, added_sound, added_view, all_in_range, clash_is}
 
-pub new_is_sound : NewIsSound
-new_is_sound book shape = record {
+few_counters : (shape : Widths) (comp : ℕ) → All (λ widths. length widths ≤ 32) shape → length (widths_at shape (Some comp)) ≤ 32
+few_counters shape comp few = go (slice_get shape comp) refl where
+  go : (o : Option (List ℕ)) → slice_get shape comp ≡ o → length (unwrap_or o []) ≤ 32
+  go None e = omega arith
+  go (Some widths) e = numbered (λ (ws : List ℕ). length ws ≤ 32) shape few comp widths e
+
+-- a set without events, component or slice
+bare_sound : (book : Book) (shape : Widths) (d : Domain) → is_bad_domain d.0 ≡ false → IsSound (set_view book shape (record new_set { domain = d }))
+bare_sound book shape d good = record {
   few_events = omega arith;
   few_natives = omega arith;
   few_counters = omega arith;
@@ -32,10 +43,50 @@ new_is_sound book shape = record {
   distinct = λ i j e a b. cc;
   owned = λ k d below. absurd (omega arith);
   in_range = λ k d below. absurd (omega arith);
-  good_domain = refl;
+  good_domain = good;
   assignable = λ unshared. ([], record { one_each = refl; is_allowed = λ i below. absurd (omega arith); distinct = λ i j a b. absurd (omega arith) });
   shared = λ slice is. cc;
 }
+
+pub new_is_sound : NewIsSound
+new_is_sound book shape = bare_sound book shape (record { 0 = 1 }) refl
+
+pub emptied_is_sound : EmptiedIsSound
+emptied_is_sound book shape s h = bare_sound book shape s.domain h.good_domain
+
+pub removed_is_sound : RemovedIsSound
+removed_is_sound book shape e s h = removed_sound book (place_of e s) (set_view book shape s) refl h
+
+pub with_domain_is_sound : WithDomainIsSound
+with_domain_is_sound book shape bits s good h = domain_sound bits (set_view book shape s) good h
+
+-- where neither of two refusals comes
+no_two : {X : Type 0} (a b : Bool) (x y : X) → (if a then Some x else if b then Some y else None) ≡ None → (a ≡ false) × (b ≡ false)
+no_two true b x y h = cc
+no_two false true x y h = cc
+no_two false false x y h = (refl, refl)
+
+pub with_slice_is_sound : WithSliceIsSound
+with_slice_is_sound book shape slice s taken h =
+    let tests = no_two (is_bad_slice slice) (is_armed s) Einval Ecombo taken in
+    sliced_sound slice (set_view book shape s) tests.0 tests.1 h
+
+pub assigned_is_sound : AssignedIsSound
+assigned_is_sound book shape comp s few taken h =
+    let tests = no_two (nat_le (length shape) comp) (is_other s.component (Some comp)) Enocmp Einval taken in
+    assigned_sound comp (length (widths_at shape (Some comp))) (set_view book shape s) tests.1 (few_counters shape comp few) (λ is. ap (λ c. length (widths_at shape c)) is) h
+
+-- where a threshold is not refused, the natives do not take turns
+no_turns : {X : Type 0} (a b c : Bool) (o : Option ℕ) (x y : X) → (if a then Some x else if b then Some x else if c then Some x else if is_some o then Some y else None) ≡ None → o ≡ None
+no_turns true b c o x y h = cc
+no_turns false true c o x y h = cc
+no_turns false false true o x y h = cc
+no_turns false false false None x y h = refl
+no_turns false false false (Some slice) x y h = cc
+
+pub armed_is_sound : ArmedIsSound
+armed_is_sound book shape e t s taken h =
+    armed_sound (place_of e s) t (set_view book shape s) (no_turns (cannot_arm book e s) (is_bad_threshold shape t s) (shares_native book e t s) s.slice Einval Ecombo taken) h
 
 -- where no refusal comes, no row does
 no_rows : (a b : Bool) (c : Option Clash) → (if a then Some (Plain Einval) else if b then Some (Plain Ecount) else option_map Conflict c) ≡ None → (a ≡ false) × (b ≡ false) × (c ≡ None)
@@ -48,12 +99,6 @@ no_rows false false (Some clash) h = cc
 fits_of : (b : Bool) (natives : List Native) → blamed_unless b natives ≡ None → b ≡ true
 fits_of true natives h = refl
 fits_of false natives h = cc
-
-few_counters : (shape : Widths) (comp : ℕ) → All (λ widths. length widths ≤ 32) shape → length (widths_at shape (Some comp)) ≤ 32
-few_counters shape comp few = go (slice_get shape comp) refl where
-  go : (o : Option (List ℕ)) → slice_get shape comp ≡ o → length (unwrap_or o []) ≤ 32
-  go None e = omega arith
-  go (Some widths) e = numbered (λ (ws : List ℕ). length ws ≤ 32) shape few comp widths e
 
 pub added_is_sound : AddedIsSound
 added_is_sound book shape e s held fits few taken sound =

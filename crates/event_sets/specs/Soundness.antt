@@ -1,9 +1,10 @@
--- What each set keeps is kept by a new set, and by one with one more event that is not refused.
-use Rattle.std.specs.Prelude.{◌≡◌, ◌≤◌, All, None, length}
+-- What each set keeps is kept by a new set, and by each change that is not refused.
+use Rattle.std.specs.Prelude.{ℕ, ◌≡◌, ◌≤◌, false, All, None, Some, length}
 use Rattle.papi_base.specs.declared.native.EventRef.{EventRef}
 use Rattle.postfix_rules.specs.Presets.{Book, natives_of_event}
-use Rattle.event_sets.specs.AtRest.{AtRest, Widths, new_set, with_event}
+use Rattle.event_sets.specs.AtRest.{AtRest, Widths, emptied, is_bad_domain, new_set, with_event, with_threshold, without_event}
 use Rattle.event_sets.specs.Adding.{add_refusal}
+use Rattle.event_sets.specs.Changing.{assign_refusal, multiplex_refusal, threshold_refusal}
 use Rattle.event_sets.specs.Agreement.{BookFits, EventFits, Fits, IsHeld}
 use Rattle.event_sets.specs.Sets.{IsSound, set_view}
 
@@ -15,6 +16,30 @@ NewIsSound = (book : Book) (shape : Widths) → IsSound (set_view book shape new
 abbrev pub AddedIsSound : Type 0
 AddedIsSound = (book : Book) (shape : Widths) (e : EventRef) (s : AtRest) → IsHeld book e → All (Fits shape) (natives_of_event book e) → All (λ widths. length widths ≤ 32) shape
     → add_refusal book e s ≡ None → IsSound (set_view book shape s) → IsSound (set_view book shape (with_event book e s))
+
+-- a set with all events gone
+abbrev pub EmptiedIsSound : Type 0
+EmptiedIsSound = (book : Book) (shape : Widths) (s : AtRest) → IsSound (set_view book shape s) → IsSound (set_view book shape (emptied s))
+
+-- with an event gone
+abbrev pub RemovedIsSound : Type 0
+RemovedIsSound = (book : Book) (shape : Widths) (e : EventRef) (s : AtRest) → IsSound (set_view book shape s) → IsSound (set_view book shape (without_event e s))
+
+-- with a component
+abbrev pub AssignedIsSound : Type 0
+AssignedIsSound = (book : Book) (shape : Widths) (comp : ℕ) (s : AtRest) → All (λ widths. length widths ≤ 32) shape → assign_refusal shape comp s ≡ None → IsSound (set_view book shape s) → IsSound (set_view book shape (record s { component = Some comp }))
+
+-- with a domain
+abbrev pub WithDomainIsSound : Type 0
+WithDomainIsSound = (book : Book) (shape : Widths) (bits : ℕ) (s : AtRest) → is_bad_domain bits ≡ false → IsSound (set_view book shape s) → IsSound (set_view book shape (record s { domain = record { 0 = bits } }))
+
+-- with a slice
+abbrev pub WithSliceIsSound : Type 0
+WithSliceIsSound = (book : Book) (shape : Widths) (slice : ℕ) (s : AtRest) → multiplex_refusal slice s ≡ None → IsSound (set_view book shape s) → IsSound (set_view book shape (record s { slice = Some slice }))
+
+-- with a threshold
+abbrev pub ArmedIsSound : Type 0
+ArmedIsSound = (book : Book) (shape : Widths) (e : EventRef) (t : ℕ) (s : AtRest) → threshold_refusal book shape e t s ≡ None → IsSound (set_view book shape s) → IsSound (set_view book shape (with_threshold e t s))
 
 -- the natives of an event fit where the event and the book do
 abbrev pub HeldFit : Type 0

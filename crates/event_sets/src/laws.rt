@@ -1,6 +1,6 @@
 // Laws of the definitions, each the contract of a function that does nothing.
 ghost use Rattle.event_sets.specs.Laws.{AddedAgrees, ArmedAgrees, AssignedAgrees, EmptiedAgrees, HeldHaveNatives, NativesAreOwned, RemovedAgrees};
-ghost use Rattle.event_sets.specs.Soundness.{AddedIsSound, HeldFit, NewIsSound};
+ghost use Rattle.event_sets.specs.Soundness.{AddedIsSound, ArmedIsSound, AssignedIsSound, EmptiedIsSound, HeldFit, NewIsSound, RemovedIsSound, WithDomainIsSound, WithSliceIsSound};
 
 /// The changes of a set keep its agreement with the book, where the tests of refusals fail.
 pub fn agreement_laws()
@@ -17,9 +17,15 @@ pub fn natives_laws()
     ensures owned { NativesAreOwned }
 {}
 
-/// A new set keeps what each set keeps, and so does one with one more event that is not refused.
+/// A new set keeps what each set keeps, and so does a set after each change that is not refused.
 pub fn soundness_laws()
     ensures new { NewIsSound }
     ensures added { AddedIsSound }
+    ensures emptied { EmptiedIsSound }
+    ensures removed { RemovedIsSound }
+    ensures assigned { AssignedIsSound }
+    ensures with_domain { WithDomainIsSound }
+    ensures with_slice { WithSliceIsSound }
+    ensures armed { ArmedIsSound }
     ensures fit { HeldFit }
 {}

@@ -5,6 +5,8 @@ mod clashes;
 pub mod event_set;
 mod joining;
 pub mod laws;
+#[cfg(test)]
+mod preset_tests;
 pub mod refusal;
 mod removal;
 mod sameness;
