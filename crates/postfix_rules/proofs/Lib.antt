@@ -13,3 +13,4 @@ mod Trimming
 mod Digits
 mod Pieces
 mod SoFar
+mod Components

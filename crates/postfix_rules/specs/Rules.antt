@@ -24,6 +24,17 @@ Counts rule.Sum n = ⊤
 Counts rule.Sub n = ⊤
 Counts (rule.Postfix f) n = f.natives ≡ n
 
+-- the rule can be over so many natives: a plain rule is over one
+abbrev pub IsOver : Rule → ℕ → Type 0
+IsOver rule.Plain n = n ≡ 1
+IsOver rule.Sum n = ⊤
+IsOver rule.Sub n = ⊤
+IsOver (rule.Postfix f) n = f.natives ≡ n
+
+-- all natives are of one component
+abbrev pub OfOneComponent : List Native → Type 0
+OfOneComponent natives = (comp : ℕ) × All (λ n. n.comp ≡ comp) natives
+
 -- what contracts see of a derived event
 pub record DerivedView : Type 0 where
   pub natives : List Native

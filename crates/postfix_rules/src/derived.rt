@@ -1,4 +1,7 @@
 // Derived events.
+ghost use Rattle.std.specs.Prelude.{◌≡◌, ◌<◌, ◌↔◌, IsTrue, length};
+ghost use Rattle.postfix_rules.specs.Rules.{IsDerived, IsOver, OfOneComponent};
+
 use crate::Rule;
 use papi_base::Natives;
 use std::marker::Model;
@@ -21,10 +24,45 @@ impl Model for Derived {
     ghost invariant = { λ d. IsDerived (record { natives = d.natives; rule = d.rule }) };
 }
 
-impl Derived {
-    ghost use Rattle.std.specs.Prelude.{◌≡◌};
-    ghost use Rattle.postfix_rules.specs.Rules.{IsDerived};
+// Whether the native events are of one component.
+fn are_of_one_component(natives: &Natives) -> bool
+    requires { 0 < length natives.now }
+    ensures { IsTrue result ↔ OfOneComponent natives.now }
+{
+    let comp = natives.at(0).comp;
+    for i in 0..natives.len() {
+        if natives.at(i).comp != comp {
+            return false;
+        }
+    }
+    true
+}
 
+// Whether the rule can be over so many native events.
+fn is_over(rule: &Rule, natives: u32) -> bool
+    ensures { IsTrue result ↔ IsOver rule.now natives }
+{
+    match rule {
+        Rule::Plain => natives == 1,
+        Rule::Sum => true,
+        Rule::Sub => true,
+        Rule::Postfix(f) => f.natives() == natives,
+    }
+}
+
+/// Whether native events and a rule make a derived event: there are from 1 to 8 of one component, a plain rule has one,
+/// and a formula was read with this number.
+pub fn is_derived(natives: &Natives, rule: &Rule) -> bool
+    ensures { IsTrue result ↔ IsDerived (record { natives = natives.now; rule = rule.now }) }
+{
+    let count = natives.len();
+    if count == 0 || count > 8 {
+        return false;
+    }
+    are_of_one_component(natives) && is_over(rule, count)
+}
+
+impl Derived {
     /// What the rule derives from the native events.
     pub fn new(natives: Natives, rule: Rule) -> Derived
         requires { IsDerived (record { natives = natives; rule = rule }) }

@@ -1,6 +1,9 @@
 //! Formulas that are read, worked and written with memory at hand.
 
-use crate::{Formula, FormulaCause, FormulaFault, eval, read_postfix, write_formula};
+use crate::{
+    Formula, FormulaCause, FormulaFault, Rule, eval, is_derived, read_postfix, write_formula,
+};
+use papi_base::{Mods, Native, Natives};
 use std::alloc::Global;
 
 const LEAST: i64 = i64::MIN;
@@ -112,4 +115,39 @@ fn written_texts(rt: HostRuntime) {
             Err(_) => assert!(rt; false, "{text}"),
         }
     }
+}
+
+fn native_of(comp: u32) -> Native {
+    let mods = Mods {
+        user: false,
+        kernel: false,
+        edge: false,
+        invert: false,
+        cmask: 0,
+    };
+    Native {
+        comp,
+        event: 0,
+        select: 0,
+        masks: 0,
+        umask: 0,
+        mods,
+        allowed: 1,
+    }
+}
+
+#[test]
+fn derived_events(rt: HostRuntime) {
+    let mut natives = Natives::new();
+    assert!(rt; !is_derived(&natives, &Rule::Sum));
+    natives.push(native_of(1));
+    assert!(rt; is_derived(&natives, &Rule::Plain));
+    natives.push(native_of(1));
+    assert!(rt; is_derived(&natives, &Rule::Sub) && !is_derived(&natives, &Rule::Plain));
+    match read_postfix(rt.alloc(), "N0|N1|+|", 2) {
+        Ok(f) => assert!(rt; is_derived(&natives, &Rule::Postfix(f))),
+        Err(_) => assert!(rt; false),
+    }
+    natives.push(native_of(2));
+    assert!(rt; !is_derived(&natives, &Rule::Sum));
 }
