@@ -1,12 +1,15 @@
 -- What texts read as, in the words of the definition.
 use Rattle.std.proofs.Common.{◌≡◌, ◌∙◌, ◌+◌, ℕ, List, Option, Some, None, map, refl, sym, ap, subst, arith}
-use Rattle.std.specs.Prelude.{Result, Ok, Err}
+use Rattle.std.specs.Prelude.{IfErr, IfOk, Result, Ok, Err}
 use Rattle.postfix_rules.specs.declared.fault.FormulaCause.{FormulaCause}
+use Rattle.postfix_rules.specs.declared.fault.FormulaFault.{FormulaFault}
+use Rattle.postfix_rules.specs.declared.fault.FormulaFault.TheVariants.{At, Memory}
 use Rattle.postfix_rules.specs.declared.token.Token.{Token}
 use Rattle.postfix_rules.specs.Trees.{spelling}
 use Rattle.postfix_rules.specs.Faults.{FormulaView, IsFault, IsFormula, Part, fault_from}
 use Rattle.postfix_rules.specs.Tokens.{Text, parts_of}
-use Rattle.postfix_rules.specs.Reading.{FirstFaults, FromOne, Refused, SameTokens, formula_of, tokens_among, unless_fault}
+use Rattle.postfix_rules.specs.Reading.{FirstFaults, FromOne, IsTextFault, IsTreeText, ReadsFormula, Refused, SameTokens, formula_of, tokens_among, unless_fault}
+use Rattle.postfix_rules.proofs.Spelled.{formulas_spell}
 use Rattle.postfix_rules.proofs.Faults.{Says, among-some, faults-found, found-faults}
 
 err-one : (a b : Refused) → ◌≡◌ {A = Result FormulaView Refused} (Err a) (Err b) → a ≡ b
@@ -80,3 +83,25 @@ same_tokens natives text f = (
       (is, r.2, ap (fault_from natives 0 0) (sym is) ∙ r.0),
   λ h. reads-tokens natives text f h.0 h.1 h.2,
 )
+
+-- ---- the same of an answer
+
+tree-of : (natives : ℕ) (text : Text) (f : FormulaView) → formula_of natives text ≡ Ok f → IsTreeText text f.tokens
+tree-of natives text f e =
+    let r = (same_tokens natives text f).0 e in
+    (r.0, formulas_spell natives f.tokens r.2)
+
+pub answer-tree : (natives : ℕ) (text : Text) (r : Result FormulaView FormulaFault) → ReadsFormula r natives text → IfOk r (λ f. IsTreeText text f.tokens)
+answer-tree natives text (Ok f) e = tree-of natives text f e
+answer-tree natives text (Err fault) e = tt
+
+text-fault : (natives : ℕ) (text : Text) (place : ℕ) (cause : FormulaCause) → formula_of natives text ≡ Err (record { place = place; cause = cause }) → IsTextFault natives text (At place cause)
+unfolding formula_of
+text-fault natives text place cause e =
+    let f = refused-fault natives (parts_of text) (fault_from natives 0 0 (parts_of text)) (record { place = place; cause = cause }) e in
+    (f.0.0, f.2, subst (IsFault natives (parts_of text) f.0.0) (sym f.3) (fault-of natives (parts_of text) f.0 f.1))
+
+pub answer-fault : (natives : ℕ) (text : Text) (r : Result FormulaView FormulaFault) → ReadsFormula r natives text → IfErr r (λ fault. IsTextFault natives text fault)
+answer-fault natives text (Ok f) e = tt
+answer-fault natives text (Err (At place cause)) e = text-fault natives text place cause e
+answer-fault natives text (Err Memory) e = tt

@@ -7,6 +7,7 @@ use Rattle.postfix_rules.specs.declared.fault.FormulaFault.TheVariants.{At, Memo
 use Rattle.postfix_rules.specs.declared.formula.Formula.{Formula}
 use Rattle.postfix_rules.specs.declared.token.Token.{Token}
 use Rattle.postfix_rules.specs.Faults.{FormulaView, IsFault, IsFormula, Part, fault_from}
+use Rattle.postfix_rules.specs.Trees.{Tree, spelling}
 use Rattle.postfix_rules.specs.Tokens.{Text, formula_text, is_formula_byte, parts_of}
 
 -- the first fault of a text, by its place from 1, which is one past the last token where it is the text's end
@@ -34,6 +35,15 @@ abbrev pub ReadsFormula : Result Formula FormulaFault → ℕ → Text → Type 
 ReadsFormula (Ok formula) natives text = formula_of natives text ≡ Ok formula
 ReadsFormula (Err (At place cause)) natives text = formula_of natives text ≡ Err (record { place = place; cause = cause })
 ReadsFormula (Err Memory) natives text = Unit {0}
+
+-- the text has these tokens, and they spell one tree
+abbrev pub IsTreeText : Text → List Token → Type 0
+IsTreeText text tokens = (parts_of text ≡ map Some tokens) × ((tree : Tree) × (tokens ≡ spelling tree))
+
+-- The fault is that of the text: at the least place where the parts before it are a pile of at most 16 trees, and which has a cause.
+abbrev pub IsTextFault : ℕ → Text → FormulaFault → Type 0
+IsTextFault natives text (At place cause) = (k : ℕ) × (place ≡ k + 1) × IsFault natives (parts_of text) k cause
+IsTextFault natives text Memory = Unit {0}
 
 -- ---- laws
 

@@ -1,6 +1,6 @@
 // Formulas from their texts.
-ghost use Rattle.std.specs.Prelude.{◌≡◌, ◌+◌, ◌<◌, ◌^◌, IfOk};
-ghost use Rattle.postfix_rules.specs.Reading.{ReadsFormula};
+ghost use Rattle.std.specs.Prelude.{◌≡◌, ◌+◌, ◌<◌, ◌^◌, IfErr, IfOk};
+ghost use Rattle.postfix_rules.specs.Reading.{IsTextFault, IsTreeText, ReadsFormula};
 ghost use Rattle.postfix_rules.specs.declared.fault.FormulaFault.TheVariants.{At};
 
 use crate::judging::{end_cause, height_after, judge};
@@ -19,12 +19,8 @@ fn fault_behind(tokens: usize, cause: FormulaCause) -> FormulaFault
     }
 }
 
-/// The formula that a text writes over so many native events, or the text's first fault.
-///
-/// Tokens are ended by `|`, the last one perhaps by nothing, with spaces and tabs round them: a constant in decimal, `N`
-/// and the number of a native event, or one of `+ - * /`. Source: papi_events.csv; the stack has 16 places, and a
-/// constant is at most 2^63 - 1.
-pub fn read_postfix(alloc: Global, text: &str, natives: u32) -> Result<Formula, FormulaFault>
+// The formula of a text, or its first fault, found by the height of the stack alone.
+fn formula_in(alloc: Global, text: &str, natives: u32) -> Result<Formula, FormulaFault>
     ensures read { ReadsFormula result natives text.now }
     ensures natives { IfOk result (λ f. f.natives ≡ natives) }
 {
@@ -45,4 +41,18 @@ pub fn read_postfix(alloc: Global, text: &str, natives: u32) -> Result<Formula, 
         Some(cause) => Err(fault_behind(tokens.len(), cause)),
         None => Ok(Formula::new(tokens, natives)),
     }
+}
+
+/// The formula that a text writes over so many native events, or the text's first fault.
+///
+/// Tokens are ended by `|`, the last one perhaps by nothing, with spaces and tabs round them: a constant in decimal, `N`
+/// and the number of a native event, or one of `+ - * /`. Source: papi_events.csv; the stack has 16 places, and a
+/// constant is at most 2^63 - 1.
+pub fn read_postfix(alloc: Global, text: &str, natives: u32) -> Result<Formula, FormulaFault>
+    ensures read { ReadsFormula result natives text.now }
+    ensures natives { IfOk result (λ f. f.natives ≡ natives) }
+    ensures tree { IfOk result (λ f. IsTreeText text.now f.tokens) }
+    ensures fault { IfErr result (λ fault. IsTextFault natives text.now fault) }
+{
+    formula_in(alloc, text, natives)
 }

@@ -1,6 +1,6 @@
 use Rattle.std.proofs.Common.{length}
 use Rattle.postfix_rules.proofs.SoFar.{SoFar}
-use Rattle.postfix_rules.proofs.reading.read_postfix.Given as goal
+use Rattle.postfix_rules.proofs.reading.formula_in.Given as goal
 
 abbrev pub invariant-loop-piece : goal.invariant-loop-piece
 invariant-loop-piece l = SoFar l.natives l.text l.rest l.tokens.items l.height
