@@ -1,0 +1,9 @@
+pub mod FoundNatives
+pub mod Groups
+pub mod NativesKept
+pub mod PlainFields
+pub mod SymbolRows
+pub mod Judged
+pub mod TableKept
+pub mod OneMore
+pub mod RowsTaken

@@ -4,7 +4,6 @@ use Rattle.table_rows.specs.Rows.{rows_text}
 use Rattle.table_rows.specs.Texts.{Text}
 use Rattle.postfix_rules.specs.Faults.{FormulaView}
 use Rattle.postfix_rules.specs.Tokens.{formula_text}
-use Rattle.preset_csv.specs.Defs.{DefView}
 use Rattle.preset_csv.specs.Kinds.{kind_text}
 use Rattle.preset_csv.specs.Presets.{preset_fault, presets_in}
 use Rattle.preset_csv.specs.Tables.{TableView, symbols}

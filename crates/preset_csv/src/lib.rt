@@ -4,13 +4,23 @@
 mod definition;
 mod entry;
 mod fault;
+mod group;
+mod judging;
 mod kind;
+mod natives;
+mod reading;
+mod refusal;
 mod row;
+mod symbol;
 mod table;
 
 pub use crate::definition::Def;
 pub use crate::entry::Entry;
 pub use crate::fault::{PresetCause, PresetFault, cause_text};
 pub use crate::kind::{DerivedType, Kind, kind_text};
+pub use crate::reading::read_presets;
 pub use crate::table::PresetTable;
 pub use preset_table::{preset_code, preset_count, preset_row, preset_symbol, preset_text};
+
+#[cfg(test)]
+mod tests;

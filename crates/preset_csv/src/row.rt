@@ -3,6 +3,7 @@
 ghost use Rattle.std.specs.Prelude.{◌≡◌};
 ghost use Rattle.csv.specs.Records.{fields_of};
 ghost use Rattle.preset_csv.specs.Lines.{line_of, row_line};
+ghost use Rattle.preset_csv.specs.Steps.{IsPlainRow, IsReadRow};
 
 use table_rows::{ByteRecord, text_at};
 
@@ -17,7 +18,8 @@ pub enum Row<'r> {
 /// What a record is, by its first field, without regard to ASCII case.
 #[tactic(auto, unfolding(crate::specs::Lines::line_of))]
 pub fn row_of(row: &ByteRecord) -> Row<'_>
-    ensures { row_line result ≡ line_of (fields_of row.now) }
+    ensures line { row_line result ≡ line_of (fields_of row.now) }
+    ensures plain { IsReadRow (fields_of row.now) → IsPlainRow result }
 {
     let first = text_at(row, 0);
     if first.eq_ignore_ascii_case(b"CPU") {

@@ -1,0 +1,91 @@
+-- What the entry of a row keeps.
+use Rattle.std.proofs.Common.{◌≡◌, ◌≤◌, ◌==◌, ◌∷◌, ℕ, Bool, true, false, List, [], length, refl, sym, subst, arith, nat_lt, Option, Some, None, Result, Ok, Err}
+use Rattle.std.specs.Prelude.{⊤, if◌then◌else◌}
+use Rattle.std.specs.List.{AllByRecursion, list_all}
+use Rattle.std.proofs.lemmas.Bool.{and_parts, eqb-true, ltb-false}
+use Rattle.table_rows.specs.Texts.{Text, is_empty, is_printable}
+use Rattle.postfix_rules.specs.Faults.{FormulaView, IsFormula}
+use Rattle.postfix_rules.specs.Reading.{Refused, formula_of}
+use Rattle.postfix_rules.proofs.Refusals.{same_tokens}
+use Rattle.preset_csv.specs.Defs.{Agrees, IsDef, IsNativeText}
+use Rattle.preset_csv.specs.Entries.{formula_entry, has_rate, is_printed, judged, judged_as, limited_entry, typed_entry}
+use Rattle.preset_csv.specs.Lines.{Derivation}
+use Rattle.preset_csv.specs.Tables.{IsEntry}
+use Rattle.preset_csv.specs.declared.entry.Entry.{Entry}
+use Rattle.preset_csv.specs.declared.entry.Entry.TheVariants as entry
+use Rattle.preset_csv.specs.declared.fault.PresetCause.{PresetCause}
+use Rattle.preset_csv.specs.declared.fault.PresetCause.TheVariants as cause
+use Rattle.preset_csv.specs.declared.kind.Kind.{Kind}
+use Rattle.preset_csv.specs.declared.kind.Kind.TheVariants as kind
+use Rattle.preset_csv.specs.declared.kind.DerivedType.{DerivedType}
+use Rattle.preset_csv.specs.declared.kind.DerivedType.TheVariants as derived
+use Rattle.preset_csv.proofs.NativesKept.{IsNative, texts-kept}
+
+-- a formula that was read over so many natives agrees with them
+pub read-agrees : (natives : List Text) (text : Text) (f : FormulaView) → formula_of (length natives) text ≡ Ok f → Agrees kind.Postfix (Some f) natives
+read-agrees natives text f e =
+    let t = (same_tokens (length natives) text f).0 e in
+    (t.1, subst (λ (n : ℕ). IsFormula n f.tokens) (sym t.1) t.2)
+
+-- one or more natives that can be written, and at most 8
+pub record Ready (natives : List Text) : Type 0 where
+  pub each : AllByRecursion IsNativeText natives
+  pub some : 1 ≤ length natives
+  pub few : length natives ≤ 8
+
+pub def-kept : (natives : List Text) (k : Kind) (f : Option FormulaView) → Ready natives → Agrees k f natives → IsDef (record { kind = k; formula = f; natives = natives })
+def-kept natives k f ready agrees = record { each = ready.each; some = ready.some; few = ready.few; agrees = agrees }
+
+abbrev pub Keeps : Result Entry PresetCause → Type 0
+Keeps (Ok e) = IsEntry e
+Keeps (Err why) = ⊤
+
+formula-kept : (natives : List Text) (text : Text) → Ready natives → Keeps (formula_entry natives (formula_of (length natives) text))
+formula-kept natives text ready = go (formula_of (length natives) text) refl
+  where
+    go : (o : Result FormulaView Refused) → formula_of (length natives) text ≡ o → Keeps (formula_entry natives o)
+    go (Ok f) e = def-kept natives kind.Postfix (Some f) ready (read-agrees natives text f e)
+    go (Err refused) e = tt
+
+typed-kept : (t : DerivedType) (formula : Text) (natives : List Text) → Ready natives → Keeps (typed_entry t formula natives)
+typed-kept derived.NotDerived formula natives ready = go (length natives == 1) refl
+  where
+    go : (b : Bool) → (length natives == 1) ≡ b → Keeps (if b then Ok (entry.Def (record { kind = kind.NotDerived; formula = None; natives = natives })) else Ok entry.Uncomputed)
+    go true e = def-kept natives kind.NotDerived None ready (eqb-true (length natives) 1 e)
+    go false e = tt
+typed-kept derived.Add formula natives ready = def-kept natives kind.Add None ready tt
+typed-kept derived.Sub formula natives ready = def-kept natives kind.Sub None ready tt
+typed-kept derived.Postfix formula natives ready = go (has_rate formula)
+  where
+    go : (b : Bool) → Keeps (if b then Ok entry.Uncomputed else formula_entry natives (formula_of (length natives) formula))
+    go true = tt
+    go false = formula-kept natives formula ready
+typed-kept derived.Infix formula natives ready = tt
+typed-kept derived.Ps formula natives ready = tt
+typed-kept derived.AddPs formula natives ready = tt
+typed-kept derived.Cmpd formula natives ready = tt
+
+some-natives : (natives : List Text) → is_empty natives ≡ false → 1 ≤ length natives
+some-natives [] e = cc e
+some-natives (t ∷ rest) e = omega arith
+
+limited-kept : (t : DerivedType) (formula : Text) (natives : List Text) → AllByRecursion IsNativeText natives → Keeps (limited_entry t formula natives)
+limited-kept t formula natives each = go (nat_lt 8 (length natives)) (is_empty natives) refl refl
+  where
+    go : (b c : Bool) → nat_lt 8 (length natives) ≡ b → is_empty natives ≡ c → Keeps (if b then Err cause.OverLimit else if c then Ok entry.Uncomputed else typed_entry t formula natives)
+    go true c p q = tt
+    go false true p q = tt
+    go false false p q = typed-kept t formula natives (record { each = each; some = some-natives natives q; few = ltb-false 8 (length natives) p })
+
+as-kept : (t : Option DerivedType) (formula : Text) (natives : List Text) → AllByRecursion IsNative natives → Keeps (judged_as t formula natives)
+as-kept None formula natives h = tt
+as-kept (Some t) formula natives h = go (is_printed formula natives) refl
+  where
+    go : (b : Bool) → is_printed formula natives ≡ b → Keeps (if b then limited_entry t formula natives else Err cause.BadField)
+    go true e = limited-kept t formula natives (texts-kept natives h (and_parts (is_printable formula) (list_all is_printable natives) e).1)
+    go false e = tt
+
+-- the entry of a row whose natives are fields
+pub judged-kept : (r : Derivation) → AllByRecursion IsNative r.natives → Keeps (judged r)
+unfolding judged
+judged-kept r h = as-kept r.derived_type r.formula r.natives h

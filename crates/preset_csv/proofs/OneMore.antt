@@ -1,0 +1,116 @@
+-- The group, the entries and the cause of some rows and of one more.
+use Rattle.std.proofs.Common.{◌≡◌, ◌∙◌, ◌∷◌, ◌++◌, ℕ, Bool, true, false, not, List, [], map, refl, sym, ap, ap₂, append_assoc, append-nil, Option, Some, None, Result, Ok, Err}
+use Rattle.std.specs.Prelude.{◌&&◌, ◌||◌, is_some, if◌then◌else◌}
+use Rattle.std.specs.List.{list_any}
+use Rattle.std.specs.Str.{bytes_eq}
+use Rattle.std.proofs.lemmas.List.Folds.{list_any-append}
+use Rattle.std.proofs.lemmas.List.Sums.{fold-append}
+use Rattle.table_rows.specs.Texts.{Text}
+use Rattle.preset_table.specs.Table.{row_of}
+use Rattle.preset_csv.specs.Entries.{judged}
+use Rattle.preset_csv.specs.Lines.{Derivation, Line, cpu, other, preset}
+use Rattle.preset_csv.specs.Presets.{entry_of, entry_or, group, has_cpu, is_read, line_cause, presets, read_from}
+use Rattle.preset_csv.specs.Steps.{cause_more, entries_more, entries_with, group_at, group_more, is_closed, placed}
+use Rattle.preset_csv.specs.Tables.{symbols}
+use Rattle.preset_csv.specs.declared.entry.Entry.{Entry}
+use Rattle.preset_csv.specs.declared.fault.PresetCause.{PresetCause}
+use Rattle.preset_csv.specs.declared.group.Group.{Group}
+use Rattle.preset_csv.proofs.Groups.{closed-more, has_cpu-more, names-more, or-false, or-true}
+use Rattle.preset_csv.proofs.SymbolRows.{changed-at, set_at}
+
+-- ---- the group
+
+abbrev group_of : Bool → Bool → Bool → Group
+group_of begun closed holds = record { begun = begun; closed = closed; holds = holds }
+
+holds-more : (name n : Text) (closed : Bool) (names : List Text)
+    → list_any (λ m. bytes_eq name m) (if closed then n ∷ [] else names ++ n ∷ []) ≡ (bytes_eq name n || (not closed && list_any (λ m. bytes_eq name m) names))
+holds-more name n true names = refl
+holds-more name n false names = list_any-append (λ m. bytes_eq name m) names (n ∷ []) ∙ swap (list_any (λ m. bytes_eq name m) names) (bytes_eq name n)
+  where
+    swap : (a b : Bool) → (a || (b || false)) ≡ (b || a)
+    swap true true = refl
+    swap true false = refl
+    swap false true = refl
+    swap false false = refl
+
+pub group-one-more : (name : Text) (above : List Line) (line : Line) → group_at name (above ++ line ∷ []) ≡ group_more name (group_at name above) line
+group-one-more name above other = rw (has_cpu-more above other, or-false (has_cpu above), closed-more above other, names-more above other) refl
+group-one-more name above (preset r) = rw (has_cpu-more above (preset r), or-false (has_cpu above), closed-more above (preset r), names-more above (preset r)) refl
+group-one-more name above (cpu n) =
+    rw (has_cpu-more above (cpu n), or-true (has_cpu above), closed-more above (cpu n), names-more above (cpu n))
+    (ap (group_of true false) (holds-more name n (is_closed above) (group above)))
+
+-- ---- the cause
+
+pub cause-one-more : (name : Text) (above : List Line) (line : Line) → line_cause name above line ≡ cause_more (group_at name above) line
+cause-one-more name above other = refl
+cause-one-more name above (cpu n) = refl
+cause-one-more name above (preset r) = refl
+
+-- ---- the entries
+
+read-append : (name : Text) (a xs : List Line) (line : Line) → read_from name a (xs ++ line ∷ []) ≡ read_from name a xs ++ read_from name (a ++ xs) (line ∷ [])
+unfolding read_from
+read-append name a [] line = ap (λ (b : List Line). read_from name b (line ∷ [])) (sym (append-nil a))
+read-append name a (other ∷ xs) line =
+    read-append name (a ++ other ∷ []) xs line ∙ ap (λ (b : List Line). read_from name (a ++ other ∷ []) xs ++ read_from name b (line ∷ [])) (append_assoc a (other ∷ []) xs)
+read-append name a (cpu n ∷ xs) line =
+    read-append name (a ++ cpu n ∷ []) xs line ∙ ap (λ (b : List Line). read_from name (a ++ cpu n ∷ []) xs ++ read_from name b (line ∷ [])) (append_assoc a (cpu n ∷ []) xs)
+read-append name a (preset r ∷ xs) line =
+    go (is_read name a r) (read-append name (a ++ preset r ∷ []) xs line ∙ ap (λ (b : List Line). read_from name (a ++ preset r ∷ []) xs ++ read_from name b (line ∷ [])) (append_assoc a (preset r ∷ []) xs))
+  where
+    go : (b : Bool) → read_from name (a ++ preset r ∷ []) (xs ++ line ∷ []) ≡ read_from name (a ++ preset r ∷ []) xs ++ read_from name (a ++ preset r ∷ xs) (line ∷ [])
+        → (if b then r ∷ read_from name (a ++ preset r ∷ []) (xs ++ line ∷ []) else read_from name (a ++ preset r ∷ []) (xs ++ line ∷ []))
+        ≡ (if b then r ∷ read_from name (a ++ preset r ∷ []) xs else read_from name (a ++ preset r ∷ []) xs) ++ read_from name (a ++ preset r ∷ xs) (line ∷ [])
+    go true e = ap (λ (t : List Derivation). r ∷ t) e
+    go false e = e
+
+map-same : (f g : Text → Entry) (ss : List Text) → ((s : Text) → f s ≡ g s) → map f ss ≡ map g ss
+map-same f g [] h = refl
+map-same f g (s ∷ ss) h = ap₂ (λ (x : Entry) (xs : List Entry). x ∷ xs) (h s) (map-same f g ss h)
+
+-- the entries with one row more that is read
+abbrev entry_more : (Text → Entry) → Derivation → Result Entry PresetCause → Text → Entry
+entry_more f r o s = if bytes_eq r.symbol s then entry_or (f s) o else f s
+
+entry-append : (rows : List Derivation) (r : Derivation) (s : Text) → entry_of (rows ++ r ∷ []) s ≡ entry_more (entry_of rows) r (judged r) s
+unfolding entry_of
+entry-append rows r s = fold-append _ _ rows (r ∷ [])
+
+kept-at : (b : Bool) (e : Entry) → (if b then e else e) ≡ e
+kept-at true e = refl
+kept-at false e = refl
+
+placed-more : (f : Text → Entry) (r : Derivation) (o : Result Entry PresetCause) → map (entry_more f r o) symbols ≡ placed (map f symbols) (row_of r.symbol) o
+placed-more f r (Ok e) = changed-at f r.symbol e ∙ go (row_of r.symbol)
+  where
+    go : (row : Option ℕ) → set_at (map f symbols) row e ≡ placed (map f symbols) row (Ok e)
+    go None = refl
+    go (Some row) = refl
+placed-more f r (Err why) = map-same (entry_more f r (Err why)) f symbols (λ s. kept-at (bytes_eq r.symbol s) (f s)) ∙ go (row_of r.symbol)
+  where
+    go : (row : Option ℕ) → map f symbols ≡ placed (map f symbols) row (Err why)
+    go None = refl
+    go (Some row) = refl
+
+-- one row more that is no PRESET row, or none that is read
+unread : (rows : List Derivation) → map (entry_of (rows ++ [])) symbols ≡ map (entry_of rows) symbols
+unread rows = ap (λ (t : List Derivation). map (entry_of t) symbols) (append-nil rows)
+
+taken-more : (rows : List Derivation) (r : Derivation) (holds : Bool) → map (entry_of (rows ++ (if holds && is_some (row_of r.symbol) then r ∷ [] else []))) symbols ≡ entries_with holds (map (entry_of rows) symbols) r
+taken-more rows r false = unread rows
+taken-more rows r true = go (row_of r.symbol) (map-same (entry_of (rows ++ r ∷ [])) (entry_more (entry_of rows) r (judged r)) symbols (entry-append rows r) ∙ placed-more (entry_of rows) r (judged r))
+  where
+    go : (row : Option ℕ) → map (entry_of (rows ++ r ∷ [])) symbols ≡ placed (map (entry_of rows) symbols) row (judged r)
+        → map (entry_of (rows ++ (if is_some row then r ∷ [] else []))) symbols ≡ placed (map (entry_of rows) symbols) row (judged r)
+    go None h = unread rows
+    go (Some row) h = h
+
+pub entries-one-more : (name : Text) (above : List Line) (line : Line) → presets name (above ++ line ∷ []) ≡ entries_more (group_at name above) (presets name above) line
+unfolding presets read_from
+entries-one-more name above other = ap (λ (t : List Derivation). map (entry_of t) symbols) (read-append name [] above other) ∙ unread (read_from name [] above)
+entries-one-more name above (cpu n) = ap (λ (t : List Derivation). map (entry_of t) symbols) (read-append name [] above (cpu n)) ∙ unread (read_from name [] above)
+entries-one-more name above (preset r) =
+    ap (λ (t : List Derivation). map (entry_of t) symbols) (read-append name [] above (preset r))
+    ∙ taken-more (read_from name [] above) r (list_any (λ n. bytes_eq name n) (group above))

@@ -1,0 +1,120 @@
+-- The fields that `csv` reads with no quotes have no commas, and no bytes that end a row.
+use Rattle.std.proofs.Common.{◌≡◌, ◌+◌, ◌==◌, ◌∷◌, ◌++◌, ℕ, zero, suc, Bool, true, false, List, [], Option, Some, None, length, refl, subst}
+use Rattle.std.specs.Prelude.{⊤, ◌||◌, if◌then◌else◌}
+use Rattle.std.specs.List.{AllByRecursion}
+use Rattle.csv.specs.Machine.{Read, after_end, ends_at_end, ends_with, field_after, fields_after, in_field, is_byte, is_end, next_record, start_record, step}
+use Rattle.csv.specs.Reading.{records_from, records_next, strip_bom}
+use Rattle.csv.specs.declared.parser.Action.{Action}
+use Rattle.csv.specs.declared.parser.Action.TheVariants as act
+use Rattle.csv.specs.declared.parser.State.{State}
+use Rattle.csv.specs.declared.parser.State.TheVariants as st
+use Rattle.table_rows.specs.Rows.{IsInner, IsPlainField, rows_of, table_config}
+use Rattle.table_rows.proofs.Texts.{all-append}
+use Rattle.preset_csv.specs.Steps.{IsReadRow}
+
+-- the states that a reader with no quotes has
+abbrev IsOpen : State → Type 0
+IsOpen st.StartRecord = ⊤
+IsOpen st.StartField = ⊤
+IsOpen st.InField = ⊤
+IsOpen st.InQuoted = ⊥
+IsOpen st.AfterQuote = ⊥
+IsOpen st.InEscape = ⊥
+IsOpen st.InComment = ⊤
+IsOpen st.AfterCr = ⊤
+
+record Fine (c : ℕ) (p : State × Action) : Type 0 where
+  open_after : IsOpen p.0
+  copies : p.1 ≡ act.Copy → IsInner c
+
+fine-if : (c : ℕ) (b : Bool) (x y : State × Action) → Fine c x → (b ≡ false → Fine c y) → Fine c (if b then x else y)
+fine-if c true x y f g = f
+fine-if c false x y f g = g refl
+
+after-open : (c : ℕ) → IsOpen (after_end table_config.terminator c)
+after-open c = go (c == 13)
+  where
+    go : (b : Bool) → IsOpen (if b then st.AfterCr else st.StartRecord)
+    go true = tt
+    go false = tt
+
+no-end : (a b : Bool) → (a || b) ≡ false → (a ≡ false) × (b ≡ false)
+no-end true b e = cc e
+no-end false true e = cc e
+no-end false false e = (refl, refl)
+
+in_field-fine : (c : ℕ) → Fine c (in_field table_config c)
+in_field-fine c =
+    fine-if c (c == 44) (st.StartField, act.EndField) (if ends_with table_config.terminator c then (after_end table_config.terminator c, act.EndRecord) else (st.InField, act.Copy))
+    (record { open_after = tt; copies = λ e. cc e })
+    (λ no_comma. fine-if c (ends_with table_config.terminator c) (after_end table_config.terminator c, act.EndRecord) (st.InField, act.Copy)
+    (record { open_after = after-open c; copies = λ e. cc e })
+    (λ stays. record { open_after = tt; copies = λ e. let ends = no-end (c == 13) (c == 10) stays in (no_comma, ends.0, ends.1) }))
+
+start-fine : (c : ℕ) → Fine c (start_record table_config c)
+start-fine c =
+    fine-if c (ends_with table_config.terminator c) (st.StartRecord, act.Skip) (if is_byte table_config.comment c then (st.InComment, act.Skip) else in_field table_config c)
+    (record { open_after = tt; copies = λ e. cc e })
+    (λ stays. fine-if c (is_byte table_config.comment c) (st.InComment, act.Skip) (in_field table_config c) (record { open_after = tt; copies = λ e. cc e }) (λ no_mark. in_field-fine c))
+
+step-fine : (s : State) (c : ℕ) → IsOpen s → Fine c (step table_config s c)
+step-fine st.StartRecord c o = start-fine c
+step-fine st.StartField c o = in_field-fine c
+step-fine st.InField c o = in_field-fine c
+step-fine st.InQuoted c o = absurd o
+step-fine st.AfterQuote c o = absurd o
+step-fine st.InEscape c o = absurd o
+step-fine st.InComment c o = fine-if c (c == 10) (st.StartRecord, act.Skip) (st.InComment, act.Skip) (record { open_after = tt; copies = λ e. cc e }) (λ n. record { open_after = tt; copies = λ e. cc e })
+step-fine st.AfterCr c o = fine-if c (c == 10) (st.StartRecord, act.Skip) (start_record table_config c) (record { open_after = tt; copies = λ e. cc e }) (λ n. start-fine c)
+
+fields-fine : (a : Action) (fields : List (List ℕ)) (field : List ℕ) → AllByRecursion IsPlainField fields → IsPlainField field → AllByRecursion IsPlainField (fields_after a fields field)
+fields-fine act.EndField fields field h k = all-append IsPlainField fields (field ∷ []) h (k, tt)
+fields-fine act.EndRecord fields field h k = all-append IsPlainField fields (field ∷ []) h (k, tt)
+fields-fine act.Skip fields field h k = h
+fields-fine act.Copy fields field h k = h
+
+field-fine : (a : Action) (c : ℕ) (field : List ℕ) → (a ≡ act.Copy → IsInner c) → IsPlainField field → IsPlainField (field_after a c field)
+field-fine act.Copy c field e k = all-append IsInner field (c ∷ []) k (e refl, tt)
+field-fine act.EndField c field e k = tt
+field-fine act.Skip c field e k = k
+field-fine act.EndRecord c field e k = tt
+
+abbrev IsRead : Read → Type 0
+IsRead q = AllByRecursion IsPlainField q.0 × IsOpen q.1
+
+next-fine : (s : State) (fields : List (List ℕ)) (field xs : List ℕ) (q : Read) → IsOpen s → AllByRecursion IsPlainField fields → IsPlainField field
+    → next_record table_config s fields field xs ≡ Some q → IsRead q
+unfolding next_record
+next-fine s fields field [] q o h k e = go (ends_at_end s) e
+  where
+    go : (b : Bool) → (if b then Some (fields ++ (field ∷ []), st.StartRecord, []) else None) ≡ Some q → IsRead q
+    go true e = let is : (fields ++ (field ∷ []), st.StartRecord, []) ≡ q = cc e in subst IsRead is (all-append IsPlainField fields (field ∷ []) h (k, tt), tt)
+    go false e = cc e
+next-fine s fields field (c ∷ rest) q o h k e =
+    go (is_end (step table_config s c).1) e
+    (next-fine (step table_config s c).0 (fields_after (step table_config s c).1 fields field) (field_after (step table_config s c).1 c field) rest q
+    (step-fine s c o).open_after (fields-fine (step table_config s c).1 fields field h k) (field-fine (step table_config s c).1 c field (step-fine s c o).copies k))
+  where
+    go : (b : Bool)
+        → (if b then Some (fields_after (step table_config s c).1 fields field, (step table_config s c).0, rest)
+        else next_record table_config (step table_config s c).0 (fields_after (step table_config s c).1 fields field) (field_after (step table_config s c).1 c field) rest) ≡ Some q
+        → (next_record table_config (step table_config s c).0 (fields_after (step table_config s c).1 fields field) (field_after (step table_config s c).1 c field) rest ≡ Some q → IsRead q)
+        → IsRead q
+    go true e more =
+        let is : (fields_after (step table_config s c).1 fields field, (step table_config s c).0, rest) ≡ q = cc e in
+        subst IsRead is (fields-fine (step table_config s c).1 fields field h k, (step-fine s c o).open_after)
+    go false e more = more e
+
+rows-fine : (n : ℕ) (s : State) (xs : List ℕ) → IsOpen s → AllByRecursion (AllByRecursion IsPlainField) (records_from table_config n s xs)
+unfolding records_from
+rows-fine zero s xs o = tt
+rows-fine (suc n) s xs o = go (next_record table_config s [] [] xs) refl (λ t ys p. rows-fine n t ys p)
+  where
+    go : (r : Option Read) → next_record table_config s [] [] xs ≡ r → ((t : State) (ys : List ℕ) → IsOpen t → AllByRecursion (AllByRecursion IsPlainField) (records_from table_config n t ys))
+        → AllByRecursion (AllByRecursion IsPlainField) (records_next (records_from table_config n) r)
+    go None e more = tt
+    go (Some q) e more = let f = next-fine s [] [] xs q o tt tt e in (f.0, more q.1 q.2 f.1)
+
+pub rows-plain : (bytes : List ℕ) → AllByRecursion IsReadRow (rows_of bytes)
+unfolding rows_of
+rows-plain bytes = rows-fine (length (strip_bom bytes) + 1) st.StartRecord (strip_bom bytes) tt

@@ -1,0 +1,149 @@
+-- The symbols of the preset table, each in its row.
+use Rattle.std.proofs.Common.{◌≡◌, ◌∙◌, ◌+◌, ◌<◌, ◌≤◌, ◌∷◌, ℕ, suc, Bool, true, false, List, [], Option, Some, None, cond, map, set, length, refl, sym, ap, ap₂, subst, arith}
+use Rattle.std.specs.Prelude.{⊤, ◌&&◌, not, nat_lt, if◌then◌else◌}
+use Rattle.std.specs.Bool.{Decides}
+use Rattle.std.specs.List.{AllByRecursion, list_all, position_or_len}
+use Rattle.std.specs.Str.{bytes_eq}
+use Rattle.std.proofs.lemmas.Bool.{and_from, and_parts, ltb-false, ltb-true, not-true}
+use Rattle.std.proofs.lemmas.Slice.Eq.{bytes_eq-Decides}
+use Rattle.table_rows.specs.Texts.{Text, is_printable}
+use Rattle.table_rows.proofs.Texts.{all-map}
+use Rattle.preset_table.specs.Table.{PresetRow, preset_rows, row_of}
+use Rattle.preset_csv.specs.Tables.{symbols}
+
+-- what a test says of each
+pub all-test : {X : Type 0} (p : X → Bool) (xs : List X) → list_all p xs ≡ true → AllByRecursion (λ x. p x ≡ true) xs
+all-test p [] e = tt
+all-test p (x ∷ xs) e = let q = and_parts (p x) (list_all p xs) e in (q.0, all-test p xs q.1)
+
+pub test-all : {X : Type 0} (p : X → Bool) (xs : List X) → AllByRecursion (λ x. p x ≡ true) xs → list_all p xs ≡ true
+test-all p [] h = refl
+test-all p (x ∷ xs) h = and_from (p x) (list_all p xs) h.0 (test-all p xs h.1)
+
+pub same-text : (t : Text) → bytes_eq t t ≡ true
+same-text t = (bytes_eq-Decides t t).1 refl
+
+abbrev apart : List Text → Bool
+apart [] = true
+apart (s ∷ rest) = list_all (λ t. not (bytes_eq s t) && not (bytes_eq t s)) rest && apart rest
+
+-- two texts are different, either way round
+abbrev pub AreApart : Text → Text → Type 0
+AreApart s t = (bytes_eq s t ≡ false) × (bytes_eq t s ≡ false)
+
+-- no text is another
+abbrev pub Apart : List Text → Type 0
+Apart [] = ⊤
+Apart (s ∷ rest) = AllByRecursion (AreApart s) rest × Apart rest
+
+apart-from : (ss : List Text) → apart ss ≡ true → Apart ss
+apart-from [] e = tt
+apart-from (s ∷ rest) e =
+    let q = and_parts _ _ e in (
+      all-map (λ t. (not (bytes_eq s t) && not (bytes_eq t s)) ≡ true) (AreApart s) rest
+          (λ t h. let r = and_parts _ _ h in (not-true _ r.0, not-true _ r.1)) (all-test (λ t. not (bytes_eq s t) && not (bytes_eq t s)) rest q.0),
+      apart-from rest q.1,
+    )
+
+pub symbols-apart : Apart symbols
+unfolding symbols preset_rows
+symbols-apart = apart-from symbols refl
+
+-- ---- a function of the symbols that is changed at one of them
+
+abbrev pub changed : {X : Type 0} → (Text → X) → Text → X → Text → X
+changed f t x s = if bytes_eq t s then x else f s
+
+abbrev symbol_of : PresetRow → Text
+symbol_of r = r.symbol
+
+others-same : {X : Type 0} (f : Text → X) (t : Text) (x : X) (ss : List Text) → AllByRecursion (AreApart t) ss → map (changed f t x) ss ≡ map f ss
+others-same f t x [] h = refl
+others-same f t x (s ∷ ss) h = ap₂ (λ y ys. y ∷ ys) (rw h.0.0 refl) (others-same f t x ss h.1)
+
+abbrev place : Text → List PresetRow → ℕ
+place t rows = position_or_len (λ r. bytes_eq r.symbol t) rows
+
+place-within : (t : Text) (rows : List PresetRow) → place t rows ≤ length rows
+place-within t [] = omega arith
+place-within t (r ∷ rows) = go (bytes_eq r.symbol t) (place-within t rows)
+  where
+    go : (b : Bool) → place t rows ≤ length rows → cond (not b) (1 + place t rows) 0 ≤ length (r ∷ rows)
+    go true le = omega arith
+    go false le = omega (arith, le)
+
+place-end : (t : Text) (rows : List PresetRow) → length rows ≤ place t rows → place t rows ≡ length rows
+place-end t rows le = let within = place-within t rows in omega (arith, le, within)
+
+-- no row is of this text
+changed-none : {X : Type 0} (f : Text → X) (t : Text) (x : X) (rows : List PresetRow) → place t rows ≡ length rows → map (changed f t x) (map symbol_of rows) ≡ map f (map symbol_of rows)
+changed-none f t x [] e = refl
+changed-none f t x (r ∷ rows) e = go (bytes_eq r.symbol t) (bytes_eq t r.symbol) (bytes_eq-Decides r.symbol t) (bytes_eq-Decides t r.symbol) e (λ q. changed-none f t x rows q)
+  where
+    go : (b c : Bool) → Decides b (r.symbol ≡ t) → Decides c (t ≡ r.symbol) → cond (not b) (1 + place t rows) 0 ≡ length (r ∷ rows)
+        → (place t rows ≡ length rows → map (changed f t x) (map symbol_of rows) ≡ map f (map symbol_of rows))
+        → ((if c then x else f r.symbol) ∷ map (changed f t x) (map symbol_of rows)) ≡ f r.symbol ∷ map f (map symbol_of rows)
+    go true c d d' e more = absurd (omega (arith, e))
+    go false true d d' e more = let no : false ≡ true = d.1 (sym (d'.0 refl)) in cc no
+    go false false d d' e more = ap (λ ys. f r.symbol ∷ ys) (more (omega (arith, e)))
+
+set-later : {X : Type 0} (y : X) (ys : List X) (p : ℕ) (x : X) → y ∷ set ys p x ≡ set (y ∷ ys) (1 + p) x
+set-later y ys p x = let e : 1 + p ≡ suc p = omega arith in rw e refl
+
+-- one row is
+changed-set : {X : Type 0} (f : Text → X) (t : Text) (x : X) (rows : List PresetRow) → Apart (map symbol_of rows) → place t rows < length rows
+    → map (changed f t x) (map symbol_of rows) ≡ set (map f (map symbol_of rows)) (place t rows) x
+changed-set f t x [] a lt = absurd (omega arith)
+changed-set f t x (r ∷ rows) a lt = go (bytes_eq r.symbol t) (bytes_eq t r.symbol) (bytes_eq-Decides r.symbol t) (bytes_eq-Decides t r.symbol) lt (λ q. changed-set f t x rows a.1 q)
+  where
+    go : (b c : Bool) → Decides b (r.symbol ≡ t) → Decides c (t ≡ r.symbol) → cond (not b) (1 + place t rows) 0 < length (r ∷ rows)
+        → (place t rows < length rows → map (changed f t x) (map symbol_of rows) ≡ set (map f (map symbol_of rows)) (place t rows) x)
+        → ((if c then x else f r.symbol) ∷ map (changed f t x) (map symbol_of rows)) ≡ set (f r.symbol ∷ map f (map symbol_of rows)) (cond (not b) (1 + place t rows) 0) x
+    go true false d d' lt more = let no : false ≡ true = d'.1 (sym (d.0 refl)) in cc no
+    go true true d d' lt more = ap (λ ys. x ∷ ys) (others-same f t x (map symbol_of rows) (subst (λ (u : Text). AllByRecursion (AreApart u) (map symbol_of rows)) (d.0 refl) a.0))
+    go false true d d' lt more = let no : false ≡ true = d.1 (sym (d'.0 refl)) in cc no
+    go false false d d' lt more = ap (λ ys. f r.symbol ∷ ys) (more (omega (arith, lt))) ∙ set-later (f r.symbol) (map f (map symbol_of rows)) (place t rows) x
+
+-- the row of a text, and the entries that are changed at it
+abbrev pub set_at : {X : Type 0} → List X → Option ℕ → X → List X
+set_at xs None x = xs
+set_at xs (Some row) x = set xs row x
+
+pub changed-at : {X : Type 0} (f : Text → X) (t : Text) (x : X) → map (changed f t x) symbols ≡ set_at (map f symbols) (row_of t) x
+unfolding symbols row_of
+changed-at f t x = go (nat_lt (place t preset_rows) (length preset_rows)) refl
+  where
+    go : (b : Bool) → nat_lt (place t preset_rows) (length preset_rows) ≡ b → map (changed f t x) (map symbol_of preset_rows) ≡ set_at (map f (map symbol_of preset_rows)) (cond b (Some (place t preset_rows)) None) x
+    go true e = changed-set f t x preset_rows symbols-apart (ltb-true _ _ e)
+    go false e = changed-none f t x preset_rows (place-end t preset_rows (ltb-false _ _ e))
+
+-- ---- the row of a text that is a symbol
+
+place-of : (t : Text) (b : Bool) (row : ℕ) → nat_lt (place t preset_rows) (length preset_rows) ≡ b → cond b (Some (place t preset_rows)) None ≡ Some row → (place t preset_rows < length preset_rows) × (place t preset_rows ≡ row)
+place-of t true row e is = (ltb-true _ _ e, cc is)
+place-of t false row e is = cc is
+
+pub row-within : (t : Text) (row : ℕ) → row_of t ≡ Some row → row < 26
+unfolding row_of preset_rows
+row-within t row is = let p = place-of t _ row refl is in omega (arith, p.0, p.1)
+
+among-printed : (t : Text) (rows : List PresetRow) → AllByRecursion (λ r. is_printable r.symbol ≡ true) rows → place t rows < length rows → is_printable t ≡ true
+among-printed t [] h lt = absurd (omega arith)
+among-printed t (r ∷ rows) h lt = go (bytes_eq r.symbol t) (bytes_eq-Decides r.symbol t) lt (λ q. among-printed t rows h.1 q)
+  where
+    go : (b : Bool) → Decides b (r.symbol ≡ t) → cond (not b) (1 + place t rows) 0 < length (r ∷ rows) → (place t rows < length rows → is_printable t ≡ true) → is_printable t ≡ true
+    go true d lt more = subst (λ (u : Text). is_printable u ≡ true) (d.0 refl) h.0
+    go false d lt more = more (omega (arith, lt))
+
+symbols-printed : AllByRecursion (λ r. is_printable r.symbol ≡ true) preset_rows
+unfolding preset_rows
+symbols-printed = all-test (λ r. is_printable r.symbol) preset_rows refl
+
+-- a text that is not printable is no symbol
+pub no-symbol : (t : Text) → is_printable t ≡ false → None ≡ row_of t
+unfolding row_of
+no-symbol t e = go (nat_lt (place t preset_rows) (length preset_rows)) refl
+  where
+    go : (b : Bool) → nat_lt (place t preset_rows) (length preset_rows) ≡ b → None ≡ cond b (Some (place t preset_rows)) None
+    go true lt = let p = among-printed t preset_rows symbols-printed (ltb-true _ _ lt) in cc (e, p)
+    go false lt = refl

@@ -1,0 +1,15 @@
+use Rattle.std.proofs.Common.{codes, rules, tests}
+use Rattle.std.specs.Prelude.{◌==◌}
+use Rattle.std.specs.Str.{bytes_eq}
+use Rattle.std.proofs.lemmas.Iterator.Splits.{YieldsList-from_slice_split}
+use Rattle.std.proofs.lemmas.Iterator.Search.{any_from_yields_List}
+use Rattle.table_rows.specs.Texts.{trimmed}
+use Rattle.preset_csv.specs.Entries.{has_rate}
+use Rattle.preset_csv.proofs.judging.has_rate.Goals as goal
+
+pub returns : goal.returns
+unfolding has_rate
+returns c =
+    any_from_yields_List (λ p. bytes_eq (trimmed p) (codes "#")) _ _ _ c.any.ensures.ran
+    (YieldsList-from_slice_split _ (λ b. b == 124) c.args.formula.now c.split.ensures.rest c.split.ensures.done c.split.ensures.closure (λ x b q k. search (rules, tests)))
+    (λ x b q k. search (rules, tests))

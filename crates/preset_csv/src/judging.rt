@@ -1,0 +1,129 @@
+// The entry that a row gives.
+
+ghost use Rattle.std.specs.Prelude.{◌≡◌, ◌≤◌, Some, map, length, string_bytes};
+ghost use Rattle.std.specs.List.{AllByRecursion};
+ghost use Rattle.csv.specs.Records.{fields_of};
+ghost use Rattle.preset_csv.specs.Defs.{IsNativeText};
+ghost use Rattle.preset_csv.specs.Entries as Entries;
+ghost use Rattle.preset_csv.specs.Lines.{derivation_of};
+ghost use Rattle.preset_csv.specs.Steps as Steps;
+ghost use Rattle.preset_csv.specs.Steps.{IsReadRow, Judges};
+ghost use Rattle.preset_csv.specs.declared.kind.DerivedType.TheVariants as derived;
+
+use crate::definition::Def;
+use crate::entry::Entry;
+use crate::fault::PresetCause;
+use crate::kind::{DerivedType, Kind, has_formula, type_of};
+use crate::natives::printed_natives;
+use crate::refusal::Refusal;
+use postfix_rules::{FormulaFault, read_postfix};
+use std::alloc::Global;
+use table_rows::{ByteRecord, printable_text, text_at, trimmed};
+
+// Whether a token of a formula is `#`.
+#[tactic(auto, unfolding(crate::specs::Entries::has_rate))]
+fn has_rate(formula: &[u8]) -> bool
+    ensures { result ≡ Entries.has_rate formula.now }
+{
+    formula
+        .split(|&b| b == b'|')
+        .any(|part| trimmed(part) == b"#".as_slice())
+}
+
+// Why a row with a broken formula is refused.
+fn formula_refusal(fault: FormulaFault) -> Refusal
+    ensures { result ≡ Steps.formula_refusal fault }
+{
+    match fault {
+        FormulaFault::At { place: _, cause } => Refusal::Cause(PresetCause::BadFormula(cause)),
+        FormulaFault::Memory => Refusal::Memory,
+    }
+}
+
+// The entry of a formula in postfix order over natives.
+fn postfix_entry(alloc: Global, formula: &str, natives: Vec<String>) -> Result<Entry, Refusal>
+    requires each { AllByRecursion IsNativeText (map string_bytes natives.items) }
+    requires some { 1 ≤ length natives.items }
+    requires few { length natives.items ≤ 8 }
+    ensures { Judges (Entries.typed_entry derived.Postfix formula.now (map string_bytes natives.items)) result }
+{
+    if has_rate(formula.as_bytes()) {
+        return Ok(Entry::Uncomputed);
+    }
+    match read_postfix(alloc, formula, natives.len() as u32) {
+        Ok(formula) => Ok(Entry::Def(Def::new(Kind::Postfix, Some(formula), natives))),
+        Err(fault) => Err(formula_refusal(fault)),
+    }
+}
+
+// The entry of a formula and of one or more natives, by the derived type.
+fn typed_entry(
+    alloc: Global,
+    derived_type: DerivedType,
+    formula: &str,
+    natives: Vec<String>,
+) -> Result<Entry, Refusal>
+    requires each { AllByRecursion IsNativeText (map string_bytes natives.items) }
+    requires some { 1 ≤ length natives.items }
+    requires few { length natives.items ≤ 8 }
+    ensures { Judges (Entries.typed_entry derived_type formula.now (map string_bytes natives.items)) result }
+{
+    match derived_type {
+        DerivedType::NotDerived => {
+            if natives.len() == 1 {
+                Ok(Entry::Def(Def::new(Kind::NotDerived, None, natives)))
+            } else {
+                Ok(Entry::Uncomputed)
+            }
+        }
+        DerivedType::Add => Ok(Entry::Def(Def::new(Kind::Add, None, natives))),
+        DerivedType::Sub => Ok(Entry::Def(Def::new(Kind::Sub, None, natives))),
+        DerivedType::Postfix => postfix_entry(alloc, formula, natives),
+        DerivedType::Infix | DerivedType::Ps | DerivedType::AddPs | DerivedType::Cmpd => {
+            Ok(Entry::Uncomputed)
+        }
+    }
+}
+
+// The entry of a printable formula and printable natives, by the derived type.
+fn limited_entry(
+    alloc: Global,
+    derived_type: DerivedType,
+    formula: &str,
+    natives: Vec<String>,
+) -> Result<Entry, Refusal>
+    requires { AllByRecursion IsNativeText (map string_bytes natives.items) }
+    ensures { Judges (Entries.limited_entry derived_type formula.now (map string_bytes natives.items)) result }
+{
+    if natives.len() > 8 {
+        return Err(Refusal::Cause(PresetCause::OverLimit));
+    }
+    if natives.is_empty() {
+        return Ok(Entry::Uncomputed);
+    }
+    typed_entry(alloc, derived_type, formula, natives)
+}
+
+/// The entry of a row, or its first cause.
+#[tactic(auto, unfolding(crate::specs::Entries::judged, crate::specs::Lines::derivation_of))]
+pub fn judge(alloc: Global, row: &ByteRecord) -> Result<Entry, Refusal>
+    requires { IsReadRow (fields_of row.now) }
+    ensures { Judges (Entries.judged (derivation_of (fields_of row.now))) result }
+{
+    let Some(derived_type) = type_of(text_at(row, 2)) else {
+        return Err(Refusal::Cause(PresetCause::BadField));
+    };
+    let formula: &[u8] = if has_formula(derived_type) {
+        text_at(row, 3)
+    } else {
+        &[]
+    };
+    let first = if has_formula(derived_type) { 4 } else { 3 };
+    let Some(formula) = printable_text(formula) else {
+        return Err(Refusal::Cause(PresetCause::BadField));
+    };
+    match printed_natives(alloc, row, first)? {
+        Some(natives) => limited_entry(alloc, derived_type, formula, natives),
+        None => Err(Refusal::Cause(PresetCause::BadField)),
+    }
+}

@@ -1,0 +1,106 @@
+// A whole preset file.
+
+ghost use Rattle.std.specs.Prelude.{◌≡◌, ◌<◌, IfOk, length, replicate, set};
+ghost use Rattle.csv.specs.Records.{fields_of};
+ghost use Rattle.preset_csv.specs.Lines.{derivation_of, row_line};
+ghost use Rattle.preset_csv.specs.Presets.{ReadsPresets};
+ghost use Rattle.preset_csv.specs.Steps.{IsPlainRow, IsReadRow, TakesPreset, TakesRow};
+ghost use Rattle.preset_csv.specs.declared.entry.Entry.TheVariants as entry;
+
+use crate::entry::Entry;
+use crate::fault::{PresetCause, PresetFault};
+use crate::group::Group;
+use crate::judging::judge;
+use crate::refusal::{Refusal, fault_at};
+use crate::row::{Row, row_of};
+use crate::symbol::symbol_row;
+use crate::table::PresetTable;
+use preset_table::preset_count;
+use std::alloc::{AllocError, Global};
+use table_rows::{ByteRecord, read_rows, text_at};
+
+// A missing entry for each row of the preset table.
+fn all_missing(alloc: Global) -> Result<Vec<Entry>, AllocError>
+    ensures { IfOk result (λ v. v.items ≡ replicate 26 entry.Missing) }
+{
+    let mut entries = Vec::new(alloc);
+    for _ in 0..preset_count() {
+        entries.push(Entry::Missing)?;
+    }
+    Ok(entries)
+}
+
+// Puts an entry into its row.
+fn put(entries: &mut Vec<Entry>, row: u32, entry: Entry)
+    requires { row < length entries.old.items }
+    ensures { entries.new.items ≡ set entries.old.items row entry }
+{
+    entries[row as usize] = entry;
+}
+
+// Takes what a PRESET row derives, where its group holds the asked cpu.
+fn take_preset(
+    alloc: Global,
+    row: &ByteRecord,
+    holds: bool,
+    entries: &mut Vec<Entry>,
+) -> Result<(), Refusal>
+    requires plain { IsReadRow (fields_of row.now) }
+    requires all { length entries.old.items ≡ 26 }
+    ensures { TakesPreset holds (derivation_of (fields_of row.now)) entries.old.items entries.new.items result }
+{
+    if !holds {
+        return Ok(());
+    }
+    if let Some(place) = symbol_row(text_at(row, 1)) {
+        put(entries, place, judge(alloc, row)?);
+    }
+    Ok(())
+}
+
+// Takes a row below the others, for a cpu.
+fn take_row(
+    alloc: Global,
+    cpu: &str,
+    row: Row<'_>,
+    group: &mut Group,
+    entries: &mut Vec<Entry>,
+) -> Result<(), Refusal>
+    requires plain { IsPlainRow row }
+    requires all { length entries.old.items ≡ 26 }
+    ensures { TakesRow cpu.now (row_line row.entry) group.old entries.old.items group.new entries.new.items result }
+{
+    match row {
+        Row::Other => Ok(()),
+        Row::Cpu(name) => {
+            *group = group.with_cpu(cpu.as_bytes() == name);
+            Ok(())
+        }
+        Row::Preset(row) => {
+            if !group.begun {
+                return Err(Refusal::Cause(PresetCause::NoCpu));
+            }
+            *group = group.with_preset();
+            take_preset(alloc, row, group.holds, entries)
+        }
+    }
+}
+
+/// The presets for a cpu of a preset file, or its first faulty row with that row's first cause.
+///
+/// Names of cpus, symbols and derived types are compared exactly. The last row of a symbol gives its entry. Source:
+/// papi_events.csv.
+pub fn read_presets(alloc: Global, bytes: &[u8], cpu: &str) -> Result<PresetTable, PresetFault>
+    ensures { ReadsPresets result bytes.now cpu.now }
+{
+    let rows = read_rows(alloc, bytes)?;
+    let mut group = Group::new();
+    let mut entries = all_missing(alloc)?;
+    for i in 0..rows.len() {
+        match take_row(alloc, cpu, row_of(&rows[i]), &mut group, &mut entries) {
+            Ok(()) => {}
+            Err(refusal) => return Err(fault_at(i, refusal)),
+        }
+    }
+    Ok(PresetTable::new(String::from_str(alloc, cpu)?, entries))
+}
