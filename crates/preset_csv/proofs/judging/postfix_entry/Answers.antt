@@ -9,5 +9,5 @@ new-requires c =
     let natives = map string_bytes c.args.natives.items in
     let n : length natives ≡ length c.args.natives.items = length-map c.args.natives.items string_bytes in
     let count : c.len.result ≡ length natives = omega (arith, n, c.len.ensures) in
-    let read = subst (λ (k : ℕ). formula_of k c.args.formula.now ≡ Ok c.in-Ok.formula) count c.in-Ok.ensures in
+    let read = subst (λ (k : ℕ). formula_of k c.args.formula.now ≡ Ok c.in-Ok.formula) count c.in-Ok.ensures.read in
     record { each = c.requires.each; some = omega (arith, n, c.requires.some); few = omega (arith, n, c.requires.few); agrees = read-agrees natives c.args.formula.now c.in-Ok.formula read }
