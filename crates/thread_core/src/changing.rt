@@ -120,11 +120,11 @@ fn lacks_component(shape: &Shape, change: &Change) -> bool
 }
 
 /// Takes an event away from a set.
-fn remove_event(slot: &mut Slot, book: &PresetBook, shape: &Shape, e: &Named) -> Result<(), Code>
-    requires view { slot.old.set ≡ set_view book.now shape.now slot.old.set.rest }
-    ensures changed { OnOk result (slot.new ≡ slot_after book.now shape.now (change.Remove e.now) slot.old) }
-    ensures taken { OnOk result (change_refusal book.now shape.now (change.Remove e.now) slot.old.set.rest ≡ None) }
-    ensures refused { IfErr result (λ c. change_refusal book.now shape.now (change.Remove e.now) slot.old.set.rest ≡ Some c) }
+fn remove_event(slot: &mut Slot, book: &PresetBook, _shape: &Shape, e: &Named) -> Result<(), Code>
+    requires view { slot.old.set ≡ set_view book.now _shape.now slot.old.set.rest }
+    ensures changed { OnOk result (slot.new ≡ slot_after book.now _shape.now (change.Remove e.now) slot.old) }
+    ensures taken { OnOk result (change_refusal book.now _shape.now (change.Remove e.now) slot.old.set.rest ≡ None) }
+    ensures refused { IfErr result (λ c. change_refusal book.now _shape.now (change.Remove e.now) slot.old.set.rest ≡ Some c) }
     ensures unchanged { OnErr result (slot.new ≡ slot.old) }
 {
     match e {
