@@ -7,3 +7,8 @@ pub mod Judged
 pub mod TableKept
 pub mod OneMore
 pub mod RowsTaken
+pub mod Fields
+pub mod RowBack
+pub mod Back
+pub mod BackWhole
+pub mod WrittenParts

@@ -120,7 +120,7 @@ other-name name n e k = go (bytes_eq name n) (bytes_eq-Decides name n)
     go true d = let same : is_field n ≡ false = subst (λ (t : Text). is_field t ≡ false) (d.0 refl) e in cc (same, k)
     go false d = refl
 
-not-in-group : (name : Text) (above : List Line) → is_field name ≡ false → AllByRecursion IsLine above → list_any (λ n. bytes_eq name n) (group above) ≡ false
+pub not-in-group : (name : Text) (above : List Line) → is_field name ≡ false → AllByRecursion IsLine above → list_any (λ n. bytes_eq name n) (group above) ≡ false
 unfolding group
 not-in-group name [] e h = refl
 not-in-group name (other ∷ rest) e h = not-in-group name rest e h.1

@@ -1,5 +1,5 @@
 -- The presets of some rows and of one row more, with the group of cpus at the end of the rows.
-use Rattle.std.specs.Prelude.{◌≡◌, ◌||◌, ◌&&◌, ◌+◌, ℕ, Bool, true, false, not, List, [], ◌∷◌, set, Option, Some, None, Result, Ok, Err, is_some, if◌then◌else◌}
+use Rattle.std.specs.Prelude.{◌≡◌, ◌++◌, ◌||◌, ◌&&◌, ◌+◌, ℕ, Bool, true, false, not, List, [], ◌∷◌, set, Option, Some, None, Result, Ok, Err, is_some, if◌then◌else◌}
 use Rattle.std.specs.List.{AllByRecursion, list_any}
 use Rattle.std.specs.Str.{bytes_eq}
 use Rattle.csv.specs.Records.{fields_of}
@@ -99,3 +99,8 @@ Judges judgement (Err refusal.Memory) = Unit {0}
 abbrev pub fault_at : ℕ → Refusal → PresetFault
 fault_at place (refusal.Cause why) = fault.Row (place + 1) why
 fault_at place refusal.Memory = fault.Memory
+
+-- fields, each behind a comma
+abbrev pub behind_commas : List Text → Text
+behind_commas [] = []
+behind_commas (field ∷ rest) = 44 ∷ (field ++ behind_commas rest)

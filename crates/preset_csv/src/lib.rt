@@ -13,6 +13,7 @@ mod refusal;
 mod row;
 mod symbol;
 mod table;
+mod writing;
 
 pub use crate::definition::Def;
 pub use crate::entry::Entry;
@@ -20,6 +21,7 @@ pub use crate::fault::{PresetCause, PresetFault, cause_text};
 pub use crate::kind::{DerivedType, Kind, kind_text};
 pub use crate::reading::read_presets;
 pub use crate::table::PresetTable;
+pub use crate::writing::write_presets;
 pub use preset_table::{preset_code, preset_count, preset_row, preset_symbol, preset_text};
 
 #[cfg(test)]

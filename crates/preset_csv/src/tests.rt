@@ -2,6 +2,7 @@
 
 use crate::{
     Entry, Kind, PresetCause, PresetFault, PresetTable, cause_text, preset_row, read_presets,
+    write_presets,
 };
 use postfix_rules::FormulaCause;
 use std::alloc::Global;
@@ -21,6 +22,17 @@ PRESET,PAPI_FOO,NOT_DERIVED,lab::CYCLES\n\
 PRESET,PAPI_L1_DCM,NOT_DERIVED,lab::NO_SUCH\n\
 CPU,other\n\
 PRESET,PAPI_TOT_INS,NOT_DERIVED,lab::CYCLES\n";
+
+const LAB2_WRITTEN: &str = "CPU,lab2\n\
+PRESET,PAPI_L1_DCM,NOT_DERIVED,lab::NO_SUCH\n\
+PRESET,PAPI_BR_MSP,NOT_DERIVED,lab::BR_MISP\n\
+PRESET,PAPI_BR_PRC,DERIVED_POSTFIX,N0|N1|-|,lab::BR_INST:ALL,lab::BR_MISP\n\
+PRESET,PAPI_TOT_INS,NOT_DERIVED,lab::INST_RETIRED\n\
+PRESET,PAPI_BR_INS,NOT_DERIVED,lab::BR_INST:ALL\n\
+PRESET,PAPI_RES_STL,DERIVED_SUB,lab::CYCLES,lab::INST_RETIRED\n\
+PRESET,PAPI_TOT_CYC,NOT_DERIVED,lab::CYCLES\n\
+PRESET,PAPI_LST_INS,DERIVED_ADD,lab::CACHE,lab::INST_RETIRED\n\
+PRESET,PAPI_FP_OPS,DERIVED_CMPD\n";
 
 // What a test sees of a symbol: its entry, with the number of its natives, or that the file is refused.
 #[derive(Clone, Copy, Debug, PartialEq, Eq)]
@@ -217,4 +229,43 @@ fn taken_rows(rt: HostRuntime) {
     for (text, entry) in cases {
         assert!(rt; seen_in(alloc, text, "a", "PAPI_TOT_INS") == entry);
     }
+}
+
+// Whether the presets for a cpu of a file are written as a text.
+fn is_written(alloc: Global, file: &str, cpu: &str, text: &str) -> bool {
+    let Ok(table) = read_presets(alloc, file.as_bytes(), cpu) else {
+        return false;
+    };
+    match write_presets(alloc, &table) {
+        Ok(written) => written.as_slice() == text.as_bytes(),
+        Err(_) => false,
+    }
+}
+
+#[test]
+fn written_tables(rt: HostRuntime) {
+    let alloc = rt.alloc();
+    assert!(rt; is_written(alloc, LAB, "lab2", LAB2_WRITTEN));
+    assert!(rt; is_written(alloc, LAB2_WRITTEN, "lab2", LAB2_WRITTEN));
+    // numbers have no leading zeros, and each token ends in a bar
+    let file = "CPU,a\nPRESET,PAPI_TOT_INS,DERIVED_POSTFIX, N00 | 007|*,x\n";
+    let text = "CPU,a\nPRESET,PAPI_TOT_INS,DERIVED_POSTFIX,N0|7|*|,x\n";
+    assert!(rt; is_written(alloc, file, "a", text));
+    // a name that can stand in no field
+    assert!(rt; is_written(alloc, LAB, "a,b", "CPU,a,b\n"));
+    assert!(rt; is_written(alloc, "CPU,a,b\n", "a,b", "CPU,a,b\n"));
+}
+
+#[test]
+fn missing_entries(rt: HostRuntime) {
+    let alloc = rt.alloc();
+    let mut table = read_presets(alloc, LAB.as_bytes(), "lab1").expect(&rt, "a table");
+    assert!(rt; table.cpu() == "lab1" && table.rows().len() == 26);
+    for row in 1..26 {
+        table.set_missing(row);
+    }
+    let text = write_presets(alloc, &table).expect(&rt, "a text");
+    assert!(rt;
+        text.as_slice() == b"CPU,lab1\nPRESET,PAPI_L1_DCM,NOT_DERIVED,lab::NO_SUCH\n".as_slice()
+    );
 }

@@ -1,0 +1,115 @@
+// A table of presets as a preset file.
+
+ghost use Rattle.std.specs.Prelude.{◌≡◌, ◌∷◌, ◌++◌, [], IfOk, OnOk, map, codes, string_bytes};
+ghost use Rattle.std.specs.Option.{option_copied};
+ghost use Rattle.table_rows.specs.Rows.{rows_text};
+ghost use Rattle.preset_csv.specs.Steps.{behind_commas};
+ghost use Rattle.preset_csv.specs.Written.{ReadsBack, def_fields, entry_rows, formula_fields, table_text};
+
+use crate::definition::Def;
+use crate::entry::Entry;
+use crate::kind::kind_text;
+use crate::table::PresetTable;
+use postfix_rules::{Formula, write_formula};
+use preset_table::preset_symbol;
+use std::alloc::{AllocError, Global};
+
+// A field behind a comma.
+fn put_field(text: &mut Vec<u8>, field: &[u8]) -> Result<(), AllocError>
+    ensures { OnOk result (text.new.items ≡ text.old.items ++ 44 ∷ field.now) }
+{
+    text.push(b',')?;
+    text.extend_from_slice(field)?;
+    Ok(())
+}
+
+// The natives, each behind a comma.
+fn put_natives(text: &mut Vec<u8>, natives: &[String]) -> Result<(), AllocError>
+    ensures { OnOk result (text.new.items ≡ text.old.items ++ behind_commas (map string_bytes natives.now)) }
+{
+    for native in natives {
+        put_field(text, native.as_bytes())?;
+    }
+    Ok(())
+}
+
+// A formula, where there is one, behind a comma.
+fn put_formula(
+    alloc: Global,
+    text: &mut Vec<u8>,
+    formula: Option<&Formula>,
+) -> Result<(), AllocError>
+    ensures { OnOk result (text.new.items ≡ text.old.items ++ behind_commas (formula_fields (option_copied formula.entry))) }
+{
+    match formula {
+        Some(formula) => {
+            let written = write_formula(alloc, formula)?;
+            put_field(text, written.as_bytes())
+        }
+        None => Ok(()),
+    }
+}
+
+// The type, the formula where there is one, and the natives, each behind a comma.
+fn put_def(alloc: Global, text: &mut Vec<u8>, def: &Def) -> Result<(), AllocError>
+    ensures { OnOk result (text.new.items ≡ text.old.items ++ behind_commas (def_fields def.now)) }
+{
+    put_field(text, kind_text(def.kind()).as_bytes())?;
+    put_formula(alloc, text, def.formula())?;
+    put_natives(text, def.natives())
+}
+
+// The row of an entry, and nothing for a missing one.
+fn put_entry(
+    alloc: Global,
+    text: &mut Vec<u8>,
+    symbol: &str,
+    entry: &Entry,
+) -> Result<(), AllocError>
+    ensures { OnOk result (text.new.items ≡ text.old.items ++ rows_text (entry_rows symbol.now entry.now)) }
+{
+    match entry {
+        Entry::Missing => Ok(()),
+        Entry::Uncomputed => {
+            text.extend_from_slice(b"PRESET")?;
+            put_field(text, symbol.as_bytes())?;
+            text.extend_from_slice(b",DERIVED_CMPD\n")?;
+            Ok(())
+        }
+        Entry::Def(def) => {
+            text.extend_from_slice(b"PRESET")?;
+            put_field(text, symbol.as_bytes())?;
+            put_def(alloc, text, def)?;
+            text.push(b'\n')?;
+            Ok(())
+        }
+    }
+}
+
+// The row of a cpu.
+fn cpu_row(alloc: Global, cpu: &str) -> Result<Vec<u8>, AllocError>
+    ensures { IfOk result (λ v. v.items ≡ (codes "CPU" ++ 44 ∷ cpu.now) ++ 10 ∷ []) }
+{
+    let mut text = Vec::new(alloc);
+    text.extend_from_slice(b"CPU")?;
+    put_field(&mut text, cpu.as_bytes())?;
+    text.push(b'\n')?;
+    Ok(text)
+}
+
+/// A table of presets as a preset file: a row for the cpu, and in the table's order a row for each entry that is not
+/// missing.
+///
+/// What is written reads back, under the table's cpu, as the table. An entry that is not computed is written with the
+/// type `DERIVED_CMPD`. Source: papi_events.csv.
+pub fn write_presets(alloc: Global, t: &PresetTable) -> Result<Vec<u8>, AllocError>
+    ensures text { IfOk result (λ v. v.items ≡ table_text t.now) }
+    ensures back { IfOk result (λ v. ReadsBack v.items t.now) }
+{
+    let mut text = cpu_row(alloc, t.cpu())?;
+    let rows = t.rows();
+    for i in 0..rows.len() {
+        put_entry(alloc, &mut text, preset_symbol(i as u32), &rows[i])?;
+    }
+    Ok(text)
+}
