@@ -1,5 +1,5 @@
 -- Places of registers, one by one and all together.
-use Rattle.std.proofs.Common.{◌≡◌, ℕ, zero, suc, ◌+◌, ◌-◌, ◌^◌, ◌<◌, ◌≤◌, inl, inr, List, [], ◌∷◌, length, set, get_or, replicate, refl, ap, ◌∙◌, arith, Option, Some, None, slice_get}
+use Rattle.std.proofs.Common.{◌≡◌, ℕ, zero, suc, ◌+◌, ◌-◌, ◌^◌, ◌<◌, ◌≤◌, inl, inr, List, [], ◌∷◌, length, set, get_or, take, replicate, refl, ap, ◌∙◌, arith, Option, Some, None, slice_get}
 use Rattle.std.specs.Prelude.{unwrap_or, ◌==◌}
 use Rattle.std.proofs.lemmas.Bool.{cases_eq, cond_both, cond-true, cond-false, eq-eqb, ne_eqb, leb-true, leb-false}
 use Rattle.papi_base.proofs.Weights.{weight_of-le}
@@ -118,6 +118,19 @@ AreSound-moved before o ws rs widths small h = record {
   same_length = length-all_moved before o ws rs h.same_length ∙ h.same_length;
   each = λ c lt. rw (at_place-all_moved before o ws rs c h.same_length lt) (moved_place-sound before o (get_or ws c 0) (at_place rs c) (widths.low c lt) small (h.each c lt));
 }
+
+-- the first places of a longer list
+pub at_place-take : (n : ℕ) (rs : List (Option Register)) (c : ℕ) → c < n → at_place (take n rs) c ≡ get_or rs c None
+at_place-take zero rs c h = absurd (omega arith)
+at_place-take (suc n) [] c h = refl
+at_place-take (suc n) (r ∷ rs) zero h = refl
+at_place-take (suc n) (r ∷ rs) (suc c) h = at_place-take n rs c (omega arith)
+
+-- what is programmed on a counter that exists
+pub place_at : (rs : List (Option Register)) (c : ℕ) → c < length rs → slice_get rs c ≡ Some (at_place rs c)
+place_at [] c h = absurd (omega arith)
+place_at (r ∷ rs) zero h = refl
+place_at (r ∷ rs) (suc c) h = place_at rs c (omega arith)
 
 -- a place that is read is sound
 pub place-sound : (ws : List ℕ) (rs : List (Option Register)) (c : ℕ) (r : Option Register) → AreSound ws rs → c < length ws → slice_get rs c ≡ Some r → IsSound (get_or ws c 0) r

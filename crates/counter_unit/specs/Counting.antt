@@ -5,7 +5,6 @@ use Rattle.papi_base.specs.declared.native.Native.{Native}
 use Rattle.papi_base.specs.declared.bits.Domain.{Domain}
 use Rattle.papi_base.specs.Weight.{weight_of}
 use Rattle.counter_unit.specs.declared.registers.Register.{Register}
-use Rattle.counter_unit.specs.declared.registers.After.{After}
 
 -- what contracts see of a unit: for each counter its width, and what is programmed on it, if anything
 pub record UnitView : Type 0 where
@@ -44,6 +43,10 @@ abbrev pub at_place : List (Option Register) → ℕ → Option Register
 at_place registers c = unwrap_or (slice_get registers c) None
 
 -- a place after an occurrence, and whether its register carried
+pub record After : Type 0 where
+  pub place : Option Register
+  pub carried : Bool
+
 abbrev pub moved_place : Option Occ → Occ → ℕ → Option Register → After
 moved_place before o width None = record { place = None; carried = false }
 moved_place before o width (Some r) = record {

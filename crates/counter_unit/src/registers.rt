@@ -1,7 +1,10 @@
 //! A list of at most 32 places for registers.
 ghost use Rattle.std.specs.Prelude.{◌≡◌, ◌<◌, ◌≤◌, length, slice_get, slice_set, replicate, None};
+ghost use Rattle.std.specs.Option.{option_copied};
+ghost use Rattle.counter_unit.specs.Counting.{IsSound, at_place, moved_place};
 
-use papi_base::{Domain, Native};
+use crate::unit::count_place;
+use papi_base::{Domain, Native, Occ};
 use std::marker::Model;
 
 /// A counter that is programmed.
@@ -12,13 +15,6 @@ pub struct Register {
     /// 0 for none.
     pub threshold: u64,
     pub value: u64,
-}
-
-/// A place after an occurrence, and whether its register carried.
-#[derive(Clone, Copy, Debug, PartialEq, Eq)]
-pub struct After {
-    pub place: Option<Register>,
-    pub carried: bool,
 }
 
 /// A place for each counter.
@@ -70,5 +66,17 @@ impl Registers {
         ensures { self.new ≡ slice_set self.old i x }
     {
         self.buf[i as usize] = x;
+    }
+
+    /// Counts one occurrence at a place with this width, and tells whether its register carried.
+    pub fn count(&mut self, i: u32, width: u8, before: Option<&Occ>, o: &Occ) -> bool
+        requires place { i < length self.old }
+        requires low { 16 ≤ width }
+        requires high { width ≤ 48 }
+        requires sound { IsSound width (at_place self.old i) }
+        ensures registers { self.new ≡ slice_set self.old i (moved_place (option_copied before.entry) o.now width (at_place self.old i)).place }
+        ensures carried { result ≡ (moved_place (option_copied before.entry) o.now width (at_place self.old i)).carried }
+    {
+        count_place(&mut self.buf[i as usize], width, before, o)
     }
 }

@@ -6,7 +6,7 @@ ghost use Rattle.papi_base.specs.Weight.{weight_of};
 ghost use Rattle.papi_base.specs.Widths.{AreWidths};
 ghost use Rattle.counter_unit.specs.Counting.{IsThreshold, IsSound, AreSound, beginning, period, at_place, begun, begun_again, moved, carries, moved_place, all_moved, all_carries, bits_of};
 
-use crate::registers::{After, Register, Registers};
+use crate::registers::{Register, Registers};
 use papi_base::{CompShape, Domain, Native, Occ, weight};
 use std::marker::Model;
 
@@ -60,19 +60,22 @@ pub fn beginning_of(width: u8, threshold: u64) -> u64
     room(width) - period_of(width, threshold)
 }
 
-/// What an occurrence does to one place.
-fn count_place(place: Option<Register>, width: u8, before: Option<&Occ>, o: &Occ) -> After
+/// Counts one occurrence at a place, and tells whether its register carried.
+pub(crate) fn count_place(
+    place: &mut Option<Register>,
+    width: u8,
+    before: Option<&Occ>,
+    o: &Occ,
+) -> bool
     requires low { 16 ≤ width }
     requires high { width ≤ 48 }
-    requires sound { IsSound width place }
-    ensures { result ≡ moved_place (option_copied before.entry) o.now width place }
+    requires sound { IsSound width place.old }
+    ensures place { place.new ≡ (moved_place (option_copied before.entry) o.now width place.old).place }
+    ensures carried { result ≡ (moved_place (option_copied before.entry) o.now width place.old).carried }
 {
     match place {
-        None => After {
-            place: None,
-            carried: false,
-        },
-        Some(mut register) => {
+        None => false,
+        Some(register) => {
             let more = u64::from(weight(&register.native, register.domain, before, o));
             let sum = register.value + more;
             let full = room(width);
@@ -82,10 +85,7 @@ fn count_place(place: Option<Register>, width: u8, before: Option<&Occ>, o: &Occ
             } else {
                 sum
             };
-            After {
-                place: Some(register),
-                carried,
-            }
+            carried
         }
     }
 }
@@ -133,9 +133,8 @@ impl Unit {
         let _amount = o.amount;
         let mut carry = 0;
         for c in 0..self.shape.counters() {
-            let after = count_place(self.registers.at(c), self.shape.width(c), before, o);
-            self.registers.put(c, after.place);
-            if after.carried {
+            let width = self.shape.width(c);
+            if self.registers.count(c, width, before, o) {
                 carry |= 1 << c;
             }
         }

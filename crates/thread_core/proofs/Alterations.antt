@@ -1,5 +1,5 @@
 -- A core where a set that does not run is changed.
-use Rattle.std.proofs.Common.{◌≡◌, ℕ, ◌<◌, Bool, true, false, List, length, map, replicate, refl, ap, ap₂, sym, subst, ◌∙◌, Option, Some, None, option_map, slice_set}
+use Rattle.std.proofs.Common.{◌≡◌, ℕ, ◌<◌, Bool, true, false, List, length, refl, ap, ap₂, sym, subst, ◌∙◌, Option, Some, None, option_map, slice_set}
 use Rattle.std.specs.Prelude.{IfErr, OnErr, OnOk, Result, Ok, Err, ⊤, if◌then◌else◌, nat_le, not}
 use Rattle.std.specs.Option.{option_map_or}
 use Rattle.papi_base.specs.declared.code.Code.{Code}
@@ -13,8 +13,6 @@ use Rattle.event_sets.specs.declared.refusal.Refusal.{Refusal}
 use Rattle.event_sets.specs.declared.refusal.Refusal.TheVariants.{Plain}
 use Rattle.event_sets.specs.AtRest.{AtRest, Widths, cannot_arm, emptied, has_event, is_armed, is_bad_domain, is_bad_slice, is_bad_threshold, is_other, set_natives, shares_native, with_threshold, without_event}
 use Rattle.event_sets.specs.Sets.{set_view}
-use Rattle.session_model.specs.declared.call.Call.{Call}
-use Rattle.session_model.specs.declared.call.Call.TheVariants as call
 use Rattle.session_model.specs.Account.{Account, Kept}
 use Rattle.session_model.specs.Changes.{altered, kept_after, new_kept, sets_after}
 use Rattle.session_model.specs.Conditions.{IsGood}

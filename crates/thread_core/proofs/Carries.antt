@@ -1,8 +1,9 @@
 -- Which pins' counters carry.
-use Rattle.std.proofs.Common.{◌≡◌, ℕ, zero, suc, ◌+◌, ◌/◌, ◌<◌, ◌≤◌, Bool, true, false, List, [], ◌∷◌, length, get_or, set, take, drop, ◌++◌, ◌^◌, inl, inr, map, refl, ap, ap₂, sym, ◌∙◌, arith, Option, Some, slice_get}
+use Rattle.std.proofs.Common.{◌≡◌, ℕ, zero, suc, ◌+◌, ◌/◌, ◌<◌, ◌≤◌, Bool, true, false, List, [], ◌∷◌, length, get_or, set, take, drop, ◌++◌, ◌^◌, inl, inr, map, refl, ap, ap₂, sym, ◌∙◌, arith, Option, Some, None, slice_get}
 use Rattle.std.specs.Prelude.{◌==◌, if◌then◌else◌, nat_lt}
 use Rattle.std.specs.Int.{bit_at}
 use Rattle.std.proofs.lemmas.Bool.{cond-true, cond-false, eq-eqb, ne_eqb}
+use Rattle.std.proofs.lemmas.Nat.Bits.{bit_at-zero}
 use Rattle.std.proofs.Math.Pow.{pow_mono}
 use Rattle.papi_base.proofs.InPlace.{in_place_put, in_place_skip, in_place_number, number_at}
 use Rattle.papi_base.specs.declared.occurrence.Occ.{Occ}
@@ -15,6 +16,7 @@ use Rattle.counter_unit.specs.declared.registers.Register.{Register}
 use Rattle.counter_unit.specs.Counting.{at_place, moved_place, all_carries, bits_of, register_at, carries, banked, period, IsThreshold}
 use Rattle.counter_unit.proofs.Counts.{added}
 use Rattle.counter_unit.proofs.Bits.{bit_at-bits_of}
+use Rattle.overflow_dispatch.specs.Passing.{passed_from}
 use Rattle.thread_core.specs.declared.pins.Pin.{Pin}
 use Rattle.thread_core.specs.Pinned.{programs, bank_of, with_carries, ArePinned}
 use Rattle.thread_core.proofs.Programs.{programs-at, length-programs, pinned-tail}
@@ -101,3 +103,19 @@ bank_skip ws carry pins old banks i p e h g isnt done =
 pub threshold_small : (w t : ℕ) → w ≤ 48 → IsThreshold w t → t ≤ 2 ^ 48
 threshold_small w t high (inl none) = omega arith
 threshold_small w t high (inr fits) = let most : 2 ^ w ≤ 2 ^ 48 = pow_mono high in omega (arith, fits.1)
+
+-- where no counter carries, banks stay and nothing is passed
+pub with_carries-none : (ws : List ℕ) (carry : ℕ) (pins : List Pin) (banks : List ℕ) → carry ≡ 0 → length banks ≡ length pins → with_carries ws carry pins banks ≡ banks
+with_carries-none ws carry [] [] none e = refl
+with_carries-none ws carry [] (b ∷ bs) none e = absurd (omega arith)
+with_carries-none ws carry (p ∷ ps) [] none e = refl
+with_carries-none ws carry (p ∷ ps) (b ∷ bs) none e =
+    let stays : (bit_at carry p.counter == 1) ≡ false = ap (λ (x : ℕ). bit_at x p.counter == 1) none ∙ ap (λ (x : ℕ). x == 1) (bit_at-zero p.counter) in
+    ap₂ ◌∷◌ (cond-false (bit_at carry p.counter == 1) (b + period (get_or ws p.counter 0) p.threshold) b stays) (with_carries-none ws carry ps bs none (omega arith))
+
+pub passed-none : (index carry : ℕ) (counters : List (Option ℕ)) → carry ≡ 0 → passed_from index carry counters ≡ []
+passed-none index carry [] none = refl
+passed-none index carry (None ∷ counters) none = passed-none (index + 1) carry counters none
+passed-none index carry (Some c ∷ counters) none =
+    let stays : (bit_at carry c == 1) ≡ false = ap (λ (x : ℕ). bit_at x c == 1) none ∙ ap (λ (x : ℕ). x == 1) (bit_at-zero c) in
+    cond-false (bit_at carry c == 1) (index ∷ passed_from (index + 1) carry counters) (passed_from (index + 1) carry counters) stays ∙ passed-none (index + 1) carry counters none

@@ -1,13 +1,13 @@
 -- The numbers and the values that a core shows are those of the account: PAPI_read(3).
-use Rattle.std.proofs.Common.{◌≡◌, ℕ, ℤ, zero, suc, ◌+◌, ◌-◌, ◌*◌, ◌/◌, ◌^◌, ◌<◌, ◌≤◌, ◌⊎◌, inl, inr, Bool, true, false, List, [], ◌∷◌, length, get_or, map, take, replicate, refl, ap, ap₂, sym, subst, ◌∙◌, arith, Option, Some, None, option_map, slice_get}
+use Rattle.std.proofs.Common.{◌≡◌, ℕ, zero, suc, ◌+◌, ◌-◌, ◌*◌, ◌/◌, ◌^◌, ◌<◌, ◌≤◌, ◌⊎◌, inl, inr, Bool, true, false, List, [], ◌∷◌, length, get_or, map, take, replicate, refl, ap, ap₂, sym, subst, ◌∙◌, arith, Option, Some, None, option_map, slice_get}
 use Rattle.std.specs.Prelude.{All, pos, unwrap_or, ◌&&◌, ◌==◌}
 use Rattle.std.specs.Option.{option_and_then, option_map_or}
 use Rattle.std.specs.List.{position_or_len}
 use Rattle.std.proofs.Math.Nat.{div-le_of_le-mul}
-use Rattle.std.proofs.lemmas.Bool.{cases_Bool, cases_eq, cond-true, cond-false, eq-eqb, ne_eqb, and_from}
+use Rattle.std.proofs.lemmas.Bool.{cases_Bool, cases_eq, cond-true, cond-false, eq-eqb, ne_eqb}
 use Rattle.std.proofs.lemmas.List.{length-map, length-replicate}
 use Rattle.std.proofs.lemmas.List.Elements.{All-map}
-use Rattle.std.proofs.lemmas.Option.{get_or_from_slice_get, slice_get_within}
+use Rattle.std.proofs.lemmas.Option.{get_or_from_slice_get}
 use Rattle.papi_base.specs.declared.native.Native.{Native}
 use Rattle.papi_base.specs.declared.native.EventRef.{EventRef}
 use Rattle.papi_base.specs.declared.occurrence.Occ.{Occ}
@@ -20,32 +20,31 @@ use Rattle.multiplex.specs.Rotations.{RotationView}
 use Rattle.multiplex.specs.Turns.{Turns, active, estimate, weight_in_turn}
 use Rattle.postfix_rules.specs.Presets.{Book, event_value, natives_of_event, rule_of_event}
 use Rattle.postfix_rules.specs.Rules.{rule_value}
-use Rattle.postfix_rules.specs.Sameness.{among, same_native}
+use Rattle.postfix_rules.specs.Sameness.{same_native}
 use Rattle.postfix_rules.proofs.Joined.{each_is_among, is_among}
 use Rattle.event_sets.specs.Agreement.{IsHeld}
 use Rattle.event_sets.specs.Assigning.{counters_for}
-use Rattle.event_sets.specs.AtRest.{AtRest, Widths, set_natives, widths_at}
+use Rattle.event_sets.specs.AtRest.{AtRest, set_natives, widths_at}
 use Rattle.event_sets.specs.Sets.{SetView}
 use Rattle.session_model.specs.Account.{Account, Kept, clock, end, last_after, time_after}
 use Rattle.session_model.specs.Bounds.{AreApart, IsWithin, Rises}
 use Rattle.session_model.specs.Counts.{count, weighed}
-use Rattle.session_model.specs.Estimates.{estimated_in, total, turns_of}
+use Rattle.session_model.specs.Estimates.{total, turns_of}
 use Rattle.session_model.specs.Faces.{Face, at, face_of, faces_of, runs_on}
 use Rattle.session_model.specs.Fitness.{IsFit}
 use Rattle.session_model.specs.Values.{measured, values_of}
 use Rattle.session_laws.proofs.CountsInTurns.{counts_per_tick}
 use Rattle.session_laws.proofs.Pushing.{clock_now}
-use Rattle.thread_core.specs.declared.pins.Pin.{Pin}
 use Rattle.thread_core.specs.declared.slot.Slot.{Slot}
 use Rattle.thread_core.specs.CoreView.{CoreView}
 use Rattle.thread_core.specs.Countable.{IsCountable}
 use Rattle.thread_core.specs.Pinned.{ArePinned, bank_of, pins_from, pins_of}
-use Rattle.thread_core.specs.Shown.{IsInTurns, IsMeasurable, IsTellable, number_in, numbers_shown, pin_numbers, running_numbers, turn_numbers, unit_numbers, values_shown}
-use Rattle.thread_core.specs.Slots.{face_of_slot, numbers_of, rotation_of, running_slot, slot_of, stopped_slot, turned}
+use Rattle.thread_core.specs.Shown.{IsInTurns, IsTellable, number_in, numbers_shown, pin_numbers, running_numbers, turn_numbers, unit_numbers, values_shown}
+use Rattle.thread_core.specs.Slots.{numbers_of, rotation_of, running_slot, slot_of, stopped_slot, turned}
 use Rattle.thread_core.specs.Stands.{AgreesWith, CoreStands}
-use Rattle.thread_core.specs.Units.{owner_from, registers_by, runner, running_registers, unit_at, units_of}
+use Rattle.thread_core.specs.Units.{owner_from, registers_by, runner, running_registers, unit_at}
 use Rattle.thread_core.proofs.Extending.{rest_same, set_same, slot_at}
-use Rattle.thread_core.proofs.Lists.{all_at, all_by, at-some, get-map_some, get_at, map_same_on, same_some}
+use Rattle.thread_core.proofs.Lists.{all_at, at-some, get-map_some, get_at, map_same_on, same_some}
 use Rattle.thread_core.proofs.Occurring.{get-units}
 use Rattle.thread_core.proofs.Owners.{face_same, other_runs, owner_none, runner-some, runs_by}
 use Rattle.thread_core.proofs.Placing.{get_position, pinned, placed, position_is}

@@ -88,6 +88,9 @@ fn count_slot(unit: &mut Unit, slot: &mut Slot, before: Option<&Occ>, o: &Occ) -
         }
         None => {
             let carry = unit.step(before, o);
+            if carry == 0 {
+                return Passed::new();
+            }
             bank_carries(&mut slot.kept, &slot.pins, unit, carry);
             slot.armed.passed(carry)
         }

@@ -1,32 +1,31 @@
-use Rattle.std.proofs.Common.{◌≡◌, ℕ, get_or, List, refl, ap, ◌∙◌, arith, Some, slice_get}
+use Rattle.std.proofs.Common.{◌≡◌, ℕ, get_or, List, Option, None, refl, ap, ap₂, sym, ◌∙◌, arith, Some, slice_get}
+use Rattle.std.specs.Prelude.{unwrap_or}
 use Rattle.std.specs.Option.{option_copied}
 use Rattle.std.proofs.lemmas.List.{take_all, drop_all, append-nil}
-use Rattle.papi_base.proofs.InPlace.{in_place_length, in_place_put, in_place_read}
-use Rattle.counter_unit.specs.Counting.{moved_place, all_moved, all_carries, bits_of}
-use Rattle.counter_unit.proofs.Places.{length-all_moved, length-all_carries, get-all_moved, get-all_carries, AreSound-moved, place-sound}
+use Rattle.papi_base.proofs.InPlace.{in_place_get, in_place_length, in_place_put}
+use Rattle.counter_unit.specs.declared.registers.Register.{Register}
+use Rattle.counter_unit.specs.Counting.{After, all_carries, all_moved, at_place, bits_of, moved_place}
+use Rattle.counter_unit.proofs.Places.{AreSound-moved, get-all_carries, get-all_moved, length-all_carries, length-all_moved, place_at}
 use Rattle.counter_unit.proofs.Bits.{bits_put, bits_stay}
 use Rattle.counter_unit.proofs.unit.Unit.step.Goals as goal
-use Rattle.counter_unit.proofs.unit.Unit.step.Goals.{then-after, else-after}
+use Rattle.counter_unit.proofs.unit.Unit.step.Goals.{then-count, else-count}
 
-pub at-requires : goal.at-requires
-at-requires c =
+pub count-requires-clause-place : goal.count-requires-clause-place
+count-requires-clause-place c =
     let same = length-all_moved (option_copied c.args.before) c.args.o.now c.self.inside.shape c.self.inside.registers c.self.invariant.same_length in
     let now = in_place_length _ c.self.inside.registers c.loop-c.c same (omega arith) in
     rw c.loop-c.invariant.registers (omega (arith, now))
 
-pub put-requires : goal.put-requires
-put-requires c =
-    let same = length-all_moved (option_copied c.args.before) c.args.o.now c.self.inside.shape c.self.inside.registers c.self.invariant.same_length in
-    let now = in_place_length _ c.self.inside.registers c.loop-c.c same (omega arith) in
-    rw c.loop-c.invariant.registers (omega (arith, now))
-
-pub count_place-after-requires-clause-sound : goal.count_place-after-requires-clause-sound
-count_place-after-requires-clause-sound c =
+-- a place that is still to be counted is as it was
+pub count-requires-clause-sound : goal.count-requires-clause-sound
+count-requires-clause-sound c =
     let ws = c.self.inside.shape in
     let rs = c.self.inside.registers in
+    let new = all_moved (option_copied c.args.before) c.args.o.now ws rs in
     let same = length-all_moved (option_copied c.args.before) c.args.o.now ws rs c.self.invariant.same_length in
-    let read = in_place_read (all_moved (option_copied c.args.before) c.args.o.now ws rs) rs c.loop-c.self-inside.registers c.loop-c.c c.at.result same (omega arith) c.loop-c.invariant.registers c.at.ensures in
-    rw (c.width.ensures.width, c.loop-c.invariant.shape) (place-sound ws rs c.loop-c.c c.at.result c.self.invariant (omega arith) read)
+    let still : at_place c.loop-c.self-inside.registers c.loop-c.c ≡ at_place rs c.loop-c.c = ap (λ (xs : List (Option Register)). at_place xs c.loop-c.c) c.loop-c.invariant.registers ∙ ap (λ (x : Option (Option Register)). unwrap_or x None) (in_place_get new rs c.loop-c.c same (omega arith)) in
+    let width : c.width-width.result ≡ get_or ws c.loop-c.c 0 = c.width-width.ensures.width ∙ ap (λ (xs : List ℕ). get_or xs c.loop-c.c 0) c.loop-c.invariant.shape in
+    rw (still, width) (c.self.invariant.each c.loop-c.c (omega arith))
 
 pub loop-c-preserved : goal.loop-c-preserved
 loop-c-preserved c =
@@ -34,18 +33,21 @@ loop-c-preserved c =
     let o = c.args.o.now in
     let ws = c.self.inside.shape in
     let rs = c.self.inside.registers in
+    let i = c.loop-c.c in
+    let new = all_moved before o ws rs in
     let same = length-all_moved before o ws rs c.self.invariant.same_length in
-    let read = in_place_read (all_moved before o ws rs) rs c.loop-c.self-inside.registers c.loop-c.c c.at.result same (omega arith) c.loop-c.invariant.registers c.at.ensures in
-    let width : c.width.result ≡ get_or ws c.loop-c.c 0 = c.width.ensures.width ∙ ap (λ (xs : List ℕ). get_or xs c.loop-c.c 0) c.loop-c.invariant.shape in
-    let after : c.count_place-after.result ≡ moved_place before o (get_or ws c.loop-c.c 0) c.at.result = c.count_place-after.ensures ∙ ap (λ w. moved_place before o w c.at.result) width in
-    let moved : slice_get (all_moved before o ws rs) c.loop-c.c ≡ Some c.count_place-after.result.place = rw after (get-all_moved before o ws rs c.loop-c.c c.at.result c.self.invariant.same_length read) in
-    let carried : slice_get (all_carries before o ws rs) c.loop-c.c ≡ Some c.count_place-after.result.carried = rw after (get-all_carries before o ws rs c.loop-c.c c.at.result c.self.invariant.same_length read) in
+    let still : at_place c.loop-c.self-inside.registers i ≡ at_place rs i = ap (λ (xs : List (Option Register)). at_place xs i) c.loop-c.invariant.registers ∙ ap (λ (x : Option (Option Register)). unwrap_or x None) (in_place_get new rs i same (omega arith)) in
+    let width : c.width-width.result ≡ get_or ws i 0 = c.width-width.ensures.width ∙ ap (λ (xs : List ℕ). get_or xs i 0) c.loop-c.invariant.shape in
+    let is : moved_place before o c.width-width.result (at_place c.loop-c.self-inside.registers i) ≡ moved_place before o (get_or ws i 0) (at_place rs i) = ap₂ (moved_place before o) width still in
+    let read = place_at rs i (omega arith) in
+    let moved : slice_get new i ≡ Some (moved_place before o c.width-width.result (at_place c.loop-c.self-inside.registers i)).place = get-all_moved before o ws rs i (at_place rs i) c.self.invariant.same_length read ∙ sym (ap (λ (a : After). Some a.place) is) in
+    let carried : slice_get (all_carries before o ws rs) i ≡ Some c.count.result = get-all_carries before o ws rs i (at_place rs i) c.self.invariant.same_length read ∙ sym (ap Some (c.count.ensures.carried ∙ ap (λ (a : After). a.carried) is)) in
     record {
       shape = c.loop-c.invariant.shape;
-      registers = c.put.ensures ∙ in_place_put (all_moved before o ws rs) rs c.loop-c.self-inside.registers c.loop-c.c c.count_place-after.result.place same (omega arith) c.loop-c.invariant.registers moved;
-      carry = elim c.if-after.branch [
-        | then-after w ↦ rw w.carry-is (bits_put (all_carries before o ws rs) c.loop-c.c c.loop-c.carry (omega arith) (rw (← w.if-after.true) carried) c.loop-c.invariant.carry)
-        | else-after w ↦ rw w.carry-is (bits_stay (all_carries before o ws rs) c.loop-c.c c.loop-c.carry (rw (← w.if-after.false) carried) c.loop-c.invariant.carry)
+      registers = c.count.ensures.registers ∙ in_place_put new rs c.loop-c.self-inside.registers i _ same (omega arith) c.loop-c.invariant.registers moved;
+      carry = elim c.if-count.branch [
+        | then-count w ↦ rw w.carry-is (bits_put (all_carries before o ws rs) i c.loop-c.carry (omega arith) (rw (← w.if-count.true) carried) c.loop-c.invariant.carry)
+        | else-count w ↦ rw w.carry-is (bits_stay (all_carries before o ws rs) i c.loop-c.carry (rw (← w.if-count.false) carried) c.loop-c.invariant.carry)
       ];
     }
 

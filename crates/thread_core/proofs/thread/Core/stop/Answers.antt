@@ -1,11 +1,9 @@
-use Rattle.std.proofs.Common.{◌≡◌, ◌<◌, ◌≤◌, ℕ, List, Option, Some, None, ap, sym, subst, ◌∙◌, length}
+use Rattle.std.proofs.Common.{◌≡◌, ◌<◌, ℕ, None, sym, subst, length}
 use Rattle.session_model.specs.declared.call.Call.TheVariants as call
 use Rattle.session_model.specs.declared.reply.Body.TheVariants as body
 use Rattle.session_model.specs.Account.{time_after}
-use Rattle.session_model.specs.Faces.{at}
 use Rattle.session_model.specs.Refusals.{refusal_of}
 use Rattle.session_model.specs.Replies.{done}
-use Rattle.thread_core.specs.declared.slot.Slot.{Slot}
 use Rattle.thread_core.specs.CoreView.{CoreView}
 use Rattle.thread_core.specs.Following.{Follows}
 use Rattle.thread_core.specs.Refusing.{slot_faces}
