@@ -1,0 +1,4 @@
+mod Deriving
+mod Keeping
+mod Mentions
+mod Naming

@@ -11,6 +11,8 @@ use Rattle.event_tables.specs.Tables.{ComponentText}
 use Rattle.name_encoder.specs.declared.fault.NameFault.{NameFault}
 use Rattle.name_encoder.specs.Names.{code_of, names}
 use Rattle.postfix_rules.specs.Presets.{Book, entry}
+use Rattle.preset_csv.specs.Tables.{TableView}
+use Rattle.component_table.specs.Books.{book_of}
 use Rattle.preset_table.specs.Table.{row_of}
 
 -- a unit's tables, and what is derived under each row of the preset table
@@ -18,9 +20,10 @@ pub record CatalogView : Type 0 where
   pub tables : List ComponentText
   pub book : Book
 
--- the catalog of a unit without presets
-abbrev pub catalog_of : List ComponentText → CatalogView
-catalog_of tables = record { tables = tables; book = [] }
+-- the catalog of a unit, with the presets for a cpu or without any
+abbrev pub catalog_of : List ComponentText → Option TableView → CatalogView
+catalog_of tables None = record { tables = tables; book = [] }
+catalog_of tables (Some presets) = record { tables = tables; book = book_of tables presets.rows }
 
 -- the components' counters, by their widths
 abbrev pub shape_of : List ComponentText → List (List ℕ)

@@ -1,7 +1,10 @@
+pub mod Books
 pub mod Catalogs
 pub mod EventNames
+pub mod Codes
 pub use Rattle.event_tables.specs.Tables
 pub use Rattle.name_encoder.specs.Names
 pub use Rattle.name_encoder.specs.Canonical
 pub use Rattle.postfix_rules.specs.Presets
+pub use Rattle.preset_csv.specs.Tables as PresetTables
 pub use Rattle.preset_table.specs.Table

@@ -1,6 +1,7 @@
 //! A unit's events and the presets over them.
 
 ghost use Rattle.std.specs.Prelude.{◌≡◌, IfOk, string_bytes};
+ghost use Rattle.component_table.specs.Books.{available_only, is_available, is_derived};
 ghost use Rattle.component_table.specs.Catalogs as Catalogs;
 ghost use Rattle.component_table.specs.Catalogs.{catalog_of, looked_up, preset_looked_up};
 ghost use Rattle.component_table.specs.EventNames as EventNames;
@@ -9,10 +10,12 @@ ghost use Rattle.event_tables.specs.Tables.{shape_of};
 ghost use Rattle.preset_table.specs.Table as Table;
 ghost use Rattle.session_model.specs.Conditions.{IsNamed};
 
+use crate::derivation::book_of;
 use event_tables::Tables;
 use name_encoder::{cause_code, encode, write_name};
 use papi_base::{Code, EventRef, Shape};
-use postfix_rules::PresetBook;
+use postfix_rules::{PresetBook, Rule};
+use preset_csv::PresetTable;
 use preset_table::{preset_count, preset_row, preset_symbol};
 use std::alloc::{AllocError, Global};
 use std::marker::Model;
@@ -55,14 +58,20 @@ fn symbol_of(row: u32) -> &'static str
 }
 
 impl Catalog {
-    /// The catalog of a unit without presets.
-    pub fn build(alloc: Global, tables: Tables) -> Result<Catalog, AllocError>
-        ensures catalog { IfOk result (λ c. c ≡ catalog_of tables) }
+    /// The catalog of a unit, with the presets for a cpu or without any.
+    pub fn build(
+        alloc: Global,
+        tables: Tables,
+        presets: Option<PresetTable>,
+    ) -> Result<Catalog, AllocError>
+        ensures catalog { IfOk result (λ c. c ≡ catalog_of tables presets) }
     {
-        Ok(Catalog {
-            tables,
-            book: PresetBook::new(Vec::new(alloc)),
-        })
+        let rows = match presets {
+            Some(presets) => presets.into_rows(),
+            None => Vec::new(alloc),
+        };
+        let book = book_of(alloc, &tables, rows)?;
+        Ok(Catalog { tables, book })
     }
 
     /// The tables of the unit.
@@ -78,6 +87,37 @@ impl Catalog {
         ensures fits { BookFits (shape_of self.now.tables) self.now.book }
     {
         &self.book
+    }
+
+    /// Whether the preset in a row of the preset table is available.
+    pub fn available(&self, row: u32) -> bool
+        ensures available { result ≡ is_available self.now.book row }
+    {
+        self.book.get(row).is_some()
+    }
+
+    /// Whether the preset in a row of the preset table is available, and of another kind than `NotDerived`.
+    pub fn derived(&self, row: u32) -> bool
+        ensures derived { result ≡ is_derived self.now.book row }
+    {
+        match self.book.get(row) {
+            Some(derived) => !matches!(derived.rule(), Rule::Plain),
+            None => false,
+        }
+    }
+
+    /// A table of presets with a missing entry in place of each that is not available.
+    pub fn only_available(&self, presets: PresetTable) -> PresetTable
+        ensures available { result ≡ available_only self.now.book presets }
+    {
+        let mut presets = presets;
+        let _rows = presets.rows();
+        for row in 0..preset_count() {
+            if !self.available(row) {
+                presets.set_missing(row);
+            }
+        }
+        presets
     }
 
     /// The components' counters and their widths.

@@ -1,9 +1,12 @@
-//! The catalog of events: what an event's text names, and what an event is called.
+//! The catalog of events: what an event's text names, what an event is called, and the codes of native events.
 #![tactic(auto)]
 
 pub mod catalog;
+mod derivation;
+pub mod native_codes;
 
 pub use catalog::Catalog;
+pub use native_codes::NativeCodes;
 
 #[cfg(test)]
 mod tests;

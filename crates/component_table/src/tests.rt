@@ -1,7 +1,8 @@
-//! A catalog over a small unit.
-use crate::Catalog;
+//! A catalog over a small unit, and the codes of its native events.
+use crate::{Catalog, NativeCodes};
 use event_tables::{Tables, read_unit};
-use papi_base::Code;
+use name_encoder::encode;
+use papi_base::{Code, Native};
 use std::alloc::Global;
 
 const UNIT: &[u8] =
@@ -21,7 +22,7 @@ fn name_of(alloc: Global, catalog: &Catalog, text: &str) -> Result<String, Code>
 fn names_of_events(rt: HostRuntime) {
     let alloc = rt.alloc();
     let tables = unit(alloc).expect(&rt, "a unit");
-    let catalog = Catalog::build(alloc, tables).expect(&rt, "memory");
+    let catalog = Catalog::build(alloc, tables, None).expect(&rt, "memory");
     for (text, name) in [
         ("br_inst", "lab::BR_INST:ALL"),
         ("cpu:::BR_INST:taken:u", "lab::BR_INST:TAKEN:u"),
@@ -41,5 +42,37 @@ fn names_of_events(rt: HostRuntime) {
             Ok(_) => assert!(rt; false),
             Err(refused) => assert!(rt; refused == code),
         }
+    }
+}
+
+fn mentioned(codes: &mut NativeCodes, native: Native) -> Option<u32> {
+    if codes.count() == 0x40000000 {
+        return None;
+    }
+    codes.mention(native).ok()
+}
+
+#[test]
+fn codes_of_native_events(rt: HostRuntime) {
+    let alloc = rt.alloc();
+    let tables = unit(alloc).expect(&rt, "a unit");
+    let mut codes = NativeCodes::new(alloc);
+    for (text, code, count) in [
+        ("BR_INST:ALL", 0x40000000, 1),
+        ("BR_INST:TAKEN", 0x40000001, 2),
+        ("lab::br_inst", 0x40000000, 2),
+        ("BR_INST:ALL:u", 0x40000002, 3),
+    ] {
+        let Ok(native) = encode(&tables, text) else {
+            assert!(rt; false);
+            return;
+        };
+        assert!(rt; mentioned(&mut codes, native) == Some(code));
+        assert!(rt; codes.count() == count);
+        assert!(rt; codes.code_of(&native) == Some(code));
+        assert!(rt; codes.native_of(code, count) == Some(native));
+    }
+    for (code, first) in [(0x3fffffff, 3), (0x40000001, 1), (0x40000003, 4)] {
+        assert!(rt; codes.native_of(code, first).is_none());
     }
 }

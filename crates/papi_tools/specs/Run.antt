@@ -1,5 +1,5 @@
 -- What `papi_run` comes to: the replies to its script's lines, the marks that its runs met, and the notes of each thread.
-use Rattle.std.specs.Prelude.{List, [], Result, Ok, Err}
+use Rattle.std.specs.Prelude.{List, [], None, Result, Ok, Err}
 use Rattle.papi_base.specs.Outside.{Held}
 use Rattle.overflow_dispatch.specs.declared.handler.Note.{Note}
 use Rattle.session_model.specs.World.{Told}
@@ -21,7 +21,7 @@ pub record Verdict : Type 0 where
   pub notes : List (List Note)
 
 abbrev pub catalog_in : RunGiven → CatalogView
-catalog_in given = catalog_of given.tables
+catalog_in given = catalog_of given.tables None
 
 -- what one thread tells that goes through the whole script in order
 abbrev pub told_in : RunGiven → List Told

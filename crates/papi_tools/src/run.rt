@@ -63,7 +63,7 @@ fn carry_out<R: Threads + Sync, F: Files>(
         sources,
     } = input;
     let readers = readers_of(alloc, sources)?;
-    let catalog = Catalog::build(alloc, tables)?;
+    let catalog = Catalog::build(alloc, tables, None)?;
     let plan = resolve(alloc, &script, &catalog)?;
     let shape = catalog.shape();
     let run = run_plan(

@@ -13,7 +13,7 @@ const UNIT: &[u8] =
 
 fn catalog(alloc: Global) -> Option<Catalog> {
     let tables = read_unit(alloc, UNIT).ok()?;
-    Catalog::build(alloc, tables).ok()
+    Catalog::build(alloc, tables, None).ok()
 }
 
 // The native events of some texts.

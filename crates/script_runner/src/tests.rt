@@ -10,7 +10,7 @@ const UNIT: &[u8] = b"COMPONENT,cpu,lab\nCOUNTER,P0,16,P\nEVENT,CYCLES,3c,P0,x\n
 
 fn catalog(alloc: Global) -> Option<Catalog> {
     let tables = read_unit(alloc, UNIT).ok()?;
-    Catalog::build(alloc, tables).ok()
+    Catalog::build(alloc, tables, None).ok()
 }
 
 #[test]

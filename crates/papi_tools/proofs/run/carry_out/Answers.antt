@@ -1,4 +1,4 @@
-use Rattle.std.proofs.Common.{◌∙◌, ap, rules}
+use Rattle.std.proofs.Common.{◌∙◌, ap, rules, None}
 use Rattle.component_table.specs.Catalogs.{catalog_of}
 use Rattle.plan_runner.specs.Plans.{AreThreads}
 use Rattle.papi_tools.specs.Run.{ran_notes}
@@ -9,7 +9,7 @@ use Rattle.papi_tools.proofs.run.carry_out.Goals as goal
 pub returns-in_err-run-clause-begun : goal.returns-in_err-run-clause-begun
 unfolding ran_notes
 returns-in_err-run-clause-begun g c given is =
-    c.in_err-run.ensures.begun _ _ _ (tells c.in_ok-catalog.catalog c.args.input.script given _ _ _ _ (c.in_ok-catalog.ensures.catalog ∙ ap catalog_of is.tables) is.script c.book.ensures.book c.shape-shape.ensures.shape c.in_ok-plan.ensures.plan (c.in_ok-readers.ensures.told given.tapes is.tapes))
+    c.in_err-run.ensures.begun _ _ _ (tells c.in_ok-catalog.catalog c.args.input.script given _ _ _ _ (c.in_ok-catalog.ensures.catalog ∙ ap (λ tables. catalog_of tables None) is.tables) is.script c.book.ensures.book c.shape-shape.ensures.shape c.in_ok-plan.ensures.plan (c.in_ok-readers.ensures.told given.tapes is.tapes))
 
 pub said_of-requires : goal.said_of-requires
 said_of-requires g c =
@@ -18,18 +18,18 @@ said_of-requires g c =
 
 pub returns-clause-told : goal.returns-clause-told
 returns-clause-told g c given is =
-    rw (ran_is c.in_ok-catalog.catalog c.args.input.script given c.in_ok-plan.plan _ (c.in_ok-catalog.ensures.catalog ∙ ap catalog_of is.tables) is.script
-    (c.in_ok-run.ensures.replies _ _ _ (tells c.in_ok-catalog.catalog c.args.input.script given _ _ _ _ (c.in_ok-catalog.ensures.catalog ∙ ap catalog_of is.tables) is.script c.book.ensures.book c.shape-shape.ensures.shape c.in_ok-plan.ensures.plan (c.in_ok-readers.ensures.told given.tapes is.tapes))) c.in_ok-plan.ensures.heads) at c.said_of.ensures.said
+    rw (ran_is c.in_ok-catalog.catalog c.args.input.script given c.in_ok-plan.plan _ (c.in_ok-catalog.ensures.catalog ∙ ap (λ tables. catalog_of tables None) is.tables) is.script
+    (c.in_ok-run.ensures.replies _ _ _ (tells c.in_ok-catalog.catalog c.args.input.script given _ _ _ _ (c.in_ok-catalog.ensures.catalog ∙ ap (λ tables. catalog_of tables None) is.tables) is.script c.book.ensures.book c.shape-shape.ensures.shape c.in_ok-plan.ensures.plan (c.in_ok-readers.ensures.told given.tapes is.tapes))) c.in_ok-plan.ensures.heads) at c.said_of.ensures.said
 
 pub returns-clause-notes : goal.returns-clause-notes
 unfolding ran_notes
 returns-clause-notes g c given is =
-    on_ok _ (c.in_ok-run.ensures.notes _ _ _ (tells c.in_ok-catalog.catalog c.args.input.script given _ _ _ _ (c.in_ok-catalog.ensures.catalog ∙ ap catalog_of is.tables) is.script c.book.ensures.book c.shape-shape.ensures.shape c.in_ok-plan.ensures.plan (c.in_ok-readers.ensures.told given.tapes is.tapes)))
+    on_ok _ (c.in_ok-run.ensures.notes _ _ _ (tells c.in_ok-catalog.catalog c.args.input.script given _ _ _ _ (c.in_ok-catalog.ensures.catalog ∙ ap (λ tables. catalog_of tables None) is.tables) is.script c.book.ensures.book c.shape-shape.ensures.shape c.in_ok-plan.ensures.plan (c.in_ok-readers.ensures.told given.tapes is.tapes)))
 
 pub returns-clause-begun : goal.returns-clause-begun
 unfolding ran_notes
 returns-clause-begun g c given is =
-    c.in_ok-run.ensures.begun _ _ _ (tells c.in_ok-catalog.catalog c.args.input.script given _ _ _ _ (c.in_ok-catalog.ensures.catalog ∙ ap catalog_of is.tables) is.script c.book.ensures.book c.shape-shape.ensures.shape c.in_ok-plan.ensures.plan (c.in_ok-readers.ensures.told given.tapes is.tapes))
+    c.in_ok-run.ensures.begun _ _ _ (tells c.in_ok-catalog.catalog c.args.input.script given _ _ _ _ (c.in_ok-catalog.ensures.catalog ∙ ap (λ tables. catalog_of tables None) is.tables) is.script c.book.ensures.book c.shape-shape.ensures.shape c.in_ok-plan.ensures.plan (c.in_ok-readers.ensures.told given.tapes is.tapes))
 
 pub returns-clause-met : goal.returns-clause-met
 returns-clause-met g c =

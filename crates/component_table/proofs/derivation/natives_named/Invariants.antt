@@ -1,0 +1,8 @@
+use Rattle.std.proofs.Common.{All, map, string_bytes}
+use Rattle.event_sets.specs.Agreement.{Fits}
+use Rattle.event_tables.specs.Tables.{shape_of}
+use Rattle.component_table.proofs.Naming.{Named}
+use Rattle.component_table.proofs.derivation.natives_named.Given as goal
+
+abbrev pub invariant-loop-text : goal.invariant-loop-text
+invariant-loop-text l = record { named : Named l.tables (map string_bytes l.texts) l.text-index l.natives; fit : All (Fits (shape_of l.tables)) l.natives }

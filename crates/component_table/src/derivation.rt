@@ -1,0 +1,95 @@
+// What presets derive over a unit.
+
+ghost use Rattle.std.specs.Prelude.{◌≡◌, ◌≤◌, All, IfOk, IfSome, length, map, string_bytes};
+ghost use Rattle.component_table.specs.Books as Books;
+ghost use Rattle.component_table.specs.Catalogs.{shape_of};
+ghost use Rattle.event_sets.specs.Agreement.{BookFits, Fits};
+
+use event_tables::Tables;
+use name_encoder::encode;
+use papi_base::Natives;
+use postfix_rules::{Derived, Formula, PresetBook, Rule};
+use preset_csv::{Def, Entry, Kind};
+use std::alloc::{AllocError, Global};
+
+// The native events that some texts name, in their order, where each text names one.
+fn natives_named(tables: &Tables, texts: &[String]) -> Option<Natives>
+    requires few { length texts.now ≤ 8 }
+    ensures named { result ≡ Books.natives_named tables.now (map string_bytes texts.now) }
+    ensures fit { IfSome result (λ natives. All (Fits (shape_of tables.now)) natives) }
+{
+    let mut natives = Natives::new();
+    for text in texts {
+        match encode(tables, text.as_str()) {
+            Ok(native) => natives.push(native),
+            Err(_) => return None,
+        }
+    }
+    Some(natives)
+}
+
+// Whether they are of one component.
+fn are_together(natives: &Natives) -> bool
+    ensures { result ≡ Books.are_together natives.now }
+{
+    let Some(first) = natives.get(0) else {
+        return true;
+    };
+    for i in 1..natives.len() {
+        if natives.at(i).comp != first.comp {
+            return false;
+        }
+    }
+    true
+}
+
+// The rule of a kind, with its formula.
+fn rule_of(kind: Kind, formula: Option<Formula>) -> Rule
+    ensures { result ≡ Books.rule_of kind formula }
+{
+    match kind {
+        Kind::NotDerived => Rule::Plain,
+        Kind::Add => Rule::Sum,
+        Kind::Sub => Rule::Sub,
+        Kind::Postfix => match formula {
+            Some(formula) => Rule::Postfix(formula),
+            None => Rule::Plain,
+        },
+    }
+}
+
+// What a computed preset derives, where it is available.
+fn derived_of(tables: &Tables, def: Def) -> Option<Derived>
+    ensures derived { result ≡ Books.derived_of tables.now def }
+    ensures fits { IfSome result (λ d. All (Fits (shape_of tables.now)) d.natives) }
+{
+    let natives = natives_named(tables, def.natives())?;
+    if !are_together(&natives) {
+        return None;
+    }
+    let kind = def.kind();
+    Some(Derived::new(natives, rule_of(kind, def.into_formula())))
+}
+
+// What is derived in a row of a table of presets, where the preset is available.
+fn derived_from(tables: &Tables, entry: Entry) -> Option<Derived>
+    ensures derived { result ≡ Books.derived_from tables.now entry }
+    ensures fits { IfSome result (λ d. All (Fits (shape_of tables.now)) d.natives) }
+{
+    match entry {
+        Entry::Def(def) => derived_of(tables, def),
+        Entry::Missing | Entry::Uncomputed => None,
+    }
+}
+
+/// The book of the presets that are available over a unit. Source: PAPI_presets(3).
+pub fn book_of(alloc: Global, tables: &Tables, rows: Vec<Entry>) -> Result<PresetBook, AllocError>
+    ensures book { IfOk result (λ book. book ≡ Books.book_of tables.now rows.items) }
+    ensures fits { IfOk result (BookFits (shape_of tables.now)) }
+{
+    let mut book = Vec::new(alloc);
+    for entry in rows {
+        book.push(derived_from(tables, entry))?;
+    }
+    Ok(PresetBook::new(book))
+}
