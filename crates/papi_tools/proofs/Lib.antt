@@ -5,4 +5,5 @@ pub mod OpeningLemmas
 pub mod ReaderLemmas
 pub mod RunLemmas
 pub mod SayingLemmas
+pub mod SettlingLemmas
 pub mod TellingLemmas

@@ -22,6 +22,13 @@ MetCause outcome.No faults faults' said = Unit {0}
 MetCause outcome.Refused faults faults' said = MetBad said
 MetCause outcome.ReadFault faults faults' said = Rose faults faults'
 
+-- a tool that looks at files alone ends with its text, which may say no
+abbrev pub IsTextual : Outcome → Type 0
+IsTextual outcome.Whole = Unit {0}
+IsTextual outcome.No = Unit {0}
+IsTextual outcome.Refused = ⊥
+IsTextual outcome.ReadFault = ⊥
+
 -- what the words and the counts of the files show of a refusal
 abbrev pub HasCause : Option Command → ℕ → ℕ → ℕ → ℕ → Refusal → Type 0
 HasCause command misses misses' faults faults' BadWords = command ≡ None

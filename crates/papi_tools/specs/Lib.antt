@@ -1,5 +1,6 @@
 pub mod Answers
 pub mod Causes
+pub mod Encoding
 pub mod ErrorLines
 pub mod Marks
 pub mod Opening
@@ -9,9 +10,12 @@ pub mod RunInput
 pub mod Saying
 pub mod Status
 pub mod Steps
+pub mod UnitFile
 pub mod Verdict
 pub use Rattle.component_table.specs.Catalogs
 pub use Rattle.event_tables.specs.Unit
+pub use Rattle.name_encoder.specs.Canonical
+pub use Rattle.name_encoder.specs.Names
 pub use Rattle.overflow_dispatch.specs.Notes
 pub use Rattle.papi_base.specs.Outside
 pub use Rattle.papi_base.specs.Streams

@@ -1,34 +1,20 @@
 -- What a run stands on: the unit, the script and the streams, in the order of work of docs/FORMATS.md.
-use Rattle.std.specs.Prelude.{◌≡◌, ◌-◌, ℕ, List, [], ◌++◌, length, map, replicate, Option, Some, None, IsOkAnd, Result, Ok, Err}
+use Rattle.std.specs.Prelude.{◌≡◌, ◌-◌, ℕ, List, [], ◌++◌, length, map, replicate, Option, Some, IsOkAnd, Result, Ok, Err}
 use Rattle.papi_base.specs.Outside.{Tape, Held, opened}
 use Rattle.papi_base.specs.Streams.{Coming, Dry}
 use Rattle.event_tables.specs.Tables.{ComponentText}
-use Rattle.event_tables.specs.Unit.{unit_fault, unit_tables}
-use Rattle.event_tables.specs.declared.fault.RowCause.{RowCause}
 use Rattle.script_lines.specs.Scripts.{Refused, script_of}
 use Rattle.script_lines.specs.declared.script.ScriptLine.{ScriptLine}
 use Rattle.stream_reader.specs.Occurs.{occurs_of}
 use Rattle.tool_words.specs.declared.run.RunWords.{RunWords}
 use Rattle.papi_tools.specs.Steps.{and_then}
 use Rattle.papi_tools.specs.Opening.{file_bytes, tapes_under}
+use Rattle.papi_tools.specs.UnitFile.{unit_under}
 use Rattle.papi_tools.specs.declared.refusal.Refusal.{Refusal}
-use Rattle.papi_tools.specs.declared.refusal.Refusal.TheVariants.{Row, Line}
+use Rattle.papi_tools.specs.declared.refusal.Refusal.TheVariants.{Line}
 use Rattle.papi_tools.specs.declared.refusal.Stop.{Stop}
 use Rattle.papi_tools.specs.declared.refusal.Stop.TheVariants as stop
 use Rattle.papi_tools.specs.declared.run_input.RunInput.{RunInput}
-
--- the tables of a unit file of this name, where it has no fault
-abbrev pub tables_unless : List ℕ → Option (ℕ × RowCause) → List ComponentText → Result (List ComponentText) Refusal
-tables_unless name None tables = Ok tables
-tables_unless name (Some fault) tables = Err (Row name fault.0 fault.1)
-
--- what the bytes of a unit file of this name are
-unfoldable pub unit_of : List ℕ → List ℕ → Result (List ComponentText) Refusal
-unit_of name bytes = tables_unless name (unit_fault bytes) (unit_tables bytes)
-
--- the unit of this name, whose opening is the next one
-unfoldable pub unit_under : Held → List ℕ → Result (List ComponentText) Refusal
-unit_under held name = and_then (file_bytes 1048576 held name) (unit_of name)
 
 -- the script of this name, where it has no fault
 abbrev pub script_unless : List ℕ → Result (List ScriptLine) Refused → Result (List ScriptLine) Refusal

@@ -5,7 +5,8 @@ use Rattle.overflow_dispatch.specs.declared.handler.Note.{Note}
 use Rattle.overflow_dispatch.specs.Notes.{EachAdded, EachBegun}
 use Rattle.tool_words.specs.Form.{form}
 use Rattle.tool_words.specs.declared.command.Command.{Command}
-use Rattle.tool_words.specs.declared.command.Command.TheVariants.{Run}
+use Rattle.tool_words.specs.declared.command.Command.TheVariants.{Run, Encode}
+use Rattle.papi_tools.specs.Encoding.{encode_verdict}
 use Rattle.papi_tools.specs.ErrorLines.{line_of, outcome_of}
 use Rattle.papi_tools.specs.Run.{Verdict, run_verdict}
 use Rattle.papi_tools.specs.declared.refusal.Refusal.{Refusal}
@@ -17,6 +18,7 @@ use Rattle.papi_tools.specs.declared.said.Said.{Said}
 -- what a command comes to
 abbrev pub command_verdict : Held → Command → Result Verdict Refusal
 command_verdict held (Run words) = run_verdict held words
+command_verdict held (Encode words) = encode_verdict held words
 
 -- what the words come to, where they are a command
 abbrev pub verdict_for : Held → Option Command → Result Verdict Refusal
@@ -39,6 +41,12 @@ abbrev pub AnswersSaid : Result Said Stop → Result Verdict Refusal → Type 0
 AnswersSaid (Ok said) expected = IsOkAnd expected (λ verdict. verdict.said ≡ said)
 AnswersSaid (Err (stop.Refused refusal)) expected = expected ≡ Err refusal
 AnswersSaid (Err stop.Memory) expected = Unit {0}
+
+-- What is said at the end of the steps: what they say, or the line of the refusal that ended them.
+abbrev pub IsSettled : Result Said Stop → Said → Type 0
+IsSettled (Ok answer) said = said ≡ answer
+IsSettled (Err (stop.Refused refusal)) said = said ≡ refused_said refusal
+IsSettled (Err stop.Memory) said = ⊥
 
 -- With this answer a tool has told each handler the notes of its thread, after want of memory some of the first of them.
 abbrev pub TellsBy : Result Said Stop → List (List Note) → List (List Note) → List (List Note) → Type 0

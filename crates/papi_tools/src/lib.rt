@@ -1,6 +1,7 @@
 //! The tools, and the top call that carries out what the words ask for.
 #![tactic(auto)]
 
+pub mod encode;
 pub mod marks;
 pub mod opening;
 pub mod output;
@@ -10,16 +11,18 @@ pub mod run;
 pub mod run_input;
 pub mod said;
 pub mod saying;
+pub mod settling;
 pub mod status;
 pub mod streams;
 pub mod tool;
 pub mod top;
+pub mod unit_file;
 
 pub use output::Output;
 pub use refusal::{Refusal, Stop};
 pub use said::Said;
 pub use status::{Outcome, Status, status_number};
-pub use tool::run_tool;
+pub use tool::{encode_tool, run_tool};
 pub use top::papi_main;
 
 #[cfg(test)]

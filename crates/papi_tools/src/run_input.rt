@@ -3,20 +3,19 @@ ghost use Rattle.std.specs.Prelude.{◌≡◌, ◌≤◌, ℕ, IfSome, IfOk, len
 ghost use Rattle.std.specs.Option.{option_map};
 ghost use Rattle.papi_base.specs.Outside.{opened};
 ghost use Rattle.papi_tools.specs.Answers.{Answers, StopsByFile};
-ghost use Rattle.papi_tools.specs.RunInput.{AnswersInput, given_under, script_under, unit_of, unit_under};
+ghost use Rattle.papi_tools.specs.RunInput.{AnswersInput, given_under, script_under};
 
 use crate::opening::whole_file;
 use crate::streams::open_streams;
+use crate::unit_file::read_unit_file;
 use crate::{Refusal, Stop};
-use event_tables::{TableFault, Tables, read_unit};
+use event_tables::Tables;
 use papi_base::{Files, Source, Text};
 use script_lines::{Script, ScriptFault, read_script};
 use std::alloc::Global;
 use tool_words::RunWords;
 
-// How many bytes a unit file and a script have at most.
-const UNIT_BYTES: usize = 1_048_576;
-
+// How many bytes a script has at most.
 const SCRIPT_BYTES: usize = 8_388_608;
 
 /// What a run stands on: the unit's tables, the script, and the sources of the streams in the order of their threads.
@@ -25,37 +24,6 @@ pub struct RunInput<S: Source> {
     pub tables: Tables,
     pub script: Script,
     pub sources: Vec<S>,
-}
-
-// The tables of a unit file of this name, or its first fault.
-#[tactic(auto, unfolding(crate::specs::RunInput::unit_of))]
-fn unit_in(alloc: Global, name: &str, bytes: &[u8]) -> Result<Tables, Stop>
-    ensures told { Answers result (unit_of name.now bytes.now) }
-    ensures cause { (misses misses' faults faults' : ℕ) → StopsByFile result misses misses' faults faults' }
-{
-    let answer = read_unit(alloc, bytes);
-    match answer {
-        Ok(tables) => Ok(tables),
-        Err(TableFault::Row { row, cause }) => Err(Stop::Refused(Refusal::Row {
-            name: Text::copy_of(alloc, name)?,
-            row,
-            cause,
-        })),
-        Err(TableFault::Memory) => Err(Stop::Memory),
-    }
-}
-
-/// Reads a unit file whole, or says why not.
-#[tactic(auto, unfolding(crate::specs::RunInput::unit_under))]
-pub fn read_unit_file<F: Files>(alloc: Global, files: &mut F, name: &str) -> Result<Tables, Stop>
-    ensures told { IfSome (F.held files.old) (λ held. Answers result (unit_under held name.now)) }
-    ensures held { F.held files.new ≡ option_map opened (F.held files.old) }
-    ensures cause { StopsByFile result (F.misses files.old) (F.misses files.new) (F.faults files.old) (F.faults files.new) }
-    ensures misses_stay { F.misses files.old ≤ F.misses files.new }
-    ensures faults_stay { F.faults files.old ≤ F.faults files.new }
-{
-    let bytes = whole_file(alloc, files, name, UNIT_BYTES)?;
-    unit_in(alloc, name, bytes.as_slice())
 }
 
 /// Reads a script whole, or says why not.

@@ -7,30 +7,20 @@ ghost use Rattle.papi_tools.specs.Answers.{StopsByFile};
 ghost use Rattle.papi_tools.specs.Causes.{IsCaused, MetCause};
 ghost use Rattle.papi_tools.specs.Run.{notes_in};
 ghost use Rattle.papi_tools.specs.Saying.{HasSinkCause, IsJudged, Says, Tells};
-ghost use Rattle.papi_tools.specs.Verdict.{AnswersSaid, TellsBy, command_verdict, refused_said, verdict};
+ghost use Rattle.papi_tools.specs.Verdict.{AnswersSaid, TellsBy, command_verdict, verdict};
 ghost use Rattle.papi_tools.specs.declared.said.Said.{Said};
 
+use crate::encode::encode_names;
 use crate::run::run;
 use crate::saying::say;
-use crate::{Outcome, Output, Refusal, Said, Status, Stop};
+use crate::settling::{refused, settled};
+use crate::{Outcome, Refusal, Said, Status, Stop};
 use overflow_dispatch::Handler;
-use papi_base::{Bytes, Files, Sink};
+use papi_base::{Files, Sink};
 use std::alloc::{AllocError, Global};
 use std::marker::{Send, Sync};
 use std::thread::Threads;
 use tool_words::{Command, WordsFault, read_words};
-
-// What a refusal says.
-fn refused(alloc: Global, refusal: &Refusal) -> Result<Said, AllocError>
-    ensures { IfOk result (λ said. said ≡ refused_said refusal.now) }
-{
-    let line = refusal.line(alloc)?;
-    Ok(Said {
-        outcome: refusal.outcome(),
-        out: Output::text(Bytes::new(Vec::new(alloc))),
-        err: Bytes::new(line.into_bytes()),
-    })
-}
 
 // Does what the command asks for, up to the writing.
 fn carried_out<R: Threads + Sync, F: Files>(
@@ -50,6 +40,7 @@ fn carried_out<R: Threads + Sync, F: Files>(
 {
     match command {
         Command::Run(words) => run(rt, alloc, files, words, handlers),
+        Command::Encode(words) => encode_names(alloc, files, words),
     }
 }
 
@@ -74,11 +65,8 @@ fn said_of<R: Threads + Sync, F: Files>(
         Err(WordsFault::BadWords) => return refused(alloc, &Refusal::BadWords),
         Err(WordsFault::Memory) => return Err(AllocError),
     };
-    match carried_out(rt, alloc, files, &command, handlers) {
-        Ok(said) => Ok(said),
-        Err(Stop::Refused(refusal)) => refused(alloc, &refusal),
-        Err(Stop::Memory) => Err(AllocError),
-    }
+    let answer = carried_out(rt, alloc, files, &command, handlers);
+    settled(alloc, answer)
 }
 
 /// Carries out what the words ask for, which are those behind the program's name: the first names a tool.

@@ -1,3 +1,3 @@
 pub mod FormLemmas
-pub mod RunFormLemmas
+pub mod CommandLemmas
 pub mod Examples

@@ -3,7 +3,8 @@ use Rattle.std.specs.Prelude.{◌≤◌, List, [], ◌∷◌, length, Option, No
 use Rattle.std.specs.Str.{bytes_eq}
 use Rattle.clap.specs.Words.{Text}
 use Rattle.tool_words.specs.declared.command.Command.{Command}
-use Rattle.tool_words.specs.declared.command.Command.TheVariants.{Run}
+use Rattle.tool_words.specs.declared.command.Command.TheVariants.{Run, Encode}
+use Rattle.tool_words.specs.EncodeForm.{encode_form}
 use Rattle.tool_words.specs.RunForm.{run_form}
 
 -- the tool that the words name
@@ -13,8 +14,12 @@ tool_of (tool ∷ words) = tool
 
 -- the command that the words ask for, where they are of a tool's form
 abbrev pub form : List Text → Option Command
-form words = if bytes_eq (tool_of words) (codes "papi_run") then option_map Run (run_form words) else None
+form words =
+    if bytes_eq (tool_of words) (codes "papi_run") then option_map Run (run_form words)
+    else if bytes_eq (tool_of words) (codes "papi_encode") then option_map Encode (encode_form words)
+    else None
 
 -- a command names at most 64 streams
 abbrev pub HasFewStreams : Command → Type 0
 HasFewStreams (Run words) = length words.streams ≤ 64
+HasFewStreams (Encode words) = Unit {0}

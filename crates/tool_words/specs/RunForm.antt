@@ -3,10 +3,8 @@ use Rattle.std.specs.Prelude.{List, [], length, Option, Some, None, if◌then◌
 use Rattle.clap.specs.Words.{App, Row, Rule, Text, all_of, first_of, new_app, new_rule, with_rule}
 use Rattle.clap.specs.declared.builder.ArgAction.TheVariants.{Append}
 use Rattle.tool_words.specs.declared.run.RunWords.{RunWords}
+use Rattle.tool_words.specs.Options.{unit_rule}
 use Rattle.tool_words.specs.Words.{read_by}
-
-unfoldable pub unit_rule : Rule
-unit_rule = record (new_rule (codes "unit")) { short = Some 85; required = true }
 
 unfoldable pub script_rule : Rule
 script_rule = record (new_rule (codes "script")) { required = true }

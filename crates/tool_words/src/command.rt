@@ -1,5 +1,6 @@
 //! What the words ask for.
 
+use crate::encode::EncodeWords;
 use crate::run::RunWords;
 
 /// A tool, with what its words ask for.
@@ -7,4 +8,6 @@ use crate::run::RunWords;
 pub enum Command {
     /// `papi_run`: carries out a script.
     Run(RunWords),
+    /// `papi_encode`: gives the codes of events.
+    Encode(EncodeWords),
 }

@@ -6,12 +6,15 @@ ghost use Rattle.tool_words.specs.Form.{HasFewStreams, form, tool_of};
 ghost use Rattle.tool_words.specs.Words.{Answers};
 
 pub mod command;
+pub mod encode;
 pub mod fault;
 mod matches;
+mod options;
 pub mod run;
 pub mod texts;
 
 pub use command::Command;
+pub use encode::{EncodeWords, read_encode_words};
 pub use fault::WordsFault;
 pub use run::RunWords;
 use run::read_run_words;
@@ -28,6 +31,7 @@ pub fn read_words(alloc: Global, words: &[String]) -> Result<Command, WordsFault
 {
     match tool_in(words) {
         "papi_run" => Ok(Command::Run(read_run_words(alloc, words)?)),
+        "papi_encode" => Ok(Command::Encode(read_encode_words(alloc, words)?)),
         _ => Err(WordsFault::BadWords),
     }
 }

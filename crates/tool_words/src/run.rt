@@ -2,12 +2,13 @@
 
 ghost use Rattle.std.specs.Prelude.{◌≡◌, ◌≤◌, IfOk, false, length, map, option_map, string_bytes};
 ghost use Rattle.clap.specs.Words.{app_of, found_of, rows_of, rule_of};
-ghost use Rattle.tool_words.specs.RunForm.{run_app, run_form, run_words, run_words_in, script_rule, streams_rule, unit_rule};
+ghost use Rattle.tool_words.specs.RunForm.{run_app, run_form, run_words, run_words_in, script_rule, streams_rule};
 ghost use Rattle.tool_words.specs.RunForm as RunForm;
 ghost use Rattle.tool_words.specs.Words.{Answers};
 
 use crate::fault::WordsFault;
 use crate::matches::{copied, matches_in, text_of, texts_of};
+use crate::options::unit_argument;
 use crate::texts::Texts;
 use clap::{Arg, ArgAction, ArgMatches};
 use papi_base::Text;
@@ -23,14 +24,6 @@ pub struct RunWords {
 }
 
 // ---- the command
-
-#[tactic(auto, unfolding(crate::specs::RunForm::unit_rule))]
-fn unit_argument<'a>(alloc: Global) -> Arg<'a>
-    ensures rule { rule_of result ≡ unit_rule }
-    ensures local { result.global ≡ false }
-{
-    Arg::new(alloc, "unit").short('U').required(true)
-}
 
 #[tactic(auto, unfolding(crate::specs::RunForm::script_rule))]
 fn script_argument<'a>(alloc: Global) -> Arg<'a>

@@ -1,7 +1,18 @@
-use Rattle.std.proofs.Common.{◌∙◌, ap, Err}
-use Rattle.papi_tools.proofs.TellingLemmas.{refused_begun}
+use Rattle.papi_tools.proofs.SettlingLemmas.{settled_begun, settled_caused, settled_tells, settled_told}
 use Rattle.papi_tools.proofs.top.said_of.Goals as goal
 
-pub returns-in-Err-Refused-clause-begun : goal.returns-in-Err-Refused-clause-begun
-returns-in-Err-Refused-clause-begun g c =
-    refused_begun _ _ _ c.in-Ok.command _ _ c.carried_out.result c.in-Err-Refused.refusal (rw c.as_slice.ensures.value at c.in-Ok.ensures.asked) (c.in-Err-Refused.is ∙ ap Err c.in-Err-Refused.field-0-is) c.carried_out.ensures.tells
+pub returns-clause-told : goal.returns-clause-told
+returns-clause-told g c =
+    settled_told _ _ c.in-Ok.command c.carried_out-answer.result _ (rw c.as_slice.ensures.value at c.in-Ok.ensures.asked) c.carried_out-answer.ensures.told c.settled.ensures
+
+pub returns-clause-tells : goal.returns-clause-tells
+returns-clause-tells g c =
+    settled_tells _ _ c.in-Ok.command _ _ c.carried_out-answer.result _ (rw c.as_slice.ensures.value at c.in-Ok.ensures.asked) c.carried_out-answer.ensures.tells c.settled.ensures
+
+pub returns-clause-begun : goal.returns-clause-begun
+returns-clause-begun g c =
+    settled_begun _ _ c.in-Ok.command _ _ c.carried_out-answer.result c.settled.result (rw c.as_slice.ensures.value at c.in-Ok.ensures.asked) c.carried_out-answer.ensures.tells
+
+pub returns-clause-cause : goal.returns-clause-cause
+returns-clause-cause g c =
+    settled_caused _ c.carried_out-answer.result _ _ _ _ _ c.carried_out-answer.ensures.met c.carried_out-answer.ensures.cause c.settled.ensures

@@ -3,7 +3,7 @@ use Rattle.std.specs.Prelude.{string_bytes}
 use Rattle.clap.specs.Words.{Text, app_of, found_of, is_simple_and_free, rows_of}
 use Rattle.tool_words.specs.RunForm.{run_app, run_form, run_words_in}
 use Rattle.tool_words.proofs.FormLemmas.{answers_fault, answers_matches}
-use Rattle.tool_words.proofs.RunFormLemmas.{run_app-free}
+use Rattle.tool_words.proofs.CommandLemmas.{run_app-free}
 use Rattle.tool_words.proofs.run.read_run_words.Goals as goal
 
 pub matches_in-requires : goal.matches_in-requires
