@@ -1,5 +1,6 @@
 -- Lists of notes that handlers were told, before and after (PAPI_overflow(3)).
-use Rattle.std.specs.Prelude.{◌≡◌, ℕ, ◌<◌, ◌≤◌, List, [], ◌++◌, length, take, slice_index_or}
+use Rattle.std.specs.Prelude.{◌≡◌, ℕ, ◌<◌, ◌≤◌, List, [], ◌∷◌, ◌++◌, drop, length, map, take, slice_index_or}
+use Rattle.std.specs.List.{flat_map}
 use Rattle.overflow_dispatch.specs.declared.handler.Note.{Note}
 
 -- after is before with some of the first notes appended, or all of them
@@ -19,3 +20,13 @@ pub record EachAdded (before given after : List (List Note)) : Type 0 where
 pub record EachBegun (before given after : List (List Note)) : Type 0 where
   pub same_length : length after ≡ length before
   pub begun : (t : ℕ) → t < length before → Begun (slice_index_or before t []) (slice_index_or given t []) (slice_index_or after t [])
+
+-- the notes of several lists behind so many of each, list by list
+abbrev pub told_since : List ℕ → List (List Note) → List Note
+told_since [] lists = []
+told_since (k ∷ ks) [] = []
+told_since (k ∷ ks) (notes ∷ lists) = drop k notes ++ told_since ks lists
+
+-- Where each list has the notes of its place appended, these are what was told since the lists had their lengths before.
+abbrev pub AddedIsTold : Type 0
+AddedIsTold = (before given after : List (List Note)) → length given ≡ length before → EachAdded before given after → told_since (map (λ notes. length notes) before) after ≡ flat_map (λ notes. notes) given

@@ -4,11 +4,13 @@
 pub use handler::{Handler, Note};
 pub use passed::Passed;
 pub use recorder::Recorder;
+pub use since::{counts_of, notes_laws, notes_since};
 pub use thresholds::Thresholds;
 
 pub mod handler;
 pub mod passed;
 pub mod recorder;
+pub mod since;
 #[cfg(test)]
 mod tests;
 pub mod thresholds;
