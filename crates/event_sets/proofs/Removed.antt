@@ -40,7 +40,7 @@ after_grows book seen (e ∷ es) = omega (arith, joined_grows seen (natives_of_e
 
 -- ---- a set without an event
 
-removed_all : {X : Type 0} (P : X → Type 0) (xs : List X) (p : ℕ) → All P xs → All P (remove xs p)
+pub removed_all : {X : Type 0} (P : X → Type 0) (xs : List X) (p : ℕ) → All P xs → All P (remove xs p)
 removed_all P xs p h = by_number P (remove xs p) (λ i x e. numbered P xs h (stood p i) x (sym (get_removed xs p i) ∙ e))
 
 pub length-removed : {X : Type 0} (xs : List X) (p : ℕ) → length (remove xs p) ≤ length xs

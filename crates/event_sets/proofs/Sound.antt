@@ -27,7 +27,7 @@ use Rattle.event_sets.proofs.Kept.{armed_sound, assigned_sound, domain_sound, sl
 use Rattle.event_sets.proofs.Removed.{removed_sound}
 use Rattle.event_sets.proofs.Adding.{Ready, added_sound, added_view, all_in_range, clash_is}
 
-few_counters : (shape : Widths) (comp : ℕ) → All (λ widths. length widths ≤ 32) shape → length (widths_at shape (Some comp)) ≤ 32
+pub few_counters : (shape : Widths) (comp : ℕ) → All (λ widths. length widths ≤ 32) shape → length (widths_at shape (Some comp)) ≤ 32
 few_counters shape comp few = go (slice_get shape comp) refl where
   go : (o : Option (List ℕ)) → slice_get shape comp ≡ o → length (unwrap_or o []) ≤ 32
   go None e = omega arith
