@@ -24,7 +24,7 @@ use Rattle.component_table.specs.Books.{are_together, natives_named, rule_of}
 use Rattle.component_table.proofs.Naming.{natives-count}
 
 -- natives that are together are of one component
-together-all : (natives : List Native) → are_together natives ≡ true → (comp : ℕ) × All (λ n. n.comp ≡ comp) natives
+pub together-all : (natives : List Native) → are_together natives ≡ true → (comp : ℕ) × All (λ n. n.comp ≡ comp) natives
 together-all [] e = (0, λ k d small. absurd (omega arith))
 together-all (first ∷ others) e = (first.comp, each)
   where

@@ -1,3 +1,4 @@
+mod Availability
 mod Deriving
 mod Keeping
 mod Mentions

@@ -2,6 +2,7 @@ pub mod Books
 pub mod Catalogs
 pub mod EventNames
 pub mod Codes
+pub mod Laws
 pub use Rattle.event_tables.specs.Tables
 pub use Rattle.name_encoder.specs.Names
 pub use Rattle.name_encoder.specs.Canonical

@@ -3,6 +3,7 @@
 
 pub mod catalog;
 mod derivation;
+pub mod laws;
 pub mod native_codes;
 
 pub use catalog::Catalog;
