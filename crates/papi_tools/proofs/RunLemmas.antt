@@ -1,5 +1,5 @@
 -- What is said of a run is what the definition says.
-use Rattle.std.proofs.Common.{◌≡◌, ◌<◌, ℕ, List, length, map, Some, None, Result, Ok, Err, OnOk, [], ◌∷◌, refl, sym, ap, ◌∙◌, arith, get_or, All, zero, suc, true}
+use Rattle.std.proofs.Common.{◌≡◌, ◌<◌, ℕ, List, length, map, Some, None, Result, Ok, Err, OnOk, refl, sym, ap, ◌∙◌, arith, get_or, All}
 use Rattle.std.proofs.lemmas.List.{get_or-map, length-map}
 use Rattle.event_sets.specs.AtRest.{Widths}
 use Rattle.postfix_rules.specs.Presets.{Book}
@@ -7,16 +7,13 @@ use Rattle.papi_base.specs.Outside.{Rose}
 use Rattle.session_model.specs.World.{Told}
 use Rattle.stream_reader.specs.Reader.{ReaderView, coming}
 use Rattle.component_table.specs.Catalogs.{CatalogView, catalog_of, shape_of}
-use Rattle.script_lines.specs.declared.call.ScriptCall.{ScriptCall}
-use Rattle.script_lines.specs.declared.call.ScriptCall.TheVariants as script
 use Rattle.script_lines.specs.declared.script.ScriptLine.{ScriptLine}
-use Rattle.thread_session.specs.Offered.{is_offered}
 use Rattle.plan_runner.specs.declared.plan.Planned.TheVariants.{Threads}
 use Rattle.plan_runner.specs.declared.plan.PlanLine.{PlanLine}
 use Rattle.plan_runner.specs.declared.result.ReplyLine.{ReplyLine}
-use Rattle.plan_runner.specs.Plans.{AreOffered, AreThreads, IsOfferedBy, IsPlanOf}
+use Rattle.plan_runner.specs.Plans.{AreThreads, IsPlanOf}
 use Rattle.plan_runner.specs.Runs.{AreInOrder, Tells, reply_lines}
-use Rattle.script_runner.specs.Resolving.{call_of, lines_of, plan_line, reply_lines_of, setting_of}
+use Rattle.script_runner.specs.Resolving.{lines_of, reply_lines_of, setting_of}
 use Rattle.papi_tools.specs.declared.said.Said.{Said}
 use Rattle.papi_tools.specs.declared.status.Outcome.{Outcome}
 use Rattle.papi_tools.specs.declared.status.Outcome.TheVariants.{Whole, No, Refused, ReadFault}
@@ -47,25 +44,6 @@ threads_below plan lines below order k d small =
     let same : (get_or lines k d).thread ≡ (get_or plan k p).thread =
     sym (get_or-map (λ l. l.thread) lines k d 0 small) ∙ ap (λ ts. get_or ts k 0) order.threads ∙ get_or-map (λ l. l.thread) plan k p 0 (omega arith) in
     rw same (below.each k p (omega arith))
-
--- sessions offer each call of a script
-call_offered : (catalog : CatalogView) (c : ScriptCall) → is_offered (call_of catalog c) ≡ true
-call_offered catalog script.Create = refl
-call_offered catalog (script.Add set event) = refl
-call_offered catalog (script.Start set) = refl
-call_offered catalog (script.Stop set) = refl
-call_offered catalog (script.Read set) = refl
-call_offered catalog (script.Events set) = refl
-call_offered catalog (script.Assign set) = refl
-call_offered catalog (script.Run count) = refl
-
-lines_offered : (catalog : CatalogView) (lines : List ScriptLine) (k : ℕ) (d : PlanLine) → k < length (map (plan_line catalog) lines) → IsOfferedBy (get_or (map (plan_line catalog) lines) k d).planned
-lines_offered catalog [] k d small = absurd (omega arith)
-lines_offered catalog (l ∷ ls) zero d small = call_offered catalog l.call
-lines_offered catalog (l ∷ ls) (suc k) d small = lines_offered catalog ls k d (omega arith)
-
-pub plan_offered : (catalog : CatalogView) (lines : List ScriptLine) (plan : List PlanLine) → plan ≡ map (plan_line catalog) lines → AreOffered plan
-plan_offered catalog lines plan e = rw e (record { each = lines_offered catalog lines })
 
 -- the readers tell what is given
 pub tells : (catalog : CatalogView) (script : List ScriptLine) (given : RunGiven) (book : Book) (shape : Widths) (plan : List PlanLine) (readers : List ReaderView) →

@@ -16,13 +16,12 @@ use Rattle.session_model.specs.Conditions.{IsGood}
 use Rattle.session_model.specs.Step.{notes_to, replies_to}
 use Rattle.stream_reader.specs.Reader.{ReaderView, coming}
 use Rattle.thread_session.specs.Faults.{FaultsKept, FaultsRose, IsFault, fault_count}
-use Rattle.thread_session.specs.Offered.{is_offered}
 use Rattle.thread_session.specs.SessionView.{SessionView}
 use Rattle.thread_registry.specs.Seen.{Seen, Worked, Finished, Cut, CanWork, seen_of}
 use Rattle.plan_runner.specs.declared.plan.Planned.{Planned}
 use Rattle.plan_runner.specs.declared.plan.Planned.TheVariants as planned
 use Rattle.plan_runner.specs.declared.plan.PlanLine.{PlanLine}
-use Rattle.plan_runner.specs.Plans.{calls_in, calls_on, planned_at, IsGoodFor, IsOfferedBy, AreGood, AreOffered, AreThreads}
+use Rattle.plan_runner.specs.Plans.{calls_in, calls_on, planned_at, IsGoodFor, AreGood, AreThreads}
 use Rattle.plan_runner.specs.Jobs.{IsOpened, Left, jobs_of}
 use Rattle.plan_runner.proofs.Taken.{jobs-length, jobs-length-le}
 
@@ -72,27 +71,10 @@ good-calls book shape t (l ∷ ls) all =
     (good-if book shape (l.thread == t) (calls_in l.planned) (good-in book shape l.planned (all 0 l (omega arith))))
     (good-calls book shape t ls (All-tail (λ (k : PlanLine). IsGoodFor book shape k.planned) l ls all))
 
-offered-in : (p : Planned) → IsOfferedBy p → All (λ c. is_offered c ≡ true) (calls_in p)
-offered-in (planned.Call c) h = all-cons (λ x. is_offered x ≡ true) c [] h (all-none (λ x. is_offered x ≡ true))
-offered-in (planned.Code c) h = all-none (λ x. is_offered x ≡ true)
-offered-in (planned.Name e) h = all-none (λ x. is_offered x ≡ true)
-offered-in planned.Threads h = all-none (λ x. is_offered x ≡ true)
-
-offered-if : (b : Bool) (cs : List Call) → All (λ c. is_offered c ≡ true) cs → All (λ c. is_offered c ≡ true) (if b then cs else [])
-offered-if true cs all = all
-offered-if false cs all = all-none (λ c. is_offered c ≡ true)
-
-offered-calls : (t : ℕ) (plan : List PlanLine) → All (λ l. IsOfferedBy l.planned) plan → All (λ c. is_offered c ≡ true) (planned_at t plan)
-offered-calls t [] all = all-none (λ c. is_offered c ≡ true)
-offered-calls t (l ∷ ls) all =
-    All-append (λ c. is_offered c ≡ true) (calls_on t l) (planned_at t ls)
-    (offered-if (l.thread == t) (calls_in l.planned) (offered-in l.planned (all 0 l (omega arith))))
-    (offered-calls t ls (All-tail (λ (k : PlanLine). IsOfferedBy k.planned) l ls all))
-
 pub can-work : (book : Book) (shape : Widths) (plan : List PlanLine) (readers : List ReaderView) (sessions : List SessionView) (before : List (List Note)) (lists : List (List Call))
-    → Prepares shape plan readers sessions lists → length before ≡ 64 → BookFits shape book → AreGood book shape plan → AreOffered plan
+    → Prepares shape plan readers sessions lists → length before ≡ 64 → BookFits shape book → AreGood book shape plan
     → All (λ x. CanWork book x.session x.calls) (jobs_of sessions before lists)
-can-work book shape plan readers sessions before lists p e fits good offered =
+can-work book shape plan readers sessions before lists p e fits good =
     with_some sessions (omega (arith, p.sessions_len))
     (λ s.
     with_some readers (omega (arith, p.readers_len))
@@ -105,7 +87,6 @@ can-work book shape plan readers sessions before lists p e fits good offered =
     (record {
       ready = here.ready book fits;
       good = subst (λ w. All (IsGood book w) (get_or lists k [])) (sym here.shaped) (subst (All (IsGood book shape)) (sym (p.dealt k few)) calls);
-      offered = subst (All (λ c. is_offered c ≡ true)) (sym (p.dealt k few)) (offered-calls k plan offered.each);
     })))
 
 -- ---- what one thread got
@@ -192,9 +173,6 @@ prepares-of shape plan plan' readers sessions lists e r s l opened dealt =
 -- one line more
 pub good-push : (book : Book) (shape : Widths) (plan : List PlanLine) (l : PlanLine) → AreGood book shape plan → IsGoodFor book shape l.planned → AreGood book shape (plan ++ l ∷ [])
 good-push book shape plan l can good = record { each = All-push (λ (k : PlanLine). IsGoodFor book shape k.planned) plan l can.each good }
-
-pub offered-push : (plan : List PlanLine) (l : PlanLine) → AreOffered plan → IsOfferedBy l.planned → AreOffered (plan ++ l ∷ [])
-offered-push plan l can offered = record { each = All-push (λ (k : PlanLine). IsOfferedBy k.planned) plan l can.each offered }
 
 pub threads-push : (plan : List PlanLine) (l : PlanLine) → AreThreads plan → l.thread < 64 → AreThreads (plan ++ l ∷ [])
 threads-push plan l can thread = record { each = All-push (λ (k : PlanLine). k.thread < 64) plan l can.each thread }

@@ -1,5 +1,5 @@
 -- Plans, and the script's lines of which they are made: the script is this project's own, docs/FORMATS.md.
-use Rattle.std.specs.Prelude.{ℕ, ◌≡◌, ◌<◌, ◌==◌, if◌then◌else◌, true, List, [], ◌∷◌, ◌++◌, All, map, Option, Some, None, Ok, Err, position, slice_get, unwrap_or, ⊤}
+use Rattle.std.specs.Prelude.{ℕ, ◌≡◌, ◌<◌, ◌==◌, if◌then◌else◌, List, [], ◌∷◌, ◌++◌, All, map, Option, Some, None, Ok, Err, position, slice_get, unwrap_or, ⊤}
 use Rattle.papi_base.specs.declared.native.EventRef.{EventRef}
 use Rattle.papi_base.specs.declared.native.EventRef.TheVariants as event
 use Rattle.papi_base.specs.declared.native.Native.{Native}
@@ -11,7 +11,6 @@ use Rattle.session_model.specs.declared.line.Asked.TheVariants as asked
 use Rattle.session_model.specs.declared.line.Line.{Line}
 use Rattle.session_model.specs.Conditions.{IsGood}
 use Rattle.session_model.specs.World.{Setting, mentioned_after, native_code, native_named}
-use Rattle.thread_session.specs.Offered.{is_offered}
 use Rattle.plan_runner.specs.declared.plan.Planned.{Planned}
 use Rattle.plan_runner.specs.declared.plan.Planned.TheVariants as planned
 use Rattle.plan_runner.specs.declared.plan.PlanLine.{PlanLine}
@@ -77,13 +76,3 @@ IsGoodFor book shape planned.Threads = ⊤
 
 pub record AreGood (book : Book) (shape : Widths) (plan : List PlanLine) : Type 0 where
   pub each : All (λ l. IsGoodFor book shape l.planned) plan
-
--- sessions offer the call so far
-abbrev pub IsOfferedBy : Planned → Type 0
-IsOfferedBy (planned.Call c) = is_offered c ≡ true
-IsOfferedBy (planned.Code c) = ⊤
-IsOfferedBy (planned.Name e) = ⊤
-IsOfferedBy planned.Threads = ⊤
-
-pub record AreOffered (plan : List PlanLine) : Type 0 where
-  pub each : All (λ l. IsOfferedBy l.planned) plan

@@ -14,7 +14,7 @@ ghost use Rattle.thread_session.specs.SessionView.{IsFresh, SessionView};
 ghost use Rattle.thread_session.specs.Faults.{IsFault, fault_count};
 ghost use Rattle.plan_runner.specs.Jobs.{IsOpened, Left, jobs_of};
 ghost use Rattle.plan_runner.specs.Merges.{lines_by};
-ghost use Rattle.plan_runner.specs.Plans.{AreGood, AreOffered, AreThreads, planned_at};
+ghost use Rattle.plan_runner.specs.Plans.{AreGood, AreThreads, planned_at};
 ghost use Rattle.plan_runner.specs.Runs.{Tells, world_told, notes_by_thread, reply_lines, counts_there, AreInOrder, SourcesBack};
 
 use crate::deal::deal;
@@ -154,7 +154,6 @@ pub fn run_plan<R: Threads + Sync, S: Source + Send>(
     requires high { workers ≤ 64 }
     requires fits { BookFits shape.now book.now }
     requires good { AreGood book.now shape.now plan }
-    requires offered { AreOffered plan }
     ensures len { vec_len handlers.new ≡ 64 }
     ensures replies { (at : Setting) (script : List Line) (streams : List Coming) → Tells at script streams book.now shape.now plan readers.items → IfOk result (λ run. run.lines.items ≡ reply_lines plan (world_told at script streams)) }
     ensures notes { (at : Setting) (script : List Line) (streams : List Coming) → Tells at script streams book.now shape.now plan readers.items → OnOk result (EachAdded (map (λ b. notes b) handlers.old.items) (notes_by_thread (world_told at script streams)) (map (λ b. notes b) handlers.new.items)) }

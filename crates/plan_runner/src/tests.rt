@@ -2,7 +2,7 @@ ghost use Rattle.std.specs.Prelude.{◌≡◌, All, IfOk, vec_len};
 ghost use Rattle.postfix_rules.specs.Presets.{Book};
 ghost use Rattle.event_sets.specs.AtRest.{Widths};
 ghost use Rattle.thread_session.specs.SessionView.{IsFresh};
-ghost use Rattle.plan_runner.specs.Plans.{AreGood, AreOffered};
+ghost use Rattle.plan_runner.specs.Plans.{AreGood};
 
 use crate::{Plan, PlanLine, Planned, run_plan};
 use overflow_dispatch::{Handler, Recorder};
@@ -37,8 +37,7 @@ fn recorders(alloc: Global) -> Result<Vec<Box<dyn Handler + Send>>, AllocError>
 
 /// Lines of two threads, in turn: each creates sets.
 fn plan(alloc: Global) -> Result<Plan, AllocError>
-    ensures good { (book : Book) (shape : Widths) → IfOk result (λ p. AreGood book shape p) }
-    ensures offered { IfOk result (λ p. AreOffered p) }
+    ensures { (book : Book) (shape : Widths) → IfOk result (λ p. AreGood book shape p) }
 {
     let mut lines: Vec<PlanLine> = Vec::new(alloc);
     for thread in [3u32, 60, 3, 60, 3] {

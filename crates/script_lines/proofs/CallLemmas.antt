@@ -1,6 +1,7 @@
 -- Words that name no call, and numbers in their range.
-use Rattle.std.proofs.Common.{◌≡◌, ◌∙◌, ◌≤◌, ◌∷◌, ℕ, Bool, true, false, List, [], Option, None, Some, refl, sym, ap, arith}
-use Rattle.std.specs.Prelude.{◌&&◌, if◌then◌else◌, nat_le}
+use Rattle.std.proofs.Common.{◌≡◌, ◌∙◌, ◌≤◌, ◌∷◌, ◌++◌, ℕ, Bool, true, false, List, [], Option, None, Some, refl, sym, ap, arith, codes, take}
+use Rattle.std.specs.Prelude.{◌&&◌, if◌then◌else◌, nat_le, Result, Ok, Err}
+use Rattle.std.specs.Result.{IsErr, IsErrAnd}
 use Rattle.std.specs.List.{list_all}
 use Rattle.std.specs.Str.{bytes_eq}
 use Rattle.std.specs.Str.Parse.{digits_value}
@@ -8,7 +9,11 @@ use Rattle.std.proofs.lemmas.Slice.Eq.{bytes_eq-Decides}
 use Rattle.std.proofs.lemmas.Bool.{leb-true}
 use Rattle.std.specs.Bool.{Decides}
 use Rattle.table_rows.specs.Texts.{Text, decimal_in, is_decimal, is_printable}
-use Rattle.script_lines.specs.Calls.{CallRow, Form, call_rows, form_of}
+use Rattle.script_lines.specs.declared.fault.LineFault.{LineFault}
+use Rattle.script_lines.specs.declared.fault.LineFault.TheVariants.{Cause}
+use Rattle.script_lines.specs.declared.fault.ScriptCause.{ScriptCause}
+use Rattle.script_lines.specs.Answers.{Answers}
+use Rattle.script_lines.specs.Calls.{CallRow, Form, call_by, call_of, call_rows, counting_rows, form_of}
 
 and_true : (a b : Bool) → (a && b) ≡ true → (a ≡ true) × (b ≡ true)
 and_true true true e = (refl, refl)
@@ -34,6 +39,49 @@ form_of-others word (row ∷ rows) h = go (bytes_eq row.word word) (bytes_eq-Dec
     go true d None other rest = refl
     go true d (Some form) other rest = absurd (other (d.0 refl))
     go false d form other rest = rest
+
+-- the word names no call of a row that is built, and a row that is not built has no call below
+abbrev pub IsAbove : Text → List CallRow → Text → Option Form → Type 0
+IsAbove word below name None = form_of name below ≡ None
+IsAbove word below name (Some form) = name ≡ word → ⊥
+
+abbrev pub AreAbove : Text → List CallRow → List CallRow → Type 0
+AreAbove word below [] = Unit {0}
+AreAbove word below (row ∷ rows) = IsAbove word below row.word row.form × AreAbove word below rows
+
+-- so its call is one of the rows below
+pub form_of-below : (word : Text) (below rows : List CallRow) → AreAbove word below rows → form_of word (rows ++ below) ≡ form_of word below
+form_of-below word below [] h = refl
+form_of-below word below (row ∷ rows) h = go (bytes_eq row.word word) (bytes_eq-Decides row.word word) row.form h.0 (form_of-below word below rows h.1)
+  where
+    go : (b : Bool) → Decides b (row.word ≡ word) → (form : Option Form) → IsAbove word below row.word form → form_of word (rows ++ below) ≡ form_of word below
+        → (if b then form else form_of word (rows ++ below)) ≡ form_of word below
+    go true d None none rest = sym (ap (λ (w : Text). form_of w below) (sym (d.0 refl)) ∙ none)
+    go true d (Some form) other rest = absurd (other (d.0 refl))
+    go false d form other rest = rest
+
+-- a word that names no call above `start` that is built
+pub counting-call : (word : Text) (arguments : List Text)
+    → (word ≡ codes "create" → ⊥)
+    → (word ≡ codes "destroy" → ⊥)
+    → (word ≡ codes "cleanup" → ⊥)
+    → (word ≡ codes "add" → ⊥)
+    → (word ≡ codes "remove" → ⊥)
+    → (word ≡ codes "component" → ⊥)
+    → (word ≡ codes "domain" → ⊥)
+    → (word ≡ codes "multiplex" → ⊥)
+    → (word ≡ codes "overflow" → ⊥)
+    → call_of word arguments ≡ call_by (form_of word counting_rows) arguments
+unfolding call_rows
+counting-call word arguments create destroy cleanup add remove component domain multiplex overflow = ap (λ (form : Option Form). call_by form arguments) (form_of-below word counting_rows (take 12 call_rows) (
+  refl,
+  (refl, (refl, (λ e. create (sym e), (λ e. destroy (sym e), (λ e. cleanup (sym e), (λ e. add (sym e), (λ e. remove (sym e), (λ e. component (sym e), (λ e. domain (sym e), (λ e. multiplex (sym e), (λ e. overflow (sym e), tt))))))))))),
+))
+
+-- the answer that a cause gives
+pub answers_cause : {A : Type 0} (answer : Result A LineFault) (read : Result A ScriptCause) (cause : ScriptCause) → IsErr answer × IsErrAnd answer (λ fault. fault ≡ Cause cause) → read ≡ Err cause → Answers answer read
+answers_cause (Ok value) read cause h e = let no : false ≡ true = h.0 in cc no
+answers_cause (Err fault) read cause h e = rw (h.1, e) refl
 
 -- a word with a byte that is not printable is none of the words
 pub others_unprintable : (word : Text) (rows : List CallRow) → is_printable word ≡ false → list_all (λ row. is_printable row.word) rows ≡ true → AreOthers word rows

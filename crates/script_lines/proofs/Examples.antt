@@ -58,6 +58,10 @@ pub first_of_two : script_of (codes "0 add x") ≡ refused 1 cause.BadArguments
 unfolding on_scripts
 first_of_two = refl
 
-pub not_yet : script_of (codes "0 accum 0") ≡ refused 1 cause.UnknownCall
+pub not_yet : script_of (codes "0 register") ≡ refused 1 cause.UnknownCall
 unfolding on_scripts
 not_yet = refl
+
+pub threshold_too_large : script_of (codes "0 overflow 0 CYCLES 18446744073709551615\n0 overflow 0 CYCLES 18446744073709551616") ≡ refused 2 cause.BadNumber
+unfolding on_scripts
+threshold_too_large = refl

@@ -1,5 +1,5 @@
 -- The calls of a script by their words, in the order of the table of calls: this project's own format, docs/FORMATS.md.
-use Rattle.std.specs.Prelude.{ℕ, List, [], ◌∷◌, Option, Some, None, Result, Err, if◌then◌else◌, codes, slice_get}
+use Rattle.std.specs.Prelude.{ℕ, List, [], ◌∷◌, drop, Option, Some, None, Result, Err, if◌then◌else◌, codes, slice_get}
 use Rattle.std.specs.Str.{bytes_eq}
 use Rattle.table_rows.specs.Texts.{Text}
 use Rattle.script_lines.specs.declared.call.ScriptCall.{ScriptCall}
@@ -7,13 +7,15 @@ use Rattle.script_lines.specs.declared.call.ScriptCall.TheVariants as call
 use Rattle.script_lines.specs.declared.fault.ScriptCause.{ScriptCause}
 use Rattle.script_lines.specs.declared.fault.ScriptCause.TheVariants.{UnknownCall}
 use Rattle.script_lines.specs.Answers.{made_of}
-use Rattle.script_lines.specs.Arguments.{nothing, one_number, set_and_event}
+use Rattle.script_lines.specs.Arguments.{nothing, one_number, set_and_event, set_event_and_threshold, two_numbers}
 
 -- what arguments a call has, and the call that they make
 pub data Form : Type 0 where
   Nothing : ScriptCall → Form
   Number : (ℕ → ScriptCall) → Form
+  TwoNumbers : (ℕ → ℕ → ScriptCall) → Form
   SetAndEvent : (ℕ → Text → ScriptCall) → Form
+  SetEventAndThreshold : (ℕ → Text → ℕ → ScriptCall) → Form
 
 -- a call's word, and its form where it is built
 pub record CallRow : Type 0 where
@@ -32,27 +34,31 @@ call_rows =
     ∷ not_built (codes "unregister")
     ∷ not_built (codes "threads")
     ∷ built (codes "create") (Nothing call.Create)
-    ∷ not_built (codes "destroy")
-    ∷ not_built (codes "cleanup")
+    ∷ built (codes "destroy") (Number (λ set. call.Destroy set))
+    ∷ built (codes "cleanup") (Number (λ set. call.Cleanup set))
     ∷ built (codes "add") (SetAndEvent (λ set event. call.Add set event))
-    ∷ not_built (codes "remove")
-    ∷ not_built (codes "component")
-    ∷ not_built (codes "domain")
-    ∷ not_built (codes "multiplex")
-    ∷ not_built (codes "overflow")
+    ∷ built (codes "remove") (SetAndEvent (λ set event. call.Remove set event))
+    ∷ built (codes "component") (TwoNumbers (λ set component. call.Component set component))
+    ∷ built (codes "domain") (TwoNumbers (λ set bits. call.Domain set bits))
+    ∷ built (codes "multiplex") (TwoNumbers (λ set slice. call.Multiplex set slice))
+    ∷ built (codes "overflow") (SetEventAndThreshold (λ set event threshold. call.Overflow set event threshold))
     ∷ built (codes "start") (Number (λ set. call.Start set))
     ∷ built (codes "stop") (Number (λ set. call.Stop set))
     ∷ built (codes "read") (Number (λ set. call.Read set))
-    ∷ not_built (codes "accum")
-    ∷ not_built (codes "reset")
-    ∷ not_built (codes "state")
+    ∷ built (codes "accum") (Number (λ set. call.Accum set))
+    ∷ built (codes "reset") (Number (λ set. call.Reset set))
+    ∷ built (codes "state") (Number (λ set. call.State set))
     ∷ built (codes "events") (Number (λ set. call.Events set))
     ∷ built (codes "assign") (Number (λ set. call.Assign set))
-    ∷ not_built (codes "raw")
+    ∷ built (codes "raw") (TwoNumbers (λ set counter. call.Raw set counter))
     ∷ built (codes "run") (Number (λ count. call.Run count))
     ∷ not_built (codes "code")
     ∷ not_built (codes "name")
     ∷ []
+
+-- the rows from `start` on
+abbrev pub counting_rows : List CallRow
+counting_rows = drop 12 call_rows
 
 abbrev pub word_in : Option CallRow → Text
 word_in None = []
@@ -72,7 +78,9 @@ abbrev pub call_by : Option Form → List Text → Result ScriptCall ScriptCause
 call_by None arguments = Err UnknownCall
 call_by (Some (Nothing call)) arguments = made_of (λ none. call) (nothing arguments)
 call_by (Some (Number make)) arguments = made_of make (one_number arguments)
+call_by (Some (TwoNumbers make)) arguments = made_of (λ p. make p.0 p.1) (two_numbers arguments)
 call_by (Some (SetAndEvent make)) arguments = made_of (λ p. make p.0 p.1) (set_and_event arguments)
+call_by (Some (SetEventAndThreshold make)) arguments = made_of (λ p. make p.0 p.1 p.2) (set_event_and_threshold arguments)
 
 abbrev pub call_of : Text → List Text → Result ScriptCall ScriptCause
 call_of word arguments = call_by (form_of word call_rows) arguments

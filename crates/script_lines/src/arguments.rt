@@ -19,6 +19,16 @@ fn number_in(word: &[u8]) -> Result<u32, ScriptCause>
     }
 }
 
+// The number of 64 bits that a word is, in decimal without leading zeros.
+fn threshold_in(word: &[u8]) -> Result<u64, ScriptCause>
+    ensures { result ≡ Arguments.threshold_in word.now }
+{
+    match decimal_in(0, u64::MAX, word) {
+        Some(number) => Ok(number),
+        None => Err(ScriptCause::BadNumber),
+    }
+}
+
 // No argument.
 pub(crate) fn nothing(arguments: &[&[u8]]) -> Result<(), ScriptCause>
     ensures { result ≡ Arguments.nothing (map (λ w. w.now) arguments.now) }
@@ -39,6 +49,16 @@ pub(crate) fn one_number(arguments: &[&[u8]]) -> Result<u32, ScriptCause>
     }
 }
 
+// Two numbers.
+pub(crate) fn two_numbers(arguments: &[&[u8]]) -> Result<(u32, u32), ScriptCause>
+    ensures { result ≡ Arguments.two_numbers (map (λ w. w.now) arguments.now) }
+{
+    match arguments {
+        [first, second] => Ok((number_in(*first)?, number_in(*second)?)),
+        _ => Err(ScriptCause::BadArguments),
+    }
+}
+
 // The number of a set, and an event.
 pub(crate) fn set_and_event(alloc: Global, arguments: &[&[u8]]) -> Result<(u32, Text), LineFault>
     ensures { Answers result (Arguments.set_and_event (map (λ w. w.now) arguments.now)) }
@@ -51,4 +71,22 @@ pub(crate) fn set_and_event(alloc: Global, arguments: &[&[u8]]) -> Result<(u32, 
     };
     let set = number_in(*set)?;
     Ok((set, Text::copy_of(alloc, event)?))
+}
+
+// The number of a set, an event and a threshold.
+pub(crate) fn set_event_and_threshold(
+    alloc: Global,
+    arguments: &[&[u8]],
+) -> Result<(u32, Text, u64), LineFault>
+    ensures { Answers result (Arguments.set_event_and_threshold (map (λ w. w.now) arguments.now)) }
+{
+    let [set, event, threshold] = arguments else {
+        return Err(LineFault::Cause(ScriptCause::BadArguments));
+    };
+    let Some(event) = printable_text(*event) else {
+        return Err(LineFault::Cause(ScriptCause::BadArguments));
+    };
+    let set = number_in(*set)?;
+    let threshold = threshold_in(*threshold)?;
+    Ok((set, Text::copy_of(alloc, event)?, threshold))
 }

@@ -11,13 +11,68 @@ use papi_base::Text;
 #[derive(Drop)]
 pub enum ScriptCall {
     Create,
-    Add { set: u32, event: Text },
-    Start { set: u32 },
-    Stop { set: u32 },
-    Read { set: u32 },
-    Events { set: u32 },
-    Assign { set: u32 },
-    Run { count: u32 },
+    Destroy {
+        set: u32,
+    },
+    Cleanup {
+        set: u32,
+    },
+    Add {
+        set: u32,
+        event: Text,
+    },
+    Remove {
+        set: u32,
+        event: Text,
+    },
+    Component {
+        set: u32,
+        component: u32,
+    },
+    Domain {
+        set: u32,
+        bits: u32,
+    },
+    Multiplex {
+        set: u32,
+        slice: u32,
+    },
+    Overflow {
+        set: u32,
+        event: Text,
+        threshold: u64,
+    },
+    Start {
+        set: u32,
+    },
+    Stop {
+        set: u32,
+    },
+    Read {
+        set: u32,
+    },
+    Accum {
+        set: u32,
+    },
+    Reset {
+        set: u32,
+    },
+    State {
+        set: u32,
+    },
+    Events {
+        set: u32,
+    },
+    Assign {
+        set: u32,
+    },
+    Raw {
+        set: u32,
+        counter: u32,
+    },
+    Run {
+        count: u32,
+    },
 }
 
 impl ScriptCall {
@@ -27,12 +82,23 @@ impl ScriptCall {
     {
         match self {
             ScriptCall::Create => 3,
+            ScriptCall::Destroy { .. } => 4,
+            ScriptCall::Cleanup { .. } => 5,
             ScriptCall::Add { .. } => 6,
+            ScriptCall::Remove { .. } => 7,
+            ScriptCall::Component { .. } => 8,
+            ScriptCall::Domain { .. } => 9,
+            ScriptCall::Multiplex { .. } => 10,
+            ScriptCall::Overflow { .. } => 11,
             ScriptCall::Start { .. } => 12,
             ScriptCall::Stop { .. } => 13,
             ScriptCall::Read { .. } => 14,
+            ScriptCall::Accum { .. } => 15,
+            ScriptCall::Reset { .. } => 16,
+            ScriptCall::State { .. } => 17,
             ScriptCall::Events { .. } => 18,
             ScriptCall::Assign { .. } => 19,
+            ScriptCall::Raw { .. } => 20,
             ScriptCall::Run { .. } => 21,
         }
     }

@@ -6,7 +6,7 @@ ghost use Rattle.script_lines.specs.Answers.{Answers};
 ghost use Rattle.script_lines.specs.Lines as Lines;
 ghost use Rattle.script_lines.specs.Calls as Calls;
 
-use crate::arguments::{nothing, one_number, set_and_event};
+use crate::arguments::{nothing, one_number, set_and_event, set_event_and_threshold, two_numbers};
 use crate::call::ScriptCall;
 use crate::fault::{LineFault, ScriptCause};
 use crate::script::ScriptLine;
@@ -67,39 +67,64 @@ fn thread_in(word: &[u8]) -> Result<u32, ScriptCause>
     }
 }
 
+// The call of a name from `start` on in the table of calls.
+#[tactic(auto, unfolding(crate::specs::Calls::call_rows))]
+fn counting_call(name: &str, arguments: &[&[u8]]) -> Result<ScriptCall, ScriptCause>
+    ensures { result ≡ Calls.call_by (Calls.form_of name.now Calls.counting_rows) (map (λ w. w.now) arguments.now) }
+{
+    match name {
+        "start" => one_number(arguments).map(|set| ScriptCall::Start { set }),
+        "stop" => one_number(arguments).map(|set| ScriptCall::Stop { set }),
+        "read" => one_number(arguments).map(|set| ScriptCall::Read { set }),
+        "accum" => one_number(arguments).map(|set| ScriptCall::Accum { set }),
+        "reset" => one_number(arguments).map(|set| ScriptCall::Reset { set }),
+        "state" => one_number(arguments).map(|set| ScriptCall::State { set }),
+        "events" => one_number(arguments).map(|set| ScriptCall::Events { set }),
+        "assign" => one_number(arguments).map(|set| ScriptCall::Assign { set }),
+        "raw" => two_numbers(arguments).map(|(set, counter)| ScriptCall::Raw { set, counter }),
+        "run" => one_number(arguments).map(|count| ScriptCall::Run { count }),
+        _ => Err(ScriptCause::UnknownCall),
+    }
+}
+
 // The call of a name and its arguments.
 #[tactic(auto, unfolding(crate::specs::Calls::call_rows))]
 fn call_named(alloc: Global, name: &str, arguments: &[&[u8]]) -> Result<ScriptCall, LineFault>
     ensures { Answers result (Calls.call_of name.now (map (λ w. w.now) arguments.now)) }
 {
     match name {
-        "create" => {
-            nothing(arguments)?;
-            Ok(ScriptCall::Create)
-        }
+        "create" => Ok(nothing(arguments).map(|()| ScriptCall::Create)?),
+        "destroy" => Ok(one_number(arguments).map(|set| ScriptCall::Destroy { set })?),
+        "cleanup" => Ok(one_number(arguments).map(|set| ScriptCall::Cleanup { set })?),
         "add" => {
             let (set, event) = set_and_event(alloc, arguments)?;
             Ok(ScriptCall::Add { set, event })
         }
-        "start" => Ok(ScriptCall::Start {
-            set: one_number(arguments)?,
-        }),
-        "stop" => Ok(ScriptCall::Stop {
-            set: one_number(arguments)?,
-        }),
-        "read" => Ok(ScriptCall::Read {
-            set: one_number(arguments)?,
-        }),
-        "events" => Ok(ScriptCall::Events {
-            set: one_number(arguments)?,
-        }),
-        "assign" => Ok(ScriptCall::Assign {
-            set: one_number(arguments)?,
-        }),
-        "run" => Ok(ScriptCall::Run {
-            count: one_number(arguments)?,
-        }),
-        _ => Err(LineFault::Cause(ScriptCause::UnknownCall)),
+        "remove" => {
+            let (set, event) = set_and_event(alloc, arguments)?;
+            Ok(ScriptCall::Remove { set, event })
+        }
+        "component" => {
+            let (set, component) = two_numbers(arguments)?;
+            Ok(ScriptCall::Component { set, component })
+        }
+        "domain" => {
+            let (set, bits) = two_numbers(arguments)?;
+            Ok(ScriptCall::Domain { set, bits })
+        }
+        "multiplex" => {
+            let (set, slice) = two_numbers(arguments)?;
+            Ok(ScriptCall::Multiplex { set, slice })
+        }
+        "overflow" => {
+            let (set, event, threshold) = set_event_and_threshold(alloc, arguments)?;
+            Ok(ScriptCall::Overflow {
+                set,
+                event,
+                threshold,
+            })
+        }
+        _ => Ok(counting_call(name, arguments)?),
     }
 }
 

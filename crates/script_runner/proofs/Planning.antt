@@ -5,7 +5,7 @@ use Rattle.std.proofs.lemmas.List.Elements.{All-map, All-nil, All-push}
 use Rattle.std.specs.Prelude.{All}
 use Rattle.component_table.specs.Catalogs.{CatalogView}
 use Rattle.plan_runner.specs.declared.plan.PlanLine.{PlanLine}
-use Rattle.plan_runner.specs.Plans.{AreThreads, IsOfferedBy, IsPlanOf, Ask, ask_of, asks_from}
+use Rattle.plan_runner.specs.Plans.{AreThreads, IsPlanOf, Ask, ask_of, asks_from}
 use Rattle.plan_runner.specs.Runs.{reply_lines}
 use Rattle.papi_base.specs.declared.native.Native.{Native}
 use Rattle.script_lines.specs.Rows.{row_of}
@@ -17,17 +17,15 @@ use Rattle.session_model.specs.World.{Told, mentioned_after}
 pub record Planned (catalog : CatalogView) (done : List ScriptLine) (plan : List PlanLine) : Type 0 where
   pub same : plan ≡ map (plan_line catalog) done
   pub good : All (IsGoodLine catalog) plan
-  pub offered : All (λ p. IsOfferedBy p.planned) plan
 
 pub planned-none : (catalog : CatalogView) → Planned catalog [] []
-planned-none catalog = record { same = refl; good = All-nil (IsGoodLine catalog); offered = All-nil (λ p. IsOfferedBy p.planned) }
+planned-none catalog = record { same = refl; good = All-nil (IsGoodLine catalog) }
 
-pub planned-more : (catalog : CatalogView) (done : List ScriptLine) (l : ScriptLine) (plan : List PlanLine) (p : PlanLine) → p ≡ plan_line catalog l → IsGoodLine catalog p → IsOfferedBy p.planned
+pub planned-more : (catalog : CatalogView) (done : List ScriptLine) (l : ScriptLine) (plan : List PlanLine) (p : PlanLine) → p ≡ plan_line catalog l → IsGoodLine catalog p
     → Planned catalog done plan → Planned catalog (done ++ l ∷ []) (plan ++ p ∷ [])
-planned-more catalog done l plan p e good offered so_far = record {
+planned-more catalog done l plan p e good so_far = record {
   same = ap (λ (ps : List PlanLine). ps ++ p ∷ []) so_far.same ∙ ap (λ (q : PlanLine). map (plan_line catalog) done ++ q ∷ []) e ∙ sym (map-append (plan_line catalog) done (l ∷ []));
   good = All-push (IsGoodLine catalog) plan p so_far.good good;
-  offered = All-push (λ p. IsOfferedBy p.planned) plan p so_far.offered offered;
 }
 
 threads_each : (catalog : CatalogView) (ls : List ScriptLine) → All (λ l. l.thread < 64) ls → All (λ (p : PlanLine). p.thread < 64) (map (plan_line catalog) ls)

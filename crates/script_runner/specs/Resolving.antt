@@ -23,12 +23,23 @@ setting_of catalog = record { book = catalog.book; codes = map (λ r. r.code) pr
 -- the call on the thread's session that a line asks for
 abbrev pub call_of : CatalogView → ScriptCall → Call
 call_of catalog script.Create = call.Create
+call_of catalog (script.Destroy set) = call.Destroy set
+call_of catalog (script.Cleanup set) = call.Cleanup set
 call_of catalog (script.Add set event) = call.Add set (looked_up catalog event)
+call_of catalog (script.Remove set event) = call.Remove set (looked_up catalog event)
+call_of catalog (script.Component set component) = call.AssignComponent set component
+call_of catalog (script.Domain set bits) = call.SetDomain set bits
+call_of catalog (script.Multiplex set slice) = call.SetMultiplex set slice
+call_of catalog (script.Overflow set event threshold) = call.Overflow set (looked_up catalog event) threshold
 call_of catalog (script.Start set) = call.Start set
 call_of catalog (script.Stop set) = call.Stop set
 call_of catalog (script.Read set) = call.Read set
+call_of catalog (script.Accum set) = call.Accum set
+call_of catalog (script.Reset set) = call.Reset set
+call_of catalog (script.State set) = call.State set
 call_of catalog (script.Events set) = call.ListEvents set
 call_of catalog (script.Assign set) = call.Assign set
+call_of catalog (script.Raw set counter) = call.Raw set counter
 call_of catalog (script.Run count) = call.Run count
 
 abbrev pub line_of : CatalogView → ScriptLine → Line

@@ -9,7 +9,7 @@ pub use resolving::resolve;
 pub use script_lines::{
     Script, ScriptCall, ScriptCause, ScriptFault, ScriptLine, call_word, cause_text, read_script,
 };
-pub use writing::write_replies;
+pub use writing::{write_notes, write_replies};
 
 #[cfg(test)]
 mod tests;

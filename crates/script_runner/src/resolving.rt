@@ -1,14 +1,13 @@
 //! A script's lines, with their events looked up.
 
-ghost use Rattle.std.specs.Prelude.{◌≡◌, IfOk, List, map, true};
+ghost use Rattle.std.specs.Prelude.{◌≡◌, IfOk, List, map};
 ghost use Rattle.component_table.specs.Catalogs.{shape_of};
-ghost use Rattle.plan_runner.specs.Plans.{AreGood, AreOffered, AreThreads, IsOfferedBy, IsPlanOf};
+ghost use Rattle.plan_runner.specs.Plans.{AreGood, AreThreads, IsPlanOf};
 ghost use Rattle.plan_runner.specs.Runs.{reply_lines};
 ghost use Rattle.script_runner.specs.Resolving as Resolving;
 ghost use Rattle.script_runner.specs.Resolving.{lines_of, plan_line, reply_lines_of, setting_of};
 ghost use Rattle.session_model.specs.Conditions.{IsGood};
 ghost use Rattle.session_model.specs.World.{Told};
-ghost use Rattle.thread_session.specs.Offered.{is_offered};
 
 use component_table::Catalog;
 use plan_runner::{Plan, PlanLine, Planned};
@@ -20,20 +19,44 @@ use std::alloc::{AllocError, Global};
 fn call_of(catalog: &Catalog, call: &ScriptCall) -> Call
     ensures call { result ≡ Resolving.call_of catalog.now call.now }
     ensures good { IsGood catalog.now.book (shape_of catalog.now.tables) result }
-    ensures offered { is_offered result ≡ true }
 {
-    match call {
+    match *call {
         ScriptCall::Create => Call::Create,
-        ScriptCall::Add { set, event } => Call::Add {
-            set: *set,
+        ScriptCall::Destroy { set } => Call::Destroy { set },
+        ScriptCall::Cleanup { set } => Call::Cleanup { set },
+        ScriptCall::Add { set, ref event } => Call::Add {
+            set,
             e: catalog.lookup(event.as_str()),
         },
-        ScriptCall::Start { set } => Call::Start { set: *set },
-        ScriptCall::Stop { set } => Call::Stop { set: *set },
-        ScriptCall::Read { set } => Call::Read { set: *set },
-        ScriptCall::Events { set } => Call::ListEvents { set: *set },
-        ScriptCall::Assign { set } => Call::Assign { set: *set },
-        ScriptCall::Run { count } => Call::Run { n: *count },
+        ScriptCall::Remove { set, ref event } => Call::Remove {
+            set,
+            e: catalog.lookup(event.as_str()),
+        },
+        ScriptCall::Component {
+            set,
+            component: comp,
+        } => Call::AssignComponent { set, comp },
+        ScriptCall::Domain { set, bits } => Call::SetDomain { set, bits },
+        ScriptCall::Multiplex { set, slice } => Call::SetMultiplex { set, slice },
+        ScriptCall::Overflow {
+            set,
+            ref event,
+            threshold: t,
+        } => Call::Overflow {
+            set,
+            e: catalog.lookup(event.as_str()),
+            t,
+        },
+        ScriptCall::Start { set } => Call::Start { set },
+        ScriptCall::Stop { set } => Call::Stop { set },
+        ScriptCall::Read { set } => Call::Read { set },
+        ScriptCall::Accum { set } => Call::Accum { set },
+        ScriptCall::Reset { set } => Call::Reset { set },
+        ScriptCall::State { set } => Call::State { set },
+        ScriptCall::Events { set } => Call::ListEvents { set },
+        ScriptCall::Assign { set } => Call::Assign { set },
+        ScriptCall::Raw { set, counter: c } => Call::Raw { set, c },
+        ScriptCall::Run { count: n } => Call::Run { n },
     }
 }
 
@@ -41,7 +64,6 @@ fn call_of(catalog: &Catalog, call: &ScriptCall) -> Call
 fn plan_line_of(catalog: &Catalog, line: &ScriptLine) -> PlanLine
     ensures line { result ≡ plan_line catalog.now line.now }
     ensures good { Resolving.IsGoodLine catalog.now result }
-    ensures offered { IsOfferedBy result.planned }
 {
     PlanLine {
         number: line.line,
@@ -58,7 +80,6 @@ pub fn resolve(alloc: Global, script: &Script, catalog: &Catalog) -> Result<Plan
     ensures plan { IfOk result (λ plan. IsPlanOf (setting_of catalog.now) (lines_of catalog.now script.now) plan) }
     ensures heads { IfOk result (λ plan. (told : List Told) → reply_lines plan told ≡ reply_lines_of script.now told) }
     ensures good { IfOk result (λ plan. AreGood catalog.now.book (shape_of catalog.now.tables) plan) }
-    ensures offered { IfOk result AreOffered }
 {
     let mut lines = Vec::new(alloc);
     for line in script.lines() {

@@ -1,13 +1,15 @@
-//! Replies, written as text.
+//! Replies and notes, written as text.
 
 ghost use Rattle.std.specs.Prelude.{◌≡◌, ◌≤◌, ℕ, take, length, OnOk, OnErr, IsErrOf, IfOk};
 ghost use Rattle.papi_base.specs.Outside.{Rose, appended};
-ghost use Rattle.script_runner.specs.Replies.{reply_line_text, reply_text};
+ghost use Rattle.reply_text.specs.Notes.{note_text};
+ghost use Rattle.script_runner.specs.Replies.{notes_text, reply_line_text, reply_text};
 
 use component_table::Catalog;
+use overflow_dispatch::Note;
 use papi_base::{Sink, Text, WriteFail, write_whole};
 use plan_runner::ReplyLine;
-use reply_text::reply_line;
+use reply_text::{note_line, reply_line};
 use std::alloc::Global;
 
 // The text of a reply.
@@ -47,6 +49,32 @@ pub fn write_replies<K: Sink>(
     for line in lines {
         let text = line_text(alloc, catalog, line)?;
         write_whole(out, text.as_bytes())?;
+    }
+    Ok(())
+}
+
+// The text of a note.
+fn noted_text(alloc: Global, note: &Note) -> Result<Text, WriteFail>
+    ensures text { IfOk result (λ text. text ≡ note_text note.now) }
+    ensures not_failed { IsErrOf result WriteFail.Failed → ⊥ }
+{
+    note_line(alloc, note).map_err(|_error| WriteFail::Memory)
+}
+
+/// Writes the notes of passed thresholds in order, each as a line: the thread, the number of the set, the event's index in it
+/// and the program counter. After an error the first part of this text is written.
+#[tactic(auto, unfolding(crate::specs::Replies::notes_text))]
+pub fn write_notes<K: Sink>(alloc: Global, notes: &[Note], out: &mut K) -> Result<(), WriteFail>
+    ensures ok { OnOk result (K.taken out.new ≡ appended (K.taken out.old) (notes_text notes.now)) }
+    ensures part { OnErr result ((k : ℕ) × (k ≤ length (notes_text notes.now)) × (K.taken out.new ≡ appended (K.taken out.old) (take k (notes_text notes.now)))) }
+    ensures failed { IsErrOf result WriteFail.Failed → Rose (K.faults out.old) (K.faults out.new) }
+    ensures quiet { OnOk result (K.faults out.new ≡ K.faults out.old) }
+    ensures memory { IsErrOf result WriteFail.Memory → K.faults out.new ≡ K.faults out.old }
+    ensures falls_never { K.faults out.old ≤ K.faults out.new }
+{
+    for note in notes {
+        let line = noted_text(alloc, note)?;
+        write_whole(out, line.as_bytes())?;
     }
     Ok(())
 }

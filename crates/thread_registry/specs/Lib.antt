@@ -9,6 +9,5 @@ pub use Rattle.session_model.specs.Conditions
 pub use Rattle.session_model.specs.Step
 pub use Rattle.session_model.specs.World
 pub use Rattle.thread_session.specs.Faults
-pub use Rattle.thread_session.specs.Offered
 pub use Rattle.thread_session.specs.SessionView
 pub use Rattle.thread_session.specs.Stands

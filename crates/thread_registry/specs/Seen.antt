@@ -1,5 +1,5 @@
 -- What is seen of a thread's job, before and after its work.
-use Rattle.std.specs.Prelude.{◌≡◌, ℕ, ◌<◌, Bool, true, false, List, All, ◌++◌, length, take}
+use Rattle.std.specs.Prelude.{◌≡◌, ℕ, ◌<◌, Bool, false, List, All, ◌++◌, length, take}
 use Rattle.std.specs.Bool.{MatchBool}
 use Rattle.postfix_rules.specs.Presets.{Book}
 use Rattle.overflow_dispatch.specs.declared.handler.Note.{Note}
@@ -10,7 +10,6 @@ use Rattle.session_model.specs.Account.{Account}
 use Rattle.session_model.specs.Conditions.{IsGood}
 use Rattle.session_model.specs.Step.{account_after, replies_to, notes_to}
 use Rattle.thread_session.specs.Faults.{FaultsKept, FaultsRose, IsFault, fault_count}
-use Rattle.thread_session.specs.Offered.{is_offered}
 use Rattle.thread_session.specs.SessionView.{SessionView}
 use Rattle.thread_session.specs.Stands.{IsReady, Stands}
 
@@ -22,11 +21,10 @@ pub record Seen : Type 0 where
   pub replies : List Reply
   pub starved : Bool
 
--- the session and the calls meet the conditions of calls with this book, and sessions offer the calls
+-- the session and the calls meet the conditions of calls with this book
 pub record CanWork (book : Book) (session : SessionView) (calls : List Call) : Type 0 where
   pub ready : IsReady book session
   pub good : All (IsGood book session.core.shape) calls
-  pub offered : All (λ c. is_offered c ≡ true) calls
 
 -- These replies were made, whether or not the session's source tells its bytes. One that says that the source failed comes only where the count of faults rose.
 pub record Replied (x y : Seen) (made : List Reply) : Type 0 where

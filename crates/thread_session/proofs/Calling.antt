@@ -22,8 +22,7 @@ use Rattle.thread_core.specs.CoreView.{CoreView}
 use Rattle.thread_core.specs.Following.{Follows}
 use Rattle.thread_core.specs.Stands.{AgreesWith}
 use Rattle.thread_session.specs.Faults.{IsFault, IsFaultBody}
-use Rattle.thread_session.specs.Follows.{Does, FollowsAs, expecting}
-use Rattle.thread_session.specs.Offered.{is_run}
+use Rattle.thread_session.specs.Follows.{Does, FollowsAs, expecting, is_run}
 use Rattle.thread_session.specs.SessionView.{AreInStep, SessionView}
 use Rattle.thread_session.proofs.Endings.{core_at, follows_reply, follows_stands}
 

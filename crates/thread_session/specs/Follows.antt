@@ -1,5 +1,5 @@
 -- What calls on a session do to the accounts for which it stands.
-use Rattle.std.specs.Prelude.{ℕ, ◌≡◌, ◌<◌, List, [], ◌∷◌, ◌++◌, length, Some}
+use Rattle.std.specs.Prelude.{ℕ, ◌≡◌, ◌<◌, Bool, true, false, List, [], ◌∷◌, ◌++◌, length, Some}
 use Rattle.papi_base.specs.declared.occurrence.Occ.{Occ}
 use Rattle.papi_base.specs.Streams.{Coming}
 use Rattle.overflow_dispatch.specs.Notes.{PartAdded}
@@ -18,6 +18,11 @@ use Rattle.thread_core.specs.Following.{Follows}
 use Rattle.thread_core.specs.Stands.{CoreStands}
 use Rattle.thread_session.specs.SessionView.{SessionView}
 use Rattle.thread_session.specs.Stands.{Stands}
+
+-- a run, which alone consumes occurrences and takes memory
+abbrev pub is_run : Call → Bool
+is_run (call.Run n) = true
+is_run made = false
 
 -- the reply of a run
 abbrev pub run_reply : Ran → Reply

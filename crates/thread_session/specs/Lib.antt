@@ -2,7 +2,6 @@ pub mod SessionView
 pub mod Faults
 pub mod Stands
 pub mod Follows
-pub mod Offered
 pub mod Folds
 pub use Rattle.event_sets.specs.Agreement
 pub use Rattle.overflow_dispatch.specs.Notes

@@ -1,11 +1,11 @@
 //! What the calls of a core answer, as replies.
-ghost use Rattle.std.specs.Prelude.{◌≡◌, false, true};
+ghost use Rattle.std.specs.Prelude.{◌≡◌, false};
 ghost use Rattle.session_model.specs.Conditions.{IsGood};
+ghost use Rattle.session_model.specs.declared.call.Call.TheVariants as call;
 ghost use Rattle.session_model.specs.declared.reply.Body.TheVariants as body;
 ghost use Rattle.thread_core.specs.Following.{Follows, changed_reply, reply_of, values_reply};
 ghost use Rattle.thread_core.specs.Stands.{AgreesWith};
-ghost use Rattle.thread_session.specs.Follows.{run_reply};
-ghost use Rattle.thread_session.specs.Offered.{is_offered, is_run};
+ghost use Rattle.thread_session.specs.Follows.{is_run, run_reply};
 
 use event_sets::Refusal;
 use papi_base::{Code, Events, Values};
@@ -45,6 +45,30 @@ fn changed_reply(answer: Result<(), Refusal>) -> Reply
             code: Code::Ecnflct,
             body: Body::Clash(clash),
         },
+    }
+}
+
+fn state_reply(answer: Result<u32, Code>) -> Reply
+    ensures { result ≡ reply_of (λ bits. body.State bits) answer }
+{
+    match answer {
+        Ok(bits) => Reply {
+            code: Code::Ok,
+            body: Body::State(bits),
+        },
+        Err(code) => plain(code),
+    }
+}
+
+fn register_reply(answer: Result<u64, Code>) -> Reply
+    ensures { result ≡ reply_of (λ value. body.Register value) answer }
+{
+    match answer {
+        Ok(value) => Reply {
+            code: Code::Ok,
+            body: Body::Register(value),
+        },
+        Err(code) => plain(code),
     }
 }
 
@@ -99,43 +123,64 @@ pub(crate) fn run_reply(ran: Ran) -> Reply
     }
 }
 
+/// Stops a set.
+fn stop(core: &mut Core, book: &PresetBook, set: u32) -> Reply
+    requires agrees { AgreesWith book.now core.old }
+    ensures { Follows book.now core.old core.new (call.Stop set) result }
+{
+    let mut values = Values::new();
+    let code = core.stop(book, set, &mut values);
+    values_reply(code, values)
+}
+
+/// Reads a set.
+fn read(core: &Core, book: &PresetBook, set: u32) -> Reply
+    requires agrees { AgreesWith book.now core.now }
+    ensures { Follows book.now core.now core.now (call.Read set) result }
+{
+    let mut values = Values::new();
+    let code = core.read(book, set, &mut values);
+    values_reply(code, values)
+}
+
+/// Adds the values of a set to the caller's.
+fn accum(core: &mut Core, book: &PresetBook, set: u32) -> Reply
+    requires agrees { AgreesWith book.now core.old }
+    ensures { Follows book.now core.old core.new (call.Accum set) result }
+{
+    let mut values = Values::new();
+    let code = core.accum(book, set, &mut values);
+    values_reply(code, values)
+}
+
 /// Makes a call that is no run.
 pub(crate) fn make(core: &mut Core, book: &PresetBook, c: &Call) -> Reply
     requires agrees { AgreesWith book.now core.old }
     requires good { IsGood book.now core.old.shape c.now }
-    requires offered { is_offered c.now ≡ true }
     requires still { is_run c.now ≡ false }
     ensures { Follows book.now core.old core.new c.now result }
 {
     match c {
+        Call::Register => plain(core.register(book)),
+        Call::Unregister => plain(core.unregister(book)),
         Call::Create => number_reply(core.create(book)),
+        Call::Destroy { set } => plain(core.destroy(book, *set)),
+        Call::Cleanup { set } => plain(core.cleanup(book, *set)),
         Call::Add { set, e } => changed_reply(core.add(book, *set, e)),
+        Call::Remove { set, e } => plain(core.remove(book, *set, e)),
+        Call::AssignComponent { set, comp } => plain(core.assign_component(book, *set, *comp)),
+        Call::SetDomain { set, bits } => plain(core.set_domain(book, *set, *bits)),
+        Call::SetMultiplex { set, slice } => plain(core.set_multiplex(book, *set, *slice)),
+        Call::Overflow { set, e, t } => plain(core.overflow(book, *set, e, *t)),
         Call::Start { set } => plain(core.start(book, *set)),
+        Call::Stop { set } => stop(core, book, *set),
+        Call::Read { set } => read(core, book, *set),
+        Call::Accum { set } => accum(core, book, *set),
+        Call::Reset { set } => plain(core.reset(book, *set)),
+        Call::State { set } => state_reply(core.state(book, *set)),
         Call::ListEvents { set } => events_reply(core.list_events(book, *set)),
         Call::Assign { set } => assigned_reply(core.assign(book, *set)),
-        Call::Stop { set } => {
-            let mut values = Values::new();
-            let code = core.stop(book, *set, &mut values);
-            values_reply(code, values)
-        }
-        Call::Read { set } => {
-            let mut values = Values::new();
-            let code = core.read(book, *set, &mut values);
-            values_reply(code, values)
-        }
-        Call::Register
-        | Call::Unregister
-        | Call::Destroy { .. }
-        | Call::Cleanup { .. }
-        | Call::Remove { .. }
-        | Call::AssignComponent { .. }
-        | Call::SetDomain { .. }
-        | Call::SetMultiplex { .. }
-        | Call::Overflow { .. }
-        | Call::Accum { .. }
-        | Call::Reset { .. }
-        | Call::State { .. }
-        | Call::Raw { .. }
-        | Call::Run { .. } => unreachable!(),
+        Call::Raw { set, c } => register_reply(core.raw(book, *set, *c)),
+        Call::Run { .. } => unreachable!(),
     }
 }

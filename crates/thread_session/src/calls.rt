@@ -1,5 +1,5 @@
 //! The calls on a session's sets, each as the core makes it.
-ghost use Rattle.std.specs.Prelude.{◌≡◌, ◌≢◌, ◌++◌, IfOk, OnErr, OnOk, false, true};
+ghost use Rattle.std.specs.Prelude.{◌≡◌, ◌≢◌, ◌++◌, IfOk, OnErr, OnOk, false};
 ghost use Rattle.overflow_dispatch.specs.Notes.{PartAdded};
 ghost use Rattle.papi_base.specs.declared.code.Code.TheVariants as code;
 ghost use Rattle.session_model.specs.Account.{Account};
@@ -21,9 +21,25 @@ use std::alloc::AllocError;
 
 impl<S: Source> Session<S> {
     ghost use Rattle.thread_session.specs.Faults.{FaultsKept, FaultsRose, IsFault, fault_count};
-    ghost use Rattle.thread_session.specs.Follows.{Does, FollowsAs, IsCutIn};
-    ghost use Rattle.thread_session.specs.Offered.{is_offered, is_run};
+    ghost use Rattle.thread_session.specs.Follows.{Does, FollowsAs, IsCutIn, is_run};
     ghost use Rattle.thread_session.specs.Stands.{IsReady, Stands};
+
+    /// Registers the thread: PAPI_register_thread(3).
+    pub fn register(&mut self, book: &PresetBook) -> Code
+        requires ready { IsReady book.now self.old }
+        ensures { Does book.now self.old self.new call.Register (plain result) }
+    {
+        self.core.register(book)
+    }
+
+    /// Takes the registration back: PAPI_unregister_thread(3). EISRUN where some set of the thread runs, EINVAL where the thread is
+    /// not registered.
+    pub fn unregister(&mut self, book: &PresetBook) -> Code
+        requires ready { IsReady book.now self.old }
+        ensures { Does book.now self.old self.new call.Unregister (plain result) }
+    {
+        self.core.unregister(book)
+    }
 
     /// A new set under the least free number: PAPI_create_eventset(3). ECOUNT where there are 64 sets.
     pub fn create(&mut self, book: &PresetBook) -> Result<u32, Code>
@@ -33,6 +49,22 @@ impl<S: Source> Session<S> {
         self.core.create(book)
     }
 
+    /// Takes a set away: PAPI_destroy_eventset(3). ENOEVST where there is no such set, EISRUN where it runs, EINVAL where it has events.
+    pub fn destroy(&mut self, book: &PresetBook, set: u32) -> Code
+        requires ready { IsReady book.now self.old }
+        ensures { Does book.now self.old self.new (call.Destroy set) (plain result) }
+    {
+        self.core.destroy(book, set)
+    }
+
+    /// Takes everything but the domain from a set: PAPI_cleanup_eventset(3). ENOEVST where there is no such set, EISRUN where it runs.
+    pub fn cleanup(&mut self, book: &PresetBook, set: u32) -> Code
+        requires ready { IsReady book.now self.old }
+        ensures { Does book.now self.old self.new (call.Cleanup set) (plain result) }
+    {
+        self.core.cleanup(book, set)
+    }
+
     /// Adds an event to a set, and zeroes its counts: PAPI_add_event(3). The refusals are those of the core.
     pub fn add(&mut self, book: &PresetBook, set: u32, e: &Named) -> Result<(), Refusal>
         requires ready { IsReady book.now self.old }
@@ -40,6 +72,52 @@ impl<S: Source> Session<S> {
         ensures { Does book.now self.old self.new (call.Add set e.now) (changed_reply result) }
     {
         self.core.add(book, set, e)
+    }
+
+    /// Takes an event from a set, and zeroes its counts: PAPI_remove_event(3). The refusals are those of the core.
+    pub fn remove(&mut self, book: &PresetBook, set: u32, e: &Named) -> Code
+        requires ready { IsReady book.now self.old }
+        requires named { IsNamed book.now self.old.core.shape e.now }
+        ensures { Does book.now self.old self.new (call.Remove set e.now) (plain result) }
+    {
+        self.core.remove(book, set, e)
+    }
+
+    /// Fixes the component of a set: PAPI_assign_eventset_component(3). ENOEVST where there is no such set, ENOCMP where there is
+    /// no such component, EISRUN where the set runs, EINVAL where it has another component.
+    pub fn assign_component(&mut self, book: &PresetBook, set: u32, comp: u32) -> Code
+        requires ready { IsReady book.now self.old }
+        ensures { Does book.now self.old self.new (call.AssignComponent set comp) (plain result) }
+    {
+        self.core.assign_component(book, set, comp)
+    }
+
+    /// Sets the domain of a set, and zeroes its counts: PAPI_set_domain(3). ENOEVST where there is no such set, EISRUN where it runs,
+    /// EINVAL where the bits are no domain.
+    pub fn set_domain(&mut self, book: &PresetBook, set: u32, bits: u32) -> Code
+        requires ready { IsReady book.now self.old }
+        ensures { Does book.now self.old self.new (call.SetDomain set bits) (plain result) }
+    {
+        self.core.set_domain(book, set, bits)
+    }
+
+    /// Multiplexes a set by slices of this many ticks, and zeroes its counts: PAPI_set_multiplex(3). ENOEVST where there is no such
+    /// set, EISRUN where it runs, EINVAL where the slice is out of range, ECOMBO where a threshold is set.
+    pub fn set_multiplex(&mut self, book: &PresetBook, set: u32, slice: u32) -> Code
+        requires ready { IsReady book.now self.old }
+        ensures { Does book.now self.old self.new (call.SetMultiplex set slice) (plain result) }
+    {
+        self.core.set_multiplex(book, set, slice)
+    }
+
+    /// Sets the threshold of an event, where 0 clears it, and zeroes the set's counts: PAPI_overflow(3). The refusals are those of
+    /// the core.
+    pub fn overflow(&mut self, book: &PresetBook, set: u32, e: &Named, t: u64) -> Code
+        requires ready { IsReady book.now self.old }
+        requires named { IsNamed book.now self.old.core.shape e.now }
+        ensures { Does book.now self.old self.new (call.Overflow set e.now t) (plain result) }
+    {
+        self.core.overflow(book, set, e, t)
     }
 
     /// Starts a set: PAPI_start(3). ENOEVST where there is no such set, EISRUN where it runs or another one does on its
@@ -88,11 +166,45 @@ impl<S: Source> Session<S> {
         self.core.read(book, set, into)
     }
 
+    /// Adds the value of each event of a set to the caller's, gives the sums, and zeroes the counts: PAPI_accum(3). ENOEVST where
+    /// there is no such set; `into` then stays as it is.
+    pub fn accum(&mut self, book: &PresetBook, set: u32, into: &mut Values) -> Code
+        requires ready { IsReady book.now self.old }
+        ensures does { Does book.now self.old self.new (call.Accum set) (values_reply result into.new) }
+        ensures kept { result ≢ code.Ok → into.new ≡ into.old }
+    {
+        self.core.accum(book, set, into)
+    }
+
+    /// Zeroes the counts of a set: PAPI_reset(3). ENOEVST where there is no such set.
+    pub fn reset(&mut self, book: &PresetBook, set: u32) -> Code
+        requires ready { IsReady book.now self.old }
+        ensures { Does book.now self.old self.new (call.Reset set) (plain result) }
+    {
+        self.core.reset(book, set)
+    }
+
+    /// The state bits of a set: PAPI_state(3). ENOEVST where there is no such set.
+    pub fn state(&self, book: &PresetBook, set: u32) -> Result<u32, Code>
+        requires ready { IsReady book.now self.now }
+        ensures { Does book.now self.now self.now (call.State set) (reply_of (λ bits. body.State bits) result) }
+    {
+        self.core.state(book, set)
+    }
+
+    /// The register of a counter of a set that runs. ENOEVST where there is no such set, ENOTRUN where it does not run, EINVAL where
+    /// no native event of it is on the counter, ECOMBO where it is multiplexed.
+    pub fn raw(&self, book: &PresetBook, set: u32, c: u32) -> Result<u64, Code>
+        requires ready { IsReady book.now self.now }
+        ensures { Does book.now self.now self.now (call.Raw set c) (reply_of (λ value. body.Register value) result) }
+    {
+        self.core.raw(book, set, c)
+    }
+
     // A call that is no run.
     fn make(&mut self, book: &PresetBook, c: &Call) -> Reply
         requires ready { IsReady book.now self.old }
         requires good { IsGood book.now self.old.core.shape c.now }
-        requires offered { is_offered c.now ≡ true }
         requires still { is_run c.now ≡ false }
         ensures { Does book.now self.old self.new c.now result }
     {
@@ -108,7 +220,6 @@ impl<S: Source> Session<S> {
     ) -> Result<Reply, AllocError>
         requires ready { IsReady book.now self.old }
         requires good { IsGood book.now self.old.core.shape c.now }
-        requires offered { is_offered c.now ≡ true }
         ensures stands { (a : Account) → Stands book.now self.old a → OnOk result (Stands book.now self.new (step book.now self.old.core.shape a c.now).account) }
         ensures reply { (a : Account) → Stands book.now self.old a → IfOk result (λ r. r ≡ (step book.now self.old.core.shape a c.now).reply) }
         ensures notes { (a : Account) → Stands book.now self.old a → OnOk result (notes h.new ≡ notes h.old ++ (step book.now self.old.core.shape a c.now).notes) }

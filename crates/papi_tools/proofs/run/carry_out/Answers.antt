@@ -3,7 +3,7 @@ use Rattle.component_table.specs.Catalogs.{catalog_of}
 use Rattle.plan_runner.specs.Plans.{AreThreads}
 use Rattle.papi_tools.specs.Run.{ran_notes}
 use Rattle.papi_tools.proofs.FaultLemmas.{count_of_some}
-use Rattle.papi_tools.proofs.RunLemmas.{threads_below, tells, ran_is, on_ok, plan_offered}
+use Rattle.papi_tools.proofs.RunLemmas.{threads_below, tells, ran_is, on_ok}
 use Rattle.papi_tools.proofs.run.carry_out.Goals as goal
 
 pub returns-in_err-run-clause-begun : goal.returns-in_err-run-clause-begun
@@ -34,6 +34,3 @@ returns-clause-begun g c given is =
 pub returns-clause-met : goal.returns-clause-met
 returns-clause-met g c =
     c.said_of.ensures.met _ _ (λ some. c.close_all.ensures.faulty (count_of_some _ _ (c.in_ok-run.ensures.failed some)))
-
-pub run_plan-requires-clause-offered : goal.run_plan-requires-clause-offered
-run_plan-requires-clause-offered g c κs within = plan_offered c.in_ok-catalog.catalog c.args.input.script c.in_ok-plan.plan c.in_ok-plan.ensures.lines

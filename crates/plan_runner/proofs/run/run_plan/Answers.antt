@@ -18,7 +18,7 @@ run_prepared-requires-clause-ready g c κs within =
     c.in_ok-prepared.ensures.opened c.in_ok-prepared.ensures.dealt in
     can-work c.args.book.now c.args.shape.now c.args.plan c.args.readers.items _ _ _ prepares
     (omega (arith, c.requires.handlers, c.args.handlers.now.ok.0, length-map c.args.handlers.now.items (λ b. (goal.Handler-dyn g (b.vtable, b.value)).notes b.value)))
-    c.requires.fits c.requires.good c.requires.offered
+    c.requires.fits c.requires.good
 
 pub returns-clause-replies : goal.returns-clause-replies
 returns-clause-replies g c =

@@ -1,6 +1,6 @@
 use Rattle.postfix_rules.specs.Presets.{Book}
 use Rattle.event_sets.specs.AtRest.{Widths}
-use Rattle.plan_runner.specs.Plans.{AreGood, AreOffered, AreThreads}
+use Rattle.plan_runner.specs.Plans.{AreGood, AreThreads}
 use Rattle.plan_runner.proofs.tests.plan.Given as goal
 
 abbrev pub invariant-loop-thread : goal.invariant-loop-thread
@@ -8,5 +8,4 @@ invariant-loop-thread l =
     record {
       threads : AreThreads l.lines.items;
       good : (book : Book) (shape : Widths) → AreGood book shape l.lines.items;
-      offered : AreOffered l.lines.items;
     }

@@ -1,0 +1,5 @@
+use Rattle.thread_session.specs.Stands.{IsReady}
+use Rattle.thread_session.proofs.tests.numbers_of_sets.Given as goal
+
+abbrev pub invariant-loop-number : goal.invariant-loop-number
+invariant-loop-number l = IsReady l.book l.session
