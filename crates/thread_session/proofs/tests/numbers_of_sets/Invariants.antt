@@ -1,5 +1,6 @@
+use Rattle.std.proofs.Common.{[]}
 use Rattle.thread_session.specs.Stands.{IsReady}
 use Rattle.thread_session.proofs.tests.numbers_of_sets.Given as goal
 
 abbrev pub invariant-loop-number : goal.invariant-loop-number
-invariant-loop-number l = IsReady l.book l.session
+invariant-loop-number g l = IsReady [] l.session
