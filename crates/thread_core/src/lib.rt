@@ -15,6 +15,8 @@ mod measuring;
 pub mod pins;
 mod places;
 mod raw_reading;
+#[cfg(test)]
+mod reading_tests;
 mod refusal;
 mod registering;
 mod settings;
