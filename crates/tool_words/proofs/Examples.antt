@@ -1,20 +1,25 @@
 -- What written out words ask for.
-use Rattle.std.proofs.Common.{◌≡◌, List, [], ◌∷◌, Some, None, refl, codes}
+use Rattle.std.proofs.Common.{◌≡◌, Bool, true, false, List, [], ◌∷◌, Option, Some, None, refl, codes}
 use Rattle.clap.specs.Words.{Text}
 use Rattle.clap.proofs.OnLiterals.{clap_on_literals}
 use Rattle.tool_words.specs.declared.command.Command.{Command}
 use Rattle.tool_words.specs.declared.command.Command.TheVariants.{Encode, Run}
 use Rattle.tool_words.specs.EncodeForm.{encode_app, encode_form, encode_words_in, names_rule}
 use Rattle.tool_words.specs.Form.{form}
+use Rattle.tool_words.specs.declared.decode.DecodeWords.{DecodeWords}
+use Rattle.tool_words.specs.declared.presets.PresetWords.{PresetWords}
+use Rattle.tool_words.specs.declared.run.RunWords.{RunWords}
+use Rattle.tool_words.specs.DecodeForm.{available_rule, decode_app, decode_form, decode_words_in}
 use Rattle.tool_words.specs.Options.{unit_rule}
-use Rattle.tool_words.specs.RunForm.{run_app, run_form, run_words_in, script_rule, streams_rule}
+use Rattle.tool_words.specs.Presets.{cpu_rule, is_cpu, needed_cpu_rule, needed_presets_rule, presets_rule}
+use Rattle.tool_words.specs.RunForm.{notes_rule, run_app, run_form, run_words_in, script_rule, streams_rule}
 
 unfoldable on_words : Unit {0}
-unfolding clap_on_literals unit_rule run_form run_words_in run_app script_rule streams_rule encode_form encode_words_in encode_app names_rule
+unfolding clap_on_literals unit_rule presets_rule cpu_rule is_cpu run_form run_words_in run_app notes_rule script_rule streams_rule encode_form encode_words_in encode_app names_rule decode_form decode_words_in decode_app needed_presets_rule needed_cpu_rule available_rule
 on_words = tt
 
 abbrev lab_run : Text → List Text → Command
-lab_run unit streams = Run (record { unit = unit; script = codes "s"; streams = streams })
+lab_run unit streams = Run (record { unit = unit; presets = None; notes = false; script = codes "s"; streams = streams })
 
 pub no_stream : form (codes "papi_run" ∷ codes "-U" ∷ codes "lab.unit" ∷ codes "s" ∷ []) ≡ Some (lab_run (codes "lab.unit") [])
 unfolding on_words
@@ -44,13 +49,80 @@ pub unit_twice : form (codes "papi_run" ∷ codes "-U" ∷ codes "lab.unit" ∷ 
 unfolding on_words
 unit_twice = refl
 
-pub unknown_option : form (codes "papi_run" ∷ codes "-U" ∷ codes "lab.unit" ∷ codes "--notes" ∷ codes "s" ∷ []) ≡ None
+pub unknown_option : form (codes "papi_run" ∷ codes "-U" ∷ codes "lab.unit" ∷ codes "-a" ∷ codes "s" ∷ []) ≡ None
 unfolding on_words
 unknown_option = refl
 
 pub help : form (codes "papi_run" ∷ codes "--help" ∷ []) ≡ None
 unfolding on_words
 help = refl
+
+abbrev lab_presets : Text → Option PresetWords
+lab_presets cpu = Some (record { file = codes "p"; cpu = cpu })
+
+-- the words of one run with these between the unit and the script
+abbrev run_with : List Text → List Text
+run_with [] = codes "s" ∷ []
+run_with (w ∷ ws) = w ∷ run_with ws
+
+abbrev run_words : List Text → List Text
+run_words more = codes "papi_run" ∷ codes "-U" ∷ codes "lab.unit" ∷ run_with more
+
+abbrev asked_run : Option PresetWords → Bool → Option RunWords
+asked_run presets notes = Some (record { unit = codes "lab.unit"; presets = presets; notes = notes; script = codes "s"; streams = [] })
+
+pub presets_and_notes : run_form (run_words (codes "-Pp" ∷ codes "--notes" ∷ codes "-C" ∷ codes "lab 2" ∷ [])) ≡ asked_run (lab_presets (codes "lab 2")) true
+unfolding on_words
+presets_and_notes = refl
+
+pub neither : run_form (run_words []) ≡ asked_run None false
+unfolding on_words
+neither = refl
+
+pub not_built : form (run_words (codes "-P" ∷ codes "p" ∷ codes "-C" ∷ codes "lab2" ∷ [])) ≡ None
+unfolding on_words
+not_built = refl
+
+pub cpu_alone : run_form (run_words (codes "-C" ∷ codes "lab2" ∷ [])) ≡ None
+unfolding on_words
+cpu_alone = refl
+
+pub presets_alone : run_form (run_words (codes "-P" ∷ codes "p" ∷ [])) ≡ None
+unfolding on_words
+presets_alone = refl
+
+pub comma_in_cpu : run_form (run_words (codes "-P" ∷ codes "p" ∷ codes "-C" ∷ codes "a,b" ∷ [])) ≡ None
+unfolding on_words
+comma_in_cpu = refl
+
+pub space_behind_cpu : run_form (run_words (codes "-P" ∷ codes "p" ∷ codes "-C" ∷ codes "lab2 " ∷ [])) ≡ None
+unfolding on_words
+space_behind_cpu = refl
+
+pub notes_twice : run_form (run_words (codes "--notes" ∷ codes "--notes" ∷ [])) ≡ None
+unfolding on_words
+notes_twice = refl
+
+-- ---- `papi_decode`
+
+abbrev lab_decode : Bool → Option DecodeWords
+lab_decode available = Some (record { unit = codes "lab.unit"; presets = record { file = codes "p"; cpu = codes "lab2" }; available = available })
+
+pub all_presets : decode_form (codes "papi_decode" ∷ codes "-U" ∷ codes "lab.unit" ∷ codes "-P" ∷ codes "p" ∷ codes "-C" ∷ codes "lab2" ∷ []) ≡ lab_decode false
+unfolding on_words
+all_presets = refl
+
+pub available_presets : decode_form (codes "papi_decode" ∷ codes "-a" ∷ codes "-Clab2" ∷ codes "-U=lab.unit" ∷ codes "-Pp" ∷ []) ≡ lab_decode true
+unfolding on_words
+available_presets = refl
+
+pub no_cpu : decode_form (codes "papi_decode" ∷ codes "-U" ∷ codes "lab.unit" ∷ codes "-P" ∷ codes "p" ∷ []) ≡ None
+unfolding on_words
+no_cpu = refl
+
+pub positional_word : decode_form (codes "papi_decode" ∷ codes "-U" ∷ codes "lab.unit" ∷ codes "-P" ∷ codes "p" ∷ codes "-C" ∷ codes "lab2" ∷ codes "s" ∷ []) ≡ None
+unfolding on_words
+positional_word = refl
 
 -- ---- `papi_encode`
 

@@ -1,8 +1,9 @@
 //! The options that several tools have.
 
-ghost use Rattle.std.specs.Prelude.{◌≡◌, false};
+ghost use Rattle.std.specs.Prelude.{◌≡◌, false, option_map};
 ghost use Rattle.clap.specs.Words.{rule_of};
 ghost use Rattle.tool_words.specs.Options.{unit_rule};
+ghost use Rattle.tool_words.specs.Options as Options;
 
 use clap::Arg;
 use std::alloc::Global;
@@ -14,4 +15,14 @@ pub(crate) fn unit_argument<'a>(alloc: Global) -> Arg<'a>
     ensures local { result.global ≡ false }
 {
     Arg::new(alloc, "unit").short('U').required(true)
+}
+
+// Whether the value of a flag is there, and set.
+pub(crate) fn is_set(value: Option<&str>) -> bool
+    ensures { result ≡ Options.is_set (option_map (λ s. s.now) value.entry) }
+{
+    match value {
+        Some(value) => value == "true",
+        None => false,
+    }
 }

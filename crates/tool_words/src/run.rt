@@ -1,29 +1,43 @@
-//! The words of `papi_run`: `-U UNIT SCRIPT [STREAM]`.
+//! The words of `papi_run`: `-U UNIT [-P PRESETS -C CPU] [--notes] SCRIPT [STREAM]`.
 
-ghost use Rattle.std.specs.Prelude.{◌≡◌, ◌≤◌, IfOk, false, length, map, option_map, string_bytes};
+ghost use Rattle.std.specs.Prelude.{◌≡◌, ◌≤◌, IfOk, Some, false, length, map, option_map, string_bytes};
 ghost use Rattle.clap.specs.Words.{app_of, found_of, rows_of, rule_of};
-ghost use Rattle.tool_words.specs.RunForm.{run_app, run_form, run_words, run_words_in, script_rule, streams_rule};
+ghost use Rattle.tool_words.specs.RunForm.{notes_rule, run_app, run_form, run_words, run_words_in, script_rule, streams_rule};
 ghost use Rattle.tool_words.specs.RunForm as RunForm;
 ghost use Rattle.tool_words.specs.Words.{Answers};
 
 use crate::fault::WordsFault;
 use crate::matches::{copied, matches_in, text_of, texts_of};
-use crate::options::unit_argument;
+use crate::options::{is_set, unit_argument};
+use crate::presets::{PresetWords, cpu_argument, presets_argument, presets_asked};
 use crate::texts::Texts;
 use clap::{Arg, ArgAction, ArgMatches};
 use papi_base::Text;
 use std::alloc::{AllocError, Global};
 
-/// What the words of `papi_run` ask for: the names of the unit file and of the script, and the names of the streams in
-/// the order of their threads, of which there is at most one.
+/// What the words of `papi_run` ask for: the name of the unit file, the presets where they are asked for, whether the notes
+/// are asked for, the name of the script, and the names of the streams in the order of their threads, of which there is
+/// at most one.
 #[derive(Drop)]
 pub struct RunWords {
     pub unit: Text,
+    pub presets: Option<PresetWords>,
+    pub notes: bool,
     pub script: Text,
     pub streams: Texts,
 }
 
 // ---- the command
+
+#[tactic(auto, unfolding(crate::specs::RunForm::notes_rule))]
+fn notes_argument<'a>(alloc: Global) -> Arg<'a>
+    ensures rule { rule_of result ≡ notes_rule }
+    ensures local { result.global ≡ false }
+{
+    Arg::new(alloc, "notes")
+        .long("notes")
+        .action(ArgAction::SetTrue)
+}
 
 #[tactic(auto, unfolding(crate::specs::RunForm::script_rule))]
 fn script_argument<'a>(alloc: Global) -> Arg<'a>
@@ -49,6 +63,9 @@ fn run_command<'a>(alloc: Global) -> Result<clap::Command<'a>, AllocError>
 {
     clap::Command::new(alloc, "papi_run")
         .arg(unit_argument(alloc))?
+        .arg(presets_argument(alloc))?
+        .arg(cpu_argument(alloc))?
+        .arg(notes_argument(alloc))?
         .arg(script_argument(alloc))?
         .arg(streams_argument(alloc))
 }
@@ -75,11 +92,13 @@ fn few_streams(alloc: Global, names: Option<&[&str]>) -> Result<Texts, WordsFaul
 fn asked(
     alloc: Global,
     unit: Option<&str>,
+    presets: Option<PresetWords>,
+    notes: bool,
     script: Option<&str>,
     streams: Option<&[&str]>,
 ) -> Result<RunWords, WordsFault>
     ensures few { IfOk result (λ words. length words.streams ≤ 64) }
-    ensures asked { Answers result (run_words (option_map (λ s. s.now) unit.entry) (option_map (λ s. s.now) script.entry)
+    ensures asked { Answers result (run_words (option_map (λ s. s.now) unit.entry) (Some presets) notes (option_map (λ s. s.now) script.entry)
         (option_map (λ s. map (λ v. v.now) s.now) streams.entry)) }
 {
     let (Some(unit), Some(script)) = (unit, script) else {
@@ -88,6 +107,8 @@ fn asked(
     let streams = few_streams(alloc, streams)?;
     Ok(RunWords {
         unit: Text::copy_of(alloc, unit)?,
+        presets,
+        notes,
         script: Text::copy_of(alloc, script)?,
         streams,
     })
@@ -100,13 +121,15 @@ fn asked_by(alloc: Global, matches: &ArgMatches<'_>) -> Result<RunWords, WordsFa
     ensures asked { Answers result (run_words_in (rows_of (found_of matches.now))) }
 {
     let unit = text_of(matches, "unit");
+    let presets = presets_asked(alloc, text_of(matches, "presets"), text_of(matches, "cpu"))?;
+    let notes = is_set(text_of(matches, "notes"));
     let script = text_of(matches, "script");
     let streams = texts_of(matches, "streams");
-    asked(alloc, unit, script, streams)
+    asked(alloc, unit, presets, notes, script, streams)
 }
 
-// What the words of `papi_run` ask for, of which the first is the tool's name.
-pub(crate) fn read_run_words(alloc: Global, words: &[String]) -> Result<RunWords, WordsFault>
+/// What the words of `papi_run` ask for, of which the first is the tool's name.
+pub fn read_run_words(alloc: Global, words: &[String]) -> Result<RunWords, WordsFault>
     ensures few { IfOk result (λ words. length words.streams ≤ 64) }
     ensures asked { Answers result (run_form (map string_bytes words.now)) }
 {

@@ -1,5 +1,5 @@
 //! Words that are read with memory at hand.
-use crate::{Command, read_words};
+use crate::{Command, read_decode_words, read_run_words, read_words};
 use std::alloc::{AllocError, Global};
 use std::test::Fail;
 
@@ -37,6 +37,27 @@ fn two_names(rt: HostRuntime) -> Result<(), Fail> {
             assert!(rt; encode.names.as_slice().len() == 2);
         }
         Ok(Command::Run(_run)) => assert!(rt; false),
+        Err(_) => assert!(rt; false),
+    }
+    Ok(())
+}
+
+#[test]
+fn presets_of_a_cpu(rt: HostRuntime) -> Result<(), Fail> {
+    let alloc = rt.alloc();
+    let words = words_in(alloc, "papi_run -U lab.unit -P p -C lab2 --notes s")?;
+    match read_run_words(alloc, words.as_slice()) {
+        Ok(run) => assert!(rt; run.presets.is_some() && run.notes),
+        Err(_) => assert!(rt; false),
+    }
+    let words = words_in(alloc, "papi_decode -U lab.unit -P p -C lab2 -a")?;
+    match read_decode_words(alloc, words.as_slice()) {
+        Ok(decode) => {
+            assert!(rt;
+                decode.presets.file.as_str() == "p" && decode.presets.cpu.as_str() == "lab2"
+            );
+            assert!(rt; decode.available);
+        }
         Err(_) => assert!(rt; false),
     }
     Ok(())

@@ -1,0 +1,117 @@
+//! The presets that the words of a tool ask for: `-P PRESETS -C CPU`.
+
+ghost use Rattle.std.specs.Prelude.{◌≡◌, false, option_map};
+ghost use Rattle.std.specs.List.{list_all};
+ghost use Rattle.clap.specs.Words.{rule_of};
+ghost use Rattle.tool_words.specs.Presets.{cpu_rule, is_cpu_character, needed_cpu_rule, needed_presets_rule, presets_rule};
+ghost use Rattle.tool_words.specs.Presets as Presets;
+ghost use Rattle.tool_words.specs.Words.{Answers};
+
+use crate::fault::WordsFault;
+use clap::Arg;
+use papi_base::Text;
+use std::alloc::Global;
+
+/// The presets of a cpu: the name of the preset file, and that of the cpu, which has 1 to 64 characters from a space to `~`,
+/// none a comma, and no space at either end.
+#[derive(Drop)]
+pub struct PresetWords {
+    pub file: Text,
+    pub cpu: Text,
+}
+
+// ---- the arguments
+
+// `-P PRESETS`.
+#[tactic(auto, unfolding(crate::specs::Presets::presets_rule))]
+pub(crate) fn presets_argument<'a>(alloc: Global) -> Arg<'a>
+    ensures rule { rule_of result ≡ presets_rule }
+    ensures local { result.global ≡ false }
+{
+    Arg::new(alloc, "presets").short('P')
+}
+
+// `-C CPU`.
+#[tactic(auto, unfolding(crate::specs::Presets::cpu_rule))]
+pub(crate) fn cpu_argument<'a>(alloc: Global) -> Arg<'a>
+    ensures rule { rule_of result ≡ cpu_rule }
+    ensures local { result.global ≡ false }
+{
+    Arg::new(alloc, "cpu").short('C')
+}
+
+// `-P PRESETS`, of a tool that needs it.
+#[tactic(auto, unfolding(crate::specs::Presets::needed_presets_rule))]
+pub(crate) fn needed_presets_argument<'a>(alloc: Global) -> Arg<'a>
+    ensures rule { rule_of result ≡ needed_presets_rule }
+    ensures local { result.global ≡ false }
+{
+    presets_argument(alloc).required(true)
+}
+
+// `-C CPU`, of a tool that needs it.
+#[tactic(auto, unfolding(crate::specs::Presets::needed_cpu_rule))]
+pub(crate) fn needed_cpu_argument<'a>(alloc: Global) -> Arg<'a>
+    ensures rule { rule_of result ≡ needed_cpu_rule }
+    ensures local { result.global ≡ false }
+{
+    cpu_argument(alloc).required(true)
+}
+
+// ---- the values
+
+// Whether each byte may stand in a cpu's name.
+fn are_cpu_characters(bytes: &[u8]) -> bool
+    ensures { result ≡ list_all is_cpu_character bytes.now }
+{
+    for b in bytes {
+        if *b < b' ' || *b > b'~' || *b == b',' {
+            return false;
+        }
+    }
+    true
+}
+
+// Whether a text is the name of a cpu.
+#[tactic(auto, unfolding(crate::specs::Presets::is_cpu))]
+fn is_cpu(name: &str) -> bool
+    ensures { result ≡ Presets.is_cpu name.now }
+{
+    let bytes = name.as_bytes();
+    let count = bytes.len();
+    if count < 1 || count > 64 {
+        return false;
+    }
+    if bytes[0] == b' ' || bytes[count - 1] == b' ' {
+        return false;
+    }
+    are_cpu_characters(bytes)
+}
+
+// The presets of a cpu, by a file.
+pub(crate) fn presets_of(alloc: Global, file: &str, cpu: &str) -> Result<PresetWords, WordsFault>
+    ensures { Answers result (Presets.presets_of file.now cpu.now) }
+{
+    if !is_cpu(cpu) {
+        return Err(WordsFault::BadWords);
+    }
+    Ok(PresetWords {
+        file: Text::copy_of(alloc, file)?,
+        cpu: Text::copy_of(alloc, cpu)?,
+    })
+}
+
+// The presets that are asked for, where they are.
+pub(crate) fn presets_asked(
+    alloc: Global,
+    file: Option<&str>,
+    cpu: Option<&str>,
+) -> Result<Option<PresetWords>, WordsFault>
+    ensures { Answers result (Presets.presets_asked (option_map (λ s. s.now) file.entry) (option_map (λ s. s.now) cpu.entry)) }
+{
+    match (file, cpu) {
+        (None, None) => Ok(None),
+        (Some(file), Some(cpu)) => Ok(Some(presets_of(alloc, file, cpu)?)),
+        _ => Err(WordsFault::BadWords),
+    }
+}
