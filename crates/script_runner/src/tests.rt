@@ -1,7 +1,8 @@
 //! A script over a small unit, from its bytes to its replies.
-use crate::{ReplyLine, read_script, resolve, write_replies};
+use crate::{ReplyLine, read_script, resolve, write_notes, write_replies};
 use component_table::Catalog;
 use event_tables::read_unit;
+use overflow_dispatch::Note;
 use papi_base::{Code, MemSink};
 use session_model::{Body, Call, Reply};
 use std::alloc::Global;
@@ -55,4 +56,19 @@ fn replies_in_order(rt: HostRuntime) {
     assert!(rt;
         written.is_ok() && out.bytes() == b"1 0 create PAPI_OK 0\n2 0 start PAPI_OK\n".as_slice()
     );
+}
+
+#[test]
+fn notes_in_order(rt: HostRuntime) {
+    let alloc = rt.alloc();
+    let note = Note {
+        thread: 0,
+        set: 0,
+        index: 0,
+        pc: 4,
+    };
+    let notes = [note, Note { pc: 8, ..note }];
+    let mut out = MemSink::new(alloc, 100);
+    let written = write_notes(alloc, &notes, &mut out);
+    assert!(rt; written.is_ok() && out.bytes() == b"note 0 0 0 0x4\nnote 0 0 0 0x8\n".as_slice());
 }
