@@ -1,3 +1,4 @@
+pub mod AddedLemmas
 pub mod CauseLemmas
 pub mod FaultLemmas
 pub mod MarkLemmas
@@ -7,3 +8,4 @@ pub mod RunLemmas
 pub mod SayingLemmas
 pub mod SettlingLemmas
 pub mod TellingLemmas
+pub mod WritingLemmas

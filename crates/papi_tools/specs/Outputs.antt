@@ -1,9 +1,9 @@
 -- The bytes of an output.
-use Rattle.std.specs.Prelude.{ℕ, List}
-use Rattle.script_runner.specs.Replies.{reply_text}
+use Rattle.std.specs.Prelude.{ℕ, List, ◌++◌}
+use Rattle.script_runner.specs.Replies.{notes_text, reply_text}
 use Rattle.papi_tools.specs.declared.output.Content.{Content}
 use Rattle.papi_tools.specs.declared.output.Content.TheVariants.{Text, Replies}
 
 abbrev pub content_bytes : Content → List ℕ
 content_bytes (Text text) = text
-content_bytes (Replies lines catalog) = reply_text catalog lines.items
+content_bytes (Replies lines catalog shown) = reply_text catalog lines.items ++ notes_text shown.items

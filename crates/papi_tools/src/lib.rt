@@ -1,6 +1,7 @@
 //! The tools, and the top call that carries out what the words ask for.
 #![tactic(auto)]
 
+pub mod added_notes;
 pub mod encode;
 pub mod marks;
 pub mod opening;

@@ -1,23 +1,24 @@
 //! What a tool writes on standard output.
-ghost use Rattle.std.specs.Prelude.{◌≡◌, ◌≤◌, ℕ, length, take, OnOk, OnErr, IsErrOf};
+ghost use Rattle.std.specs.Prelude.{◌≡◌, ◌≤◌, ◌++◌, ℕ, length, take, OnOk, OnErr, IsErrOf};
 ghost use Rattle.papi_base.specs.Outside.{Rose, appended};
-ghost use Rattle.script_runner.specs.Replies.{reply_text};
+ghost use Rattle.script_runner.specs.Replies.{notes_text, reply_text};
 
 use component_table::Catalog;
+use overflow_dispatch::Note;
 use papi_base::{Bytes, Sink, WriteFail, write_whole};
 use plan_runner::ReplyLine;
-use script_runner::write_replies;
+use script_runner::{write_notes, write_replies};
 use std::alloc::Global;
 use std::marker::Model;
 
 #[derive(Drop)]
 enum Content {
     Text(Bytes),
-    Replies(Vec<ReplyLine>, Catalog),
+    Replies(Vec<ReplyLine>, Catalog, Vec<Note>),
 }
 
-/// What a tool writes on standard output: a text, or replies that are made into text as they are written. Contracts
-/// see the bytes.
+/// What a tool writes on standard output: a text, or replies and the notes behind them, which are made into text as they
+/// are written. Contracts see the bytes.
 #[derive(Drop)]
 pub struct Output {
     content: Content,
@@ -32,6 +33,27 @@ impl Model for Output {
     ghost view = { λ o. content_bytes o.content };
 }
 
+// Writes the replies, and then the notes. After an error a first part of both is written.
+fn write_both<K: Sink>(
+    alloc: Global,
+    lines: &[ReplyLine],
+    catalog: &Catalog,
+    shown: &[Note],
+    out: &mut K,
+) -> Result<(), WriteFail>
+    ensures ok { OnOk result (K.taken out.new ≡ appended (K.taken out.old) (reply_text catalog.now lines.now ++ notes_text shown.now)) }
+    ensures part { OnErr result ((k : ℕ) × (k ≤ length (reply_text catalog.now lines.now ++ notes_text shown.now))
+        × (K.taken out.new ≡ appended (K.taken out.old) (take k (reply_text catalog.now lines.now ++ notes_text shown.now)))) }
+    ensures failed { IsErrOf result WriteFail.Failed → Rose (K.faults out.old) (K.faults out.new) }
+    ensures quiet { OnOk result (K.faults out.new ≡ K.faults out.old) }
+    ensures memory { IsErrOf result WriteFail.Memory → K.faults out.new ≡ K.faults out.old }
+    ensures falls_never { K.faults out.old ≤ K.faults out.new }
+{
+    write_replies(alloc, lines, catalog, out)?;
+    write_notes(alloc, shown, out)?;
+    Ok(())
+}
+
 impl Output {
     /// A text.
     pub fn text(text: Bytes) -> Output
@@ -42,12 +64,12 @@ impl Output {
         }
     }
 
-    /// The replies of a run.
-    pub fn replies(lines: Vec<ReplyLine>, catalog: Catalog) -> Output
-        ensures { result ≡ reply_text catalog lines.items }
+    /// The replies of a run, and the notes that are shown behind them.
+    pub fn replies(lines: Vec<ReplyLine>, catalog: Catalog, shown: Vec<Note>) -> Output
+        ensures { result ≡ reply_text catalog lines.items ++ notes_text shown.items }
     {
         Output {
-            content: Content::Replies(lines, catalog),
+            content: Content::Replies(lines, catalog, shown),
         }
     }
 
@@ -62,10 +84,11 @@ impl Output {
     {
         match &self.content {
             Content::Text(text) => write_whole(out, text.as_slice()),
-            Content::Replies(lines, catalog) => write_replies(
+            Content::Replies(lines, catalog, shown) => write_both(
                 alloc,
                 lines.as_slice(),
                 catalog,
+                shown.as_slice(),
                 out,
             ),
         }

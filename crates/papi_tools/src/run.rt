@@ -9,13 +9,14 @@ ghost use Rattle.papi_tools.specs.Run.{notes_in, ran_notes, ran_said, replies_sa
 ghost use Rattle.papi_tools.specs.RunInput.{IsGiven, RunGiven};
 ghost use Rattle.papi_tools.specs.Verdict.{AnswersSaid, TellsBy};
 
+use crate::added_notes::{counts_before, notes_behind};
 use crate::marks::{lines_of, marks_of, outcome_of};
 use crate::readers::readers_of;
 use crate::run_input::{RunInput, open_input};
 use crate::streams::close_all;
 use crate::{Output, Said, Stop};
 use component_table::Catalog;
-use overflow_dispatch::Handler;
+use overflow_dispatch::{Handler, Note};
 use papi_base::Files;
 use plan_runner::{ReplyLine, RunResult, run_plan};
 use script_runner::resolve;
@@ -24,33 +25,39 @@ use std::marker::{Send, Sync};
 use std::thread::Threads;
 use tool_words::RunWords;
 
-// What is said of the replies of a run.
-fn said_of(alloc: Global, lines: Vec<ReplyLine>, catalog: Catalog) -> Result<Said, AllocError>
+// What is said of the replies of a run, and of the notes that are shown.
+fn said_of(
+    alloc: Global,
+    lines: Vec<ReplyLine>,
+    catalog: Catalog,
+    shown: Vec<Note>,
+) -> Result<Said, AllocError>
     requires threads { All (λ l. l.thread < 64) lines.items }
-    ensures said { IfOk result (λ said. said ≡ replies_said catalog lines.items) }
+    ensures said { IfOk result (λ said. said ≡ replies_said catalog lines.items shown.items) }
     ensures met { (faults faults' : ℕ) → (Any (λ l. IsFault l.reply) lines.items → Rose faults faults') → IfOk result (λ said. MetCause said.outcome faults faults' said) }
 {
     let marks = marks_of(lines.as_slice());
     let err = lines_of(alloc, &marks)?;
     Ok(Said {
         outcome: outcome_of(&marks),
-        out: Output::replies(lines, catalog),
+        out: Output::replies(lines, catalog, shown),
         err,
     })
 }
 
-// Runs the script's lines, and closes the streams.
+// Runs the script's lines, and closes the streams. The notes that are told in this are shown where they are wanted.
 fn carry_out<R: Threads + Sync, F: Files>(
     rt: &R,
     alloc: Global,
     files: &mut F,
     input: RunInput<F::S>,
+    wanted: bool,
     handlers: &mut Vec<Box<dyn Handler + Send>>,
 ) -> Result<Said, AllocError>
     requires few { vec_len input.sources ≤ 64 }
     requires handlers { vec_len handlers.old ≡ 64 }
     ensures len { vec_len handlers.new ≡ 64 }
-    ensures told { (given : RunGiven) → IsGiven F.S.tape input given → IfOk result (λ said. said ≡ ran_said given) }
+    ensures told { (given : RunGiven) → IsGiven F.S.tape input given → IfOk result (λ said. said ≡ ran_said wanted given) }
     ensures notes { (given : RunGiven) → IsGiven F.S.tape input given → OnOk result (EachAdded (map (λ b. notes b) handlers.old.items) (ran_notes given) (map (λ b. notes b) handlers.new.items)) }
     ensures begun { (given : RunGiven) → IsGiven F.S.tape input given → EachBegun (map (λ b. notes b) handlers.old.items) (ran_notes given) (map (λ b. notes b) handlers.new.items) }
     ensures met { IfOk result (λ said. MetCause said.outcome (F.faults files.old) (F.faults files.new) said) }
@@ -66,6 +73,7 @@ fn carry_out<R: Threads + Sync, F: Files>(
     let catalog = Catalog::build(alloc, tables, None)?;
     let plan = resolve(alloc, &script, &catalog)?;
     let shape = catalog.shape();
+    let counts = counts_before(alloc, wanted, handlers)?;
     let run = run_plan(
         rt,
         alloc,
@@ -78,11 +86,13 @@ fn carry_out<R: Threads + Sync, F: Files>(
     )?;
     let RunResult { lines, sources } = run;
     close_all(files, sources);
-    said_of(alloc, lines, catalog)
+    let shown = notes_behind(alloc, &counts, handlers)?;
+    said_of(alloc, lines, catalog, shown)
 }
 
 /// `papi_run`: reads the unit and the script, opens the streams, and carries out the script, each thread's calls on a
-/// session of its own. The handlers, one a thread, are told the thresholds that were passed.
+/// session of its own. The handlers, one a thread, are told the thresholds that were passed, and these notes follow the
+/// replies where the words ask for them.
 #[tactic(auto, unfolding(crate::specs::Run::run_verdict))]
 pub fn run<R: Threads + Sync, F: Files>(
     rt: &R,
@@ -100,6 +110,6 @@ pub fn run<R: Threads + Sync, F: Files>(
     ensures cause { StopsByFile result (F.misses files.old) (F.misses files.new) (F.faults files.old) (F.faults files.new) }
 {
     let input = open_input(alloc, files, words)?;
-    let said = carry_out(rt, alloc, files, input, handlers)?;
+    let said = carry_out(rt, alloc, files, input, words.notes, handlers)?;
     Ok(said)
 }

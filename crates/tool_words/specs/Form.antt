@@ -1,5 +1,5 @@
 -- What a program's words ask for: the first names the tool.
-use Rattle.std.specs.Prelude.{◌≤◌, ◌||◌, List, [], ◌∷◌, length, Option, Some, None, is_some, if◌then◌else◌, codes, option_and_then, option_map}
+use Rattle.std.specs.Prelude.{◌≤◌, List, [], ◌∷◌, length, Option, Some, None, is_some, if◌then◌else◌, codes, option_and_then, option_map}
 use Rattle.std.specs.Str.{bytes_eq}
 use Rattle.clap.specs.Words.{Text}
 use Rattle.tool_words.specs.declared.command.Command.{Command}
@@ -13,9 +13,9 @@ abbrev pub tool_of : List Text → Text
 tool_of [] = []
 tool_of (tool ∷ words) = tool
 
--- a run of whose options all are built: presets and notes are not yet
+-- a run of whose options all are built: presets are not yet
 abbrev pub built_run : RunWords → Option Command
-built_run words = if is_some words.presets || words.notes then None else Some (Run words)
+built_run words = if is_some words.presets then None else Some (Run words)
 
 -- the command that the words ask for, where they are of a tool's form
 abbrev pub form : List Text → Option Command

@@ -40,13 +40,13 @@ pub fn read_words(alloc: Global, words: &[String]) -> Result<Command, WordsFault
     }
 }
 
-// A run of whose options all are built: presets and notes are not yet.
+// A run of whose options all are built: presets are not yet.
 fn built_run(words: RunWords) -> Result<Command, WordsFault>
     requires { length words.streams ≤ 64 }
     ensures few { IfOk result HasFewStreams }
     ensures asked { Answers result (Form.built_run words) }
 {
-    if words.presets.is_some() || words.notes {
+    if words.presets.is_some() {
         return Err(WordsFault::BadWords);
     }
     Ok(Command::Run(words))

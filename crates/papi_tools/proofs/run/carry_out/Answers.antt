@@ -2,6 +2,7 @@ use Rattle.std.proofs.Common.{◌∙◌, ap, rules, None}
 use Rattle.component_table.specs.Catalogs.{catalog_of}
 use Rattle.plan_runner.specs.Plans.{AreThreads}
 use Rattle.papi_tools.specs.Run.{ran_notes}
+use Rattle.papi_tools.proofs.AddedLemmas.{as_many, as_many_counts, shown_is}
 use Rattle.papi_tools.proofs.FaultLemmas.{count_of_some}
 use Rattle.papi_tools.proofs.RunLemmas.{threads_below, tells, ran_is, on_ok}
 use Rattle.papi_tools.proofs.run.carry_out.Goals as goal
@@ -17,9 +18,14 @@ said_of-requires g c =
     record { threads = threads_below c.in_ok-plan.plan _ below c.in_ok-run.ensures.order }
 
 pub returns-clause-told : goal.returns-clause-told
+unfolding ran_notes
 returns-clause-told g c given is =
-    rw (ran_is c.in_ok-catalog.catalog c.args.input.script given c.in_ok-plan.plan _ (c.in_ok-catalog.ensures.catalog ∙ ap (λ tables. catalog_of tables None) is.tables) is.script
-    (c.in_ok-run.ensures.replies _ _ _ (tells c.in_ok-catalog.catalog c.args.input.script given _ _ _ _ (c.in_ok-catalog.ensures.catalog ∙ ap (λ tables. catalog_of tables None) is.tables) is.script c.book.ensures.book c.shape-shape.ensures.shape c.in_ok-plan.ensures.plan (c.in_ok-readers.ensures.told given.tapes is.tapes))) c.in_ok-plan.ensures.heads) at c.said_of.ensures.said
+    let catalog = c.in_ok-catalog.ensures.catalog ∙ ap (λ tables. catalog_of tables None) is.tables in
+    let told = tells c.in_ok-catalog.catalog c.args.input.script given _ _ _ _ catalog is.script c.book.ensures.book c.shape-shape.ensures.shape c.in_ok-plan.ensures.plan (c.in_ok-readers.ensures.told given.tapes is.tapes) in
+    let notes = c.in_ok-run.ensures.notes _ _ _ told in
+    let shown = shown_is c.args.wanted _ _ _ _ _ c.in_ok-counts.ensures c.in_ok-shown.ensures (as_many _ c.args.handlers.now given c.requires.handlers) notes in
+    rw (ran_is c.in_ok-catalog.catalog c.args.input.script c.args.wanted given c.in_ok-plan.plan _ _ catalog is.script
+    (c.in_ok-run.ensures.replies _ _ _ told) c.in_ok-plan.ensures.heads shown) at c.said_of.ensures.said
 
 pub returns-clause-notes : goal.returns-clause-notes
 unfolding ran_notes
@@ -34,3 +40,16 @@ returns-clause-begun g c given is =
 pub returns-clause-met : goal.returns-clause-met
 returns-clause-met g c =
     c.said_of.ensures.met _ _ (λ some. c.close_all.ensures.faulty (count_of_some _ _ (c.in_ok-run.ensures.failed some)))
+
+pub notes_behind-requires : goal.notes_behind-requires
+notes_behind-requires g c = as_many_counts _ c.args.wanted c.args.handlers.now _ _ c.in_ok-counts.ensures c.requires.handlers c.in_ok-run.ensures.len
+
+pub returns-in_err-shown-clause-notes : goal.returns-in_err-shown-clause-notes
+unfolding ran_notes
+returns-in_err-shown-clause-notes g c given is =
+    on_ok _ (c.in_ok-run.ensures.notes _ _ _ (tells c.in_ok-catalog.catalog c.args.input.script given _ _ _ _ (c.in_ok-catalog.ensures.catalog ∙ ap (λ tables. catalog_of tables None) is.tables) is.script c.book.ensures.book c.shape-shape.ensures.shape c.in_ok-plan.ensures.plan (c.in_ok-readers.ensures.told given.tapes is.tapes)))
+
+pub returns-in_err-shown-clause-begun : goal.returns-in_err-shown-clause-begun
+unfolding ran_notes
+returns-in_err-shown-clause-begun g c given is =
+    c.in_ok-run.ensures.begun _ _ _ (tells c.in_ok-catalog.catalog c.args.input.script given _ _ _ _ (c.in_ok-catalog.ensures.catalog ∙ ap (λ tables. catalog_of tables None) is.tables) is.script c.book.ensures.book c.shape-shape.ensures.shape c.in_ok-plan.ensures.plan (c.in_ok-readers.ensures.told given.tapes is.tapes))
