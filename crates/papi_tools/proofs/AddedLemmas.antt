@@ -1,5 +1,5 @@
 -- What is shown of a run's notes.
-use Rattle.std.proofs.Common.{◌≡◌, ℕ, Bool, true, false, List, [], ◌∷◌, length, map, Option, Some, None, Vec, Global, vec_len, refl, sym, ap, ◌∙◌, arith}
+use Rattle.std.proofs.Common.{◌≡◌, ℕ, Bool, true, false, List, [], ◌∷◌, length, map, Option, Some, None, Vec, Global, vec_len, refl, sym, ap, ap₂, ◌∙◌, arith}
 use Rattle.std.proofs.lemmas.List.{length-map}
 use Rattle.std.specs.Prelude.{IfSome}
 use Rattle.std.specs.Option.{option_map}
@@ -40,5 +40,5 @@ as_many_counts told false before (Some c) n e b a = absurd cc
 as_many_counts told true before (Some c) n e b a =
     let same : c.items ≡ map (λ (notes : List Note). length notes) (map told before.items) = cc in
     let long : length c.items ≡ length before.items =
-    ap length same ∙ length-map (map told before.items) (λ (notes : List Note). length notes) ∙ length-map before.items told in
+        ap length same ∙ length-map (map told before.items) (λ (notes : List Note). length notes) ∙ length-map before.items told in
     omega (arith, long, a, b)

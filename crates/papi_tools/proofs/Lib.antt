@@ -1,5 +1,6 @@
 pub mod AddedLemmas
 pub mod CauseLemmas
+pub mod DecodingLemmas
 pub mod FaultLemmas
 pub mod MarkLemmas
 pub mod OpeningLemmas

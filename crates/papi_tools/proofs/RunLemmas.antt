@@ -1,5 +1,5 @@
 -- What is said of a run is what the definition says.
-use Rattle.std.proofs.Common.{◌≡◌, ◌<◌, ℕ, Bool, List, length, map, Some, None, Result, Ok, Err, OnOk, refl, sym, ap, ◌∙◌, arith, get_or, All}
+use Rattle.std.proofs.Common.{◌≡◌, ◌<◌, ℕ, Bool, List, length, map, Some, Result, Ok, Err, OnOk, refl, sym, ap, ◌∙◌, arith, get_or, All}
 use Rattle.std.proofs.lemmas.List.{get_or-map, length-map}
 use Rattle.event_sets.specs.AtRest.{Widths}
 use Rattle.postfix_rules.specs.Presets.{Book}
@@ -48,7 +48,7 @@ threads_below plan lines below order k d small =
 
 -- the readers tell what is given
 pub tells : (catalog : CatalogView) (script : List ScriptLine) (given : RunGiven) (book : Book) (shape : Widths) (plan : List PlanLine) (readers : List ReaderView) →
-    catalog ≡ catalog_of given.tables None → script ≡ given.script → book ≡ catalog.book → shape ≡ shape_of catalog.tables → IsPlanOf (setting_of catalog) (lines_of catalog script) plan →
+    catalog ≡ catalog_of given.tables given.presets → script ≡ given.script → book ≡ catalog.book → shape ≡ shape_of catalog.tables → IsPlanOf (setting_of catalog) (lines_of catalog script) plan →
     map coming readers ≡ map (λ s. Some s) (streams_of given.tapes) →
     Tells (setting_of (catalog_in given)) (lines_of (catalog_in given) given.script) (streams_of given.tapes) book shape plan readers
 tells catalog script given book shape plan readers c s b w p r = record {
@@ -60,7 +60,7 @@ tells catalog script given book shape plan readers c s b w p r = record {
 
 -- the replies, their marks and the notes that are shown are what the definition says
 pub ran_is : (catalog : CatalogView) (script : List ScriptLine) (wanted : Bool) (given : RunGiven) (plan : List PlanLine) (lines : List ReplyLine) (shown : List Note) →
-    catalog ≡ catalog_of given.tables None → script ≡ given.script → lines ≡ reply_lines plan (told_in given) → ((told : List Told) → reply_lines plan told ≡ reply_lines_of script told) →
+    catalog ≡ catalog_of given.tables given.presets → script ≡ given.script → lines ≡ reply_lines plan (told_in given) → ((told : List Told) → reply_lines plan told ≡ reply_lines_of script told) →
     shown ≡ shown_notes wanted (ran_notes given) → replies_said catalog lines shown ≡ ran_said wanted given
 unfolding ran_said
 ran_is catalog script wanted given plan lines shown c s l heads n =

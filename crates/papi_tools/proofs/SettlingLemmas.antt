@@ -10,7 +10,7 @@ use Rattle.papi_tools.specs.Run.{Verdict, notes_in}
 use Rattle.papi_tools.specs.Steps.{and_then}
 use Rattle.papi_tools.specs.Verdict.{AnswersSaid, IsSettled, TellsBy, command_verdict, ended, refused_said, verdict_for}
 use Rattle.papi_tools.specs.declared.refusal.Refusal.{Refusal}
-use Rattle.papi_tools.specs.declared.refusal.Refusal.TheVariants.{BadWords, NoSuchFile, CannotRead, TooLarge, Row, Line}
+use Rattle.papi_tools.specs.declared.refusal.Refusal.TheVariants.{BadWords, NoSuchFile, CannotRead, TooLarge, Row, PresetRow, Line}
 use Rattle.papi_tools.specs.declared.refusal.Stop.{Stop}
 use Rattle.papi_tools.specs.declared.refusal.Stop.TheVariants as stop
 use Rattle.papi_tools.specs.declared.said.Said.{Said}
@@ -108,6 +108,7 @@ by_refusal asked m m' f f' (NoSuchFile name) h = inl (NoSuchFile name, refl, h)
 by_refusal asked m m' f f' (CannotRead name) h = h
 by_refusal asked m m' f f' (TooLarge name) h = inl (TooLarge name, refl, tt)
 by_refusal asked m m' f f' (Row name row cause) h = inl (Row name row cause, refl, tt)
+by_refusal asked m m' f f' (PresetRow name row cause) h = inl (PresetRow name row cause, refl, tt)
 by_refusal asked m m' f f' (Line name line cause) h = inl (Line name line cause, refl, tt)
 
 -- what is said by steps has its cause

@@ -3,7 +3,7 @@ use Rattle.std.specs.Prelude.{◌≡◌, ℕ, List, map, Vec, Option, Some, IsOk
 use Rattle.std.specs.declared.alloc.Global.{Global}
 use Rattle.papi_base.specs.Outside.{Tape, Rose}
 use Rattle.papi_tools.specs.declared.refusal.Refusal.{Refusal}
-use Rattle.papi_tools.specs.declared.refusal.Refusal.TheVariants.{BadWords, NoSuchFile, CannotRead, TooLarge, Row, Line}
+use Rattle.papi_tools.specs.declared.refusal.Refusal.TheVariants.{BadWords, NoSuchFile, CannotRead, TooLarge, Row, PresetRow, Line}
 use Rattle.papi_tools.specs.declared.refusal.Stop.{Stop}
 use Rattle.papi_tools.specs.declared.refusal.Stop.TheVariants.{Refused, Memory}
 
@@ -32,6 +32,7 @@ HasFileCause misses misses' faults faults' (NoSuchFile name) = Rose misses misse
 HasFileCause misses misses' faults faults' (CannotRead name) = Rose faults faults'
 HasFileCause misses misses' faults faults' (TooLarge name) = Unit {0}
 HasFileCause misses misses' faults faults' (Row name row cause) = Unit {0}
+HasFileCause misses misses' faults faults' (PresetRow name row cause) = Unit {0}
 HasFileCause misses misses' faults faults' (Line name line cause) = Unit {0}
 
 -- a step that ends the call by a refusal has its cause

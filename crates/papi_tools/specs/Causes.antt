@@ -8,7 +8,7 @@ use Rattle.papi_tools.specs.Verdict.{refused_said}
 use Rattle.papi_tools.specs.declared.status.Outcome.{Outcome}
 use Rattle.papi_tools.specs.declared.status.Outcome.TheVariants as outcome
 use Rattle.papi_tools.specs.declared.refusal.Refusal.{Refusal}
-use Rattle.papi_tools.specs.declared.refusal.Refusal.TheVariants.{BadWords, NoSuchFile, CannotRead, TooLarge, Row, Line}
+use Rattle.papi_tools.specs.declared.refusal.Refusal.TheVariants.{BadWords, NoSuchFile, CannotRead, TooLarge, Row, PresetRow, Line}
 use Rattle.papi_tools.specs.declared.said.Said.{Said}
 
 -- runs met bad lines and no fault, and their lines are said
@@ -36,6 +36,7 @@ HasCause command misses misses' faults faults' (NoSuchFile name) = Rose misses m
 HasCause command misses misses' faults faults' (CannotRead name) = Rose faults faults'
 HasCause command misses misses' faults faults' (TooLarge name) = Unit {0}
 HasCause command misses misses' faults faults' (Row name row cause) = Unit {0}
+HasCause command misses misses' faults faults' (PresetRow name row cause) = Unit {0}
 HasCause command misses misses' faults faults' (Line name line cause) = Unit {0}
 
 -- a refusal is said, and has its cause

@@ -1,9 +1,11 @@
 pub mod Answers
 pub mod Causes
+pub mod Decoding
 pub mod Encoding
 pub mod ErrorLines
 pub mod Marks
 pub mod Opening
+pub mod PresetFile
 pub mod Outputs
 pub mod Run
 pub mod RunInput

@@ -24,7 +24,7 @@ pub record Verdict : Type 0 where
   pub notes : List (List Note)
 
 abbrev pub catalog_in : RunGiven → CatalogView
-catalog_in given = catalog_of given.tables None
+catalog_in given = catalog_of given.tables given.presets
 
 -- what one thread tells that goes through the whole script in order
 abbrev pub told_in : RunGiven → List Told

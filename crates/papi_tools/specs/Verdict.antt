@@ -5,7 +5,8 @@ use Rattle.overflow_dispatch.specs.declared.handler.Note.{Note}
 use Rattle.overflow_dispatch.specs.Notes.{EachAdded, EachBegun}
 use Rattle.tool_words.specs.Form.{form}
 use Rattle.tool_words.specs.declared.command.Command.{Command}
-use Rattle.tool_words.specs.declared.command.Command.TheVariants.{Run, Encode}
+use Rattle.tool_words.specs.declared.command.Command.TheVariants.{Run, Encode, Decode}
+use Rattle.papi_tools.specs.Decoding.{decode_verdict}
 use Rattle.papi_tools.specs.Encoding.{encode_verdict}
 use Rattle.papi_tools.specs.ErrorLines.{line_of, outcome_of}
 use Rattle.papi_tools.specs.Run.{Verdict, run_verdict}
@@ -19,6 +20,7 @@ use Rattle.papi_tools.specs.declared.said.Said.{Said}
 abbrev pub command_verdict : Held → Command → Result Verdict Refusal
 command_verdict held (Run words) = run_verdict held words
 command_verdict held (Encode words) = encode_verdict held words
+command_verdict held (Decode words) = decode_verdict held words
 
 -- what the words come to, where they are a command
 abbrev pub verdict_for : Held → Option Command → Result Verdict Refusal

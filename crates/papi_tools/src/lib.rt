@@ -2,10 +2,12 @@
 #![tactic(auto)]
 
 pub mod added_notes;
+pub mod decoding;
 pub mod encode;
 pub mod marks;
 pub mod opening;
 pub mod output;
+pub mod preset_file;
 pub mod readers;
 pub mod refusal;
 pub mod run;
@@ -23,8 +25,10 @@ pub use output::Output;
 pub use refusal::{Refusal, Stop};
 pub use said::Said;
 pub use status::{Outcome, Status, status_number};
-pub use tool::{encode_tool, run_tool};
+pub use tool::{decode, encode_tool, run_tool};
 pub use top::papi_main;
 
 #[cfg(test)]
 mod tests;
+#[cfg(test)]
+mod worked_scripts;

@@ -6,6 +6,7 @@ ghost use Rattle.papi_tools.specs.declared.refusal.Stop.TheVariants as stop;
 use crate::Outcome;
 use event_tables::{RowCause, cause_text as row_text};
 use papi_base::Text;
+use preset_csv::{PresetCause, cause_text as preset_text};
 use script_lines::{ScriptCause, cause_text as line_text};
 use std::alloc::{AllocError, AllocFailed, Global};
 
@@ -25,6 +26,12 @@ pub enum Refusal {
         name: Text,
         row: u64,
         cause: RowCause,
+    },
+    /// A row of a preset file, counted from 1.
+    PresetRow {
+        name: Text,
+        row: u64,
+        cause: PresetCause,
     },
     /// A line of a script, counted from 1.
     Line {
@@ -60,6 +67,13 @@ impl Refusal {
                 "row",
                 *row,
                 row_text(*cause),
+            ),
+            Refusal::PresetRow { name, row, cause } => numbered(
+                alloc,
+                name,
+                "row",
+                *row,
+                preset_text(*cause),
             ),
             Refusal::Line { name, line, cause } => numbered(
                 alloc,

@@ -66,11 +66,12 @@ fn carry_out<R: Threads + Sync, F: Files>(
 {
     let RunInput {
         tables,
+        presets,
         script,
         sources,
     } = input;
     let readers = readers_of(alloc, sources)?;
-    let catalog = Catalog::build(alloc, tables, None)?;
+    let catalog = Catalog::build(alloc, tables, presets)?;
     let plan = resolve(alloc, &script, &catalog)?;
     let shape = catalog.shape();
     let counts = counts_before(alloc, wanted, handlers)?;
@@ -90,7 +91,7 @@ fn carry_out<R: Threads + Sync, F: Files>(
     said_of(alloc, lines, catalog, shown)
 }
 
-/// `papi_run`: reads the unit and the script, opens the streams, and carries out the script, each thread's calls on a
+/// `papi_run`: reads the unit, the presets and the script, opens the streams, and carries out the script, each thread's calls on a
 /// session of its own. The handlers, one a thread, are told the thresholds that were passed, and these notes follow the
 /// replies where the words ask for them.
 #[tactic(auto, unfolding(crate::specs::Run::run_verdict))]

@@ -1,4 +1,4 @@
-//! What a run stands on: the unit, the script and the opened streams.
+//! What a run stands on: the unit, the presets, the script and the opened streams.
 ghost use Rattle.std.specs.Prelude.{◌≡◌, ◌≤◌, ℕ, IfSome, IfOk, length, vec_len};
 ghost use Rattle.std.specs.Option.{option_map};
 ghost use Rattle.papi_base.specs.Outside.{opened};
@@ -6,11 +6,13 @@ ghost use Rattle.papi_tools.specs.Answers.{Answers, StopsByFile};
 ghost use Rattle.papi_tools.specs.RunInput.{AnswersInput, given_under, script_under};
 
 use crate::opening::whole_file;
+use crate::preset_file::read_presets_asked;
 use crate::streams::open_streams;
 use crate::unit_file::read_unit_file;
 use crate::{Refusal, Stop};
 use event_tables::Tables;
 use papi_base::{Files, Source, Text};
+use preset_csv::PresetTable;
 use script_lines::{Script, ScriptFault, read_script};
 use std::alloc::Global;
 use tool_words::RunWords;
@@ -18,10 +20,11 @@ use tool_words::RunWords;
 // How many bytes a script has at most.
 const SCRIPT_BYTES: usize = 8_388_608;
 
-/// What a run stands on: the unit's tables, the script, and the sources of the streams in the order of their threads.
+/// What a run stands on: the unit's tables, the presets where they are asked for, the script, and the sources of the streams in the order of their threads.
 #[derive(Drop)]
 pub struct RunInput<S: Source> {
     pub tables: Tables,
+    pub presets: Option<PresetTable>,
     pub script: Script,
     pub sources: Vec<S>,
 }
@@ -48,7 +51,7 @@ pub fn read_script_file<F: Files>(alloc: Global, files: &mut F, name: &str) -> R
     }
 }
 
-/// Reads the unit and then the script, and opens the streams in their order, or says why not.
+/// Reads the unit, then the presets where they are asked for, and then the script, and opens the streams in their order, or says why not.
 #[tactic(auto, unfolding(crate::specs::RunInput::given_under))]
 pub fn open_input<F: Files>(
     alloc: Global,
@@ -63,10 +66,12 @@ pub fn open_input<F: Files>(
     ensures faults_stay { F.faults files.old ≤ F.faults files.new }
 {
     let tables = read_unit_file(alloc, files, words.unit.as_str())?;
+    let presets = read_presets_asked(alloc, files, &words.presets)?;
     let script = read_script_file(alloc, files, words.script.as_str())?;
     let sources = open_streams(alloc, files, words.streams.as_slice())?;
     Ok(RunInput {
         tables,
+        presets,
         script,
         sources,
     })

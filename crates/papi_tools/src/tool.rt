@@ -7,6 +7,7 @@ ghost use Rattle.papi_tools.specs.Saying.{HasSinkCause, IsJudged, Says, Tells};
 ghost use Rattle.papi_tools.specs.Verdict.{verdict};
 ghost use Rattle.papi_tools.specs.declared.said.Said.{Said};
 
+use crate::decoding::decode_presets;
 use crate::encode::encode_names;
 use crate::saying::say;
 use crate::settling::{refused, settled};
@@ -16,7 +17,7 @@ use papi_base::{Files, Sink};
 use std::alloc::{AllocError, Global};
 use std::marker::{Send, Sync};
 use std::thread::Threads;
-use tool_words::{WordsFault, read_encode_words};
+use tool_words::{WordsFault, read_decode_words, read_encode_words};
 
 // The words with a tool's name before them.
 fn named(alloc: Global, tool: &str, words: &[String]) -> Result<Vec<String>, AllocError>
@@ -103,6 +104,54 @@ pub fn encode_tool<F: Files, K: Sink>(
     ensures complete { ¬ (Rose (F.faults files.old) (F.faults files.new)) → ¬ (Rose (K.faults out.old) (K.faults out.new)) → ¬ (Rose (K.faults err.old) (K.faults err.new)) → IsJudged result }
 {
     match encode_said(alloc, words, files) {
+        Ok(said) => say(alloc, &said, out, err),
+        Err(_) => Status::Memory,
+    }
+}
+
+// What `papi_decode` says over the words behind its name.
+fn decode_said<F: Files>(
+    alloc: Global,
+    words: &[String],
+    files: &mut F,
+) -> Result<Said, AllocError>
+    ensures told { IfSome (F.held files.old) (λ held. IfOk result (λ said. said ≡ (verdict (codes "papi_decode" ∷ map string_bytes words.now) held).said)) }
+    ensures cause { IfOk result (λ said. IsCaused (form (codes "papi_decode" ∷ map string_bytes words.now))
+        (F.misses files.old) (F.misses files.new) (F.faults files.old) (F.faults files.new) said) }
+{
+    let all = named(alloc, "papi_decode", words)?;
+    let asked = match read_decode_words(alloc, all.as_slice()) {
+        Ok(asked) => asked,
+        Err(WordsFault::BadWords) => return refused(alloc, &Refusal::BadWords),
+        Err(WordsFault::Memory) => return Err(AllocError),
+    };
+    let answer = decode_presets(alloc, files, &asked);
+    settled(alloc, answer)
+}
+
+/// `papi_decode` over the words behind its name, as `papi_main` does it.
+pub fn decode<F: Files, K: Sink>(
+    alloc: Global,
+    words: &[String],
+    files: &mut F,
+    out: &mut K,
+    err: &mut K,
+) -> Status
+
+    // Where the files tell what they hold, this is said.
+    ensures says { IfSome (F.held files.old) (λ held. Says result (verdict (codes "papi_decode" ∷ map string_bytes words.now) held).said
+        (K.taken out.old) (K.taken out.new) (K.taken err.old) (K.taken err.new)) }
+    ensures refused { IfSome (F.held files.old) (λ held. result ≡ Status.Refused → (verdict (codes "papi_decode" ∷ map string_bytes words.now) held).said.outcome ≡ Outcome.Refused) }
+
+    // Told or not, a refusal has its cause, and is what is said.
+    ensures cause { (said : Said) × Says result said (K.taken out.old) (K.taken out.new) (K.taken err.old) (K.taken err.new)
+        × IsCaused (form (codes "papi_decode" ∷ map string_bytes words.now)) (F.misses files.old) (F.misses files.new) (F.faults files.old) (F.faults files.new) said }
+    ensures read_fault { result ≡ Status.ReadFault → Rose (F.faults files.old) (F.faults files.new) }
+    ensures sinks { HasSinkCause result (K.faults out.old) (K.faults out.new) (K.faults err.old) (K.faults err.new) }
+    ensures rises { (K.faults out.old < K.faults out.new) ⊎ (K.faults err.old < K.faults err.new) → (result ≡ Status.WriteFault) ⊎ (result ≡ Status.Memory) }
+    ensures complete { ¬ (Rose (F.faults files.old) (F.faults files.new)) → ¬ (Rose (K.faults out.old) (K.faults out.new)) → ¬ (Rose (K.faults err.old) (K.faults err.new)) → IsJudged result }
+{
+    match decode_said(alloc, words, files) {
         Ok(said) => say(alloc, &said, out, err),
         Err(_) => Status::Memory,
     }

@@ -10,6 +10,7 @@ ghost use Rattle.papi_tools.specs.Saying.{HasSinkCause, IsJudged, Says, Tells};
 ghost use Rattle.papi_tools.specs.Verdict.{AnswersSaid, TellsBy, command_verdict, verdict};
 ghost use Rattle.papi_tools.specs.declared.said.Said.{Said};
 
+use crate::decoding::decode_presets;
 use crate::encode::encode_names;
 use crate::run::run;
 use crate::saying::say;
@@ -41,6 +42,7 @@ fn carried_out<R: Threads + Sync, F: Files>(
     match command {
         Command::Run(words) => run(rt, alloc, files, words, handlers),
         Command::Encode(words) => encode_names(alloc, files, words),
+        Command::Decode(words) => decode_presets(alloc, files, words),
     }
 }
 

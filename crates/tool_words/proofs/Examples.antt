@@ -3,7 +3,7 @@ use Rattle.std.proofs.Common.{◌≡◌, Bool, true, false, List, [], ◌∷◌,
 use Rattle.clap.specs.Words.{Text}
 use Rattle.clap.proofs.OnLiterals.{clap_on_literals}
 use Rattle.tool_words.specs.declared.command.Command.{Command}
-use Rattle.tool_words.specs.declared.command.Command.TheVariants.{Encode, Run}
+use Rattle.tool_words.specs.declared.command.Command.TheVariants.{Decode, Encode, Run}
 use Rattle.tool_words.specs.EncodeForm.{encode_app, encode_form, encode_words_in, names_rule}
 use Rattle.tool_words.specs.Form.{form}
 use Rattle.tool_words.specs.declared.decode.DecodeWords.{DecodeWords}
@@ -79,9 +79,10 @@ pub neither : run_form (run_words []) ≡ asked_run None false
 unfolding on_words
 neither = refl
 
-pub not_built : form (run_words (codes "-P" ∷ codes "p" ∷ codes "-C" ∷ codes "lab2" ∷ [])) ≡ None
+pub decode : form (codes "papi_decode" ∷ codes "-U" ∷ codes "lab.unit" ∷ codes "-P" ∷ codes "p" ∷ codes "-C" ∷ codes "lab2" ∷ [])
+    ≡ Some (Decode (record { unit = codes "lab.unit"; presets = record { file = codes "p"; cpu = codes "lab2" }; available = false }))
 unfolding on_words
-not_built = refl
+decode = refl
 
 pub cpu_alone : run_form (run_words (codes "-C" ∷ codes "lab2" ∷ [])) ≡ None
 unfolding on_words

@@ -1,5 +1,6 @@
 //! What the words ask for.
 
+use crate::decode::DecodeWords;
 use crate::encode::EncodeWords;
 use crate::run::RunWords;
 
@@ -10,4 +11,6 @@ pub enum Command {
     Run(RunWords),
     /// `papi_encode`: gives the codes of events.
     Encode(EncodeWords),
+    /// `papi_decode`: gives the presets of a processor.
+    Decode(DecodeWords),
 }

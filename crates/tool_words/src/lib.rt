@@ -1,9 +1,8 @@
 //! The words of each tool, read by `clap`, and what they ask for.
 #![tactic(auto)]
 
-ghost use Rattle.std.specs.Prelude.{◌≡◌, ◌≤◌, IfOk, length, map, string_bytes};
+ghost use Rattle.std.specs.Prelude.{◌≡◌, IfOk, map, string_bytes};
 ghost use Rattle.tool_words.specs.Form.{HasFewStreams, form, tool_of};
-ghost use Rattle.tool_words.specs.Form as Form;
 ghost use Rattle.tool_words.specs.Words.{Answers};
 
 pub mod command;
@@ -28,28 +27,17 @@ pub use texts::Texts;
 /// What a program's words behind its own name ask for: the first is a tool's name, the others are that tool's words.
 ///
 /// Each tool's words are those of a simple command of `clap`. A name that is no tool's, words outside the tool's form,
-/// and a request for help or for the version are bad words. So are the options of `papi_run` that are not built yet.
+/// and a request for help or for the version are bad words.
 pub fn read_words(alloc: Global, words: &[String]) -> Result<Command, WordsFault>
     ensures few { IfOk result HasFewStreams }
     ensures asked { Answers result (form (map string_bytes words.now)) }
 {
     match tool_in(words) {
-        "papi_run" => built_run(read_run_words(alloc, words)?),
+        "papi_run" => Ok(Command::Run(read_run_words(alloc, words)?)),
         "papi_encode" => Ok(Command::Encode(read_encode_words(alloc, words)?)),
+        "papi_decode" => Ok(Command::Decode(read_decode_words(alloc, words)?)),
         _ => Err(WordsFault::BadWords),
     }
-}
-
-// A run of whose options all are built: presets are not yet.
-fn built_run(words: RunWords) -> Result<Command, WordsFault>
-    requires { length words.streams ≤ 64 }
-    ensures few { IfOk result HasFewStreams }
-    ensures asked { Answers result (Form.built_run words) }
-{
-    if words.presets.is_some() {
-        return Err(WordsFault::BadWords);
-    }
-    Ok(Command::Run(words))
 }
 
 // The tool that the words name, or an empty text where there are no words.

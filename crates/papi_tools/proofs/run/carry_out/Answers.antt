@@ -1,4 +1,4 @@
-use Rattle.std.proofs.Common.{◌∙◌, ap, rules, None}
+use Rattle.std.proofs.Common.{◌∙◌, ap, ap₂, rules}
 use Rattle.component_table.specs.Catalogs.{catalog_of}
 use Rattle.plan_runner.specs.Plans.{AreThreads}
 use Rattle.papi_tools.specs.Run.{ran_notes}
@@ -10,7 +10,7 @@ use Rattle.papi_tools.proofs.run.carry_out.Goals as goal
 pub returns-in_err-run-clause-begun : goal.returns-in_err-run-clause-begun
 unfolding ran_notes
 returns-in_err-run-clause-begun g c given is =
-    c.in_err-run.ensures.begun _ _ _ (tells c.in_ok-catalog.catalog c.args.input.script given _ _ _ _ (c.in_ok-catalog.ensures.catalog ∙ ap (λ tables. catalog_of tables None) is.tables) is.script c.book.ensures.book c.shape-shape.ensures.shape c.in_ok-plan.ensures.plan (c.in_ok-readers.ensures.told given.tapes is.tapes))
+    c.in_err-run.ensures.begun _ _ _ (tells c.in_ok-catalog.catalog c.args.input.script given _ _ _ _ (c.in_ok-catalog.ensures.catalog ∙ ap₂ catalog_of is.tables is.presets) is.script c.book.ensures.book c.shape-shape.ensures.shape c.in_ok-plan.ensures.plan (c.in_ok-readers.ensures.told given.tapes is.tapes))
 
 pub said_of-requires : goal.said_of-requires
 said_of-requires g c =
@@ -20,7 +20,7 @@ said_of-requires g c =
 pub returns-clause-told : goal.returns-clause-told
 unfolding ran_notes
 returns-clause-told g c given is =
-    let catalog = c.in_ok-catalog.ensures.catalog ∙ ap (λ tables. catalog_of tables None) is.tables in
+    let catalog = c.in_ok-catalog.ensures.catalog ∙ ap₂ catalog_of is.tables is.presets in
     let told = tells c.in_ok-catalog.catalog c.args.input.script given _ _ _ _ catalog is.script c.book.ensures.book c.shape-shape.ensures.shape c.in_ok-plan.ensures.plan (c.in_ok-readers.ensures.told given.tapes is.tapes) in
     let notes = c.in_ok-run.ensures.notes _ _ _ told in
     let shown = shown_is c.args.wanted _ _ _ _ _ c.in_ok-counts.ensures c.in_ok-shown.ensures (as_many _ c.args.handlers.now given c.requires.handlers) notes in
@@ -30,12 +30,12 @@ returns-clause-told g c given is =
 pub returns-clause-notes : goal.returns-clause-notes
 unfolding ran_notes
 returns-clause-notes g c given is =
-    on_ok _ (c.in_ok-run.ensures.notes _ _ _ (tells c.in_ok-catalog.catalog c.args.input.script given _ _ _ _ (c.in_ok-catalog.ensures.catalog ∙ ap (λ tables. catalog_of tables None) is.tables) is.script c.book.ensures.book c.shape-shape.ensures.shape c.in_ok-plan.ensures.plan (c.in_ok-readers.ensures.told given.tapes is.tapes)))
+    on_ok _ (c.in_ok-run.ensures.notes _ _ _ (tells c.in_ok-catalog.catalog c.args.input.script given _ _ _ _ (c.in_ok-catalog.ensures.catalog ∙ ap₂ catalog_of is.tables is.presets) is.script c.book.ensures.book c.shape-shape.ensures.shape c.in_ok-plan.ensures.plan (c.in_ok-readers.ensures.told given.tapes is.tapes)))
 
 pub returns-clause-begun : goal.returns-clause-begun
 unfolding ran_notes
 returns-clause-begun g c given is =
-    c.in_ok-run.ensures.begun _ _ _ (tells c.in_ok-catalog.catalog c.args.input.script given _ _ _ _ (c.in_ok-catalog.ensures.catalog ∙ ap (λ tables. catalog_of tables None) is.tables) is.script c.book.ensures.book c.shape-shape.ensures.shape c.in_ok-plan.ensures.plan (c.in_ok-readers.ensures.told given.tapes is.tapes))
+    c.in_ok-run.ensures.begun _ _ _ (tells c.in_ok-catalog.catalog c.args.input.script given _ _ _ _ (c.in_ok-catalog.ensures.catalog ∙ ap₂ catalog_of is.tables is.presets) is.script c.book.ensures.book c.shape-shape.ensures.shape c.in_ok-plan.ensures.plan (c.in_ok-readers.ensures.told given.tapes is.tapes))
 
 pub returns-clause-met : goal.returns-clause-met
 returns-clause-met g c =
@@ -47,9 +47,9 @@ notes_behind-requires g c = as_many_counts _ c.args.wanted c.args.handlers.now _
 pub returns-in_err-shown-clause-notes : goal.returns-in_err-shown-clause-notes
 unfolding ran_notes
 returns-in_err-shown-clause-notes g c given is =
-    on_ok _ (c.in_ok-run.ensures.notes _ _ _ (tells c.in_ok-catalog.catalog c.args.input.script given _ _ _ _ (c.in_ok-catalog.ensures.catalog ∙ ap (λ tables. catalog_of tables None) is.tables) is.script c.book.ensures.book c.shape-shape.ensures.shape c.in_ok-plan.ensures.plan (c.in_ok-readers.ensures.told given.tapes is.tapes)))
+    on_ok _ (c.in_ok-run.ensures.notes _ _ _ (tells c.in_ok-catalog.catalog c.args.input.script given _ _ _ _ (c.in_ok-catalog.ensures.catalog ∙ ap₂ catalog_of is.tables is.presets) is.script c.book.ensures.book c.shape-shape.ensures.shape c.in_ok-plan.ensures.plan (c.in_ok-readers.ensures.told given.tapes is.tapes)))
 
 pub returns-in_err-shown-clause-begun : goal.returns-in_err-shown-clause-begun
 unfolding ran_notes
 returns-in_err-shown-clause-begun g c given is =
-    c.in_ok-run.ensures.begun _ _ _ (tells c.in_ok-catalog.catalog c.args.input.script given _ _ _ _ (c.in_ok-catalog.ensures.catalog ∙ ap (λ tables. catalog_of tables None) is.tables) is.script c.book.ensures.book c.shape-shape.ensures.shape c.in_ok-plan.ensures.plan (c.in_ok-readers.ensures.told given.tapes is.tapes))
+    c.in_ok-run.ensures.begun _ _ _ (tells c.in_ok-catalog.catalog c.args.input.script given _ _ _ _ (c.in_ok-catalog.ensures.catalog ∙ ap₂ catalog_of is.tables is.presets) is.script c.book.ensures.book c.shape-shape.ensures.shape c.in_ok-plan.ensures.plan (c.in_ok-readers.ensures.told given.tapes is.tapes))

@@ -1,4 +1,5 @@
 use Rattle.std.proofs.Common.{refl}
+use Rattle.papi_tools.proofs.DecodingLemmas.{decode_no_notes}
 use Rattle.papi_tools.specs.Encoding.{encode_verdict}
 use Rattle.papi_tools.specs.UnitFile.{unit_under}
 use Rattle.papi_tools.proofs.SettlingLemmas.{no_notes, none_told, textual_met}
@@ -11,3 +12,10 @@ returns-in-Encode-clause-tells g c =
 
 pub returns-in-Encode-clause-met : goal.returns-in-Encode-clause-met
 returns-in-Encode-clause-met g c = textual_met c.encode_names.result _ _ c.encode_names.ensures.textual
+
+pub returns-in-Decode-clause-tells : goal.returns-in-Decode-clause-tells
+returns-in-Decode-clause-tells g c =
+    none_told _ c.args.command.now c.decode_presets.result _ (λ held. rw c.in-Decode.is (decode_no_notes held _))
+
+pub returns-in-Decode-clause-met : goal.returns-in-Decode-clause-met
+returns-in-Decode-clause-met g c = textual_met c.decode_presets.result _ _ c.decode_presets.ensures.textual

@@ -1,4 +1,4 @@
-use Rattle.papi_tools.proofs.SettlingLemmas.{settled_begun, settled_caused, settled_tells, settled_told}
+use Rattle.papi_tools.proofs.SettlingLemmas.{refused_caused, settled_begun, settled_caused, settled_tells, settled_told}
 use Rattle.papi_tools.proofs.top.said_of.Goals as goal
 
 pub returns-clause-told : goal.returns-clause-told
@@ -16,3 +16,7 @@ returns-clause-begun g c =
 pub returns-clause-cause : goal.returns-clause-cause
 returns-clause-cause g c =
     settled_caused _ c.carried_out-answer.result _ _ _ _ _ c.carried_out-answer.ensures.met c.carried_out-answer.ensures.cause c.settled.ensures
+
+pub returns-in-Err-BadWords-clause-cause : goal.returns-in-Err-BadWords-clause-cause
+returns-in-Err-BadWords-clause-cause g c =
+    refused_caused _ _ _ _ _ _ (rw (c.in-Err-BadWords.field-0-is, c.as_slice.ensures.value) at c.in-Err-BadWords.ensures.asked) c.refused.ensures

@@ -1,0 +1,35 @@
+-- What `papi_decode` comes to: the presets of a cpu as a preset file, after papi_decode(1). The text is that of docs/FORMATS.md.
+use Rattle.std.specs.Prelude.{ℕ, Bool, true, false, List, [], Result, Ok, Err}
+use Rattle.papi_base.specs.Outside.{Held, opened}
+use Rattle.component_table.specs.Books.{available_only, book_of}
+use Rattle.event_tables.specs.Tables.{ComponentText}
+use Rattle.preset_csv.specs.Tables.{TableView}
+use Rattle.preset_csv.specs.Written.{table_text}
+use Rattle.tool_words.specs.declared.decode.DecodeWords.{DecodeWords}
+use Rattle.papi_tools.specs.Opening.{file_bytes}
+use Rattle.papi_tools.specs.PresetFile.{presets_of}
+use Rattle.papi_tools.specs.Run.{Verdict}
+use Rattle.papi_tools.specs.Steps.{and_then}
+use Rattle.papi_tools.specs.UnitFile.{unit_under}
+use Rattle.papi_tools.specs.declared.refusal.Refusal.{Refusal}
+use Rattle.papi_tools.specs.declared.said.Said.{Said}
+use Rattle.papi_tools.specs.declared.status.Outcome.TheVariants.{Whole}
+
+-- the presets that are shown: all of them, or the available ones alone
+abbrev pub shown_of : Bool → List ComponentText → TableView → TableView
+shown_of false tables presets = presets
+shown_of true tables presets = available_only (book_of tables presets.rows) presets
+
+-- those out of the bytes of the preset file
+unfoldable pub shown_in : DecodeWords → List ComponentText → List ℕ → Result TableView Refusal
+shown_in words tables bytes = and_then (presets_of words.presets bytes) (λ presets. Ok (shown_of words.available tables presets))
+
+abbrev pub decoded_said : TableView → Said
+decoded_said presets = record { outcome = Whole; out = table_text presets; err = [] }
+
+-- the unit, then the preset file
+unfoldable pub decode_verdict : Held → DecodeWords → Result Verdict Refusal
+decode_verdict held words =
+    and_then (unit_under held words.unit) (λ tables.
+    and_then (file_bytes 1048576 (opened held) words.presets.file) (λ bytes.
+    and_then (shown_in words tables bytes) (λ presets. Ok (record { said = decoded_said presets; notes = [] }))))

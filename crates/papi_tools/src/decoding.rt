@@ -1,0 +1,70 @@
+//! `papi_decode`: gives the presets of a cpu.
+ghost use Rattle.std.specs.Prelude.{◌≡◌, ◌≤◌, ℕ, IfOk, IfSome};
+ghost use Rattle.papi_tools.specs.Answers.{Answers, StopsByFile};
+ghost use Rattle.papi_tools.specs.Causes.{IsTextual};
+ghost use Rattle.papi_tools.specs.Decoding.{decode_verdict, decoded_said, shown_in};
+ghost use Rattle.papi_tools.specs.Verdict.{AnswersSaid};
+
+use crate::preset_file::{presets_in, read_preset_bytes};
+use crate::unit_file::read_unit_file;
+use crate::{Outcome, Output, Said, Stop};
+use component_table::Catalog;
+use event_tables::Tables;
+use papi_base::{Bytes, Files};
+use preset_csv::{PresetTable, write_presets};
+use std::alloc::{AllocError, Global};
+use tool_words::DecodeWords;
+
+// The presets that are shown, out of the bytes of the preset file.
+#[tactic(auto, unfolding(crate::specs::Decoding::shown_in))]
+fn shown_of(
+    alloc: Global,
+    words: &DecodeWords,
+    tables: Tables,
+    bytes: &[u8],
+) -> Result<PresetTable, Stop>
+    ensures told { Answers result (shown_in words.now tables bytes.now) }
+    ensures cause { (misses misses' faults faults' : ℕ) → StopsByFile result misses misses' faults faults' }
+{
+    let presets = presets_in(alloc, &words.presets, bytes)?;
+    if !words.available {
+        return Ok(presets);
+    }
+    let again = presets_in(alloc, &words.presets, bytes)?;
+    let catalog = Catalog::build(alloc, tables, Some(again))?;
+    Ok(catalog.only_available(presets))
+}
+
+// What is said of presets.
+fn said_of(alloc: Global, presets: &PresetTable) -> Result<Said, AllocError>
+    ensures said { IfOk result (λ said. said ≡ decoded_said presets.now) }
+    ensures textual { IfOk result (λ said. IsTextual said.outcome) }
+{
+    let text = write_presets(alloc, presets)?;
+    Ok(Said {
+        outcome: Outcome::Whole,
+        out: Output::text(Bytes::new(text)),
+        err: Bytes::new(Vec::new(alloc)),
+    })
+}
+
+/// `papi_decode`: reads the unit and the preset file, and gives the presets of a cpu as a preset file, all of them or the
+/// available ones alone.
+#[tactic(auto, unfolding(crate::specs::Decoding::decode_verdict))]
+pub fn decode_presets<F: Files>(
+    alloc: Global,
+    files: &mut F,
+    words: &DecodeWords,
+) -> Result<Said, Stop>
+    ensures told { IfSome (F.held files.old) (λ held. AnswersSaid result (decode_verdict held words.now)) }
+    ensures textual { IfOk result (λ said. IsTextual said.outcome) }
+    ensures cause { StopsByFile result (F.misses files.old) (F.misses files.new) (F.faults files.old) (F.faults files.new) }
+    ensures misses_stay { F.misses files.old ≤ F.misses files.new }
+    ensures faults_stay { F.faults files.old ≤ F.faults files.new }
+{
+    let tables = read_unit_file(alloc, files, words.unit.as_str())?;
+    let bytes = read_preset_bytes(alloc, files, &words.presets)?;
+    let presets = shown_of(alloc, words, tables, bytes.as_slice())?;
+    let said = said_of(alloc, &presets)?;
+    Ok(said)
+}
