@@ -40,5 +40,5 @@ as_many_counts told false before (Some c) n e b a = absurd cc
 as_many_counts told true before (Some c) n e b a =
     let same : c.items ≡ map (λ (notes : List Note). length notes) (map told before.items) = cc in
     let long : length c.items ≡ length before.items =
-        ap length same ∙ length-map (map told before.items) (λ (notes : List Note). length notes) ∙ length-map before.items told in
+    ap length same ∙ length-map (map told before.items) (λ (notes : List Note). length notes) ∙ length-map before.items told in
     omega (arith, long, a, b)

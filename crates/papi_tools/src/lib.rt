@@ -29,6 +29,8 @@ pub use tool::{decode, encode_tool, run_tool};
 pub use top::papi_main;
 
 #[cfg(test)]
+mod refusing_handler;
+#[cfg(test)]
 mod tests;
 #[cfg(test)]
 mod worked_scripts;

@@ -110,11 +110,7 @@ pub fn encode_tool<F: Files, K: Sink>(
 }
 
 // What `papi_decode` says over the words behind its name.
-fn decode_said<F: Files>(
-    alloc: Global,
-    words: &[String],
-    files: &mut F,
-) -> Result<Said, AllocError>
+fn decode_said<F: Files>(alloc: Global, words: &[String], files: &mut F) -> Result<Said, AllocError>
     ensures told { IfSome (F.held files.old) (λ held. IfOk result (λ said. said ≡ (verdict (codes "papi_decode" ∷ map string_bytes words.now) held).said)) }
     ensures cause { IfOk result (λ said. IsCaused (form (codes "papi_decode" ∷ map string_bytes words.now))
         (F.misses files.old) (F.misses files.new) (F.faults files.old) (F.faults files.new) said) }

@@ -31,11 +31,13 @@ PRESET,PAPI_RES_STL,DERIVED_SUB,lab::CYCLES,lab::INST_RETIRED\n\
 PRESET,PAPI_LST_INS,DERIVED_ADD,lab::CACHE,lab::INST_RETIRED\n\
 PRESET,PAPI_BR_PRC,DERIVED_POSTFIX,N0|N1|-|,lab::BR_INST:ALL,lab::BR_MISP\n\
 PRESET,PAPI_L1_DCM,NOT_DERIVED,lab::NO_SUCH\n\
+PRESET,PAPI_TOT_INS,DERIVED_POSTFIX,N0|9223372036854775807|*|,lab::INST_RETIRED\n\
 CPU,other\n\
 PRESET,PAPI_TOT_INS,NOT_DERIVED,lab::CYCLES\n";
 
 /// A script, its stream, and what comes of it: the status, the end of the output, and the line on `err`.
-struct Row<'a> {
+#[derive(Drop)]
+pub(crate) struct Row<'a> {
     words: &'a str,
     script: &'a str,
     stream: &'a str,
@@ -45,7 +47,7 @@ struct Row<'a> {
 }
 
 // A row of a good script over the unit alone.
-fn good<'a>(script: &'a str, stream: &'a str, tail: &'a str) -> Row<'a> {
+pub(crate) fn good<'a>(script: &'a str, stream: &'a str, tail: &'a str) -> Row<'a> {
     Row {
         words: "papi_run -U lab.unit s t0",
         script,
@@ -57,7 +59,7 @@ fn good<'a>(script: &'a str, stream: &'a str, tail: &'a str) -> Row<'a> {
 }
 
 // The words of a line.
-fn words_in(alloc: Global, line: &str) -> Result<Vec<String>, AllocError> {
+pub(crate) fn words_in(alloc: Global, line: &str) -> Result<Vec<String>, AllocError> {
     let mut words = Vec::new(alloc);
     for word in line.split(' ') {
         words.push(String::from_str(alloc, word)?)?;
@@ -75,7 +77,7 @@ fn repeated(alloc: Global, text: &str, times: usize) -> Result<String, AllocErro
 }
 
 // The files that the row's words name.
-fn files_of(alloc: Global, row: &Row) -> Result<MemFiles, AllocError> {
+pub(crate) fn files_of(alloc: Global, row: &Row) -> Result<MemFiles, AllocError> {
     let named = [
         ("lab.unit", UNIT),
         ("lab.presets", PRESETS),
@@ -113,7 +115,11 @@ fn check<R: Threads + Sync + Abort>(rt: &R, alloc: Global, row: &Row) -> Result<
         &mut handlers,
     );
     assert_eq!(rt; status_number(ended), row.status);
-    assert!(rt; out.bytes().ends_with(row.tail.as_bytes()), "not at the end: {}", row.tail);
+    assert!(rt;
+        out.bytes().ends_with(row.tail.as_bytes()),
+        "not at the end: {}",
+        row.tail
+    );
     assert_eq!(rt; err.bytes(), row.err.as_bytes());
     Ok(())
 }
@@ -188,7 +194,8 @@ fn refusals(rt: HostRuntime) -> Result<(), Fail> {
     }
     let mut script = repeated(alloc, "0 create\n", 65)?;
     script.push_str("0 destroy 5\n0 create\n")?;
-    let tail = "64 0 create PAPI_OK 63\n65 0 create PAPI_ECOUNT\n66 0 destroy PAPI_OK\n67 0 create PAPI_OK 5\n";
+    let tail =
+        "64 0 create PAPI_OK 63\n65 0 create PAPI_ECOUNT\n66 0 destroy PAPI_OK\n67 0 create PAPI_OK 5\n";
     check(&rt, alloc, &good(&script, "", tail))?;
     Ok(())
 }
@@ -214,6 +221,15 @@ fn thresholds(rt: HostRuntime) -> Result<(), Fail> {
                 "7 0 run PAPI_OK 4 3\nnote 0 0 1 0x2\nnote 0 0 1 0x3\nnote 0 0 1 0x4\n",
             )
         },
+        // Two events pass at one occurrence.
+        Row {
+            words,
+            ..good(
+                "0 create\n0 add 0 INST_RETIRED\n0 add 0 INST_RETIRED:u\n0 overflow 0 INST_RETIRED:u 256\n0 overflow 0 INST_RETIRED 256\n0 start 0\n0 run 2\n",
+                "0 c0 00 u 255 1\n0 c0 00 u 255 2\n",
+                "7 0 run PAPI_OK 2 2\nnote 0 0 0 0x2\nnote 0 0 1 0x2\n",
+            )
+        },
         // A threshold is taken away, and the counts of a stopped set are 0 behind it.
         good(
             "0 create\n0 add 0 CYCLES\n0 overflow 0 CYCLES 256\n0 start 0\n0 run 1\n0 stop 0\n0 overflow 0 CYCLES 0\n0 read 0\n0 state 0\n0 start 0\n0 run 2\n",
@@ -226,8 +242,10 @@ fn thresholds(rt: HostRuntime) -> Result<(), Fail> {
     }
     // A register of 16 bits wraps in the first run.
     let stream = repeated(alloc, "0 c0 00 u 255 1\n", 300)?;
-    let script = "0 create\n0 add 0 INST_RETIRED\n0 start 0\n0 run 280\n0 run 20\n0 raw 0 0\n0 read 0\n0 stop 0\n";
-    let tail = "4 0 run PAPI_OK 280 0\n5 0 run PAPI_OK 20 0\n6 0 raw PAPI_OK 10964\n7 0 read PAPI_OK 76500\n8 0 stop PAPI_OK 76500\n";
+    let script =
+        "0 create\n0 add 0 INST_RETIRED\n0 start 0\n0 run 280\n0 run 20\n0 raw 0 0\n0 read 0\n0 stop 0\n";
+    let tail =
+        "4 0 run PAPI_OK 280 0\n5 0 run PAPI_OK 20 0\n6 0 raw PAPI_OK 10964\n7 0 read PAPI_OK 76500\n8 0 stop PAPI_OK 76500\n";
     check(&rt, alloc, &good(script, &stream, tail))?;
     // The greatest threshold of such a register is passed twice.
     let mut stream = repeated(alloc, "0 c0 00 u 255 1\n", 256)?;
@@ -235,8 +253,10 @@ fn thresholds(rt: HostRuntime) -> Result<(), Fail> {
     stream.push_str(&repeated(alloc, "0 c0 00 u 255 2\n", 256)?)?;
     stream.push_str("0 c0 00 u 255 202\n")?;
     stream.push_str(&repeated(alloc, "0 c0 00 u 255 3\n", 86)?)?;
-    let script = "0 create\n0 add 0 INST_RETIRED\n0 overflow 0 INST_RETIRED 65535\n0 start 0\n0 run 600\n0 read 0\n0 raw 0 0\n";
-    let tail = "5 0 run PAPI_OK 600 2\n6 0 read PAPI_OK 153000\n7 0 raw PAPI_OK 21931\nnote 0 0 0 0x101\nnote 0 0 0 0x202\n";
+    let script =
+        "0 create\n0 add 0 INST_RETIRED\n0 overflow 0 INST_RETIRED 65535\n0 start 0\n0 run 600\n0 read 0\n0 raw 0 0\n";
+    let tail =
+        "5 0 run PAPI_OK 600 2\n6 0 read PAPI_OK 153000\n7 0 raw PAPI_OK 21931\nnote 0 0 0 0x101\nnote 0 0 0 0x202\n";
     check(
         &rt,
         alloc,
@@ -251,7 +271,8 @@ fn thresholds(rt: HostRuntime) -> Result<(), Fail> {
 #[test]
 fn turns(rt: HostRuntime) -> Result<(), Fail> {
     let alloc = rt.alloc();
-    let script = "0 create\n0 multiplex 0 2\n0 add 0 BR_INST\n0 add 0 BR_MISP\n0 start 0\n0 run 9\n0 read 0\n";
+    let script =
+        "0 create\n0 multiplex 0 2\n0 add 0 BR_INST\n0 add 0 BR_MISP\n0 start 0\n0 run 9\n0 read 0\n";
     let rows = [
         good(
             "0 create\n0 multiplex 0 2\n0 add 0 BR_INST\n0 add 0 BR_MISP\n0 start 0\n0 read 0\n0 run 8\n0 read 0\n0 state 0\n0 raw 0 0\n0 assign 0\n",
@@ -288,6 +309,12 @@ fn turns(rt: HostRuntime) -> Result<(), Fail> {
             "0 c4 01 u 7 1\n0 c4 01 u 8 1\n",
             "6 0 stop PAPI_OK 7\n7 0 cleanup PAPI_OK\n8 0 add PAPI_OK\n9 0 start PAPI_OK\n10 0 run PAPI_OK 1 0\n11 0 raw PAPI_OK 8\n",
         ),
+        // A group that never had its turn.
+        good(
+            "0 create\n0 multiplex 0 1000000\n0 add 0 BR_INST\n0 add 0 BR_MISP\n0 start 0\n0 run 2\n0 read 0\n",
+            "0 c4 01 u 3 1\n0 c5 00 u 2 1\n",
+            "6 0 run PAPI_OK 2 0\n7 0 read PAPI_OK 3 0\n",
+        ),
         good(
             "0 create\n0 multiplex 0 1\n0 add 0 REF:c=1\n",
             "",
@@ -321,17 +348,30 @@ fn presets(rt: HostRuntime) -> Result<(), Fail> {
                 "2 0 add PAPI_ECNFLCT lab::BR_INST:ALL lab::BR_MISP / P0\n3 0 add PAPI_ENOEVNT\n4 0 events PAPI_OK\n5 0 overflow PAPI_EINVAL\n",
             )
         },
+        // Sums wrap at 64 bits, and a native event has one threshold.
+        Row {
+            words,
+            ..good(
+                "0 create\n0 add 0 PAPI_TOT_INS\n0 start 0\n0 run 1\n0 accum 0\n0 run 1\n0 accum 0\n0 stop 0\n0 cleanup 0\n0 add 0 PAPI_TOT_CYC\n0 add 0 CYCLES\n0 overflow 0 PAPI_TOT_CYC 256\n0 overflow 0 CYCLES 256\n0 overflow 0 CYCLES 0\n",
+                "0 c0 00 u 1 1\n0 c0 00 u 1 1\n",
+                "4 0 run PAPI_OK 1 0\n5 0 accum PAPI_OK 9223372036854775807\n6 0 run PAPI_OK 1 0\n7 0 accum PAPI_OK -2\n8 0 stop PAPI_OK 0\n9 0 cleanup PAPI_OK\n10 0 add PAPI_OK\n11 0 add PAPI_OK\n12 0 overflow PAPI_OK\n13 0 overflow PAPI_EINVAL\n14 0 overflow PAPI_OK\n",
+            )
+        },
         Row {
             words: "papi_decode -U lab.unit -P lab.presets -C lab1 -a",
             ..good(
                 "",
                 "",
-                "CPU,lab1\nPRESET,PAPI_BR_PRC,DERIVED_POSTFIX,N0|N1|-|,lab::BR_INST:ALL,lab::BR_MISP\nPRESET,PAPI_RES_STL,DERIVED_SUB,lab::CYCLES,lab::INST_RETIRED\nPRESET,PAPI_TOT_CYC,NOT_DERIVED,lab::CYCLES\nPRESET,PAPI_LST_INS,DERIVED_ADD,lab::CACHE,lab::INST_RETIRED\n",
+                "CPU,lab1\nPRESET,PAPI_BR_PRC,DERIVED_POSTFIX,N0|N1|-|,lab::BR_INST:ALL,lab::BR_MISP\nPRESET,PAPI_TOT_INS,DERIVED_POSTFIX,N0|9223372036854775807|*|,lab::INST_RETIRED\nPRESET,PAPI_RES_STL,DERIVED_SUB,lab::CYCLES,lab::INST_RETIRED\nPRESET,PAPI_TOT_CYC,NOT_DERIVED,lab::CYCLES\nPRESET,PAPI_LST_INS,DERIVED_ADD,lab::CACHE,lab::INST_RETIRED\n",
             )
         },
         Row {
             words: "papi_decode -U lab.unit -P lab.presets -C other",
-            ..good("", "", "CPU,other\nPRESET,PAPI_TOT_INS,NOT_DERIVED,lab::CYCLES\n")
+            ..good(
+                "",
+                "",
+                "CPU,other\nPRESET,PAPI_TOT_INS,NOT_DERIVED,lab::CYCLES\n",
+            )
         },
         Row {
             words: "papi_run -U lab.unit -P s -C lab1 s t0",

@@ -21,7 +21,8 @@ fn one_stream(rt: HostRuntime) -> Result<(), Fail> {
             assert!(rt; run.unit.as_str() == "lab.unit" && run.script.as_str() == "s");
             assert!(rt; run.streams.as_slice().len() == 1);
         }
-        Ok(Command::Encode(_) | Command::Decode(_)) => assert!(rt; false),
+        Ok(Command::Encode(_encode)) => assert!(rt; false),
+        Ok(Command::Decode(_decode)) => assert!(rt; false),
         Err(_) => assert!(rt; false),
     }
     Ok(())
@@ -36,7 +37,8 @@ fn two_names(rt: HostRuntime) -> Result<(), Fail> {
             assert!(rt; encode.unit.as_str() == "lab.unit");
             assert!(rt; encode.names.as_slice().len() == 2);
         }
-        Ok(Command::Run(_) | Command::Decode(_)) => assert!(rt; false),
+        Ok(Command::Run(_run)) => assert!(rt; false),
+        Ok(Command::Decode(_decode)) => assert!(rt; false),
         Err(_) => assert!(rt; false),
     }
     Ok(())
