@@ -104,7 +104,8 @@ fn limited_entry(
     typed_entry(alloc, derived_type, formula, natives)
 }
 
-/// The entry of a row, or its first cause.
+/// The entry that a row gives by its derived type, its formula and its natives, whatever its first two fields say, or its
+/// first cause.
 #[tactic(auto, unfolding(crate::specs::Entries::judged, crate::specs::Lines::derivation_of))]
 pub fn judge(alloc: Global, row: &ByteRecord) -> Result<Entry, Refusal>
     requires { IsReadRow (fields_of row.now) }
@@ -113,12 +114,11 @@ pub fn judge(alloc: Global, row: &ByteRecord) -> Result<Entry, Refusal>
     let Some(derived_type) = type_of(text_at(row, 2)) else {
         return Err(Refusal::Cause(PresetCause::BadField));
     };
-    let formula: &[u8] = if has_formula(derived_type) {
-        text_at(row, 3)
+    let (formula, first): (&[u8], usize) = if has_formula(derived_type) {
+        (text_at(row, 3), 4)
     } else {
-        &[]
+        (&[], 3)
     };
-    let first = if has_formula(derived_type) { 4 } else { 3 };
     let Some(formula) = printable_text(formula) else {
         return Err(Refusal::Cause(PresetCause::BadField));
     };
