@@ -1,8 +1,5 @@
 -- Exactly those presets are available whose texts name native events of one component.
-use Rattle.std.proofs.Common.{◌≡◌, ◌∙◌, ℕ, zero, suc, Bool, true, false, List, [], ◌∷◌, Option, Some, None, Result, Ok, Err, All, map, slice_get, option_map, unwrap_or, is_some, refl, sym, ap, ap₂, arith}
-use Rattle.std.specs.Prelude.{◌==◌}
-use Rattle.std.proofs.lemmas.Bool.{eq-eqb}
-use Rattle.std.proofs.lemmas.List.Sums.{list_all-from_AllPass}
+use Rattle.std.proofs.Common.{◌≡◌, ◌∙◌, ℕ, zero, suc, Bool, true, false, List, [], ◌∷◌, Option, Some, None, Result, Ok, Err, map, slice_get, option_map, unwrap_or, is_some, refl, sym, ap, ap₂}
 use Rattle.event_tables.specs.Tables.{ComponentText}
 use Rattle.name_encoder.specs.declared.fault.NameFault.{NameFault}
 use Rattle.name_encoder.specs.Names.{names}
@@ -14,7 +11,7 @@ use Rattle.preset_csv.specs.declared.entry.Entry.TheVariants as row
 use Rattle.table_rows.specs.Texts.{Text}
 use Rattle.component_table.specs.Books.{are_together, book_of, derived_by, derived_from, derived_if, in_front, is_available, natives_named, rule_of}
 use Rattle.component_table.specs.Laws.{Available, ExactlyAvailable, named}
-use Rattle.component_table.proofs.Deriving.{together-all}
+use Rattle.component_table.proofs.Deriving.{all-together, together-all}
 
 -- ---- texts that name natives
 
@@ -44,13 +41,6 @@ all_named tables (text ∷ texts) (n ∷ natives) e =
     let first : names tables text ≡ Ok n = cc e in
     let rest : map (names tables) texts ≡ map named natives = cc e in
     names_front tables text texts ∙ ap₂ in_front first (all_named tables texts natives rest)
-
--- ---- natives of one component
-
-all_together : (natives : List Native) (component : ℕ) → All (λ n. n.comp ≡ component) natives → are_together natives ≡ true
-all_together [] component each = refl
-all_together (first ∷ others) component each =
-    list_all-from_AllPass (λ n. n.comp == first.comp) others (λ k d small. eq-eqb _ _ (each (suc k) d (omega arith) ∙ sym (each 0 d (omega arith))))
 
 -- ---- a row of the book
 
@@ -84,7 +74,7 @@ available_is : (tables : List ComponentText) (rows : List Entry) (r : ℕ) → A
 available_is tables rows r a =
     ap is_some (entry_is tables rows r (Some (row.Def a.def)) a.here
     ∙ ap (λ natives. derived_by natives (rule_of a.def.kind a.def.formula)) (all_named tables a.def.natives a.natives a.texts_name)
-    ∙ ap (λ b. derived_if b a.natives (rule_of a.def.kind a.def.formula)) (all_together a.natives a.component a.together))
+    ∙ ap (λ b. derived_if b a.natives (rule_of a.def.kind a.def.formula)) (all-together a.natives a.component a.together))
 
 pub exactly_available : ExactlyAvailable
 exactly_available tables rows r =

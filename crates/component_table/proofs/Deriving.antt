@@ -1,17 +1,16 @@
 -- What computed presets derive keeps what derived events keep, and fits the unit.
-use Rattle.std.proofs.Common.{◌≡◌, ◌≢◌, ◌&&◌, ◌∙◌, ◌<◌, ◌+◌, ℕ, zero, suc, Bool, true, false, List, [], ◌∷◌, ◌++◌, Option, Some, None, IfSome, All, length, drop, get_or, slice_get, refl, subst, ap, arith}
+use Rattle.std.proofs.Common.{◌≡◌, ◌∙◌, ◌<◌, ℕ, zero, suc, Bool, true, false, List, [], ◌∷◌, ◌++◌, Option, Some, None, IfSome, All, length, get_or, refl, sym, subst, ap, arith}
 use Rattle.std.specs.Prelude.{◌==◌}
-use Rattle.std.specs.List.{list_all}
 use Rattle.std.specs.Option.{ForSome}
 use Rattle.std.proofs.lemmas.Bool.{eq-eqb, eqb-true}
-use Rattle.std.proofs.lemmas.List.Sums.{AllPass-from_list_all}
+use Rattle.std.proofs.lemmas.List.Sums.{AllPass-from_list_all, list_all-from_AllPass}
 use Rattle.std.proofs.lemmas.List.Elements.{All-append}
-use Rattle.event_sets.proofs.Steps.{drop_at}
 use Rattle.event_sets.specs.AtRest.{Widths}
 use Rattle.event_sets.specs.Agreement.{BookFits, Fits}
 use Rattle.event_tables.specs.Tables.{ComponentText}
 use Rattle.name_encoder.specs.Names.{FitsShape}
 use Rattle.papi_base.specs.declared.native.Native.{Native}
+use Rattle.postfix_rules.specs.declared.rule.Rule.{Rule}
 use Rattle.postfix_rules.specs.declared.rule.Rule.TheVariants as rule
 use Rattle.postfix_rules.specs.Faults.{FormulaView}
 use Rattle.postfix_rules.specs.Presets.{Book}
@@ -20,7 +19,7 @@ use Rattle.preset_csv.specs.Defs.{Agrees, DefView, IsDef}
 use Rattle.preset_csv.specs.declared.kind.Kind.{Kind}
 use Rattle.preset_csv.specs.declared.kind.Kind.TheVariants as kind
 use Rattle.table_rows.specs.Texts.{Text}
-use Rattle.component_table.specs.Books.{are_together, natives_named, rule_of}
+use Rattle.component_table.specs.Books.{are_together, derived_by, derived_if, derived_of, natives_named, rule_of}
 use Rattle.component_table.proofs.Naming.{natives-count}
 
 -- natives that are together are of one component
@@ -31,6 +30,12 @@ together-all (first ∷ others) e = (first.comp, each)
     each : (k : ℕ) (d : Native) → k < length (first ∷ others) → (get_or (first ∷ others) k d).comp ≡ first.comp
     each zero d small = refl
     each (suc k) d small = eqb-true _ _ (AllPass-from_list_all (λ n. n.comp == first.comp) others e k d (omega arith))
+
+-- natives of one component are together
+pub all-together : (natives : List Native) (component : ℕ) → All (λ n. n.comp ≡ component) natives → are_together natives ≡ true
+all-together [] component each = refl
+all-together (first ∷ others) component each =
+    list_all-from_AllPass (λ n. n.comp == first.comp) others (λ k d small. eq-eqb _ _ (each (suc k) d (omega arith) ∙ sym (each 0 d (omega arith))))
 
 plain-one : (k : Kind) (f : Option FormulaView) (texts : List Text) → Agrees k f texts → rule_of k f ≡ rule.Plain → length texts ≡ 1
 plain-one kind.NotDerived None texts a e = a
@@ -60,6 +65,25 @@ derivable tables d natives def named together =
       fits = rw count (rule-counts d.kind d.formula d.natives def.agrees);
     }
 
+-- what a computed preset derives, where its natives and its rule make a derived event
+pub derives : (tables : List ComponentText) (d : DefView) (natives : List Native) (r : Rule) → natives_named tables d.natives ≡ Some natives → r ≡ rule_of d.kind d.formula → IsDerived (record { natives = natives; rule = r })
+    → derived_of tables d ≡ Some (record { natives = natives; rule = r })
+derives tables d natives r named is made =
+    ap (λ o. derived_by o (rule_of d.kind d.formula)) named
+    ∙ ap (λ b. derived_if b natives (rule_of d.kind d.formula)) (all-together natives made.one_component.0 made.one_component.1)
+    ∙ ap (λ q. derived_if true natives q) (sym is)
+
+-- a computed preset derives nothing where its natives and its rule make no derived event
+pub derives-none : (tables : List ComponentText) (d : DefView) (natives : List Native) (r : Rule) → IsDef d → natives_named tables d.natives ≡ Some natives → r ≡ rule_of d.kind d.formula → ¬ IsDerived (record { natives = natives; rule = r })
+    → derived_of tables d ≡ None
+derives-none tables d natives r def named is apart =
+    ap (λ o. derived_by o (rule_of d.kind d.formula)) named
+    ∙ ap (λ b. derived_if b natives (rule_of d.kind d.formula)) (go (are_together natives) refl)
+  where
+    go : (b : Bool) → are_together natives ≡ b → b ≡ false
+    go true e = absurd (apart (rw is (derivable tables d natives def named e)))
+    go false e = refl
+
 fit_one : (shape : Widths) (n : Native) → FitsShape shape n → All (Fits shape) (n ∷ [])
 fit_one shape n fits zero d small = record { has_component = fits.has_component; has_counters = fits.has_counters }
 fit_one shape n fits (suc k) d small = absurd (omega arith)
@@ -67,20 +91,6 @@ fit_one shape n fits (suc k) d small = absurd (omega arith)
 -- one more native that fits
 pub fit-more : (shape : Widths) (natives : List Native) (n : Native) → All (Fits shape) natives → FitsShape shape n → All (Fits shape) (natives ++ n ∷ [])
 fit-more shape natives n all fits = All-append (Fits shape) natives (n ∷ []) all (fit_one shape n fits)
-
--- the component of one more native is looked at
-others-at : (comp i : ℕ) (natives : List Native) (n : Native) → slice_get natives i ≡ Some n → list_all (λ m. m.comp == comp) (drop i natives) ≡ ((n.comp == comp) && list_all (λ m. m.comp == comp) (drop (i + 1) natives))
-others-at comp i natives n is = ap (list_all (λ m. m.comp == comp)) (drop_at natives i n is)
-
-pub others-apart : (comp i : ℕ) (natives : List Native) (n : Native) → slice_get natives i ≡ Some n → n.comp ≢ comp → list_all (λ m. m.comp == comp) (drop i natives) ≡ false
-others-apart comp i natives n is apart = others-at comp i natives n is ∙ ap (λ b. b && list_all (λ m. m.comp == comp) (drop (i + 1) natives)) (go (n.comp == comp) refl)
-  where
-    go : (b : Bool) → (n.comp == comp) ≡ b → b ≡ false
-    go true e = absurd (apart (eqb-true n.comp comp e))
-    go false e = refl
-
-pub others-more : (comp i : ℕ) (natives : List Native) (n : Native) → slice_get natives i ≡ Some n → n.comp ≡ comp → list_all (λ m. m.comp == comp) (drop i natives) ≡ list_all (λ m. m.comp == comp) (drop (i + 1) natives)
-others-more comp i natives n is same = others-at comp i natives n is ∙ ap (λ b. b && list_all (λ m. m.comp == comp) (drop (i + 1) natives)) (eq-eqb n.comp comp same)
 
 book_one : (shape : Widths) (place : Option DerivedView) → IfSome place (λ d. All (Fits shape) d.natives) → All (λ p. ForSome p (λ d. All (Fits shape) d.natives)) (place ∷ [])
 book_one shape place fits zero d small = go place fits

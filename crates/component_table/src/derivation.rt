@@ -8,7 +8,7 @@ ghost use Rattle.event_sets.specs.Agreement.{BookFits, Fits};
 use event_tables::Tables;
 use name_encoder::encode;
 use papi_base::Natives;
-use postfix_rules::{Derived, Formula, PresetBook, Rule};
+use postfix_rules::{Derived, Formula, PresetBook, Rule, is_derived};
 use preset_csv::{Def, Entry, Kind};
 use std::alloc::{AllocError, Global};
 
@@ -26,21 +26,6 @@ fn natives_named(tables: &Tables, texts: &[String]) -> Option<Natives>
         }
     }
     Some(natives)
-}
-
-// Whether they are of one component.
-fn are_together(natives: &Natives) -> bool
-    ensures { result ≡ Books.are_together natives.now }
-{
-    let Some(first) = natives.get(0) else {
-        return true;
-    };
-    for i in 1..natives.len() {
-        if natives.at(i).comp != first.comp {
-            return false;
-        }
-    }
-    true
 }
 
 // The rule of a kind, with its formula.
@@ -64,11 +49,12 @@ fn derived_of(tables: &Tables, def: Def) -> Option<Derived>
     ensures fits { IfSome result (λ d. All (Fits (shape_of tables.now)) d.natives) }
 {
     let natives = natives_named(tables, def.natives())?;
-    if !are_together(&natives) {
+    let kind = def.kind();
+    let rule = rule_of(kind, def.into_formula());
+    if !is_derived(&natives, &rule) {
         return None;
     }
-    let kind = def.kind();
-    Some(Derived::new(natives, rule_of(kind, def.into_formula())))
+    Some(Derived::new(natives, rule))
 }
 
 // What is derived in a row of a table of presets, where the preset is available.
