@@ -47,6 +47,7 @@ impl Registers {
         }
     }
 
+    #[inline(always)]
     pub fn len(&self) -> u32
         ensures length { result ≡ length self.now }
         ensures short { length self.now ≤ 32 }
@@ -54,6 +55,7 @@ impl Registers {
         self.len
     }
 
+    #[inline(always)]
     pub fn at(&self, i: u32) -> Option<Register>
         requires { i < length self.now }
         ensures { slice_get self.now i ≡ Some result }
@@ -61,6 +63,7 @@ impl Registers {
         self.buf[i as usize]
     }
 
+    #[inline(always)]
     pub fn put(&mut self, i: u32, x: Option<Register>)
         requires { i < length self.old }
         ensures { self.new ≡ slice_set self.old i x }
@@ -69,6 +72,7 @@ impl Registers {
     }
 
     /// Counts one occurrence at a place with this width, and tells whether its register carried.
+    #[inline(always)]
     pub fn count(&mut self, i: u32, width: u8, before: Option<&Occ>, o: &Occ) -> bool
         requires place { i < length self.old }
         requires low { 16 ≤ width }

@@ -29,6 +29,7 @@ impl Model for Unit {
 }
 
 /// The values of a register of this width, and one more than the greatest.
+#[inline(always)]
 fn room(width: u8) -> u64
     requires { width ≤ 48 }
     ensures value { result ≡ 2 ^ width }
@@ -39,6 +40,7 @@ fn room(width: u8) -> u64
 }
 
 /// How much is counted from one carry to the next.
+#[inline(always)]
 pub fn period_of(width: u8, threshold: u64) -> u64
     requires { width ≤ 48 }
     ensures value { result ≡ period width threshold }
@@ -52,6 +54,7 @@ pub fn period_of(width: u8, threshold: u64) -> u64
 }
 
 /// Where a register of this width begins.
+#[inline(always)]
 pub fn beginning_of(width: u8, threshold: u64) -> u64
     requires width { width ≤ 48 }
     requires threshold { IsThreshold width threshold }
@@ -61,6 +64,7 @@ pub fn beginning_of(width: u8, threshold: u64) -> u64
 }
 
 /// Counts one occurrence at a place, and tells whether its register carried.
+#[inline(always)]
 pub(crate) fn count_place(
     place: &mut Option<Register>,
     width: u8,
@@ -126,6 +130,7 @@ impl Unit {
 
     /// Adds to each programmed register what the occurrence counts for it, where `before` came just before it. The result
     /// is the counters that carried, as bits.
+    #[inline]
     pub fn step(&mut self, before: Option<&Occ>, o: &Occ) -> u32
         ensures registers { self.new ≡ record self.old { registers = all_moved (option_copied before.entry) o.now self.old.widths self.old.registers } }
         ensures carries { result ≡ bits_of (all_carries (option_copied before.entry) o.now self.old.widths self.old.registers) }
@@ -170,6 +175,7 @@ impl Unit {
     }
 
     /// The width of a counter, in bits.
+    #[inline(always)]
     pub fn width(&self, c: u32) -> u8
         requires exists { c < length self.now.widths }
         ensures width { result ≡ slice_index self.now.widths c }

@@ -96,6 +96,7 @@ impl Rotation {
     }
 
     /// The number of the group of the native event at a place, from 0.
+    #[inline(always)]
     pub fn group_of(&self, place: u32) -> u32
         requires { place < length self.now.numbers }
         ensures group { result ≡ slice_index self.now.numbers place }
@@ -105,6 +106,7 @@ impl Rotation {
     }
 
     /// The group that runs at a time, in ticks.
+    #[inline(always)]
     pub fn group_at(&self, time: u64) -> u32
         ensures group { result ≡ group_at self.now.turns time }
         ensures below { result < self.now.turns.count }

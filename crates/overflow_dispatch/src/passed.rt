@@ -22,6 +22,7 @@ impl Model for Passed {
 
 impl Passed {
     /// None passed.
+    #[inline(always)]
     pub fn new() -> Passed
         ensures { result ≡ [] }
     {
@@ -32,6 +33,7 @@ impl Passed {
     }
 
     /// How many passed.
+    #[inline(always)]
     pub fn len(&self) -> u32
         ensures length { result ≡ length self.now }
         ensures short { length self.now ≤ 32 }
@@ -40,6 +42,7 @@ impl Passed {
     }
 
     /// The index at this place from 0, if there are so many.
+    #[inline(always)]
     pub fn get(&self, i: u32) -> Option<u32>
         ensures { result ≡ slice_get self.now i }
     {
@@ -51,6 +54,7 @@ impl Passed {
     }
 
     /// One index more.
+    #[inline(always)]
     pub(crate) fn push(&mut self, index: u8)
         requires { length self.old < 32 }
         ensures { self.new ≡ self.old ++ index ∷ [] }

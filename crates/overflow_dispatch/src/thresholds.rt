@@ -45,6 +45,7 @@ impl Thresholds {
     }
 
     /// The indexes of the armed events whose counters are among the carries, in increasing order.
+    #[inline]
     pub fn passed(&self, carry: u32) -> Passed
         ensures { result ≡ passed_from 0 carry self.now }
     {

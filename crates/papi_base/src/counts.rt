@@ -62,6 +62,7 @@ impl Counts {
     }
 
     /// The item at a place that is there.
+    #[inline(always)]
     pub fn at(&self, i: u32) -> u64
         requires place { i < length self.now }
         ensures item { result ≡ slice_index self.now i }
@@ -79,6 +80,7 @@ impl Counts {
     }
 
     /// Another item at a place that is there.
+    #[inline(always)]
     pub fn put(&mut self, i: u32, x: u64)
         requires place { i < length self.old }
         ensures put { self.new ≡ slice_set self.old i x }

@@ -49,6 +49,7 @@ impl Natives {
     }
 
     /// How many items it has.
+    #[inline(always)]
     pub fn len(&self) -> u32
         ensures length { result ≡ length self.now }
         ensures short { length self.now ≤ 32 }
@@ -68,6 +69,7 @@ impl Natives {
     }
 
     /// The item at a place that is there.
+    #[inline(always)]
     pub fn at(&self, i: u32) -> Native
         requires place { i < length self.now }
         ensures item { slice_get self.now i ≡ Some result }

@@ -1,7 +1,7 @@
 // Occurrences, and what they add to a native event's count.
 ghost use Rattle.std.specs.Prelude.{◌≡◌, ◌≤◌};
 ghost use Rattle.std.specs.Option.{option_copied};
-ghost use Rattle.papi_base.specs.Weight.{holds, weight_of};
+ghost use Rattle.papi_base.specs.Weight.{holds, in_mode, weight_of};
 
 use crate::{Domain, Native};
 use bitflags::Flags;
@@ -30,36 +30,43 @@ pub enum LineCause {
     Stamp,
 }
 
+/// Whether the occurrence's mode is in the native event's privilege mask, which is the domain where it has none.
+#[inline(always)]
+fn is_in_mode(n: &Native, d: Domain, o: &Occ) -> bool
+    ensures { result ≡ in_mode n.now d o.now }
+{
+    let bit = if o.kernel { 2 } else { 1 };
+    let named = if o.kernel { n.mods.kernel } else { n.mods.user };
+    let any = n.mods.user | n.mods.kernel;
+    named | (!any & (d.0 & bit != 0))
+}
+
 /// Whether the native event's condition holds at the occurrence, by its modifiers and the set's domain.
+// Each part is tested, with no branch: occurrences come in no order that a processor could foresee.
+#[inline(always)]
 pub fn holds_at(n: &Native, d: Domain, o: &Occ) -> bool
     ensures holds { result ≡ holds n.now d o.now }
 {
-    let in_mode = if n.mods.user || n.mods.kernel {
-        if o.kernel { n.mods.kernel } else { n.mods.user }
-    } else if o.kernel {
-        d.0 & 2 != 0
-    } else {
-        d.0 & 1 != 0
-    };
-    n.comp == o.comp as u32
-        && n.select == o.select
-        && (n.umask == 0 || n.umask & o.umask != 0)
-        && in_mode
-        && (n.mods.cmask == 0 || (o.amount >= n.mods.cmask) != n.mods.invert)
+    let is_event = (n.comp == o.comp as u32) & (n.select == o.select);
+    let has_umask = (n.umask == 0) | (n.umask & o.umask != 0);
+    let reaches = (n.mods.cmask == 0) | ((o.amount >= n.mods.cmask) != n.mods.invert);
+    is_event & has_umask & is_in_mode(n, d, o) & reaches
 }
 
 /// What the occurrence adds to the native event's count, where `before` is the one that came just before it.
+#[inline(always)]
 pub fn weight(n: &Native, d: Domain, before: Option<&Occ>, o: &Occ) -> u8
     ensures weight { result ≡ weight_of n.now d (option_copied before.entry) o.now }
 {
-    if !holds_at(n, d, o) {
-        return 0;
-    }
-    if n.mods.edge {
-        return match before {
+    let most = if n.mods.edge {
+        match before {
             Some(b) => { if holds_at(n, d, b) { 0 } else { 1 } }
             None => 1,
-        };
-    }
-    if n.mods.cmask == 0 { o.amount } else { 1 }
+        }
+    } else if n.mods.cmask == 0 {
+        o.amount
+    } else {
+        1
+    };
+    if holds_at(n, d, o) { most } else { 0 }
 }

@@ -45,6 +45,7 @@ impl CompShape {
     }
 
     /// How many counters it has.
+    #[inline(always)]
     pub fn counters(&self) -> u32
         ensures length { result ≡ length self.now }
         ensures short { length self.now ≤ 32 }
@@ -54,6 +55,7 @@ impl CompShape {
     }
 
     /// The width of a counter that is there, in bits.
+    #[inline(always)]
     pub fn width(&self, c: u32) -> u8
         requires counter { c < length self.now }
         ensures width { result ≡ slice_index self.now c }
@@ -137,6 +139,7 @@ impl Shape {
     }
 
     /// The counters of a component that is there.
+    #[inline(always)]
     pub fn comp(&self, i: u32) -> &CompShape
         requires component { i < length self.now }
         ensures counters { slice_get self.now i ≡ Some result.now }
