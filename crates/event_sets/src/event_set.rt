@@ -6,7 +6,7 @@ ghost use Rattle.counter_alloc.specs.Masks.{masks_of};
 ghost use Rattle.postfix_rules.specs.Presets.{natives_of_event};
 ghost use Rattle.event_sets.specs.Adding.{add_refusal};
 ghost use Rattle.event_sets.specs.Agreement.{Fits, IsHeld};
-ghost use Rattle.event_sets.specs.AtRest.{emptied, has_event as has_event_in, is_bad_domain, is_other, new_set, set_natives, widths_at, with_event, with_threshold, without_event};
+ghost use Rattle.event_sets.specs.AtRest.{emptied, has_event as has_event_in, is_armed, is_bad_domain, is_other, new_set, set_natives, widths_at, with_event, with_threshold, without_event};
 ghost use Rattle.event_sets.specs.Changing.{assign_refusal, multiplex_refusal, threshold_refusal};
 ghost use Rattle.event_sets.specs.Sets.{IsSound, SetView, set_view};
 
@@ -309,6 +309,13 @@ impl EventSet {
         ensures { result ≡ slice_index self.now.rest.thresholds index }
     {
         self.thresholds.at(index)
+    }
+
+    /// Whether some event of the set has a threshold: PAPI_overflow(3).
+    pub fn is_armed(&self) -> bool
+        ensures { result ≡ is_armed self.now.rest }
+    {
+        is_armed(&self.thresholds)
     }
 
     /// The counter of each native event in the assignment that comes first, compared place by place; none where the set

@@ -18,3 +18,4 @@ pub use event_set::EventSet;
 pub use joining::natives_of;
 pub use refusal::{Clash, Refusal};
 pub use sameness::{is_same, is_same_event};
+pub use thresholds::leads;

@@ -70,7 +70,7 @@ pub fn is_bad_threshold(set: &EventSet, shape: &Shape, t: u64) -> bool
 }
 
 /// Whether the native event is the event's first.
-fn leads(book: &PresetBook, n: &Native, e: &EventRef) -> bool
+pub fn leads(book: &PresetBook, n: &Native, e: &EventRef) -> bool
     ensures { result ≡ leads_in book.now n.now e.now }
 {
     match natives_of(book, e).get(0) {
