@@ -12,7 +12,8 @@ use Rattle.std.specs.Str.Parse.{AllDigits, IsNumeral, ParsesUnsigned, digits_val
 use Rattle.papi_base.specs.Numerals.{is_digit, is_empty, is_numeral}
 use Rattle.postfix_rules.specs.declared.fault.FormulaCause.TheVariants as cause
 use Rattle.postfix_rules.specs.Faults.{token_cause}
-use Rattle.postfix_rules.specs.Tokens.{Text, constant_part, native_part}
+use Rattle.postfix_rules.specs.Tokens.{constant_part, native_part}
+use Rattle.table_rows.specs.Texts.{Text}
 
 both : (a b : Bool) → (a && b) ≡ true → (a ≡ true) × (b ≡ true)
 both true true e = (refl, refl)

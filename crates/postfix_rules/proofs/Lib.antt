@@ -9,7 +9,6 @@ pub mod Written
 mod Divided
 mod Stacks
 mod Sums
-mod Trimming
 mod Digits
 mod Pieces
 mod SoFar

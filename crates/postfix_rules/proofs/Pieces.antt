@@ -7,7 +7,8 @@ use Rattle.std.proofs.lemmas.List.Splits.{length-slice_split, slice_split_first}
 use Rattle.std.specs.List.{after_first, before_first, count_by, onto_first, position_or_len, slice_split}
 use Rattle.papi_base.specs.Numerals.{is_empty}
 use Rattle.postfix_rules.specs.Faults.{Part}
-use Rattle.postfix_rules.specs.Tokens.{Text, is_bar, part_of, parts_of, pieces_of, trimmed, without_blank_last, without_front}
+use Rattle.postfix_rules.specs.Tokens.{is_bar, part_of, parts_of, pieces_of, without_blank_last}
+use Rattle.table_rows.specs.Texts.{Text, trimmed, without_front}
 
 abbrev part : Text → Part
 part p = part_of (trimmed p)

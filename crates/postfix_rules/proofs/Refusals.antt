@@ -7,7 +7,8 @@ use Rattle.postfix_rules.specs.declared.fault.FormulaFault.TheVariants.{At, Memo
 use Rattle.postfix_rules.specs.declared.token.Token.{Token}
 use Rattle.postfix_rules.specs.Trees.{spelling}
 use Rattle.postfix_rules.specs.Faults.{FormulaView, IsFault, IsFormula, Part, fault_from}
-use Rattle.postfix_rules.specs.Tokens.{Text, parts_of}
+use Rattle.postfix_rules.specs.Tokens.{parts_of}
+use Rattle.table_rows.specs.Texts.{Text}
 use Rattle.postfix_rules.specs.Reading.{FirstFaults, FromOne, IsTextFault, IsTreeText, ReadsFormula, Refused, SameTokens, formula_of, tokens_among, unless_fault}
 use Rattle.postfix_rules.proofs.Spelled.{formulas_spell}
 use Rattle.postfix_rules.proofs.Faults.{Says, among-some, faults-found, found-faults}

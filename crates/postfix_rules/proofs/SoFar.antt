@@ -5,7 +5,8 @@ use Rattle.std.proofs.lemmas.List.{length-append, map-append}
 use Rattle.postfix_rules.specs.declared.fault.FormulaCause.{FormulaCause}
 use Rattle.postfix_rules.specs.declared.token.Token.{Token}
 use Rattle.postfix_rules.specs.Faults.{IsFormula, Part, end_cause, fault_from, height_after, token_cause}
-use Rattle.postfix_rules.specs.Tokens.{Text, parts_of}
+use Rattle.postfix_rules.specs.Tokens.{parts_of}
+use Rattle.table_rows.specs.Texts.{Text}
 use Rattle.postfix_rules.specs.Reading.{formula_of, unless_fault}
 use Rattle.postfix_rules.proofs.Refusals.{reads-tokens}
 use Rattle.postfix_rules.proofs.Spelled.{few-after}

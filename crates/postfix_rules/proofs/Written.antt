@@ -1,78 +1,20 @@
 -- The written text of a formula.
-use Rattle.std.proofs.Common.{◌≡◌, ◌∙◌, ◌+◌, ◌<◌, ◌≤◌, ◌^◌, ◌∷◌, ◌++◌, ℕ, Bool, true, false, not, List, [], length, reverse, map, refl, sym, ap, ap₂, subst, arith, tests, nat_eq, nat_le, decimal, Some, None, length-append}
+use Rattle.std.proofs.Common.{◌≡◌, ◌∙◌, ◌+◌, ◌<◌, ◌≤◌, ◌^◌, ◌∷◌, ◌++◌, ℕ, Bool, true, false, List, [], length, map, refl, ap, ap₂, arith, tests, nat_eq, nat_le, decimal, Some, None, length-append}
 use Rattle.std.specs.Prelude.{⊤, ◌&&◌}
 use Rattle.std.specs.List.{AllByRecursion, list_all, slice_split}
-use Rattle.std.specs.Str.Parse.{AllDigits, digits_value}
+use Rattle.std.specs.Str.Parse.{digits_value}
 use Rattle.std.proofs.lemmas.Bool.{and_from, le-leb}
-use Rattle.std.proofs.lemmas.Fmt.{decimal_is_IsNumeral}
-use Rattle.std.proofs.lemmas.List.{reverse-append, reverse-reverse}
-use Rattle.std.proofs.lemmas.Str.Parse.{digit_from_value}
-use Rattle.papi_base.specs.Numerals.{is_digit, is_empty, is_numeral}
+use Rattle.papi_base.specs.Numerals.{is_numeral}
 use Rattle.postfix_rules.specs.declared.token.Operator.TheVariants as op
 use Rattle.postfix_rules.specs.declared.token.Token.{Token}
 use Rattle.postfix_rules.specs.declared.token.Token.TheVariants as token
 use Rattle.postfix_rules.specs.Faults.{Part, end_cause, fault_from, height_after, token_cause}
-use Rattle.postfix_rules.specs.Tokens.{Text, formula_text, is_bar, is_blank, is_formula_byte, part_of, parts_of, pieces_of, token_text, trimmed, without_blank_last, without_front}
+use Rattle.postfix_rules.specs.Tokens.{formula_text, is_bar, is_formula_byte, part_of, parts_of, pieces_of, token_text, without_blank_last}
+use Rattle.table_rows.specs.Texts.{Text, is_blank, trimmed, without_front}
 use Rattle.postfix_rules.specs.Reading.{WrittenBytes, WrittenRead}
 use Rattle.postfix_rules.proofs.Refusals.{reads-tokens}
 use Rattle.postfix_rules.proofs.Spelled.{clear-first, constant-ok, native-ok}
-
-all-append : {X : Type 0} (P : X → Type 0) (xs ys : List X) → AllByRecursion P xs → AllByRecursion P ys → AllByRecursion P (xs ++ ys)
-all-append P [] ys h k = k
-all-append P (x ∷ xs) ys h k = (h.0, all-append P xs ys h.1 k)
-
-all-reverse : {X : Type 0} (P : X → Type 0) (xs : List X) → AllByRecursion P xs → AllByRecursion P (reverse xs)
-all-reverse P [] h = h
-all-reverse P (x ∷ xs) h = subst (AllByRecursion P) (sym (reverse-append (x ∷ []) xs)) (all-append P (reverse xs) (x ∷ []) (all-reverse P xs h.1) (h.0, tt))
-
-all-map : {X : Type 0} (P Q : X → Type 0) (xs : List X) → ((x : X) → P x → Q x) → AllByRecursion P xs → AllByRecursion Q xs
-all-map P Q [] f h = h
-all-map P Q (x ∷ xs) f h = (f x h.0, all-map P Q xs f h.1)
-
--- ---- trimming
-
-abbrev NoBlanks : Text → Type 0
-NoBlanks t = AllByRecursion (λ b. is_blank b ≡ false) t
-
-front-plain : (t : Text) → NoBlanks t → without_front t ≡ t
-unfolding without_front
-front-plain [] h = refl
-front-plain (b ∷ t) h = rw h.0 refl
-
-trimmed-plain : (t : Text) → NoBlanks t → trimmed t ≡ t
-unfolding trimmed
-trimmed-plain t h =
-    ap (λ (u : Text). reverse (without_front (reverse u))) (front-plain t h)
-    ∙ ap reverse (front-plain (reverse t) (all-reverse (λ b. is_blank b ≡ false) t h)) ∙ reverse-reverse t
-
--- ---- numbers in decimal
-
-abbrev Digits : Text → Type 0
-Digits t = AllByRecursion (λ b. (48 ≤ b) × (b ≤ 57)) t
-
-digits-from : (t : Text) → AllDigits 10 t → Digits t
-digits-from [] h = tt
-digits-from (b ∷ t) h = (digit_from_value b h.0, digits-from t h.1)
-
-decimal-digits : (n : ℕ) → n < 2 ^ 64 → Digits (decimal n)
-decimal-digits n lt = digits-from (decimal n) (decimal_is_IsNumeral n lt).0.1
-
-digits-all : (t : Text) → Digits t → list_all is_digit t ≡ true
-digits-all [] h = refl
-digits-all (b ∷ t) h = and_from (is_digit b) (list_all is_digit t) (grind (arith, tests, h.0)) (digits-all t h.1)
-
-decimal-numeral : (n : ℕ) → n < 2 ^ 64 → is_numeral (decimal n) ≡ true
-unfolding is_numeral
-decimal-numeral n lt =
-    let h = decimal_is_IsNumeral n lt in
-    and_from _ _ (digits-all (decimal n) (decimal-digits n lt)) (filled (decimal n) h.0.0)
-  where
-    filled : (t : Text) → 0 < length t → not (is_empty t) ≡ true
-    filled [] p = absurd (omega arith)
-    filled (b ∷ t) p = refl
-
-decimal-value : (n : ℕ) → n < 2 ^ 64 → digits_value 10 (decimal n) ≡ n
-decimal-value n lt = (decimal_is_IsNumeral n lt).1
+use Rattle.table_rows.proofs.Texts.{Digits, all-map, decimal-digits, decimal-numeral, decimal-value, trimmed-plain}
 
 -- ---- one token
 

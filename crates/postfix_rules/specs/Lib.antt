@@ -9,3 +9,4 @@ pub mod Tokens
 pub mod Judged
 pub mod Reading
 pub mod Laws
+pub use Rattle.table_rows.specs.Texts

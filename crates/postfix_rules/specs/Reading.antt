@@ -8,7 +8,8 @@ use Rattle.postfix_rules.specs.declared.formula.Formula.{Formula}
 use Rattle.postfix_rules.specs.declared.token.Token.{Token}
 use Rattle.postfix_rules.specs.Faults.{FormulaView, IsFault, IsFormula, Part, fault_from}
 use Rattle.postfix_rules.specs.Trees.{Tree, spelling}
-use Rattle.postfix_rules.specs.Tokens.{Text, formula_text, is_formula_byte, parts_of}
+use Rattle.postfix_rules.specs.Tokens.{formula_text, is_formula_byte, parts_of}
+use Rattle.table_rows.specs.Texts.{Text}
 
 -- the first fault of a text, by its place from 1, which is one past the last token where it is the text's end
 pub record Refused : Type 0 where

@@ -1,31 +1,15 @@
 -- The tokens of a formula's text, and the text of tokens: papi_events.csv.
-use Rattle.std.specs.Prelude.{◌||◌, ◌==◌, ℕ, Bool, List, [], ◌∷◌, ◌++◌, map, reverse, Option, Some, None, if◌then◌else◌, codes, bytes_eq, decimal}
+use Rattle.std.specs.Prelude.{◌||◌, ◌==◌, ℕ, Bool, List, [], ◌∷◌, ◌++◌, map, Option, Some, None, if◌then◌else◌, codes, bytes_eq, decimal}
 use Rattle.std.specs.List.{slice_split}
 use Rattle.std.specs.Option.{option_map_or}
 use Rattle.std.specs.Str.Parse.{digits_value}
 use Rattle.papi_base.specs.Numerals.{is_digit, is_empty, is_numeral}
+use Rattle.table_rows.specs.Texts.{Text, trimmed}
 use Rattle.postfix_rules.specs.declared.token.Operator.{Operator}
 use Rattle.postfix_rules.specs.declared.token.Operator.TheVariants as op
 use Rattle.postfix_rules.specs.declared.token.Token.{Token}
 use Rattle.postfix_rules.specs.declared.token.Token.TheVariants as token
 use Rattle.postfix_rules.specs.Faults.{Part}
-
--- bytes
-abbrev pub Text : Type 0
-Text = List ℕ
-
--- a space or a tab
-abbrev pub is_blank : ℕ → Bool
-is_blank b = (b == 32) || (b == 9)
-
--- a text with no space or tab in front
-unfoldable pub without_front : Text → Text
-without_front [] = []
-without_front (b ∷ rest) = if is_blank b then without_front rest else b ∷ rest
-
--- a text with no space or tab at either end
-unfoldable pub trimmed : Text → Text
-trimmed t = reverse (without_front (reverse (without_front t)))
 
 -- a `|`
 abbrev pub is_bar : ℕ → Bool

@@ -1,7 +1,6 @@
 //! Formulas in postfix order, derived events, and the values that rules give of counts.
 #![tactic(auto)]
 
-mod blank;
 pub mod book;
 pub mod derived;
 pub mod fault;

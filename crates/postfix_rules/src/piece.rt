@@ -1,10 +1,9 @@
 // The pieces of a formula's text, one by one.
 ghost use Rattle.std.specs.Prelude.{◌≡◌, ◌<◌, IfSome, length, position};
 ghost use Rattle.postfix_rules.specs.Judged.{parts_after};
-ghost use Rattle.postfix_rules.specs.Tokens as Tokens;
 ghost use Rattle.postfix_rules.specs.Tokens.{is_bar, parts_of};
 
-use crate::blank::trimmed;
+use table_rows::trimmed;
 
 // The place of the first `|`.
 fn bar_in(text: &[u8]) -> Option<usize>

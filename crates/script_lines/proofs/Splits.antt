@@ -4,7 +4,8 @@ use Rattle.std.proofs.lemmas.List.{length-take-le, drop_more, take_more, drop_al
 use Rattle.std.proofs.lemmas.List.Folds.{list_all-append}
 use Rattle.std.specs.Prelude.{not, ◌&&◌}
 use Rattle.std.specs.List.{list_all}
-use Rattle.script_lines.specs.Words.{ends_here, in_first, is_blank, words_of}
+use Rattle.table_rows.specs.Texts.{is_blank}
+use Rattle.script_lines.specs.Words.{ends_here, in_first, words_of}
 
 abbrev pub is_plain : ℕ → Bool
 is_plain b = not (is_blank b)

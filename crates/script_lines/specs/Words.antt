@@ -1,8 +1,6 @@
 -- The words of a line of a script, this project's own format: docs/FORMATS.md.
-use Rattle.std.specs.Prelude.{◌==◌, ◌||◌, ℕ, Bool, true, List, [], ◌∷◌, if◌then◌else◌}
-
-abbrev pub is_blank : ℕ → Bool
-is_blank b = (b == 32) || (b == 9)
+use Rattle.std.specs.Prelude.{ℕ, Bool, true, List, [], ◌∷◌, if◌then◌else◌}
+use Rattle.table_rows.specs.Texts.{is_blank}
 
 -- whether a word ends before these bytes
 abbrev pub ends_here : List ℕ → Bool

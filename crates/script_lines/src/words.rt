@@ -1,17 +1,11 @@
 //! The words of a line.
 
 ghost use Rattle.std.specs.Prelude.{◌≡◌, IfOk, map};
-ghost use Rattle.script_lines.specs.Words as Words;
 ghost use Rattle.script_lines.specs.Words.{words_of};
 
 use smallvec::SmallVec;
 use std::alloc::{AllocError, Global};
-
-fn is_blank(b: u8) -> bool
-    ensures { result ≡ Words.is_blank b }
-{
-    b == b' ' || b == b'\t'
-}
+use table_rows::is_blank;
 
 // The words of a line, of which the first eight take no memory.
 pub(crate) fn split_words<'a>(

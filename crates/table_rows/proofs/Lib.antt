@@ -4,4 +4,3 @@ pub mod Numerals
 pub mod Ranges
 pub mod Records
 pub mod RowsBack
-pub mod NoCommas

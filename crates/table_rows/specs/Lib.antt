@@ -1,3 +1,4 @@
 pub mod Texts
 pub mod Rows
 pub use Rattle.csv.specs.Records
+pub use Rattle.papi_base.specs.Numerals

@@ -1,9 +1,9 @@
--- The texts of a table's fields, and the numbers that they write.
-use Rattle.std.specs.Prelude.{◌&&◌, ◌||◌, ◌==◌, ℕ, Bool, true, false, not, List, [], ◌∷◌, length, reverse, Option, Some, None}
-use Rattle.std.specs.Prelude.{unwrap_or, if◌then◌else◌, nat_le, nat_lt, slice_index}
+-- The texts of a table's fields; the numbers that they write are Numerals'.
+use Rattle.std.specs.Prelude.{◌&&◌, ◌||◌, ◌==◌, ℕ, Bool, List, [], ◌∷◌, length, reverse}
+use Rattle.std.specs.Prelude.{unwrap_or, if◌then◌else◌, nat_le, slice_index}
 use Rattle.std.specs.List.{list_all, slice_get}
-use Rattle.std.specs.Char.{digit_value}
-use Rattle.std.specs.Str.Parse.{digits_value}
+pub use Rattle.papi_base.specs.Numerals.{is_digit, is_empty, is_hex_digit}
+unfoldable pub use Rattle.papi_base.specs.Numerals.{decimal_in, hex_in, is_decimal, is_numeral}
 
 -- bytes
 abbrev pub Text : Type 0
@@ -30,10 +30,6 @@ text_at fields i = trimmed (unwrap_or (slice_get fields i) [])
 abbrev pub is_skipped : Text → Bool
 is_skipped first = (length first == 0) || (slice_index first 0 == 35)
 
-abbrev pub is_empty : {X : Type 0} → List X → Bool
-is_empty [] = true
-is_empty (x ∷ xs) = false
-
 -- ---- names
 
 abbrev pub is_name_byte : ℕ → Bool
@@ -49,28 +45,3 @@ is_printable_byte b = nat_le 32 b && nat_le b 126
 -- from a space to `~`
 abbrev pub is_printable : Text → Bool
 is_printable t = list_all is_printable_byte t
-
--- ---- numbers
-
-abbrev pub is_digit : ℕ → Bool
-is_digit b = nat_le 48 b && nat_le b 57
-
--- one or more decimal digits
-unfoldable pub is_numeral : Text → Bool
-is_numeral t = list_all is_digit t && not (is_empty t)
-
--- a decimal number without leading zeros
-unfoldable pub is_decimal : Text → Bool
-is_decimal t = is_numeral t && ((length t == 1) || not (slice_index t 0 == 48))
-
--- the number that a text writes in decimal without leading zeros, where it is in a range
-unfoldable pub decimal_in : ℕ → ℕ → Text → Option ℕ
-decimal_in low high t = if is_decimal t && (nat_le low (digits_value 10 t) && nat_le (digits_value 10 t) high) then Some (digits_value 10 t) else None
-
--- `0` to `9`, `a` to `f`, `A` to `F`
-abbrev pub is_hex_digit : ℕ → Bool
-is_hex_digit b = nat_lt (digit_value b) 16
-
--- the number of a text of hexadecimal digits, at least and at most so many
-unfoldable pub hex_in : ℕ → ℕ → Text → Option ℕ
-hex_in few many t = if list_all is_hex_digit t && (nat_le few (length t) && nat_le (length t) many) then Some (digits_value 16 t) else None

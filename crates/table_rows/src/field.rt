@@ -6,7 +6,8 @@ ghost use Rattle.table_rows.specs.Texts as Texts;
 
 use csv::ByteRecord;
 
-fn is_blank(b: u8) -> bool
+/// Whether a byte is a space or a tab.
+pub fn is_blank(b: u8) -> bool
     ensures { result ≡ Texts.is_blank b }
 {
     b == b' ' || b == b'\t'

@@ -3,43 +3,43 @@
 ghost use Rattle.std.specs.Prelude.{◌≡◌, ◌≤◌, ◌<◌, ◌^◌, true, Some, None, if◌then◌else◌, nat_lt};
 ghost use Rattle.std.specs.List.{list_all};
 ghost use Rattle.std.specs.Str.Parse.{digits_value};
-ghost use Rattle.table_rows.specs.Texts as Texts;
+ghost use Rattle.papi_base.specs.Numerals as Numerals;
 
 fn is_digit(b: u8) -> bool
-    ensures { result ≡ Texts.is_digit b }
+    ensures { result ≡ Numerals.is_digit b }
 {
     48 <= b && b <= 57
 }
 
 fn is_hex_digit(b: u8) -> bool
-    ensures { result ≡ Texts.is_hex_digit b }
+    ensures { result ≡ Numerals.is_hex_digit b }
 {
     (b as char).is_digit(16)
 }
 
 fn are_digits(bytes: &[u8]) -> bool
-    ensures { result ≡ list_all Texts.is_digit bytes.now }
+    ensures { result ≡ list_all Numerals.is_digit bytes.now }
 {
     bytes.iter().all(|&b| is_digit(b))
 }
 
 fn are_hex_digits(bytes: &[u8]) -> bool
-    ensures { result ≡ list_all Texts.is_hex_digit bytes.now }
+    ensures { result ≡ list_all Numerals.is_hex_digit bytes.now }
 {
     bytes.iter().all(|&b| is_hex_digit(b))
 }
 
 /// Whether bytes are a decimal number without leading zeros, of any size.
-#[tactic(auto, unfolding(crate::specs::Texts::is_decimal, crate::specs::Texts::is_numeral))]
+#[tactic(auto, unfolding(papi_base::specs::Numerals::is_decimal, papi_base::specs::Numerals::is_numeral))]
 pub fn is_decimal(bytes: &[u8]) -> bool
-    ensures { result ≡ Texts.is_decimal bytes.now }
+    ensures { result ≡ Numerals.is_decimal bytes.now }
 {
     are_digits(bytes) && bytes.len() > 0 && (bytes.len() == 1 || bytes[0] != b'0')
 }
 
 // The value of a decimal number, and `None` where it needs more than 64 bits.
 fn decimal_value(bytes: &[u8]) -> Option<u64>
-    requires { Texts.is_decimal bytes.now ≡ true }
+    requires { Numerals.is_decimal bytes.now ≡ true }
     ensures { result ≡ (if nat_lt (digits_value 10 bytes.now) (2 ^ 64) then Some (digits_value 10 bytes.now) else None) }
 {
     match str::from_utf8(bytes) {
@@ -49,9 +49,9 @@ fn decimal_value(bytes: &[u8]) -> Option<u64>
 }
 
 /// The decimal number without leading zeros that bytes are, where it is in the range, and else `None`.
-#[tactic(auto, unfolding(crate::specs::Texts::decimal_in))]
+#[tactic(auto, unfolding(papi_base::specs::Numerals::decimal_in))]
 pub fn decimal_in(low: u64, high: u64, bytes: &[u8]) -> Option<u64>
-    ensures { result ≡ Texts.decimal_in low high bytes.now }
+    ensures { result ≡ Numerals.decimal_in low high bytes.now }
 {
     if !is_decimal(bytes) {
         return None;
@@ -63,11 +63,11 @@ pub fn decimal_in(low: u64, high: u64, bytes: &[u8]) -> Option<u64>
 }
 
 /// The number that bytes are as hexadecimal digits of either case, at least `few` and at most `many`, and else `None`.
-#[tactic(auto, unfolding(crate::specs::Texts::hex_in))]
+#[tactic(auto, unfolding(papi_base::specs::Numerals::hex_in))]
 pub fn hex_in(few: usize, many: usize, bytes: &[u8]) -> Option<u64>
     requires some { 1 ≤ few }
     requires fits { many ≤ 16 }
-    ensures { result ≡ Texts.hex_in few many bytes.now }
+    ensures { result ≡ Numerals.hex_in few many bytes.now }
 {
     if !are_hex_digits(bytes) || bytes.len() < few || many < bytes.len() {
         return None;

@@ -1,6 +1,7 @@
 use Rattle.std.proofs.Common.{◌≡◌, ◌∙◌, ◌∷◌, ◌==◌, [], false, length, sym, ap}
 use Rattle.std.proofs.lemmas.Bool.{eqb-true}
-use Rattle.postfix_rules.specs.Tokens.{Text, part_of, parts_of, trimmed}
+use Rattle.postfix_rules.specs.Tokens.{part_of, parts_of}
+use Rattle.table_rows.specs.Texts.{Text, trimmed}
 use Rattle.postfix_rules.proofs.Digits.{no-length}
 use Rattle.postfix_rules.proofs.Pieces.{not-empty, parts-blank, parts-last, some-length}
 use Rattle.postfix_rules.proofs.piece.last_piece.Goals as goal
