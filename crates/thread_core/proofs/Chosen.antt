@@ -33,6 +33,3 @@ chosen before o units slots comp number unit new_unit place new_place set passed
     ∙ ap (λ (k : ℕ). the_all (slice_set units o.comp c.unit) (slice_set slots number c.place) k passed) is_set
     ∙ ap (λ (xs : List ℕ). the_all (slice_set units o.comp c.unit) (slice_set slots number c.place) (if length xs == 0 then 0 else number) xs) is_passed
     ∙ sym (counted_all-some before o units slots number unit place owner (ap (slice_get units) (sym same) ∙ slice_get_read units (length units) comp unit refl has_unit reads_unit) (slice_get_read slots (length slots) number place refl has_place reads_place))
-
-pub owner_is : (result : Option ℕ) (comp comp' number : ℕ) (slots : List (Option Slot)) → result ≡ owner_from comp 0 (map (option_map face_of_slot) slots) → comp ≡ comp' → result ≡ Some number → owner_from comp' 0 (map (option_map face_of_slot) slots) ≡ Some number
-owner_is result comp comp' number slots e same is = sym (e ∙ ap (λ (k : ℕ). owner_from k 0 (map (option_map face_of_slot) slots)) same) ∙ is

@@ -31,3 +31,4 @@ pub mod Zeroes
 pub mod Accumulates
 pub mod RawRegisters
 pub mod Alterations
+pub mod Known

@@ -6,6 +6,7 @@ pub mod Slots
 pub mod Stands
 pub mod Units
 pub mod Refusing
+pub mod Running
 pub mod Following
 pub mod Changed
 pub mod Shown

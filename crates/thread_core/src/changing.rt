@@ -265,6 +265,7 @@ impl Core {
         if let Some(code) = self.code_before(set, change) {
             return code;
         }
+        self.running.forget();
         match change_under(&mut self.slots, book, &self.shape, set, change) {
             Ok(()) => Code::Ok,
             Err(code) => code,

@@ -3,7 +3,6 @@ ghost use Rattle.std.specs.Prelude.{◌≡◌, ℕ, ◌^◌, ◌<◌, ◌≤◌,
 ghost use Rattle.std.specs.Option.{option_copied, option_map};
 ghost use Rattle.counter_unit.specs.Counting.{UnitView};
 ghost use Rattle.multiplex.specs.Turns.{group_at};
-ghost use Rattle.session_model.specs.Faces.{runs_on};
 ghost use Rattle.thread_core.specs.declared.slot.Slot.{Slot};
 ghost use Rattle.thread_core.specs.Countable.{AreCountable, IsCountable};
 ghost use Rattle.thread_core.specs.Counted.{counted, counted_all, counted_place, with_turn};
@@ -110,29 +109,6 @@ fn count_place(unit: &mut Unit, place: &mut Option<Slot>, before: Option<&Occ>, 
     }
 }
 
-/// Whether the set under a number runs on the component.
-fn is_on(place: &Option<Slot>, comp: u32) -> bool
-    ensures { result ≡ runs_on (Some comp) (option_map face_of_slot place.now) }
-{
-    match place {
-        Some(slot) => slot.running && slot.set.component() == Some(comp),
-        None => false,
-    }
-}
-
-/// The number of the set that runs on the component.
-fn running_on(slots: &Vec<Option<Slot>>, comp: u32) -> Option<u32>
-    requires { length slots.now.items ≡ 64 }
-    ensures { result ≡ owner_from comp 0 (map (option_map face_of_slot) slots.now.items) }
-{
-    for number in 0..64u32 {
-        if is_on(&slots[number as usize], comp) {
-            return Some(number);
-        }
-    }
-    None
-}
-
 /// The number of the set whose events passed their thresholds, and 0 where none did.
 fn noting_set(passed: &Passed, number: u32) -> u32
     ensures { result ≡ (if length passed.now == 0 then 0 else number) }
@@ -140,14 +116,16 @@ fn noting_set(passed: &Passed, number: u32) -> u32
     if passed.len() == 0 { 0 } else { number }
 }
 
-/// Counts one occurrence for the set that runs on its component.
+/// Counts one occurrence for the set that runs on its component, the runner, if one does.
 pub fn count_all(
     units: &mut Vec<Unit>,
     slots: &mut Vec<Option<Slot>>,
     before: Option<&Occ>,
     o: &Occ,
+    runner: Option<u32>,
 ) -> Taken
     requires places { length slots.old.items ≡ 64 }
+    requires runner { runner ≡ owner_from o.now.comp 0 (map (option_map face_of_slot) slots.old.items) }
     requires countable { (k : ℕ) → owner_from o.now.comp 0 (map (option_map face_of_slot) slots.old.items) ≡ Some k → AreCountable units.old.items slots.old.items o.now.comp k }
     ensures units { units.new.items ≡ (counted_all (option_copied before.entry) o.now units.old.items slots.old.items).units }
     ensures slots { slots.new.items ≡ (counted_all (option_copied before.entry) o.now units.old.items slots.old.items).slots }
@@ -155,7 +133,7 @@ pub fn count_all(
     ensures passed { result.passed ≡ (counted_all (option_copied before.entry) o.now units.old.items slots.old.items).passed }
 {
     let comp = u32::from(o.comp);
-    match running_on(slots, comp) {
+    match runner {
         Some(number) => {
             let passed = count_place(
                 &mut units[comp as usize],

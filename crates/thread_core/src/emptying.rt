@@ -22,6 +22,7 @@ impl Core {
         if let Some(code) = self.refused(&Call::Destroy { set }) {
             return code;
         }
+        self.running.forget();
         self.slots[set as usize] = None;
         Code::Ok
     }

@@ -19,6 +19,7 @@ mod raw_reading;
 mod reading_tests;
 mod refusal;
 mod registering;
+pub mod running;
 mod settings;
 mod showing;
 pub mod slot;

@@ -12,6 +12,7 @@ ghost use Rattle.session_model.specs.Fitness.{IsShape};
 use crate::changing::add_under;
 use crate::counting::{Taken, count_all};
 use crate::refusal::{is_absent, refusal, runs};
+use crate::running::RunningSets;
 use crate::showing::{assigned_under, events_under, values_under};
 use crate::slot::{Slot, empty_places, free_number, new_slot};
 use crate::starting::begin_under;
@@ -34,19 +35,21 @@ pub struct Core {
     pub(crate) shape: Shape,
     pub(crate) slots: Vec<Option<Slot>>,
     pub(crate) units: Vec<Unit>,
+    pub(crate) running: RunningSets,
     taken: u32,
     last: Option<Occ>,
 }
 
 impl Model for Core {
     ghost use Rattle.thread_core.specs.CoreView.{CoreView};
+    ghost use Rattle.thread_core.specs.Running.{AreKnown};
     ghost use Rattle.thread_core.specs.Stands.{IsBacked};
 
     ghost Value = { CoreView };
 
     ghost view = { λ c. record { thread = c.thread; registered = c.registered; shape = c.shape; slots = c.slots.items; units = c.units.items; taken = c.taken; last = c.last } };
 
-    ghost invariant = { λ c. IsBacked (record { thread = c.thread; registered = c.registered; shape = c.shape; slots = c.slots.items; units = c.units.items; taken = c.taken; last = c.last }) };
+    ghost invariant = { λ c. IsBacked (record { thread = c.thread; registered = c.registered; shape = c.shape; slots = c.slots.items; units = c.units.items; taken = c.taken; last = c.last }) × AreKnown c.running c.slots.items };
 }
 
 /// A unit for each component, on which nothing is programmed.
@@ -92,6 +95,7 @@ impl Core {
             shape,
             slots,
             units,
+            running: RunningSets::new(),
             taken: 0,
             last: None,
         })
@@ -128,6 +132,7 @@ impl Core {
             return Err(code);
         }
         let number = self.free_number();
+        self.running.forget();
         self.slots[number as usize] = Some(new_slot());
         Ok(number)
     }
@@ -159,7 +164,10 @@ impl Core {
         }
         match e {
             Err(code) => Err(Refusal::Plain(*code)),
-            Ok(e) => add_under(&mut self.slots, book, &self.shape, set, e),
+            Ok(e) => {
+                self.running.forget();
+                add_under(&mut self.slots, book, &self.shape, set, e)
+            }
         }
     }
 
@@ -184,6 +192,7 @@ impl Core {
             return code;
         }
         let now = self.time();
+        self.running.forget();
         begin_under(&mut self.units, &mut self.slots, book, set, now);
         Code::Ok
     }
@@ -200,6 +209,7 @@ impl Core {
         }
         let now = self.time();
         *into = values_under(&self.slots, &self.units, book, set, now);
+        self.running.forget();
         stop_under(&mut self.units, &mut self.slots, &self.shape, set, now);
         Code::Ok
     }
@@ -256,8 +266,9 @@ impl Core {
         ensures none { result.passed ≡ [] → result.set ≡ 0 }
     {
         let _amount = o.amount;
+        let runner = self.running.on(&self.slots, u32::from(o.comp));
         let before = self.last;
-        let taken = count_all(&mut self.units, &mut self.slots, before.as_ref(), o);
+        let taken = count_all(&mut self.units, &mut self.slots, before.as_ref(), o, runner);
         self.taken += 1;
         self.last = Some(*o);
         taken

@@ -12,6 +12,7 @@ use Rattle.thread_core.specs.Stands.{AgreesWith}
 use Rattle.thread_core.proofs.Accumulates.{accum_follows, accum_inside, accum_lengths, accum_refused}
 use Rattle.thread_core.proofs.Ends.{read_inside}
 use Rattle.thread_core.proofs.Following.{none_refuses}
+use Rattle.thread_core.proofs.Known.{summed_known}
 use Rattle.thread_core.proofs.Shows.{tellable}
 use Rattle.thread_core.proofs.Starts.{with_both}
 use Rattle.thread_core.proofs.Zeroes.{on_unit}
@@ -75,7 +76,7 @@ invariant_of-self c =
     let none = subst (λ (v : CoreView). refusal_of book v.shape v.registered (slot_faces v.slots) (call.Accum c.args.set) ≡ None) (sym c.self.view_is) (none_refuses book c.args.self.now (call.Accum c.args.set) c.refused.result (c.refused.ensures book) c.in_default.is) in
     let time = subst (λ (v : CoreView). c.time-now.result ≡ time_after v.last) (sym c.self.view_is) c.time-now.ensures in
     let f = accum_follows book core c.args.set c.time-now.result c.accumulate_under.result c.values_under-more.result c.zero_under.new.units.items c.zero_under.new.slots.items c.accumulate_under.new.slots.items agrees none time c.values_under-more.ensures c.zero_under.ensures.units c.zero_under.ensures.slots c.accumulate_under.ensures.sums c.accumulate_under.ensures.slots in
-    record { book = book; agrees = f.agrees }
+    (record { book = book; agrees = f.agrees }, summed_known book core c.args.set c.time-now.result q.running c.values_under-more.result c.zero_under.new.slots.items c.accumulate_under.new.slots.items agrees none c.zero_under.ensures.slots c.accumulate_under.ensures.slots c.self.invariant.1)
 
 pub returns-clause-follows : goal.returns-clause-follows
 returns-clause-follows c =

@@ -10,6 +10,7 @@ use Rattle.thread_core.specs.Refusing.{rest_code, slot_faces}
 use Rattle.thread_core.specs.Stands.{AgreesWith}
 use Rattle.thread_core.proofs.Extending.{add_follows, name_refuses, rest_refuses, slot_view, with_slots}
 use Rattle.thread_core.proofs.Following.{refused_follows}
+use Rattle.thread_core.proofs.Known.{forgotten}
 use Rattle.thread_core.proofs.thread.Core.add.Goals as goal
 
 pub returns-in-Some : goal.returns-in-Some
@@ -41,7 +42,7 @@ invariant_of-self c =
     let named : IsNamed book core.shape (Ok c.in-Ok.e) = subst (λ (v : CoreView). IsNamed book v.shape (Ok c.in-Ok.e)) (sym c.self.view_is) (subst (IsNamed book c.args.self.now.shape) c.in-Ok.is c.requires.named) in
     let none = subst (λ (v : CoreView). rest_code (slot_faces v.slots) c.args.set ≡ None) (sym c.self.view_is) (sym c.not_at_rest.ensures ∙ c.in_default.is) in
     let f = add_follows book core c.args.set c.in-Ok.e c.add_under.result c.add_under.new.slots.items agrees named none c.add_under.ensures.added c.add_under.ensures.taken c.add_under.ensures.refused c.add_under.ensures.unchanged in
-    record { book = book; agrees = f.agrees }
+    (record { book = book; agrees = f.agrees }, forgotten _ _ c.forget.ensures)
 
 pub returns-in-Ok : goal.returns-in-Ok
 returns-in-Ok c =

@@ -8,6 +8,7 @@ use Rattle.thread_core.specs.Refusing.{slot_faces}
 use Rattle.thread_core.specs.Stands.{AgreesWith}
 use Rattle.thread_core.proofs.Alterations.{before_follows, change_follows, change_inside, code_after}
 use Rattle.thread_core.proofs.Extending.{slot_view, with_slots}
+use Rattle.thread_core.proofs.Known.{forgotten}
 use Rattle.thread_core.proofs.thread.Core.change.Goals as goal
 use Rattle.thread_core.proofs.thread.Core.change.Goals.{in-Ok, in-Err}
 
@@ -35,7 +36,7 @@ invariant_of-self c =
     let named = subst (λ (v : CoreView). IsFor book v.shape c.args.change.now) (sym c.self.view_is) c.requires.named in
     let none = subst (λ (v : CoreView). code_before v.shape (slot_faces v.slots) c.args.set c.args.change.now ≡ None) (sym c.self.view_is) (sym c.code_before.ensures ∙ c.in_default.is) in
     let f = change_follows book core c.args.set c.args.change.now c.change_under.result c.change_under.new.slots.items agrees named none c.change_under.ensures.changed c.change_under.ensures.taken c.change_under.ensures.refused c.change_under.ensures.unchanged in
-    record { book = book; agrees = f.agrees }
+    (record { book = book; agrees = f.agrees }, forgotten _ _ c.forget.ensures)
 
 pub returns : goal.returns
 returns c =

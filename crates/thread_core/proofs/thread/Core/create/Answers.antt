@@ -7,6 +7,7 @@ use Rattle.thread_core.specs.Following.{Follows}
 use Rattle.thread_core.specs.Stands.{AgreesWith}
 use Rattle.thread_core.proofs.Creating.{create_follows, created, free_is}
 use Rattle.thread_core.proofs.Following.{code_follows, none_refuses}
+use Rattle.thread_core.proofs.Known.{forgotten}
 use Rattle.thread_core.proofs.thread.Core.create.Goals as goal
 
 pub returns-in-Some : goal.returns-in-Some
@@ -26,7 +27,7 @@ invariant_of-self c =
     let book = c.args._book.now in
     let number = c.free_number-number.result in
     let none = none_refuses book core call.Create c.refused.result (c.refused.ensures book) c.in_default.is in
-    record { book = book; agrees = rw c.new_slot.ensures (subst (λ (v : CoreView). AgreesWith book (created v number)) (sym c.self.view_is) (create_follows book core number c.requires none c.free_number-number.ensures).agrees) }
+    (record { book = book; agrees = rw c.new_slot.ensures (subst (λ (v : CoreView). AgreesWith book (created v number)) (sym c.self.view_is) (create_follows book core number c.requires none c.free_number-number.ensures).agrees) }, forgotten _ _ c.forget.ensures)
 
 pub returns : goal.returns
 returns c =

@@ -8,6 +8,7 @@ use Rattle.thread_core.specs.Stands.{AgreesWith}
 use Rattle.thread_core.proofs.Destroying.{destroy_follows, destroy_inside}
 use Rattle.thread_core.proofs.Extending.{with_slots}
 use Rattle.thread_core.proofs.Following.{code_follows, none_refuses}
+use Rattle.thread_core.proofs.Known.{forgotten}
 use Rattle.thread_core.proofs.thread.Core.destroy.Goals as goal
 
 pub returns-in-Some : goal.returns-in-Some
@@ -27,7 +28,7 @@ invariant_of-self c =
     let book = c.args._book.now in
     let k = c.args.set in
     let none = none_refuses book core (call.Destroy k) c.refused.result (c.refused.ensures book) c.in_default.is in
-    record { book = book; agrees = subst (λ (v : CoreView). AgreesWith book (with_slots v (slice_set v.slots k None))) (sym c.self.view_is) (destroy_follows book core k c.requires none).agrees }
+    (record { book = book; agrees = subst (λ (v : CoreView). AgreesWith book (with_slots v (slice_set v.slots k None))) (sym c.self.view_is) (destroy_follows book core k c.requires none).agrees }, forgotten _ _ c.forget.ensures)
 
 pub returns : goal.returns
 returns c =

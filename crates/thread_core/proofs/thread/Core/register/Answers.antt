@@ -12,7 +12,7 @@ pub invariant_of-self : goal.invariant_of-self
 invariant_of-self c =
     let core = c.args.self.now in
     let book = c.args._book.now in
-    record { book = book; agrees = subst (λ (v : CoreView). AgreesWith book (registered_as v true)) (sym c.self.view_is) (register_follows book core c.requires).agrees }
+    (record { book = book; agrees = subst (λ (v : CoreView). AgreesWith book (registered_as v true)) (sym c.self.view_is) (register_follows book core c.requires).agrees }, c.self.invariant.1)
 
 pub returns : goal.returns
 returns c =

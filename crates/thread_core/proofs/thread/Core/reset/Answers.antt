@@ -10,6 +10,7 @@ use Rattle.thread_core.specs.Refusing.{slot_faces}
 use Rattle.thread_core.specs.Stands.{AgreesWith}
 use Rattle.thread_core.proofs.Ends.{read_inside}
 use Rattle.thread_core.proofs.Following.{code_follows, none_refuses}
+use Rattle.thread_core.proofs.Known.{zeroed_known}
 use Rattle.thread_core.proofs.Starts.{with_both}
 use Rattle.thread_core.proofs.Zeroes.{on_unit, reset_follows}
 use Rattle.thread_core.proofs.thread.Core.reset.Goals as goal
@@ -38,7 +39,7 @@ invariant_of-self c =
     let none = subst (λ (v : CoreView). refusal_of book v.shape v.registered (slot_faces v.slots) (call.Reset c.args.set) ≡ None) (sym c.self.view_is) (none_refuses book c.args.self.now (call.Reset c.args.set) c.refused.result (c.refused.ensures book) c.in_default.is) in
     let time = subst (λ (v : CoreView). c.time-now.result ≡ time_after v.last) (sym c.self.view_is) c.time-now.ensures in
     let f = reset_follows book core c.args.set c.time-now.result c.zero_under.new.units.items c.zero_under.new.slots.items agrees none time c.zero_under.ensures.units c.zero_under.ensures.slots in
-    record { book = book; agrees = f.agrees }
+    (record { book = book; agrees = f.agrees }, zeroed_known book core c.args.set c.time-now.result q.running c.zero_under.new.slots.items agrees none c.zero_under.ensures.slots c.self.invariant.1)
 
 pub returns : goal.returns
 returns c =

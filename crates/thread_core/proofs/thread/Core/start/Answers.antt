@@ -10,6 +10,7 @@ use Rattle.thread_core.specs.Refusing.{slot_faces}
 use Rattle.thread_core.specs.Stands.{AgreesWith}
 use Rattle.thread_core.proofs.Following.{code_follows, none_refuses}
 use Rattle.thread_core.proofs.Starts.{comp_below, start_follows, start_inside, start_ready, with_both}
+use Rattle.thread_core.proofs.Known.{forgotten}
 use Rattle.thread_core.proofs.thread.Core.start.Goals as goal
 
 pub returns-in-Some : goal.returns-in-Some
@@ -47,7 +48,7 @@ invariant_of-self c =
     let none = subst (λ (v : CoreView). refusal_of book v.shape v.registered (slot_faces v.slots) (call.Start c.args.set) ≡ None) (sym c.self.view_is) (none_refuses book c.args.self.now (call.Start c.args.set) c.refused.result (c.refused.ensures book) c.in_default.is) in
     let time = subst (λ (v : CoreView). c.time-now.result ≡ time_after v.last) (sym c.self.view_is) c.time-now.ensures in
     let f = start_follows book core c.args.set c.time-now.result c.begin_under.new.units.items c.begin_under.new.slots.items agrees none time c.begin_under.ensures.units c.begin_under.ensures.slots in
-    record { book = book; agrees = f.agrees }
+    (record { book = book; agrees = f.agrees }, forgotten _ _ c.forget.ensures)
 
 pub returns : goal.returns
 returns c =

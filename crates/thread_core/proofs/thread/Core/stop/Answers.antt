@@ -13,6 +13,7 @@ use Rattle.thread_core.proofs.Following.{none_refuses}
 use Rattle.thread_core.proofs.Ends.{stop_follows, stop_inside, stop_refused}
 use Rattle.thread_core.proofs.Shows.{tellable}
 use Rattle.thread_core.proofs.Starts.{comp_below, with_both}
+use Rattle.thread_core.proofs.Known.{forgotten}
 use Rattle.thread_core.proofs.thread.Core.stop.Goals as goal
 
 pub returns-in-Some-clause-follows : goal.returns-in-Some-clause-follows
@@ -75,7 +76,7 @@ invariant_of-self c =
     let none = subst (λ (v : CoreView). refusal_of book v.shape v.registered (slot_faces v.slots) (call.Stop c.args.set) ≡ None) (sym c.self.view_is) (none_refuses book c.args.self.now (call.Stop c.args.set) c.refused.result (c.refused.ensures book) c.in_default.is) in
     let time = subst (λ (v : CoreView). c.time-now.result ≡ time_after v.last) (sym c.self.view_is) c.time-now.ensures in
     let f = stop_follows book core c.args.set c.time-now.result c.values_under.result c.stop_under.new.units.items c.stop_under.new.slots.items agrees none time c.values_under.ensures c.stop_under.ensures.units c.stop_under.ensures.same_units c.stop_under.ensures.slots in
-    record { book = book; agrees = f.agrees }
+    (record { book = book; agrees = f.agrees }, forgotten _ _ c.forget.ensures)
 
 pub returns-clause-follows : goal.returns-clause-follows
 returns-clause-follows c =

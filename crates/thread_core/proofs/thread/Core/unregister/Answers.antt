@@ -17,7 +17,7 @@ invariant_of-self c =
     let core = c.args.self.now in
     let book = c.args._book.now in
     let none = none_refuses book core call.Unregister c.refused.result (c.refused.ensures book) c.in_default.is in
-    record { book = book; agrees = subst (λ (v : CoreView). AgreesWith book (registered_as v false)) (sym c.self.view_is) (unregister_follows book core c.requires none).agrees }
+    (record { book = book; agrees = subst (λ (v : CoreView). AgreesWith book (registered_as v false)) (sym c.self.view_is) (unregister_follows book core c.requires none).agrees }, c.self.invariant.1)
 
 pub returns : goal.returns
 returns c =

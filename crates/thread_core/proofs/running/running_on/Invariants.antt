@@ -2,7 +2,7 @@ use Rattle.std.proofs.Common.{◌≡◌, map, drop}
 use Rattle.std.specs.Option.{option_map}
 use Rattle.thread_core.specs.Slots.{face_of_slot}
 use Rattle.thread_core.specs.Units.{owner_from}
-use Rattle.thread_core.proofs.counting.running_on.Given as goal
+use Rattle.thread_core.proofs.running.running_on.Given as goal
 
 abbrev pub invariant-loop-number : goal.invariant-loop-number
 invariant-loop-number l = owner_from l.comp l.number (map (option_map face_of_slot) (drop l.number l.slots.items)) ≡ owner_from l.comp 0 (map (option_map face_of_slot) l.slots.items)

@@ -1,0 +1,9 @@
+-- What is known of the sets that run.
+use Rattle.std.specs.Prelude.{ℕ, ◌≡◌, List, slice_get, Option, Some}
+use Rattle.thread_core.specs.declared.slot.Slot.{Slot}
+use Rattle.thread_core.specs.Refusing.{slot_faces}
+use Rattle.thread_core.specs.Units.{owner_from}
+
+-- what is known of a component is true: the number of the set that runs on it, or that none does
+pub record AreKnown (known : List (Option (Option ℕ))) (slots : List (Option Slot)) : Type 0 where
+  pub owner : (comp : ℕ) (found : Option ℕ) → slice_get known comp ≡ Some (Some found) → owner_from comp 0 (slot_faces slots) ≡ found

@@ -1,0 +1,87 @@
+//! Which set runs on each component.
+ghost use Rattle.std.specs.Prelude.{◌≡◌, ℕ, ◌<◌, None, Some, length, map, replicate};
+ghost use Rattle.std.specs.Option.{option_map};
+ghost use Rattle.session_model.specs.Faces.{runs_on};
+ghost use Rattle.thread_core.specs.Refusing.{slot_faces};
+ghost use Rattle.thread_core.specs.Running.{AreKnown};
+ghost use Rattle.thread_core.specs.Slots.{face_of_slot};
+ghost use Rattle.thread_core.specs.Units.{owner_from};
+
+use crate::slot::Slot;
+use std::marker::Model;
+
+/// For each component the number of the set that runs on it, if one does, as soon as it has been asked for. A core forgets
+/// it where its sets change otherwise than in their counts, so that between changes no occurrence looks at other sets.
+#[derive(Drop)]
+pub struct RunningSets {
+    known: [Option<Option<u32>>; 16],
+}
+
+impl Model for RunningSets {
+    ghost use Rattle.std.specs.Prelude.{ℕ, List, Option, length, ◌≡◌};
+
+    ghost Value = { List (Option (Option ℕ)) };
+
+    ghost view = { λ s. s.known };
+
+    ghost invariant = { λ s. length s.known ≡ 16 };
+}
+
+/// Whether the set under a number runs on the component.
+fn is_on(place: &Option<Slot>, comp: u32) -> bool
+    ensures { result ≡ runs_on (Some comp) (option_map face_of_slot place.now) }
+{
+    match place {
+        Some(slot) => slot.running && slot.set.component() == Some(comp),
+        None => false,
+    }
+}
+
+/// The number of the set that runs on the component.
+fn running_on(slots: &Vec<Option<Slot>>, comp: u32) -> Option<u32>
+    requires { length slots.now.items ≡ 64 }
+    ensures { result ≡ owner_from comp 0 (map (option_map face_of_slot) slots.now.items) }
+{
+    for number in 0..64u32 {
+        if is_on(&slots[number as usize], comp) {
+            return Some(number);
+        }
+    }
+    None
+}
+
+impl RunningSets {
+    /// Nothing is known.
+    pub(crate) fn new() -> RunningSets
+        ensures { result ≡ replicate 16 None }
+    {
+        RunningSets { known: [None; 16] }
+    }
+
+    /// Nothing is known any more.
+    pub(crate) fn forget(&mut self)
+        ensures { self.new ≡ replicate 16 None }
+    {
+        self.known = [None; 16];
+    }
+
+    /// The number of the set that runs on the component.
+    #[inline(always)]
+    pub(crate) fn on(&mut self, slots: &Vec<Option<Slot>>, comp: u32) -> Option<u32>
+        requires places { length slots.now.items ≡ 64 }
+        requires within { (k : ℕ) → owner_from comp 0 (slot_faces slots.now.items) ≡ Some k → comp < 16 }
+        requires known { AreKnown self.old slots.now.items }
+        ensures number { result ≡ owner_from comp 0 (slot_faces slots.now.items) }
+        ensures known { AreKnown self.new slots.now.items }
+    {
+        if comp >= 16 {
+            return None;
+        }
+        if let Some(number) = self.known[comp as usize] {
+            return number;
+        }
+        let number = running_on(slots, comp);
+        self.known[comp as usize] = Some(number);
+        number
+    }
+}
