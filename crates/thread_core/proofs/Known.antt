@@ -3,7 +3,7 @@ use Rattle.std.proofs.Common.{◌≡◌, ◌<◌, ◌≤◌, ℕ, ℤ, zero, suc
 use Rattle.papi_base.specs.declared.occurrence.Occ.{Occ}
 use Rattle.postfix_rules.specs.Presets.{Book}
 use Rattle.session_model.specs.declared.call.Call.TheVariants as call
-use Rattle.session_model.specs.Account.{Account, time_after}
+use Rattle.session_model.specs.Account.{time_after}
 use Rattle.session_model.specs.Faces.{Face, at}
 use Rattle.session_model.specs.Refusals.{refusal_of}
 use Rattle.thread_core.specs.declared.slot.Slot.{Slot}
@@ -13,7 +13,7 @@ use Rattle.thread_core.specs.CoreView.{CoreView}
 use Rattle.thread_core.specs.Refusing.{slot_faces}
 use Rattle.thread_core.specs.Running.{AreKnown}
 use Rattle.thread_core.specs.Slots.{face_of_slot, slot_of}
-use Rattle.thread_core.specs.Stands.{AgreesWith, CoreStands, consumed}
+use Rattle.thread_core.specs.Stands.{AgreesWith, consumed}
 use Rattle.thread_core.specs.Units.{owner_from}
 use Rattle.thread_core.specs.Zeroed.{zeroed_slot}
 use Rattle.thread_core.proofs.Ends.{read_present, stands_there}

@@ -71,6 +71,7 @@ fn count_turn(
 
 /// Counts one occurrence for a running set, on the unit of its component, and gives the events whose thresholds it
 /// passes.
+#[inline]
 fn count_slot(unit: &mut Unit, slot: &mut Slot, before: Option<&Occ>, o: &Occ) -> Passed
     requires { IsCountable unit.old slot.old }
     ensures unit { unit.new ≡ (counted (option_copied before.entry) o.now unit.old slot.old).unit }
@@ -97,6 +98,7 @@ fn count_slot(unit: &mut Unit, slot: &mut Slot, before: Option<&Occ>, o: &Occ) -
 }
 
 /// Counts one occurrence for what is under a number.
+#[inline]
 fn count_place(unit: &mut Unit, place: &mut Option<Slot>, before: Option<&Occ>, o: &Occ) -> Passed
     requires { (slot : Slot) → place.old ≡ Some slot → IsCountable unit.old slot }
     ensures unit { unit.new ≡ (counted_place (option_copied before.entry) o.now unit.old place.old).unit }
@@ -110,6 +112,7 @@ fn count_place(unit: &mut Unit, place: &mut Option<Slot>, before: Option<&Occ>, 
 }
 
 /// The number of the set whose events passed their thresholds, and 0 where none did.
+#[inline]
 fn noting_set(passed: &Passed, number: u32) -> u32
     ensures { result ≡ (if length passed.now == 0 then 0 else number) }
 {
@@ -117,6 +120,7 @@ fn noting_set(passed: &Passed, number: u32) -> u32
 }
 
 /// Counts one occurrence for the set that runs on its component, the runner, if one does.
+#[inline]
 pub fn count_all(
     units: &mut Vec<Unit>,
     slots: &mut Vec<Option<Slot>>,

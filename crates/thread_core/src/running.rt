@@ -38,6 +38,8 @@ fn is_on(place: &Option<Slot>, comp: u32) -> bool
 }
 
 /// The number of the set that runs on the component.
+#[cold]
+#[inline(never)]
 fn running_on(slots: &Vec<Option<Slot>>, comp: u32) -> Option<u32>
     requires { length slots.now.items ≡ 64 }
     ensures { result ≡ owner_from comp 0 (map (option_map face_of_slot) slots.now.items) }

@@ -19,12 +19,14 @@ ghost use Rattle.thread_core.specs.declared.slot.Slot.{Slot};
 use crate::pins::{Pin, Pins};
 use crate::places::place_of;
 use crate::slot::Slot;
+use crate::thread::Core;
 use counter_unit::Unit;
 use event_sets::{EventSet, is_same, natives_of};
 use multiplex::Rotation;
 use overflow_dispatch::Thresholds;
-use papi_base::{Counts, Domain, EventRef, Native, Natives, Places};
+use papi_base::{Code, Counts, Domain, EventRef, Native, Natives, Places};
 use postfix_rules::PresetBook;
+use session_model::Call;
 
 /// Whether the native event is the event's first.
 fn leads(book: &PresetBook, n: &Native, e: &EventRef) -> bool
@@ -197,5 +199,27 @@ pub(crate) fn begin_under(
             book,
             now,
         );
+    }
+}
+
+impl Core {
+    ghost use Rattle.session_model.specs.Replies.{plain};
+    ghost use Rattle.session_model.specs.declared.call.Call.TheVariants as call;
+    ghost use Rattle.thread_core.specs.Following.{Follows};
+    ghost use Rattle.thread_core.specs.Stands.{AgreesWith};
+
+    /// Starts a set: PAPI_start(3). ENOEVST where there is no such set, EISRUN where it runs or another one does on its
+    /// component, EINVAL where it has no events.
+    pub fn start(&mut self, book: &PresetBook, set: u32) -> Code
+        requires { AgreesWith book.now self.old }
+        ensures { Follows book.now self.old self.new (call.Start set) (plain result) }
+    {
+        if let Some(code) = self.refused(&Call::Start { set }) {
+            return code;
+        }
+        let now = self.time();
+        self.running.forget();
+        begin_under(&mut self.units, &mut self.slots, book, set, now);
+        Code::Ok
     }
 }

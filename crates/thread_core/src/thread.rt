@@ -15,8 +15,6 @@ use crate::refusal::{is_absent, refusal, runs};
 use crate::running::RunningSets;
 use crate::showing::{assigned_under, events_under, values_under};
 use crate::slot::{Slot, empty_places, free_number, new_slot};
-use crate::starting::begin_under;
-use crate::stopping::stop_under;
 use counter_unit::Unit;
 use event_sets::Refusal;
 use papi_base::{Code, Events, Occ, Shape, Values};
@@ -73,7 +71,6 @@ impl Core {
     ghost use Rattle.session_model.specs.Conditions.{IsNamed};
     ghost use Rattle.session_model.specs.Faces.{free};
     ghost use Rattle.session_model.specs.Refusals.{refusal_of};
-    ghost use Rattle.session_model.specs.Replies.{plain};
     ghost use Rattle.thread_core.specs.Refusing.{asks_slots, rest_code, slot_faces};
     ghost use Rattle.session_model.specs.declared.call.Call.TheVariants as call;
     ghost use Rattle.session_model.specs.declared.reply.Body.TheVariants as body;
@@ -182,38 +179,6 @@ impl Core {
         }
     }
 
-    /// Starts a set: PAPI_start(3). ENOEVST where there is no such set, EISRUN where it runs or another one does on its
-    /// component, EINVAL where it has no events.
-    pub fn start(&mut self, book: &PresetBook, set: u32) -> Code
-        requires { AgreesWith book.now self.old }
-        ensures { Follows book.now self.old self.new (call.Start set) (plain result) }
-    {
-        if let Some(code) = self.refused(&Call::Start { set }) {
-            return code;
-        }
-        let now = self.time();
-        self.running.forget();
-        begin_under(&mut self.units, &mut self.slots, book, set, now);
-        Code::Ok
-    }
-
-    /// Stops a set, and writes the value of each of its events: PAPI_stop(3). ENOEVST where there is no such set, ENOTRUN
-    /// where it does not run; `into` then stays as it is.
-    pub fn stop(&mut self, book: &PresetBook, set: u32, into: &mut Values) -> Code
-        requires { AgreesWith book.now self.old }
-        ensures follows { Follows book.now self.old self.new (call.Stop set) (values_reply result into.new) }
-        ensures kept { result ≢ code.Ok → into.new ≡ into.old }
-    {
-        if let Some(code) = self.refused(&Call::Stop { set }) {
-            return code;
-        }
-        let now = self.time();
-        *into = values_under(&self.slots, &self.units, book, set, now);
-        self.running.forget();
-        stop_under(&mut self.units, &mut self.slots, &self.shape, set, now);
-        Code::Ok
-    }
-
     /// Writes the value of each event of a set: PAPI_read(3). ENOEVST where there is no such set; `into`
     /// then stays as it is.
     pub fn read(&self, book: &PresetBook, set: u32, into: &mut Values) -> Code
@@ -253,6 +218,7 @@ impl Core {
     }
 
     /// Consumes one occurrence, and gives the events whose thresholds it passes.
+    #[inline]
     pub fn take(&mut self, o: &Occ) -> Taken
         requires few { self.old.taken < 5200000 }
         requires stamp { o.now.stamp ≤ 4294967294 }
@@ -267,8 +233,8 @@ impl Core {
     {
         let _amount = o.amount;
         let runner = self.running.on(&self.slots, u32::from(o.comp));
-        let before = self.last;
-        let taken = count_all(&mut self.units, &mut self.slots, before.as_ref(), o, runner);
+        let before = self.last.as_ref();
+        let taken = count_all(&mut self.units, &mut self.slots, before, o, runner);
         self.taken += 1;
         self.last = Some(*o);
         taken

@@ -23,7 +23,7 @@ invariant_of-self c =
     let q = c.self.inside in
     let core : CoreView = record { thread = q.thread; registered = q.registered; shape = q.shape; slots = q.slots.items; units = q.units.items; taken = q.taken; last = q.last } in
     let t = c.count_all-taken in
-    let is = counted_is _ q.last c.args.o.now q.units.items t.new.units.items q.slots.items t.new.slots.items t.result.set t.result.passed c.as_ref.ensures.value t.ensures.units t.ensures.slots t.ensures.set t.ensures.passed in
+    let is = counted_is _ q.last c.args.o.now q.units.items t.new.units.items q.slots.items t.new.slots.items t.result.set t.result.passed c.as_ref-before.ensures.value t.ensures.units t.ensures.slots t.ensures.set t.ensures.passed in
     let rises : time_after core.last ≤ c.args.o.now.stamp = subst (λ (v : CoreView). time_after v.last ≤ c.args.o.now.stamp) (sym c.self.view_is) c.requires.rises in (
       record {
         book = c.self.invariant.0.book;
@@ -37,7 +37,7 @@ returns-clause-stands c book a stands =
     let q = c.self.inside in
     let core : CoreView = record { thread = q.thread; registered = q.registered; shape = q.shape; slots = q.slots.items; units = q.units.items; taken = q.taken; last = q.last } in
     let t = c.count_all-taken in
-    let is = counted_is _ q.last c.args.o.now q.units.items t.new.units.items q.slots.items t.new.slots.items t.result.set t.result.passed c.as_ref.ensures.value t.ensures.units t.ensures.slots t.ensures.set t.ensures.passed in
+    let is = counted_is _ q.last c.args.o.now q.units.items t.new.units.items q.slots.items t.new.slots.items t.result.set t.result.passed c.as_ref-before.ensures.value t.ensures.units t.ensures.slots t.ensures.set t.ensures.passed in
     let rises : time_after core.last ≤ c.args.o.now.stamp = subst (λ (v : CoreView). time_after v.last ≤ c.args.o.now.stamp) (sym c.self.view_is) c.requires.rises in
     taken_stands book core a c.args.o.now _ is (omega arith) rises (subst (λ (v : CoreView). CoreStands book v a) (sym c.self.view_is) stands)
 
@@ -46,7 +46,7 @@ returns-clause-agrees c book agrees =
     let q = c.self.inside in
     let core : CoreView = record { thread = q.thread; registered = q.registered; shape = q.shape; slots = q.slots.items; units = q.units.items; taken = q.taken; last = q.last } in
     let t = c.count_all-taken in
-    let is = counted_is _ q.last c.args.o.now q.units.items t.new.units.items q.slots.items t.new.slots.items t.result.set t.result.passed c.as_ref.ensures.value t.ensures.units t.ensures.slots t.ensures.set t.ensures.passed in
+    let is = counted_is _ q.last c.args.o.now q.units.items t.new.units.items q.slots.items t.new.slots.items t.result.set t.result.passed c.as_ref-before.ensures.value t.ensures.units t.ensures.slots t.ensures.set t.ensures.passed in
     let rises : time_after core.last ≤ c.args.o.now.stamp = subst (λ (v : CoreView). time_after v.last ≤ c.args.o.now.stamp) (sym c.self.view_is) c.requires.rises in
     taken_agrees book core c.args.o.now _ is (omega arith) rises c.requires.stamp (omega (arith, ap (λ (v : CoreView). v.taken) c.self.view_is, c.requires.few)) (subst (λ (v : CoreView). AgreesWith book v) (sym c.self.view_is) agrees)
 
@@ -55,5 +55,5 @@ returns-clause-notes c book a stands =
     let q = c.self.inside in
     let core : CoreView = record { thread = q.thread; registered = q.registered; shape = q.shape; slots = q.slots.items; units = q.units.items; taken = q.taken; last = q.last } in
     let t = c.count_all-taken in
-    let is = counted_is _ q.last c.args.o.now q.units.items t.new.units.items q.slots.items t.new.slots.items t.result.set t.result.passed c.as_ref.ensures.value t.ensures.units t.ensures.slots t.ensures.set t.ensures.passed in
+    let is = counted_is _ q.last c.args.o.now q.units.items t.new.units.items q.slots.items t.new.slots.items t.result.set t.result.passed c.as_ref-before.ensures.value t.ensures.units t.ensures.slots t.ensures.set t.ensures.passed in
     taken_notes book core a c.args.o.now _ is (omega arith) (subst (λ (v : CoreView). CoreStands book v a) (sym c.self.view_is) stands)
