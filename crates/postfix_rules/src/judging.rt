@@ -1,49 +1,18 @@
 // One token of a formula's text, and whether it may stand where it does.
-ghost use Rattle.std.specs.Prelude.{◌≡◌, ◌∷◌, ◌≤◌, ◌<◌, ◌^◌, true, Some, None, if◌then◌else◌, nat_lt};
-ghost use Rattle.std.specs.List.{list_all};
-ghost use Rattle.std.specs.Str.Parse.{digits_value};
+ghost use Rattle.std.specs.Prelude.{◌≡◌, ◌∷◌, ◌≤◌, true, Some};
 ghost use Rattle.papi_base.specs.Numerals as Numerals;
 ghost use Rattle.postfix_rules.specs.Faults as Faults;
 ghost use Rattle.postfix_rules.specs.Judged.{JudgesToken, ReadsToken};
 ghost use Rattle.postfix_rules.specs.Tokens as Tokens;
 
 use crate::{FormulaCause, Operator, Token};
-
-fn is_digit(b: u8) -> bool
-    ensures { result ≡ Numerals.is_digit b }
-{
-    48 <= b && b <= 57
-}
-
-fn are_digits(bytes: &[u8]) -> bool
-    ensures { result ≡ list_all Numerals.is_digit bytes.now }
-{
-    bytes.iter().all(|&b| is_digit(b))
-}
-
-// Whether bytes are one or more decimal digits.
-fn is_numeral(bytes: &[u8]) -> bool
-    ensures { result ≡ Numerals.is_numeral bytes.now }
-{
-    bytes.len() > 0 && are_digits(bytes)
-}
-
-// The value of decimal digits, and `None` where it needs more than 64 bits.
-fn value_of_digits(digits: &[u8]) -> Option<u64>
-    requires { Numerals.is_numeral digits.now ≡ true }
-    ensures { result ≡ (if nat_lt (digits_value 10 digits.now) (2 ^ 64) then Some (digits_value 10 digits.now) else None) }
-{
-    match str::from_utf8(digits) {
-        Ok(text) => text.parse::<u64>().ok(),
-        Err(_) => None,
-    }
-}
+use table_rows::{is_numeral, numeral_value};
 
 fn constant_of(digits: &[u8]) -> Result<Token, FormulaCause>
     requires { Numerals.is_numeral digits.now ≡ true }
     ensures { ReadsToken result (Tokens.constant_part digits.now) }
 {
-    match value_of_digits(digits) {
+    match numeral_value(digits) {
         Some(n) => Ok(Token::Constant(n)),
         None => Err(FormulaCause::ConstantTooLarge),
     }
@@ -55,7 +24,7 @@ fn native_of(digits: &[u8]) -> Result<Token, FormulaCause>
     if !is_numeral(digits) {
         return Err(FormulaCause::UnknownToken);
     }
-    match value_of_digits(digits) {
+    match numeral_value(digits) {
         Some(i) if i < 1 << 32 => Ok(Token::Native(i as u32)),
         _ => Err(FormulaCause::NativeRange),
     }

@@ -45,9 +45,9 @@ name-utf8 t e = IsUtf8-from_ascii t (ascii-all is_name_byte t name_byte-ascii (b
 pub printable-utf8 : (t : List ℕ) → is_printable t ≡ true → IsUtf8 t
 printable-utf8 t e = IsUtf8-from_ascii t (ascii-all is_printable_byte t printable_byte-ascii e)
 
-pub decimal-utf8 : (t : List ℕ) → is_decimal t ≡ true → IsUtf8 t
-unfolding is_decimal is_numeral
-decimal-utf8 t e = IsUtf8-from_ascii t (ascii-all is_digit t digit-ascii (both _ _ (both _ _ e).0).0)
+pub numeral-utf8 : (t : List ℕ) → is_numeral t ≡ true → IsUtf8 t
+unfolding is_numeral
+numeral-utf8 t e = IsUtf8-from_ascii t (ascii-all is_digit t digit-ascii (both _ _ e).0)
 
 pub hex-utf8 : (t : List ℕ) → list_all is_hex_digit t ≡ true → IsUtf8 t
 hex-utf8 t e = IsUtf8-from_ascii t (ascii-all is_hex_digit t hex-ascii e)
@@ -74,9 +74,14 @@ filled : (t : List ℕ) → not (is_empty t) ≡ true → 0 < length t
 filled [] e = cc e
 filled (b ∷ t) e = omega arith
 
-pub decimal-numeral : (t : List ℕ) → is_decimal t ≡ true → IsNumeral 10 t
-unfolding is_decimal is_numeral
-decimal-numeral t e = let n = both _ _ (both _ _ e).0 in (filled t n.1, digits-ten t n.0)
+numeral-digits : (t : List ℕ) → is_numeral t ≡ true → IsNumeral 10 t
+unfolding is_numeral
+numeral-digits t e = let n = both _ _ e in (filled t n.1, digits-ten t n.0)
+
+-- a number without leading zeros has digits alone
+pub decimal-numeral : (t : List ℕ) → is_decimal t ≡ true → is_numeral t ≡ true
+unfolding is_decimal
+decimal-numeral t e = (both _ _ e).0
 
 pub hex-numeral : (t : List ℕ) → list_all is_hex_digit t ≡ true → 0 < length t → IsNumeral 16 t
 hex-numeral t e f = (f, digits-sixteen t e)
@@ -89,9 +94,9 @@ plain p (b ∷ t) f e =
     let plus : (b == 43) ≡ false = ne_eqb b 43 (λ (q : b ≡ 43). cc (here, f, ap p q)) in
     rw plus refl
 
-pub decimal-plain : (t : List ℕ) → is_decimal t ≡ true → without_leading_plus t ≡ t
-unfolding is_decimal is_numeral
-decimal-plain t e = plain is_digit t refl (both _ _ (both _ _ e).0).0
+numeral-plain : (t : List ℕ) → is_numeral t ≡ true → without_leading_plus t ≡ t
+unfolding is_numeral
+numeral-plain t e = plain is_digit t refl (both _ _ e).0
 
 pub hex-plain : (t : List ℕ) → list_all is_hex_digit t ≡ true → without_leading_plus t ≡ t
 hex-plain t e = plain is_hex_digit t refl e
@@ -106,18 +111,18 @@ hex-small t e h =
 abbrev value_if : ℕ → Bool → Option ℕ
 value_if n b = if b then Some n else None
 
-pub decimal-parsed : {E : Type 0} (t : List ℕ) (r : Result ℕ E) → is_decimal t ≡ true → ParsesUnsigned 64 10 t r
+pub numeral-parsed : {E : Type 0} (t : List ℕ) (r : Result ℕ E) → is_numeral t ≡ true → ParsesUnsigned 64 10 t r
     → result_ok r ≡ (if nat_lt (digits_value 10 t) (2 ^ 64) then Some (digits_value 10 t) else None)
-decimal-parsed t (Ok n) d p =
-    let q = rw (decimal-plain t d) at p in
+numeral-parsed t (Ok n) d p =
+    let q = rw (numeral-plain t d) at p in
     let small : nat_lt (digits_value 10 t) (2 ^ 64) ≡ true = lt-ltb _ _ q.0.1 in
     rw small (ap Some q.1)
-decimal-parsed t (Err e) d p =
-    let q = rw (decimal-plain t d) at p in
+numeral-parsed t (Err e) d p =
+    let q = rw (numeral-plain t d) at p in
     go (nat_lt (digits_value 10 t) (2 ^ 64)) refl q
   where
     go : (b : Bool) → nat_lt (digits_value 10 t) (2 ^ 64) ≡ b → ¬ (IsNumeral 10 t × (digits_value 10 t < 2 ^ 64)) → None ≡ value_if (digits_value 10 t) b
-    go true e n = absurd (n (decimal-numeral t d, ltb-true _ _ e))
+    go true e n = absurd (n (numeral-digits t d, ltb-true _ _ e))
     go false e n = refl
 
 pub hex-parsed : {E : Type 0} (t : List ℕ) (r : Result ℕ E) → list_all is_hex_digit t ≡ true → 0 < length t → length t ≤ 16 → ParsesUnsigned 64 16 t r

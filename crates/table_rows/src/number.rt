@@ -29,6 +29,14 @@ fn are_hex_digits(bytes: &[u8]) -> bool
     bytes.iter().all(|&b| is_hex_digit(b))
 }
 
+/// Whether bytes are one or more decimal digits.
+#[tactic(auto, unfolding(papi_base::specs::Numerals::is_numeral))]
+pub fn is_numeral(bytes: &[u8]) -> bool
+    ensures { result ≡ Numerals.is_numeral bytes.now }
+{
+    are_digits(bytes) && bytes.len() > 0
+}
+
 /// Whether bytes are a decimal number without leading zeros, of any size.
 #[tactic(auto, unfolding(papi_base::specs::Numerals::is_decimal, papi_base::specs::Numerals::is_numeral))]
 pub fn is_decimal(bytes: &[u8]) -> bool
@@ -37,12 +45,12 @@ pub fn is_decimal(bytes: &[u8]) -> bool
     are_digits(bytes) && bytes.len() > 0 && (bytes.len() == 1 || bytes[0] != b'0')
 }
 
-// The value of a decimal number, and `None` where it needs more than 64 bits.
-fn decimal_value(bytes: &[u8]) -> Option<u64>
-    requires { Numerals.is_decimal bytes.now ≡ true }
-    ensures { result ≡ (if nat_lt (digits_value 10 bytes.now) (2 ^ 64) then Some (digits_value 10 bytes.now) else None) }
+/// The value of decimal digits, and `None` where it needs more than 64 bits.
+pub fn numeral_value(digits: &[u8]) -> Option<u64>
+    requires { Numerals.is_numeral digits.now ≡ true }
+    ensures { result ≡ (if nat_lt (digits_value 10 digits.now) (2 ^ 64) then Some (digits_value 10 digits.now) else None) }
 {
-    match str::from_utf8(bytes) {
+    match str::from_utf8(digits) {
         Ok(text) => text.parse::<u64>().ok(),
         Err(_) => None,
     }
@@ -56,7 +64,7 @@ pub fn decimal_in(low: u64, high: u64, bytes: &[u8]) -> Option<u64>
     if !is_decimal(bytes) {
         return None;
     }
-    match decimal_value(bytes) {
+    match numeral_value(bytes) {
         Some(n) if low <= n && n <= high => Some(n),
         _ => None,
     }

@@ -1,6 +1,6 @@
 use Rattle.std.proofs.Common.{◌≡◌, ◌∙◌, rules}
-use Rattle.postfix_rules.proofs.Digits.{numeral-parsed, numeral-utf8}
-use Rattle.postfix_rules.proofs.judging.value_of_digits.Goals as goal
+use Rattle.table_rows.proofs.Numerals.{numeral-parsed, numeral-utf8}
+use Rattle.table_rows.proofs.number.numeral_value.Goals as goal
 
 pub returns-in-Ok : goal.returns-in-Ok
 returns-in-Ok c =
