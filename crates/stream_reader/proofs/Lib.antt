@@ -1,5 +1,6 @@
 pub mod Bounds
 pub mod Decimals
+mod DigitTable
 pub mod FieldSteps
 pub mod Hexadecimals
 pub mod Judging

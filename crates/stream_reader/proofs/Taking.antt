@@ -1,5 +1,5 @@
 -- A line taken from the bytes held.
-use Rattle.std.proofs.Common.{◌≡◌, ◌∙◌, ◌+◌, ◌-◌, ◌<◌, ◌≤◌, ℕ, Bool, true, false, List, length, take, drop, Option, refl, sym, ap, arith, nat_lt}
+use Rattle.std.proofs.Common.{◌≡◌, ◌∙◌, ◌+◌, ◌-◌, ◌<◌, ◌≤◌, ℕ, Bool, true, false, List, length, take, drop, Option, refl, sym, ap, arith, nat_lt, length-drop}
 use Rattle.std.specs.Prelude.{if◌then◌else◌}
 use Rattle.std.proofs.lemmas.Bool.{ltb-false}
 use Rattle.std.proofs.lemmas.List.{length-take-le}
@@ -13,9 +13,9 @@ use Rattle.stream_reader.specs.Lines.{Line}
 use Rattle.stream_reader.specs.Judged.{judged, line_text, text_judged}
 use Rattle.stream_reader.specs.Occurs.{IsStart, after, is_bad}
 use Rattle.stream_reader.specs.Reader.{Gave, ReaderView, SourceView}
-use Rattle.stream_reader.specs.Inside.{answer_of, line_at, line_taken}
+use Rattle.stream_reader.specs.Inside.{answer_of, left_of, line_at, line_taken}
 use Rattle.stream_reader.proofs.Bounds.{line-occurrence, stamp-fits, state-next}
-use Rattle.stream_reader.proofs.Room.{held-drop, held-take, length-held}
+use Rattle.stream_reader.proofs.Room.{held-drop}
 
 pub flag-is : (b : Bool) → bool_byte b ≡ flag_bit b
 flag-is true = refl
@@ -70,32 +70,36 @@ taken-good v size ended Skipped h = refl
 taken-good v size ended Version h = refl
 taken-good v size ended (Occurs o) h = refl
 
--- ---- the bytes of a line
-
-pub line-bytes : (from to size : ℕ) (bytes : List ℕ) → size ≤ to - from → take ((from + size) - from) (drop from bytes) ≡ take size (take (to - from) (drop from bytes))
-line-bytes from to size bytes le = let same : (from + size) - from ≡ size = omega arith in ap (λ n. take n (drop from bytes)) same ∙ held-take from to size bytes le
-
-pub line-size : (from to size : ℕ) (bytes : List ℕ) → from ≤ to → to ≤ length bytes → size ≤ to - from → length (take ((from + size) - from) (drop from bytes)) ≡ size
-line-size from to size bytes order room le =
-    let long = length-held from to bytes order room in
-    ap length (line-bytes from to size bytes le) ∙ length-take-le size (take (to - from) (drop from bytes)) (omega (arith, long))
+-- ---- the reader behind it
 
 -- the reader behind a line that is not bad, as its fields stand
 pub view-taken : (from to size r : ℕ) (bytes : List ℕ) (ended : Bool) (start later : LineStart) (over asked : Bool) (source : Option SourceView) (j : Judgement)
     → r ≡ flag_bit ended → size + flag_bit ended ≤ to - from
-    → j ≡ judged start (record { bytes = take ((from + size) - from) (drop from bytes); ended = ended })
-    → later ≡ after start (record { bytes = take ((from + size) - from) (drop from bytes); ended = ended }) j → is_bad j ≡ false
+    → later ≡ after start (record { bytes = take size (take (to - from) (drop from bytes)); ended = ended }) j → is_bad j ≡ false
     → ◌≡◌ {A = ReaderView} (record { start = later; held = take (to - (from + (size + r))) (drop (from + (size + r)) bytes); over = over; asked = asked; source = source })
-    (line_taken (record { start = start; held = take (to - from) (drop from bytes); over = over; asked = asked; source = source }) size ended
-    (judged start (record { bytes = take size (take (to - from) (drop from bytes)); ended = ended })))
-view-taken from to size r bytes ended start later over asked source j r_is le j_is later_is good =
-    let same = line-bytes from to size bytes (omega arith) in
+    (line_taken (record { start = start; held = take (to - from) (drop from bytes); over = over; asked = asked; source = source }) size ended j)
+view-taken from to size r bytes ended start later over asked source j r_is le later_is good =
     let line : Line = record { bytes = take size (take (to - from) (drop from bytes)); ended = ended } in
-    let judged_is : j ≡ judged start line = j_is ∙ ap (λ (bs : List ℕ). judged start (record { bytes = bs; ended = ended })) same in
-    let start_is : later ≡ after start line j = later_is ∙ ap (λ (bs : List ℕ). after start (record { bytes = bs; ended = ended }) j) same in
     let size_is : size + r ≡ size + flag_bit ended = ap (λ n. size + n) r_is in
     let held_is : take (to - (from + (size + r))) (drop (from + (size + r)) bytes) ≡ drop (size + flag_bit ended) (take (to - from) (drop from bytes)) =
     held-drop from to (size + r) bytes (omega arith) ∙ ap (λ n. drop n (take (to - from) (drop from bytes))) size_is in
     let view : LineStart → List ℕ → ReaderView = λ s h. record { start = s; held = h; over = over; asked = asked; source = source } in
     let v : ReaderView = view start (take (to - from) (drop from bytes)) in
-    ap (λ s. view s (take (to - (from + (size + r))) (drop (from + (size + r)) bytes))) start_is ∙ ap (view (after start line j)) held_is ∙ sym (taken-good v size ended j good) ∙ ap (line_taken v size ended) judged_is
+    ap (λ s. view s (take (to - (from + (size + r))) (drop (from + (size + r)) bytes))) later_is ∙ ap (view (after start line j)) held_is ∙ sym (taken-good v size ended j good)
+
+-- the reader is nearer to the largest stream
+pub taken-nearer : (v : ReaderView) (size : ℕ) (ended : Bool) (j : Judgement) → is_bad j ≡ false → v.start.passed ≤ 67108865 → 0 < size + flag_bit ended → size + flag_bit ended ≤ length v.held
+    → left_of (line_taken v size ended j) < left_of v
+taken-nearer v size ended j good passed some within = go j good
+  where
+    line_long : length (take size v.held) ≡ size
+    line_long = length-take-le size v.held (omega arith)
+
+    rest_long : length (drop (size + flag_bit ended) v.held) ≡ length v.held - (size + flag_bit ended)
+    rest_long = length-drop (size + flag_bit ended) v.held
+
+    go : (j : Judgement) → is_bad j ≡ false → left_of (line_taken v size ended j) < left_of v
+    go (Bad c) h = cc h
+    go Skipped h = omega (arith, line_long, rest_long)
+    go Version h = omega (arith, line_long, rest_long)
+    go (Occurs o) h = omega (arith, line_long, rest_long)

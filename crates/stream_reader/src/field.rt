@@ -6,6 +6,25 @@ ghost use Rattle.papi_base.specs.Numerals.{decimal_in, hex_in, is_hex_digit};
 ghost use Rattle.stream_reader.specs.Judged.{mode_of};
 ghost use Rattle.stream_reader.specs.Fields.{first_field, behind_field, digits_on, has_form, hex_on, is_one_byte};
 
+// The value of each byte that is a hexadecimal digit in either case, and 255 of all others. A look here does not depend on which
+// kind of digit comes, as branches would.
+const DIGIT_VALUES: [u8; 256] = [
+    255, 255, 255, 255, 255, 255, 255, 255, 255, 255, 255, 255, 255, 255, 255, 255, 255, 255, 255,
+    255, 255, 255, 255, 255, 255, 255, 255, 255, 255, 255, 255, 255, 255, 255, 255, 255, 255, 255,
+    255, 255, 255, 255, 255, 255, 255, 255, 255, 255, 0, 1, 2, 3, 4, 5, 6, 7, 8, 9, 255, 255, 255,
+    255, 255, 255, 255, 10, 11, 12, 13, 14, 15, 255, 255, 255, 255, 255, 255, 255, 255, 255, 255,
+    255, 255, 255, 255, 255, 255, 255, 255, 255, 255, 255, 255, 255, 255, 255, 255, 10, 11, 12, 13,
+    14, 15, 255, 255, 255, 255, 255, 255, 255, 255, 255, 255, 255, 255, 255, 255, 255, 255, 255,
+    255, 255, 255, 255, 255, 255, 255, 255, 255, 255, 255, 255, 255, 255, 255, 255, 255, 255, 255,
+    255, 255, 255, 255, 255, 255, 255, 255, 255, 255, 255, 255, 255, 255, 255, 255, 255, 255, 255,
+    255, 255, 255, 255, 255, 255, 255, 255, 255, 255, 255, 255, 255, 255, 255, 255, 255, 255, 255,
+    255, 255, 255, 255, 255, 255, 255, 255, 255, 255, 255, 255, 255, 255, 255, 255, 255, 255, 255,
+    255, 255, 255, 255, 255, 255, 255, 255, 255, 255, 255, 255, 255, 255, 255, 255, 255, 255, 255,
+    255, 255, 255, 255, 255, 255, 255, 255, 255, 255, 255, 255, 255, 255, 255, 255, 255, 255, 255,
+    255, 255, 255, 255, 255, 255, 255, 255, 255, 255, 255, 255, 255, 255, 255, 255, 255, 255, 255,
+    255, 255, 255,
+];
+
 /// The number that a field writes, and the field's length.
 #[derive(Clone, Copy)]
 pub(crate) struct Field {
@@ -14,6 +33,7 @@ pub(crate) struct Field {
 }
 
 // The number of a field of decimal digits; one that is too large may be given or not.
+#[inline(always)]
 fn digits(text: &[u8], greatest: u64) -> Option<Field>
     requires { greatest < 2 ^ 32 }
     ensures { MatchOption result (IfSome (digits_on 0 text.now) (λ n. greatest < n)) (λ f. (digits_on 0 text.now ≡ Some f.value) × (f.size ≡ length (first_field text.now)) × (f.size ≤ length text.now)) }
@@ -36,6 +56,7 @@ fn digits(text: &[u8], greatest: u64) -> Option<Field>
 }
 
 // Whether a field of digits is not empty and has no leading zero.
+#[inline(always)]
 fn has_form(text: &[u8], size: usize) -> bool
     requires { size ≤ length text.now }
     ensures { result ≡ has_form size (slice_index text.now 0) }
@@ -44,6 +65,7 @@ fn has_form(text: &[u8], size: usize) -> bool
 }
 
 /// A decimal number without leading zeros, in a range.
+#[inline(always)]
 pub(crate) fn decimal(text: &[u8], least: u64, greatest: u64) -> Option<Field>
     requires { greatest < 2 ^ 32 }
     ensures value { option_map (λ f. f.value) result ≡ decimal_in least greatest (first_field text.now) }
@@ -61,18 +83,20 @@ pub(crate) fn decimal(text: &[u8], least: u64, greatest: u64) -> Option<Field>
 }
 
 // The value of a hexadecimal digit in either case.
+#[inline(always)]
 fn hex_digit(byte: u8) -> Option<u64>
     ensures { result ≡ (if is_hex_digit byte then Some (digit_value byte) else None) }
 {
-    match byte {
-        b'0'..=b'9' => Some(u64::from(byte - b'0')),
-        b'a'..=b'f' => Some(u64::from(byte - b'a') + 10),
-        b'A'..=b'F' => Some(u64::from(byte - b'A') + 10),
-        _ => None,
+    let value = DIGIT_VALUES[byte as usize];
+    if value < 16 {
+        Some(u64::from(value))
+    } else {
+        None
     }
 }
 
 /// The number of hexadecimal digits, at least `few` and at most `many`.
+#[inline(always)]
 pub(crate) fn hexadecimal(text: &[u8], few: usize, many: usize) -> Option<Field>
     requires { many ≤ 16 }
     ensures value { option_map (λ f. f.value) result ≡ hex_in few many (first_field text.now) }
@@ -96,6 +120,7 @@ pub(crate) fn hexadecimal(text: &[u8], few: usize, many: usize) -> Option<Field>
 }
 
 // Whether the first field is one byte, unless that is a space.
+#[inline(always)]
 fn is_one_byte(text: &[u8]) -> bool
     ensures { result ≡ is_one_byte (length text.now) (slice_index text.now 1) }
 {
@@ -103,6 +128,7 @@ fn is_one_byte(text: &[u8]) -> bool
 }
 
 /// The mode, `u` or `k`: whether it is the kernel's.
+#[inline(always)]
 pub(crate) fn mode(text: &[u8]) -> Option<bool>
     ensures { result ≡ mode_of (first_field text.now) }
 {
@@ -117,6 +143,7 @@ pub(crate) fn mode(text: &[u8]) -> Option<bool>
 }
 
 /// The text behind the space that ends the first field, which has this length.
+#[inline(always)]
 pub(crate) fn behind(text: &[u8], size: usize) -> Option<&[u8]>
     requires { size ≡ length (first_field text.now) }
     ensures { option_map (λ rest. rest.now) result ≡ behind_field text.now }

@@ -1,6 +1,7 @@
 // Lines, and what each of them is.
 ghost use Rattle.std.specs.Prelude.{◌≡◌, ◌<◌, ◌≤◌, ◌^◌, length, if◌then◌else◌};
 ghost use Rattle.stream_reader.specs.Judged.{fields_judged, fields_of, has_fields, is_above, judged, occurrence_judged, text_judged, without_return};
+ghost use Rattle.stream_reader.specs.Lines.{Line};
 ghost use Rattle.stream_reader.specs.Occurs.{after, is_bad};
 ghost use Rattle.papi_base.specs.declared.occurrence.LineCause.TheVariants as cause;
 
@@ -35,6 +36,7 @@ pub enum Judgement {
 
 impl Judgement {
     /// Whether the stream is given up at the line.
+    #[inline(always)]
     pub fn is_bad(&self) -> bool
         ensures { result ≡ is_bad self.now }
     {
@@ -78,6 +80,7 @@ fn cause_of(start: &LineStart, text: &[u8]) -> LineCause
 }
 
 // Whether a stamp is above the last one.
+#[inline(always)]
 fn is_above(last: Option<u64>, stamp: u64) -> bool
     ensures { result ≡ is_above last stamp }
 {
@@ -88,6 +91,7 @@ fn is_above(last: Option<u64>, stamp: u64) -> bool
 }
 
 // Judges a line that is neither skipped nor the version.
+#[inline(always)]
 fn judge_fields(start: &LineStart, text: &[u8]) -> Judgement
     ensures { result ≡ fields_judged start.now (fields_of text.now) }
 {
@@ -102,6 +106,7 @@ fn judge_fields(start: &LineStart, text: &[u8]) -> Judgement
 
 // Judges a line without its carriage return.
 #[tactic(auto, unfolding(crate::specs::Judged::text_judged))]
+#[inline(always)]
 fn judge_text(start: &LineStart, text: &[u8]) -> Judgement
     ensures { result ≡ text_judged start.now text.now }
 {
@@ -115,6 +120,7 @@ fn judge_text(start: &LineStart, text: &[u8]) -> Judgement
 }
 
 // The line without a carriage return at its end.
+#[inline(always)]
 fn without_return(line: &[u8]) -> &[u8]
     ensures { result.now ≡ without_return line.now }
 {
@@ -136,6 +142,7 @@ impl LineStart {
 
     /// What the line that begins here is, which a newline ends or not.
     #[tactic(auto, unfolding(crate::specs::Judged::judged))]
+    #[inline(always)]
     pub fn judge(&self, line: &[u8], ended: bool) -> Judgement
         requires { self.now.passed < 2 ^ 32 }
         ensures { result ≡ judged self.now (record { bytes = line.now; ended = ended }) }
@@ -149,30 +156,24 @@ impl LineStart {
         judge_text(self, if ended { without_return(line) } else { line })
     }
 
-    /// What is known behind this line.
-    pub fn after(&self, line: &[u8], ended: bool, judgement: &Judgement) -> LineStart
-        requires number { self.now.number < 2 ^ 32 }
-        requires passed { self.now.passed < 2 ^ 32 }
-        requires given { self.now.given < 2 ^ 32 }
-        requires size { length line.now ≤ 4224 }
-        ensures { result ≡ after self.now (record { bytes = line.now; ended = ended }) judgement.now }
+    /// Goes on behind a line of this length.
+    #[inline(always)]
+    pub fn pass(&mut self, size: usize, ended: bool, judgement: &Judgement)
+        requires number { self.old.number < 2 ^ 32 }
+        requires passed { self.old.passed < 2 ^ 32 }
+        requires given { self.old.given < 2 ^ 32 }
+        requires size { size ≤ 4224 }
+        ensures { (line : Line) → length line.bytes ≡ size → line.ended ≡ ended → self.new ≡ after self.old line judgement.now }
     {
-        let behind = LineStart {
-            number: self.number + 1,
-            passed: self.passed + line.len() as u64 + u64::from(ended),
-            ..*self
-        };
+        self.number += 1;
+        self.passed += size as u64 + u64::from(ended);
         match judgement {
-            Judgement::Bad(_) | Judgement::Skipped => behind,
-            Judgement::Version => LineStart {
-                stamped: true,
-                ..behind
-            },
-            Judgement::Occurs(o) => LineStart {
-                given: self.given + 1,
-                last: Some(o.stamp),
-                ..behind
-            },
+            Judgement::Bad(_) | Judgement::Skipped => {}
+            Judgement::Version => self.stamped = true,
+            Judgement::Occurs(o) => {
+                self.given += 1;
+                self.last = Some(o.stamp);
+            }
         }
     }
 }

@@ -16,6 +16,7 @@ pub(crate) struct Tail {
 }
 
 // The stamp, where this stands behind the program counter's space, if it has one.
+#[inline(always)]
 fn stamp_behind(start: &LineStart, rest: Option<&[u8]>) -> Option<u64>
     ensures { result ≡ stamp_behind start.now.stamped start.now.given (option_map (λ text. text.now) rest.entry) }
 {
@@ -35,6 +36,7 @@ fn stamp_behind(start: &LineStart, rest: Option<&[u8]>) -> Option<u64>
 
 // The amount, the program counter and the stamp.
 #[tactic(auto, unfolding(crate::specs::Fields::tail_on))]
+#[inline(always)]
 fn read_tail(start: &LineStart, text: &[u8]) -> Option<Tail>
     ensures { result ≡ tail_on start.now.stamped start.now.given text.now }
 {
@@ -51,6 +53,7 @@ fn read_tail(start: &LineStart, text: &[u8]) -> Option<Tail>
 
 /// The occurrence that a line writes, or `None` where its fields are not as many as they should be, or one is out of its form.
 #[tactic(auto, unfolding(crate::specs::Fields::occurrence_on))]
+#[inline(always)]
 pub(crate) fn occurrence(start: &LineStart, line: &[u8]) -> Option<Occ>
     ensures { result ≡ occurrence_on start.now.stamped start.now.given line.now }
 {

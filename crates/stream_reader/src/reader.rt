@@ -51,6 +51,7 @@ impl<S: Source> Model for StreamReader<S> {
 }
 
 // What a line with this number and judgement gives.
+#[inline(always)]
 fn answer_of(number: u64, judgement: &Judgement) -> Option<Next>
     ensures { result ≡ answer_of number judgement.now }
 {
@@ -148,7 +149,18 @@ impl<S: Source> StreamReader<S> {
         self.source
     }
 
+    // What the front of the bytes held is as a line.
+    #[inline(always)]
+    fn judge_front(&self, size: usize, ended: bool) -> Judgement
+        requires within { size + flag_bit ended ≤ length self.now.held }
+        ensures { result ≡ judged self.now.start (line_at self.now size ended) }
+    {
+        self.start
+            .judge(&self.bytes[self.from..self.from + size], ended)
+    }
+
     // Takes the front of the bytes held as a line.
+    #[inline(always)]
     fn take_line(&mut self, size: usize, ended: bool) -> Option<Next>
         requires over { self.old.over ≡ false }
         requires within { size + flag_bit ended ≤ length self.old.held }
@@ -159,17 +171,15 @@ impl<S: Source> StreamReader<S> {
         ensures nearer { IfNone result (left_of self.new < left_of self.old) }
         ensures within { IsWithin self.new }
     {
-        let start = self.start;
-        let line = &self.bytes[self.from..self.from + size];
-        let judgement = start.judge(line, ended);
-        let behind = start.after(line, ended, &judgement);
+        let number = self.start.number;
+        let judgement = self.judge_front(size, ended);
         if judgement.is_bad() {
             self.over = true;
-            return answer_of(start.number, &judgement);
+            return answer_of(number, &judgement);
         }
-        self.start = behind;
+        self.start.pass(size, ended, &judgement);
         self.from += size + usize::from(ended);
-        answer_of(start.number, &judgement)
+        answer_of(number, &judgement)
     }
 
     // Asks for a piece behind the bytes held.
@@ -202,6 +212,7 @@ impl<S: Source> StreamReader<S> {
     }
 
     // The length of the next line, where it is whole.
+    #[inline(always)]
     fn line_len(&self) -> Option<usize>
         ensures { FindsNewline self.now.held result }
     {
