@@ -1,9 +1,6 @@
 -- Flags as bits of a number.
-use Rattle.std.specs.Prelude.{◌+◌, ◌*◌, ℕ, Bool, true, false, List, [], ◌∷◌}
-
-abbrev pub flag_bit : Bool → ℕ
-flag_bit true = 1
-flag_bit false = 0
+use Rattle.std.specs.Prelude.{◌+◌, ◌*◌, ℕ, Bool, List, [], ◌∷◌}
+pub use Rattle.papi_base.specs.Numerals.{flag_bit}
 
 -- the first flag as bit 0
 unfoldable pub bits_of : List Bool → ℕ
