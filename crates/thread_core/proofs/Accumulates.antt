@@ -1,7 +1,6 @@
 -- A core that adds the values of a set to the caller's.
-use Rattle.std.proofs.Common.{◌≡◌, ℕ, ℤ, ◌+◌, ◌<◌, ◌⊎◌, inl, inr, true, false, List, [], ◌∷◌, ◌++◌, length, drop, refl, ap, ap₂, sym, subst, ◌∙◌, arith, append_assoc, Option, Some, None, option_map, slice_get, slice_set}
+use Rattle.std.proofs.Common.{◌≡◌, ℕ, ℤ, ◌<◌, ◌⊎◌, inl, inr, true, false, List, length, refl, ap, ap₂, sym, subst, ◌∙◌, arith, Option, Some, None, option_map, slice_set}
 use Rattle.std.specs.Option.{option_map_or}
-use Rattle.std.specs.Int.{int_wrapping_add, w64}
 use Rattle.std.proofs.lemmas.Bool.{cases_Bool}
 use Rattle.std.proofs.lemmas.List.{length-map, set-set}
 use Rattle.papi_base.specs.declared.code.Code.{Code}
@@ -21,32 +20,25 @@ use Rattle.session_model.specs.Refusals.{refusal_of}
 use Rattle.session_model.specs.Replies.{done}
 use Rattle.session_model.specs.Values.{accumulated, measured, sums, values_of}
 use Rattle.session_laws.proofs.Pushing.{clock_now}
-use Rattle.thread_core.specs.declared.slot.Slot.{Slot}
-use Rattle.thread_core.specs.Accumulated.{slot_with_sums}
+use Rattle.thread_slots.specs.declared.slot.Slot.{Slot}
+use Rattle.thread_slots.specs.Accumulated.{slot_with_sums}
 use Rattle.thread_core.specs.CoreView.{CoreView}
 use Rattle.thread_core.specs.Following.{Follows, values_reply}
 use Rattle.thread_core.specs.Refusing.{slot_faces}
-use Rattle.thread_core.specs.Shown.{number_in, numbers_shown, values_shown}
-use Rattle.thread_core.specs.Slots.{slot_of, slots_of, stopped_slot}
+use Rattle.thread_slots.specs.Shown.{number_in, numbers_shown, values_shown}
+use Rattle.thread_slots.specs.Slots.{slot_of, slots_of, stopped_slot}
 use Rattle.thread_core.specs.Stands.{AgreesWith, CoreStands}
-use Rattle.thread_core.specs.Units.{units_of}
-use Rattle.thread_core.specs.Zeroed.{zeroed_on, zeroed_slot, zeroed_units}
+use Rattle.thread_slots.specs.Units.{units_of}
+use Rattle.thread_slots.specs.Zeroed.{zeroed_on, zeroed_slot, zeroed_units}
 use Rattle.thread_core.proofs.Ends.{one_code, read_present, stands_there}
 use Rattle.thread_core.proofs.Extending.{rest_same}
 use Rattle.thread_core.proofs.Following.{Does, code_follows, done_follows}
-use Rattle.thread_core.proofs.Lists.{at-some, drop_at, get-set_same, length-set_at, map_same, same_some, some-at}
+use Rattle.thread_slots.proofs.Lists.{at-some, get-set_same, length-set_at, map_same, same_some, some-at}
 use Rattle.thread_core.proofs.Putting.{change_put, slots_put}
 use Rattle.thread_core.proofs.Shows.{values_are}
 use Rattle.thread_core.proofs.Squares.{slot_of-running, slot_of-stopped, widths_are}
 use Rattle.thread_core.proofs.Starts.{fit_of, with_both}
 use Rattle.thread_core.proofs.Zeroes.{slot_zeroed, units_zeroed, valued}
-
-pub sums_more : (vs xs done all : List ℤ) (i : ℕ) (v x sum : ℤ) → slice_get vs i ≡ Some v → slice_get xs i ≡ Some x → sum ≡ int_wrapping_add w64 v x
-    → done ++ sums (drop i vs) (drop i xs) ≡ all → (done ++ sum ∷ []) ++ sums (drop (i + 1) vs) (drop (i + 1) xs) ≡ all
-sums_more vs xs done all i v x sum e f is h =
-    append_assoc done (sum ∷ []) (sums (drop (i + 1) vs) (drop (i + 1) xs))
-    ∙ ap (λ (y : ℤ). done ++ (y ∷ sums (drop (i + 1) vs) (drop (i + 1) xs))) is
-    ∙ sym (ap₂ (λ us ws. done ++ sums us ws) (drop_at vs i v e) (drop_at xs i x f)) ∙ h
 
 pub accum_refused : (book : Book) (core : CoreView) (k : ℕ) (result : Option Code) (c : Code) (values : List ℤ) → AgreesWith book core → option_map Plain result ≡ refusal_of book core.shape core.registered (slot_faces core.slots) (call.Accum k) → result ≡ Some c
     → Follows book core core (call.Accum k) (values_reply c values)

@@ -20,21 +20,21 @@ use Rattle.session_model.specs.Faces.{Face, at, change, face_of, has, is_absent,
 use Rattle.session_model.specs.Refusals.{is_multiplexed, refusal_of}
 use Rattle.session_model.specs.Replies.{plain, reply_over, sight_of_kept}
 use Rattle.session_model.specs.Values.{measured}
-use Rattle.thread_core.specs.declared.changing.Change.{Change}
-use Rattle.thread_core.specs.declared.changing.Change.TheVariants as made
-use Rattle.thread_core.specs.declared.slot.Slot.{Slot}
-use Rattle.thread_core.specs.Altering.{IsFor, call_of, change_refusal, code_before, lacks_component, recounted, slot_after}
-use Rattle.thread_core.specs.Changed.{renewed}
+use Rattle.thread_slots.specs.declared.changing.Change.{Change}
+use Rattle.thread_slots.specs.declared.changing.Change.TheVariants as made
+use Rattle.thread_slots.specs.declared.slot.Slot.{Slot}
+use Rattle.thread_slots.specs.Altering.{IsFor, call_of, change_refusal, code_before, lacks_component, recounted, slot_after}
+use Rattle.thread_slots.specs.Changed.{renewed}
 use Rattle.thread_core.specs.CoreView.{CoreView}
 use Rattle.thread_core.specs.Following.{Follows, is_on_sets}
 use Rattle.thread_core.specs.Refusing.{rest_code, slot_faces}
-use Rattle.thread_core.specs.Slots.{face_of_slot, slot_of, slots_of, stopped_slot}
+use Rattle.thread_slots.specs.Slots.{face_of_slot, slot_of, slots_of, stopped_slot}
 use Rattle.thread_core.specs.Stands.{AgreesWith, CoreStands}
-use Rattle.thread_core.specs.Units.{units_of}
+use Rattle.thread_slots.specs.Units.{units_of}
 use Rattle.thread_core.proofs.Destroying.{rests_there}
 use Rattle.thread_core.proofs.Extending.{Rests, faces_at, map_zero, measured_empty, quiet_by, renewed_slot, rest_same, rests, third_row, two_rows, with_slots}
 use Rattle.thread_core.proofs.Following.{Does, done_follows, refused_follows}
-use Rattle.thread_core.proofs.Lists.{at-some, map_same}
+use Rattle.thread_slots.proofs.Lists.{at-some, map_same}
 use Rattle.thread_core.proofs.Owners.{face_same}
 use Rattle.thread_core.proofs.Putting.{change_put, slots_put, units_stay}
 use Rattle.thread_core.proofs.Squares.{slot_of-stopped}

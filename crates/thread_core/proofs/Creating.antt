@@ -15,11 +15,11 @@ use Rattle.session_model.specs.Faces.{free}
 use Rattle.session_model.specs.Refusals.{refusal_of}
 use Rattle.session_model.specs.Replies.{done}
 use Rattle.session_laws.proofs.Sets.{free_map}
-use Rattle.thread_core.specs.declared.slot.Slot.{Slot}
+use Rattle.thread_slots.specs.declared.slot.Slot.{Slot}
 use Rattle.thread_core.specs.CoreView.{CoreView}
 use Rattle.thread_core.specs.Following.{Follows}
 use Rattle.thread_core.specs.Refusing.{slot_faces}
-use Rattle.thread_core.specs.Slots.{new_slot, slot_of}
+use Rattle.thread_slots.specs.Slots.{new_slot, slot_of}
 use Rattle.thread_core.specs.Stands.{AgreesWith, CoreStands}
 use Rattle.thread_core.proofs.Putting.{slots_put, units_stay}
 use Rattle.thread_core.proofs.Following.{Does, done_follows}

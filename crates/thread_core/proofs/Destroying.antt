@@ -13,15 +13,15 @@ use Rattle.session_model.specs.Faces.{is_absent, runs}
 use Rattle.session_model.specs.Refusals.{refusal_of}
 use Rattle.session_model.specs.Replies.{plain}
 use Rattle.session_laws.proofs.Sets.{map_put}
-use Rattle.thread_core.specs.declared.slot.Slot.{Slot}
+use Rattle.thread_slots.specs.declared.slot.Slot.{Slot}
 use Rattle.thread_core.specs.CoreView.{CoreView}
 use Rattle.thread_core.specs.Following.{Follows}
 use Rattle.thread_core.specs.Refusing.{rest_code, slot_faces}
-use Rattle.thread_core.specs.Slots.{slot_of}
+use Rattle.thread_slots.specs.Slots.{slot_of}
 use Rattle.thread_core.specs.Stands.{AgreesWith, CoreStands}
 use Rattle.thread_core.proofs.Extending.{Rests, quiet_by, rests, with_slots}
 use Rattle.thread_core.proofs.Following.{Does, done_follows}
-use Rattle.thread_core.proofs.Lists.{at-some}
+use Rattle.thread_slots.proofs.Lists.{at-some}
 use Rattle.thread_core.proofs.Putting.{units_same}
 
 -- where the first two rows of a table do not come, the set is there and does not run

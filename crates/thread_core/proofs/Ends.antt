@@ -20,18 +20,18 @@ use Rattle.session_model.specs.Faces.{Face, at, change, face_of, faces_of, is_ab
 use Rattle.session_model.specs.Refusals.{refusal_of}
 use Rattle.session_model.specs.Replies.{done}
 use Rattle.session_model.specs.Values.{measured, values_of}
-use Rattle.thread_core.specs.declared.slot.Slot.{Slot}
-use Rattle.thread_core.specs.Changed.{rested}
-use Rattle.thread_core.specs.CoreView.{CoreView, empty_unit}
+use Rattle.thread_slots.specs.declared.slot.Slot.{Slot}
+use Rattle.thread_slots.specs.Changed.{rested}
+use Rattle.thread_core.specs.CoreView.{CoreView}
+use Rattle.thread_slots.specs.Units.{empty_unit, registers_by, unit_at, units_of}
 use Rattle.thread_core.specs.Following.{Follows, values_reply}
 use Rattle.thread_core.specs.Refusing.{slot_faces}
-use Rattle.thread_core.specs.Shown.{numbers_shown, values_shown}
-use Rattle.thread_core.specs.Slots.{slot_of, slots_of, stopped_slot}
+use Rattle.thread_slots.specs.Shown.{numbers_shown, values_shown}
+use Rattle.thread_slots.specs.Slots.{slot_of, slots_of, stopped_slot}
 use Rattle.thread_core.specs.Stands.{AgreesWith, CoreStands}
-use Rattle.thread_core.specs.Units.{registers_by, unit_at, units_of}
 use Rattle.thread_core.proofs.Extending.{quiet_by, rest_same}
 use Rattle.thread_core.proofs.Following.{Does, code_follows, done_follows}
-use Rattle.thread_core.proofs.Lists.{at-some, get_at, map_same}
+use Rattle.thread_slots.proofs.Lists.{at-some, get_at, map_same}
 use Rattle.thread_core.proofs.Looking.{Present, looks_follows, present, table_of}
 use Rattle.thread_core.proofs.Owners.{other_runs}
 use Rattle.thread_core.proofs.Putting.{IsQuiet, change_put, runner_gone, slots_put, units_put, units_stay}

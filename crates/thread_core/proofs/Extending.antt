@@ -29,16 +29,16 @@ use Rattle.session_model.specs.Refusals.{conflict_of, refusal_of}
 use Rattle.session_model.specs.Replies.{plain, refused}
 use Rattle.session_model.specs.Values.{measured}
 use Rattle.session_laws.proofs.Sets.{at_map}
-use Rattle.thread_core.specs.declared.slot.Slot.{Slot}
-use Rattle.thread_core.specs.Changed.{renewed, slot_with_event}
+use Rattle.thread_slots.specs.declared.slot.Slot.{Slot}
+use Rattle.thread_slots.specs.Changed.{renewed, slot_with_event}
 use Rattle.thread_core.specs.CoreView.{CoreView}
 use Rattle.thread_core.specs.Following.{Follows, changed_reply}
 use Rattle.thread_core.specs.Refusing.{rest_code, slot_faces}
-use Rattle.thread_core.specs.Slots.{face_of_slot, slot_of, slots_of, stopped_slot}
+use Rattle.thread_slots.specs.Slots.{face_of_slot, slot_of, slots_of, stopped_slot}
 use Rattle.thread_core.specs.Stands.{AgreesWith, CoreStands}
-use Rattle.thread_core.specs.Units.{units_of}
+use Rattle.thread_slots.specs.Units.{units_of}
 use Rattle.thread_core.proofs.Following.{Does, done_follows, refused_follows}
-use Rattle.thread_core.proofs.Lists.{at-some}
+use Rattle.thread_slots.proofs.Lists.{at-some}
 use Rattle.thread_core.proofs.Owners.{face_same}
 use Rattle.thread_core.proofs.Putting.{IsQuiet, change_put, slots_put, units_stay}
 use Rattle.thread_core.proofs.Squares.{slot_of-running, slot_of-stopped}

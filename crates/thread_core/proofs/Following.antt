@@ -25,9 +25,9 @@ use Rattle.session_laws.proofs.Within.{within_stays}
 use Rattle.thread_core.specs.CoreView.{CoreView}
 use Rattle.thread_core.specs.Following.{Follows, is_on_sets}
 use Rattle.thread_core.specs.Refusing.{slot_faces}
-use Rattle.thread_core.specs.Slots.{slots_of}
+use Rattle.thread_slots.specs.Slots.{slots_of}
 use Rattle.thread_core.specs.Stands.{AgreesWith, CoreStands}
-use Rattle.thread_core.specs.Units.{units_of}
+use Rattle.thread_slots.specs.Units.{units_of}
 use Rattle.thread_core.proofs.Owners.{faces_same}
 
 -- refusals look at the same in the core and in the account

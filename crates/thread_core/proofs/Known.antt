@@ -6,19 +6,19 @@ use Rattle.session_model.specs.declared.call.Call.TheVariants as call
 use Rattle.session_model.specs.Account.{time_after}
 use Rattle.session_model.specs.Faces.{Face, at}
 use Rattle.session_model.specs.Refusals.{refusal_of}
-use Rattle.thread_core.specs.declared.slot.Slot.{Slot}
-use Rattle.thread_core.specs.Accumulated.{slot_with_sums}
-use Rattle.thread_core.specs.Counted.{CountedAll, counted_all}
+use Rattle.thread_slots.specs.declared.slot.Slot.{Slot}
+use Rattle.thread_slots.specs.Accumulated.{slot_with_sums}
+use Rattle.thread_slots.specs.Counted.{CountedAll, counted_all}
 use Rattle.thread_core.specs.CoreView.{CoreView}
 use Rattle.thread_core.specs.Refusing.{slot_faces}
 use Rattle.thread_core.specs.Running.{AreKnown}
-use Rattle.thread_core.specs.Slots.{face_of_slot, slot_of}
+use Rattle.thread_slots.specs.Slots.{face_of_slot, slot_of}
 use Rattle.thread_core.specs.Stands.{AgreesWith, consumed}
-use Rattle.thread_core.specs.Units.{owner_from}
-use Rattle.thread_core.specs.Zeroed.{zeroed_slot}
+use Rattle.thread_slots.specs.Units.{owner_from}
+use Rattle.thread_slots.specs.Zeroed.{zeroed_slot}
 use Rattle.thread_core.proofs.Ends.{read_present, stands_there}
 use Rattle.thread_core.proofs.Following.{faces_stand}
-use Rattle.thread_core.proofs.Lists.{at-some, get-set_same, some-at}
+use Rattle.thread_slots.proofs.Lists.{at-some, get-set_same, some-at}
 use Rattle.thread_core.proofs.Occurring.{length-units}
 use Rattle.thread_core.proofs.Taking.{after_taking, countable, taken_stands}
 

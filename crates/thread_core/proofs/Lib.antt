@@ -1,14 +1,8 @@
-pub mod Lists
-pub mod Programs
-pub mod Carries
-pub mod Placing
 pub mod Weighing
 pub mod Squares
 pub mod Others
 pub mod Owners
 pub mod Occurring
-pub mod Turning
-pub mod Chosen
 pub mod Taking
 pub mod Opening
 pub mod Tests
@@ -16,9 +10,6 @@ pub mod Following
 pub mod Putting
 pub mod Creating
 pub mod Extending
-pub mod Telling
-pub mod Searching
-pub mod Beginning
 pub mod Windows
 pub mod Starts
 pub mod Looking

@@ -22,13 +22,13 @@ use Rattle.session_model.specs.Faces.{Face, at, face_of, faces_of, has, is_absen
 use Rattle.session_model.specs.Refusals.{is_multiplexed, refusal_of}
 use Rattle.session_model.specs.Replies.{assigned, done, reply_over, sight_of_kept}
 use Rattle.session_laws.proofs.Sets.{at_map}
-use Rattle.thread_core.specs.declared.slot.Slot.{Slot}
+use Rattle.thread_slots.specs.declared.slot.Slot.{Slot}
 use Rattle.thread_core.specs.CoreView.{CoreView}
 use Rattle.thread_core.specs.Following.{Follows, is_on_sets}
 use Rattle.thread_core.specs.Refusing.{slot_faces}
-use Rattle.thread_core.specs.Slots.{slot_of, slots_of}
+use Rattle.thread_slots.specs.Slots.{slot_of, slots_of}
 use Rattle.thread_core.specs.Stands.{AgreesWith, CoreStands}
-use Rattle.thread_core.specs.Units.{units_of}
+use Rattle.thread_slots.specs.Units.{units_of}
 use Rattle.thread_core.proofs.Extending.{rest_same, set_same, slot_at}
 use Rattle.thread_core.proofs.Following.{done_follows, faces_stand, leaves_all}
 

@@ -13,12 +13,12 @@ use Rattle.session_model.specs.Account.{Kept, last_after}
 use Rattle.session_model.specs.Bounds.{AllWithin, AreApart, IsWithin}
 use Rattle.session_model.specs.Faces.{face_of, faces_of, runs_on}
 use Rattle.session_model.specs.Thresholds.{passed_in, passed_from as passing_from, note, notes_at}
-use Rattle.thread_core.specs.declared.slot.Slot.{Slot}
-use Rattle.thread_core.specs.Counted.{Counted, CountedAll, CountedPlace, counted_all, counted_at, counted_over, counted_place, placed, uncounted}
-use Rattle.thread_core.specs.Slots.{slot_of, slots_of}
+use Rattle.thread_slots.specs.declared.slot.Slot.{Slot}
+use Rattle.thread_slots.specs.Counted.{Counted, CountedAll, CountedPlace, counted_all, counted_at, counted_over, counted_place, placed, uncounted}
+use Rattle.thread_slots.specs.Slots.{slot_of, slots_of}
 use Rattle.session_model.specs.Fitness.{AreFit, IsFit, IsShape}
-use Rattle.thread_core.specs.Units.{owner_from, runner, registers_by, running_registers, unit_at, units_from, units_of}
-use Rattle.thread_core.proofs.Lists.{get-map, get-map_some, get-set_same, get-set_other, get_at, map_same_on, same_items, some-at}
+use Rattle.thread_slots.specs.Units.{owner_from, runner, registers_by, running_registers, unit_at, units_from, units_of}
+use Rattle.thread_slots.proofs.Lists.{get-map, get-map_some, get-set_same, get-set_other, get_at, map_same_on, same_items, some-at}
 use Rattle.thread_core.proofs.Others.{elsewhere, registers_elsewhere, slot_elsewhere, passing_elsewhere}
 use Rattle.thread_core.proofs.Owners.{faces_same, owner_none, Runs, runs_by, other_runs, runner-some, runner-none}
 use Rattle.thread_core.proofs.Squares.{after, counted_follows, stopped_stays, unit_by}

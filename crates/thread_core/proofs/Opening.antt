@@ -12,12 +12,12 @@ use Rattle.session_model.specs.Faces.{faces_of}
 use Rattle.session_laws.proofs.Apart.{opening_apart}
 use Rattle.session_laws.proofs.FitStays.{opening_fits}
 use Rattle.session_laws.proofs.Within.{opening_within}
-use Rattle.thread_core.specs.CoreView.{empty_unit, opening_core}
-use Rattle.thread_core.specs.Slots.{slots_of}
+use Rattle.thread_core.specs.CoreView.{opening_core}
+use Rattle.thread_slots.specs.Units.{empty_unit, owner_from, registers_by, units_from}
+use Rattle.thread_slots.specs.Slots.{slots_of}
 use Rattle.session_model.specs.Fitness.{IsShape}
 use Rattle.thread_core.specs.Stands.{AgreesWith, CoreStands}
-use Rattle.thread_core.specs.Units.{owner_from, registers_by, units_from}
-use Rattle.thread_core.proofs.Lists.{drop_at}
+use Rattle.thread_slots.proofs.Lists.{drop_at}
 use Rattle.thread_core.proofs.Owners.{runner-none}
 
 none_owns : (comp number n : ℕ) → owner_from comp number (faces_of (replicate n None)) ≡ None

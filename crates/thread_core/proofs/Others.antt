@@ -19,13 +19,13 @@ use Rattle.session_model.specs.Estimates.{turns_of}
 use Rattle.session_model.specs.Faces.{face_of, runs_on}
 use Rattle.session_model.specs.Thresholds.{passes, passed_from as passing_from}
 use Rattle.session_laws.proofs.Pushing.{clock_stays, weighed_running}
-use Rattle.thread_core.specs.declared.pins.Pin.{Pin}
-use Rattle.thread_core.specs.Pinned.{pins_of, programs, bank_of}
-use Rattle.thread_core.specs.Slots.{slot_of, running_slot, turned, numbers_of}
+use Rattle.thread_slots.specs.declared.pins.Pin.{Pin}
+use Rattle.thread_slots.specs.Pinned.{pins_of, programs, bank_of}
+use Rattle.thread_slots.specs.Slots.{slot_of, running_slot, turned, numbers_of}
 use Rattle.session_model.specs.Fitness.{IsFit}
-use Rattle.thread_core.specs.Units.{running_registers}
-use Rattle.thread_core.proofs.Lists.{all_at, map_same_on}
-use Rattle.thread_core.proofs.Placing.{pin_made, lead_among, get_position}
+use Rattle.thread_slots.specs.Units.{running_registers}
+use Rattle.thread_slots.proofs.Lists.{all_at, map_same_on}
+use Rattle.thread_slots.proofs.Placing.{pin_made, lead_among, get_position}
 use Rattle.thread_core.proofs.Squares.{slot_of-running}
 use Rattle.thread_core.proofs.Weighing.{count_more, turn_none, weight_none}
 

@@ -11,9 +11,9 @@ use Rattle.event_sets.specs.AtRest.{Widths}
 use Rattle.session_model.specs.Account.{Kept}
 use Rattle.session_model.specs.Bounds.{AreApart}
 use Rattle.session_model.specs.Faces.{Face, face_of, faces_of, at, runs_on}
-use Rattle.thread_core.specs.Slots.{slot_of, slots_of, face_of_slot}
-use Rattle.thread_core.specs.Units.{owner_from, runner}
-use Rattle.thread_core.proofs.Lists.{get-map, some-at}
+use Rattle.thread_slots.specs.Slots.{slot_of, slots_of, face_of_slot}
+use Rattle.thread_slots.specs.Units.{owner_from, runner}
+use Rattle.thread_slots.proofs.Lists.{get-map, some-at}
 use Rattle.thread_core.proofs.Squares.{slot_of-running, slot_of-stopped}
 
 pub owner_none : (comp number : ℕ) (faces : List (Option Face)) (i : ℕ) (f : Option Face) → owner_from comp number faces ≡ None → slice_get faces i ≡ Some f → runs_on (Some comp) f ≡ false

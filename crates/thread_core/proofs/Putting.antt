@@ -12,9 +12,9 @@ use Rattle.event_sets.specs.AtRest.{Widths}
 use Rattle.session_model.specs.Account.{Kept}
 use Rattle.session_model.specs.Faces.{Face, at, change, face_of, faces_of, runs_on}
 use Rattle.session_laws.proofs.Sets.{map_put}
-use Rattle.thread_core.specs.Slots.{slot_of, slots_of}
-use Rattle.thread_core.specs.Units.{owner_from, registers_by, runner, unit_at, units_of}
-use Rattle.thread_core.proofs.Lists.{get-map, get-map_some, get-set_other, get-set_same, same_items}
+use Rattle.thread_slots.specs.Slots.{slot_of, slots_of}
+use Rattle.thread_slots.specs.Units.{owner_from, registers_by, runner, unit_at, units_of}
+use Rattle.thread_slots.proofs.Lists.{get-map, get-map_some, get-set_other, get-set_same, same_items}
 use Rattle.thread_core.proofs.Occurring.{get-units, length-units}
 use Rattle.thread_core.proofs.Owners.{owner_some}
 

@@ -30,23 +30,23 @@ use Rattle.session_model.specs.Registers.{register_of, threshold_among}
 use Rattle.session_model.specs.Replies.{done, refused, reply_over, sight_of_kept}
 use Rattle.session_model.specs.Step.{account_refusal}
 use Rattle.session_laws.proofs.Sets.{at_map}
-use Rattle.thread_core.specs.declared.pins.Pin.{Pin}
-use Rattle.thread_core.specs.declared.slot.Slot.{Slot}
+use Rattle.thread_slots.specs.declared.pins.Pin.{Pin}
+use Rattle.thread_slots.specs.declared.slot.Slot.{Slot}
 use Rattle.thread_core.specs.CoreView.{CoreView}
 use Rattle.thread_core.specs.Following.{Follows, reply_of}
-use Rattle.thread_core.specs.Pinned.{ArePinned, pins_of}
+use Rattle.thread_slots.specs.Pinned.{ArePinned, pins_of}
 use Rattle.thread_core.specs.Refusing.{slot_faces}
-use Rattle.thread_core.specs.RawRegister.{register_by, register_on, register_shown, register_under, register_value}
-use Rattle.thread_core.specs.Slots.{slot_of}
+use Rattle.thread_slots.specs.RawRegister.{register_by, register_on, register_shown, register_under, register_value}
+use Rattle.thread_slots.specs.Slots.{slot_of}
 use Rattle.thread_core.specs.Stands.{AgreesWith, CoreStands}
-use Rattle.thread_core.specs.Units.{running_registers}
+use Rattle.thread_slots.specs.Units.{running_registers}
 use Rattle.thread_core.proofs.Extending.{slot_at}
 use Rattle.thread_core.proofs.Following.{refusal_stands, refused_follows}
-use Rattle.thread_core.proofs.Lists.{get_at}
+use Rattle.thread_slots.proofs.Lists.{get_at}
 use Rattle.thread_core.proofs.Looking.{looks_follows}
 use Rattle.thread_core.proofs.Owners.{face_same}
-use Rattle.thread_core.proofs.Placing.{get-pins_from, pin_made, pinned, placed}
-use Rattle.thread_core.proofs.Programs.{programs-at, programs-other}
+use Rattle.thread_slots.proofs.Placing.{get-pins_from, pin_made, pinned, placed}
+use Rattle.thread_slots.proofs.Programs.{programs-at, programs-other}
 use Rattle.thread_core.proofs.Shows.{unit_on}
 use Rattle.thread_core.proofs.Starts.{fit_of}
 

@@ -35,24 +35,24 @@ use Rattle.session_model.specs.Fitness.{IsFit}
 use Rattle.session_model.specs.Values.{measured, values_of}
 use Rattle.session_laws.proofs.CountsInTurns.{counts_per_tick}
 use Rattle.session_laws.proofs.Pushing.{clock_now}
-use Rattle.thread_core.specs.declared.slot.Slot.{Slot}
+use Rattle.thread_slots.specs.declared.slot.Slot.{Slot}
 use Rattle.thread_core.specs.CoreView.{CoreView}
-use Rattle.thread_core.specs.Countable.{IsCountable}
-use Rattle.thread_core.specs.Pinned.{ArePinned, bank_of, pins_from, pins_of}
-use Rattle.thread_core.specs.Shown.{IsInTurns, IsTellable, number_in, numbers_shown, pin_numbers, running_numbers, turn_numbers, unit_numbers, values_shown}
-use Rattle.thread_core.specs.Slots.{numbers_of, rotation_of, running_slot, slot_of, stopped_slot, turned}
+use Rattle.thread_slots.specs.Countable.{IsCountable}
+use Rattle.thread_slots.specs.Pinned.{ArePinned, bank_of, pins_from, pins_of}
+use Rattle.thread_slots.specs.Shown.{IsInTurns, IsTellable, number_in, numbers_shown, pin_numbers, running_numbers, turn_numbers, unit_numbers, values_shown}
+use Rattle.thread_slots.specs.Slots.{numbers_of, rotation_of, running_slot, slot_of, stopped_slot, turned}
 use Rattle.thread_core.specs.Stands.{AgreesWith, CoreStands}
-use Rattle.thread_core.specs.Units.{owner_from, registers_by, runner, running_registers, unit_at}
+use Rattle.thread_slots.specs.Units.{owner_from, registers_by, runner, running_registers, unit_at}
 use Rattle.thread_core.proofs.Extending.{rest_same, set_same, slot_at}
-use Rattle.thread_core.proofs.Lists.{all_at, at-some, get-map_some, get_at, map_same_on, same_some}
+use Rattle.thread_slots.proofs.Lists.{all_at, at-some, get-map_some, get_at, map_same_on, same_some}
 use Rattle.thread_core.proofs.Occurring.{get-units}
 use Rattle.thread_core.proofs.Owners.{face_same, other_runs, owner_none, runner-some, runs_by}
-use Rattle.thread_core.proofs.Placing.{get_position, pinned, placed, position_is}
-use Rattle.thread_core.proofs.Programs.{programs-at}
+use Rattle.thread_slots.proofs.Placing.{get_position, pinned, placed, position_is}
+use Rattle.thread_slots.proofs.Programs.{programs-at}
 use Rattle.thread_core.proofs.Squares.{numbers-length, slot_of-running, slot_of-stopped}
 use Rattle.thread_core.proofs.Starts.{comp_below, fit_of}
 use Rattle.thread_core.proofs.Taking.{length-turned, past_short, running_countable}
-use Rattle.thread_core.proofs.Telling.{pins_natives, pins_show, turns_show}
+use Rattle.thread_slots.proofs.Telling.{pins_natives, pins_show, turns_show}
 use Rattle.thread_core.proofs.Weighing.{weighed-le, weight_small, within_at}
 
 -- the clock does not fall

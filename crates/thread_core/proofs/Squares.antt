@@ -32,17 +32,17 @@ use Rattle.session_model.specs.Estimates.{turns_of}
 use Rattle.session_model.specs.Thresholds.{passes, passed_from as passing_from}
 use Rattle.session_model.specs.Values.{measured}
 use Rattle.session_laws.proofs.Pushing.{clock_stays, weighed_running}
-use Rattle.thread_core.specs.declared.pins.Pin.{Pin}
-use Rattle.thread_core.specs.declared.slot.Slot.{Slot}
-use Rattle.thread_core.specs.Counted.{Counted, counted, carry_of, with_turn}
-use Rattle.thread_core.specs.Pinned.{pins_of, place_of_lead, armed_event, armed_from, armed_of, programs, bank_of, with_carries}
-use Rattle.thread_core.specs.Slots.{slot_of, running_slot, stopped_slot, turned, numbers_of}
+use Rattle.thread_slots.specs.declared.pins.Pin.{Pin}
+use Rattle.thread_slots.specs.declared.slot.Slot.{Slot}
+use Rattle.thread_slots.specs.Counted.{Counted, counted, carry_of, with_turn}
+use Rattle.thread_slots.specs.Pinned.{pins_of, place_of_lead, armed_event, armed_from, armed_of, programs, bank_of, with_carries}
+use Rattle.thread_slots.specs.Slots.{slot_of, running_slot, stopped_slot, turned, numbers_of}
 use Rattle.session_model.specs.Fitness.{IsFit, IsShape}
-use Rattle.thread_core.specs.Units.{running_registers}
-use Rattle.thread_core.proofs.Carries.{pin_carries, AreTold, banks_follow, pin_passes}
-use Rattle.thread_core.proofs.Lists.{all_at, get_at, map_same}
-use Rattle.thread_core.proofs.Placing.{pinned, placed, get-pins_from, get_position, lead_among, threshold_is}
-use Rattle.thread_core.proofs.Programs.{all_moved-programs, all_moved-none, programs-same}
+use Rattle.thread_slots.specs.Units.{running_registers}
+use Rattle.thread_slots.proofs.Carries.{pin_carries, AreTold, banks_follow, pin_passes}
+use Rattle.thread_slots.proofs.Lists.{all_at, get_at, map_same}
+use Rattle.thread_slots.proofs.Placing.{pinned, placed, get-pins_from, get_position, lead_among, threshold_is}
+use Rattle.thread_slots.proofs.Programs.{all_moved-programs, all_moved-none, programs-same}
 use Rattle.thread_core.proofs.Weighing.{count_more, measured_stopped}
 
 pub widths_are : (shape : Widths) (component : Option ℕ) → IsShape shape → AreWidths (widths_at shape component)

@@ -24,23 +24,23 @@ use Rattle.session_model.specs.Refusals.{has_events, refusal_of}
 use Rattle.session_model.specs.Replies.{plain}
 use Rattle.session_laws.proofs.Pushing.{clock_now}
 use Rattle.session_laws.proofs.Sets.{at_map}
-use Rattle.thread_core.specs.declared.slot.Slot.{Slot}
-use Rattle.thread_core.specs.CoreView.{CoreView, empty_unit}
+use Rattle.thread_slots.specs.declared.slot.Slot.{Slot}
+use Rattle.thread_core.specs.CoreView.{CoreView}
+use Rattle.thread_slots.specs.Units.{empty_unit, registers_by, running_registers, unit_at, units_of}
 use Rattle.thread_core.specs.Following.{Follows}
 use Rattle.thread_core.specs.Refusing.{slot_faces}
-use Rattle.thread_core.specs.Slots.{slot_of, slots_of, stopped_slot}
+use Rattle.thread_slots.specs.Slots.{slot_of, slots_of, stopped_slot}
 use Rattle.thread_core.specs.Stands.{AgreesWith, CoreStands}
 use Rattle.papi_base.specs.Widths.{AreWidths}
-use Rattle.thread_core.specs.Pinned.{ArePinned, pins_of}
-use Rattle.thread_core.specs.Starting.{Begun, IsStartable, begun}
-use Rattle.thread_core.specs.Units.{registers_by, running_registers, unit_at, units_of}
-use Rattle.thread_core.proofs.Beginning.{armable}
+use Rattle.thread_slots.specs.Pinned.{ArePinned, pins_of}
+use Rattle.thread_slots.specs.Starting.{Begun, IsStartable, begun}
+use Rattle.thread_slots.proofs.Beginning.{armable}
 use Rattle.thread_core.proofs.Extending.{quiet_by, rest_same, slot_at}
 use Rattle.thread_core.proofs.Following.{Does, done_follows, faces_stand}
-use Rattle.thread_core.proofs.Lists.{all_at, at-some, get-map_some, get_at, same_some}
+use Rattle.thread_slots.proofs.Lists.{all_at, at-some, get-map_some, get_at, same_some}
 use Rattle.thread_core.proofs.Occurring.{get-units, length-units}
 use Rattle.thread_core.proofs.Owners.{runner-none}
-use Rattle.thread_core.proofs.Placing.{lead_among, get_position, pinned, placed}
+use Rattle.thread_slots.proofs.Placing.{lead_among, get_position, pinned, placed}
 use Rattle.thread_core.proofs.Putting.{IsQuiet, change_put, owner_from-none, runner_put, slots_put, units_put}
 use Rattle.thread_core.proofs.Squares.{slot_of-stopped, widths_are}
 use Rattle.thread_core.proofs.Windows.{begun_is, started}

@@ -22,20 +22,20 @@ use Rattle.session_model.specs.Faces.{at, faces_of}
 use Rattle.session_model.specs.Thresholds.{note, notes_at}
 use Rattle.session_laws.proofs.Pushing.{last_after-append}
 use Rattle.session_laws.proofs.Within.{within_more}
-use Rattle.thread_core.specs.declared.pins.Pin.{Pin}
-use Rattle.thread_core.specs.declared.slot.Slot.{Slot}
-use Rattle.thread_core.specs.Countable.{AreCountable, IsCountable}
-use Rattle.thread_core.specs.Counted.{CountedAll, counted_all, counted_over, counted_at, counted_place}
+use Rattle.thread_slots.specs.declared.pins.Pin.{Pin}
+use Rattle.thread_slots.specs.declared.slot.Slot.{Slot}
+use Rattle.thread_slots.specs.Countable.{AreCountable, IsCountable}
+use Rattle.thread_slots.specs.Counted.{CountedAll, counted_all, counted_over, counted_at, counted_place}
 use Rattle.thread_core.specs.CoreView.{CoreView}
-use Rattle.thread_core.specs.Pinned.{pins_of, bank_of, ArePinned}
-use Rattle.thread_core.specs.Slots.{slot_of, slots_of, turned, numbers_of, rotation_of, face_of_slot}
+use Rattle.thread_slots.specs.Pinned.{pins_of, bank_of, ArePinned}
+use Rattle.thread_slots.specs.Slots.{slot_of, slots_of, turned, numbers_of, rotation_of, face_of_slot}
 use Rattle.session_model.specs.Fitness.{IsFit}
 use Rattle.thread_core.specs.Stands.{AgreesWith, CoreStands, consumed}
-use Rattle.thread_core.specs.Units.{owner_from, unit_at, units_of}
-use Rattle.thread_core.proofs.Lists.{get_at, get-map_some}
+use Rattle.thread_slots.specs.Units.{owner_from, unit_at, units_of}
+use Rattle.thread_slots.proofs.Lists.{get_at, get-map_some}
 use Rattle.thread_core.proofs.Occurring.{all_follow, get-units, length-units}
 use Rattle.thread_core.proofs.Owners.{Runs, faces_same, runs_by}
-use Rattle.thread_core.proofs.Placing.{pinned}
+use Rattle.thread_slots.proofs.Placing.{pinned}
 use Rattle.thread_core.proofs.Squares.{numbers-length, slot_of-running}
 use Rattle.thread_core.proofs.Weighing.{rises-push, turn_small, weighed-le, weight_small}
 

@@ -21,7 +21,7 @@ use Rattle.session_model.specs.Counts.{along, count, weighed}
 use Rattle.session_model.specs.Estimates.{estimated_in, total, turns_of}
 use Rattle.session_model.specs.Values.{measured}
 use Rattle.session_laws.proofs.Pushing.{weighed_running, weighed_stopped, clock_stays}
-use Rattle.thread_core.proofs.Lists.{all_at}
+use Rattle.thread_slots.proofs.Lists.{all_at}
 
 pub within_at : (now : ℕ) (sets : List (Option Kept)) (k : ℕ) (s : Kept) → AllWithin now sets → slice_get sets k ≡ Some (Some s) → IsWithin now s
 within_at now sets k s h e = all_at (λ place. (x : Kept) → place ≡ Some x → IsWithin now x) sets k (Some s) h.each e s refl

@@ -23,15 +23,14 @@ use Rattle.session_model.specs.Estimates.{estimated_in, total, turns_of}
 use Rattle.session_model.specs.Fitness.{IsFit}
 use Rattle.session_model.specs.Values.{measured}
 use Rattle.session_laws.proofs.Pushing.{length-along}
-use Rattle.thread_core.specs.declared.pins.Pin.{Pin}
-use Rattle.thread_core.specs.declared.slot.Slot.{Slot}
-use Rattle.thread_core.specs.CoreView.{empty_unit}
-use Rattle.thread_core.specs.Pinned.{ArePinned, bank_of, pins_of}
-use Rattle.thread_core.specs.Slots.{numbers_of, running_slot, stopped_slot, turned}
-use Rattle.thread_core.specs.Starting.{Begun, begun_by}
-use Rattle.thread_core.specs.Units.{running_registers}
-use Rattle.thread_core.proofs.Placing.{length-pins_from, pinned, placed}
-use Rattle.thread_core.proofs.Programs.{pinned-tail, programs-same}
+use Rattle.thread_slots.specs.declared.pins.Pin.{Pin}
+use Rattle.thread_slots.specs.declared.slot.Slot.{Slot}
+use Rattle.thread_slots.specs.Units.{empty_unit, running_registers}
+use Rattle.thread_slots.specs.Pinned.{ArePinned, bank_of, pins_of}
+use Rattle.thread_slots.specs.Slots.{numbers_of, running_slot, stopped_slot, turned}
+use Rattle.thread_slots.specs.Starting.{Begun, begun_by}
+use Rattle.thread_slots.proofs.Placing.{length-pins_from, pinned, placed}
+use Rattle.thread_slots.proofs.Programs.{pinned-tail, programs-same}
 use Rattle.thread_core.proofs.Squares.{numbers-length}
 
 -- a set that starts

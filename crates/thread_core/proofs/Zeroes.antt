@@ -22,24 +22,24 @@ use Rattle.session_model.specs.Refusals.{refusal_of}
 use Rattle.session_model.specs.Replies.{plain}
 use Rattle.session_model.specs.Values.{measured}
 use Rattle.session_laws.proofs.Pushing.{clock_now}
-use Rattle.thread_core.specs.declared.pins.Pin.{Pin}
-use Rattle.thread_core.specs.declared.slot.Slot.{Slot}
+use Rattle.thread_slots.specs.declared.pins.Pin.{Pin}
+use Rattle.thread_slots.specs.declared.slot.Slot.{Slot}
 use Rattle.thread_core.specs.CoreView.{CoreView}
 use Rattle.thread_core.specs.Following.{Follows}
-use Rattle.thread_core.specs.Pinned.{ArePinned, pins_of, programs}
+use Rattle.thread_slots.specs.Pinned.{ArePinned, pins_of, programs}
 use Rattle.thread_core.specs.Refusing.{slot_faces}
-use Rattle.thread_core.specs.Slots.{running_slot, slot_of, slots_of, stopped_slot}
+use Rattle.thread_slots.specs.Slots.{running_slot, slot_of, slots_of, stopped_slot}
 use Rattle.thread_core.specs.Stands.{AgreesWith, CoreStands}
-use Rattle.thread_core.specs.Starting.{Begun}
-use Rattle.thread_core.specs.Units.{registers_by, running_registers, unit_at, units_of}
-use Rattle.thread_core.specs.Zeroed.{IsOnUnit, zeroed_at, zeroed_on, zeroed_slot, zeroed_unit, zeroed_units}
+use Rattle.thread_slots.specs.Starting.{Begun}
+use Rattle.thread_slots.specs.Units.{registers_by, running_registers, unit_at, units_of}
+use Rattle.thread_slots.specs.Zeroed.{IsOnUnit, zeroed_at, zeroed_on, zeroed_slot, zeroed_unit, zeroed_units}
 use Rattle.thread_core.proofs.Ends.{quiet_none, quiet_other, quiet_rest, read_present}
 use Rattle.thread_core.proofs.Extending.{map_zero, measured_empty, quiet_by, rest_same, slot_at}
 use Rattle.thread_core.proofs.Following.{Does, done_follows}
-use Rattle.thread_core.proofs.Lists.{at-some, get_at, same_some, set-same}
+use Rattle.thread_slots.proofs.Lists.{at-some, get_at, same_some, set-same}
 use Rattle.thread_core.proofs.Occurring.{get-units}
-use Rattle.thread_core.proofs.Placing.{pinned}
-use Rattle.thread_core.proofs.Programs.{pinned-tail}
+use Rattle.thread_slots.proofs.Placing.{pinned}
+use Rattle.thread_slots.proofs.Programs.{pinned-tail}
 use Rattle.thread_core.proofs.Putting.{change_put, runner_put, slots_put, units_put, units_stay}
 use Rattle.thread_core.proofs.Shows.{runs_there, unit_on}
 use Rattle.thread_core.proofs.Squares.{slot_of-running, slot_of-stopped, widths_are}

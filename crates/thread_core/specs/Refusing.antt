@@ -6,8 +6,8 @@ use Rattle.session_model.specs.declared.call.Call.TheVariants as call
 use Rattle.papi_base.specs.declared.code.Code.{Code}
 use Rattle.papi_base.specs.declared.code.Code.TheVariants.{Eisrun, Enoevst}
 use Rattle.session_model.specs.Faces.{Face, is_absent, runs}
-use Rattle.thread_core.specs.declared.slot.Slot.{Slot}
-use Rattle.thread_core.specs.Slots.{face_of_slot}
+use Rattle.thread_slots.specs.declared.slot.Slot.{Slot}
+use Rattle.thread_slots.specs.Slots.{face_of_slot}
 
 abbrev pub slot_faces : List (Option Slot) → List (Option Face)
 slot_faces slots = map (option_map face_of_slot) slots

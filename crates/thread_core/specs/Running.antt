@@ -1,8 +1,8 @@
 -- What is known of the sets that run.
 use Rattle.std.specs.Prelude.{ℕ, ◌≡◌, List, slice_get, Option, Some}
-use Rattle.thread_core.specs.declared.slot.Slot.{Slot}
+use Rattle.thread_slots.specs.declared.slot.Slot.{Slot}
 use Rattle.thread_core.specs.Refusing.{slot_faces}
-use Rattle.thread_core.specs.Units.{owner_from}
+use Rattle.thread_slots.specs.Units.{owner_from}
 
 -- what is known of a component is true: the number of the set that runs on it, or that none does
 pub record AreKnown (known : List (Option (Option ℕ))) (slots : List (Option Slot)) : Type 0 where

@@ -8,8 +8,8 @@ use Rattle.session_model.specs.Bounds.{AllWithin, AreApart, Rises}
 use Rattle.session_model.specs.Fitness.{AreFit, IsShape}
 use Rattle.session_model.specs.Faces.{faces_of}
 use Rattle.thread_core.specs.CoreView.{CoreView}
-use Rattle.thread_core.specs.Slots.{slots_of}
-use Rattle.thread_core.specs.Units.{units_of}
+use Rattle.thread_slots.specs.Slots.{slots_of}
+use Rattle.thread_slots.specs.Units.{units_of}
 
 -- the core keeps what the account says
 pub record CoreStands (book : Book) (core : CoreView) (a : Account) : Type 0 where

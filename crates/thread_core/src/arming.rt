@@ -1,9 +1,9 @@
 //! The call that has thresholds told (PAPI_overflow(3)).
-use crate::changing::Change;
 use crate::thread::Core;
 use papi_base::Code;
 use postfix_rules::PresetBook;
 use session_model::Named;
+use thread_slots::Change;
 
 impl Core {
     ghost use Rattle.session_model.specs.Conditions.{IsNamed};

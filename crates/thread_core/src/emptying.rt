@@ -1,10 +1,10 @@
 //! The calls that take a set away, or what is in it (PAPI_destroy_eventset(3), PAPI_cleanup_eventset(3),
 //! PAPI_remove_event(3)).
-use crate::changing::Change;
 use crate::thread::Core;
 use papi_base::Code;
 use postfix_rules::PresetBook;
 use session_model::{Call, Named};
+use thread_slots::Change;
 
 impl Core {
     ghost use Rattle.session_model.specs.Conditions.{IsNamed};

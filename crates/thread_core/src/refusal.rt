@@ -8,11 +8,11 @@ ghost use Rattle.postfix_rules.specs.Presets.{Book};
 ghost use Rattle.session_model.specs.Faces.{component_runs, has, is_absent, is_running, runs, runs_on};
 ghost use Rattle.session_model.specs.Refusals.{has_events, is_multiplexed, refusal_of};
 ghost use Rattle.thread_core.specs.Refusing.{asks_slots, slot_faces};
-ghost use Rattle.thread_core.specs.Slots.{face_of_slot};
+ghost use Rattle.thread_slots.specs.Slots.{face_of_slot};
 
-use crate::slot::Slot;
 use papi_base::Code;
 use session_model::Call;
+use thread_slots::Slot;
 
 /// Whether there is no set under the number.
 pub(crate) fn is_absent(slots: &[Option<Slot>], set: u32) -> bool
@@ -65,7 +65,7 @@ fn is_multiplexed(slots: &[Option<Slot>], set: u32) -> bool
 }
 
 /// Whether what is in a place is a set that runs on the component.
-fn runs_on(component: Option<u32>, place: &Option<Slot>) -> bool
+pub(crate) fn runs_on(component: Option<u32>, place: &Option<Slot>) -> bool
     ensures { result ≡ runs_on component (option_map face_of_slot place.now) }
 {
     match (component, place) {

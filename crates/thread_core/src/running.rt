@@ -1,14 +1,12 @@
 //! Which set runs on each component.
-ghost use Rattle.std.specs.Prelude.{◌≡◌, ℕ, ◌<◌, None, Some, length, map, replicate};
-ghost use Rattle.std.specs.Option.{option_map};
-ghost use Rattle.session_model.specs.Faces.{runs_on};
+ghost use Rattle.std.specs.Prelude.{◌≡◌, ℕ, ◌<◌, None, Some, length, replicate};
 ghost use Rattle.thread_core.specs.Refusing.{slot_faces};
 ghost use Rattle.thread_core.specs.Running.{AreKnown};
-ghost use Rattle.thread_core.specs.Slots.{face_of_slot};
-ghost use Rattle.thread_core.specs.Units.{owner_from};
+ghost use Rattle.thread_slots.specs.Units.{owner_from};
 
-use crate::slot::Slot;
+use crate::refusal::runs_on;
 use std::marker::Model;
+use thread_slots::Slot;
 
 /// For each component the number of the set that runs on it, if one does, as soon as it has been asked for. A core forgets
 /// it where its sets change otherwise than in their counts, so that between changes no occurrence looks at other sets.
@@ -27,25 +25,15 @@ impl Model for RunningSets {
     ghost invariant = { λ s. length s.known ≡ 16 };
 }
 
-/// Whether the set under a number runs on the component.
-fn is_on(place: &Option<Slot>, comp: u32) -> bool
-    ensures { result ≡ runs_on (Some comp) (option_map face_of_slot place.now) }
-{
-    match place {
-        Some(slot) => slot.running && slot.set.component() == Some(comp),
-        None => false,
-    }
-}
-
 /// The number of the set that runs on the component.
 #[cold]
 #[inline(never)]
 fn running_on(slots: &Vec<Option<Slot>>, comp: u32) -> Option<u32>
     requires { length slots.now.items ≡ 64 }
-    ensures { result ≡ owner_from comp 0 (map (option_map face_of_slot) slots.now.items) }
+    ensures { result ≡ owner_from comp 0 (slot_faces slots.now.items) }
 {
     for number in 0..64u32 {
-        if is_on(&slots[number as usize], comp) {
+        if runs_on(Some(comp), &slots[number as usize]) {
             return Some(number);
         }
     }

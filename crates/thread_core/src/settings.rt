@@ -1,8 +1,8 @@
 //! The calls that say how a set counts (PAPI_assign_eventset_component(3), PAPI_set_domain(3), PAPI_set_multiplex(3)).
-use crate::changing::Change;
 use crate::thread::Core;
 use papi_base::Code;
 use postfix_rules::PresetBook;
+use thread_slots::Change;
 
 impl Core {
     ghost use Rattle.session_model.specs.Replies.{plain};

@@ -6,15 +6,11 @@ ghost use Rattle.event_sets.specs.Agreement.{BookFits};
 ghost use Rattle.postfix_rules.specs.Presets.{Book};
 ghost use Rattle.session_model.specs.Account.{Account, opening, time_after};
 ghost use Rattle.session_model.specs.Thresholds.{note, notes_at};
-ghost use Rattle.thread_core.specs.CoreView.{empty_unit};
+ghost use Rattle.thread_slots.specs.Units.{empty_unit};
 ghost use Rattle.session_model.specs.Fitness.{IsShape};
 
-use crate::changing::add_under;
-use crate::counting::{Taken, count_all};
 use crate::refusal::{is_absent, refusal, runs};
 use crate::running::RunningSets;
-use crate::showing::{assigned_under, events_under, values_under};
-use crate::slot::{Slot, empty_places, free_number, new_slot};
 use counter_unit::Unit;
 use event_sets::Refusal;
 use papi_base::{Code, Events, Occ, Shape, Values};
@@ -22,6 +18,10 @@ use postfix_rules::PresetBook;
 use session_model::{Assigned, Call, Named};
 use std::alloc::{AllocError, Global};
 use std::marker::Model;
+use thread_slots::{
+    Slot, Taken, add_under, assigned_under, count_all, empty_places, events_under, free_number,
+    new_slot, values_under,
+};
 
 /// The event sets of one thread, and the units on which they count. A core knows nothing of streams and handlers.
 ///

@@ -1,5 +1,5 @@
 use Rattle.std.proofs.Common.{sym, ◌∙◌}
-use Rattle.thread_core.specs.Slots.{face_of_slot}
+use Rattle.thread_slots.specs.Slots.{face_of_slot}
 use Rattle.thread_core.proofs.Tests.{all_some_of_map}
 use Rattle.thread_core.proofs.refusal.all_taken.Goals as goal
 

@@ -1,7 +1,7 @@
 use Rattle.std.proofs.Common.{sym, ◌∙◌}
 use Rattle.std.specs.Option.{option_map}
 use Rattle.session_model.specs.Faces.{is_running}
-use Rattle.thread_core.specs.Slots.{face_of_slot}
+use Rattle.thread_slots.specs.Slots.{face_of_slot}
 use Rattle.thread_core.proofs.Tests.{list_any_of_map}
 use Rattle.thread_core.proofs.refusal.some_is_running.Goals as goal
 

@@ -7,7 +7,7 @@ use Rattle.session_model.specs.Replies.{done}
 use Rattle.thread_core.specs.CoreView.{CoreView}
 use Rattle.thread_core.specs.Following.{Follows}
 use Rattle.thread_core.specs.Refusing.{slot_faces}
-use Rattle.thread_core.specs.Shown.{IsTellable}
+use Rattle.thread_slots.specs.Shown.{IsTellable}
 use Rattle.thread_core.specs.Stands.{AgreesWith}
 use Rattle.thread_core.proofs.Accumulates.{accum_follows, accum_inside, accum_lengths, accum_refused}
 use Rattle.thread_core.proofs.Ends.{read_inside}

@@ -1,7 +1,7 @@
 use Rattle.std.proofs.Common.{◌≡◌, None, ap, sym, subst, length, ◌∙◌, ◌<◌}
 use Rattle.session_model.specs.Replies.{plain}
 use Rattle.papi_base.specs.declared.code.Code.{Code}
-use Rattle.thread_core.specs.Altering.{IsFor, call_of, code_before}
+use Rattle.thread_slots.specs.Altering.{IsFor, call_of, code_before}
 use Rattle.thread_core.specs.CoreView.{CoreView}
 use Rattle.thread_core.specs.Following.{Follows}
 use Rattle.thread_core.specs.Refusing.{slot_faces}

@@ -1,7 +1,7 @@
 use Rattle.std.proofs.Common.{◌≡◌, List, Option, Some, ap, subst, ◌∙◌}
 use Rattle.session_model.specs.declared.call.Call.TheVariants as call
 use Rattle.session_model.specs.Faces.{at}
-use Rattle.thread_core.specs.declared.slot.Slot.{Slot}
+use Rattle.thread_slots.specs.declared.slot.Slot.{Slot}
 use Rattle.thread_core.specs.CoreView.{CoreView}
 use Rattle.thread_core.proofs.Following.{code_follows, none_refuses}
 use Rattle.thread_core.proofs.Looking.{list_follows}

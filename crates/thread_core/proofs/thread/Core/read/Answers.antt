@@ -2,9 +2,9 @@ use Rattle.std.proofs.Common.{◌≡◌, ◌<◌, ℕ, Some, ap, sym, subst, ◌
 use Rattle.session_model.specs.declared.call.Call.TheVariants as call
 use Rattle.session_model.specs.Account.{time_after}
 use Rattle.session_model.specs.Faces.{at}
-use Rattle.thread_core.specs.declared.slot.Slot.{Slot}
+use Rattle.thread_slots.specs.declared.slot.Slot.{Slot}
 use Rattle.thread_core.specs.CoreView.{CoreView}
-use Rattle.thread_core.specs.Shown.{IsTellable, values_shown}
+use Rattle.thread_slots.specs.Shown.{IsTellable, values_shown}
 use Rattle.thread_core.specs.Stands.{AgreesWith}
 use Rattle.thread_core.proofs.Following.{none_refuses}
 use Rattle.thread_core.proofs.Ends.{read_follows, read_inside, read_refused}

@@ -7,7 +7,7 @@ use Rattle.session_model.specs.Replies.{done}
 use Rattle.thread_core.specs.CoreView.{CoreView}
 use Rattle.thread_core.specs.Following.{Follows}
 use Rattle.thread_core.specs.Refusing.{slot_faces}
-use Rattle.thread_core.specs.Shown.{IsMeasurable, IsTellable}
+use Rattle.thread_slots.specs.Shown.{IsMeasurable, IsTellable}
 use Rattle.thread_core.specs.Stands.{AgreesWith}
 use Rattle.thread_core.proofs.Following.{none_refuses}
 use Rattle.thread_core.proofs.Ends.{stop_follows, stop_inside, stop_refused}

@@ -1,9 +1,0 @@
-use Rattle.std.proofs.Common.{◌≡◌, ◌++◌, drop, length}
-use Rattle.session_model.specs.Values.{sums}
-use Rattle.thread_core.proofs.accumulating.sums.Given as goal
-
-abbrev pub invariant-loop-i : goal.invariant-loop-i
-invariant-loop-i l = record {
-  so_far : length l.added ≡ l.i;
-  done : l.added ++ sums (drop l.i l.values) (drop l.i l.more) ≡ sums l.values l.more;
-}

@@ -1,9 +1,0 @@
-use Rattle.std.proofs.Common.{◌≡◌, ◌++◌, drop, length}
-use Rattle.thread_core.specs.Shown.{turn_numbers}
-use Rattle.thread_core.proofs.measuring.numbers_in_turns.Given as goal
-
-abbrev pub invariant-loop-i : goal.invariant-loop-i
-invariant-loop-i l = record {
-  so_far : length l.numbers ≡ l.i;
-  done : l.numbers ++ turn_numbers l.rotation.turns l.total (drop l.i l.rotation.numbers) (drop l.i l.counts) ≡ turn_numbers l.rotation.turns l.total l.rotation.numbers l.counts;
-}

@@ -1,8 +1,0 @@
-use Rattle.std.proofs.Common.{◌≡◌, replicate, vec_len, None}
-use Rattle.thread_core.proofs.slot.empty_places.Given as goal
-
-abbrev pub invariant-loop : goal.invariant-loop
-invariant-loop l = record {
-  items : l.slots.items ≡ replicate l.counter None;
-  len : vec_len l.slots ≡ l.counter;
-}

@@ -1,9 +1,0 @@
-use Rattle.std.proofs.Common.{◌≡◌, ◌+◌, drop}
-use Rattle.session_model.specs.Faces.{free}
-use Rattle.thread_core.proofs.slot.free_number.Given as goal
-
-abbrev pub invariant-loop-place : goal.invariant-loop-place
-invariant-loop-place l = record {
-  count : l.number ≡ l.place-index;
-  rest : l.number + free (drop l.place-index l.slots) ≡ free l.slots;
-}

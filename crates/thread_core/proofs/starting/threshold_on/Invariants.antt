@@ -1,6 +1,0 @@
-use Rattle.std.proofs.Common.{◌≡◌, drop}
-use Rattle.session_model.specs.Registers.{threshold_among}
-use Rattle.thread_core.proofs.starting.threshold_on.Given as goal
-
-abbrev pub invariant-loop-i : goal.invariant-loop-i
-invariant-loop-i l = threshold_among l.book l.n (drop l.i l.set.rest.events) (drop l.i l.set.rest.thresholds) ≡ threshold_among l.book l.n l.set.rest.events l.set.rest.thresholds

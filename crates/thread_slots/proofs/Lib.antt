@@ -1,0 +1,10 @@
+pub mod Lists
+pub mod Programs
+pub mod Carries
+pub mod Placing
+pub mod Turning
+pub mod Chosen
+pub mod Telling
+pub mod Searching
+pub mod Beginning
+pub mod Summing

@@ -1,0 +1,42 @@
+-- One turn of the loop that counts the natives of the group that runs.
+use Rattle.std.proofs.Common.{◌≡◌, ℕ, zero, suc, ◌+◌, ◌<◌, List, [], ◌∷◌, ◌++◌, length, get_or, set, take, drop, refl, ap, sym, ◌∙◌, arith, Option, Some, slice_get}
+use Rattle.std.specs.Prelude.{◌==◌, if◌then◌else◌}
+use Rattle.std.proofs.lemmas.Bool.{cond-true, cond-false, eq-eqb, ne_eqb}
+use Rattle.papi_base.proofs.InPlace.{in_place_put, in_place_skip, in_place_number, number_at}
+use Rattle.papi_base.specs.declared.occurrence.Occ.{Occ}
+use Rattle.papi_base.specs.declared.native.Native.{Native}
+use Rattle.papi_base.specs.declared.bits.Domain.{Domain}
+use Rattle.papi_base.specs.Weight.{weight_of}
+use Rattle.thread_slots.specs.Counted.{with_turn}
+
+pub length-with_turn : (d : Domain) (before : Option Occ) (o : Occ) (g : ℕ) (ns : List Native) (gs ks : List ℕ) → length gs ≡ length ns → length ks ≡ length ns → length (with_turn d before o g ns gs ks) ≡ length ks
+length-with_turn d before o g [] gs [] e f = refl
+length-with_turn d before o g [] gs (k ∷ ks) e f = absurd (omega arith)
+length-with_turn d before o g (n ∷ ns) [] ks e f = absurd (omega arith)
+length-with_turn d before o g (n ∷ ns) (h ∷ gs) [] e f = refl
+length-with_turn d before o g (n ∷ ns) (h ∷ gs) (k ∷ ks) e f = ap suc (length-with_turn d before o g ns gs ks (omega arith) (omega arith))
+
+get-with_turn : (d : Domain) (before : Option Occ) (o : Occ) (g : ℕ) (ns : List Native) (gs ks : List ℕ) (i : ℕ) (n : Native) → length gs ≡ length ns → length ks ≡ length ns → slice_get ns i ≡ Some n
+    → slice_get (with_turn d before o g ns gs ks) i ≡ Some (get_or ks i 0 + (if g == get_or gs i 0 then weight_of n d before o else 0))
+get-with_turn d before o g [] gs ks i n e f at = cc
+get-with_turn d before o g (m ∷ ns) [] ks i n e f at = absurd (omega arith)
+get-with_turn d before o g (m ∷ ns) (h ∷ gs) [] i n e f at = absurd (omega arith)
+get-with_turn d before o g (m ∷ ns) (h ∷ gs) (k ∷ ks) zero n e f at = let same : m ≡ n = cc in ap (λ (x : Native). Some (k + (if g == h then weight_of x d before o else 0))) same
+get-with_turn d before o g (m ∷ ns) (h ∷ gs) (k ∷ ks) (suc i) n e f at = get-with_turn d before o g ns gs ks i n (omega arith) (omega arith) at
+
+-- one turn of the loop
+pub turn_put : (d : Domain) (before : Option Occ) (o : Occ) (g : ℕ) (ns : List Native) (gs old counts : List ℕ) (i : ℕ) (n : Native) → length gs ≡ length ns → length old ≡ length ns → slice_get ns i ≡ Some n → i < length old → get_or gs i 0 ≡ g
+    → counts ≡ take i (with_turn d before o g ns gs old) ++ drop i old → set counts i (get_or counts i 0 + weight_of n d before o) ≡ take (i + 1) (with_turn d before o g ns gs old) ++ drop (i + 1) old
+turn_put d before o g ns gs old counts i n e f at below is done =
+    let new = with_turn d before o g ns gs old in
+    let same = length-with_turn d before o g ns gs old e f in
+    let read = in_place_number new old counts i same below done in
+    let value = get-with_turn d before o g ns gs old i n e f at ∙ ap (λ (x : ℕ). Some (get_or old i 0 + x)) (cond-true (g == get_or gs i 0) (weight_of n d before o) 0 (eq-eqb g (get_or gs i 0) (sym is))) in
+    in_place_put new old counts i (get_or counts i 0 + weight_of n d before o) same below done (value ∙ ap (λ (x : ℕ). Some (x + weight_of n d before o)) (sym read))
+
+pub turn_skip : (d : Domain) (before : Option Occ) (o : Occ) (g : ℕ) (ns : List Native) (gs old counts : List ℕ) (i : ℕ) (n : Native) → length gs ≡ length ns → length old ≡ length ns → slice_get ns i ≡ Some n → i < length old → (get_or gs i 0 ≡ g → ⊥)
+    → counts ≡ take i (with_turn d before o g ns gs old) ++ drop i old → counts ≡ take (i + 1) (with_turn d before o g ns gs old) ++ drop (i + 1) old
+turn_skip d before o g ns gs old counts i n e f at below isnt done =
+    let value = get-with_turn d before o g ns gs old i n e f at ∙ ap (λ (x : ℕ). Some (get_or old i 0 + x)) (cond-false (g == get_or gs i 0) (weight_of n d before o) 0 (ne_eqb g (get_or gs i 0) (λ is. isnt (sym is)))) in
+    let plain : Some (get_or old i 0 + 0) ≡ Some (get_or old i 0) = ap Some (omega arith) in
+    in_place_skip (with_turn d before o g ns gs old) old counts i (get_or old i 0) (length-with_turn d before o g ns gs old e f) below done (value ∙ plain) (number_at old i below)

@@ -1,0 +1,21 @@
+use Rattle.std.specs.Prelude.{FitsSigned}
+use Rattle.std.specs.Int.{int_wrapping_add}
+use Rattle.std.proofs.Common.{rules, ◌∷◌, ◌∙◌, [], ap₂, arith, w64, length-append}
+use Rattle.std.proofs.lemmas.Int.{to_z-of_z}
+use Rattle.session_model.specs.Values.{sums}
+use Rattle.thread_slots.proofs.Summing.{sums_more}
+use Rattle.thread_slots.proofs.accumulating.sums.Goals as goal
+
+pub loop-i-preserved : goal.loop-i-preserved
+loop-i-preserved c =
+    let v = c.at.result in
+    let x = c.at-in-loop-i.result in
+    let sum = c.wrapped_sum.result in
+    let v_fits : FitsSigned w64 v = search rules in
+    let x_fits : FitsSigned w64 x = search rules in
+    let sum_fits : FitsSigned w64 sum = search rules in
+    let is = c.wrapped_sum.ensures ∙ ap₂ (int_wrapping_add w64) (to_z-of_z w64 v v_fits) (to_z-of_z w64 x x_fits) in
+    rw (c.push.ensures.pushed, to_z-of_z w64 sum sum_fits) record {
+      so_far = omega (arith, length-append c.loop-i.added (sum ∷ []), c.loop-i.invariant.so_far);
+      done = sums_more c.args.values.now c.args.more.now c.loop-i.added (sums c.args.values.now c.args.more.now) c.loop-i.i v x sum c.at.ensures.item c.at-in-loop-i.ensures.item is c.loop-i.invariant.done;
+    }

@@ -1,0 +1,17 @@
+use Rattle.std.proofs.Common.{◌≡◌, ◌∷◌, [], ap, sym, ◌∙◌, arith, Some, slice_get, length-append}
+use Rattle.papi_base.proofs.InPlace.{number_at}
+use Rattle.multiplex.specs.Turns.{active, estimate}
+use Rattle.thread_slots.specs.Shown.{turn_numbers}
+use Rattle.thread_slots.proofs.Telling.{turn_number-more}
+use Rattle.thread_slots.proofs.measuring.numbers_in_turns.Goals as goal
+
+pub loop-i-preserved : goal.loop-i-preserved
+loop-i-preserved c =
+    let i = c.loop-i.i in
+    let r = c.args.rotation.now in
+    let count : slice_get c.args.counts.now i ≡ Some c.at-count.result = number_at c.args.counts.now i (omega arith) ∙ ap Some (sym c.at-count.ensures.item) in
+    let group : slice_get r.numbers i ≡ Some c.group_of.result = number_at r.numbers i (omega (arith, c.requires.same_length)) ∙ ap Some (sym c.group_of.ensures.group) in
+    rw (c.push.ensures.pushed, c.estimate.ensures, c.active-active.ensures.active) record {
+      so_far = omega (arith, length-append c.loop-i.numbers (estimate c.at-count.result c.args.total (active r.turns c.group_of.result c.args.total) ∷ []), c.loop-i.invariant.so_far);
+      done = turn_number-more r.turns c.args.total r.numbers c.args.counts.now c.loop-i.numbers (turn_numbers r.turns c.args.total r.numbers c.args.counts.now) i c.group_of.result c.at-count.result group count c.loop-i.invariant.done;
+    }

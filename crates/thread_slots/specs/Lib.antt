@@ -1,0 +1,12 @@
+pub mod Countable
+pub mod Counted
+pub mod Pinned
+pub mod Slots
+pub mod Units
+pub mod Changed
+pub mod Shown
+pub mod Starting
+pub mod Zeroed
+pub mod Accumulated
+pub mod RawRegister
+pub mod Altering

@@ -1,0 +1,64 @@
+-- The native events of a running set on their counters, with the thresholds of their events: PAPI_start(3), PAPI_overflow(3).
+use Rattle.std.specs.Prelude.{ℕ, ◌+◌, ◌-◌, ◌≡◌, ◌<◌, ◌==◌, if◌then◌else◌, List, [], ◌∷◌, ◌++◌, length, replicate, slice_get, slice_index, slice_set, Option, Some, None}
+use Rattle.std.specs.Option.{option_map_or}
+use Rattle.std.specs.List.{position_or_len}
+use Rattle.std.specs.Int.{bit_at}
+use Rattle.papi_base.specs.declared.native.Native.{Native}
+use Rattle.papi_base.specs.declared.native.EventRef.{EventRef}
+use Rattle.papi_base.specs.declared.bits.Domain.{Domain}
+use Rattle.counter_unit.specs.declared.registers.Register.{Register}
+use Rattle.counter_unit.specs.Counting.{IsThreshold, period, register_at, banked}
+use Rattle.postfix_rules.specs.Presets.{Book, lead}
+use Rattle.postfix_rules.specs.Sameness.{same_native}
+use Rattle.event_sets.specs.Assigning.{counters_for}
+use Rattle.event_sets.specs.AtRest.{AtRest, set_natives}
+use Rattle.session_model.specs.Registers.{threshold_among}
+use Rattle.thread_slots.specs.declared.pins.Pin.{Pin}
+
+-- each native with its counter and its threshold
+abbrev pub pins_from : Book → AtRest → List Native → List ℕ → List Pin
+pins_from book s [] counters = []
+pins_from book s (n ∷ ns) [] = []
+pins_from book s (n ∷ ns) (c ∷ cs) = record { native = n; counter = c; threshold = threshold_among book n s.events s.thresholds } ∷ pins_from book s ns cs
+
+-- the set's natives on the counters of their least assignment
+abbrev pub pins_of : Book → AtRest → List Pin
+pins_of book s = pins_from book s (set_natives book s) (counters_for (set_natives book s))
+
+-- the place of an event's first native among the natives
+abbrev pub place_of_lead : Book → List Native → EventRef → ℕ
+place_of_lead book natives e = option_map_or (λ n. position_or_len (same_native n) natives) (lead book e) (length natives)
+
+-- the counter that an event with a threshold is watched on
+abbrev pub armed_event : Book → List Native → List ℕ → EventRef → ℕ → Option ℕ
+armed_event book natives counters e threshold = if threshold == 0 then None else Some (slice_index counters (place_of_lead book natives e))
+
+abbrev pub armed_from : Book → List Native → List ℕ → List EventRef → List ℕ → List (Option ℕ)
+armed_from book natives counters [] thresholds = []
+armed_from book natives counters (e ∷ es) [] = []
+armed_from book natives counters (e ∷ es) (t ∷ ts) = armed_event book natives counters e t ∷ armed_from book natives counters es ts
+
+-- for each index up to 32 the counter that is watched, if one is
+abbrev pub armed_of : Book → AtRest → List (Option ℕ)
+armed_of book s = armed_from book (set_natives book s) (counters_for (set_natives book s)) s.events s.thresholds ++ replicate (32 - length s.events) None
+
+-- the register of each pin's count, put on its counter
+abbrev pub programs : List ℕ → Domain → (Native → ℕ) → List Pin → List (Option Register) → List (Option Register)
+programs widths d counts [] registers = registers
+programs widths d counts (p ∷ ps) registers = programs widths d counts ps (slice_set registers p.counter (Some (register_at (slice_index widths p.counter) p.native d p.threshold (counts p.native))))
+
+-- what was carried away of a pin's count
+abbrev pub bank_of : List ℕ → (Native → ℕ) → Pin → ℕ
+bank_of widths counts p = banked (slice_index widths p.counter) p.threshold (counts p.native)
+
+-- the banks after some counters carried
+abbrev pub with_carries : List ℕ → ℕ → List Pin → List ℕ → List ℕ
+with_carries widths carry [] banks = []
+with_carries widths carry (p ∷ ps) [] = []
+with_carries widths carry (p ∷ ps) (b ∷ bs) = (if bit_at carry p.counter == 1 then b + period (slice_index widths p.counter) p.threshold else b) ∷ with_carries widths carry ps bs
+
+-- each pin is on a counter that exists, with a threshold that fits, and no two are on the same
+pub record ArePinned (widths : List ℕ) (pins : List Pin) : Type 0 where
+  pub exist : (k : ℕ) (p : Pin) → slice_get pins k ≡ Some p → p.counter < length widths
+  pub fit : (k : ℕ) (p : Pin) → slice_get pins k ≡ Some p → IsThreshold (slice_index widths p.counter) p.threshold
+  pub apart : (j k : ℕ) (p q : Pin) → slice_get pins j ≡ Some p → slice_get pins k ≡ Some q → p.counter ≡ q.counter → j ≡ k

@@ -1,0 +1,158 @@
+//! What one occurrence does to the sets and the units.
+ghost use Rattle.std.specs.Prelude.{◌≡◌, ℕ, ◌^◌, ◌<◌, ◌≤◌, ◌==◌, if◌then◌else◌, map, length, All, None, Some, slice_get};
+ghost use Rattle.std.specs.Option.{option_copied, option_map};
+ghost use Rattle.counter_unit.specs.Counting.{UnitView};
+ghost use Rattle.multiplex.specs.Turns.{group_at};
+ghost use Rattle.thread_slots.specs.declared.slot.Slot.{Slot};
+ghost use Rattle.thread_slots.specs.Countable.{AreCountable, IsCountable};
+ghost use Rattle.thread_slots.specs.Counted.{counted, counted_all, counted_place, with_turn};
+ghost use Rattle.thread_slots.specs.Pinned.{ArePinned, with_carries};
+ghost use Rattle.thread_slots.specs.Slots.{face_of_slot};
+ghost use Rattle.thread_slots.specs.Units.{owner_from};
+
+use crate::pins::Pins;
+use crate::slot::Slot;
+use counter_unit::Unit;
+use counter_unit::unit::period_of;
+use multiplex::Rotation;
+use overflow_dispatch::Passed;
+use papi_base::{Counts, Domain, Natives, Occ, weight};
+
+/// The events whose thresholds one occurrence passed, by their indexes, and the number of their set, 0 where there are
+/// none: PAPI_overflow(3).
+#[derive(Drop)]
+pub struct Taken {
+    pub set: u32,
+    pub passed: Passed,
+}
+
+/// Adds a period to the bank of each pin whose counter carried.
+fn bank_carries(banks: &mut Counts, pins: &Pins, unit: &Unit, carry: u32)
+    requires same_length { length banks.old ≡ length pins.now }
+    requires room { All (λ t. t < 2 ^ 32) banks.old }
+    requires pinned { ArePinned unit.now.widths pins.now }
+    requires few { length unit.now.widths ≤ 32 }
+    ensures { banks.new ≡ with_carries unit.now.widths carry pins.now banks.old }
+{
+    for i in 0..pins.len() {
+        let pin = pins.at(i);
+        if (carry >> pin.counter) & 1 == 1 {
+            let more = period_of(unit.width(pin.counter), pin.threshold);
+            let bank = banks.at(i);
+            banks.put(i, bank + more);
+        }
+    }
+}
+
+/// Counts one occurrence in the native events of the group that runs at this tick.
+fn count_turn(
+    counts: &mut Counts,
+    natives: &Natives,
+    domain: Domain,
+    rotation: &Rotation,
+    tick: u64,
+    before: Option<&Occ>,
+    o: &Occ,
+)
+    requires same_length { length counts.old ≡ length natives.now }
+    requires grouped { length rotation.now.numbers ≡ length natives.now }
+    requires room { All (λ t. t < 2 ^ 32) counts.old }
+    ensures { counts.new ≡ with_turn domain (option_copied before.entry) o.now (group_at rotation.now.turns tick) natives.now rotation.now.numbers counts.old }
+{
+    let group = rotation.group_at(tick);
+    for i in 0..natives.len() {
+        if rotation.group_of(i) == group {
+            let w = weight(&natives.at(i), domain, before, o);
+            let count = counts.at(i);
+            counts.put(i, count + u64::from(w));
+        }
+    }
+}
+
+/// Counts one occurrence for a running set, on the unit of its component, and gives the events whose thresholds it
+/// passes.
+#[inline]
+fn count_slot(unit: &mut Unit, slot: &mut Slot, before: Option<&Occ>, o: &Occ) -> Passed
+    requires { IsCountable unit.old slot.old }
+    ensures unit { unit.new ≡ (counted (option_copied before.entry) o.now unit.old slot.old).unit }
+    ensures slot { slot.new ≡ (counted (option_copied before.entry) o.now unit.old slot.old).slot }
+    ensures passed { result ≡ (counted (option_copied before.entry) o.now unit.old slot.old).passed }
+{
+    match &slot.rotation {
+        Some(rotation) => {
+            let tick = o.stamp.saturating_sub(slot.begun);
+            let natives = slot.set.natives();
+            let domain = slot.set.domain();
+            count_turn(&mut slot.kept, natives, domain, rotation, tick, before, o);
+            Passed::new()
+        }
+        None => {
+            let carry = unit.step(before, o);
+            if carry == 0 {
+                return Passed::new();
+            }
+            bank_carries(&mut slot.kept, &slot.pins, unit, carry);
+            slot.armed.passed(carry)
+        }
+    }
+}
+
+/// Counts one occurrence for what is under a number.
+#[inline]
+fn count_place(unit: &mut Unit, place: &mut Option<Slot>, before: Option<&Occ>, o: &Occ) -> Passed
+    requires { (slot : Slot) → place.old ≡ Some slot → IsCountable unit.old slot }
+    ensures unit { unit.new ≡ (counted_place (option_copied before.entry) o.now unit.old place.old).unit }
+    ensures place { place.new ≡ (counted_place (option_copied before.entry) o.now unit.old place.old).place }
+    ensures passed { result ≡ (counted_place (option_copied before.entry) o.now unit.old place.old).passed }
+{
+    match place {
+        Some(slot) => count_slot(unit, slot, before, o),
+        None => Passed::new(),
+    }
+}
+
+/// The number of the set whose events passed their thresholds, and 0 where none did.
+#[inline]
+fn noting_set(passed: &Passed, number: u32) -> u32
+    ensures { result ≡ (if length passed.now == 0 then 0 else number) }
+{
+    if passed.len() == 0 { 0 } else { number }
+}
+
+/// Counts one occurrence for the set that runs on its component, the runner, if one does.
+#[inline]
+pub fn count_all(
+    units: &mut Vec<Unit>,
+    slots: &mut Vec<Option<Slot>>,
+    before: Option<&Occ>,
+    o: &Occ,
+    runner: Option<u32>,
+) -> Taken
+    requires places { length slots.old.items ≡ 64 }
+    requires runner { runner ≡ owner_from o.now.comp 0 (map (option_map face_of_slot) slots.old.items) }
+    requires countable { (k : ℕ) → owner_from o.now.comp 0 (map (option_map face_of_slot) slots.old.items) ≡ Some k → AreCountable units.old.items slots.old.items o.now.comp k }
+    ensures units { units.new.items ≡ (counted_all (option_copied before.entry) o.now units.old.items slots.old.items).units }
+    ensures slots { slots.new.items ≡ (counted_all (option_copied before.entry) o.now units.old.items slots.old.items).slots }
+    ensures set { result.set ≡ (counted_all (option_copied before.entry) o.now units.old.items slots.old.items).set }
+    ensures passed { result.passed ≡ (counted_all (option_copied before.entry) o.now units.old.items slots.old.items).passed }
+{
+    let comp = u32::from(o.comp);
+    match runner {
+        Some(number) => {
+            let passed = count_place(
+                &mut units[comp as usize],
+                &mut slots[number as usize],
+                before,
+                o,
+            );
+            Taken {
+                set: noting_set(&passed, number),
+                passed,
+            }
+        }
+        None => Taken {
+            set: 0,
+            passed: Passed::new(),
+        },
+    }
+}

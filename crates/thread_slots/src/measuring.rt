@@ -1,0 +1,67 @@
+//! What each native event of a set counted, or is estimated to have.
+ghost use Rattle.std.specs.Prelude.{◌≡◌, ℕ, ◌+◌, ◌*◌, ◌^◌, ◌<◌, ◌≤◌, All, length, slice_index};
+ghost use Rattle.multiplex.specs.Turns.{active};
+ghost use Rattle.thread_slots.specs.Pinned.{ArePinned};
+ghost use Rattle.thread_slots.specs.Shown.{IsMeasurable, numbers_shown, pin_numbers, turn_numbers};
+
+use crate::pins::Pins;
+use crate::slot::Slot;
+use counter_unit::Unit;
+use counter_unit::unit::beginning_of;
+use multiplex::{Rotation, estimate};
+use papi_base::Counts;
+
+/// What each pin has counted: its bank, and what its register is above its beginning.
+fn numbers_on_unit(unit: &Unit, pins: &Pins, banks: &Counts) -> Counts
+    requires same_length { length banks.now ≡ length pins.now }
+    requires room { All (λ t. t < 2 ^ 32) banks.now }
+    requires pinned { ArePinned unit.now.widths pins.now }
+    requires few { length unit.now.widths ≤ 32 }
+    ensures { result ≡ pin_numbers unit.now pins.now banks.now }
+{
+    let mut numbers = Counts::new();
+    for i in 0..pins.len() {
+        let pin = pins.at(i);
+        let bank = banks.at(i);
+        let beginning = beginning_of(unit.width(pin.counter), pin.threshold);
+        let rest = match unit.register(pin.counter) {
+            Some(value) => value.saturating_sub(beginning),
+            None => 0,
+        };
+        numbers.push(bank + rest);
+    }
+    numbers
+}
+
+/// What each native event would have counted, had its group always run.
+fn numbers_in_turns(rotation: &Rotation, total: u64, counts: &Counts) -> Counts
+    requires same_length { length counts.now ≡ length rotation.now.numbers }
+    requires total { total < 2 ^ 32 }
+    requires counts { (k : ℕ) → k < length counts.now → slice_index counts.now k ≤ 255 * active rotation.now.turns (slice_index rotation.now.numbers k) total }
+    ensures { result ≡ turn_numbers rotation.now.turns total rotation.now.numbers counts.now }
+{
+    let mut numbers = Counts::new();
+    for i in 0..counts.len() {
+        let count = counts.at(i);
+        let active = rotation.active(rotation.group_of(i), total);
+        numbers.push(estimate(count, total, active));
+    }
+    numbers
+}
+
+/// What each native event of the set counted, or is estimated to have, at this time in ticks.
+pub fn numbers_of(units: &Vec<Unit>, slot: &Slot, time: u64) -> Counts
+    requires { IsMeasurable units.now.items slot.now time }
+    ensures { result ≡ numbers_shown units.now.items time slot.now }
+{
+    if !slot.running {
+        return slot.kept.copy();
+    }
+    match &slot.rotation {
+        Some(rotation) => numbers_in_turns(rotation, time - slot.begun, &slot.kept),
+        None => match slot.set.component() {
+            Some(comp) => numbers_on_unit(&units[comp as usize], &slot.pins, &slot.kept),
+            None => slot.kept.copy(),
+        },
+    }
+}
