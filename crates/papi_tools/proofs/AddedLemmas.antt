@@ -1,14 +1,13 @@
 -- What is shown of a run's notes.
-use Rattle.std.proofs.Common.{◌≡◌, ℕ, Bool, true, false, List, [], ◌∷◌, length, map, Option, Some, None, Vec, Global, vec_len, refl, sym, ap, ap₂, ◌∙◌, arith}
+use Rattle.std.proofs.Common.{◌≡◌, ℕ, Bool, List, [], ◌∷◌, length, map, Option, Some, None, Vec, Global, vec_len, refl, sym, ap, ◌∙◌, arith}
 use Rattle.std.proofs.lemmas.List.{length-map}
-use Rattle.std.specs.Prelude.{IfSome}
-use Rattle.std.specs.Option.{option_map}
+use Rattle.std.specs.Prelude.{IfOk, IfSome, Result, Ok, Err, is_some}
 use Rattle.std.specs.List.{range_with_len}
 use Rattle.overflow_dispatch.specs.declared.handler.Note.{Note}
-use Rattle.overflow_dispatch.specs.Notes.{EachAdded}
+use Rattle.overflow_dispatch.specs.Notes.{EachAdded, told_since}
 use Rattle.overflow_dispatch.proofs.SinceLemmas.{added_is_told}
 use Rattle.session_model.specs.World.{notes_of_thread}
-use Rattle.papi_tools.specs.Run.{counts_where, ran_notes, shown_notes, told_behind, told_in}
+use Rattle.papi_tools.specs.Run.{note_counts, ran_notes, shown_notes, told_in}
 use Rattle.papi_tools.specs.RunInput.{RunGiven}
 
 -- there is a list of notes for each of the 64 threads, as there are handlers
@@ -18,27 +17,32 @@ as_many told handlers given h =
     let all : length handlers.items ≡ 64 = omega (arith, h) in
     length-map (range_with_len 0 64) (λ t. notes_of_thread t (told_in given)) ∙ sym (length-map handlers.items told ∙ all)
 
--- where each handler has the notes of its thread appended, what is behind the counts is what is shown
-pub shown_is : (wanted : Bool) (before given after : List (List Note)) (counts : Option (List ℕ)) (shown : List Note) → counts ≡ counts_where wanted before →
-    shown ≡ told_behind counts after → length given ≡ length before → EachAdded before given after → shown ≡ shown_notes wanted given
-shown_is false before given after counts shown c s same h = s ∙ ap (λ k. told_behind k after) c
-shown_is true before given after counts shown c s same h = s ∙ ap (λ k. told_behind k after) c ∙ added_is_told before given after same h
+-- where each list had the given notes appended since it was counted, what is behind the counts is what is shown
+pub added_are_shown : {E : Type 0} (counts : Option (Vec ℕ Global)) (c : Vec ℕ Global) (slice : List ℕ) (before given after : List (List Note)) (answer : Result (Vec Note Global) E) →
+    counts ≡ Some c → slice ≡ c.items → IfSome counts (λ k. k.items ≡ note_counts before) → length given ≡ length before → EachAdded before given after →
+    IfOk answer (λ all. all.items ≡ told_since slice after) → IfOk answer (λ all. all.items ≡ shown_notes (is_some counts) given)
+added_are_shown None c slice before given after answer is whole counted same added told = absurd cc
+added_are_shown (Some k) c slice before given after (Err error) is whole counted same added told = tt
+added_are_shown (Some k) c slice before given after (Ok all) is whole counted same added told =
+    let one : k ≡ c = cc in
+    told ∙ ap (λ ks. told_since ks after) (whole ∙ ap (λ (v : Vec ℕ Global). v.items) (sym one) ∙ counted) ∙ added_is_told before given after same added
 
-lengths_of : {X : Type 0} (told : X → List Note) (xs : List X) → map (λ x. length (told x)) xs ≡ map (λ (notes : List Note). length notes) (map told xs)
+-- whether notes are shown, by whether they were counted
+pub shown_is : (wanted counted : Bool) (given : List (List Note)) (shown : List Note) → counted ≡ wanted → shown ≡ shown_notes counted given → shown ≡ shown_notes wanted given
+shown_is wanted counted given shown e s = s ∙ ap (λ w. shown_notes w given) e
+
+lengths_of : {X : Type 0} (told : X → List Note) (xs : List X) → map (λ x. length (told x)) xs ≡ note_counts (map told xs)
 lengths_of told [] = refl
 lengths_of told (x ∷ xs) = ap (λ ns. length (told x) ∷ ns) (lengths_of told xs)
 
-pub counted : {X : Type 0} (told : X → List Note) (wanted : Bool) (xs : List X) (counts : List ℕ) → wanted ≡ true → counts ≡ map (λ x. length (told x)) xs → Some counts ≡ counts_where wanted (map told xs)
-counted told false xs counts w e = absurd cc
-counted told true xs counts w e = ap Some (e ∙ lengths_of told xs)
+pub counted : {X : Type 0} (told : X → List Note) (xs : List X) (counts : List ℕ) → counts ≡ map (λ x. length (told x)) xs → counts ≡ note_counts (map told xs)
+counted told xs counts e = e ∙ lengths_of told xs
 
 -- the counts, where there are any, are as many as the handlers
-pub as_many_counts : {X : Type 0} (told : X → List Note) (wanted : Bool) (before : Vec X Global) (counts : Option (Vec ℕ Global)) (n : ℕ) →
-    option_map (λ c. c.items) counts ≡ counts_where wanted (map told before.items) → vec_len before ≡ 64 → n ≡ 64 → IfSome counts (λ c. vec_len c ≡ n)
-as_many_counts told wanted before None n e b a = tt
-as_many_counts told false before (Some c) n e b a = absurd cc
-as_many_counts told true before (Some c) n e b a =
-    let same : c.items ≡ map (λ (notes : List Note). length notes) (map told before.items) = cc in
+pub as_many_counts : {X : Type 0} (told : X → List Note) (before : Vec X Global) (counts : Option (Vec ℕ Global)) (n : ℕ) →
+    IfSome counts (λ c. c.items ≡ note_counts (map told before.items)) → vec_len before ≡ 64 → n ≡ 64 → IfSome counts (λ c. vec_len c ≡ n)
+as_many_counts told before None n e b a = tt
+as_many_counts told before (Some c) n e b a =
     let long : length c.items ≡ length before.items =
-    ap length same ∙ length-map (map told before.items) (λ (notes : List Note). length notes) ∙ length-map before.items told in
+    ap length e ∙ length-map (map told before.items) (λ (notes : List Note). length notes) ∙ length-map before.items told in
     omega (arith, long, a, b)

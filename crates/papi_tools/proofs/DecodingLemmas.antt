@@ -2,7 +2,7 @@
 use Rattle.std.proofs.Common.{◌≡◌, [], Result, Ok, Err, refl}
 use Rattle.papi_base.specs.Outside.{Held, opened}
 use Rattle.tool_words.specs.declared.decode.DecodeWords.{DecodeWords}
-use Rattle.papi_tools.specs.Decoding.{decode_verdict, decoded_said, shown_in}
+use Rattle.papi_tools.specs.Decoding.{decode_verdict, shown_in}
 use Rattle.papi_tools.specs.Opening.{file_bytes}
 use Rattle.papi_tools.specs.Run.{Verdict, notes_in}
 use Rattle.papi_tools.specs.Steps.{and_then}

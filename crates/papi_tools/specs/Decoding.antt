@@ -1,5 +1,5 @@
 -- What `papi_decode` comes to: the presets of a cpu as a preset file, after papi_decode(1). The text is that of docs/FORMATS.md.
-use Rattle.std.specs.Prelude.{ℕ, Bool, true, false, List, [], Result, Ok, Err}
+use Rattle.std.specs.Prelude.{ℕ, Bool, true, false, List, [], Result, Ok}
 use Rattle.papi_base.specs.Outside.{Held, opened}
 use Rattle.component_table.specs.Books.{available_only, book_of}
 use Rattle.event_tables.specs.Tables.{ComponentText}

@@ -1,10 +1,9 @@
 -- What `papi_run` comes to: the replies to its script's lines, the marks that its runs met, and the notes of each thread,
 -- which follow the replies where `--notes` asks for them.
-use Rattle.std.specs.Prelude.{ℕ, Bool, true, false, List, [], ◌++◌, length, map, Option, Some, None, Result, Ok, Err}
+use Rattle.std.specs.Prelude.{ℕ, Bool, true, false, List, [], ◌++◌, length, map, Result, Ok, Err}
 use Rattle.std.specs.List.{flat_map}
 use Rattle.papi_base.specs.Outside.{Held}
 use Rattle.overflow_dispatch.specs.declared.handler.Note.{Note}
-use Rattle.overflow_dispatch.specs.Notes.{told_since}
 use Rattle.session_model.specs.World.{Told}
 use Rattle.component_table.specs.Catalogs.{CatalogView, catalog_of}
 use Rattle.plan_runner.specs.Runs.{notes_by_thread, world_told}
@@ -61,12 +60,6 @@ abbrev pub notes_in : Result Verdict Refusal → List (List Note)
 notes_in (Ok verdict) = verdict.notes
 notes_in (Err refusal) = []
 
--- how many notes each handler has, where notes are wanted
-abbrev pub counts_where : Bool → List (List Note) → Option (List ℕ)
-counts_where false lists = None
-counts_where true lists = Some (map (λ notes. length notes) lists)
-
--- the notes behind the counts, where there are counts
-abbrev pub told_behind : Option (List ℕ) → List (List Note) → List Note
-told_behind None lists = []
-told_behind (Some counts) lists = told_since counts lists
+-- how many notes each of several lists has
+abbrev pub note_counts : List (List Note) → List ℕ
+note_counts lists = map (λ notes. length notes) lists

@@ -1,6 +1,8 @@
 //! The notes that a run appends to those of the handlers, where they are wanted.
-ghost use Rattle.std.specs.Prelude.{◌≡◌, IfOk, IfSome, map, option_map, vec_len};
-ghost use Rattle.papi_tools.specs.Run.{counts_where, told_behind};
+ghost use Rattle.std.specs.Prelude.{◌≡◌, List, IfOk, IfSome, is_some, length, map, vec_len};
+ghost use Rattle.overflow_dispatch.specs.Notes.{EachAdded};
+ghost use Rattle.overflow_dispatch.specs.declared.handler.Note.{Note};
+ghost use Rattle.papi_tools.specs.Run.{note_counts, shown_notes};
 
 use overflow_dispatch::{Handler, Note, counts_of, notes_since};
 use std::alloc::{AllocError, Global};
@@ -12,7 +14,8 @@ pub fn counts_before(
     wanted: bool,
     handlers: &Vec<Box<dyn Handler + Send>>,
 ) -> Result<Option<Vec<u64>>, AllocError>
-    ensures { IfOk result (λ counts. option_map (λ c. c.items) counts ≡ counts_where wanted (map (λ b. notes b) handlers.now.items)) }
+    ensures wanted { IfOk result (λ counts. is_some counts ≡ wanted) }
+    ensures counted { IfOk result (λ counts. IfSome counts (λ c. c.items ≡ note_counts (map (λ b. notes b) handlers.now.items))) }
 {
     if wanted {
         Ok(Some(counts_of(alloc, handlers)?))
@@ -28,7 +31,9 @@ pub fn notes_behind(
     handlers: &Vec<Box<dyn Handler + Send>>,
 ) -> Result<Vec<Note>, AllocError>
     requires { IfSome counts.now (λ c. vec_len c ≡ vec_len handlers.now) }
-    ensures { IfOk result (λ shown. shown.items ≡ told_behind (option_map (λ c. c.items) counts.now) (map (λ b. notes b) handlers.now.items)) }
+    // Where each handler has been told the given notes since it was counted, these are shown.
+    ensures shown { (before given : List (List Note)) → IfSome counts.now (λ c. c.items ≡ note_counts before) → length given ≡ length before
+        → EachAdded before given (map (λ b. notes b) handlers.now.items) → IfOk result (λ shown. shown.items ≡ shown_notes (is_some counts.now) given) }
 {
     match counts {
         None => Ok(Vec::new(alloc)),

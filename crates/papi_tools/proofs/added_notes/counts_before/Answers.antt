@@ -1,5 +1,5 @@
 use Rattle.papi_tools.proofs.AddedLemmas.{counted}
 use Rattle.papi_tools.proofs.added_notes.counts_before.Goals as goal
 
-pub returns-in_ok-counts_of : goal.returns-in_ok-counts_of
-returns-in_ok-counts_of g c = counted _ _ c.args.handlers.now.items _ c.if-wanted.true c.in_ok-counts_of.ensures
+pub returns-in_ok-counts_of-clause-counted : goal.returns-in_ok-counts_of-clause-counted
+returns-in_ok-counts_of-clause-counted g c = counted _ c.args.handlers.now.items _ c.in_ok-counts_of.ensures
