@@ -1,5 +1,5 @@
 -- The number of a field of hexadecimal digits, byte by byte.
-use Rattle.std.proofs.Common.{◌≡◌, ◌∙◌, ◌+◌, ◌*◌, ◌^◌, ◌<◌, ◌≤◌, ◌≢◌, ◌==◌, ◌&&◌, ◌∷◌, ℕ, Bool, true, false, List, [], Option, Some, None, length, drop, get_or, refl, sym, arith, nat_le, add-one}
+use Rattle.std.proofs.Common.{◌≡◌, ◌∙◌, ◌+◌, ◌*◌, ◌^◌, ◌<◌, ◌≤◌, ◌≢◌, ◌==◌, ◌&&◌, ◌∷◌, ℕ, Bool, true, false, List, [], Option, Some, None, length, drop, get_or, refl, sym, subst, arith, nat_le, add-one, min, ◌⊎◌, inl, inr}
 use Rattle.std.specs.Prelude.{if◌then◌else◌, cond}
 use Rattle.std.specs.List.{list_all}
 use Rattle.std.specs.Char.{digit_value}
@@ -7,7 +7,7 @@ use Rattle.std.specs.Str.Parse.{digits_value, digits_value_after}
 use Rattle.std.proofs.Math.Seq.{drop-cons}
 use Rattle.std.proofs.Math.Nat.{pow-suc, pow-le-pow_right}
 use Rattle.std.proofs.lemmas.List.{drop_all}
-use Rattle.std.proofs.lemmas.Bool.{lt-leb, le-leb, ltb-true}
+use Rattle.std.proofs.lemmas.Bool.{cases_eq, cases_lt, lt-leb, le-leb, ltb-true}
 use Rattle.std.proofs.lemmas.Bool.Decides.{nat_tests}
 use Rattle.papi_base.specs.Numerals.{hex_in, is_hex_digit}
 use Rattle.stream_reader.specs.Fields.{first_field, hex_on}
@@ -115,6 +115,39 @@ digit-none b e = go (is_hex_digit b) refl e
     go : (x : Bool) → is_hex_digit b ≡ x → None ≡ (if x then Some (digit_value b) else None) → is_hex_digit b ≡ false
     go true p q = cc q
     go false p q = p
+
+pub digit-no-space : (b : ℕ) → is_hex_digit b ≡ true → b ≢ 32
+digit-no-space b h e = cc (subst (λ x. is_hex_digit x ≡ true) e h)
+
+-- Digits were read up to here: there is none more, or they are as many as are looked at.
+abbrev pub Stops : List ℕ → ℕ → ℕ → Type 0
+Stops t many i = (is_hex_digit (get_or t i 0) ≡ false) ⊎ (min (length t) many ≤ i)
+
+-- where neither a space nor the end follows
+pub hex-stops : (few many v i : ℕ) (t : List ℕ) → hex_on 0 t ≡ hex_on v (drop i t) → length (first_field t) ≡ i + length (first_field (drop i t)) → Stops t many i
+    → i < length t → get_or t i 0 ≢ 32 → hex_in few many (first_field t) ≡ None
+hex-stops few many v i t rest long stops h other = go (is_hex_digit (get_or t i 0)) refl
+  where
+    g : Goes t i v
+    g = at-digit t i v h other
+
+    go : (x : Bool) → is_hex_digit (get_or t i 0) ≡ x → hex_in few many (first_field t) ≡ None
+    go false p = hex-none few many t (rest ∙ at-other t i v h other p)
+    go true p = elim stops [
+      | inl other_byte ↦ cc (sym p ∙ other_byte)
+      | inr le ↦ hex-long few many (first_field t) (omega (arith, g.long))
+    ]
+
+-- too few digits
+pub hex-few : (few many v i : ℕ) (t : List ℕ) → hex_on 0 t ≡ hex_on v (drop i t) → length (first_field t) ≡ i + length (first_field (drop i t)) → Stops t many i → i < few
+    → hex_in few many (first_field t) ≡ None
+hex-few few many v i t rest long stops less = elim (cases_lt i (length t)) [
+  | inr end ↦ (let e = at-end t i v end in hex-short few many (first_field t) (omega (arith, e.long)))
+  | inl h ↦ elim (cases_eq (get_or t i 0) 32) [
+    | inl space ↦ (let e = at-space t i v h space in hex-short few many (first_field t) (omega (arith, e.long)))
+    | inr other ↦ hex-stops few many v i t rest long stops h other
+  ]
+]
 
 -- ---- a number of at most 16 digits
 

@@ -103,17 +103,17 @@ pub(crate) fn hexadecimal(text: &[u8], few: usize, many: usize) -> Option<Field>
     ensures size { IfSome result (λ f. f.size ≡ length (first_field text.now)) }
     ensures most { IfSome result (λ f. (f.value < 16 ^ f.size) × (few ≤ f.size) × (f.size ≤ many)) }
 {
+    let most = text.len().min(many);
     let mut value: u64 = 0;
     let mut size = 0;
-    while size < text.len() && text[size] != b' ' {
-        let digit = hex_digit(text[size])?;
-        if size == many {
-            return None;
+    while size < most {
+        match hex_digit(text[size]) {
+            Some(digit) => value = value * 16 + digit,
+            None => break,
         }
-        value = value * 16 + digit;
         size += 1;
     }
-    if size < few {
+    if size < few || (size < text.len() && text[size] != b' ') {
         return None;
     }
     Some(Field { value, size })

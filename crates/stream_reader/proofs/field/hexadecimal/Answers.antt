@@ -1,35 +1,27 @@
-use Rattle.std.proofs.Common.{◌∙◌, sym, arith, get_or}
-use Rattle.stream_reader.proofs.Hexadecimals.{Ends, at-space, at-end, at-other, at-digit, digit-some, digit-none, hex-none, hex-long, hex-short, hex-within, hex-small}
+use Rattle.std.proofs.Common.{◌≡◌, ◌∙◌, sym, arith, get_or, inl, inr, length}
+use Rattle.std.proofs.lemmas.Bool.{ltb-true}
+use Rattle.std.proofs.lemmas.Bool.Decides.{nat_tests}
+use Rattle.stream_reader.proofs.Hexadecimals.{Ends, Stops, at-space, at-end, at-digit, digit-some, digit-no-space, digit-none, hex-few, hex-small, hex-stops, hex-within}
 use Rattle.stream_reader.proofs.field.hexadecimal.Goals as goal
-use Rattle.stream_reader.proofs.field.hexadecimal.Goals.{then-loop-size-test+else-text-size-ne32, else-loop-size-test}
-
-pub returns-in_err-digit-clause-value : goal.returns-in_err-digit-clause-value
-returns-in_err-digit-clause-value c =
-    let none = c.loop-size.invariant.rest ∙ at-other c.args.text.now c.loop-size.size c.loop-size.value c.loop-size-test.true c.if-text-size-ne32.true (digit-none (get_or c.args.text.now c.loop-size.size 0) c.in_err-digit.ensures) in
-    rw c.from_residual.ensures (sym (hex-none c.args.few c.args.many c.args.text.now none))
-
-pub returns-then-size-many-clause-value : goal.returns-then-size-many-clause-value
-returns-then-size-many-clause-value c =
-    let g = at-digit c.args.text.now c.loop-size.size c.loop-size.value c.loop-size-test.true c.if-text-size-ne32.true in
-    sym (hex-long c.args.few c.args.many _ (omega (arith, g.long)))
+use Rattle.stream_reader.proofs.field.hexadecimal.Goals.{then-size-few-via-then-size-few, then-size-few-via-else-size-few+then-text-size-ne32, then-size-text, else-size-text, else-loop-size-test, then-loop-size-test+in-None}
 
 pub overflow_mul-value : goal.overflow_mul-value
 overflow_mul-value c =
-    let d = digit-some (get_or c.args.text.now c.loop-size.size 0) c.in_ok-digit.digit c.in_ok-digit.ensures in
-    let s = hex-small c.loop-size.size c.args.many c.loop-size.value c.in_ok-digit.digit (omega arith) c.requires c.loop-size.invariant.small d.small in
+    let d = digit-some (get_or c.args.text.now c.loop-size.size 0) c.in-Some.digit c.in-Some.ensures in
+    let s = hex-small c.loop-size.size c.args.many c.loop-size.value c.in-Some.digit (omega arith) c.requires c.loop-size.invariant.small d.small in
     omega (arith, s.fits)
 
 pub overflow_add-value : goal.overflow_add-value
 overflow_add-value c =
-    let d = digit-some (get_or c.args.text.now c.loop-size.size 0) c.in_ok-digit.digit c.in_ok-digit.ensures in
-    let s = hex-small c.loop-size.size c.args.many c.loop-size.value c.in_ok-digit.digit (omega arith) c.requires c.loop-size.invariant.small d.small in
+    let d = digit-some (get_or c.args.text.now c.loop-size.size 0) c.in-Some.digit c.in-Some.ensures in
+    let s = hex-small c.loop-size.size c.args.many c.loop-size.value c.in-Some.digit (omega arith) c.requires c.loop-size.invariant.small d.small in
     omega (arith, s.fits)
 
 pub loop-size-preserved : goal.loop-size-preserved
 loop-size-preserved c =
-    let d = digit-some (get_or c.args.text.now c.loop-size.size 0) c.in_ok-digit.digit c.in_ok-digit.ensures in
-    let s = hex-small c.loop-size.size c.args.many c.loop-size.value c.in_ok-digit.digit (omega arith) c.requires c.loop-size.invariant.small d.small in
-    let g = at-digit c.args.text.now c.loop-size.size c.loop-size.value c.loop-size-test.true c.if-text-size-ne32.true in
+    let d = digit-some (get_or c.args.text.now c.loop-size.size 0) c.in-Some.digit c.in-Some.ensures in
+    let s = hex-small c.loop-size.size c.args.many c.loop-size.value c.in-Some.digit (omega arith) c.requires c.loop-size.invariant.small d.small in
+    let g = at-digit c.args.text.now c.loop-size.size c.loop-size.value (omega arith) (digit-no-space (get_or c.args.text.now c.loop-size.size 0) d.test) in
     record {
       rest = c.loop-size.invariant.rest ∙ rw d.value (g.value d.test);
       long = omega (arith, g.long);
@@ -39,24 +31,30 @@ loop-size-preserved c =
 
 pub returns-then-size-few-clause-value : goal.returns-then-size-few-clause-value
 returns-then-size-few-clause-value c =
-    let ends : Ends c.args.text.now c.loop-size.size c.loop-size.value = elim c.loop-size-test.branch [
-      | then-loop-size-test+else-text-size-ne32 w ↦ at-space c.args.text.now c.loop-size.size c.loop-size.value w.loop-size-test.true w.if-text-size-ne32.false
-      | else-loop-size-test w ↦ at-end c.args.text.now c.loop-size.size c.loop-size.value w.loop-size-test.false
+    let stops : Stops c.args.text.now c.args.many c.loop-size.size = elim c.loop-size-test.branch [
+      | else-loop-size-test w ↦ inr (omega (arith, c.min-most.ensures, w.loop-size-test.false))
+      | then-loop-size-test+in-None w ↦ inl (digit-none (get_or c.args.text.now c.loop-size.size 0) w.in-None.ensures)
     ] in
-    sym (hex-short c.args.few c.args.many _ (omega (arith, ends.long)))
+    sym (elim c.then-size-few.branch [
+      | then-size-few-via-then-size-few w ↦ hex-few c.args.few c.args.many c.loop-size.value c.loop-size.size c.args.text.now c.loop-size.invariant.rest c.loop-size.invariant.long stops w.if-size-few.true
+      | then-size-few-via-else-size-few+then-text-size-ne32 w ↦ elim w.if-size-text.branch [
+        | then-size-text w' ↦ hex-stops c.args.few c.args.many c.loop-size.value c.loop-size.size c.args.text.now c.loop-size.invariant.rest c.loop-size.invariant.long stops w'.if-size-text.true (grind (arith, nat_tests))
+        | else-size-text w' ↦ (let less = ltb-true c.loop-size.size (length c.args.text.now) (sym w'.value-is ∙ w.if-text-size-ne32.true) in absurd (omega (arith, less, w'.if-size-text.false)))
+      ]
+    ])
 
 pub returns-clause-value : goal.returns-clause-value
 returns-clause-value c =
-    let ends : Ends c.args.text.now c.loop-size.size c.loop-size.value = elim c.loop-size-test.branch [
-      | then-loop-size-test+else-text-size-ne32 w ↦ at-space c.args.text.now c.loop-size.size c.loop-size.value w.loop-size-test.true w.if-text-size-ne32.false
-      | else-loop-size-test w ↦ at-end c.args.text.now c.loop-size.size c.loop-size.value w.loop-size-test.false
+    let ends : Ends c.args.text.now c.loop-size.size c.loop-size.value = elim c.if-size-text.branch [
+      | then-size-text w ↦ (let space : get_or c.args.text.now c.loop-size.size 0 ≡ 32 = grind (arith, nat_tests) in at-space c.args.text.now c.loop-size.size c.loop-size.value w.if-size-text.true space)
+      | else-size-text w ↦ at-end c.args.text.now c.loop-size.size c.loop-size.value w.if-size-text.false
     ] in
     sym (hex-within c.args.few c.args.many c.loop-size.value c.args.text.now (c.loop-size.invariant.rest ∙ ends.value) (omega (arith, ends.long)) (omega (arith, ends.long)))
 
 pub returns-clause-size : goal.returns-clause-size
 returns-clause-size c =
-    let ends : Ends c.args.text.now c.loop-size.size c.loop-size.value = elim c.loop-size-test.branch [
-      | then-loop-size-test+else-text-size-ne32 w ↦ at-space c.args.text.now c.loop-size.size c.loop-size.value w.loop-size-test.true w.if-text-size-ne32.false
-      | else-loop-size-test w ↦ at-end c.args.text.now c.loop-size.size c.loop-size.value w.loop-size-test.false
+    let ends : Ends c.args.text.now c.loop-size.size c.loop-size.value = elim c.if-size-text.branch [
+      | then-size-text w ↦ (let space : get_or c.args.text.now c.loop-size.size 0 ≡ 32 = grind (arith, nat_tests) in at-space c.args.text.now c.loop-size.size c.loop-size.value w.if-size-text.true space)
+      | else-size-text w ↦ at-end c.args.text.now c.loop-size.size c.loop-size.value w.if-size-text.false
     ] in
     omega (arith, ends.long)
