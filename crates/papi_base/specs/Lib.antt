@@ -1,4 +1,5 @@
 pub mod Adapter
+pub mod CallNames
 pub mod Codes
 pub mod Entries
 pub mod MemFiles

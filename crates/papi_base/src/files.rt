@@ -18,6 +18,7 @@ pub struct MemFiles {
     failing: Vec<u64>,
     misses: u64,
     faults: u64,
+    lent: u64,
     ghost some: { 0 < largest },
 }
 
@@ -44,6 +45,7 @@ impl MemFiles {
             failing,
             misses: 0,
             faults: 0,
+            lent: 0,
         }
     }
 }
@@ -108,6 +110,8 @@ impl Files for MemFiles {
 
     ghost faults = { λ f. f.faults };
 
+    ghost lent = { λ f. f.lent };
+
     ghost held = { λ f. Some (record { tapes = entries_of f.tapes.items; refused = f.failing.items }) };
 
     fn open_source(&mut self, name: &str) -> Result<MemSource, OpenFail> {
@@ -118,13 +122,19 @@ impl Files for MemFiles {
             return Err(OpenFail::Failed);
         }
         let answer = source_at(self.alloc, &self.tapes, name, self.largest);
-        if let Err(OpenFail::Absent) = &answer {
-            self.misses = self.misses.saturating_add(1);
+        match &answer {
+            Ok(_) => match self.lent.checked_add(1) {
+                Some(lent) => self.lent = lent,
+                None => return Err(OpenFail::Memory),
+            },
+            Err(OpenFail::Absent) => self.misses = self.misses.saturating_add(1),
+            Err(_) => {}
         }
         answer
     }
 
     fn close_source(&mut self, source: MemSource) {
+        self.lent = self.lent.saturating_sub(1);
         if source.has_failed() {
             self.faults = self.faults.saturating_add(1);
         }

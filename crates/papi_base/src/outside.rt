@@ -1,7 +1,7 @@
 // What the program asks of its outside: sources that give bytes, sinks that take them, and files by name.
-ghost use Rattle.std.specs.Prelude.{◌≡◌, ◌<◌, ◌≤◌, ℕ, List, length, take, IfOk, IfErr, IfSome, OnOk, OnErr, IsErr, IsErrOf, Option};
+ghost use Rattle.std.specs.Prelude.{◌≡◌, ◌<◌, ◌≤◌, ◌-◌, ℕ, List, length, take, IfOk, IfErr, IfSome, OnOk, OnErr, IsErr, IsErrOf, Option};
 ghost use Rattle.std.specs.Option.{option_map};
-ghost use Rattle.papi_base.specs.Outside.{Tape, Gives, Rose, tape_after, appended, Held, opened, IsOpened};
+ghost use Rattle.papi_base.specs.Outside.{Tape, Gives, Rose, tape_after, appended, Held, lent_after, opened, IsOpened};
 
 use thiserror::Error;
 
@@ -47,6 +47,7 @@ pub trait Source: Drop {
     fn read(&mut self, buf: &mut [u8]) -> Result<usize, Failed>
         ensures bound { IfOk result (λ n. n ≤ length buf.new) }
         ensures falls_never { faults self.old ≤ faults self.new }
+        ensures quiet { OnOk result (faults self.new ≡ faults self.old) }
         ensures failed { OnErr result (Rose (faults self.old) (faults self.new)) }
         ensures tape { tape self.new ≡ tape_after result (tape self.old) }
         ensures gives { IfSome (tape self.old) (λ tape. Gives tape result buf.new) };
@@ -101,6 +102,9 @@ pub trait Files {
     /// How often an opening or a source has failed.
     ghost faults: { Self → ℕ };
 
+    /// How many of its sources are out: opened, and not closed yet.
+    ghost lent: { Self → ℕ };
+
     /// The files and the openings that fail, where it tells.
     ghost held: { Self → Option Held };
 
@@ -109,6 +113,7 @@ pub trait Files {
         ensures answer { IfSome (held self.old) (λ held. IsOpened Self.S.tape result held name.now) }
         ensures held { held self.new ≡ option_map opened (held self.old) }
         ensures fresh { IfOk result (λ source. Self.S.faults source ≡ 0) }
+        ensures lent { lent self.new ≡ lent_after result (lent self.old) }
         ensures absent { IsErrOf result OpenFail.Absent → Rose (misses self.old) (misses self.new) }
         ensures failed { IsErrOf result OpenFail.Failed → Rose (faults self.old) (faults self.new) }
         ensures misses_stay { misses self.old ≤ misses self.new }
@@ -118,6 +123,7 @@ pub trait Files {
     fn close_source(&mut self, source: Self::S)
         ensures faulty { 0 < Self.S.faults source → Rose (faults self.old) (faults self.new) }
         ensures quiet { Self.S.faults source ≡ 0 → faults self.new ≡ faults self.old }
+        ensures lent { lent self.new ≡ lent self.old - 1 }
         ensures held { held self.new ≡ held self.old }
         ensures misses_stay { misses self.old ≤ misses self.new }
         ensures faults_stay { faults self.old ≤ faults self.new };

@@ -14,6 +14,7 @@ pub struct SureFiles {
     tapes: Vec<(String, Vec<u8>)>,
     largest: usize,
     misses: u64,
+    lent: u64,
     ghost some: { 0 < largest },
 }
 
@@ -30,6 +31,7 @@ impl SureFiles {
             tapes,
             largest,
             misses: 0,
+            lent: 0,
         }
     }
 }
@@ -62,15 +64,24 @@ impl Files for SureFiles {
 
     ghost faults = { λ _. 0 };
 
+    ghost lent = { λ f. f.lent };
+
     ghost held = { λ f. Some (record { tapes = sure_entries f.tapes.items; refused = [] }) };
 
     fn open_source(&mut self, name: &str) -> Result<SureSource, OpenFail> {
         let answer = sure_source_at(self.alloc, &self.tapes, name, self.largest);
-        if let Err(OpenFail::Absent) = &answer {
-            self.misses = self.misses.saturating_add(1);
+        match &answer {
+            Ok(_) => match self.lent.checked_add(1) {
+                Some(lent) => self.lent = lent,
+                None => return Err(OpenFail::Memory),
+            },
+            Err(OpenFail::Absent) => self.misses = self.misses.saturating_add(1),
+            Err(_) => {}
         }
         answer
     }
 
-    fn close_source(&mut self, _source: SureSource) {}
+    fn close_source(&mut self, _source: SureSource) {
+        self.lent = self.lent.saturating_sub(1);
+    }
 }

@@ -41,6 +41,7 @@ pub fn read_whole<S: Source>(
     // Told or not:
     ensures small { IfOk result (λ bytes. length bytes.items ≤ limit) }
     ensures failed { IsErrOf result WholeFault.Failed → Rose (S.faults source.old) (S.faults source.new) }
+    ensures quiet { OnOk result (S.faults source.new ≡ S.faults source.old) }
     ensures falls_never { S.faults source.old ≤ S.faults source.new }
 {
     let mut bytes = Vec::new(alloc);
