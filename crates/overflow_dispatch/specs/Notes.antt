@@ -21,6 +21,15 @@ pub record EachBegun (before given after : List (List Note)) : Type 0 where
   pub same_length : length after ≡ length before
   pub begun : (t : ℕ) → t < length before → Begun (slice_index_or before t []) (slice_index_or given t []) (slice_index_or after t [])
 
+-- after is before with some notes appended
+abbrev pub Grown : List Note → List Note → Type 0
+Grown before after = (more : List Note) × (after ≡ before ++ more)
+
+-- each of several lists has some notes appended
+pub record EachGrown (before after : List (List Note)) : Type 0 where
+  pub same_length : length after ≡ length before
+  pub grown : (t : ℕ) → t < length before → Grown (slice_index_or before t []) (slice_index_or after t [])
+
 -- the notes of several lists behind so many of each, list by list
 abbrev pub told_since : List ℕ → List (List Note) → List Note
 told_since [] lists = []

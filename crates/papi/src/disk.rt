@@ -35,6 +35,7 @@ pub struct DiskFiles<'a> {
     rt: &'a HostRuntime,
     misses: u64,
     faults: u64,
+    lent: u64,
 }
 
 impl<'a> DiskFiles<'a> {
@@ -44,6 +45,7 @@ impl<'a> DiskFiles<'a> {
             rt,
             misses: 0,
             faults: 0,
+            lent: 0,
         }
     }
 }
@@ -55,11 +57,19 @@ impl<'a> Files for DiskFiles<'a> {
 
     ghost faults = { λ f. f.faults };
 
+    ghost lent = { λ f. f.lent };
+
     ghost held = { λ _. None };
 
     fn open_source(&mut self, name: &str) -> Result<DiskSource, OpenFail> {
         match fs::open(self.rt, name) {
-            Ok(file) => Ok(DiskSource { file, faults: 0 }),
+            Ok(file) => match self.lent.checked_add(1) {
+                Some(lent) => {
+                    self.lent = lent;
+                    Ok(DiskSource { file, faults: 0 })
+                }
+                None => Err(OpenFail::Memory),
+            },
             Err(error) => {
                 if error.kind() == ErrorKind::NotFound {
                     self.misses = self.misses.saturating_add(1);
@@ -73,6 +83,7 @@ impl<'a> Files for DiskFiles<'a> {
     }
 
     fn close_source(&mut self, source: DiskSource) {
+        self.lent = self.lent.saturating_sub(1);
         if source.faults != 0 {
             self.faults = self.faults.saturating_add(1);
         }
