@@ -1,10 +1,13 @@
-// Tasks, worked by several workers at the same time.
+//! Tasks, worked by several workers at the same time.
 #![tactic(auto)]
 
-ghost use Rattle.std.specs.Prelude.{ℕ, ◌≤◌};
+ghost use Rattle.std.specs.Prelude.{ℕ, ◌≡◌, ◌≤◌, length};
 ghost use Rattle.std.specs.Thread.{IsSync, IsSend};
 ghost use Rattle.parallel_tasks.specs.Each.{Each, AtEach};
 
+pub mod cut;
+
+use cut::cut;
 use std::marker::{Send, Sync};
 use std::thread::{Threads, join_mut};
 
@@ -13,6 +16,12 @@ pub trait Task<B> {
     ghost ready: { B → Self → Type 0 };
 
     ghost done: { B → Self → Self → Type 0 };
+
+    ghost load: { Self → ℕ };
+
+    /// How much work the task asks for, in a unit of its own. The tasks are dealt by it.
+    fn load(&self) -> u32
+        ensures { result ≡ load self.now };
 
     /// Does the work.
     fn work(&mut self, book: &B)
@@ -30,15 +39,16 @@ fn work_in_turn<B, T: Task<B>>(book: &B, tasks: &mut [T])
     }
 }
 
-/// Works the tasks by this many workers, each with an even part of them.
+/// Works the tasks by this many workers, each with at least one of them.
 #[cycle(workers)]
 fn work_slice<R: Threads + Sync, B: Sync, T: Task<B> + Send>(
     rt: &R,
     book: &B,
-    workers: usize,
+    workers: u32,
     tasks: &mut [T],
 )
-    requires { AtEach (T.ready book.now) tasks.old }
+    requires enough { workers ≤ length tasks.old }
+    requires ready { AtEach (T.ready book.now) tasks.old }
     ensures { Each (T.done book.now) tasks.old tasks.new }
 {
     if workers <= 1 {
@@ -46,38 +56,41 @@ fn work_slice<R: Threads + Sync, B: Sync, T: Task<B> + Send>(
         return;
     }
     let low = workers / 2;
-    let middle = tasks.len() / workers * low;
+    let middle = cut(tasks, low, workers);
     let (front, back) = tasks.split_at_mut(middle);
-    work_halves(rt, book, low, front, workers - low, back);
+    work_parts(rt, book, low, front, workers - low, back);
 }
 
-/// Works the two halves at the same time.
+/// Works the two parts at the same time.
 #[cycle(workers)]
-fn work_halves<R: Threads + Sync, B: Sync, T: Task<B> + Send>(
+fn work_parts<R: Threads + Sync, B: Sync, T: Task<B> + Send>(
     rt: &R,
     book: &B,
-    low: usize,
+    low: u32,
     front: &mut [T],
-    high: usize,
+    high: u32,
     back: &mut [T],
 )
+    requires low { low ≤ length front.old }
     requires front { AtEach (T.ready book.now) front.old }
+    requires high { high ≤ length back.old }
     requires back { AtEach (T.ready book.now) back.old }
     ensures front { Each (T.done book.now) front.old front.new }
     ensures back { Each (T.done book.now) back.old back.new }
 {
     let mut first = ||
-        requires { IsSync R.row × IsSync B.row × IsSend T.row × AtEach (T.ready book.now) front.now }
+        requires { IsSync R.row × IsSync B.row × IsSend T.row × (low ≤ length front.now) × AtEach (T.ready book.now) front.now }
         ensures { Each (T.done book.entry.now) front.entry.now front.exit.now }
     { work_slice(rt, book, low, front) };
     let mut second = ||
-        requires { IsSync R.row × IsSync B.row × IsSend T.row × AtEach (T.ready book.now) back.now }
+        requires { IsSync R.row × IsSync B.row × IsSend T.row × (high ≤ length back.now) × AtEach (T.ready book.now) back.now }
         ensures { Each (T.done book.entry.now) back.entry.now back.exit.now }
     { work_slice(rt, book, high, back) };
     join_mut(rt, &mut first, &mut second);
 }
 
-/// Works all tasks by at most this many workers, 1 to 64. Each worker has an even part of the tasks, in their order. No memory is taken.
+/// Works all tasks by at most this many workers, 1 to 64. Each worker has a run of neighbours, so cut that each asks for about as much work; none has no task
+/// while there are as many tasks as workers. No memory is taken.
 pub fn work_tasks<R: Threads + Sync, B: Sync, T: Task<B> + Send>(
     rt: &R,
     book: &B,
@@ -89,7 +102,7 @@ pub fn work_tasks<R: Threads + Sync, B: Sync, T: Task<B> + Send>(
     requires ready { AtEach (T.ready book.now) tasks.old.items }
     ensures { Each (T.done book.now) tasks.old.items tasks.new.items }
 {
-    let parts = (workers as usize).min(tasks.len());
+    let parts = (workers as usize).min(tasks.len()) as u32;
     work_slice(rt, book, parts, tasks.as_mut_slice());
 }
 

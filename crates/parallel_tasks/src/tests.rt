@@ -1,7 +1,8 @@
+use crate::cut::cut;
 use crate::{Task, work_tasks};
 use std::alloc::AllocError;
 
-/// A number to which the book's is added once.
+/// A number to which the book's is added once. It asks for as much work as the number says.
 #[derive(Drop)]
 struct Adding {
     number: u32,
@@ -13,6 +14,12 @@ impl Task<u32> for Adding {
     ghost ready = { λ offset task. ⊤ };
 
     ghost done = { λ offset old new. new.number ≡ (old.number + offset) % 2 ^ 32 };
+
+    ghost load = { λ task. task.number };
+
+    fn load(&self) -> u32 {
+        self.number
+    }
 
     fn work(&mut self, book: &u32) {
         self.number = self.number.wrapping_add(*book);
@@ -32,4 +39,20 @@ fn each_task_is_worked_once_by_any_number_of_workers(rt: HostRuntime) -> Result<
         }
     }
     Ok(())
+}
+
+#[test]
+fn the_cut_is_where_the_work_is_even(rt: HostRuntime) {
+    let cuts = [
+        ([5, 5, 5, 5], 2, 4, 2),
+        ([1, 1, 1, 3], 1, 2, 3),
+        ([0, 0, 9, 9], 1, 2, 3),
+        ([900, 1, 1, 1], 1, 2, 1),
+        ([900, 1, 1, 1], 2, 4, 2),
+        ([4, 4, 4, 0], 1, 3, 1),
+    ];
+    for (numbers, low, workers, want) in cuts {
+        let tasks = numbers.map(|number| Adding { number });
+        assert_eq!(rt; cut(&tasks, low, workers), want, "{numbers:?}");
+    }
 }
