@@ -1,5 +1,5 @@
 -- What written out words ask for.
-use Rattle.std.proofs.Common.{◌≡◌, Bool, true, false, List, [], ◌∷◌, Option, Some, None, refl, codes}
+use Rattle.std.proofs.Common.{◌≡◌, ℕ, zero, suc, Bool, true, false, List, [], ◌∷◌, Option, Some, None, refl, codes}
 use Rattle.clap.specs.Words.{Text}
 use Rattle.clap.proofs.OnLiterals.{clap_on_literals}
 use Rattle.tool_words.specs.declared.command.Command.{Command}
@@ -12,14 +12,16 @@ use Rattle.tool_words.specs.declared.run.RunWords.{RunWords}
 use Rattle.tool_words.specs.DecodeForm.{available_rule, decode_app, decode_form, decode_words_in}
 use Rattle.tool_words.specs.Options.{unit_rule}
 use Rattle.tool_words.specs.Presets.{cpu_rule, is_cpu, needed_cpu_rule, needed_presets_rule, presets_rule}
-use Rattle.tool_words.specs.RunForm.{notes_rule, run_app, run_form, run_words_in, script_rule, streams_rule}
+use Rattle.tool_words.specs.RunForm.{notes_rule, run_app, run_form, run_words_in, script_rule}
+use Rattle.tool_words.specs.Streams.{streams_rule}
+use Rattle.tool_words.specs.Workers.{workers_rule}
 
 unfoldable on_words : Unit {0}
-unfolding clap_on_literals unit_rule presets_rule cpu_rule is_cpu run_form run_words_in run_app notes_rule script_rule streams_rule encode_form encode_words_in encode_app names_rule decode_form decode_words_in decode_app needed_presets_rule needed_cpu_rule available_rule
+unfolding clap_on_literals unit_rule presets_rule cpu_rule is_cpu run_form run_words_in run_app workers_rule notes_rule script_rule streams_rule encode_form encode_words_in encode_app names_rule decode_form decode_words_in decode_app needed_presets_rule needed_cpu_rule available_rule
 on_words = tt
 
 abbrev lab_run : Text → List Text → Command
-lab_run unit streams = Run (record { unit = unit; presets = None; notes = false; script = codes "s"; streams = streams })
+lab_run unit streams = Run (record { unit = unit; presets = None; workers = 1; notes = false; script = codes "s"; streams = streams })
 
 pub no_stream : form (codes "papi_run" ∷ codes "-U" ∷ codes "lab.unit" ∷ codes "s" ∷ []) ≡ Some (lab_run (codes "lab.unit") [])
 unfolding on_words
@@ -33,13 +35,9 @@ pub behind_dashes : form (codes "papi_run" ∷ codes "-U=-x" ∷ codes "s" ∷ c
 unfolding on_words
 behind_dashes = refl
 
-pub two_streams : form (codes "papi_run" ∷ codes "-U" ∷ codes "lab.unit" ∷ codes "s" ∷ codes "t0" ∷ codes "t1" ∷ []) ≡ None
+pub streams_in_order : form (codes "papi_run" ∷ codes "s" ∷ codes "t0" ∷ codes "-U" ∷ codes "lab.unit" ∷ codes "t1" ∷ codes "t0" ∷ []) ≡ Some (lab_run (codes "lab.unit") (codes "t0" ∷ codes "t1" ∷ codes "t0" ∷ []))
 unfolding on_words
-two_streams = refl
-
-pub two_streams_apart : form (codes "papi_run" ∷ codes "s" ∷ codes "t0" ∷ codes "-U" ∷ codes "lab.unit" ∷ codes "t1" ∷ []) ≡ None
-unfolding on_words
-two_streams_apart = refl
+streams_in_order = refl
 
 pub alone : form (codes "papi_run" ∷ []) ≡ None
 unfolding on_words
@@ -69,7 +67,7 @@ abbrev run_words : List Text → List Text
 run_words more = codes "papi_run" ∷ codes "-U" ∷ codes "lab.unit" ∷ run_with more
 
 abbrev asked_run : Option PresetWords → Bool → Option RunWords
-asked_run presets notes = Some (record { unit = codes "lab.unit"; presets = presets; notes = notes; script = codes "s"; streams = [] })
+asked_run presets notes = Some (record { unit = codes "lab.unit"; presets = presets; workers = 1; notes = notes; script = codes "s"; streams = [] })
 
 pub presets_and_notes : run_form (run_words (codes "-Pp" ∷ codes "--notes" ∷ codes "-C" ∷ codes "lab 2" ∷ [])) ≡ asked_run (lab_presets (codes "lab 2")) true
 unfolding on_words
@@ -103,6 +101,61 @@ space_behind_cpu = refl
 pub notes_twice : run_form (run_words (codes "--notes" ∷ codes "--notes" ∷ [])) ≡ None
 unfolding on_words
 notes_twice = refl
+
+abbrev on_workers : ℕ → Option RunWords
+on_workers workers = Some (record { unit = codes "lab.unit"; presets = None; workers = workers; notes = false; script = codes "s"; streams = [] })
+
+pub one_worker : run_form (run_words (codes "--workers" ∷ codes "1" ∷ [])) ≡ on_workers 1
+unfolding on_words
+one_worker = refl
+
+pub most_workers : run_form (run_words (codes "--workers=64" ∷ [])) ≡ on_workers 64
+unfolding on_words
+most_workers = refl
+
+pub zero_before : run_form (run_words (codes "--workers" ∷ codes "02" ∷ [])) ≡ on_workers 2
+unfolding on_words
+zero_before = refl
+
+pub plus_before : run_form (run_words (codes "--workers" ∷ codes "+2" ∷ [])) ≡ on_workers 2
+unfolding on_words
+plus_before = refl
+
+pub no_worker : run_form (run_words (codes "--workers" ∷ codes "0" ∷ [])) ≡ None
+unfolding on_words
+no_worker = refl
+
+pub a_worker_too_many : run_form (run_words (codes "--workers" ∷ codes "65" ∷ [])) ≡ None
+unfolding on_words
+a_worker_too_many = refl
+
+pub no_number_of_workers : run_form (run_words (codes "--workers" ∷ codes "two" ∷ [])) ≡ None
+unfolding on_words
+no_number_of_workers = refl
+
+pub empty_number_of_workers : run_form (run_words (codes "--workers=" ∷ [])) ≡ None
+unfolding on_words
+empty_number_of_workers = refl
+
+pub workers_twice : run_form (run_words (codes "--workers=2" ∷ codes "--workers=2" ∷ [])) ≡ None
+unfolding on_words
+workers_twice = refl
+
+-- so many streams
+abbrev streams : ℕ → List Text
+streams zero = []
+streams (suc n) = codes "t" ∷ streams n
+
+abbrev streams_run : ℕ → List Text
+streams_run n = codes "papi_run" ∷ codes "-U" ∷ codes "lab.unit" ∷ codes "s" ∷ streams n
+
+pub a_stream_for_each_thread : form (streams_run 64) ≡ Some (lab_run (codes "lab.unit") (streams 64))
+unfolding on_words
+a_stream_for_each_thread = refl
+
+pub a_stream_too_many : form (streams_run 65) ≡ None
+unfolding on_words
+a_stream_too_many = refl
 
 -- ---- `papi_decode`
 

@@ -1,3 +1,4 @@
 pub mod FormLemmas
 pub mod CommandLemmas
+pub mod NumberLemmas
 pub mod Examples

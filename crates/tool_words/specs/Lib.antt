@@ -1,6 +1,9 @@
 pub mod Words
 pub mod Options
+pub mod Numbers
 pub mod Presets
+pub mod Workers
+pub mod Streams
 pub mod RunForm
 pub mod EncodeForm
 pub mod DecodeForm

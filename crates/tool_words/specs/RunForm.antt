@@ -1,12 +1,16 @@
--- The words of `papi_run`, a tool of this project, in the words of `clap`: `-U UNIT [-P PRESETS -C CPU] [--notes] SCRIPT [STREAM]`.
-use Rattle.std.specs.Prelude.{Bool, List, [], length, Option, Some, None, if◌then◌else◌, nat_le, true, codes, option_map}
+-- The words of `papi_run`, a tool of this project, in the words of `clap`:
+-- `-U UNIT [-P PRESETS -C CPU] [--workers N] [--notes] SCRIPT [STREAM..]`.
+use Rattle.std.specs.Prelude.{ℕ, Bool, List, Option, Some, None, true, codes, option_and_then}
 use Rattle.clap.specs.Words.{App, Row, Rule, Text, all_of, first_of, new_app, new_rule, with_rule}
-use Rattle.clap.specs.declared.builder.ArgAction.TheVariants.{Append, SetTrue}
+use Rattle.clap.specs.declared.builder.ArgAction.TheVariants.{SetTrue}
 use Rattle.tool_words.specs.declared.presets.PresetWords.{PresetWords}
 use Rattle.tool_words.specs.declared.run.RunWords.{RunWords}
+use Rattle.tool_words.specs.Numbers.{number_of}
 use Rattle.tool_words.specs.Options.{is_set, unit_rule}
 use Rattle.tool_words.specs.Presets.{cpu_rule, presets_asked, presets_rule}
+use Rattle.tool_words.specs.Streams.{streams_asked, streams_rule}
 use Rattle.tool_words.specs.Words.{read_by}
+use Rattle.tool_words.specs.Workers.{workers_of, workers_rule}
 
 unfoldable pub notes_rule : Rule
 notes_rule = record (new_rule (codes "notes")) { long = Some (codes "notes"); action = Some SetTrue }
@@ -14,32 +18,22 @@ notes_rule = record (new_rule (codes "notes")) { long = Some (codes "notes"); ac
 unfoldable pub script_rule : Rule
 script_rule = record (new_rule (codes "script")) { required = true }
 
-unfoldable pub streams_rule : Rule
-streams_rule = record (new_rule (codes "streams")) {
-  action = Some Append;
-  range = Some (record { start_inclusive = 0; end_inclusive = 1 });
-}
-
 unfoldable pub run_app : App
-run_app = with_rule (with_rule (with_rule (with_rule (with_rule (with_rule (new_app (codes "papi_run"))
-    unit_rule) presets_rule) cpu_rule) notes_rule) script_rule) streams_rule
-
--- the streams that are named, of which there is at most one
-abbrev pub few_streams : Option (List Text) → Option (List Text)
-few_streams None = Some []
-few_streams (Some names) = if nat_le (length names) 1 then Some names else None
+run_app = with_rule (with_rule (with_rule (with_rule (with_rule (with_rule (with_rule (new_app (codes "papi_run"))
+    unit_rule) presets_rule) cpu_rule) workers_rule) notes_rule) script_rule) streams_rule
 
 -- what the values of the arguments ask for
-abbrev pub run_words : Option Text → Option (Option PresetWords) → Bool → Option Text → Option (List Text) → Option RunWords
-run_words (Some unit) (Some presets) notes (Some script) streams =
-    option_map (λ names. record { unit = unit; presets = presets; notes = notes; script = script; streams = names }) (few_streams streams)
-run_words _ _ _ _ _ = None
+abbrev pub run_words : Option Text → Option (Option PresetWords) → Option ℕ → Bool → Option Text → Option (List Text) → Option RunWords
+run_words (Some unit) (Some presets) (Some workers) notes (Some script) (Some streams) =
+    Some (record { unit = unit; presets = presets; workers = workers; notes = notes; script = script; streams = streams })
+run_words _ _ _ _ _ _ = None
 
 -- what the matches of the words ask for
 unfoldable pub run_words_in : List Row → Option RunWords
 run_words_in rows =
     run_words (first_of (codes "unit") rows) (presets_asked (first_of (codes "presets") rows) (first_of (codes "cpu") rows))
-    (is_set (first_of (codes "notes") rows)) (first_of (codes "script") rows) (all_of (codes "streams") rows)
+    (option_and_then workers_of (number_of (codes "workers") rows)) (is_set (first_of (codes "notes") rows))
+    (first_of (codes "script") rows) (streams_asked (all_of (codes "streams") rows))
 
 -- what the words ask for, of which the first is the tool's name
 unfoldable pub run_form : List Text → Option RunWords

@@ -1,8 +1,8 @@
 //! The words of each tool, read by `clap`, and what they ask for.
 #![tactic(auto)]
 
-ghost use Rattle.std.specs.Prelude.{◌≡◌, IfOk, map, string_bytes};
-ghost use Rattle.tool_words.specs.Form.{HasFewStreams, form, tool_of};
+ghost use Rattle.std.specs.Prelude.{◌≡◌, map, string_bytes};
+ghost use Rattle.tool_words.specs.Form.{form, tool_of};
 ghost use Rattle.tool_words.specs.Words.{Answers};
 
 pub mod command;
@@ -13,7 +13,9 @@ mod matches;
 mod options;
 pub mod presets;
 pub mod run;
+pub mod streams;
 pub mod texts;
+pub mod workers;
 
 pub use command::Command;
 pub use decode::{DecodeWords, read_decode_words};
@@ -22,15 +24,16 @@ pub use fault::WordsFault;
 pub use presets::PresetWords;
 pub use run::{RunWords, read_run_words};
 use std::alloc::Global;
+pub use streams::StreamNames;
 pub use texts::Texts;
+pub use workers::{MOST_WORKERS, Workers};
 
-/// What a program's words behind its own name ask for: the first is a tool's name, the others are that tool's words.
+/// What a program's words after its own name ask for: the first is a tool's name, the others are that tool's words.
 ///
 /// Each tool's words are those of a simple command of `clap`. A name that is no tool's, words outside the tool's form,
 /// and a request for help or for the version are bad words.
 pub fn read_words(alloc: Global, words: &[String]) -> Result<Command, WordsFault>
-    ensures few { IfOk result HasFewStreams }
-    ensures asked { Answers result (form (map string_bytes words.now)) }
+    ensures { Answers result (form (map string_bytes words.now)) }
 {
     match tool_in(words) {
         "papi_run" => Ok(Command::Run(read_run_words(alloc, words)?)),

@@ -1,7 +1,8 @@
 //! The words as `clap` matches them, and the values of their arguments.
 
-ghost use Rattle.std.specs.Prelude.{◌≡◌, ◌≤◌, [], IfOk, length, map, option_map, string_bytes, true};
+ghost use Rattle.std.specs.Prelude.{◌≡◌, IfOk, map, option_map, string_bytes, true};
 ghost use Rattle.clap.specs.Words.{all_of, app_of, first_of, found_of, is_simple_and_free, rows_of};
+ghost use Rattle.tool_words.specs.Numbers as Numbers;
 ghost use Rattle.tool_words.specs.Words.{IsMatched};
 
 use crate::fault::{WordsFault, fault_by};
@@ -29,6 +30,13 @@ pub(crate) fn text_of<'a>(matches: &ArgMatches<'a>, id: &str) -> Option<&'a str>
     ensures { option_map (λ s. s.now) result ≡ first_of id.now (rows_of (found_of matches.now)) }
 {
     matches.get_str(id)
+}
+
+// The number that is an argument's value.
+pub(crate) fn number_of(matches: &ArgMatches<'_>, id: &str) -> Option<u32>
+    ensures { result ≡ Numbers.number_of id.now (rows_of (found_of matches.now)) }
+{
+    matches.get_one::<u32>(id)
 }
 
 // All values of an argument.

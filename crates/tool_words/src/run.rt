@@ -1,30 +1,30 @@
-//! The words of `papi_run`: `-U UNIT [-P PRESETS -C CPU] [--notes] SCRIPT [STREAM]`.
+//! The words of `papi_run`: `-U UNIT [-P PRESETS -C CPU] [--workers N] [--notes] SCRIPT [STREAM..]`.
 
-ghost use Rattle.std.specs.Prelude.{◌≡◌, ◌≤◌, IfOk, Some, false, length, map, option_map, string_bytes};
+ghost use Rattle.std.specs.Prelude.{◌≡◌, IfOk, Some, false, map, option_map, string_bytes};
 ghost use Rattle.clap.specs.Words.{app_of, found_of, rows_of, rule_of};
-ghost use Rattle.tool_words.specs.RunForm.{notes_rule, run_app, run_form, run_words, run_words_in, script_rule, streams_rule};
-ghost use Rattle.tool_words.specs.RunForm as RunForm;
+ghost use Rattle.tool_words.specs.RunForm.{notes_rule, run_app, run_form, run_words, run_words_in, script_rule};
 ghost use Rattle.tool_words.specs.Words.{Answers};
 
 use crate::fault::WordsFault;
-use crate::matches::{copied, matches_in, text_of, texts_of};
+use crate::matches::{matches_in, number_of, text_of, texts_of};
 use crate::options::{is_set, unit_argument};
 use crate::presets::{PresetWords, cpu_argument, presets_argument, presets_asked};
-use crate::texts::Texts;
+use crate::streams::{StreamNames, streams_argument, streams_asked};
+use crate::workers::{Workers, workers_argument, workers_asked};
 use clap::{Arg, ArgAction, ArgMatches};
 use papi_base::Text;
 use std::alloc::{AllocError, Global};
 
-/// What the words of `papi_run` ask for: the name of the unit file, the presets where they are asked for, whether the notes
-/// are asked for, the name of the script, and the names of the streams in the order of their threads, of which there is
-/// at most one.
+/// What the words of `papi_run` ask for: the name of the unit file, the presets where they are asked for, how many workers,
+/// whether the notes are asked for, the name of the script, and the names of the streams.
 #[derive(Drop)]
 pub struct RunWords {
     pub unit: Text,
     pub presets: Option<PresetWords>,
+    pub workers: Workers,
     pub notes: bool,
     pub script: Text,
-    pub streams: Texts,
+    pub streams: StreamNames,
 }
 
 // ---- the command
@@ -47,16 +47,6 @@ fn script_argument<'a>(alloc: Global) -> Arg<'a>
     Arg::new(alloc, "script").required(true)
 }
 
-#[tactic(auto, unfolding(crate::specs::RunForm::streams_rule))]
-fn streams_argument<'a>(alloc: Global) -> Arg<'a>
-    ensures rule { rule_of result ≡ streams_rule }
-    ensures local { result.global ≡ false }
-{
-    Arg::new(alloc, "streams")
-        .action(ArgAction::Append)
-        .num_args(0..=1)
-}
-
 // The command that reads the words.
 fn run_command<'a>(alloc: Global) -> Result<clap::Command<'a>, AllocError>
     ensures { IfOk result (λ command. app_of command ≡ run_app) }
@@ -65,6 +55,7 @@ fn run_command<'a>(alloc: Global) -> Result<clap::Command<'a>, AllocError>
         .arg(unit_argument(alloc))?
         .arg(presets_argument(alloc))?
         .arg(cpu_argument(alloc))?
+        .arg(workers_argument(alloc))?
         .arg(notes_argument(alloc))?
         .arg(script_argument(alloc))?
         .arg(streams_argument(alloc))
@@ -72,42 +63,26 @@ fn run_command<'a>(alloc: Global) -> Result<clap::Command<'a>, AllocError>
 
 // ---- the values
 
-// The streams that are named, of which there is at most one.
-fn few_streams(alloc: Global, names: Option<&[&str]>) -> Result<Texts, WordsFault>
-    ensures few { IfOk result (λ streams. length streams ≤ 64) }
-    ensures asked { Answers result (RunForm.few_streams (option_map (λ s. map (λ v. v.now) s.now) names.entry)) }
-{
-    match names {
-        None => Ok(Texts::new(Vec::new(alloc))),
-        Some(names) => {
-            if names.len() > 1 {
-                return Err(WordsFault::BadWords);
-            }
-            Ok(copied(alloc, names)?)
-        }
-    }
-}
-
 // What the values of the arguments ask for.
 fn asked(
     alloc: Global,
     unit: Option<&str>,
     presets: Option<PresetWords>,
+    workers: Workers,
     notes: bool,
     script: Option<&str>,
-    streams: Option<&[&str]>,
+    streams: StreamNames,
 ) -> Result<RunWords, WordsFault>
-    ensures few { IfOk result (λ words. length words.streams ≤ 64) }
-    ensures asked { Answers result (run_words (option_map (λ s. s.now) unit.entry) (Some presets) notes (option_map (λ s. s.now) script.entry)
-        (option_map (λ s. map (λ v. v.now) s.now) streams.entry)) }
+    ensures { Answers result (run_words (option_map (λ s. s.now) unit.entry) (Some presets) (Some workers) notes
+        (option_map (λ s. s.now) script.entry) (Some streams)) }
 {
     let (Some(unit), Some(script)) = (unit, script) else {
         return Err(WordsFault::BadWords);
     };
-    let streams = few_streams(alloc, streams)?;
     Ok(RunWords {
         unit: Text::copy_of(alloc, unit)?,
         presets,
+        workers,
         notes,
         script: Text::copy_of(alloc, script)?,
         streams,
@@ -117,21 +92,20 @@ fn asked(
 // What the matches of the words ask for.
 #[tactic(auto, unfolding(crate::specs::RunForm::run_words_in))]
 fn asked_by(alloc: Global, matches: &ArgMatches<'_>) -> Result<RunWords, WordsFault>
-    ensures few { IfOk result (λ words. length words.streams ≤ 64) }
-    ensures asked { Answers result (run_words_in (rows_of (found_of matches.now))) }
+    ensures { Answers result (run_words_in (rows_of (found_of matches.now))) }
 {
     let unit = text_of(matches, "unit");
     let presets = presets_asked(alloc, text_of(matches, "presets"), text_of(matches, "cpu"))?;
+    let workers = workers_asked(number_of(matches, "workers"))?;
     let notes = is_set(text_of(matches, "notes"));
     let script = text_of(matches, "script");
-    let streams = texts_of(matches, "streams");
-    asked(alloc, unit, presets, notes, script, streams)
+    let streams = streams_asked(alloc, texts_of(matches, "streams"))?;
+    asked(alloc, unit, presets, workers, notes, script, streams)
 }
 
 /// What the words of `papi_run` ask for, of which the first is the tool's name.
 pub fn read_run_words(alloc: Global, words: &[String]) -> Result<RunWords, WordsFault>
-    ensures few { IfOk result (λ words. length words.streams ≤ 64) }
-    ensures asked { Answers result (run_form (map string_bytes words.now)) }
+    ensures { Answers result (run_form (map string_bytes words.now)) }
 {
     let matches = matches_in(run_command(alloc)?, words)?;
     asked_by(alloc, &matches)

@@ -9,15 +9,15 @@ use Rattle.tool_words.proofs.run.read_run_words.Goals as goal
 pub matches_in-requires : goal.matches_in-requires
 matches_in-requires c = ap is_simple_and_free c.in_ok-run_command.ensures ∙ run_app-free
 
-pub returns-in_err-matches-clause-asked : goal.returns-in_err-matches-clause-asked
+pub returns-in_err-matches : goal.returns-in_err-matches
 unfolding run_form
-returns-in_err-matches-clause-asked c =
+returns-in_err-matches c =
     let words : List Text = map string_bytes c.args.words.now in
     let same : c.from_residual-in_err-matches.result ≡ Err c.in_err-matches.field-0.0 = search rules in
     rw same (answers_fault run_app (app_of c.in_ok-run_command.field-0) run_words_in words _ c.in_ok-run_command.ensures c.in_err-matches.ensures)
 
-pub returns-clause-asked : goal.returns-clause-asked
+pub returns : goal.returns
 unfolding run_form
-returns-clause-asked c =
+returns c =
     let words : List Text = map string_bytes c.args.words.now in
-    answers_matches run_app (app_of c.in_ok-run_command.field-0) run_words_in words (rows_of (found_of c.in_ok-matches.matches)) _ c.in_ok-run_command.ensures c.in_ok-matches.ensures c.asked_by.ensures.asked
+    answers_matches run_app (app_of c.in_ok-run_command.field-0) run_words_in words (rows_of (found_of c.in_ok-matches.matches)) _ c.in_ok-run_command.ensures c.in_ok-matches.ensures c.asked_by.ensures

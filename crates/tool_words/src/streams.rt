@@ -1,0 +1,88 @@
+//! The streams that the words of a tool name: `STREAM..`, none or more.
+
+ghost use Rattle.std.specs.Prelude.{◌≡◌, ◌≤◌, [], false, length, map, option_map};
+ghost use Rattle.clap.specs.Words.{rule_of};
+ghost use Rattle.tool_words.specs.Streams.{streams_of, streams_rule};
+ghost use Rattle.tool_words.specs.Streams as Streams;
+ghost use Rattle.tool_words.specs.Words.{Answers};
+
+use crate::fault::WordsFault;
+use crate::matches::copied;
+use crate::texts::Texts;
+use clap::{Arg, ArgAction};
+use papi_base::{THREADS, Text};
+use std::alloc::Global;
+use std::marker::Model;
+
+/// The names of streams in the order of their threads, of which there are at most [`THREADS`]. Contracts see the list of
+/// the names.
+#[derive(Drop)]
+pub struct StreamNames {
+    names: Texts,
+}
+
+impl Model for StreamNames {
+    ghost use Rattle.std.specs.Prelude.{◌≤◌, List, ℕ, length};
+    ghost use Rattle.papi_base.specs.declared.limits.TheConstants.{THREADS};
+
+    ghost Value = { List (List ℕ) };
+
+    ghost view = { λ s. s.names };
+
+    ghost invariant = { λ s. length s.names ≤ THREADS };
+}
+
+impl StreamNames {
+    // No names.
+    fn none(alloc: Global) -> StreamNames
+        ensures { result ≡ [] }
+    {
+        StreamNames {
+            names: Texts::new(Vec::new(alloc)),
+        }
+    }
+
+    // A copy of these names.
+    fn copy_of(alloc: Global, names: &[&str]) -> Result<StreamNames, WordsFault>
+        ensures { Answers result (streams_of (map (λ s. s.now) names.now)) }
+    {
+        if names.len() > THREADS as usize {
+            return Err(WordsFault::BadWords);
+        }
+        Ok(StreamNames {
+            names: copied(alloc, names)?,
+        })
+    }
+
+    /// The names as a slice.
+    pub fn as_slice(&self) -> &[Text]
+        ensures names { result.now ≡ self.now }
+        ensures few { length self.now ≤ THREADS }
+    {
+        self.names.as_slice()
+    }
+}
+
+// `STREAM..`.
+#[tactic(auto, unfolding(crate::specs::Streams::streams_rule))]
+pub(crate) fn streams_argument<'a>(alloc: Global) -> Arg<'a>
+    ensures rule { rule_of result ≡ streams_rule }
+    ensures local { result.global ≡ false }
+{
+    Arg::new(alloc, "streams")
+        .action(ArgAction::Append)
+        .num_args(0..)
+}
+
+// The streams that are named.
+pub(crate) fn streams_asked(
+    alloc: Global,
+    names: Option<&[&str]>,
+) -> Result<StreamNames, WordsFault>
+    ensures { Answers result (Streams.streams_asked (option_map (λ s. map (λ v. v.now) s.now) names.entry)) }
+{
+    match names {
+        None => Ok(StreamNames::none(alloc)),
+        Some(names) => StreamNames::copy_of(alloc, names),
+    }
+}
