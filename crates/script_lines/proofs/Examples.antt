@@ -1,7 +1,7 @@
 -- What written out scripts come to.
 use Rattle.std.proofs.Common.{◌≡◌, ◌∷◌, [], List, ℕ, Result, codes, refl}
 use Rattle.std.specs.Prelude.{Ok, Err}
-use Rattle.table_rows.specs.Texts.{decimal_in, is_decimal, is_numeral}
+use Rattle.table_rows.specs.Texts.{decimal_in, hex_in, is_decimal, is_numeral}
 use Rattle.script_lines.specs.declared.call.ScriptCall.TheVariants as call
 use Rattle.script_lines.specs.declared.fault.ScriptCause.{ScriptCause}
 use Rattle.script_lines.specs.declared.fault.ScriptCause.TheVariants as cause
@@ -12,7 +12,7 @@ use Rattle.script_lines.specs.Scripts.{Refused, script_from, script_of}
 use Rattle.script_lines.specs.Words.{words_of}
 
 unfoldable on_scripts : Unit {0}
-unfolding script_of script_from call_line words_of call_rows decimal_in is_decimal is_numeral
+unfolding script_of script_from call_line words_of call_rows decimal_in hex_in is_decimal is_numeral
 on_scripts = tt
 
 abbrev refused : ℕ → ScriptCause → Result (List ScriptLine) Refused
@@ -58,9 +58,33 @@ pub first_of_two : script_of (codes "0 add x") ≡ refused 1 cause.BadArguments
 unfolding on_scripts
 first_of_two = refl
 
-pub not_yet : script_of (codes "0 register") ≡ refused 1 cause.UnknownCall
+pub registers : script_of (codes "63 register\n63 unregister\n0 threads") ≡ Ok (line_with 1 63 call.Register ∷ line_with 2 63 call.Unregister ∷ line_with 3 0 call.Threads ∷ [])
 unfolding on_scripts
-not_yet = refl
+registers = refl
+
+pub coded : script_of (codes "1 code lab::CYCLES\n0 name 0x4000000A\n0 name 0xfFFFffff") ≡ Ok (line_with 1 1 (call.Code (codes "lab::CYCLES")) ∷ line_with 2 0 (call.Name 1073741834) ∷ line_with 3 0 (call.Name 4294967295) ∷ [])
+unfolding on_scripts
+coded = refl
+
+pub no_digit : script_of (codes "0 name 0x") ≡ refused 1 cause.BadNumber
+unfolding on_scripts
+no_digit = refl
+
+pub nine_digits : script_of (codes "0 name 0x000000001") ≡ refused 1 cause.BadNumber
+unfolding on_scripts
+nine_digits = refl
+
+pub capital_x : script_of (codes "0 name 0X40000000") ≡ refused 1 cause.BadNumber
+unfolding on_scripts
+capital_x = refl
+
+pub no_prefix : script_of (codes "0 name 40000000") ≡ refused 1 cause.BadNumber
+unfolding on_scripts
+no_prefix = refl
+
+pub two_events : script_of (codes "0 code A B") ≡ refused 1 cause.BadArguments
+unfolding on_scripts
+two_events = refl
 
 pub threshold_too_large : script_of (codes "0 overflow 0 CYCLES 18446744073709551615\n0 overflow 0 CYCLES 18446744073709551616") ≡ refused 2 cause.BadNumber
 unfolding on_scripts

@@ -4,9 +4,11 @@ use Rattle.std.proofs.lemmas.List.{append-nil}
 use Rattle.std.proofs.lemmas.List.Elements.{All-nil, All-push}
 use Rattle.std.specs.Prelude.{Result, Ok, Err}
 use Rattle.std.specs.Str.Lines.{lines}
+use Rattle.papi_base.specs.declared.limits.TheConstants.{THREADS}
 use Rattle.table_rows.specs.Texts.{Text}
 use Rattle.script_lines.specs.declared.fault.ScriptCause.{ScriptCause}
 use Rattle.script_lines.specs.declared.script.ScriptLine.{ScriptLine}
+use Rattle.script_lines.specs.declared.script.TheConstants.{MOST_CALLS}
 use Rattle.script_lines.specs.declared.fault.LineFault.{LineFault}
 use Rattle.script_lines.specs.declared.fault.LineFault.TheVariants.{Cause, Memory}
 use Rattle.script_lines.specs.Answers.{Answers}
@@ -31,7 +33,7 @@ behind-behind above more (Err refused) = refl
 
 pub reads-start : (bytes : List ℕ) → Reads bytes bytes 0 []
 unfolding script_of
-reads-start bytes = record { same = behind-nothing (script_from 1 0 (lines bytes)); small = omega arith; kept = record { few = omega arith; threads = All-nil (λ l. l.thread < 64) } }
+reads-start bytes = record { same = behind-nothing (script_from 1 0 (lines bytes)); small = omega arith; kept = record { few = omega arith; threads = All-nil (λ l. l.thread < THREADS) } }
 
 skipped : (number above : ℕ) (line : Text) (rest : List Text) → is_skipped line ≡ true → script_from number above (line ∷ rest) ≡ script_from (number + 1) above rest
 unfolding script_from
@@ -51,7 +53,7 @@ reads-skipped bytes rest rest' line number calls cut less s r = record {
 }
 
 pub reads-call : (bytes rest rest' line : List ℕ) (number : ℕ) (calls : List ScriptLine) (call : ScriptLine) → lines rest ≡ line ∷ lines rest' → length rest' < length rest → is_skipped line ≡ false
-    → call_line (number + 1) (length calls) line ≡ Ok call → (length calls < 100000) × (call.thread < 64) → Reads bytes rest number calls
+    → call_line (number + 1) (length calls) line ≡ Ok call → (length calls < MOST_CALLS) × (call.thread < THREADS) → Reads bytes rest number calls
     → Reads bytes rest' (number + 1) (calls ++ call ∷ [])
 reads-call bytes rest rest' line number calls call cut less s is more r =
     let below = script_from (number + 1 + 1) (length calls + 1) (lines rest') in
@@ -61,7 +63,7 @@ reads-call bytes rest rest' line number calls call cut less s is more r =
           ∙ behind-behind calls (call ∷ []) below
           ∙ ap (λ (n : ℕ). behind (calls ++ call ∷ []) (script_from (number + 1 + 1) n (lines rest'))) (sym one);
       small = omega (arith, r.small);
-      kept = record { few = omega (arith, one, more.0); threads = All-push (λ l. l.thread < 64) calls call r.kept.threads more.1 };
+      kept = record { few = omega (arith, one, more.0); threads = All-push (λ l. l.thread < THREADS) calls call r.kept.threads more.1 };
     }
 
 pub reads-refused : (bytes rest rest' line : List ℕ) (number : ℕ) (calls : List ScriptLine) (cause : ScriptCause) → lines rest ≡ line ∷ lines rest' → is_skipped line ≡ false

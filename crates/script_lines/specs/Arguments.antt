@@ -1,6 +1,6 @@
 -- The arguments of a call of a script: this project's own format, docs/FORMATS.md.
-use Rattle.std.specs.Prelude.{ℕ, List, [], ◌∷◌, Option, Some, None, Result, Ok, Err, if◌then◌else◌}
-use Rattle.table_rows.specs.Texts.{Text, decimal_in, is_printable}
+use Rattle.std.specs.Prelude.{◌&&◌, ◌==◌, ℕ, List, [], ◌∷◌, Option, Some, None, Result, Ok, Err, drop, if◌then◌else◌, slice_index}
+use Rattle.table_rows.specs.Texts.{Text, decimal_in, hex_in, is_printable}
 use Rattle.script_lines.specs.declared.fault.ScriptCause.{ScriptCause}
 use Rattle.script_lines.specs.declared.fault.ScriptCause.TheVariants.{BadArguments, BadNumber}
 use Rattle.script_lines.specs.Answers.{and_then, made_of}
@@ -17,6 +17,10 @@ number_in word = number_or BadNumber (decimal_in 0 4294967295 word)
 abbrev pub threshold_in : Text → Result ℕ ScriptCause
 threshold_in word = number_or BadNumber (decimal_in 0 18446744073709551615 word)
 
+-- a code of 32 bits: `0x`, with the x in lower case, and 1 to 8 hexadecimal digits
+abbrev pub code_in : Text → Result ℕ ScriptCause
+code_in word = number_or BadNumber (if (slice_index word 0 == 48) && (slice_index word 1 == 120) then hex_in 1 8 (drop 2 word) else None)
+
 -- no argument
 abbrev pub nothing : List Text → Result (Unit {0}) ScriptCause
 nothing [] = Ok tt
@@ -31,6 +35,16 @@ one_number _ = Err BadArguments
 abbrev pub two_numbers : List Text → Result (ℕ × ℕ) ScriptCause
 two_numbers (first ∷ second ∷ []) = and_then (number_in first) (λ one. made_of (λ two. (one, two)) (number_in second))
 two_numbers _ = Err BadArguments
+
+-- one code
+abbrev pub one_code : List Text → Result ℕ ScriptCause
+one_code (word ∷ []) = code_in word
+one_code _ = Err BadArguments
+
+-- one event, of printable bytes alone
+abbrev pub one_event : List Text → Result Text ScriptCause
+one_event (event ∷ []) = if is_printable event then Ok event else Err BadArguments
+one_event _ = Err BadArguments
 
 -- the number of a set, and an event, which has no bytes but printable ones; a word has no blanks
 abbrev pub set_and_event : List Text → Result (ℕ × Text) ScriptCause

@@ -7,7 +7,7 @@ ghost use Rattle.script_lines.specs.Answers.{Answers};
 use crate::fault::{LineFault, ScriptCause};
 use papi_base::Text;
 use std::alloc::Global;
-use table_rows::{decimal_in, printable_text};
+use table_rows::{decimal_in, hex_in, printable_text};
 
 // The number of 32 bits that a word is, in decimal without leading zeros.
 fn number_in(word: &[u8]) -> Result<u32, ScriptCause>
@@ -25,6 +25,19 @@ fn threshold_in(word: &[u8]) -> Result<u64, ScriptCause>
 {
     match decimal_in(0, u64::MAX, word) {
         Some(number) => Ok(number),
+        None => Err(ScriptCause::BadNumber),
+    }
+}
+
+// The code that a word writes: `0x` and one to eight hexadecimal digits, in either case.
+fn code_in(word: &[u8]) -> Result<u32, ScriptCause>
+    ensures { result ≡ Arguments.code_in word.now }
+{
+    if word.len() < 2 || word[0] != b'0' || word[1] != b'x' {
+        return Err(ScriptCause::BadNumber);
+    }
+    match hex_in(1, 8, &word[2..]) {
+        Some(code) => Ok(code as u32),
         None => Err(ScriptCause::BadNumber),
     }
 }
@@ -57,6 +70,29 @@ pub(crate) fn two_numbers(arguments: &[&[u8]]) -> Result<(u32, u32), ScriptCause
         [first, second] => Ok((number_in(*first)?, number_in(*second)?)),
         _ => Err(ScriptCause::BadArguments),
     }
+}
+
+// One code.
+pub(crate) fn one_code(arguments: &[&[u8]]) -> Result<u32, ScriptCause>
+    ensures { result ≡ Arguments.one_code (map (λ w. w.now) arguments.now) }
+{
+    match arguments {
+        [code] => code_in(*code),
+        _ => Err(ScriptCause::BadArguments),
+    }
+}
+
+// One event.
+pub(crate) fn one_event(alloc: Global, arguments: &[&[u8]]) -> Result<Text, LineFault>
+    ensures { Answers result (Arguments.one_event (map (λ w. w.now) arguments.now)) }
+{
+    let [event] = arguments else {
+        return Err(LineFault::Cause(ScriptCause::BadArguments));
+    };
+    let Some(event) = printable_text(*event) else {
+        return Err(LineFault::Cause(ScriptCause::BadArguments));
+    };
+    Ok(Text::copy_of(alloc, event)?)
 }
 
 // The number of a set, and an event.

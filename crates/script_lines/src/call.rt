@@ -1,15 +1,17 @@
 //! The calls of a script.
 
-ghost use Rattle.std.specs.Prelude.{◌≡◌, ◌<◌};
-ghost use Rattle.script_lines.specs.Rows.{row_of};
-ghost use Rattle.script_lines.specs.Calls.{word_at};
+ghost use Rattle.std.specs.Prelude.{◌≡◌};
+ghost use Rattle.script_lines.specs.Names.{name_of};
 
-use papi_base::Text;
+use papi_base::{CallName, Text};
 
-/// A call that a line of a script asks for, with its arguments: numbers of sets, a count of occurrences, and events as
-/// they are written.
+/// A call that a line of a script asks for, with its arguments: numbers of sets, a count of occurrences, a code of 32 bits, and
+/// events as they are written. The order is that of the table of calls, docs/FORMATS.md.
 #[derive(Drop)]
 pub enum ScriptCall {
+    Register,
+    Unregister,
+    Threads,
     Create,
     Destroy {
         set: u32,
@@ -73,67 +75,44 @@ pub enum ScriptCall {
     Run {
         count: u32,
     },
+    Code {
+        event: Text,
+    },
+    Name {
+        code: u32,
+    },
 }
 
 impl ScriptCall {
-    /// The call's row in the table of calls, from 0.
-    pub fn row(&self) -> u32
-        ensures row { result ≡ row_of self.now }
+    /// The name of the call.
+    pub fn name(&self) -> CallName
+        ensures name { result ≡ name_of self.now }
     {
         match self {
-            ScriptCall::Create => 3,
-            ScriptCall::Destroy { .. } => 4,
-            ScriptCall::Cleanup { .. } => 5,
-            ScriptCall::Add { .. } => 6,
-            ScriptCall::Remove { .. } => 7,
-            ScriptCall::Component { .. } => 8,
-            ScriptCall::Domain { .. } => 9,
-            ScriptCall::Multiplex { .. } => 10,
-            ScriptCall::Overflow { .. } => 11,
-            ScriptCall::Start { .. } => 12,
-            ScriptCall::Stop { .. } => 13,
-            ScriptCall::Read { .. } => 14,
-            ScriptCall::Accum { .. } => 15,
-            ScriptCall::Reset { .. } => 16,
-            ScriptCall::State { .. } => 17,
-            ScriptCall::Events { .. } => 18,
-            ScriptCall::Assign { .. } => 19,
-            ScriptCall::Raw { .. } => 20,
-            ScriptCall::Run { .. } => 21,
+            ScriptCall::Register => CallName::Register,
+            ScriptCall::Unregister => CallName::Unregister,
+            ScriptCall::Threads => CallName::Threads,
+            ScriptCall::Create => CallName::Create,
+            ScriptCall::Destroy { .. } => CallName::Destroy,
+            ScriptCall::Cleanup { .. } => CallName::Cleanup,
+            ScriptCall::Add { .. } => CallName::Add,
+            ScriptCall::Remove { .. } => CallName::Remove,
+            ScriptCall::Component { .. } => CallName::Component,
+            ScriptCall::Domain { .. } => CallName::Domain,
+            ScriptCall::Multiplex { .. } => CallName::Multiplex,
+            ScriptCall::Overflow { .. } => CallName::Overflow,
+            ScriptCall::Start { .. } => CallName::Start,
+            ScriptCall::Stop { .. } => CallName::Stop,
+            ScriptCall::Read { .. } => CallName::Read,
+            ScriptCall::Accum { .. } => CallName::Accum,
+            ScriptCall::Reset { .. } => CallName::Reset,
+            ScriptCall::State { .. } => CallName::State,
+            ScriptCall::Events { .. } => CallName::Events,
+            ScriptCall::Assign { .. } => CallName::Assign,
+            ScriptCall::Raw { .. } => CallName::Raw,
+            ScriptCall::Run { .. } => CallName::Run,
+            ScriptCall::Code { .. } => CallName::Code,
+            ScriptCall::Name { .. } => CallName::Name,
         }
-    }
-}
-
-/// The word of the call in a row of the table of calls, from 0 to 23.
-#[tactic(auto, unfolding(crate::specs::Calls::word_at, crate::specs::Calls::call_rows))]
-pub fn call_word(row: u32) -> &'static str
-    requires { row < 24 }
-    ensures word { result.now ≡ word_at row }
-{
-    match row {
-        0 => "register",
-        1 => "unregister",
-        2 => "threads",
-        3 => "create",
-        4 => "destroy",
-        5 => "cleanup",
-        6 => "add",
-        7 => "remove",
-        8 => "component",
-        9 => "domain",
-        10 => "multiplex",
-        11 => "overflow",
-        12 => "start",
-        13 => "stop",
-        14 => "read",
-        15 => "accum",
-        16 => "reset",
-        17 => "state",
-        18 => "events",
-        19 => "assign",
-        20 => "raw",
-        21 => "run",
-        22 => "code",
-        _ => "name",
     }
 }

@@ -8,9 +8,9 @@ mod line;
 pub mod script;
 mod words;
 
-pub use call::{ScriptCall, call_word};
+pub use call::ScriptCall;
 pub use fault::{ScriptCause, ScriptFault, cause_text};
-pub use script::{Script, ScriptLine, read_script};
+pub use script::{MOST_CALLS, Script, ScriptLine, read_script};
 
 #[cfg(test)]
 mod tests;

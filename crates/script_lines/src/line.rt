@@ -6,18 +6,16 @@ ghost use Rattle.script_lines.specs.Answers.{Answers};
 ghost use Rattle.script_lines.specs.Lines as Lines;
 ghost use Rattle.script_lines.specs.Calls as Calls;
 
-use crate::arguments::{nothing, one_number, set_and_event, set_event_and_threshold, two_numbers};
+use crate::arguments::{
+    nothing, one_code, one_event, one_number, set_and_event, set_event_and_threshold, two_numbers,
+};
 use crate::call::ScriptCall;
 use crate::fault::{LineFault, ScriptCause};
-use crate::script::ScriptLine;
+use crate::script::{MOST_CALLS, ScriptLine};
 use crate::words::split_words;
+use papi_base::THREADS;
 use std::alloc::Global;
 use table_rows::{decimal_in, printable_text};
-
-// How many call lines a script has at most, and how many threads there are.
-const MOST_CALLS: usize = 100_000;
-
-const THREADS: u64 = 1;
 
 // A line without the carriage return at its end.
 fn without_return(line: &[u8]) -> &[u8]
@@ -37,7 +35,7 @@ fn newline_in(bytes: &[u8]) -> Option<usize>
     bytes.iter().position(|b| *b == b'\n')
 }
 
-// The first line, and the bytes behind its newline.
+// The first line, and the bytes after its newline.
 pub(crate) fn cut_line(bytes: &[u8]) -> (&[u8], &[u8])
     requires { 0 < length bytes.now }
     ensures line { lines bytes.now ≡ result.0.now ∷ lines result.1.now }
@@ -59,9 +57,9 @@ pub(crate) fn is_skipped(line: &[u8]) -> bool
 // The thread that a word names.
 fn thread_in(word: &[u8]) -> Result<u32, ScriptCause>
     ensures thread { result ≡ Lines.thread_in word.now }
-    ensures below { IfOk result (λ thread. thread < 64) }
+    ensures below { IfOk result (λ thread. thread < THREADS) }
 {
-    match decimal_in(0, THREADS - 1, word) {
+    match decimal_in(0, u64::from(THREADS) - 1, word) {
         Some(thread) => Ok(thread as u32),
         None => Err(ScriptCause::BadThread),
     }
@@ -69,21 +67,25 @@ fn thread_in(word: &[u8]) -> Result<u32, ScriptCause>
 
 // The call of a name from `start` on in the table of calls.
 #[tactic(auto, unfolding(crate::specs::Calls::call_rows))]
-fn counting_call(name: &str, arguments: &[&[u8]]) -> Result<ScriptCall, ScriptCause>
-    ensures { result ≡ Calls.call_by (Calls.form_of name.now Calls.counting_rows) (map (λ w. w.now) arguments.now) }
+fn later_call(alloc: Global, name: &str, arguments: &[&[u8]]) -> Result<ScriptCall, LineFault>
+    ensures { Answers result (Calls.call_by (Calls.form_of name.now Calls.later_rows) (map (λ w. w.now) arguments.now)) }
 {
     match name {
-        "start" => one_number(arguments).map(|set| ScriptCall::Start { set }),
-        "stop" => one_number(arguments).map(|set| ScriptCall::Stop { set }),
-        "read" => one_number(arguments).map(|set| ScriptCall::Read { set }),
-        "accum" => one_number(arguments).map(|set| ScriptCall::Accum { set }),
-        "reset" => one_number(arguments).map(|set| ScriptCall::Reset { set }),
-        "state" => one_number(arguments).map(|set| ScriptCall::State { set }),
-        "events" => one_number(arguments).map(|set| ScriptCall::Events { set }),
-        "assign" => one_number(arguments).map(|set| ScriptCall::Assign { set }),
-        "raw" => two_numbers(arguments).map(|(set, counter)| ScriptCall::Raw { set, counter }),
-        "run" => one_number(arguments).map(|count| ScriptCall::Run { count }),
-        _ => Err(ScriptCause::UnknownCall),
+        "start" => Ok(one_number(arguments).map(|set| ScriptCall::Start { set })?),
+        "stop" => Ok(one_number(arguments).map(|set| ScriptCall::Stop { set })?),
+        "read" => Ok(one_number(arguments).map(|set| ScriptCall::Read { set })?),
+        "accum" => Ok(one_number(arguments).map(|set| ScriptCall::Accum { set })?),
+        "reset" => Ok(one_number(arguments).map(|set| ScriptCall::Reset { set })?),
+        "state" => Ok(one_number(arguments).map(|set| ScriptCall::State { set })?),
+        "events" => Ok(one_number(arguments).map(|set| ScriptCall::Events { set })?),
+        "assign" => Ok(one_number(arguments).map(|set| ScriptCall::Assign { set })?),
+        "raw" => Ok(two_numbers(arguments).map(|(set, counter)| ScriptCall::Raw { set, counter })?),
+        "run" => Ok(one_number(arguments).map(|count| ScriptCall::Run { count })?),
+        "code" => Ok(ScriptCall::Code {
+            event: one_event(alloc, arguments)?,
+        }),
+        "name" => Ok(one_code(arguments).map(|code| ScriptCall::Name { code })?),
+        _ => Err(LineFault::Cause(ScriptCause::UnknownCall)),
     }
 }
 
@@ -93,6 +95,9 @@ fn call_named(alloc: Global, name: &str, arguments: &[&[u8]]) -> Result<ScriptCa
     ensures { Answers result (Calls.call_of name.now (map (λ w. w.now) arguments.now)) }
 {
     match name {
+        "register" => Ok(nothing(arguments).map(|()| ScriptCall::Register)?),
+        "unregister" => Ok(nothing(arguments).map(|()| ScriptCall::Unregister)?),
+        "threads" => Ok(nothing(arguments).map(|()| ScriptCall::Threads)?),
         "create" => Ok(nothing(arguments).map(|()| ScriptCall::Create)?),
         "destroy" => Ok(one_number(arguments).map(|set| ScriptCall::Destroy { set })?),
         "cleanup" => Ok(one_number(arguments).map(|set| ScriptCall::Cleanup { set })?),
@@ -124,7 +129,7 @@ fn call_named(alloc: Global, name: &str, arguments: &[&[u8]]) -> Result<ScriptCa
                 threshold,
             })
         }
-        _ => Ok(counting_call(name, arguments)?),
+        _ => later_call(alloc, name, arguments),
     }
 }
 
@@ -141,7 +146,7 @@ fn call_of(alloc: Global, word: &[u8], arguments: &[&[u8]]) -> Result<ScriptCall
 // The call line of some words.
 fn line_of_words(alloc: Global, number: u64, words: &[&[u8]]) -> Result<ScriptLine, LineFault>
     ensures line { Answers result (Lines.line_of_words number (map (λ w. w.now) words.now)) }
-    ensures thread { IfOk result (λ line. line.thread < 64) }
+    ensures thread { IfOk result (λ line. line.thread < THREADS) }
 {
     let [thread, words @ ..] = words else {
         return Err(LineFault::Cause(ScriptCause::BadThread));
@@ -158,7 +163,7 @@ fn line_of_words(alloc: Global, number: u64, words: &[&[u8]]) -> Result<ScriptLi
     })
 }
 
-// The call line of this number, where so many call lines stand above it.
+// The call line of this number, after so many call lines.
 #[tactic(auto, unfolding(crate::specs::Lines::call_line))]
 pub(crate) fn call_line(
     alloc: Global,

@@ -10,6 +10,9 @@ use crate::line::{call_line, cut_line, is_skipped};
 use std::alloc::Global;
 use std::marker::Model;
 
+/// How many call lines a script has at most.
+pub const MOST_CALLS: usize = 100_000;
+
 /// A line that asks a call of a thread, with its number in the script, from 1.
 #[derive(Drop)]
 pub struct ScriptLine {
@@ -18,7 +21,7 @@ pub struct ScriptLine {
     pub call: ScriptCall,
 }
 
-/// The call lines of a script in order, which contracts see as their list. There are at most 100,000, each of a thread below 64.
+/// The call lines of a script in order, which contracts see as their list. There are at most `MOST_CALLS`, each of a thread below `THREADS`.
 #[derive(Drop)]
 pub struct Script {
     lines: Vec<ScriptLine>,
@@ -57,8 +60,8 @@ pub fn read_script(alloc: Global, bytes: &[u8]) -> Result<Script, ScriptFault>
     let mut rest = bytes;
     let mut number = 0;
     while rest.len() > 0 {
-        let (line, behind) = cut_line(rest);
-        rest = behind;
+        let (line, after) = cut_line(rest);
+        rest = after;
         number += 1;
         if !is_skipped(line) {
             match call_line(alloc, number, lines.len(), line) {

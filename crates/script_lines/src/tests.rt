@@ -1,5 +1,6 @@
 //! Scripts that are read with memory at hand.
-use crate::{ScriptCall, ScriptCause, ScriptFault, call_word, read_script};
+use crate::{ScriptCall, ScriptCause, ScriptFault, read_script};
+use papi_base::CallName;
 
 #[test]
 fn two_calls(rt: HostRuntime) {
@@ -7,8 +8,8 @@ fn two_calls(rt: HostRuntime) {
         Ok(script) => {
             let lines = script.lines();
             assert!(rt; lines.len() == 2);
-            assert!(rt; lines[0].line == 2 && lines[0].call.row() == 3);
-            assert!(rt; lines[1].line == 4 && call_word(lines[1].call.row()) == "add");
+            assert!(rt; lines[0].line == 2 && lines[0].call.name() == CallName::Create);
+            assert!(rt; lines[1].line == 4 && lines[1].call.name() == CallName::Add);
             match &lines[1].call {
                 ScriptCall::Add { set, event } => assert!(rt;
                     *set == 0 && event.as_str() == "CYCLES"
@@ -23,29 +24,39 @@ fn two_calls(rt: HostRuntime) {
 #[test]
 fn each_call(rt: HostRuntime) {
     let lines = [
-        ("0 create", 3),
-        ("0 destroy 5", 4),
-        ("0 cleanup 0", 5),
-        ("0 add 0 PACKETS", 6),
-        ("0 remove 0 CYCLES", 7),
-        ("0 component 0 2", 8),
-        ("0 domain 0 3", 9),
-        ("0 multiplex 0 5", 10),
-        ("0 overflow 0 PACKETS 18446744073709551615", 11),
-        ("0 start 4294967295", 12),
-        ("0 stop 0", 13),
-        ("0 read 0", 14),
-        ("0 accum 0", 15),
-        ("0 reset 0", 16),
-        ("0 state 0", 17),
-        ("0 events 0", 18),
-        ("0 assign 0", 19),
-        ("0 raw 0 1", 20),
-        ("0 run 280", 21),
+        ("63 register", CallName::Register),
+        ("0 unregister", CallName::Unregister),
+        ("0 threads", CallName::Threads),
+        ("0 create", CallName::Create),
+        ("0 destroy 5", CallName::Destroy),
+        ("0 cleanup 0", CallName::Cleanup),
+        ("0 add 0 PACKETS", CallName::Add),
+        ("0 remove 0 CYCLES", CallName::Remove),
+        ("0 component 0 2", CallName::Component),
+        ("0 domain 0 3", CallName::Domain),
+        ("0 multiplex 0 5", CallName::Multiplex),
+        (
+            "0 overflow 0 PACKETS 18446744073709551615",
+            CallName::Overflow,
+        ),
+        ("0 start 4294967295", CallName::Start),
+        ("0 stop 0", CallName::Stop),
+        ("0 read 0", CallName::Read),
+        ("0 accum 0", CallName::Accum),
+        ("0 reset 0", CallName::Reset),
+        ("0 state 0", CallName::State),
+        ("0 events 0", CallName::Events),
+        ("0 assign 0", CallName::Assign),
+        ("0 raw 0 1", CallName::Raw),
+        ("0 run 280", CallName::Run),
+        ("0 code lab::CYCLES:u", CallName::Code),
+        ("0 name 0x4000000A", CallName::Name),
     ];
-    for (line, row) in lines {
+    for (line, name) in lines {
         match read_script(rt.alloc(), line.as_bytes()) {
-            Ok(script) => assert!(rt; script.lines().iter().all(|l| l.call.row() == row)),
+            Ok(script) => assert!(rt;
+                script.lines().len() == 1 && script.lines()[0].call.name() == name
+            ),
             Err(_) => assert!(rt; false),
         }
     }
@@ -76,6 +87,11 @@ fn causes(rt: HostRuntime) {
             ScriptCause::BadNumber,
         ),
         ("0 raw 0 -1", ScriptCause::BadNumber),
+        ("0 code", ScriptCause::BadArguments),
+        ("0 code CYCL\u{c9}S", ScriptCause::BadArguments),
+        ("0 name 0x0 0", ScriptCause::BadArguments),
+        ("0 name 0X0", ScriptCause::BadNumber),
+        ("0 name 0x000000001", ScriptCause::BadNumber),
     ];
     for (line, cause) in lines {
         match read_script(rt.alloc(), line.as_bytes()) {

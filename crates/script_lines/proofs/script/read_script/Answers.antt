@@ -1,4 +1,5 @@
 use Rattle.std.proofs.Common.{◌≡◌, ◌∙◌, ◌<◌, ◌+◌, arith, length, sym, subst}
+use Rattle.script_lines.specs.declared.script.TheConstants.{MOST_CALLS}
 use Rattle.script_lines.proofs.Reading.{Reads, reads-call, reads-end, reads-fault, reads-skipped, reads-start}
 use Rattle.script_lines.proofs.script.read_script.Goals as goal
 
@@ -7,7 +8,7 @@ loop-rest-init c = subst (Reads c.args.bytes.now c.args.bytes.now 0) (sym c.new-
 
 pub loop-rest-preserved-in-Continue-1 : goal.loop-rest-preserved-in-Continue-1
 loop-rest-preserved-in-Continue-1 c =
-    let few : length c.loop-rest.lines.items < 100000 = omega (arith, c.len.ensures, c.in-Ok.ensures.few.0) in
+    let few : length c.loop-rest.lines.items < MOST_CALLS = omega (arith, c.len.ensures, c.in-Ok.ensures.few.0) in
     let above : c.len.result ≡ length c.loop-rest.lines.items = omega (arith, c.len.ensures) in
     let call = rw above at c.in-Ok.ensures.call in
     subst (Reads c.args.bytes.now c.cut_line.result.1.now (c.loop-rest.number + 1)) (sym c.in_ok-push-in-Ok.ensures.items)
