@@ -1,5 +1,6 @@
 pub mod Seen
 pub mod JobView
+pub mod Load
 pub use Rattle.overflow_dispatch.specs.Notes
 pub use Rattle.parallel_tasks.specs.Each
 pub use Rattle.postfix_rules.specs.Presets

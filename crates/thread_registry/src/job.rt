@@ -4,6 +4,7 @@ ghost use Rattle.std.specs.Result.{is_err};
 ghost use Rattle.thread_registry.specs.Seen.{Worked, CanWork, seen_of};
 ghost use Rattle.thread_registry.specs.JobView.{seen};
 
+use crate::load::load_of;
 use overflow_dispatch::Handler;
 use papi_base::Source;
 use parallel_tasks::Task;
@@ -73,10 +74,18 @@ fn work_job<S: Source>(job: &mut Job<S>, book: &PresetBook)
 impl<S: Source> Task<PresetBook> for Job<S> {
     ghost use Rattle.thread_registry.specs.Seen.{Worked, CanWork};
     ghost use Rattle.thread_registry.specs.JobView.{seen};
+    ghost use Rattle.thread_registry.specs.Load.{load_of};
 
     ghost ready = { λ book j. CanWork book j.session j.calls.items };
 
     ghost done = { λ book x y. Worked book (seen ((Handler-box x.handler).notes x.handler.value) x) (seen ((Handler-box y.handler).notes y.handler.value) y) };
+
+    ghost load = { λ j. load_of j.calls.items };
+
+    /// The occurrences that its runs ask for, and one for each other call, at most 2^32 - 1.
+    fn load(&self) -> u32 {
+        load_of(self.calls.as_slice())
+    }
 
     fn work(&mut self, book: &PresetBook) {
         work_job(self, book);

@@ -2,6 +2,7 @@
 #![tactic(auto)]
 
 pub mod job;
+pub mod load;
 pub mod registry;
 pub mod work;
 

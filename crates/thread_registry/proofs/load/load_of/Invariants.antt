@@ -1,0 +1,6 @@
+use Rattle.std.proofs.Common.{◌≡◌, take}
+use Rattle.thread_registry.specs.Load.{load_of}
+use Rattle.thread_registry.proofs.load.load_of.Given as goal
+
+abbrev pub invariant-loop-call : goal.invariant-loop-call
+invariant-loop-call l = l.load ≡ load_of (take l.call-index l.calls)
