@@ -160,7 +160,7 @@ impl Catalog {
 
     /// What an event is called: a preset by its symbol, a native event by its canonical name, PAPI_event_code_to_name(3).
     pub fn event_name(&self, alloc: Global, event: &EventRef) -> Result<String, AllocError>
-        ensures name { IfOk result (λ name. string_bytes name ≡ EventNames.event_name self.now.tables event.now) }
+        ensures name { IfOk result (λ name. string_bytes name ≡ EventNames.event_name self.now event.now) }
     {
         match event {
             EventRef::Preset(row) => String::from_str(alloc, symbol_of(*row)),

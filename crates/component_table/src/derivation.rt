@@ -1,4 +1,4 @@
-// What presets derive over a unit.
+//! What presets derive over a unit.
 
 ghost use Rattle.std.specs.Prelude.{◌≡◌, ◌≤◌, All, IfOk, IfSome, length, map, string_bytes};
 ghost use Rattle.component_table.specs.Books as Books;

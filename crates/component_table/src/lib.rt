@@ -7,7 +7,7 @@ pub mod laws;
 pub mod native_codes;
 
 pub use catalog::Catalog;
-pub use native_codes::NativeCodes;
+pub use native_codes::{MOST_MENTIONED, NativeCodes};
 
 #[cfg(test)]
 mod tests;

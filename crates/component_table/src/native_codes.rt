@@ -1,19 +1,24 @@
-// The codes of native events.
+//! The codes of native events.
 
-ghost use Rattle.std.specs.Prelude.{◌≡◌, ◌<◌, ◌≤◌, [], take, length, IfOk, OnErr, Some};
-ghost use Rattle.component_table.specs.Codes.{code_in, mentioned, native_in};
+ghost use Rattle.std.specs.Prelude.{◌≡◌, ◌<◌, ◌≤◌, [], ◌∷◌, take, length, IfOk, OnErr, OnOk};
+ghost use Rattle.component_table.specs.Codes.{code_in};
+ghost use Rattle.postfix_rules.specs.Sameness.{joined_by};
+ghost use Rattle.session_model.specs.World.{native_code, native_named};
 
 use indexmap::IndexSet;
 use papi_base::Native;
 use std::alloc::{AllocError, Global};
 use std::marker::Model;
 
+// The code of the first native event that is mentioned: PAPI_NATIVE_MASK of papi.h.
 const FIRST_CODE: u32 = 0x40000000;
+
+/// How many native events may be mentioned: the codes of so many are below 0x80000000, where those of presets begin.
+pub const MOST_MENTIONED: u32 = 0x40000000;
 
 /// The native events that were mentioned, in the order of their first mentions, which gives them their codes.
 ///
-/// Contracts see the list of them. It holds at most 0x40000000, so that each has a code below 0x80000000. Source:
-/// PAPI_event_name_to_code(3).
+/// Contracts see the list of them, of at most [`MOST_MENTIONED`]. Source: PAPI_event_name_to_code(3).
 #[derive(Drop)]
 pub struct NativeCodes {
     natives: IndexSet<Native>,
@@ -21,13 +26,14 @@ pub struct NativeCodes {
 
 impl Model for NativeCodes {
     ghost use Rattle.std.specs.Prelude.{◌≤◌, List, length};
+    ghost use Rattle.component_table.specs.declared.native_codes.TheConstants.{MOST_MENTIONED};
     ghost use Rattle.papi_base.specs.declared.native.Native.{Native};
 
     ghost Value = { List Native };
 
     ghost view = { λ c. c.natives.keys };
 
-    ghost invariant = { λ c. length c.natives.keys ≤ 0x40000000 };
+    ghost invariant = { λ c. length c.natives.keys ≤ MOST_MENTIONED };
 }
 
 impl NativeCodes {
@@ -43,17 +49,18 @@ impl NativeCodes {
     /// How many native events are mentioned.
     pub fn count(&self) -> u32
         ensures count { result ≡ length self.now }
-        ensures few { length self.now ≤ 0x40000000 }
+        ensures few { length self.now ≤ MOST_MENTIONED }
     {
         self.natives.len() as u32
     }
 
     /// Mentions a native event, and gives its code: 0x40000000 and the rank of its first mention.
-    #[tactic(auto, unfolding(crate::specs::Codes::mentioned, crate::specs::Codes::code_in))]
+    ///
+    /// Where memory is refused, it is not mentioned.
     pub fn mention(&mut self, native: Native) -> Result<u32, AllocError>
-        requires few { length self.old < 0x40000000 }
-        ensures mentioned { IfOk result (λ code. self.new ≡ mentioned self.old native) }
-        ensures code { IfOk result (λ code. code_in self.new native ≡ Some code) }
+        requires few { length self.old < MOST_MENTIONED }
+        ensures mentioned { OnOk result (self.new ≡ joined_by self.old (native ∷ [])) }
+        ensures code { IfOk result (λ code. code ≡ native_code self.new native) }
         ensures unchanged { OnErr result (self.new ≡ self.old) }
     {
         let (rank, _) = self.natives.insert_full(native)?;
@@ -61,7 +68,6 @@ impl NativeCodes {
     }
 
     /// The code of a native event, and `None` where it is not mentioned.
-    #[tactic(auto, unfolding(crate::specs::Codes::code_in))]
     pub fn code_of(&self, native: &Native) -> Option<u32>
         ensures code { result ≡ code_in self.now native.now }
     {
@@ -72,14 +78,12 @@ impl NativeCodes {
     }
 
     /// The native event of a code, among the first so many that were mentioned, and `None` where it is none of them.
-    #[tactic(auto, unfolding(crate::specs::Codes::native_in))]
+    ///
+    /// Source: PAPI_event_code_to_name(3).
     pub fn native_of(&self, code: u32, first: u32) -> Option<Native>
-        ensures native { result ≡ native_in (take first self.now) code }
+        ensures native { result ≡ native_named (take first self.now) code }
     {
-        if code < FIRST_CODE {
-            return None;
-        }
-        let rank = code - FIRST_CODE;
+        let rank = code.checked_sub(FIRST_CODE)?;
         if rank >= first {
             return None;
         }
