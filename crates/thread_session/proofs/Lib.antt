@@ -7,4 +7,6 @@ pub mod Failing
 pub mod Results
 pub mod Delivering
 pub mod Calling
+pub mod Opened
 pub mod Folding
+pub mod Growing

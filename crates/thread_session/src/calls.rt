@@ -1,6 +1,6 @@
 //! The calls on a session's sets, each as the core makes it.
 ghost use Rattle.std.specs.Prelude.{◌≡◌, ◌≢◌, ◌++◌, IfOk, OnErr, OnOk, false};
-ghost use Rattle.overflow_dispatch.specs.Notes.{PartAdded};
+ghost use Rattle.overflow_dispatch.specs.Notes.{Grown, PartAdded};
 ghost use Rattle.papi_base.specs.declared.code.Code.TheVariants as code;
 ghost use Rattle.session_model.specs.Account.{Account};
 ghost use Rattle.session_model.specs.Conditions.{IsGood, IsNamed};
@@ -228,6 +228,7 @@ impl<S: Source> Session<S> {
         // Told or not.
         ensures follows { IfOk result (λ r. FollowsAs book.now self.old self.new c.now r (notes h.old) (notes h.new)) }
         ensures cut { OnErr result (IsCutIn book.now self.old self.new c.now (notes h.old) (notes h.new)) }
+        ensures grown { Grown (notes h.old) (notes h.new) }
         ensures ready { IsReady book.now self.new }
         ensures shape { self.new.core.shape ≡ self.old.core.shape }
         ensures faults { FaultsKept (fault_count self.old.reader) (fault_count self.new.reader) }

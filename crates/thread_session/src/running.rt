@@ -1,6 +1,6 @@
 //! Runs: a session consumes occurrences of its stream.
 ghost use Rattle.std.specs.Prelude.{◌≡◌, ◌++◌, IfOk, OnErr, OnOk};
-ghost use Rattle.overflow_dispatch.specs.Notes.{PartAdded};
+ghost use Rattle.overflow_dispatch.specs.Notes.{Grown, PartAdded};
 ghost use Rattle.session_model.specs.Account.{Account};
 ghost use Rattle.session_model.specs.Step.{step};
 ghost use Rattle.session_model.specs.declared.call.Call.TheVariants.{Run};
@@ -73,6 +73,7 @@ impl<S: Source> Session<S> {
         // Told or not.
         ensures follows { IfOk result (λ ran. FollowsAs book.now self.old self.new (Run n) (run_reply ran) (notes h.old) (notes h.new)) }
         ensures cut { OnErr result (IsCut book.now self.old self.new n (notes h.old) (notes h.new)) }
+        ensures grown { Grown (notes h.old) (notes h.new) }
         ensures ready { IsReady book.now self.new }
         ensures shape { self.new.core.shape ≡ self.old.core.shape }
         ensures faults { FaultsKept (fault_count self.old.reader) (fault_count self.new.reader) }

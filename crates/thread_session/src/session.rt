@@ -33,9 +33,10 @@ impl<S: Source> Model for Session<S> {
 
 impl<S: Source> Session<S> {
     ghost use Rattle.stream_reader.specs.Reader.{coming};
+    ghost use Rattle.thread_core.specs.CoreView.{opening_core};
     ghost use Rattle.thread_session.specs.Faults.{fault_count};
     ghost use Rattle.thread_session.specs.SessionView.{IsFresh};
-    ghost use Rattle.thread_session.specs.Stands.{IsReady, Stands};
+    ghost use Rattle.thread_session.specs.Stands.{IsNew, IsReady, Stands};
 
     /// A session without sets, for units of this shape, that reads its thread's stream from the beginning. It takes the
     /// memory for 64 sets; where that is refused, the reader is dropped.
@@ -46,13 +47,33 @@ impl<S: Source> Session<S> {
         reader: StreamReader<S>,
     ) -> Result<Session<S>, AllocError>
         requires fresh { IsFresh reader }
+        ensures core { IfOk result (λ s. s.core ≡ opening_core thread shape) }
         ensures shape { IfOk result (λ s. s.core.shape ≡ shape) }
         ensures reader { IfOk result (λ s. s.reader ≡ reader) }
         ensures ready { (book : Book) → BookFits shape book → IfOk result (λ s. IsReady book s) }
         ensures stands { (book : Book) (stream : Coming) → coming reader ≡ Some stream → IfOk result (λ s. Stands book s (opening thread stream.rest stream.mark)) }
     {
         let core = Core::new(alloc, thread, shape)?;
-        Ok(Session { core, reader })
+        Ok(Session::over(core, reader))
+    }
+
+    /// A session of a new core, that reads its thread's stream from the beginning. It takes no memory.
+    pub fn over(core: Core, reader: StreamReader<S>) -> Session<S>
+        requires new { IsNew core }
+        requires fresh { IsFresh reader }
+        ensures core { result.core ≡ core }
+        ensures reader { result.reader ≡ reader }
+        ensures ready { (book : Book) → BookFits core.shape book → IsReady book result }
+        ensures stands { (book : Book) (stream : Coming) → coming reader ≡ Some stream → Stands book result (opening core.thread stream.rest stream.mark) }
+    {
+        Session { core, reader }
+    }
+
+    /// The reader as the session left it.
+    pub fn into_reader(self) -> StreamReader<S>
+        ensures { result ≡ self.reader }
+    {
+        self.reader
     }
 
     /// The source as the session left it, or `None` where the reader was made without one.

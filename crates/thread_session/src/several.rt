@@ -1,6 +1,6 @@
 //! Several calls on one session, one after another.
 ghost use Rattle.std.specs.Prelude.{◌≡◌, ◌++◌, IfOk, OnOk};
-ghost use Rattle.overflow_dispatch.specs.Notes.{Begun};
+ghost use Rattle.overflow_dispatch.specs.Notes.{Begun, Grown};
 ghost use Rattle.session_model.specs.Account.{Account};
 ghost use Rattle.session_model.specs.Step.{account_after, notes_to, replies_to};
 
@@ -31,6 +31,7 @@ impl<S: Source> Session<S> {
 
         // Whatever the outcome.
         ensures begun { (a : Account) → Stands book.now self.old a → Begun (notes h.old) (notes_to book.now self.old.core.shape a calls.now) (notes h.new) }
+        ensures grown { Grown (notes h.old) (notes h.new) }
         ensures ready { IsReady book.now self.new }
         ensures shape { self.new.core.shape ≡ self.old.core.shape }
     {

@@ -6,6 +6,7 @@ use Rattle.thread_session.specs.Follows.{is_run}
 use Rattle.thread_session.proofs.Calling.{call_sound, does_follows, part_of_call, still_by}
 use Rattle.thread_session.proofs.Endings.{follows_notes}
 use Rattle.thread_session.proofs.Failing.{kept_same}
+use Rattle.thread_session.proofs.Growing.{grown_same}
 use Rattle.thread_session.proofs.Results.{on_err}
 use Rattle.thread_session.proofs.session.Session.call.Goals as goal
 
@@ -26,6 +27,7 @@ returns-in_default g c =
       part = λ a h. tt;
       follows = does_follows c.args.book.now old c.make.new.self c.args.c.now c.make.result notes still d;
       cut = tt;
+      grown = grown_same notes;
       ready = record { agrees = d.kept.agrees };
       shape = d.kept.shape;
       faults = subst (λ (r : ReaderView). FaultsKept (fault_count old.reader) (fault_count r)) (sym d.reader) (kept_same old.reader);

@@ -2,6 +2,7 @@ use Rattle.std.proofs.Common.{drop, get_or, ◌∙◌, ◌+◌}
 use Rattle.std.proofs.lemmas.List.{drop_more}
 use Rattle.session_model.specs.declared.call.Call.TheVariants.{Register}
 use Rattle.thread_session.proofs.Folding.{begun, begun_in, one_more}
+use Rattle.thread_session.proofs.Growing.{grown_more}
 use Rattle.thread_session.proofs.session.Session.call_all.Goals as goal
 
 pub loop-c-preserved : goal.loop-c-preserved
@@ -14,6 +15,7 @@ loop-c-preserved g c =
     let inv = c.loop-c.invariant in
     let told = c.in_ok-reply.ensures in
     record {
+      grown = grown_more before so_far after inv.grown told.grown;
       ready = told.ready;
       shape = told.shape ∙ inv.shape;
       way = λ a h. rw c.in_ok-push.ensures.items (one_more c.args.book.now c.args.self.now.core.shape c.loop-c.self c.call.new.self (get_or calls i Register) c.in_ok-reply.reply (drop i calls) (drop (i + 1) calls) c.loop-c.replies.items before so_far after a calls

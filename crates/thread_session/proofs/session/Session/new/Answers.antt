@@ -1,4 +1,14 @@
+use Rattle.std.proofs.Common.{ap, subst, ℕ, []}
+use Rattle.papi_base.specs.Streams.{Dry}
+use Rattle.session_model.specs.Account.{opening}
+use Rattle.thread_core.specs.CoreView.{CoreView}
+use Rattle.thread_session.specs.Stands.{Stands}
+use Rattle.thread_session.proofs.Opened.{made_new}
 use Rattle.thread_session.proofs.session.Session.new.Goals as goal
 
+pub over-requires-clause-new : goal.over-requires-clause-new
+over-requires-clause-new g c = made_new c.in_ok-core.core c.args.thread c.args.shape c.in_ok-core.ensures.core (c.in_ok-core.ensures.stands [] [] Dry).shape
+
 pub returns-clause-stands : goal.returns-clause-stands
-returns-clause-stands g c book stream e = record { kept = c.in_ok-core.ensures.stands book stream.rest stream.mark; told = e }
+returns-clause-stands g c book stream told =
+    subst (λ (t : ℕ). Stands book c.over.result (opening t stream.rest stream.mark)) (ap (λ (core : CoreView). core.thread) c.in_ok-core.ensures.core) (c.over.ensures.stands book stream told)

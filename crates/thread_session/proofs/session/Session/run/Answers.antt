@@ -1,5 +1,7 @@
 use Rattle.thread_session.proofs.Cuts.{cut_part}
 use Rattle.thread_session.proofs.Endings.{follows_notes, follows_reply, follows_stands}
+use Rattle.thread_session.specs.Follows.{run_reply}
+use Rattle.thread_session.proofs.Growing.{grown_by}
 use Rattle.thread_session.proofs.Results.{err_gives, ok_gives, ok_then}
 use Rattle.thread_session.proofs.session.Session.run.Goals as goal
 
@@ -14,3 +16,6 @@ returns-clause-notes g c a h = ok_gives c.consume.result (λ ran f. follows_note
 
 pub returns-clause-part : goal.returns-clause-part
 returns-clause-part g c a h = err_gives c.consume.result (λ cut. cut_part _ _ _ _ _ _ a cut h) c.consume.ensures.cut
+
+pub returns-clause-grown : goal.returns-clause-grown
+returns-clause-grown g c = grown_by c.consume.result run_reply _ _ _ _ _ _ _ c.requires.ready c.consume.ensures.follows c.consume.ensures.cut
