@@ -6,7 +6,7 @@ use Rattle.std.proofs.lemmas.List.Elements.{All-push}
 use Rattle.std.specs.Bool.{MatchBool}
 use Rattle.postfix_rules.specs.Presets.{Book}
 use Rattle.overflow_dispatch.specs.declared.handler.Note.{Note}
-use Rattle.overflow_dispatch.specs.Notes.{Begun, PartAdded}
+use Rattle.overflow_dispatch.specs.Notes.{Begun, Grown, PartAdded}
 use Rattle.session_model.specs.declared.call.Call.{Call}
 use Rattle.session_model.specs.declared.reply.Reply.{Reply}
 use Rattle.session_model.specs.Account.{Account}
@@ -37,11 +37,18 @@ pub record Going (book : Book) (x y : Seen) (k : ℕ) : Type 0 where
   pub shape : y.session.core.shape ≡ x.session.core.shape
   pub ready : IsReady book y.session
   pub faults : FaultsKept (fault_count x.session.reader) (fault_count y.session.reader)
+  pub grown : Grown x.notes y.notes
   pub made : (made : List Reply) × Made x y k made
   pub along : (a : Account) → Stands book x.session a → Along book a x y k
 
 All-nil : {X : Type 0} (P : X → Type 0) → All P []
 All-nil P = λ k d l. absurd (omega (arith, l))
+
+grown-none : (ns : List Note) → Grown ns ns
+grown-none ns = ([], sym (append-nil ns))
+
+grown-more : (a b c : List Note) → Grown a b → Grown b c → Grown a c
+grown-more a b c h i = (h.0 ++ i.0, i.1 ∙ (ap (λ v. v ++ i.0) h.1 ∙ append_assoc a h.0 i.0))
 
 pub going-none : (book : Book) (x y : Seen) → IsReady book x.session → y ≡ x → x.starved ≡ false → Going book x y 0
 going-none book x y ready e q =
@@ -52,6 +59,7 @@ going-none book x y ready e q =
       shape = refl;
       ready = ready;
       faults = kept-same (fault_count x.session.reader);
+      grown = grown-none x.notes;
       made = ([], record { appended = sym (append-nil x.replies); counted = refl; faulty = All-nil (λ r. IsFault r → FaultsRose (fault_count x.session.reader) (fault_count x.session.reader)) });
       along = λ a s. record { stands = s; replies = sym (append-nil x.replies); notes = sym (append-nil x.notes) };
     })
@@ -61,6 +69,7 @@ pub record Called (book : Book) (y z : Seen) (c : Call) (r : Reply) : Type 0 whe
   pub shape : z.session.core.shape ≡ y.session.core.shape
   pub ready : IsReady book z.session
   pub faults : FaultsKept (fault_count y.session.reader) (fault_count z.session.reader)
+  pub grown : Grown y.notes z.notes
   pub faulty : IsFault r → FaultsRose (fault_count y.session.reader) (fault_count z.session.reader)
   pub follows : (a : Account) → Stands book y.session a
       → Stands book z.session (step book y.session.core.shape a c).account
@@ -118,6 +127,7 @@ going-more book x y z k c r g h e called p q rs =
       shape = called.shape ∙ g.shape;
       ready = called.ready;
       faults = kept-kept (fault_count x.session.reader) (fault_count y.session.reader) (fault_count z.session.reader) g.faults called.faults;
+      grown = grown-more x.notes y.notes z.notes g.grown called.grown;
       made = (g.made.0 ++ r ∷ [], made-more x y z k r g.made.0 g.faults called.faults called.faulty rs g.made.1);
       along = λ a s. along-more book x y z k c r a h e g.shape called rs (g.along a s);
     }
@@ -127,6 +137,7 @@ pub record Refused (book : Book) (y z : Seen) (c : Call) : Type 0 where
   pub shape : z.session.core.shape ≡ y.session.core.shape
   pub ready : IsReady book z.session
   pub faults : FaultsKept (fault_count y.session.reader) (fault_count z.session.reader)
+  pub grown : Grown y.notes z.notes
   pub part : (a : Account) → Stands book y.session a → Begun y.notes (step book y.session.core.shape a c).notes z.notes
 
 begun-of : (before given after : List Note) (n : ℕ) → after ≡ before ++ take n given → Begun before given after
@@ -162,6 +173,7 @@ refused-of book y z c r called =
       shape = called.shape;
       ready = called.ready;
       faults = called.faults;
+      grown = called.grown;
       part =
           λ a s.
           let ns = (step book y.session.core.shape a c).notes in
@@ -177,6 +189,7 @@ going-cut book x y z k c g h e refused p q rs =
       shape = refused.shape ∙ g.shape;
       ready = refused.ready;
       faults = kept-kept (fault_count x.session.reader) (fault_count y.session.reader) (fault_count z.session.reader) g.faults refused.faults;
+      grown = grown-more x.notes y.notes z.notes g.grown refused.grown;
       replied = (
         g.made.0,
         record {
@@ -199,6 +212,7 @@ going-end book x y k g e =
       shape = g.shape;
       ready = g.ready;
       faults = g.faults;
+      grown = g.grown;
       replied = (
         g.made.0,
         record { appended = g.made.1.appended; counted = λ f. g.made.1.counted ∙ e; faulty = g.made.1.faulty },
@@ -235,6 +249,7 @@ worked-same book x x' y y' w a n c r a' n' c' r' s' =
       shape = w.shape;
       ready = w.ready;
       faults = w.faults;
+      grown = w.grown;
       replied = (w.replied.0, record { appended = w.replied.1.appended; counted = w.replied.1.counted; faulty = w.replied.1.faulty });
       outcome = λ e s. outcome-as book e x y b y.starved (w.outcome e s);
     } in

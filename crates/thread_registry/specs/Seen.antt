@@ -3,7 +3,7 @@ use Rattle.std.specs.Prelude.{◌≡◌, ℕ, ◌<◌, Bool, false, List, All, �
 use Rattle.std.specs.Bool.{MatchBool}
 use Rattle.postfix_rules.specs.Presets.{Book}
 use Rattle.overflow_dispatch.specs.declared.handler.Note.{Note}
-use Rattle.overflow_dispatch.specs.Notes.{Begun}
+use Rattle.overflow_dispatch.specs.Notes.{Begun, Grown}
 use Rattle.session_model.specs.declared.call.Call.{Call}
 use Rattle.session_model.specs.declared.reply.Reply.{Reply}
 use Rattle.session_model.specs.Account.{Account}
@@ -49,6 +49,7 @@ pub record Worked (book : Book) (x y : Seen) : Type 0 where
   pub shape : y.session.core.shape ≡ x.session.core.shape
   pub ready : IsReady book y.session
   pub faults : FaultsKept (fault_count x.session.reader) (fault_count y.session.reader)
+  pub grown : Grown x.notes y.notes
   pub replied : (made : List Reply) × Replied x y made
   pub outcome : (a : Account) → Stands book x.session a → MatchBool y.starved (Cut book a x y) (Finished book a x y)
 
