@@ -89,7 +89,7 @@ fn work_parts<R: Threads + Sync, B: Sync, T: Task<B> + Send>(
     join_mut(rt, &mut first, &mut second);
 }
 
-/// Works all tasks by at most this many workers, 1 to 64. Each worker has a run of neighbours, so cut that each asks for about as much work; none has no task
+/// Works all tasks by at most this many workers. Each worker has a run of neighbours, so cut that each asks for about as much work; none has no task
 /// while there are as many tasks as workers. No memory is taken.
 pub fn work_tasks<R: Threads + Sync, B: Sync, T: Task<B> + Send>(
     rt: &R,
@@ -98,7 +98,6 @@ pub fn work_tasks<R: Threads + Sync, B: Sync, T: Task<B> + Send>(
     workers: u32,
 )
     requires low { 1 ≤ workers }
-    requires high { workers ≤ 64 }
     requires ready { AtEach (T.ready book.now) tasks.old.items }
     ensures { Each (T.done book.now) tasks.old.items tasks.new.items }
 {

@@ -11,7 +11,7 @@ use postfix_rules::PresetBook;
 use std::marker::{Send, Sync};
 use std::thread::Threads;
 
-/// Makes the calls of all jobs, by at most this many workers, 1 to 64. Each job's replies are those of its calls in order, whatever the number of workers.
+/// Makes the calls of all jobs, by at most this many workers. Each job's replies are those of its calls in order, whatever the number of workers.
 pub fn work_all<R: Threads + Sync, S: Source + Send>(
     rt: &R,
     jobs: &mut Vec<Job<S>>,
@@ -19,7 +19,6 @@ pub fn work_all<R: Threads + Sync, S: Source + Send>(
     workers: u32,
 )
     requires low { 1 ≤ workers }
-    requires high { workers ≤ 64 }
     requires ready { AtEach (λ j. CanWork book.now j.session j.calls.items) jobs.old.items }
     ensures worked { Each (λ x y. Worked book.now (seen (notes x.handler) x) (seen (notes y.handler) y)) jobs.old.items jobs.new.items }
 {
