@@ -4,20 +4,19 @@ use Rattle.clap.specs.Words.{Text}
 use Rattle.clap.proofs.OnLiterals.{clap_on_literals}
 use Rattle.tool_words.specs.declared.command.Command.{Command}
 use Rattle.tool_words.specs.declared.command.Command.TheVariants.{Decode, Encode, Run}
-use Rattle.tool_words.specs.EncodeForm.{encode_app, encode_form, encode_words_in, names_rule}
+use Rattle.tool_words.specs.EncodeForm.{encode_rules, encode_words_in, names_rule}
 use Rattle.tool_words.specs.Form.{form}
-use Rattle.tool_words.specs.declared.decode.DecodeWords.{DecodeWords}
 use Rattle.tool_words.specs.declared.presets.PresetWords.{PresetWords}
-use Rattle.tool_words.specs.declared.run.RunWords.{RunWords}
-use Rattle.tool_words.specs.DecodeForm.{available_rule, decode_app, decode_form, decode_words_in}
+use Rattle.tool_words.specs.DecodeForm.{available_rule, decode_rules, decode_words_in}
 use Rattle.tool_words.specs.Options.{unit_rule}
 use Rattle.tool_words.specs.Presets.{cpu_rule, is_cpu, needed_cpu_rule, needed_presets_rule, presets_rule}
-use Rattle.tool_words.specs.RunForm.{notes_rule, run_app, run_form, run_words_in, script_rule}
+use Rattle.tool_words.specs.RunForm.{notes_rule, run_rules, run_words_in, script_rule}
 use Rattle.tool_words.specs.Streams.{streams_rule}
+use Rattle.tool_words.specs.Words.{read_by}
 use Rattle.tool_words.specs.Workers.{workers_rule}
 
 unfoldable on_words : Unit {0}
-unfolding clap_on_literals unit_rule presets_rule cpu_rule is_cpu run_form run_words_in run_app workers_rule notes_rule script_rule streams_rule encode_form encode_words_in encode_app names_rule decode_form decode_words_in decode_app needed_presets_rule needed_cpu_rule available_rule
+unfolding clap_on_literals read_by unit_rule presets_rule cpu_rule is_cpu run_words_in run_rules workers_rule notes_rule script_rule streams_rule encode_words_in encode_rules names_rule decode_words_in decode_rules needed_presets_rule needed_cpu_rule available_rule
 on_words = tt
 
 abbrev lab_run : Text → List Text → Command
@@ -66,78 +65,73 @@ run_with (w ∷ ws) = w ∷ run_with ws
 abbrev run_words : List Text → List Text
 run_words more = codes "papi_run" ∷ codes "-U" ∷ codes "lab.unit" ∷ run_with more
 
-abbrev asked_run : Option PresetWords → Bool → Option RunWords
-asked_run presets notes = Some (record { unit = codes "lab.unit"; presets = presets; workers = 1; notes = notes; script = codes "s"; streams = [] })
+abbrev asked_run : Option PresetWords → Bool → Option Command
+asked_run presets notes = Some (Run (record { unit = codes "lab.unit"; presets = presets; workers = 1; notes = notes; script = codes "s"; streams = [] }))
 
-pub presets_and_notes : run_form (run_words (codes "-Pp" ∷ codes "--notes" ∷ codes "-C" ∷ codes "lab 2" ∷ [])) ≡ asked_run (lab_presets (codes "lab 2")) true
+pub presets_and_notes : form (run_words (codes "-Pp" ∷ codes "--notes" ∷ codes "-C" ∷ codes "lab 2" ∷ [])) ≡ asked_run (lab_presets (codes "lab 2")) true
 unfolding on_words
 presets_and_notes = refl
 
-pub neither : run_form (run_words []) ≡ asked_run None false
+pub neither : form (run_words []) ≡ asked_run None false
 unfolding on_words
 neither = refl
 
-pub decode : form (codes "papi_decode" ∷ codes "-U" ∷ codes "lab.unit" ∷ codes "-P" ∷ codes "p" ∷ codes "-C" ∷ codes "lab2" ∷ [])
-    ≡ Some (Decode (record { unit = codes "lab.unit"; presets = record { file = codes "p"; cpu = codes "lab2" }; available = false }))
-unfolding on_words
-decode = refl
-
-pub cpu_alone : run_form (run_words (codes "-C" ∷ codes "lab2" ∷ [])) ≡ None
+pub cpu_alone : form (run_words (codes "-C" ∷ codes "lab2" ∷ [])) ≡ None
 unfolding on_words
 cpu_alone = refl
 
-pub presets_alone : run_form (run_words (codes "-P" ∷ codes "p" ∷ [])) ≡ None
+pub presets_alone : form (run_words (codes "-P" ∷ codes "p" ∷ [])) ≡ None
 unfolding on_words
 presets_alone = refl
 
-pub comma_in_cpu : run_form (run_words (codes "-P" ∷ codes "p" ∷ codes "-C" ∷ codes "a,b" ∷ [])) ≡ None
+pub comma_in_cpu : form (run_words (codes "-P" ∷ codes "p" ∷ codes "-C" ∷ codes "a,b" ∷ [])) ≡ None
 unfolding on_words
 comma_in_cpu = refl
 
-pub space_behind_cpu : run_form (run_words (codes "-P" ∷ codes "p" ∷ codes "-C" ∷ codes "lab2 " ∷ [])) ≡ None
+pub space_behind_cpu : form (run_words (codes "-P" ∷ codes "p" ∷ codes "-C" ∷ codes "lab2 " ∷ [])) ≡ None
 unfolding on_words
 space_behind_cpu = refl
 
-pub notes_twice : run_form (run_words (codes "--notes" ∷ codes "--notes" ∷ [])) ≡ None
+pub notes_twice : form (run_words (codes "--notes" ∷ codes "--notes" ∷ [])) ≡ None
 unfolding on_words
 notes_twice = refl
 
-abbrev on_workers : ℕ → Option RunWords
-on_workers workers = Some (record { unit = codes "lab.unit"; presets = None; workers = workers; notes = false; script = codes "s"; streams = [] })
+abbrev on_workers : ℕ → Option Command
+on_workers workers = Some (Run (record { unit = codes "lab.unit"; presets = None; workers = workers; notes = false; script = codes "s"; streams = [] }))
 
-pub one_worker : run_form (run_words (codes "--workers" ∷ codes "1" ∷ [])) ≡ on_workers 1
+pub one_worker : form (run_words (codes "--workers" ∷ codes "1" ∷ [])) ≡ on_workers 1
 unfolding on_words
 one_worker = refl
 
-pub most_workers : run_form (run_words (codes "--workers=64" ∷ [])) ≡ on_workers 64
+pub most_workers : form (run_words (codes "--workers=64" ∷ [])) ≡ on_workers 64
 unfolding on_words
 most_workers = refl
 
-pub zero_before : run_form (run_words (codes "--workers" ∷ codes "02" ∷ [])) ≡ on_workers 2
+pub zero_before : form (run_words (codes "--workers" ∷ codes "02" ∷ [])) ≡ on_workers 2
 unfolding on_words
 zero_before = refl
 
-pub plus_before : run_form (run_words (codes "--workers" ∷ codes "+2" ∷ [])) ≡ on_workers 2
+pub plus_before : form (run_words (codes "--workers" ∷ codes "+2" ∷ [])) ≡ on_workers 2
 unfolding on_words
 plus_before = refl
 
-pub no_worker : run_form (run_words (codes "--workers" ∷ codes "0" ∷ [])) ≡ None
+pub no_worker : form (run_words (codes "--workers" ∷ codes "0" ∷ [])) ≡ None
 unfolding on_words
 no_worker = refl
 
-pub a_worker_too_many : run_form (run_words (codes "--workers" ∷ codes "65" ∷ [])) ≡ None
+pub a_worker_too_many : form (run_words (codes "--workers" ∷ codes "65" ∷ [])) ≡ None
 unfolding on_words
 a_worker_too_many = refl
 
-pub no_number_of_workers : run_form (run_words (codes "--workers" ∷ codes "two" ∷ [])) ≡ None
+pub no_number_of_workers : form (run_words (codes "--workers" ∷ codes "two" ∷ [])) ≡ None
 unfolding on_words
 no_number_of_workers = refl
 
-pub empty_number_of_workers : run_form (run_words (codes "--workers=" ∷ [])) ≡ None
+pub empty_number_of_workers : form (run_words (codes "--workers=" ∷ [])) ≡ None
 unfolding on_words
 empty_number_of_workers = refl
 
-pub workers_twice : run_form (run_words (codes "--workers=2" ∷ codes "--workers=2" ∷ [])) ≡ None
+pub workers_twice : form (run_words (codes "--workers=2" ∷ codes "--workers=2" ∷ [])) ≡ None
 unfolding on_words
 workers_twice = refl
 
@@ -159,22 +153,22 @@ a_stream_too_many = refl
 
 -- ---- `papi_decode`
 
-abbrev lab_decode : Bool → Option DecodeWords
-lab_decode available = Some (record { unit = codes "lab.unit"; presets = record { file = codes "p"; cpu = codes "lab2" }; available = available })
+abbrev lab_decode : Bool → Option Command
+lab_decode available = Some (Decode (record { unit = codes "lab.unit"; presets = record { file = codes "p"; cpu = codes "lab2" }; available = available }))
 
-pub all_presets : decode_form (codes "papi_decode" ∷ codes "-U" ∷ codes "lab.unit" ∷ codes "-P" ∷ codes "p" ∷ codes "-C" ∷ codes "lab2" ∷ []) ≡ lab_decode false
+pub all_presets : form (codes "papi_decode" ∷ codes "-U" ∷ codes "lab.unit" ∷ codes "-P" ∷ codes "p" ∷ codes "-C" ∷ codes "lab2" ∷ []) ≡ lab_decode false
 unfolding on_words
 all_presets = refl
 
-pub available_presets : decode_form (codes "papi_decode" ∷ codes "-a" ∷ codes "-Clab2" ∷ codes "-U=lab.unit" ∷ codes "-Pp" ∷ []) ≡ lab_decode true
+pub available_presets : form (codes "papi_decode" ∷ codes "-a" ∷ codes "-Clab2" ∷ codes "-U=lab.unit" ∷ codes "-Pp" ∷ []) ≡ lab_decode true
 unfolding on_words
 available_presets = refl
 
-pub no_cpu : decode_form (codes "papi_decode" ∷ codes "-U" ∷ codes "lab.unit" ∷ codes "-P" ∷ codes "p" ∷ []) ≡ None
+pub no_cpu : form (codes "papi_decode" ∷ codes "-U" ∷ codes "lab.unit" ∷ codes "-P" ∷ codes "p" ∷ []) ≡ None
 unfolding on_words
 no_cpu = refl
 
-pub positional_word : decode_form (codes "papi_decode" ∷ codes "-U" ∷ codes "lab.unit" ∷ codes "-P" ∷ codes "p" ∷ codes "-C" ∷ codes "lab2" ∷ codes "s" ∷ []) ≡ None
+pub positional_word : form (codes "papi_decode" ∷ codes "-U" ∷ codes "lab.unit" ∷ codes "-P" ∷ codes "p" ∷ codes "-C" ∷ codes "lab2" ∷ codes "s" ∷ []) ≡ None
 unfolding on_words
 positional_word = refl
 

@@ -1,4 +1,4 @@
+pub mod ArgumentLemmas
 pub mod FormLemmas
-pub mod CommandLemmas
 pub mod NumberLemmas
 pub mod Examples

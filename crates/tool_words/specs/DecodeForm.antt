@@ -1,19 +1,22 @@
 -- The words of `papi_decode`, a tool of this project, in the words of `clap`: `-U UNIT -P PRESETS -C CPU [-a]`.
-use Rattle.std.specs.Prelude.{Bool, List, Option, Some, None, codes, option_map}
-use Rattle.clap.specs.Words.{App, Row, Rule, Text, first_of, new_app, new_rule, with_rule}
+use Rattle.std.specs.Prelude.{◌≡◌, Bool, true, List, [], ◌∷◌, Option, Some, None, codes, option_map, refl}
+use Rattle.clap.specs.Words.{Row, Rule, Text, first_of, is_simple_and_free, new_rule}
 use Rattle.clap.specs.declared.builder.ArgAction.TheVariants.{SetTrue}
 use Rattle.tool_words.specs.declared.decode.DecodeWords.{DecodeWords}
 use Rattle.tool_words.specs.Options.{is_set, unit_rule}
-use Rattle.tool_words.specs.Presets.{needed_cpu_rule, needed_presets_rule, presets_of}
-use Rattle.tool_words.specs.Words.{read_by}
+use Rattle.tool_words.specs.Presets.{cpu_rule, needed_cpu_rule, needed_presets_rule, presets_of, presets_rule}
+use Rattle.tool_words.specs.Words.{app_with}
 
 -- `-a`, the available presets alone
 unfoldable pub available_rule : Rule
 available_rule = record (new_rule (codes "available")) { short = Some 97; action = Some SetTrue }
 
-unfoldable pub decode_app : App
-decode_app = with_rule (with_rule (with_rule (with_rule (new_app (codes "papi_decode"))
-    unit_rule) needed_presets_rule) needed_cpu_rule) available_rule
+unfoldable pub decode_rules : List Rule
+decode_rules = unit_rule ∷ needed_presets_rule ∷ needed_cpu_rule ∷ available_rule ∷ []
+
+pub decode_rules-defined : is_simple_and_free (app_with decode_rules) ≡ true
+unfolding decode_rules unit_rule needed_presets_rule presets_rule needed_cpu_rule cpu_rule available_rule
+decode_rules-defined = refl
 
 -- what the values of the arguments ask for
 abbrev pub decode_words : Option Text → Option Text → Option Text → Bool → Option DecodeWords
@@ -25,7 +28,3 @@ decode_words _ _ _ _ = None
 unfoldable pub decode_words_in : List Row → Option DecodeWords
 decode_words_in rows =
     decode_words (first_of (codes "unit") rows) (first_of (codes "presets") rows) (first_of (codes "cpu") rows) (is_set (first_of (codes "available") rows))
-
--- what the words ask for, of which the first is the tool's name
-unfoldable pub decode_form : List Text → Option DecodeWords
-decode_form words = read_by decode_app decode_words_in words

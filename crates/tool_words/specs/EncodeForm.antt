@@ -1,11 +1,11 @@
 -- The words of `papi_encode`, a tool of this project, in the words of `clap`: `-U UNIT NAME..`.
-use Rattle.std.specs.Prelude.{List, Option, Some, None, true, codes}
+use Rattle.std.specs.Prelude.{◌≡◌, true, List, [], ◌∷◌, Option, Some, None, codes, refl}
 use Rattle.clap.specs.Lexer.{usize_max}
-use Rattle.clap.specs.Words.{App, Row, Rule, Text, all_of, first_of, new_app, new_rule, with_rule}
+use Rattle.clap.specs.Words.{Row, Rule, Text, all_of, first_of, is_simple_and_free, new_rule}
 use Rattle.clap.specs.declared.builder.ArgAction.TheVariants.{Append}
 use Rattle.tool_words.specs.declared.encode.EncodeWords.{EncodeWords}
 use Rattle.tool_words.specs.Options.{unit_rule}
-use Rattle.tool_words.specs.Words.{read_by}
+use Rattle.tool_words.specs.Words.{app_with}
 
 unfoldable pub names_rule : Rule
 names_rule = record (new_rule (codes "names")) {
@@ -14,8 +14,12 @@ names_rule = record (new_rule (codes "names")) {
   range = Some (record { start_inclusive = 1; end_inclusive = usize_max });
 }
 
-unfoldable pub encode_app : App
-encode_app = with_rule (with_rule (new_app (codes "papi_encode")) unit_rule) names_rule
+unfoldable pub encode_rules : List Rule
+encode_rules = unit_rule ∷ names_rule ∷ []
+
+pub encode_rules-defined : is_simple_and_free (app_with encode_rules) ≡ true
+unfolding encode_rules unit_rule names_rule
+encode_rules-defined = refl
 
 -- what the values of the arguments ask for
 abbrev pub encode_words : Option Text → Option (List Text) → Option EncodeWords
@@ -25,7 +29,3 @@ encode_words _ _ = None
 -- what the matches of the words ask for
 unfoldable pub encode_words_in : List Row → Option EncodeWords
 encode_words_in rows = encode_words (first_of (codes "unit") rows) (all_of (codes "names") rows)
-
--- what the words ask for, of which the first is the tool's name
-unfoldable pub encode_form : List Text → Option EncodeWords
-encode_form words = read_by encode_app encode_words_in words

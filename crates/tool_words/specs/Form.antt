@@ -1,27 +1,29 @@
 -- What a program's words ask for: the first names the tool.
 use Rattle.std.specs.Prelude.{List, [], ◌∷◌, Option, codes, find, option_and_then, option_map}
 use Rattle.std.specs.Str.{bytes_eq}
-use Rattle.clap.specs.Words.{Text}
+use Rattle.clap.specs.Words.{Row, Rule, Text}
 use Rattle.tool_words.specs.declared.command.Command.{Command}
 use Rattle.tool_words.specs.declared.command.Command.TheVariants.{Run, Encode, Decode}
-use Rattle.tool_words.specs.DecodeForm.{decode_form}
-use Rattle.tool_words.specs.EncodeForm.{encode_form}
-use Rattle.tool_words.specs.RunForm.{run_form}
+use Rattle.tool_words.specs.DecodeForm.{decode_rules, decode_words_in}
+use Rattle.tool_words.specs.EncodeForm.{encode_rules, encode_words_in}
+use Rattle.tool_words.specs.RunForm.{run_rules, run_words_in}
+use Rattle.tool_words.specs.Words.{read_by}
 
 -- a tool: its name, and the command that words ask for which begin with it
 pub record Tool : Type 0 where
   pub name : Text
   pub asks : List Text → Option Command
 
-abbrev pub tool : {A : Type 0} → Text → (A → Command) → (List Text → Option A) → Tool
-tool name command asks = record { name = name; asks = λ words. option_map command (asks words) }
+-- by the rules of its arguments, and by what their matches ask for
+abbrev pub tool : {A : Type 0} → Text → (A → Command) → List Rule → (List Row → Option A) → Tool
+tool name command rules asked = record { name = name; asks = λ words. option_map command (read_by rules asked words) }
 
 -- the tools, a row each
 abbrev pub tools : List Tool
 tools =
-    tool (codes "papi_run") Run run_form
-    ∷ tool (codes "papi_encode") Encode encode_form
-    ∷ tool (codes "papi_decode") Decode decode_form
+    tool (codes "papi_run") Run run_rules run_words_in
+    ∷ tool (codes "papi_encode") Encode encode_rules encode_words_in
+    ∷ tool (codes "papi_decode") Decode decode_rules decode_words_in
     ∷ []
 
 -- the tool that the words name

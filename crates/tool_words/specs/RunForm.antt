@@ -1,7 +1,7 @@
 -- The words of `papi_run`, a tool of this project, in the words of `clap`:
 -- `-U UNIT [-P PRESETS -C CPU] [--workers N] [--notes] SCRIPT [STREAM..]`.
-use Rattle.std.specs.Prelude.{ℕ, Bool, List, Option, Some, None, true, codes, option_and_then}
-use Rattle.clap.specs.Words.{App, Row, Rule, Text, all_of, first_of, new_app, new_rule, with_rule}
+use Rattle.std.specs.Prelude.{◌≡◌, ℕ, Bool, true, List, [], ◌∷◌, Option, Some, None, codes, option_and_then, refl}
+use Rattle.clap.specs.Words.{Row, Rule, Text, all_of, first_of, is_simple_and_free, new_rule}
 use Rattle.clap.specs.declared.builder.ArgAction.TheVariants.{SetTrue}
 use Rattle.tool_words.specs.declared.presets.PresetWords.{PresetWords}
 use Rattle.tool_words.specs.declared.run.RunWords.{RunWords}
@@ -9,7 +9,7 @@ use Rattle.tool_words.specs.Numbers.{number_of}
 use Rattle.tool_words.specs.Options.{is_set, unit_rule}
 use Rattle.tool_words.specs.Presets.{cpu_rule, presets_asked, presets_rule}
 use Rattle.tool_words.specs.Streams.{streams_asked, streams_rule}
-use Rattle.tool_words.specs.Words.{read_by}
+use Rattle.tool_words.specs.Words.{app_with}
 use Rattle.tool_words.specs.Workers.{workers_of, workers_rule}
 
 unfoldable pub notes_rule : Rule
@@ -18,9 +18,12 @@ notes_rule = record (new_rule (codes "notes")) { long = Some (codes "notes"); ac
 unfoldable pub script_rule : Rule
 script_rule = record (new_rule (codes "script")) { required = true }
 
-unfoldable pub run_app : App
-run_app = with_rule (with_rule (with_rule (with_rule (with_rule (with_rule (with_rule (new_app (codes "papi_run"))
-    unit_rule) presets_rule) cpu_rule) workers_rule) notes_rule) script_rule) streams_rule
+unfoldable pub run_rules : List Rule
+run_rules = unit_rule ∷ presets_rule ∷ cpu_rule ∷ workers_rule ∷ notes_rule ∷ script_rule ∷ streams_rule ∷ []
+
+pub run_rules-defined : is_simple_and_free (app_with run_rules) ≡ true
+unfolding run_rules unit_rule presets_rule cpu_rule workers_rule notes_rule script_rule streams_rule
+run_rules-defined = refl
 
 -- what the values of the arguments ask for
 abbrev pub run_words : Option Text → Option (Option PresetWords) → Option ℕ → Bool → Option Text → Option (List Text) → Option RunWords
@@ -34,7 +37,3 @@ run_words_in rows =
     run_words (first_of (codes "unit") rows) (presets_asked (first_of (codes "presets") rows) (first_of (codes "cpu") rows))
     (option_and_then workers_of (number_of (codes "workers") rows)) (is_set (first_of (codes "notes") rows))
     (first_of (codes "script") rows) (streams_asked (all_of (codes "streams") rows))
-
--- what the words ask for, of which the first is the tool's name
-unfoldable pub run_form : List Text → Option RunWords
-run_form words = read_by run_app run_words_in words

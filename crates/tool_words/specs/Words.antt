@@ -1,20 +1,24 @@
 -- How a tool's words are read: by the matches that `clap` defines for a simple command.
-use Rattle.std.specs.Prelude.{◌≡◌, List, [], ◌∷◌, Option, None, Some, Result, Ok, Err}
-use Rattle.clap.specs.Words.{App, Kinds, Row, Text, fault_of, found_of, matches_of, rows_of}
+use Rattle.std.specs.Prelude.{◌≡◌, List, [], ◌∷◌, Option, None, Some, Result, Ok, Err, codes}
+use Rattle.clap.specs.Words.{App, Kinds, Row, Rule, Text, fault_of, found_of, matches_of, new_app, rows_of}
 use Rattle.clap.specs.declared.error.kind.ErrorKind.{ErrorKind}
 use Rattle.clap.specs.declared.error.kind.ErrorKind.TheVariants as kind
 use Rattle.clap.specs.declared.parser.matches.ArgMatches.{ArgMatches}
 use Rattle.tool_words.specs.declared.fault.WordsFault.{WordsFault}
 use Rattle.tool_words.specs.declared.fault.WordsFault.TheVariants.{BadWords, Memory}
 
+-- The command with these arguments, in order. Its name is in no text that is shown.
+abbrev pub app_with : List Rule → App
+app_with rules = record (new_app (codes "papi")) { top = record (new_app (codes "papi")).top { rules = rules } }
+
 -- nothing, where there is a kind of refusal
 abbrev pub unless_refused : {A : Type 0} → Kinds → Option A → Option A
 unless_refused [] given = given
 unless_refused (k ∷ ks) given = None
 
--- what words ask for: nothing where the command refuses them, else what their matches come to
-abbrev pub read_by : {A : Type 0} → App → (List Row → Option A) → List Text → Option A
-read_by app asked words = unless_refused (fault_of app words) (asked (matches_of app words))
+-- what words ask for, by the rules of their arguments: nothing where these refuse them, else what their matches come to
+unfoldable pub read_by : {A : Type 0} → List Rule → (List Row → Option A) → List Text → Option A
+read_by rules asked words = unless_refused (fault_of (app_with rules) words) (asked (matches_of (app_with rules) words))
 
 -- The answer to words that ask for this, or for nothing. Memory may run out at any words.
 abbrev pub Answers : {A : Type 0} → Result A WordsFault → Option A → Type 0

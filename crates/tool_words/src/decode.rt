@@ -1,14 +1,15 @@
 //! The words of `papi_decode`: `-U UNIT -P PRESETS -C CPU [-a]`.
 
-ghost use Rattle.std.specs.Prelude.{◌≡◌, IfOk, false, map, option_map, string_bytes};
-ghost use Rattle.clap.specs.Words.{app_of, found_of, rows_of, rule_of};
-ghost use Rattle.tool_words.specs.DecodeForm.{available_rule, decode_app, decode_form, decode_words, decode_words_in};
+ghost use Rattle.std.specs.Prelude.{◌≡◌, false, map, option_map};
+ghost use Rattle.clap.specs.Words.{rule_of};
+ghost use Rattle.tool_words.specs.DecodeForm.{available_rule, decode_rules, decode_rules-defined, decode_words, decode_words_in};
 ghost use Rattle.tool_words.specs.Words.{Answers};
 
 use crate::fault::WordsFault;
-use crate::matches::{matches_in, text_of};
+use crate::matches::text_of;
 use crate::options::{is_set, unit_argument};
 use crate::presets::{PresetWords, needed_cpu_argument, needed_presets_argument, presets_of};
+use crate::tool::ToolWords;
 use clap::{Arg, ArgAction, ArgMatches};
 use papi_base::Text;
 use std::alloc::{AllocError, Global};
@@ -22,28 +23,16 @@ pub struct DecodeWords {
     pub available: bool,
 }
 
-// ---- the command
+// ---- the arguments
 
 // `-a`.
 #[tactic(auto, unfolding(crate::specs::DecodeForm::available_rule))]
 fn available_argument<'a>(alloc: Global) -> Arg<'a>
-    ensures rule { rule_of result ≡ available_rule }
-    ensures local { result.global ≡ false }
+    ensures { rule_of result ≡ available_rule }
 {
     Arg::new(alloc, "available")
         .short('a')
         .action(ArgAction::SetTrue)
-}
-
-// The command that reads the words.
-fn decode_command<'a>(alloc: Global) -> Result<clap::Command<'a>, AllocError>
-    ensures { IfOk result (λ command. app_of command ≡ decode_app) }
-{
-    clap::Command::new(alloc, "papi_decode")
-        .arg(unit_argument(alloc))?
-        .arg(needed_presets_argument(alloc))?
-        .arg(needed_cpu_argument(alloc))?
-        .arg(available_argument(alloc))
 }
 
 // ---- the values
@@ -70,22 +59,31 @@ fn asked(
     })
 }
 
-// What the matches of the words ask for.
-#[tactic(auto, unfolding(crate::specs::DecodeForm::decode_words_in))]
-fn asked_by(alloc: Global, matches: &ArgMatches<'_>) -> Result<DecodeWords, WordsFault>
-    ensures { Answers result (decode_words_in (rows_of (found_of matches.now))) }
-{
-    let unit = text_of(matches, "unit");
-    let presets = text_of(matches, "presets");
-    let cpu = text_of(matches, "cpu");
-    let available = is_set(text_of(matches, "available"));
-    asked(alloc, unit, presets, cpu, available)
-}
+// ---- the tool
 
-/// What the words of `papi_decode` ask for, of which the first is the tool's name.
-pub fn read_decode_words(alloc: Global, words: &[String]) -> Result<DecodeWords, WordsFault>
-    ensures { Answers result (decode_form (map string_bytes words.now)) }
-{
-    let matches = matches_in(decode_command(alloc)?, words)?;
-    asked_by(alloc, &matches)
+impl ToolWords for DecodeWords {
+    ghost rules = { decode_rules };
+
+    ghost asked = { decode_words_in };
+
+    ghost defined = { decode_rules-defined };
+
+    #[tactic(auto, unfolding(crate::specs::DecodeForm::decode_rules))]
+    fn arguments<'a>(alloc: Global) -> Result<Vec<Arg<'a>>, AllocError> {
+        Ok(vec![in alloc;
+            unit_argument(alloc),
+            needed_presets_argument(alloc),
+            needed_cpu_argument(alloc),
+            available_argument(alloc),
+        ]?)
+    }
+
+    #[tactic(auto, unfolding(crate::specs::DecodeForm::decode_words_in))]
+    fn asked_by(alloc: Global, matches: &ArgMatches<'_>) -> Result<DecodeWords, WordsFault> {
+        let unit = text_of(matches, "unit");
+        let presets = text_of(matches, "presets");
+        let cpu = text_of(matches, "cpu");
+        let available = is_set(text_of(matches, "available"));
+        asked(alloc, unit, presets, cpu, available)
+    }
 }

@@ -15,17 +15,19 @@ pub mod presets;
 pub mod run;
 pub mod streams;
 pub mod texts;
+mod tool;
 pub mod workers;
 
 pub use command::Command;
-pub use decode::{DecodeWords, read_decode_words};
-pub use encode::{EncodeWords, read_encode_words};
+pub use decode::DecodeWords;
+pub use encode::EncodeWords;
 pub use fault::WordsFault;
 pub use presets::PresetWords;
-pub use run::{RunWords, read_run_words};
+pub use run::RunWords;
 use std::alloc::Global;
 pub use streams::StreamNames;
 pub use texts::Texts;
+use tool::read_tool;
 pub use workers::{MOST_WORKERS, Workers};
 
 /// What a program's words after its own name ask for: the first is a tool's name, the others are that tool's words.
@@ -36,9 +38,9 @@ pub fn read_words(alloc: Global, words: &[String]) -> Result<Command, WordsFault
     ensures { Answers result (form (map string_bytes words.now)) }
 {
     match tool_in(words) {
-        "papi_run" => Ok(Command::Run(read_run_words(alloc, words)?)),
-        "papi_encode" => Ok(Command::Encode(read_encode_words(alloc, words)?)),
-        "papi_decode" => Ok(Command::Decode(read_decode_words(alloc, words)?)),
+        "papi_run" => Ok(Command::Run(read_tool(alloc, words)?)),
+        "papi_encode" => Ok(Command::Encode(read_tool(alloc, words)?)),
+        "papi_decode" => Ok(Command::Decode(read_tool(alloc, words)?)),
         _ => Err(WordsFault::BadWords),
     }
 }

@@ -1,15 +1,26 @@
 //! The words as `clap` matches them, and the values of their arguments.
 
 ghost use Rattle.std.specs.Prelude.{◌≡◌, IfOk, map, option_map, string_bytes, true};
-ghost use Rattle.clap.specs.Words.{all_of, app_of, first_of, found_of, is_simple_and_free, rows_of};
+ghost use Rattle.clap.specs.Words.{all_of, app_of, first_of, found_of, is_simple_and_free, rows_of, rule_of};
 ghost use Rattle.tool_words.specs.Numbers as Numbers;
-ghost use Rattle.tool_words.specs.Words.{IsMatched};
+ghost use Rattle.tool_words.specs.Words.{IsMatched, app_with};
 
 use crate::fault::{WordsFault, fault_by};
 use crate::texts::Texts;
-use clap::ArgMatches;
+use clap::{Arg, ArgMatches};
 use papi_base::Text;
 use std::alloc::{AllocError, Global};
+
+// The command with these arguments.
+pub(crate) fn command_with<'a>(
+    alloc: Global,
+    arguments: Vec<Arg<'a>>,
+) -> Result<clap::Command<'a>, AllocError>
+    requires { is_simple_and_free (app_with (map rule_of arguments.items)) ≡ true }
+    ensures { IfOk result (λ command. app_of command ≡ app_with (map rule_of arguments.entry.items)) }
+{
+    clap::Command::new(alloc, "papi").args(arguments)
+}
 
 // The matches of the words, of which the first is the tool's name.
 pub(crate) fn matches_in<'a>(

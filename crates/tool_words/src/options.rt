@@ -11,8 +11,7 @@ use std::alloc::Global;
 // `-U UNIT`, which every tool needs.
 #[tactic(auto, unfolding(crate::specs::Options::unit_rule))]
 pub(crate) fn unit_argument<'a>(alloc: Global) -> Arg<'a>
-    ensures rule { rule_of result ≡ unit_rule }
-    ensures local { result.global ≡ false }
+    ensures { rule_of result ≡ unit_rule }
 {
     Arg::new(alloc, "unit").short('U').required(true)
 }

@@ -25,8 +25,7 @@ pub struct PresetWords {
 // `-P PRESETS`.
 #[tactic(auto, unfolding(crate::specs::Presets::presets_rule))]
 pub(crate) fn presets_argument<'a>(alloc: Global) -> Arg<'a>
-    ensures rule { rule_of result ≡ presets_rule }
-    ensures local { result.global ≡ false }
+    ensures { rule_of result ≡ presets_rule }
 {
     Arg::new(alloc, "presets").short('P')
 }
@@ -34,8 +33,7 @@ pub(crate) fn presets_argument<'a>(alloc: Global) -> Arg<'a>
 // `-C CPU`.
 #[tactic(auto, unfolding(crate::specs::Presets::cpu_rule))]
 pub(crate) fn cpu_argument<'a>(alloc: Global) -> Arg<'a>
-    ensures rule { rule_of result ≡ cpu_rule }
-    ensures local { result.global ≡ false }
+    ensures { rule_of result ≡ cpu_rule }
 {
     Arg::new(alloc, "cpu").short('C')
 }
@@ -43,8 +41,7 @@ pub(crate) fn cpu_argument<'a>(alloc: Global) -> Arg<'a>
 // `-P PRESETS`, of a tool that needs it.
 #[tactic(auto, unfolding(crate::specs::Presets::needed_presets_rule))]
 pub(crate) fn needed_presets_argument<'a>(alloc: Global) -> Arg<'a>
-    ensures rule { rule_of result ≡ needed_presets_rule }
-    ensures local { result.global ≡ false }
+    ensures { rule_of result ≡ needed_presets_rule }
 {
     presets_argument(alloc).required(true)
 }
@@ -52,8 +49,7 @@ pub(crate) fn needed_presets_argument<'a>(alloc: Global) -> Arg<'a>
 // `-C CPU`, of a tool that needs it.
 #[tactic(auto, unfolding(crate::specs::Presets::needed_cpu_rule))]
 pub(crate) fn needed_cpu_argument<'a>(alloc: Global) -> Arg<'a>
-    ensures rule { rule_of result ≡ needed_cpu_rule }
-    ensures local { result.global ≡ false }
+    ensures { rule_of result ≡ needed_cpu_rule }
 {
     cpu_argument(alloc).required(true)
 }

@@ -1,15 +1,16 @@
 //! The words of `papi_run`: `-U UNIT [-P PRESETS -C CPU] [--workers N] [--notes] SCRIPT [STREAM..]`.
 
-ghost use Rattle.std.specs.Prelude.{◌≡◌, IfOk, Some, false, map, option_map, string_bytes};
-ghost use Rattle.clap.specs.Words.{app_of, found_of, rows_of, rule_of};
-ghost use Rattle.tool_words.specs.RunForm.{notes_rule, run_app, run_form, run_words, run_words_in, script_rule};
+ghost use Rattle.std.specs.Prelude.{◌≡◌, Some, false, map, option_map};
+ghost use Rattle.clap.specs.Words.{rule_of};
+ghost use Rattle.tool_words.specs.RunForm.{notes_rule, run_rules, run_rules-defined, run_words, run_words_in, script_rule};
 ghost use Rattle.tool_words.specs.Words.{Answers};
 
 use crate::fault::WordsFault;
-use crate::matches::{matches_in, number_of, text_of, texts_of};
+use crate::matches::{number_of, text_of, texts_of};
 use crate::options::{is_set, unit_argument};
 use crate::presets::{PresetWords, cpu_argument, presets_argument, presets_asked};
 use crate::streams::{StreamNames, streams_argument, streams_asked};
+use crate::tool::ToolWords;
 use crate::workers::{Workers, workers_argument, workers_asked};
 use clap::{Arg, ArgAction, ArgMatches};
 use papi_base::Text;
@@ -27,12 +28,11 @@ pub struct RunWords {
     pub streams: StreamNames,
 }
 
-// ---- the command
+// ---- the arguments
 
 #[tactic(auto, unfolding(crate::specs::RunForm::notes_rule))]
 fn notes_argument<'a>(alloc: Global) -> Arg<'a>
-    ensures rule { rule_of result ≡ notes_rule }
-    ensures local { result.global ≡ false }
+    ensures { rule_of result ≡ notes_rule }
 {
     Arg::new(alloc, "notes")
         .long("notes")
@@ -41,24 +41,9 @@ fn notes_argument<'a>(alloc: Global) -> Arg<'a>
 
 #[tactic(auto, unfolding(crate::specs::RunForm::script_rule))]
 fn script_argument<'a>(alloc: Global) -> Arg<'a>
-    ensures rule { rule_of result ≡ script_rule }
-    ensures local { result.global ≡ false }
+    ensures { rule_of result ≡ script_rule }
 {
     Arg::new(alloc, "script").required(true)
-}
-
-// The command that reads the words.
-fn run_command<'a>(alloc: Global) -> Result<clap::Command<'a>, AllocError>
-    ensures { IfOk result (λ command. app_of command ≡ run_app) }
-{
-    clap::Command::new(alloc, "papi_run")
-        .arg(unit_argument(alloc))?
-        .arg(presets_argument(alloc))?
-        .arg(cpu_argument(alloc))?
-        .arg(workers_argument(alloc))?
-        .arg(notes_argument(alloc))?
-        .arg(script_argument(alloc))?
-        .arg(streams_argument(alloc))
 }
 
 // ---- the values
@@ -89,24 +74,36 @@ fn asked(
     })
 }
 
-// What the matches of the words ask for.
-#[tactic(auto, unfolding(crate::specs::RunForm::run_words_in))]
-fn asked_by(alloc: Global, matches: &ArgMatches<'_>) -> Result<RunWords, WordsFault>
-    ensures { Answers result (run_words_in (rows_of (found_of matches.now))) }
-{
-    let unit = text_of(matches, "unit");
-    let presets = presets_asked(alloc, text_of(matches, "presets"), text_of(matches, "cpu"))?;
-    let workers = workers_asked(number_of(matches, "workers"))?;
-    let notes = is_set(text_of(matches, "notes"));
-    let script = text_of(matches, "script");
-    let streams = streams_asked(alloc, texts_of(matches, "streams"))?;
-    asked(alloc, unit, presets, workers, notes, script, streams)
-}
+// ---- the tool
 
-/// What the words of `papi_run` ask for, of which the first is the tool's name.
-pub fn read_run_words(alloc: Global, words: &[String]) -> Result<RunWords, WordsFault>
-    ensures { Answers result (run_form (map string_bytes words.now)) }
-{
-    let matches = matches_in(run_command(alloc)?, words)?;
-    asked_by(alloc, &matches)
+impl ToolWords for RunWords {
+    ghost rules = { run_rules };
+
+    ghost asked = { run_words_in };
+
+    ghost defined = { run_rules-defined };
+
+    #[tactic(auto, unfolding(crate::specs::RunForm::run_rules))]
+    fn arguments<'a>(alloc: Global) -> Result<Vec<Arg<'a>>, AllocError> {
+        Ok(vec![in alloc;
+            unit_argument(alloc),
+            presets_argument(alloc),
+            cpu_argument(alloc),
+            workers_argument(alloc),
+            notes_argument(alloc),
+            script_argument(alloc),
+            streams_argument(alloc),
+        ]?)
+    }
+
+    #[tactic(auto, unfolding(crate::specs::RunForm::run_words_in))]
+    fn asked_by(alloc: Global, matches: &ArgMatches<'_>) -> Result<RunWords, WordsFault> {
+        let unit = text_of(matches, "unit");
+        let presets = presets_asked(alloc, text_of(matches, "presets"), text_of(matches, "cpu"))?;
+        let workers = workers_asked(number_of(matches, "workers"))?;
+        let notes = is_set(text_of(matches, "notes"));
+        let script = text_of(matches, "script");
+        let streams = streams_asked(alloc, texts_of(matches, "streams"))?;
+        asked(alloc, unit, presets, workers, notes, script, streams)
+    }
 }

@@ -66,8 +66,7 @@ impl StreamNames {
 // `STREAM..`.
 #[tactic(auto, unfolding(crate::specs::Streams::streams_rule))]
 pub(crate) fn streams_argument<'a>(alloc: Global) -> Arg<'a>
-    ensures rule { rule_of result ≡ streams_rule }
-    ensures local { result.global ≡ false }
+    ensures { rule_of result ≡ streams_rule }
 {
     Arg::new(alloc, "streams")
         .action(ArgAction::Append)

@@ -1,5 +1,5 @@
 //! Words that are read with memory at hand.
-use crate::{Command, read_decode_words, read_run_words, read_words};
+use crate::{Command, read_words};
 use std::alloc::{AllocError, Global};
 use std::test::Fail;
 
@@ -13,54 +13,67 @@ fn words_in(alloc: Global, line: &str) -> Result<Vec<String>, AllocError> {
 }
 
 #[test]
-fn one_stream(rt: HostRuntime) -> Result<(), Fail> {
+fn run_words(rt: HostRuntime) -> Result<(), Fail> {
     let alloc = rt.alloc();
-    let words = words_in(alloc, "papi_run s -U lab.unit t0")?;
-    match read_words(alloc, words.as_slice()) {
+    let words = words_in(
+        alloc,
+        "papi_run s -U lab.unit -P p -C lab2 --workers 02 t0 --notes t1",
+    )?;
+    let asked = read_words(alloc, words.as_slice());
+    match &asked {
         Ok(Command::Run(run)) => {
             assert!(rt; run.unit.as_str() == "lab.unit" && run.script.as_str() == "s");
-            assert!(rt; run.streams.as_slice().len() == 1);
+            assert!(rt; run.presets.is_some() && run.notes);
+            assert!(rt; run.workers.get() == 2 && run.streams.as_slice().len() == 2);
         }
-        Ok(Command::Encode(_encode)) => assert!(rt; false),
-        Ok(Command::Decode(_decode)) => assert!(rt; false),
-        Err(_) => assert!(rt; false),
+        _ => assert!(rt; false),
     }
     Ok(())
 }
 
 #[test]
-fn two_names(rt: HostRuntime) -> Result<(), Fail> {
+fn encode_words(rt: HostRuntime) -> Result<(), Fail> {
     let alloc = rt.alloc();
     let words = words_in(alloc, "papi_encode MEM:c=2 -U lab.unit NOPE")?;
-    match read_words(alloc, words.as_slice()) {
+    let asked = read_words(alloc, words.as_slice());
+    match &asked {
         Ok(Command::Encode(encode)) => {
             assert!(rt; encode.unit.as_str() == "lab.unit");
             assert!(rt; encode.names.as_slice().len() == 2);
         }
-        Ok(Command::Run(_run)) => assert!(rt; false),
-        Ok(Command::Decode(_decode)) => assert!(rt; false),
-        Err(_) => assert!(rt; false),
+        _ => assert!(rt; false),
     }
     Ok(())
 }
 
 #[test]
-fn presets_of_a_cpu(rt: HostRuntime) -> Result<(), Fail> {
+fn decode_words(rt: HostRuntime) -> Result<(), Fail> {
     let alloc = rt.alloc();
-    let words = words_in(alloc, "papi_run -U lab.unit -P p -C lab2 --notes s")?;
-    match read_run_words(alloc, words.as_slice()) {
-        Ok(run) => assert!(rt; run.presets.is_some() && run.notes),
-        Err(_) => assert!(rt; false),
-    }
     let words = words_in(alloc, "papi_decode -U lab.unit -P p -C lab2 -a")?;
-    match read_decode_words(alloc, words.as_slice()) {
-        Ok(decode) => {
+    let asked = read_words(alloc, words.as_slice());
+    match &asked {
+        Ok(Command::Decode(decode)) => {
             assert!(rt;
                 decode.presets.file.as_str() == "p" && decode.presets.cpu.as_str() == "lab2"
             );
             assert!(rt; decode.available);
         }
-        Err(_) => assert!(rt; false),
+        _ => assert!(rt; false),
+    }
+    Ok(())
+}
+
+#[test]
+fn bad_words(rt: HostRuntime) -> Result<(), Fail> {
+    let alloc = rt.alloc();
+    let lines = [
+        "papi_run -U lab.unit --workers 65 s",
+        "papi_run -U lab.unit -P lab.presets s",
+        "papi_encode --help",
+    ];
+    for line in lines {
+        let words = words_in(alloc, line)?;
+        assert!(rt; read_words(alloc, words.as_slice()).is_err());
     }
     Ok(())
 }

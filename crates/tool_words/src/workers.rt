@@ -63,8 +63,7 @@ impl Workers {
 // `--workers N`.
 #[tactic(auto, unfolding(crate::specs::Workers::workers_rule))]
 pub(crate) fn workers_argument<'a>(alloc: Global) -> Arg<'a>
-    ensures rule { rule_of result ≡ workers_rule }
-    ensures local { result.global ≡ false }
+    ensures { rule_of result ≡ workers_rule }
 {
     Arg::new(alloc, "workers")
         .long("workers")
