@@ -1,5 +1,5 @@
 -- Notes of passed thresholds as lines of text: this project's own format, docs/FORMATS.md. PAPI_overflow(3).
-use Rattle.std.specs.Prelude.{List, [], ◌∷◌, ◌++◌, false, decimal, codes}
+use Rattle.std.specs.Prelude.{[], ◌∷◌, ◌++◌, false, decimal, codes}
 use Rattle.std.specs.Fmt.{digits}
 use Rattle.overflow_dispatch.specs.declared.handler.Note.{Note}
 use Rattle.reply_text.specs.Replies.{Text}

@@ -1,14 +1,14 @@
 //! Replies and notes as text: a line of output for each.
 #![tactic(auto)]
 
-mod event;
+mod hexadecimal;
 mod line;
+mod names;
 mod note;
-mod number;
 mod results;
 
-pub use line::reply_line;
-pub use note::note_line;
+pub use line::push_reply_line;
+pub use note::push_note_line;
 
 #[cfg(test)]
 mod tests;

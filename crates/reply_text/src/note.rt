@@ -1,17 +1,19 @@
 //! The line of a note.
 
-ghost use Rattle.std.specs.Prelude.{◌≡◌, ◌++◌, ◌∷◌, [], IfOk, decimal, codes, false};
+ghost use Rattle.std.specs.Prelude.{◌≡◌, ◌++◌, ◌∷◌, [], OnOk, decimal, codes, false, string_bytes};
 ghost use Rattle.std.specs.Fmt.{digits};
 ghost use Rattle.reply_text.specs.Notes.{note_text};
 
 use overflow_dispatch::Note;
-use papi_base::Text;
-use std::alloc::{AllocError, Global};
+use std::alloc::AllocError;
+use std::fmt::Write;
 
-/// The line of a passed threshold: `note`, the thread, the number of the set, the event's index in it and the program counter
-/// in hexadecimal, with single spaces between them, and a newline.
-pub fn note_line(alloc: Global, note: &Note) -> Result<Text, AllocError>
-    ensures text { IfOk result (λ text. text ≡ note_text note.now) }
+/// Appends the line of a passed threshold: `note`, the thread, the number of the set, the event's index in it and the program
+/// counter in hexadecimal, with single spaces between them, and a newline.
+///
+/// Where memory is refused, it is open how much of the line is appended.
+pub fn push_note_line(text: &mut String, note: &Note) -> Result<(), AllocError>
+    ensures text { OnOk result (string_bytes text.new ≡ string_bytes text.old ++ note_text note.now) }
 {
     let Note {
         thread,
@@ -19,5 +21,5 @@ pub fn note_line(alloc: Global, note: &Note) -> Result<Text, AllocError>
         index,
         pc,
     } = *note;
-    Ok(Text::new(format!(in alloc; "note {thread} {set} {index} 0x{pc:x}\n")?))
+    writeln!(text, "note {thread} {set} {index} 0x{pc:x}")
 }

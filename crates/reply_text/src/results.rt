@@ -1,39 +1,21 @@
-//! What stands behind the code of a reply.
+//! The results of a reply, which follow its code.
 
-ghost use Rattle.std.specs.Prelude.{◌≡◌, ◌<◌, ◌≤◌, ◌==◌, ◌++◌, ◌∷◌, [], IfOk, OnOk, decimal, length, map, zip, filter};
+ghost use Rattle.std.specs.Prelude.{◌≡◌, ◌<◌, ◌==◌, ◌++◌, ◌∷◌, [], OnOk, codes, decimal, map, string_bytes, zip};
 ghost use Rattle.std.specs.Fmt.{signed_decimal};
 ghost use Rattle.std.specs.Int.{bit_at};
 ghost use Rattle.component_table.specs.EventNames.{event_name};
 ghost use Rattle.name_encoder.specs.Canonical.{canonical};
 ghost use Rattle.reply_text.specs.Replies as Replies;
+ghost use Rattle.reply_text.specs.Replies.{spaced};
 
-use crate::event::{assigned_text, counter_text, event_text, native_text};
-use crate::number::{hex_text, number_text, value_text};
+use crate::hexadecimal::push_hex;
+use crate::names::{counter_name, push_assigned, push_event, push_native};
 use component_table::Catalog;
 use event_sets::Clash;
-use event_tables::Tables;
-use papi_base::{Events, Natives, Text, Values};
+use papi_base::{Events, Natives, THREADS, Values};
 use session_model::{Assigned, Body};
-use std::alloc::{AllocError, Global};
-
-// One text.
-fn one(alloc: Global, text: Text) -> Result<Vec<Text>, AllocError>
-    ensures { IfOk result (λ v. v.items ≡ text ∷ []) }
-{
-    let mut texts = Vec::new(alloc);
-    texts.push(text)?;
-    Ok(texts)
-}
-
-// Two texts.
-fn two(alloc: Global, first: Text, second: Text) -> Result<Vec<Text>, AllocError>
-    ensures { IfOk result (λ v. v.items ≡ first ∷ second ∷ []) }
-{
-    let mut texts = Vec::new(alloc);
-    texts.push(first)?;
-    texts.push(second)?;
-    Ok(texts)
-}
+use std::alloc::AllocError;
+use std::fmt::Write;
 
 // Whether a bit of a number is set.
 fn has(set: u64, k: u32) -> bool
@@ -43,50 +25,66 @@ fn has(set: u64, k: u32) -> bool
     (set >> k) & 1 == 1
 }
 
-fn value_texts(alloc: Global, values: &Values) -> Result<Vec<Text>, AllocError>
-    ensures { IfOk result (λ v. v.items ≡ map signed_decimal values.now) }
+fn push_values(text: &mut String, values: &Values) -> Result<(), AllocError>
+    ensures { OnOk result (string_bytes text.new ≡ string_bytes text.old ++ spaced (map signed_decimal values.now)) }
 {
-    let mut texts = Vec::new(alloc);
     for i in 0..values.len() {
-        texts.push(value_text(alloc, values.at(i))?)?;
+        let value = values.at(i);
+        write!(text, " {value}")?;
     }
-    Ok(texts)
+    Ok(())
 }
 
-fn event_texts(alloc: Global, catalog: &Catalog, events: &Events) -> Result<Vec<Text>, AllocError>
-    ensures { IfOk result (λ v. v.items ≡ map (event_name catalog.now.tables) events.now) }
+fn push_events(text: &mut String, catalog: &Catalog, events: &Events) -> Result<(), AllocError>
+    ensures { OnOk result (string_bytes text.new ≡ string_bytes text.old ++ spaced (map (event_name catalog.now) events.now)) }
 {
-    let mut texts = Vec::new(alloc);
     for i in 0..events.len() {
-        texts.push(event_text(alloc, catalog, &events.at(i))?)?;
+        push_event(text, catalog, &events.at(i))?;
     }
-    Ok(texts)
+    Ok(())
 }
 
-fn assigned_texts(
-    alloc: Global,
-    tables: &Tables,
-    assigned: &Assigned,
-) -> Result<Vec<Text>, AllocError>
-    ensures { IfOk result (λ v. v.items ≡ map (Replies.assigned_text tables.now) (zip assigned.now.natives assigned.now.counters)) }
+fn push_natives(text: &mut String, catalog: &Catalog, natives: &Natives) -> Result<(), AllocError>
+    ensures { OnOk result (string_bytes text.new ≡ string_bytes text.old ++ spaced (map (canonical catalog.now.tables) natives.now)) }
 {
-    let mut texts = Vec::new(alloc);
+    for i in 0..natives.len() {
+        push_native(text, catalog, &natives.at(i))?;
+    }
+    Ok(())
+}
+
+// The native events of a set with their counters.
+fn push_assignment(
+    text: &mut String,
+    catalog: &Catalog,
+    assigned: &Assigned,
+) -> Result<(), AllocError>
+    ensures { OnOk result (string_bytes text.new ≡ string_bytes text.old ++ spaced (map (Replies.assigned_text catalog.now) (zip assigned.now.natives assigned.now.counters))) }
+{
     for i in 0..assigned.natives.len().min(assigned.counters.len()) {
         let native = assigned.natives.at(i);
         let counter = u32::from(assigned.counters.at(i));
-        texts.push(assigned_text(alloc, tables, &native, counter)?)?;
+        push_assigned(text, catalog, &native, counter)?;
     }
-    Ok(texts)
+    Ok(())
 }
 
-fn native_texts(alloc: Global, tables: &Tables, natives: &Natives) -> Result<Vec<Text>, AllocError>
-    ensures { IfOk result (λ v. v.items ≡ map (canonical tables.now) natives.now) }
+// The counters of a component whose bits are set.
+fn push_counters(
+    text: &mut String,
+    catalog: &Catalog,
+    comp: u32,
+    counters: u32,
+) -> Result<(), AllocError>
+    ensures { OnOk result (string_bytes text.new ≡ string_bytes text.old ++ spaced (map (Replies.counter_text catalog.now comp) (Replies.members_below 32 counters))) }
 {
-    let mut texts = Vec::new(alloc);
-    for i in 0..natives.len() {
-        texts.push(native_text(alloc, tables, &natives.at(i))?)?;
+    for counter in 0..32 {
+        if has(u64::from(counters), counter) {
+            let name = counter_name(catalog, comp, counter);
+            write!(text, " {name}")?;
+        }
     }
-    Ok(texts)
+    Ok(())
 }
 
 // The component of native events, and 0 where there are none.
@@ -99,56 +97,47 @@ fn component_of(natives: &Natives) -> u32
     }
 }
 
-fn clash_texts(alloc: Global, tables: &Tables, clash: &Clash) -> Result<Vec<Text>, AllocError>
-    ensures { IfOk result (λ v. v.items ≡ Replies.clash_texts tables.now clash.now) }
+fn push_clash(text: &mut String, catalog: &Catalog, clash: &Clash) -> Result<(), AllocError>
+    ensures { OnOk result (string_bytes text.new ≡ string_bytes text.old ++ spaced (Replies.clash_texts catalog.now clash.now)) }
 {
-    let comp = component_of(&clash.natives);
-    let mut texts = native_texts(alloc, tables, &clash.natives)?;
-    texts.push(Text::copy_of(alloc, "/")?)?;
-    for counter in 0..32 {
-        if has(u64::from(clash.counters), counter) {
-            texts.push(counter_text(alloc, tables, comp, counter)?)?;
-        }
-    }
-    Ok(texts)
+    push_natives(text, catalog, &clash.natives)?;
+    text.push_str(" /")?;
+    push_counters(text, catalog, component_of(&clash.natives), clash.counters)?;
+    Ok(())
 }
 
-fn thread_texts(alloc: Global, threads: u64) -> Result<Vec<Text>, AllocError>
-    ensures { IfOk result (λ v. v.items ≡ map decimal (Replies.members_below 64 threads)) }
+// The threads whose bits are set.
+fn push_threads(text: &mut String, threads: u64) -> Result<(), AllocError>
+    ensures { OnOk result (string_bytes text.new ≡ string_bytes text.old ++ spaced (map decimal (Replies.members_below THREADS threads))) }
 {
-    let mut texts = Vec::new(alloc);
-    for thread in 0..64 {
+    for thread in 0..THREADS {
         if has(threads, thread) {
-            texts.push(number_text(alloc, u64::from(thread))?)?;
+            write!(text, " {thread}")?;
         }
     }
-    Ok(texts)
+    Ok(())
 }
 
-/// The results of a reply, each a text.
-pub(crate) fn results_of(
-    alloc: Global,
+/// Appends the results of a reply, each after a space.
+pub(crate) fn push_results(
+    text: &mut String,
     catalog: &Catalog,
     body: &Body,
-) -> Result<Vec<Text>, AllocError>
-    ensures { IfOk result (λ v. v.items ≡ Replies.results_of catalog.now.tables body.now) }
+) -> Result<(), AllocError>
+    ensures { OnOk result (string_bytes text.new ≡ string_bytes text.old ++ spaced (Replies.results_of catalog.now body.now)) }
 {
     match body {
-        Body::Nothing => Ok(Vec::new(alloc)),
-        Body::SetNumber(number) => one(alloc, number_text(alloc, u64::from(*number))?),
-        Body::Values(values) => value_texts(alloc, values),
-        Body::State(bits) => one(alloc, hex_text(alloc, 2, *bits)?),
-        Body::Events(events) => event_texts(alloc, catalog, events),
-        Body::Assigned(assigned) => assigned_texts(alloc, catalog.tables(), assigned),
-        Body::Clash(clash) => clash_texts(alloc, catalog.tables(), clash),
-        Body::Register(value) => one(alloc, number_text(alloc, *value)?),
-        Body::Ran(ran) => two(
-            alloc,
-            number_text(alloc, u64::from(ran.consumed))?,
-            number_text(alloc, ran.notes)?,
-        ),
-        Body::EventCode(code) => one(alloc, hex_text(alloc, 8, *code)?),
-        Body::EventName(event) => one(alloc, event_text(alloc, catalog, event)?),
-        Body::Threads(threads) => thread_texts(alloc, *threads),
+        Body::Nothing => Ok(()),
+        Body::SetNumber(number) => write!(text, " {number}"),
+        Body::Values(values) => push_values(text, values),
+        Body::State(bits) => push_hex(text, 2, *bits),
+        Body::Events(events) => push_events(text, catalog, events),
+        Body::Assigned(assigned) => push_assignment(text, catalog, assigned),
+        Body::Clash(clash) => push_clash(text, catalog, clash),
+        Body::Register(value) => write!(text, " {value}"),
+        Body::Ran(ran) => write!(text, " {} {}", ran.consumed, ran.notes),
+        Body::EventCode(code) => push_hex(text, 8, *code),
+        Body::EventName(event) => push_event(text, catalog, event),
+        Body::Threads(threads) => push_threads(text, *threads),
     }
 }

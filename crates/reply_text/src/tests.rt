@@ -1,15 +1,23 @@
 //! Replies over a small unit, as text.
-use crate::{note_line, reply_line};
+use crate::{push_note_line, push_reply_line};
 use component_table::Catalog;
 use event_sets::Clash;
 use event_tables::read_unit;
 use overflow_dispatch::Note;
-use papi_base::{Code, EventRef, Natives, Values};
+use papi_base::{CallName, Code, EventRef, Natives, Values};
 use session_model::{Body, Ended, Ran, Reply};
 use std::alloc::Global;
 
 const UNIT: &[u8] =
     b"COMPONENT,cpu,lab\nCOUNTER,P0,16,P\nCOUNTER,P1,16,P\nEVENT,BR_INST,c4,P0,x\nUMASK,ALL,01,d,x\nEVENT,BR_MISP,c5,P0,x\n";
+
+const LINES: &str = "3 0 read PAPI_OK 13 -7\n\
+3 0 run PAPI_ESYS 1 0\n\
+3 0 add PAPI_ECNFLCT lab::BR_INST:ALL lab::BR_MISP / P0\n\
+3 0 state PAPI_OK 0x12\n\
+3 0 threads PAPI_OK 0 5 63\n\
+3 0 code PAPI_OK 0x40000001\n\
+3 0 name PAPI_OK lab::BR_MISP\n";
 
 fn catalog(alloc: Global) -> Option<Catalog> {
     let tables = read_unit(alloc, UNIT).ok()?;
@@ -29,56 +37,98 @@ fn natives(catalog: &Catalog, texts: [&str; 2]) -> Natives {
     natives
 }
 
-fn is_line(alloc: Global, catalog: &Catalog, word: u32, reply: &Reply, text: &str) -> bool {
-    match reply_line(alloc, catalog, 3, 0, word, reply) {
-        Ok(line) => line.as_str() == text,
-        Err(_) => false,
-    }
+// Appends the line of a reply of line 3 and thread 0.
+fn push(text: &mut String, catalog: &Catalog, word: CallName, code: Code, body: Body) -> bool {
+    push_reply_line(text, catalog, 3, 0, word, &Reply { code, body }).is_ok()
 }
 
 #[test]
 fn lines_of_replies(rt: HostRuntime) {
     let alloc = rt.alloc();
     let catalog = catalog(alloc).expect(&rt, "a catalog");
+    let mut text = String::new(alloc);
     let mut values = Values::new();
     values.push(13);
     values.push(-7);
-    let read = Reply {
-        code: Code::Ok,
-        body: Body::Values(values),
+    assert!(rt;
+        push(
+            &mut text,
+            &catalog,
+            CallName::Read,
+            Code::Ok,
+            Body::Values(values)
+        )
+    );
+    let ran = Ran {
+        consumed: 1,
+        notes: 0,
+        ended: Ended::Fault,
     };
-    assert!(rt; is_line(alloc, &catalog, 14, &read, "3 0 read PAPI_OK 13 -7\n"));
-    let ran = Reply {
-        code: Code::Esys,
-        body: Body::Ran(Ran {
-            consumed: 1,
-            notes: 0,
-            ended: Ended::Fault,
-        }),
-    };
-    assert!(rt; is_line(alloc, &catalog, 21, &ran, "3 0 run PAPI_ESYS 1 0\n"));
+    assert!(rt;
+        push(
+            &mut text,
+            &catalog,
+            CallName::Run,
+            Code::Esys,
+            Body::Ran(ran)
+        )
+    );
     let clash = Clash {
         natives: natives(&catalog, ["BR_INST", "BR_MISP"]),
         counters: 1,
     };
-    let refused = Reply {
-        code: Code::Ecnflct,
-        body: Body::Clash(clash),
-    };
     assert!(rt;
-        is_line(
-            alloc,
+        push(
+            &mut text,
             &catalog,
-            6,
-            &refused,
-            "3 0 add PAPI_ECNFLCT lab::BR_INST:ALL lab::BR_MISP / P0\n"
+            CallName::Add,
+            Code::Ecnflct,
+            Body::Clash(clash)
         )
     );
-    let state = Reply {
-        code: Code::Ok,
-        body: Body::State(0x12),
-    };
-    assert!(rt; is_line(alloc, &catalog, 17, &state, "3 0 state PAPI_OK 0x12\n"));
+    assert!(rt;
+        push(
+            &mut text,
+            &catalog,
+            CallName::State,
+            Code::Ok,
+            Body::State(0x12)
+        )
+    );
+    let threads = 1 | 1 << 5 | 1 << 63;
+    assert!(rt;
+        push(
+            &mut text,
+            &catalog,
+            CallName::Threads,
+            Code::Ok,
+            Body::Threads(threads)
+        )
+    );
+    assert!(rt;
+        push(
+            &mut text,
+            &catalog,
+            CallName::Code,
+            Code::Ok,
+            Body::EventCode(0x40000001)
+        )
+    );
+    match catalog.lookup("BR_MISP") {
+        Ok(event) => {
+            assert!(rt;
+                push(
+                    &mut text,
+                    &catalog,
+                    CallName::Name,
+                    Code::Ok,
+                    Body::EventName(event)
+                )
+            );
+        }
+        Err(_) => assert!(rt; false),
+    }
+    assert!(rt; text.as_str() == LINES);
 }
 
 #[test]
@@ -87,16 +137,15 @@ fn lines_of_notes(rt: HostRuntime) {
         (0, 0, 0, 0x4, "note 0 0 0 0x4\n"),
         (63, 5, 31, 0xfeed, "note 63 5 31 0xfeed\n"),
     ];
-    for (thread, set, index, pc, text) in cases {
+    for (thread, set, index, pc, line) in cases {
         let note = Note {
             thread,
             set,
             index,
             pc,
         };
-        match note_line(rt.alloc(), &note) {
-            Ok(line) => assert!(rt; line.as_str() == text),
-            Err(_) => assert!(rt; false),
-        }
+        let mut text = String::new(rt.alloc());
+        assert!(rt; push_note_line(&mut text, &note).is_ok());
+        assert!(rt; text.as_str() == line);
     }
 }

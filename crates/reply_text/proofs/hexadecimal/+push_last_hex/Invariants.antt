@@ -1,4 +1,4 @@
-use Rattle.reply_text.proofs.number.+push_last_hex.Given as goal
+use Rattle.reply_text.proofs.hexadecimal.+push_last_hex.Given as goal
 
 abbrev pub decreases-push_last_hex : goal.decreases-push_last_hex
 decreases-push_last_hex l = l.digits
