@@ -14,7 +14,7 @@ use Rattle.stream_reader.specs.declared.line.LineStart.{LineStart}
 use Rattle.stream_reader.specs.declared.line.Judgement.{Judgement}
 use Rattle.stream_reader.specs.declared.line.Judgement.TheVariants.{Bad, Skipped, Version, Occurs}
 use Rattle.stream_reader.specs.Judged.{field, fields_judged, fields_of, given, is_above, is_skipped, judged, line_text, mode_of, occ_of, stamp_of, text_judged, without_return}
-use Rattle.stream_reader.specs.Occurs.{IsStart, Rise, after, behind, joined, occurs_from, occurs_of, first_start}
+use Rattle.stream_reader.specs.Occurs.{IsStart, Rise, after, line_passed, joined, occurs_from, occurs_of, first_start}
 
 -- ---- how long fields are
 
@@ -252,8 +252,8 @@ stamp-fits st line o s l = go st.stamped refl
         let z = l.size in
         (rw is (above st.last (s.below e)), rw is (omega (arith, c, w, z)))
 
-state-behind : (st : LineStart) (line : Line) → IsStart st → IsStart (behind st line)
-state-behind st line s = let c = s.counted in record { counted = omega (arith, c); below = s.below }
+state-passed : (st : LineStart) (line : Line) → IsStart st → IsStart (line_passed st line)
+state-passed st line s = let c = s.counted in record { counted = omega (arith, c); below = s.below }
 
 state-after : (st : LineStart) (line : Line) (o : Occ) → IsStart st → IsLine st o line → IsStart (after st line (Occurs o))
 state-after st line o s l =
@@ -262,8 +262,8 @@ state-after st line o s l =
     record { counted = omega (arith, c, z); below = λ e. let is = l.first e in omega (arith, is) }
 
 pub state-next : (st : LineStart) (line : Line) (j : Judgement) → judged st line ≡ j → IsStart st → IsStart (after st line j)
-state-next st line (Bad c) e s = state-behind st line s
-state-next st line Skipped e s = state-behind st line s
+state-next st line (Bad c) e s = state-passed st line s
+state-next st line Skipped e s = state-passed st line s
 state-next st line Version e s = let c = s.counted in record { counted = omega (arith, c); below = λ q. cc q }
 state-next st line (Occurs o) e s = state-after st line o s (line-occurrence st line o e)
 

@@ -1,9 +1,16 @@
+pub mod Amounts
 pub mod Bounds
+pub mod ByteTables
+pub mod CommonLines
 pub mod Decimals
-mod DigitTable
+pub mod DigitLanes
+pub mod DigitRuns
 pub mod FieldSteps
 pub mod Hexadecimals
+pub mod JoinedDigits
 pub mod Judging
+pub mod LeadingDigits
+pub mod LineHeads
 pub mod Modes
 pub mod Newlines
 pub mod OneByOne
@@ -15,3 +22,4 @@ pub mod Room
 pub mod Taking
 pub mod Telling
 pub mod Turning
+pub mod WholeLines

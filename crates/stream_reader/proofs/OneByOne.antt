@@ -5,8 +5,8 @@ use Rattle.std.proofs.lemmas.Bool.Decides.{nat_tests}
 use Rattle.papi_base.specs.Numerals.{decimal_in, hex_in}
 use Rattle.papi_base.specs.declared.occurrence.Occ.{Occ}
 use Rattle.stream_reader.specs.Judged.{fields_of, given, has_fields, mode_of, occ_of}
-use Rattle.stream_reader.specs.Fields.{behind_field, ends_with, first_field, occurrence_on, stamp_behind, tail_on}
-use Rattle.stream_reader.proofs.Rests.{fields_behind, fields-first}
+use Rattle.stream_reader.specs.Fields.{after_field, ends_with, first_field, occurrence_on, stamp_after, tail_on}
+use Rattle.stream_reader.proofs.Rests.{fields_after, fields-first}
 
 abbrev Text : Type 0
 Text = List ℕ
@@ -56,18 +56,18 @@ given-itself : {X : Type 0} (o : Option X) → given o (λ x. Some x) ≡ o
 given-itself None = refl
 given-itself (Some x) = refl
 
-given-next : {Y : Type 0} (o : Option Text) (k : Text → Option Y) (l : Text → List Text → Option Y) → ((t : Text) → k t ≡ l (first_field t) (fields_behind (behind_field t))) → given o k ≡ next (fields_behind o) l
-unfolding fields_behind
+given-next : {Y : Type 0} (o : Option Text) (k : Text → Option Y) (l : Text → List Text → Option Y) → ((t : Text) → k t ≡ l (first_field t) (fields_after (after_field t))) → given o k ≡ next (fields_after o) l
+unfolding fields_after
 given-next None k l h = refl
 given-next (Some t) k l h = h t ∙ sym (ap (λ fields. next fields l) (fields-first t))
 
-ends-is : {X : Type 0} (o : Option Text) (x : X) → ends_with o x ≡ ended (fields_behind o) x
-unfolding fields_behind
+ends-is : {X : Type 0} (o : Option Text) (x : X) → ends_with o x ≡ ended (fields_after o) x
+unfolding fields_after
 ends-is None x = refl
 ends-is (Some t) x = sym (ap (λ fields. ended fields x) (fields-first t))
 
-stamp-is : (stamped : Bool) (count : ℕ) (o : Option Text) → stamp_behind stamped count o ≡ stamp_from stamped count (fields_behind o)
-stamp-is true count o = given-next o _ _ (λ t. given-same (decimal_in 0 4294967294 (first_field t)) _ _ (λ x. ends-is (behind_field t) x))
+stamp-is : (stamped : Bool) (count : ℕ) (o : Option Text) → stamp_after stamped count o ≡ stamp_from stamped count (fields_after o)
+stamp-is true count o = given-next o _ _ (λ t. given-same (decimal_in 0 4294967294 (first_field t)) _ _ (λ x. ends-is (after_field t) x))
 stamp-is false count o = ends-is o count
 
 -- ---- both readings
@@ -75,15 +75,15 @@ stamp-is false count o = ends-is o count
 one-by-one : (stamped : Bool) (count : ℕ) (t : Text) → occurrence_on stamped count t ≡ occurrence_from stamped count (fields_of t)
 unfolding occurrence_on occurrence_from tail_on
 one-by-one stamped count t = rw (fields-first t) (
-    given-same (decimal_in 0 15 (first_field t)) _ _ (λ comp. given-next (behind_field t) _ _ (λ u.
-    given-same (hex_in 2 2 (first_field u)) _ _ (λ select. given-next (behind_field u) _ _ (λ v.
-    given-same (hex_in 2 2 (first_field v)) _ _ (λ umask. given-next (behind_field v) _ _ (λ w.
-    given-same (mode_of (first_field w)) _ _ (λ kernel. given-next (behind_field w) _ _ (λ x.
+    given-same (decimal_in 0 15 (first_field t)) _ _ (λ comp. given-next (after_field t) _ _ (λ u.
+    given-same (hex_in 2 2 (first_field u)) _ _ (λ select. given-next (after_field u) _ _ (λ v.
+    given-same (hex_in 2 2 (first_field v)) _ _ (λ umask. given-next (after_field v) _ _ (λ w.
+    given-same (mode_of (first_field w)) _ _ (λ kernel. given-next (after_field w) _ _ (λ x.
     given-given (decimal_in 1 255 (first_field x)) _ _ ∙
-    given-same (decimal_in 1 255 (first_field x)) _ _ (λ amount. given-given (behind_field x) _ _ ∙ given-next (behind_field x) _ _ (λ y.
+    given-same (decimal_in 1 255 (first_field x)) _ _ (λ amount. given-given (after_field x) _ _ ∙ given-next (after_field x) _ _ (λ y.
     given-given (hex_in 1 16 (first_field y)) _ _ ∙
-    given-same (hex_in 1 16 (first_field y)) _ _ (λ pc. given-given (stamp_behind stamped count (behind_field y)) _ _ ∙
-    ap (λ o. given o (λ stamp. Some (record { comp = comp; select = select; umask = umask; kernel = kernel; amount = amount; pc = pc; stamp = stamp }))) (stamp-is stamped count (behind_field y))))))))))))))
+    given-same (hex_in 1 16 (first_field y)) _ _ (λ pc. given-given (stamp_after stamped count (after_field y)) _ _ ∙
+    ap (λ o. given o (λ stamp. Some (record { comp = comp; select = select; umask = umask; kernel = kernel; amount = amount; pc = pc; stamp = stamp }))) (stamp-is stamped count (after_field y))))))))))))))
 
 more-than-seven : (n : ℕ) → (suc (suc (suc (suc (suc (suc (suc (suc n))))))) == 7) ≡ false
 more-than-seven n = grind (arith, nat_tests)

@@ -55,13 +55,13 @@ whole_line x = record { bytes = x; ended = true }
 abbrev pub last_line : List ℕ → Line
 last_line x = record { bytes = x; ended = false }
 
--- what a tape says is what its first line says, and then what the rest says behind it
+-- what a tape says is what its first line says, and then what the rest says after it
 pub occurs-line : (e : Ending) (start : LineStart) (x rest : List ℕ) → OneLine x
     → occurs_on e start (x ++ 10 ∷ rest) ≡ joined start.number (judged start (whole_line x)) (occurs_on e (after start (whole_line x) (judged start (whole_line x))) rest)
 unfolding occurs_from
 occurs-line e start x rest h = rw (line-first e x rest h) refl
 
--- the bytes behind the last newline
+-- the bytes after the last newline
 pub occurs-end : (e : Ending) (start : LineStart) (x : List ℕ) → OneLine x → is_last e x ≡ false → occurs_on e start x ≡ record { rest = []; mark = end_mark e }
 unfolding tape_lines lines_of occurs_from
 occurs-end e start x h none = rw (split-end x h, none) refl

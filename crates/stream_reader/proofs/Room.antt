@@ -1,4 +1,4 @@
--- The bytes of a reader: the place of a line, and a piece behind it.
+-- The bytes of a reader: the place of a line, and a piece after it.
 use Rattle.std.proofs.Common.{◌≡◌, ◌∙◌, ◌+◌, ◌-◌, ◌≤◌, ◌++◌, ℕ, List, [], length, take, drop, sym, ap, arith, length-drop, length-append, take-take}
 use Rattle.std.proofs.Math.Seq.{take-add}
 use Rattle.std.proofs.lemmas.List.{append-nil, drop-drop, drop-take, drop_all, drop_at, length-take-le}

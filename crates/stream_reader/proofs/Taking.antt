@@ -40,7 +40,7 @@ flag-small : (b : Bool) → flag_bit b ≤ 1
 flag-small true = omega arith
 flag-small false = omega arith
 
--- what is kept behind a line that is not bad
+-- what is kept after a line that is not bad
 pub after-kept : (start : LineStart) (line : Line) (j : Judgement) → judged start line ≡ j → is_bad j ≡ false → 0 < length line.bytes + flag_bit line.ended → IsKept start → IsKept (after start line j)
 after-kept start line j e h some k =
     let within : start.passed + length line.bytes ≤ 67108864 = judged-within start line (ap is_bad e ∙ h) in
@@ -70,9 +70,9 @@ taken-good v size ended Skipped h = refl
 taken-good v size ended Version h = refl
 taken-good v size ended (Occurs o) h = refl
 
--- ---- the reader behind it
+-- ---- the reader after it
 
--- the reader behind a line that is not bad, as its fields stand
+-- the reader after a line that is not bad, as its fields stand
 pub view-taken : (from to size r : ℕ) (bytes : List ℕ) (ended : Bool) (start later : LineStart) (over asked : Bool) (source : Option SourceView) (j : Judgement)
     → r ≡ flag_bit ended → size + flag_bit ended ≤ to - from
     → later ≡ after start (record { bytes = take size (take (to - from) (drop from bytes)); ended = ended }) j → is_bad j ≡ false

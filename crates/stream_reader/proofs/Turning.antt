@@ -88,7 +88,7 @@ long-takes v on one long = record {
   judged = inl (record { says = λ e more. comes-open v e more on ∙ occurs-long e v.start v.held more one.each long });
 }
 
--- the bytes of a piece stand behind those held
+-- the bytes of a piece come after those held
 piece-comes : (old mid : ReaderView) (answer : Result ℕ Failed) (r : Refills old answer mid) (e : Ending) (more : List ℕ) → old.over ≡ false → comes old e (r.piece ++ more) ≡ comes mid e more
 piece-comes old mid answer r e more on =
     comes-open old e (r.piece ++ more) on ∙ ap (occurs_on e old.start) (sym (append_assoc old.held r.piece more))
@@ -98,7 +98,7 @@ piece-comes old mid answer r e more on =
 pub piece-passes : (old mid : ReaderView) (n : ℕ) → Refills old (Ok n) mid → old.over ≡ false → Passes old mid
 piece-passes old mid n r on = record { taken = r.piece; tape = r.tape; says = λ e more. piece-comes old mid (Ok n) r e more on }
 
--- the source failed behind a line that is not too long
+-- the source failed after a line that is not too long
 pub fault-takes : (old mid : ReaderView) (f : Failed) → Refills old (Err f) mid → old.over ≡ false → IsOneLine old.held → length old.held ≤ 128 → Takes old next.ReadFault (record mid { over = true })
 fault-takes old mid f r on one short = record {
   taken = [];

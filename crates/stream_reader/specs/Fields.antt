@@ -11,10 +11,10 @@ unfoldable pub first_field : List ℕ → List ℕ
 first_field [] = []
 first_field (b ∷ t) = if b == 32 then [] else b ∷ first_field t
 
--- the text behind the space that ends this field, where there is one
-unfoldable pub behind_field : List ℕ → Option (List ℕ)
-behind_field [] = None
-behind_field (b ∷ t) = if b == 32 then Some t else behind_field t
+-- the text after the space that ends this field, where there is one
+unfoldable pub after_field : List ℕ → Option (List ℕ)
+after_field [] = None
+after_field (b ∷ t) = if b == 32 then Some t else after_field t
 
 -- the number of a field of digits that goes on from a number
 unfoldable pub digits_on : ℕ → List ℕ → Option ℕ
@@ -39,30 +39,30 @@ abbrev pub ends_with : {X : Type 0} → Option (List ℕ) → X → Option X
 ends_with None x = Some x
 ends_with (Some t) x = None
 
--- the stamp behind the program counter
-abbrev pub stamp_behind : Bool → ℕ → Option (List ℕ) → Option ℕ
-stamp_behind stamped count more =
-    if stamped then given more (λ t. given (decimal_in 0 4294967294 (first_field t)) (ends_with (behind_field t))) else ends_with more count
+-- the stamp after the program counter
+abbrev pub stamp_after : Bool → ℕ → Option (List ℕ) → Option ℕ
+stamp_after stamped count more =
+    if stamped then given more (λ t. given (decimal_in 0 4294967294 (first_field t)) (ends_with (after_field t))) else ends_with more count
 
 -- the last fields of an occurrence: amount, program counter and stamp
 unfoldable pub tail_on : Bool → ℕ → List ℕ → Option Tail
 tail_on stamped count t =
     given (decimal_in 1 255 (first_field t)) (λ amount.
-    given (behind_field t) (λ u.
+    given (after_field t) (λ u.
     given (hex_in 1 16 (first_field u)) (λ pc.
-    given (stamp_behind stamped count (behind_field u)) (λ stamp.
+    given (stamp_after stamped count (after_field u)) (λ stamp.
     Some (record { amount = amount; pc = pc; stamp = stamp })))))
 
 -- the fields of an occurrence
 unfoldable pub occurrence_on : Bool → ℕ → List ℕ → Option Occ
 occurrence_on stamped count t =
     given (decimal_in 0 15 (first_field t)) (λ comp.
-    given (behind_field t) (λ u.
+    given (after_field t) (λ u.
     given (hex_in 2 2 (first_field u)) (λ select.
-    given (behind_field u) (λ v.
+    given (after_field u) (λ v.
     given (hex_in 2 2 (first_field v)) (λ umask.
-    given (behind_field v) (λ w.
+    given (after_field v) (λ w.
     given (mode_of (first_field w)) (λ kernel.
-    given (behind_field w) (λ x.
+    given (after_field w) (λ x.
     given (tail_on stamped count x) (λ tail.
     Some (record { comp = comp; select = select; umask = umask; kernel = kernel; amount = tail.amount; pc = tail.pc; stamp = tail.stamp }))))))))))

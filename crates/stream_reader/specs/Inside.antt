@@ -6,6 +6,7 @@ use Rattle.papi_base.specs.Outside.{Tape}
 use Rattle.papi_base.specs.declared.outside.Failed as failed
 use Rattle.papi_base.specs.declared.outside.Ending.{Ending}
 use Rattle.papi_base.specs.declared.outside.Ending.TheVariants as ending
+use Rattle.stream_reader.specs.declared.limits.TheConstants.{LARGEST_STREAM, LONGEST_LINE, READER_BYTES}
 use Rattle.stream_reader.specs.declared.line.LineStart.{LineStart}
 use Rattle.stream_reader.specs.declared.line.Judgement.{Judgement}
 use Rattle.stream_reader.specs.declared.line.Judgement.TheVariants as judgement
@@ -15,14 +16,14 @@ use Rattle.stream_reader.specs.Lines.{IsOneLine, Line}
 use Rattle.stream_reader.specs.Occurs.{IsStart, after}
 use Rattle.stream_reader.specs.Reader.{ReaderView, before_rest, comes, tape_of}
 
--- The bytes held lie in the array and end behind the place of a line, and the stream was not too large so far.
+-- The bytes held lie in the array and end after the place of a line, and the stream was not too large so far.
 pub record IsReader (from to : ℕ) (bytes : List ℕ) (start : LineStart) : Type 0 where
-  pub room : length bytes ≡ 4224
+  pub room : length bytes ≡ READER_BYTES
   pub in_order : from ≤ to
-  pub within : to ≤ 4224
-  pub behind : 128 ≤ to
+  pub within : to ≤ READER_BYTES
+  pub after_line : LONGEST_LINE ≤ to
   pub starts : IsStart start
-  pub passed : start.passed ≤ 67108865
+  pub passed : start.passed ≤ LARGEST_STREAM + 1
   pub numbered : start.number ≤ start.passed + 1
 
 -- Some bytes were taken from the source, and all that was to come is still to come.
@@ -48,16 +49,20 @@ answer_of number (judgement.Occurs o) = Some (next.Occ o)
 answer_of number judgement.Skipped = None
 answer_of number judgement.Version = None
 
--- the reader behind a line that was judged so
+-- the reader after a line that was judged so
 abbrev pub line_taken : ReaderView → ℕ → Bool → Judgement → ReaderView
 line_taken v size ended (judgement.Bad c) = record v { over = true }
 line_taken v size ended j = record v { start = after v.start (line_at v size ended) j; held = drop (size + flag_bit ended) v.held }
 
 -- what is still to be read before the stream is too large
 abbrev pub left_of : ReaderView → ℕ
-left_of v = (67108866 - v.start.passed) + (67113090 - (v.start.passed + length v.held))
+left_of v = ((LARGEST_STREAM + 2) - v.start.passed) + ((LARGEST_STREAM + 2 + READER_BYTES) - (v.start.passed + length v.held))
 
--- A piece was asked for: the bytes taken stand behind those held.
+-- The tape, where it is told, has ended so.
+abbrev pub HasEnded : Ending → Option Tape → Type 0
+HasEnded e tape = IfSome tape (λ (t : Tape). (t.bytes ≡ []) × (t.ending ≡ e))
+
+-- A piece was asked for: the bytes taken come after those held.
 pub record Refills (old : ReaderView) (answer : Result ℕ failed.Failed) (new : ReaderView) : Type 0 where
   pub piece : List ℕ
   pub size : MatchResult answer (λ n. length piece ≡ n) (λ _. piece ≡ [])
@@ -66,4 +71,4 @@ pub record Refills (old : ReaderView) (answer : Result ℕ failed.Failed) (new :
   pub over : new.over ≡ old.over
   pub asked : new.asked ≡ old.asked
   pub tape : tape_of old ≡ option_map (before_rest piece) (tape_of new)
-  pub ends : MatchResult answer (λ n. n ≡ 0 → IfSome (tape_of new) (λ (t : Tape). (t.bytes ≡ []) × (t.ending ≡ ending.End))) (λ _. IfSome (tape_of new) (λ (t : Tape). (t.bytes ≡ []) × (t.ending ≡ ending.Fault)))
+  pub ends : MatchResult answer (λ n. n ≡ 0 → HasEnded ending.End (tape_of new)) (λ _. HasEnded ending.Fault (tape_of new))

@@ -5,6 +5,7 @@ use Rattle.std.specs.Option.{option_map_or}
 use Rattle.papi_base.specs.Numerals.{decimal_in, flag_bit, hex_in}
 use Rattle.papi_base.specs.declared.occurrence.Occ.{Occ}
 use Rattle.papi_base.specs.declared.occurrence.LineCause.TheVariants as cause
+use Rattle.stream_reader.specs.declared.limits.TheConstants.{LARGEST_STREAM, LONGEST_LINE}
 use Rattle.stream_reader.specs.declared.line.LineStart.{LineStart}
 use Rattle.stream_reader.specs.declared.line.Judgement.{Judgement}
 use Rattle.stream_reader.specs.declared.line.Judgement.TheVariants.{Bad, Skipped, Version, Occurs}
@@ -81,6 +82,6 @@ text_judged start text =
 
 unfoldable pub judged : LineStart → Line → Judgement
 judged start line =
-    if nat_lt 128 (length line.bytes) then Bad cause.Long
-    else if nat_lt 67108864 (start.passed + length line.bytes) then Bad cause.Size
+    if nat_lt LONGEST_LINE (length line.bytes) then Bad cause.Long
+    else if nat_lt LARGEST_STREAM (start.passed + length line.bytes) then Bad cause.Size
     else text_judged start (line_text line)

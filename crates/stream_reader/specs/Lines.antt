@@ -4,16 +4,17 @@ use Rattle.std.specs.List.{AllByRecursion, slice_split}
 use Rattle.papi_base.specs.Numerals.{is_empty}
 use Rattle.papi_base.specs.declared.outside.Ending.{Ending}
 use Rattle.papi_base.specs.declared.outside.Ending.TheVariants as ending
+use Rattle.stream_reader.specs.declared.limits.TheConstants.{LONGEST_LINE}
 
 -- a line, and whether a newline ends it
 pub record Line : Type 0 where
   pub bytes : List ℕ
   pub ended : Bool
 
--- the bytes behind the last newline are a line: where the tape ends well any of them, where it fails more than 128
+-- the bytes after the last newline are a line: where the tape ends well any of them, where it fails more than those of the longest line
 abbrev pub is_last : Ending → List ℕ → Bool
 is_last ending.End last = not (is_empty last)
-is_last ending.Fault last = nat_lt 128 (length last)
+is_last ending.Fault last = nat_lt LONGEST_LINE (length last)
 
 unfoldable pub lines_of : Ending → List (List ℕ) → List Line
 lines_of e [] = []

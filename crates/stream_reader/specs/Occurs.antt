@@ -21,15 +21,15 @@ abbrev pub end_mark : Ending → Mark
 end_mark ending.End = Dry
 end_mark ending.Fault = Fault
 
--- what is known behind a line
-abbrev pub behind : LineStart → Line → LineStart
-behind start line = record start { number = start.number + 1; passed = start.passed + length line.bytes + flag_bit line.ended }
+-- what is known after a line, whatever it is
+abbrev pub line_passed : LineStart → Line → LineStart
+line_passed start line = record start { number = start.number + 1; passed = start.passed + length line.bytes + flag_bit line.ended }
 
 abbrev pub after : LineStart → Line → Judgement → LineStart
-after start line (judgement.Bad c) = behind start line
-after start line judgement.Skipped = behind start line
-after start line judgement.Version = record (behind start line) { stamped = true }
-after start line (judgement.Occurs o) = record (behind start line) { given = start.given + 1; last = Some o.stamp }
+after start line (judgement.Bad c) = line_passed start line
+after start line judgement.Skipped = line_passed start line
+after start line judgement.Version = record (line_passed start line) { stamped = true }
+after start line (judgement.Occurs o) = record (line_passed start line) { given = start.given + 1; last = Some o.stamp }
 
 -- a line's judgement before what the lines below it say
 abbrev pub joined : ℕ → Judgement → Coming → Coming

@@ -6,6 +6,8 @@ use Rattle.papi_base.specs.Outside.{Tape}
 use Rattle.papi_base.specs.declared.outside.Ending.{Ending}
 use Rattle.papi_base.specs.declared.outside.Ending.TheVariants as ending
 use Rattle.papi_base.specs.declared.occurrence.Occ.{Occ}
+use Rattle.papi_base.specs.declared.limits.TheConstants.{MOST_OCCURRENCES}
+use Rattle.stream_reader.specs.declared.limits.TheConstants.{READER_BYTES}
 use Rattle.stream_reader.specs.declared.line.LineStart.{LineStart}
 use Rattle.stream_reader.specs.declared.line.Judgement.{Judgement}
 use Rattle.stream_reader.specs.declared.line.Judgement.TheVariants as judgement
@@ -67,7 +69,7 @@ abbrev pub gives_of : List Occ → Mark → Next
 gives_of [] mark = at_mark mark
 gives_of (o ∷ rest) mark = next.Occ o
 
--- what is to come then: behind the mark nothing
+-- what is to come then: after the mark nothing
 abbrev pub coming_after : List Occ → Mark → Coming
 coming_after [] mark = nothing
 coming_after (o ∷ rest) mark = record { rest = rest; mark = mark }
@@ -86,11 +88,11 @@ follows next.End later = later
 follows (next.Bad n c) later = record { rest = []; mark = Bad n c }
 follows next.ReadFault later = record { rest = []; mark = Fault }
 
--- The answer is what the bytes held and these say first, whatever may come behind them.
+-- The answer is what the bytes held and these say first, whatever may come after them.
 pub record GoesOn (old : ReaderView) (taken : List ℕ) (answer : Next) (new : ReaderView) : Type 0 where
   pub says : (e : Ending) (more : List ℕ) → comes old e (taken ++ more) ≡ follows answer (comes new e more)
 
--- The answer is what the bytes held and these say first, and behind them the source ended so, and with it the stream.
+-- The answer is what the bytes held and these say first, and after them the source ended so, and with it the stream.
 pub record Closes (old : ReaderView) (taken : List ℕ) (answer : Next) (new : ReaderView) : Type 0 where
   pub ending : Ending
   pub says : comes old ending taken ≡ follows answer nothing
@@ -116,7 +118,8 @@ is_passed_over judgement.Version = true
 -- the first of these lines that is not passed over is whole
 unfoldable pub answers_from : LineStart → List Line → Bool
 answers_from start [] = false
-answers_from start (line ∷ rest) = if line.ended then if is_passed_over (judged start line) then answers_from (after start line (judged start line)) rest else true else false
+answers_from start (line ∷ rest) =
+    if line.ended then if is_passed_over (judged start line) then answers_from (after start line (judged start line)) rest else true else false
 
 -- the reader holds a whole line that is not skipped, or gives nothing any more
 unfoldable pub has_answer : ReaderView → Bool
@@ -145,12 +148,12 @@ Gave start (Some (next.Bad n c)) later = GaveNothing start later
 Gave start (Some next.ReadFault) later = GaveNothing start later
 Gave start None later = GaveNothing start later
 
--- at most 5,200,000 occurrences are given, and at most 4,224 bytes are taken and neither given nor skipped
+-- how many occurrences are given at most, and how many bytes are taken and neither given nor skipped
 pub record IsWithin (v : ReaderView) : Type 0 where
-  pub few : v.start.given ≤ 5200000
-  pub room : length v.held ≤ 4224
+  pub few : v.start.given ≤ MOST_OCCURRENCES
+  pub room : length v.held ≤ READER_BYTES
 
--- the answers behind which a reader answers `End` alone
+-- the answers after which a reader answers `End` alone
 abbrev pub is_last : Next → Bool
 is_last (next.Occ o) = false
 is_last next.End = true

@@ -1,29 +1,12 @@
-// The fields of a line, each read in one pass up to its space.
-ghost use Rattle.std.specs.Prelude.{◌≡◌, ◌<◌, ◌≤◌, ◌^◌, length, Some, None, IfSome, MatchOption, if◌then◌else◌, nat_lt, slice_index};
+//! The fields of a line, each read in one pass up to its space.
+ghost use Rattle.std.specs.Prelude.{◌≡◌, ◌<◌, ◌≤◌, ◌^◌, length, Some, None, IfSome, IfNone, if◌then◌else◌, nat_lt, slice_index};
 ghost use Rattle.std.specs.Char.{digit_value};
 ghost use Rattle.std.specs.Option.{option_map, option_copied};
 ghost use Rattle.papi_base.specs.Numerals.{decimal_in, hex_in, is_hex_digit};
 ghost use Rattle.stream_reader.specs.Judged.{mode_of};
-ghost use Rattle.stream_reader.specs.Fields.{first_field, behind_field, digits_on, has_form, hex_on, is_one_byte};
+ghost use Rattle.stream_reader.specs.Fields.{first_field, after_field, digits_on, has_form, hex_on, is_one_byte};
 
-// The value of each byte that is a hexadecimal digit in either case, and 255 of all others. A look here does not depend on which
-// kind of digit comes, as branches would.
-const DIGIT_VALUES: [u8; 256] = [
-    255, 255, 255, 255, 255, 255, 255, 255, 255, 255, 255, 255, 255, 255, 255, 255, 255, 255, 255,
-    255, 255, 255, 255, 255, 255, 255, 255, 255, 255, 255, 255, 255, 255, 255, 255, 255, 255, 255,
-    255, 255, 255, 255, 255, 255, 255, 255, 255, 255, 0, 1, 2, 3, 4, 5, 6, 7, 8, 9, 255, 255, 255,
-    255, 255, 255, 255, 10, 11, 12, 13, 14, 15, 255, 255, 255, 255, 255, 255, 255, 255, 255, 255,
-    255, 255, 255, 255, 255, 255, 255, 255, 255, 255, 255, 255, 255, 255, 255, 255, 10, 11, 12, 13,
-    14, 15, 255, 255, 255, 255, 255, 255, 255, 255, 255, 255, 255, 255, 255, 255, 255, 255, 255,
-    255, 255, 255, 255, 255, 255, 255, 255, 255, 255, 255, 255, 255, 255, 255, 255, 255, 255, 255,
-    255, 255, 255, 255, 255, 255, 255, 255, 255, 255, 255, 255, 255, 255, 255, 255, 255, 255, 255,
-    255, 255, 255, 255, 255, 255, 255, 255, 255, 255, 255, 255, 255, 255, 255, 255, 255, 255, 255,
-    255, 255, 255, 255, 255, 255, 255, 255, 255, 255, 255, 255, 255, 255, 255, 255, 255, 255, 255,
-    255, 255, 255, 255, 255, 255, 255, 255, 255, 255, 255, 255, 255, 255, 255, 255, 255, 255, 255,
-    255, 255, 255, 255, 255, 255, 255, 255, 255, 255, 255, 255, 255, 255, 255, 255, 255, 255, 255,
-    255, 255, 255, 255, 255, 255, 255, 255, 255, 255, 255, 255, 255, 255, 255, 255, 255, 255, 255,
-    255, 255, 255,
-];
+use crate::byte_tables::digit_or_255;
 
 /// The number that a field writes, and the field's length.
 #[derive(Clone, Copy)]
@@ -32,11 +15,14 @@ pub(crate) struct Field {
     pub size: usize,
 }
 
-// The number of a field of decimal digits; one that is too large may be given or not.
+// The number of a field of decimal digits. One that is too large may be given or not.
 #[inline(always)]
 fn digits(text: &[u8], greatest: u64) -> Option<Field>
     requires { greatest < 2 ^ 32 }
-    ensures { MatchOption result (IfSome (digits_on 0 text.now) (λ n. greatest < n)) (λ f. (digits_on 0 text.now ≡ Some f.value) × (f.size ≡ length (first_field text.now)) × (f.size ≤ length text.now)) }
+    ensures large { IfNone result (IfSome (digits_on 0 text.now) (λ n. greatest < n)) }
+    ensures value { IfSome result (λ f. digits_on 0 text.now ≡ Some f.value) }
+    ensures size { IfSome result (λ f. f.size ≡ length (first_field text.now)) }
+    ensures within { IfSome result (λ f. f.size ≤ length text.now) }
 {
     let mut value: u64 = 0;
     for (size, byte) in text.iter().enumerate() {
@@ -87,7 +73,7 @@ pub(crate) fn decimal(text: &[u8], least: u64, greatest: u64) -> Option<Field>
 fn hex_digit(byte: u8) -> Option<u64>
     ensures { result ≡ (if is_hex_digit byte then Some (digit_value byte) else None) }
 {
-    let value = DIGIT_VALUES[byte as usize];
+    let value = digit_or_255(byte);
     if value < 16 {
         Some(u64::from(value))
     } else {
@@ -142,11 +128,11 @@ pub(crate) fn mode(text: &[u8]) -> Option<bool>
     }
 }
 
-/// The text behind the space that ends the first field, which has this length.
+/// The text after the space that ends the first field, which has this length.
 #[inline(always)]
-pub(crate) fn behind(text: &[u8], size: usize) -> Option<&[u8]>
+pub(crate) fn after_field(text: &[u8], size: usize) -> Option<&[u8]>
     requires { size ≡ length (first_field text.now) }
-    ensures { option_map (λ rest. rest.now) result ≡ behind_field text.now }
+    ensures { option_map (λ rest. rest.now) result ≡ after_field text.now }
 {
     if size < text.len() {
         Some(&text[size + 1..])

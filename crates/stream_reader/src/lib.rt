@@ -1,7 +1,11 @@
 //! Streams of occurrences, read piece by piece: two versions of a text format, with the line and the cause of the first bad line.
 #![tactic(auto)]
 
+mod byte_tables;
+mod common_line;
+mod digit_vector;
 mod field;
+mod limits;
 mod line;
 mod next;
 mod occurrence;
@@ -9,6 +13,7 @@ mod reader;
 #[cfg(test)]
 mod tests;
 
+pub use limits::{LARGEST_STREAM, LONGEST_LINE, READER_BYTES};
 pub use line::{Judgement, LineStart};
 pub use next::Next;
 pub use reader::StreamReader;

@@ -1,10 +1,11 @@
-// Lines, and what each of them is.
+//! Lines, and what each of them is.
 ghost use Rattle.std.specs.Prelude.{◌≡◌, ◌<◌, ◌≤◌, ◌^◌, length, if◌then◌else◌};
 ghost use Rattle.stream_reader.specs.Judged.{fields_judged, fields_of, has_fields, is_above, judged, occurrence_judged, text_judged, without_return};
 ghost use Rattle.stream_reader.specs.Lines.{Line};
 ghost use Rattle.stream_reader.specs.Occurs.{after, is_bad};
 ghost use Rattle.papi_base.specs.declared.occurrence.LineCause.TheVariants as cause;
 
+use crate::limits::{LARGEST_STREAM, LONGEST_LINE, READER_BYTES};
 use crate::occurrence::occurrence;
 use papi_base::{LineCause, Occ};
 
@@ -46,12 +47,6 @@ impl Judgement {
         }
     }
 }
-
-/// The most bytes of a line, without its newline.
-pub const LONGEST: usize = 128;
-
-/// The most bytes of a stream.
-pub const LARGEST: u64 = 67_108_864;
 
 // How many fields a line has.
 fn number_of_fields(text: &[u8]) -> usize
@@ -147,22 +142,22 @@ impl LineStart {
         requires { self.now.passed < 2 ^ 32 }
         ensures { result ≡ judged self.now (record { bytes = line.now; ended = ended }) }
     {
-        if line.len() > LONGEST {
+        if line.len() > LONGEST_LINE {
             return Judgement::Bad(LineCause::Long);
         }
-        if self.passed + line.len() as u64 > LARGEST {
+        if self.passed + line.len() as u64 > LARGEST_STREAM {
             return Judgement::Bad(LineCause::Size);
         }
         judge_text(self, if ended { without_return(line) } else { line })
     }
 
-    /// Goes on behind a line of this length.
+    /// Goes on after a line of this length.
     #[inline(always)]
     pub fn pass(&mut self, size: usize, ended: bool, judgement: &Judgement)
         requires number { self.old.number < 2 ^ 32 }
         requires passed { self.old.passed < 2 ^ 32 }
         requires given { self.old.given < 2 ^ 32 }
-        requires size { size ≤ 4224 }
+        requires size { size ≤ READER_BYTES }
         ensures { (line : Line) → length line.bytes ≡ size → line.ended ≡ ended → self.new ≡ after self.old line judgement.now }
     {
         self.number += 1;

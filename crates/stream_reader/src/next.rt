@@ -1,4 +1,4 @@
-// What a reader gives.
+//! What a reader gives.
 use papi_base::{LineCause, Occ};
 
 /// The answer of a reader.

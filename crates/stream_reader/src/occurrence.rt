@@ -1,9 +1,9 @@
-// The occurrence that a line writes, field by field.
+//! The occurrence that a line writes, field by field.
 ghost use Rattle.std.specs.Prelude.{◌≡◌};
 ghost use Rattle.std.specs.Option.{option_map};
-ghost use Rattle.stream_reader.specs.Fields.{occurrence_on, stamp_behind, tail_on};
+ghost use Rattle.stream_reader.specs.Fields.{occurrence_on, stamp_after, tail_on};
 
-use crate::field::{behind, decimal, hexadecimal, mode};
+use crate::field::{after_field, decimal, hexadecimal, mode};
 use crate::line::LineStart;
 use papi_base::Occ;
 
@@ -15,10 +15,10 @@ pub(crate) struct Tail {
     pub stamp: u64,
 }
 
-// The stamp, where this stands behind the program counter's space, if it has one.
+// The stamp, where this is what comes after the program counter's space, if there is one.
 #[inline(always)]
-fn stamp_behind(start: &LineStart, rest: Option<&[u8]>) -> Option<u64>
-    ensures { result ≡ stamp_behind start.now.stamped start.now.given (option_map (λ text. text.now) rest.entry) }
+fn stamp_after(start: &LineStart, rest: Option<&[u8]>) -> Option<u64>
+    ensures { result ≡ stamp_after start.now.stamped start.now.given (option_map (λ text. text.now) rest.entry) }
 {
     if !start.stamped {
         return match rest {
@@ -28,7 +28,7 @@ fn stamp_behind(start: &LineStart, rest: Option<&[u8]>) -> Option<u64>
     }
     let text = rest?;
     let stamp = decimal(text, 0, 4_294_967_294)?;
-    match behind(text, stamp.size) {
+    match after_field(text, stamp.size) {
         None => Some(stamp.value),
         Some(_) => None,
     }
@@ -41,9 +41,9 @@ fn read_tail(start: &LineStart, text: &[u8]) -> Option<Tail>
     ensures { result ≡ tail_on start.now.stamped start.now.given text.now }
 {
     let amount = decimal(text, 1, 255)?;
-    let rest = behind(text, amount.size)?;
+    let rest = after_field(text, amount.size)?;
     let pc = hexadecimal(rest, 1, 16)?;
-    let stamp = stamp_behind(start, behind(rest, pc.size))?;
+    let stamp = stamp_after(start, after_field(rest, pc.size))?;
     Some(Tail {
         amount: amount.value as u8,
         pc: pc.value,
@@ -51,20 +51,20 @@ fn read_tail(start: &LineStart, text: &[u8]) -> Option<Tail>
     })
 }
 
-/// The occurrence that a line writes, or `None` where its fields are not as many as they should be, or one is out of its form.
+///! The occurrence that a line writes, or `None` where its fields are not as many as they should be, or one is out of its form.
 #[tactic(auto, unfolding(crate::specs::Fields::occurrence_on))]
 #[inline(always)]
 pub(crate) fn occurrence(start: &LineStart, line: &[u8]) -> Option<Occ>
     ensures { result ≡ occurrence_on start.now.stamped start.now.given line.now }
 {
     let comp = decimal(line, 0, 15)?;
-    let rest = behind(line, comp.size)?;
+    let rest = after_field(line, comp.size)?;
     let select = hexadecimal(rest, 2, 2)?;
-    let rest = behind(rest, select.size)?;
+    let rest = after_field(rest, select.size)?;
     let umask = hexadecimal(rest, 2, 2)?;
-    let rest = behind(rest, umask.size)?;
+    let rest = after_field(rest, umask.size)?;
     let kernel = mode(rest)?;
-    let rest = behind(rest, 1)?;
+    let rest = after_field(rest, 1)?;
     let tail = read_tail(start, rest)?;
     Some(Occ {
         comp: comp.value as u8,

@@ -1,21 +1,17 @@
-// Readers: a piece of the source, and the lines in it.
+//! Readers: a piece of the source, and the lines in it.
 ghost use Rattle.std.specs.Prelude.{◌≡◌, ◌<◌, ◌≤◌, ◌+◌, ◌-◌, ◌++◌, take, drop, length, Option, Some, None, IfSome, IfNone, IfOk, OnErr, Bool, true, false, [], Result, is_some};
 ghost use Rattle.std.specs.Option.{option_map, option_map_or, option_and_then};
 ghost use Rattle.papi_base.specs.Numerals.{flag_bit};
 ghost use Rattle.papi_base.specs.Outside.{Gives, Rose, tape_after};
 ghost use Rattle.stream_reader.specs.Inside.{answer_of};
 
-use crate::line::{Judgement, LONGEST, LineStart};
+use crate::common_line::{CommonLine, common_line};
+use crate::limits::{LARGEST_STREAM, LONGEST_LINE, PIECE, READER_BYTES};
+use crate::line::{Judgement, LineStart};
 use crate::next::Next;
 use memchr::memchr;
 use papi_base::{Failed, LineCause, Source};
 use std::marker::Model;
-
-/// How many bytes are asked for at a time.
-const PIECE: usize = 4096;
-
-/// All bytes of a reader: a piece, and before it what the piece before left of a line.
-const ROOM: usize = LONGEST + PIECE;
 
 /// Gives the occurrences of a source one by one, with no memory but its own.
 ///
@@ -23,7 +19,7 @@ const ROOM: usize = LONGEST + PIECE;
 #[derive(Drop)]
 pub struct StreamReader<S: Source> {
     source: Option<S>,
-    bytes: [u8; ROOM],
+    bytes: [u8; READER_BYTES],
     from: usize,
     to: usize,
     start: LineStart,
@@ -81,27 +77,27 @@ fn read_piece<S: Source>(source: &mut Option<S>, piece: &mut [u8]) -> Result<usi
 }
 
 // Moves these bytes before the place of a piece.
-fn move_rest(bytes: &mut [u8; ROOM], from: usize, to: usize)
+fn move_rest(bytes: &mut [u8; READER_BYTES], from: usize, to: usize)
     requires in_order { from ≤ to }
-    requires within { to ≤ 4224 }
-    requires short { to - from ≤ 128 }
-    ensures { take 128 bytes.new ≡ take (128 - (to - from)) bytes.old ++ take (to - from) (drop from bytes.old) }
+    requires within { to ≤ READER_BYTES }
+    requires short { to - from ≤ LONGEST_LINE }
+    ensures { take LONGEST_LINE bytes.new ≡ take (LONGEST_LINE - (to - from)) bytes.old ++ take (to - from) (drop from bytes.old) }
 {
-    bytes.copy_within(from..to, LONGEST - (to - from));
+    bytes.copy_within(from..to, LONGEST_LINE - (to - from));
 }
 
-// Puts a piece behind the place of a line.
-fn fill<S: Source>(source: &mut Option<S>, bytes: &mut [u8; ROOM]) -> Result<usize, Failed>
-    ensures room { length bytes.new ≡ 4224 }
-    ensures front { take 128 bytes.new ≡ take 128 bytes.old }
-    ensures bound { IfOk result (λ n. n ≤ 4096) }
+// Puts a piece after the place of a line.
+fn fill<S: Source>(source: &mut Option<S>, bytes: &mut [u8; READER_BYTES]) -> Result<usize, Failed>
+    ensures room { length bytes.new ≡ READER_BYTES }
+    ensures front { take LONGEST_LINE bytes.new ≡ take LONGEST_LINE bytes.old }
+    ensures bound { IfOk result (λ n. n ≤ PIECE) }
     ensures tape { option_and_then S.tape source.new ≡ tape_after result (option_and_then S.tape source.old) }
-    ensures gives { IfSome (option_and_then S.tape source.old) (λ tape. Gives tape result (drop 128 bytes.new)) }
+    ensures gives { IfSome (option_and_then S.tape source.old) (λ tape. Gives tape result (drop LONGEST_LINE bytes.new)) }
     ensures kept { is_some source.new ≡ is_some source.old }
     ensures falls_never { option_map_or S.faults source.old 0 ≤ option_map_or S.faults source.new 0 }
     ensures failed { OnErr result (Rose (option_map_or S.faults source.old 0) (option_map_or S.faults source.new 0)) }
 {
-    read_piece(source, &mut bytes[LONGEST..])
+    read_piece(source, &mut bytes[LONGEST_LINE..])
 }
 
 impl<S: Source> StreamReader<S> {
@@ -110,6 +106,7 @@ impl<S: Source> StreamReader<S> {
     ghost use Rattle.stream_reader.specs.Judged.{judged};
     ghost use Rattle.stream_reader.specs.Occurs.{occurs_of};
     ghost use Rattle.stream_reader.specs.Reader.{ReaderView, Gave, IsWithin, NextGives, Takes, coming, faults_of, has_answer, is_last, new_view, nothing, tape_of};
+    ghost use Rattle.stream_reader.specs.CommonLines.{HoldsLine};
     ghost use Rattle.stream_reader.specs.Inside.{FindsNewline, Passes, Refills, answer_of, left_of, line_at, line_taken};
 
     /// A reader of a stream from its first line on.
@@ -133,9 +130,9 @@ impl<S: Source> StreamReader<S> {
     {
         StreamReader {
             source,
-            bytes: [0; ROOM],
-            from: LONGEST,
-            to: LONGEST,
+            bytes: [0; READER_BYTES],
+            from: LONGEST_LINE,
+            to: LONGEST_LINE,
             start: LineStart::FIRST,
             over,
             asked: false,
@@ -159,6 +156,29 @@ impl<S: Source> StreamReader<S> {
             .judge(&self.bytes[self.from..self.from + size], ended)
     }
 
+    // Takes the front of the bytes held as a line that was judged so.
+    #[inline(always)]
+    fn take_judged(&mut self, size: usize, ended: bool, judgement: &Judgement) -> Option<Next>
+        requires over { self.old.over ≡ false }
+        requires within { size + flag_bit ended ≤ length self.old.held }
+        requires some { 0 < size + flag_bit ended }
+        requires judged { judgement.now ≡ judged self.old.start (line_at self.old size ended) }
+        ensures answer { result ≡ answer_of self.old.start.number (judged self.old.start (line_at self.old size ended)) }
+        ensures after { self.new ≡ line_taken self.old size ended (judged self.old.start (line_at self.old size ended)) }
+        ensures counts { Gave self.old.start result self.new.start }
+        ensures nearer { IfNone result (left_of self.new < left_of self.old) }
+        ensures within { IsWithin self.new }
+    {
+        let number = self.start.number;
+        if judgement.is_bad() {
+            self.over = true;
+            return answer_of(number, judgement);
+        }
+        self.start.pass(size, ended, judgement);
+        self.from += size + usize::from(ended);
+        answer_of(number, judgement)
+    }
+
     // Takes the front of the bytes held as a line.
     #[inline(always)]
     fn take_line(&mut self, size: usize, ended: bool) -> Option<Next>
@@ -171,20 +191,29 @@ impl<S: Source> StreamReader<S> {
         ensures nearer { IfNone result (left_of self.new < left_of self.old) }
         ensures within { IsWithin self.new }
     {
-        let number = self.start.number;
         let judgement = self.judge_front(size, ended);
-        if judgement.is_bad() {
-            self.over = true;
-            return answer_of(number, &judgement);
-        }
-        self.start.pass(size, ended, &judgement);
-        self.from += size + usize::from(ended);
-        answer_of(number, &judgement)
+        self.take_judged(size, ended, &judgement)
     }
 
-    // Asks for a piece behind the bytes held.
+    // The next line, where it is whole and of the common form.
+    #[inline(always)]
+    fn common_line(&self) -> Option<CommonLine>
+        ensures { IfSome result (λ line. HoldsLine self.now line) }
+    {
+        if self.start.stamped {
+            return None;
+        }
+        let line = common_line(&self.bytes[self.from..self.to], self.start.given)?;
+        let passed = self.start.passed + line.size as u64;
+        if passed > LARGEST_STREAM {
+            return None;
+        }
+        Some(line)
+    }
+
+    // Asks for a piece after the bytes held.
     fn refill(&mut self) -> Result<usize, Failed>
-        requires { length self.old.held ≤ 128 }
+        requires { length self.old.held ≤ LONGEST_LINE }
         ensures refills { Refills self.old result self.new }
         ensures kept { is_some self.new.source ≡ is_some self.old.source }
         ensures within { IsWithin self.new }
@@ -193,8 +222,8 @@ impl<S: Source> StreamReader<S> {
         ensures nearer { IfOk result (λ n. 0 < n → left_of self.new < left_of self.old) }
     {
         move_rest(&mut self.bytes, self.from, self.to);
-        self.from = LONGEST - (self.to - self.from);
-        self.to = LONGEST;
+        self.from = LONGEST_LINE - (self.to - self.from);
+        self.to = LONGEST_LINE;
         match fill(&mut self.source, &mut self.bytes) {
             Ok(size) => {
                 self.to += size;
@@ -253,7 +282,7 @@ impl<S: Source> StreamReader<S> {
     // The next piece, or what stands where the source ended or failed.
     fn take_piece(&mut self) -> Option<Next>
         requires over { self.old.over ≡ false }
-        requires short { length self.old.held ≤ 128 }
+        requires short { length self.old.held ≤ LONGEST_LINE }
         requires line { IsOneLine self.old.held }
         ensures takes { IfSome result (λ next. Takes self.old next self.new) }
         ensures passes { IfNone result (Passes self.old self.new) }
@@ -293,10 +322,13 @@ impl<S: Source> StreamReader<S> {
         ensures at_hand { has_answer self.old ≡ true → (self.new.source ≡ self.old.source) × IfNone result (has_answer self.new ≡ true) }
         ensures nearer { IfNone result (left_of self.new < left_of self.old) }
     {
+        if let Some(line) = self.common_line() {
+            return self.take_judged(line.size, true, &Judgement::Occurs(line.occ));
+        }
         if let Some(size) = self.line_len() {
             return self.take_line(size, true);
         }
-        if self.held_len() > LONGEST {
+        if self.held_len() > LONGEST_LINE {
             let line = self.start.number;
             self.give_up();
             return Some(Next::Bad {
@@ -316,7 +348,7 @@ impl<S: Source> StreamReader<S> {
         ensures counts { Gave self.old.start (Some result) self.new.start }
         ensures within { IsWithin self.new }
 
-        // It answers `End` for ever behind `End`, a bad line or a fault.
+        // It answers `End` for ever after `End`, a bad line or a fault.
         ensures over { is_last result ≡ true → self.new.over ≡ true }
         ensures ended { self.old.over ≡ true → (result ≡ Next.End) × (self.new ≡ record self.old { asked = true }) }
 

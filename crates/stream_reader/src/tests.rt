@@ -137,6 +137,71 @@ fn bad_lines(rt: HostRuntime) -> Result<(), Fail> {
     Ok(())
 }
 
+// Lines of the common form, with enough bytes after them to be read at fixed places, and one whose component has two digits.
+#[test]
+fn common_lines(rt: HostRuntime) -> Result<(), Fail> {
+    let alloc = rt.alloc();
+    let text =
+        b"0 c0 00 u 7 400abc\n9 FF a1 k 42 0123456789abcdef\n3 0e 1F u 255 F\n12 c0 00 k 100 8000000000000000\n0 c0 00 u 1 10\n";
+    let occs = [
+        occ(0xc0, 0, 7, 0x400abc, 0),
+        Next::Occ(Occ {
+            comp: 9,
+            select: 0xff,
+            umask: 0xa1,
+            kernel: true,
+            amount: 42,
+            pc: 0x0123_4567_89ab_cdef,
+            stamp: 1,
+        }),
+        Next::Occ(Occ {
+            comp: 3,
+            select: 0x0e,
+            umask: 0x1f,
+            kernel: false,
+            amount: 255,
+            pc: 15,
+            stamp: 2,
+        }),
+        Next::Occ(Occ {
+            comp: 12,
+            select: 0xc0,
+            umask: 0,
+            kernel: true,
+            amount: 100,
+            pc: 0x8000_0000_0000_0000,
+            stamp: 3,
+        }),
+        occ(0xc0, 0, 1, 16, 4),
+    ];
+    reads(&rt, alloc, text, Ending::End, &occs)?;
+    Ok(())
+}
+
+// Lines that are nearly of the common form, with as many bytes after them.
+#[test]
+fn nearly_common_lines(rt: HostRuntime) -> Result<(), Fail> {
+    let alloc = rt.alloc();
+    let cases: [(&[u8], Next); 10] = [
+        (b"0 c0 00 u 256 1", bad(1, LineCause::Field)),
+        (b"0 c0 00 u 0 1", bad(1, LineCause::Field)),
+        (b"0 c0 00 u 01 1", bad(1, LineCause::Field)),
+        (b"0 c0 00 u 1 123456789abcdef01", bad(1, LineCause::Field)),
+        (b"0 c0 00 u 1 ", bad(1, LineCause::Field)),
+        (b"0 c0 00 v 1 1", bad(1, LineCause::Field)),
+        (b"0 c0 0g u 1 1", bad(1, LineCause::Field)),
+        (b"a c0 00 u 1 1", bad(1, LineCause::Field)),
+        (b"0 c0 00 u 1 1 0", bad(1, LineCause::Fields)),
+        (b"version 2\n0 c0 00 u 1 1", bad(2, LineCause::Fields)),
+    ];
+    for (line, want) in cases {
+        let mut bytes = line.to_vec(alloc)?;
+        bytes.extend_from_slice(b"\n0 c0 00 u 1 400abc\n0 c0 00 u 1 400abc\n")?;
+        reads(&rt, alloc, &bytes, Ending::End, &[want])?;
+    }
+    Ok(())
+}
+
 // This byte so often, and then these bytes.
 fn repeated(alloc: Global, byte: u8, size: usize, rest: &[u8]) -> Result<Vec<u8>, AllocError> {
     let mut bytes = Vec::new(alloc);

@@ -3,13 +3,18 @@ use Rattle.stream_reader.proofs.FieldSteps.{at-space, at-end, at-other, at-digit
 use Rattle.stream_reader.proofs.field.digits.Goals as goal
 use Rattle.stream_reader.proofs.field.digits.Goals.{then-byte-lt48-via-then-byte-lt48, then-byte-lt48-via-else-byte-lt48+then-byte-gt57, then-byte-lt48-via-else-byte-lt48+else-byte-gt57+then-value-greatest}
 
-pub returns-then-byte-eq32 : goal.returns-then-byte-eq32
-returns-then-byte-eq32 c =
+pub returns-then-byte-eq32-clause-value : goal.returns-then-byte-eq32-clause-value
+returns-then-byte-eq32-clause-value c =
     let e = at-space c.args.text.now c.loop-size.size c.loop-size.value c.loop-size-test.true c.if-byte-eq32.true in
-    (c.loop-size.invariant.rest ∙ e.value, omega (arith, e.long), omega arith)
+    c.loop-size.invariant.rest ∙ e.value
 
-pub returns-then-byte-lt48 : goal.returns-then-byte-lt48
-returns-then-byte-lt48 c =
+pub returns-then-byte-eq32-clause-size : goal.returns-then-byte-eq32-clause-size
+returns-then-byte-eq32-clause-size c =
+    let e = at-space c.args.text.now c.loop-size.size c.loop-size.value c.loop-size-test.true c.if-byte-eq32.true in
+    omega (arith, e.long)
+
+pub returns-then-byte-lt48-clause-large : goal.returns-then-byte-lt48-clause-large
+returns-then-byte-lt48-clause-large c =
     let P : _ = λ o. IfSome o (λ n. c.args.greatest < n) in
     elim c.then-byte-lt48.branch [
       | then-byte-lt48-via-then-byte-lt48 w ↦ subst P (sym (c.loop-size.invariant.rest ∙ at-other c.args.text.now c.loop-size.size c.loop-size.value c.loop-size-test.true c.if-byte-eq32.false (inl w.if-byte-lt48.true))) tt
@@ -26,7 +31,12 @@ loop-size-preserved c =
       small = omega arith;
     }
 
-pub returns : goal.returns
-returns c =
+pub returns-clause-value : goal.returns-clause-value
+returns-clause-value c =
     let e = at-end c.args.text.now c.loop-size.size c.loop-size.value c.loop-size-test.false in
-    (c.loop-size.invariant.rest ∙ e.value, omega (arith, e.long), omega arith)
+    c.loop-size.invariant.rest ∙ e.value
+
+pub returns-clause-size : goal.returns-clause-size
+returns-clause-size c =
+    let e = at-end c.args.text.now c.loop-size.size c.loop-size.value c.loop-size-test.false in
+    omega (arith, e.long)

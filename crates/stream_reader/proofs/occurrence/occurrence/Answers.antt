@@ -3,5 +3,5 @@ use Rattle.stream_reader.specs.Fields.{first_field}
 use Rattle.stream_reader.proofs.Modes.{mode-one}
 use Rattle.stream_reader.proofs.occurrence.occurrence.Goals as goal
 
-pub behind-requires-4 : goal.behind-requires-4
-behind-requires-4 c = mode-one (first_field c.in_ok-rest-3.rest.now) c.in_ok-kernel.kernel (sym c.in_ok-kernel.ensures)
+pub after_field-requires-4 : goal.after_field-requires-4
+after_field-requires-4 c = mode-one (first_field c.in_ok-rest-3.rest.now) c.in_ok-kernel.kernel (sym c.in_ok-kernel.ensures)

@@ -5,23 +5,41 @@ use Rattle.stream_reader.proofs.reader.StreamReader.turn.Goals as goal
 
 pub returns-in-Some-clause-takes : goal.returns-in-Some-clause-takes
 returns-in-Some-clause-takes g c =
-    let w : IsWhole c.args.self.now c.in-Some.size = record { size = c.in-Some.ensures.0; one = c.in-Some.ensures.1; is = c.in-Some.ensures.2 } in
-    whole-takes c.args.self.now c.take_line.new.self c.in-Some.size c.take_line.result c.requires w c.take_line.ensures.answer c.take_line.ensures.after
+    let q = c.in-Some.ensures in
+    let w : IsWhole c.args.self.now c.in-Some.line.size = record { size = q.size; one = q.one; is = q.is } in
+    whole-takes c.args.self.now c.take_judged.new.self c.in-Some.line.size c.take_judged.result c.requires w c.take_judged.ensures.answer c.take_judged.ensures.after
 
 pub returns-in-Some-clause-passes : goal.returns-in-Some-clause-passes
 returns-in-Some-clause-passes g c =
-    let w : IsWhole c.args.self.now c.in-Some.size = record { size = c.in-Some.ensures.0; one = c.in-Some.ensures.1; is = c.in-Some.ensures.2 } in
-    whole-passes c.args.self.now c.take_line.new.self c.in-Some.size c.take_line.result c.requires w c.take_line.ensures.answer c.take_line.ensures.after
+    let q = c.in-Some.ensures in
+    let w : IsWhole c.args.self.now c.in-Some.line.size = record { size = q.size; one = q.one; is = q.is } in
+    whole-passes c.args.self.now c.take_judged.new.self c.in-Some.line.size c.take_judged.result c.requires w c.take_judged.ensures.answer c.take_judged.ensures.after
 
 pub returns-in-Some-clause-at_hand : goal.returns-in-Some-clause-at_hand
 returns-in-Some-clause-at_hand g c =
-    let w : IsWhole c.args.self.now c.in-Some.size = record { size = c.in-Some.ensures.0; one = c.in-Some.ensures.1; is = c.in-Some.ensures.2 } in
-    whole-hand c.args.self.now c.take_line.new.self c.in-Some.size c.take_line.result c.requires w c.take_line.ensures.answer c.take_line.ensures.after
+    let q = c.in-Some.ensures in
+    let w : IsWhole c.args.self.now c.in-Some.line.size = record { size = q.size; one = q.one; is = q.is } in
+    whole-hand c.args.self.now c.take_judged.new.self c.in-Some.line.size c.take_judged.result c.requires w c.take_judged.ensures.answer c.take_judged.ensures.after
 
-pub returns-then-held_len-gt-LONGEST-clause-takes : goal.returns-then-held_len-gt-LONGEST-clause-takes
-returns-then-held_len-gt-LONGEST-clause-takes g c =
+pub returns-in-Some-line_len-clause-takes : goal.returns-in-Some-line_len-clause-takes
+returns-in-Some-line_len-clause-takes g c =
+    let w : IsWhole c.args.self.now c.in-Some-line_len.size = record { size = c.in-Some-line_len.ensures.0; one = c.in-Some-line_len.ensures.1; is = c.in-Some-line_len.ensures.2 } in
+    whole-takes c.args.self.now c.take_line.new.self c.in-Some-line_len.size c.take_line.result c.requires w c.take_line.ensures.answer c.take_line.ensures.after
+
+pub returns-in-Some-line_len-clause-passes : goal.returns-in-Some-line_len-clause-passes
+returns-in-Some-line_len-clause-passes g c =
+    let w : IsWhole c.args.self.now c.in-Some-line_len.size = record { size = c.in-Some-line_len.ensures.0; one = c.in-Some-line_len.ensures.1; is = c.in-Some-line_len.ensures.2 } in
+    whole-passes c.args.self.now c.take_line.new.self c.in-Some-line_len.size c.take_line.result c.requires w c.take_line.ensures.answer c.take_line.ensures.after
+
+pub returns-in-Some-line_len-clause-at_hand : goal.returns-in-Some-line_len-clause-at_hand
+returns-in-Some-line_len-clause-at_hand g c =
+    let w : IsWhole c.args.self.now c.in-Some-line_len.size = record { size = c.in-Some-line_len.ensures.0; one = c.in-Some-line_len.ensures.1; is = c.in-Some-line_len.ensures.2 } in
+    whole-hand c.args.self.now c.take_line.new.self c.in-Some-line_len.size c.take_line.result c.requires w c.take_line.ensures.answer c.take_line.ensures.after
+
+pub returns-then-held_len-gt-LONGEST_LINE-clause-takes : goal.returns-then-held_len-gt-LONGEST_LINE-clause-takes
+returns-then-held_len-gt-LONGEST_LINE-clause-takes g c =
     let long : 128 < length c.args.self.now.held = omega (arith, c.held_len.ensures) in
-    rw c.give_up.ensures.over (rw (ap (λ (v : ReaderView). v.start.number) c.self.view_is) (long-takes c.args.self.now c.requires c.in_default.ensures long))
+    rw c.give_up.ensures.over (rw (ap (λ (v : ReaderView). v.start.number) c.self.view_is) (long-takes c.args.self.now c.requires c.in_default-line_len.ensures long))
 
 pub returns-clause-at_hand : goal.returns-clause-at_hand
-returns-clause-at_hand g c has = absurd (no-answer c.args.self.now c.requires c.in_default.ensures has)
+returns-clause-at_hand g c has = absurd (no-answer c.args.self.now c.requires c.in_default-line_len.ensures has)

@@ -1,0 +1,44 @@
+-- The two tables of bytes, place by place.
+use Rattle.std.proofs.Common.{◌≡◌, ◌<◌, ◌≤◌, ◌==◌, ◌&&◌, ℕ, zero, suc, Bool, true, false, Some, None, inl, inr, slice_index, refl, arith}
+use Rattle.std.specs.Prelude.{if◌then◌else◌}
+use Rattle.std.specs.Char.{digit_value}
+use Rattle.std.proofs.lemmas.Bool.{and_parts, cases_lt, eqb-true, ltb-true}
+use Rattle.papi_base.specs.Numerals.{is_hex_digit}
+use Rattle.stream_reader.specs.declared.byte_tables.TheConstants.{DIGITS, MODES}
+use Rattle.stream_reader.specs.ByteTables.{digit_or_255, mode_or_255}
+
+-- the test of the places below n, which computes
+abbrev pub all_same : (ℕ → ℕ) → (ℕ → ℕ) → ℕ → Bool
+all_same f g zero = true
+all_same f g (suc n) = (f n == g n) && all_same f g n
+
+pub at-place : (f g : ℕ → ℕ) (n b : ℕ) → all_same f g n ≡ true → b < n → f b ≡ g b
+at-place f g zero b h lt = absurd (omega arith)
+at-place f g (suc n) b h lt =
+    let parts = and_parts (f n == g n) (all_same f g n) h in
+    elim (cases_lt b n) [
+      | inl below ↦ at-place f g n b parts.1 below
+      | inr last ↦
+          let e : b ≡ n = omega arith in
+          rw e (eqb-true (f n) (g n) parts.0)
+    ]
+
+pub digits-at : (b : ℕ) → b < 256 → slice_index DIGITS b ≡ digit_or_255 b
+digits-at b h = at-place (λ n. slice_index DIGITS n) digit_or_255 256 b refl h
+
+pub modes-at : (b : ℕ) → b < 256 → slice_index MODES b ≡ mode_or_255 b
+modes-at b h = at-place (λ n. slice_index MODES n) mode_or_255 256 b refl h
+
+pub some-digit : (b : ℕ) → digit_or_255 b < 16 → Some (digit_or_255 b) ≡ (if is_hex_digit b then Some (digit_value b) else None)
+some-digit b h = go (is_hex_digit b) h
+  where
+    go : (x : Bool) → (if x then digit_value b else 255) < 16 → Some (if x then digit_value b else 255) ≡ (if x then Some (digit_value b) else None)
+    go true p = refl
+    go false p = absurd (omega arith)
+
+pub no-digit : (b : ℕ) → 16 ≤ digit_or_255 b → None ≡ (if is_hex_digit b then Some (digit_value b) else None)
+no-digit b h = go (is_hex_digit b) refl h
+  where
+    go : (x : Bool) → is_hex_digit b ≡ x → 16 ≤ (if x then digit_value b else 255) → None ≡ (if x then Some (digit_value b) else None)
+    go true p q = absurd (omega (arith, ltb-true (digit_value b) 16 p))
+    go false p q = refl

@@ -1,0 +1,25 @@
+-- Hexadecimal digits and their number: this project's own stream format, docs/FORMATS.md.
+use Rattle.std.specs.Prelude.{◌≡◌, ◌≤◌, ◌+◌, ◌*◌, ℕ, Bool, true, List, [], ◌∷◌, take, drop, nat_le, not}
+use Rattle.std.specs.List.{list_all}
+use Rattle.std.specs.Str.Parse.{digits_value}
+use Rattle.papi_base.specs.Numerals.{is_hex_digit}
+use Rattle.stream_reader.specs.declared.field.Field.{Field}
+
+-- the value of a digit, and not the 255 of another byte
+abbrev pub is_value : ℕ → Bool
+is_value x = not (nat_le 16 x)
+
+-- the number whose digits are those of a number and then these values, the highest first
+unfoldable pub number_after : ℕ → List ℕ → ℕ
+number_after n [] = n
+number_after n (x ∷ xs) = number_after (n * 16 + x) xs
+
+-- so many bytes from a place on
+abbrev pub piece : ℕ → ℕ → List ℕ → List ℕ
+piece place size t = take size (drop place t)
+
+-- at most sixteen hexadecimal digits from a place on, and their number
+pub record IsHexadecimal (t : List ℕ) (place : ℕ) (f : Field) : Type 0 where
+  pub few : f.size ≤ 16
+  pub each : list_all is_hex_digit (piece place f.size t) ≡ true
+  pub value : f.value ≡ digits_value 16 (piece place f.size t)

@@ -1,0 +1,65 @@
+//! Hexadecimal digits, sixteen at a time: the bytes are the lanes of a vector, the first byte the first lane.
+ghost use Rattle.std.specs.Prelude.{◌≡◌, ◌≤◌, ◌+◌, ◌%◌, length, map};
+ghost use Rattle.std.specs.List.{prefix_len};
+ghost use Rattle.stream_reader.specs.ByteTables.{digit_or_255};
+ghost use Rattle.stream_reader.specs.Digits.{IsHexadecimal, is_value, number_after};
+
+use crate::field::Field;
+use std::simd::prelude::*;
+
+// The value of each lane that is a hexadecimal digit in either case, and 255 for the others.
+#[inline(always)]
+fn digits_or_255(bytes: u8x16) -> u8x16
+    ensures { result ≡ map digit_or_255 bytes }
+{
+    let digit = bytes - u8x16::splat(b'0');
+    let letter = (bytes | u8x16::splat(32)) - u8x16::splat(b'a');
+    digit.simd_le(u8x16::splat(9)).select(
+        digit,
+        letter
+            .simd_le(u8x16::splat(5))
+            .select(letter + u8x16::splat(10), u8x16::splat(255)),
+    )
+}
+
+// How many digits come before the first lane that is not one.
+#[inline(always)]
+fn leading_digits(values: u8x16) -> usize
+    ensures value { result ≡ prefix_len is_value values }
+    ensures most { result ≤ 16 }
+{
+    let others = values.simd_ge(u8x16::splat(16)).to_bitmask();
+    if others == 0 {
+        16
+    } else {
+        others.trailing_zeros() as usize
+    }
+}
+
+// The number of sixteen digits, the first of them the highest. Each pair of digits becomes a byte: a lane of 16 bits has the first
+// digit in its low byte, and 4097 is 16 * 256 + 1, so the product has 16 times the first and the second in its high byte.
+#[inline(always)]
+fn joined(values: u8x16) -> u64
+    ensures { result ≡ number_after 0 (map (λ value. value % 16) values) }
+{
+    let pairs = u16x8::from_le_bytes(values & u8x16::splat(15));
+    let bytes: u8x8 = ((pairs * u16x8::splat(4097)) >> u16x8::splat(8)).cast();
+    u64::from_be_bytes(bytes.to_array())
+}
+
+/// The number of the hexadecimal digits from this place on, at most sixteen, and how many they are.
+#[inline(always)]
+pub(crate) fn hexadecimal_at(text: &[u8], place: usize) -> Field
+    requires { place + 16 ≤ length text.now }
+    ensures { IsHexadecimal text.now place result }
+{
+    let values = digits_or_255(u8x16::from_slice(&text[place..]));
+    let size = leading_digits(values);
+    if size == 0 {
+        return Field { value: 0, size };
+    }
+    Field {
+        value: joined(values) >> (64 - 4 * size),
+        size,
+    }
+}
