@@ -30,9 +30,9 @@ pub stream_apart : form (codes "papi_run" ∷ codes "s" ∷ codes "-Ulab.unit" �
 unfolding on_words
 stream_apart = refl
 
-pub behind_dashes : form (codes "papi_run" ∷ codes "-U=-x" ∷ codes "s" ∷ codes "--" ∷ codes "--notes" ∷ []) ≡ Some (lab_run (codes "-x") (codes "--notes" ∷ []))
+pub after_dashes : form (codes "papi_run" ∷ codes "-U=-x" ∷ codes "s" ∷ codes "--" ∷ codes "--notes" ∷ []) ≡ Some (lab_run (codes "-x") (codes "--notes" ∷ []))
 unfolding on_words
-behind_dashes = refl
+after_dashes = refl
 
 pub streams_in_order : form (codes "papi_run" ∷ codes "s" ∷ codes "t0" ∷ codes "-U" ∷ codes "lab.unit" ∷ codes "t1" ∷ codes "t0" ∷ []) ≡ Some (lab_run (codes "lab.unit") (codes "t0" ∷ codes "t1" ∷ codes "t0" ∷ []))
 unfolding on_words
@@ -88,9 +88,9 @@ pub comma_in_cpu : form (run_words (codes "-P" ∷ codes "p" ∷ codes "-C" ∷ 
 unfolding on_words
 comma_in_cpu = refl
 
-pub space_behind_cpu : form (run_words (codes "-P" ∷ codes "p" ∷ codes "-C" ∷ codes "lab2 " ∷ [])) ≡ None
+pub space_after_cpu : form (run_words (codes "-P" ∷ codes "p" ∷ codes "-C" ∷ codes "lab2 " ∷ [])) ≡ None
 unfolding on_words
-space_behind_cpu = refl
+space_after_cpu = refl
 
 pub notes_twice : form (run_words (codes "--notes" ∷ codes "--notes" ∷ [])) ≡ None
 unfolding on_words

@@ -11,9 +11,11 @@ use Rattle.tool_words.specs.Words.{app_with}
 unfoldable pub available_rule : Rule
 available_rule = record (new_rule (codes "available")) { short = Some 97; action = Some SetTrue }
 
+-- the arguments, in order
 unfoldable pub decode_rules : List Rule
 decode_rules = unit_rule ∷ needed_presets_rule ∷ needed_cpu_rule ∷ available_rule ∷ []
 
+-- `clap` says exactly which words they take
 pub decode_rules-defined : is_simple_and_free (app_with decode_rules) ≡ true
 unfolding decode_rules unit_rule needed_presets_rule presets_rule needed_cpu_rule cpu_rule available_rule
 decode_rules-defined = refl

@@ -14,9 +14,11 @@ names_rule = record (new_rule (codes "names")) {
   range = Some (record { start_inclusive = 1; end_inclusive = usize_max });
 }
 
+-- the arguments, in order
 unfoldable pub encode_rules : List Rule
 encode_rules = unit_rule ∷ names_rule ∷ []
 
+-- `clap` says exactly which words they take
 pub encode_rules-defined : is_simple_and_free (app_with encode_rules) ≡ true
 unfolding encode_rules unit_rule names_rule
 encode_rules-defined = refl

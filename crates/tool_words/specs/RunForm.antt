@@ -18,9 +18,11 @@ notes_rule = record (new_rule (codes "notes")) { long = Some (codes "notes"); ac
 unfoldable pub script_rule : Rule
 script_rule = record (new_rule (codes "script")) { required = true }
 
+-- the arguments, in order
 unfoldable pub run_rules : List Rule
 run_rules = unit_rule ∷ presets_rule ∷ cpu_rule ∷ workers_rule ∷ notes_rule ∷ script_rule ∷ streams_rule ∷ []
 
+-- `clap` says exactly which words they take
 pub run_rules-defined : is_simple_and_free (app_with run_rules) ≡ true
 unfolding run_rules unit_rule presets_rule cpu_rule workers_rule notes_rule script_rule streams_rule
 run_rules-defined = refl

@@ -12,7 +12,7 @@ streams_rule = record (new_rule (codes "streams")) {
   range = Some (record { start_inclusive = 0; end_inclusive = usize_max });
 }
 
--- the names of streams, where each has a thread
+-- the names of streams, at most one a thread
 abbrev pub streams_of : List Text → Option (List Text)
 streams_of names = if nat_le (length names) THREADS then Some names else None
 

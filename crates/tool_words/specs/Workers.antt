@@ -12,6 +12,6 @@ workers_rule = record (new_rule (codes "workers")) {
   defaults = codes "1" ∷ [];
 }
 
--- so many workers, where there may be so many
+-- a number of workers, from 1 to the most
 abbrev pub workers_of : ℕ → Option ℕ
 workers_of count = if nat_le 1 count && nat_le count MOST_WORKERS then Some count else None

@@ -1,6 +1,6 @@
 //! The words of `papi_decode`: `-U UNIT -P PRESETS -C CPU [-a]`.
 
-ghost use Rattle.std.specs.Prelude.{◌≡◌, false, map, option_map};
+ghost use Rattle.std.specs.Prelude.{◌≡◌, map, option_map};
 ghost use Rattle.clap.specs.Words.{rule_of};
 ghost use Rattle.tool_words.specs.DecodeForm.{available_rule, decode_rules, decode_rules-defined, decode_words, decode_words_in};
 ghost use Rattle.tool_words.specs.Words.{Answers};

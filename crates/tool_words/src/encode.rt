@@ -1,6 +1,6 @@
 //! The words of `papi_encode`: `-U UNIT NAME..`.
 
-ghost use Rattle.std.specs.Prelude.{◌≡◌, false, map, option_map};
+ghost use Rattle.std.specs.Prelude.{◌≡◌, map, option_map};
 ghost use Rattle.clap.specs.Words.{rule_of};
 ghost use Rattle.tool_words.specs.EncodeForm.{encode_rules, encode_rules-defined, encode_words, encode_words_in, names_rule};
 ghost use Rattle.tool_words.specs.Words.{Answers};

@@ -1,6 +1,6 @@
 //! The options that several tools have.
 
-ghost use Rattle.std.specs.Prelude.{◌≡◌, false, option_map};
+ghost use Rattle.std.specs.Prelude.{◌≡◌, option_map};
 ghost use Rattle.clap.specs.Words.{rule_of};
 ghost use Rattle.tool_words.specs.Options.{unit_rule};
 ghost use Rattle.tool_words.specs.Options as Options;

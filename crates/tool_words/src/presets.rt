@@ -1,6 +1,6 @@
 //! The presets that the words of a tool ask for: `-P PRESETS -C CPU`.
 
-ghost use Rattle.std.specs.Prelude.{◌≡◌, false, option_map};
+ghost use Rattle.std.specs.Prelude.{◌≡◌, option_map};
 ghost use Rattle.std.specs.List.{list_all};
 ghost use Rattle.clap.specs.Words.{rule_of};
 ghost use Rattle.tool_words.specs.Presets.{cpu_rule, is_cpu_character, needed_cpu_rule, needed_presets_rule, presets_rule};

@@ -1,6 +1,6 @@
 //! The words of `papi_run`: `-U UNIT [-P PRESETS -C CPU] [--workers N] [--notes] SCRIPT [STREAM..]`.
 
-ghost use Rattle.std.specs.Prelude.{◌≡◌, Some, false, map, option_map};
+ghost use Rattle.std.specs.Prelude.{◌≡◌, Some, map, option_map};
 ghost use Rattle.clap.specs.Words.{rule_of};
 ghost use Rattle.tool_words.specs.RunForm.{notes_rule, run_rules, run_rules-defined, run_words, run_words_in, script_rule};
 ghost use Rattle.tool_words.specs.Words.{Answers};

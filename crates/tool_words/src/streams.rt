@@ -1,6 +1,6 @@
 //! The streams that the words of a tool name: `STREAM..`, none or more.
 
-ghost use Rattle.std.specs.Prelude.{◌≡◌, ◌≤◌, [], false, length, map, option_map};
+ghost use Rattle.std.specs.Prelude.{◌≡◌, ◌≤◌, [], length, map, option_map};
 ghost use Rattle.clap.specs.Words.{rule_of};
 ghost use Rattle.tool_words.specs.Streams.{streams_of, streams_rule};
 ghost use Rattle.tool_words.specs.Streams as Streams;

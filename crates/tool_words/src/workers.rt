@@ -1,6 +1,6 @@
 //! The workers that the words of a tool ask for: `--workers N`.
 
-ghost use Rattle.std.specs.Prelude.{◌≡◌, ◌≤◌, false, option_and_then};
+ghost use Rattle.std.specs.Prelude.{◌≡◌, ◌≤◌, option_and_then};
 ghost use Rattle.clap.specs.Words.{rule_of};
 ghost use Rattle.tool_words.specs.Words.{Answers};
 ghost use Rattle.tool_words.specs.Workers.{workers_of, workers_rule};
@@ -10,7 +10,7 @@ use clap::{Arg, value_parser};
 use std::alloc::Global;
 use std::marker::Model;
 
-/// How many workers may be asked for: docs/FORMATS.md.
+/// How many workers there are at most: docs/FORMATS.md.
 pub const MOST_WORKERS: u32 = 64;
 
 /// A number of workers, from 1 to [`MOST_WORKERS`]. Contracts see the number.
@@ -40,7 +40,7 @@ impl Workers {
         Workers { count: 1 }
     }
 
-    /// So many workers, or `None` where there may not be so many.
+    /// So many workers, or `None` where that is not from 1 to [`MOST_WORKERS`].
     pub fn new(count: u32) -> Option<Workers>
         ensures { result ≡ workers_of count }
     {
