@@ -1,4 +1,4 @@
-/* Writes a stream of version 1: generate LINES. The same bytes on every machine. */
+/* Writes a stream of version 1: generate LINES [SEED]. The same bytes on every machine. */
 #include <stdint.h>
 #include <stdio.h>
 #include <stdlib.h>
@@ -6,7 +6,7 @@
 int main(int argc, char **argv) {
     static const char *const select[] = {"c0", "3c", "c4", "c5", "2e"};
     unsigned long lines = argc > 1 ? strtoul(argv[1], NULL, 10) : 3200000;
-    uint64_t x = 1;
+    uint64_t x = argc > 2 ? strtoul(argv[2], NULL, 10) : 1;
     for (unsigned long i = 0; i < lines; i++) {
         x = x * 6364136223846793005u + 1442695040888963407u;
         unsigned a = (unsigned)(x >> 33);
