@@ -1,6 +1,8 @@
 use crate::cut::cut;
 use crate::{Task, work_tasks};
 use std::alloc::AllocError;
+use std::sync::atomic::{AtomicU64, Ordering};
+use std::thread;
 
 /// A number to which the book's is added once. It asks for as much work as the number says.
 #[derive(Drop)]
@@ -37,6 +39,50 @@ fn each_task_is_worked_once_by_any_number_of_workers(rt: HostRuntime) -> Result<
         for (task, want) in tasks.iter().zip(10..17u32) {
             assert_eq!(rt; task.number, want, "{workers} workers");
         }
+    }
+    Ok(())
+}
+
+/// Whether four tasks were at work at one time.
+#[derive(Drop)]
+struct Meeting {
+    met: bool,
+}
+
+impl Task<AtomicU64> for Meeting {
+    ghost use Rattle.std.specs.Prelude.{⊤};
+
+    ghost ready = { λ begun task. ⊤ };
+
+    ghost done = { λ begun old new. ⊤ };
+
+    ghost load = { λ task. 1 };
+
+    fn load(&self) -> u32 {
+        1
+    }
+
+    fn work(&mut self, begun: &AtomicU64) {
+        begun.fetch_add(1, Ordering::SeqCst);
+        for _ in 0..10_000_000u32 {
+            self.met = begun.load(Ordering::SeqCst) == 4;
+            if self.met {
+                return;
+            }
+            thread::yield_now();
+        }
+    }
+}
+
+#[test]
+fn four_tasks_of_four_workers_are_worked_at_one_time(rt: HostRuntime) -> Result<(), AllocError> {
+    let mut tasks: Vec<Meeting> = Vec::new(rt.alloc());
+    for _ in 0..4u32 {
+        tasks.push(Meeting { met: false })?;
+    }
+    work_tasks(&rt, &AtomicU64::new(0), &mut tasks, 4);
+    for task in &tasks {
+        assert!(rt; task.met);
     }
     Ok(())
 }
