@@ -1,17 +1,20 @@
 -- The calls of each thread.
-use Rattle.std.proofs.Common.{◌≡◌, ◌≢◌, ℕ, ◌+◌, ◌<◌, ◌==◌, if◌then◌else◌, inl, inr, List, [], ◌∷◌, ◌++◌, length, map, take, get_or, set, refl, sym, ◌∙◌, ap, ap₂, arith, append_assoc, subst, slice_get, Some}
-use Rattle.std.proofs.lemmas.Bool.{cases_eq, cases_lt}
+use Rattle.std.proofs.Common.{◌≡◌, ◌≢◌, ℕ, ◌+◌, ◌<◌, ◌≤◌, ◌==◌, if◌then◌else◌, Bool, true, false, inl, inr, List, [], ◌∷◌, ◌++◌, length, map, take, get_or, set, refl, sym, ◌∙◌, ap, ap₂, arith, append_assoc, replicate, slice_get, Some}
+use Rattle.std.proofs.lemmas.Bool.{cases_eq}
 use Rattle.std.proofs.lemmas.Bool.Decides.{nat_tests}
-use Rattle.std.proofs.lemmas.List.{take_more, append-nil, map-set, get_or-set_same, get_or-set_other, get_or_append_left, get_or_push, length-map, length-append}
+use Rattle.std.proofs.lemmas.List.{take_more, append-nil, map-set, get_or-set_same, get_or-set_other, length-map, length-append, length-take-le, get_or-replicate}
 use Rattle.std.proofs.lemmas.Option.{get_or_from_slice_get, slice_get_within}
-use Rattle.event_sets.specs.AtRest.{Widths}
+use Rattle.papi_base.specs.declared.call_name.CallName.TheVariants as name
 use Rattle.session_model.specs.declared.call.Call.{Call}
-use Rattle.stream_reader.specs.Reader.{ReaderView}
-use Rattle.thread_session.specs.SessionView.{SessionView}
-use Rattle.plan_runner.specs.declared.plan.PlanLine.{PlanLine}
+use Rattle.session_model.specs.declared.call.Call.TheVariants.{Register}
+use Rattle.plan_runner.specs.declared.plan.Planned.{Planned}
 use Rattle.plan_runner.specs.declared.plan.Planned.TheVariants as planned
+use Rattle.plan_runner.specs.declared.plan.PlanLine.{PlanLine}
 use Rattle.plan_runner.specs.Plans.{calls_in, calls_on, planned_at}
-use Rattle.plan_runner.specs.Jobs.{IsOpened}
+
+-- a line, where some line is asked for
+abbrev pub some_line : PlanLine
+some_line = record { number = 0; thread = 0; word = name.Register; planned = planned.Call Register }
 
 -- a call is added to one of the lists
 pub deal-one : {V : Type 0} (F : V → List Call) (xs : List V) (i : ℕ) (w : V) (c : Call) → i < length xs → F w ≡ get_or (map F xs) i [] ++ c ∷ []
@@ -43,20 +46,19 @@ planned-more t ls k l h e =
     ap (planned_at t) (take_more ls k l h ∙ ap (λ z. take k ls ++ z ∷ []) e)
     ∙ (planned-append t (take k ls) (l ∷ []) ∙ ap (λ cs. planned_at t (take k ls) ++ cs) (append-nil (calls_on t l)))
 
--- one session more
-pub opened-more : (shape : Widths) (rs : List ReaderView) (zs : List SessionView) (r : ReaderView) (z : SessionView) → length zs ≡ length rs → IsOpened shape (length rs) r z
-    → ((t : ℕ) (q : ReaderView) (d : SessionView) → t < length rs → IsOpened shape t (get_or rs t q) (get_or zs t d))
-    → (t : ℕ) (q : ReaderView) (d : SessionView) → t < length (rs ++ r ∷ []) → IsOpened shape t (get_or (rs ++ r ∷ []) t q) (get_or (zs ++ z ∷ []) t d)
-opened-more shape rs zs r z e new old t q d h =
-    elim (cases_lt t (length rs)) [
-      | inl l ↦
-          subst (λ v. IsOpened shape t v (get_or (zs ++ z ∷ []) t d)) (sym (get_or_append_left rs (r ∷ []) q t l))
-          (subst (λ v. IsOpened shape t (get_or rs t q) v) (sym (get_or_append_left zs (z ∷ []) d t (omega (arith, l, e)))) (old t q d l))
-      | inr l ↦
-          let is : length rs ≡ t = omega (arith, l, h, length-append rs (r ∷ [])) in
-          subst (λ v. IsOpened shape t v (get_or (zs ++ z ∷ []) t d)) (sym (get_or_push rs r q t is))
-          (subst (λ v. IsOpened shape t r v) (sym (get_or_push zs z d t (e ∙ is))) (subst (λ v. IsOpened shape v r z) is new))
-    ]
+-- each thread makes at most as many calls as there are lines
+on-line : (t : ℕ) (l : PlanLine) → length (calls_on t l) ≤ 1
+on-line t l = go (l.thread == t) l.planned where
+  go : (b : Bool) (p : Planned) → length (if b then calls_in p else []) ≤ 1
+  go true (planned.Call c) = omega arith
+  go true (planned.Code c) = omega arith
+  go true (planned.Name e) = omega arith
+  go true planned.Threads = omega arith
+  go false p = omega arith
+
+pub planned-few : (t : ℕ) (ls : List PlanLine) → length (planned_at t ls) ≤ length ls
+planned-few t [] = omega arith
+planned-few t (l ∷ ls) = let h = planned-few t ls in omega (arith, h, on-line t l, length-append (calls_on t l) (planned_at t ls))
 
 -- the calls of a line that makes one
 pub one-call : (t : ℕ) (l : PlanLine) (c : Call) → l.planned ≡ planned.Call c → (if l.thread == t then c ∷ [] else []) ≡ calls_on t l
@@ -67,3 +69,35 @@ pub take-found : {X : Type 0} (xs : List X) (i : ℕ) (x : X) → slice_get xs i
 take-found xs i x e =
     let inside = slice_get_within xs i x e in
     take_more xs i x inside ∙ ap (λ z. take i xs ++ z ∷ []) (get_or_from_slice_get xs i x x e)
+
+-- a line's calls are counted
+pub count-more : (counts : List ℕ) (plan : List PlanLine) (k : ℕ) (l : PlanLine) (n m : ℕ) → k < length plan → get_or plan k l ≡ l → l.thread < length counts → n ≡ length (calls_in l.planned) → m ≡ get_or counts l.thread 0 + n
+    → ((t : ℕ) → t < 64 → get_or counts t 0 ≡ length (planned_at t (take k plan)))
+    → (t : ℕ) → t < 64 → get_or (set counts l.thread m) t 0 ≡ length (planned_at t (take (k + 1) plan))
+count-more counts plan k l n m below here inside e sum old t h =
+    let more : length (planned_at t (take (k + 1) plan)) ≡ length (planned_at t (take k plan)) + length (calls_on t l) =
+    ap length (planned-more t plan k l below here) ∙ length-append (planned_at t (take k plan)) (calls_on t l) in
+    elim (cases_eq l.thread t) [
+      | inl is ↦
+          let mine : calls_on t l ≡ calls_in l.planned = grind (arith, nat_tests, is) in
+          let was : get_or counts l.thread 0 ≡ get_or counts t 0 = ap (λ i. get_or counts i 0) is in
+          let now : get_or (set counts l.thread m) t 0 ≡ m = ap (λ i. get_or (set counts l.thread m) i 0) (sym is) ∙ get_or-set_same counts l.thread m 0 inside in
+          omega (arith, now, sum, e, was, old t h, more, ap length mine)
+      | inr not ↦
+          let apart : t ≢ l.thread = λ q. not (sym q) in
+          let none : calls_on t l ≡ [] = grind (arith, nat_tests, not) in
+          omega (arith, get_or-set_other counts l.thread t m 0 apart, old t h, more, ap length none)
+    ]
+
+-- the count so far
+pub count-few : (counts : List ℕ) (plan : List PlanLine) (k t : ℕ) → k ≤ length plan → t < 64 → ((t : ℕ) → t < 64 → get_or counts t 0 ≡ length (planned_at t (take k plan))) → get_or counts t 0 ≤ k
+count-few counts plan k t h small old = omega (arith, old t small, planned-few t (take k plan), length-take-le k plan h)
+
+pub none-counted : (none t : ℕ) → none ≡ 0 → t < 64 → get_or (replicate 64 none) t none ≡ none
+none-counted none t e h = get_or-replicate 64 t none none h
+
+pub one-at-most : (p : Planned) → length (calls_in p) ≤ 1
+one-at-most (planned.Call c) = omega arith
+one-at-most (planned.Code c) = omega arith
+one-at-most (planned.Name e) = omega arith
+one-at-most planned.Threads = omega arith

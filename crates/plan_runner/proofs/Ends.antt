@@ -1,7 +1,6 @@
 -- Lists that lose their last element, and lists that gain it in turn.
-use Rattle.std.proofs.Common.{◌≡◌, ℕ, ◌+◌, ◌≤◌, List, [], ◌∷◌, ◌++◌, length, map, reverse, take, drop, get_or, sym, ◌∙◌, ap, ap₂, arith, length-append, All, subst}
-use Rattle.std.proofs.lemmas.List.Elements.{All-append, All-push}
-use Rattle.std.proofs.lemmas.List.{get_or_push, get_or-take, take_at, take-take, length-take-le, drop_more, reverse-append, map-append}
+use Rattle.std.proofs.Common.{◌≡◌, ℕ, ◌+◌, ◌<◌, ◌≤◌, List, [], ◌∷◌, ◌++◌, length, map, take, drop, get_or, sym, ◌∙◌, ap, ap₂, arith, length-append}
+use Rattle.std.proofs.lemmas.List.{get_or_push, get_or-map, get_or-take, take_at, take-take, length-take-le, drop_more}
 
 -- where the first m have the last one cut off
 pub front-cut : {X : Type 0} (xs ys zs : List X) (x : X) (m n : ℕ) → ys ≡ take m xs → ys ≡ zs ++ x ∷ [] → m ≡ n + 1 → m ≤ length xs → zs ≡ take n xs
@@ -19,23 +18,6 @@ pub drop-cut : {X : Type 0} (xs ys zs : List X) (x : X) (m n : ℕ) → ys ≡ t
 drop-cut xs ys zs x m n e f p h =
     drop_more xs n x (omega arith) ∙ ap₂ (λ y k. y ∷ drop k xs) (last-cut xs ys zs x m n e f p h x) (omega arith)
 
--- an element goes over to another list, of which a view is kept
-pub over-more : {J A X : Type 0} (F : J → X) (G : A → X) (xs : List J) (ys ys' : List A) (x : J) (a : A) (m n : ℕ)
-    → map G ys ≡ reverse (map F (drop m xs)) → ys' ≡ ys ++ a ∷ [] → G a ≡ F x → drop n xs ≡ x ∷ drop m xs
-    → map G ys' ≡ reverse (map F (drop n xs))
-over-more F G xs ys ys' x a m n e p g d =
-    ap (map G) p
-    ∙ (map-append G ys (a ∷ [])
-    ∙ (ap₂ (λ u v. u ++ v ∷ []) e g
-    ∙ (sym (reverse-append (F x ∷ []) (map F (drop m xs)))
-    ∙ ap (λ u. reverse (map F u)) (sym d))))
-
-all-none : {J : Type 0} (P : J → Type 0) → All P []
-all-none P = λ k d l. absurd (omega (arith, l))
-
-one : {J : Type 0} (P : J → Type 0) (x : J) → P x → All P (x ∷ [])
-one P x p = All-push P [] x (all-none P) p
-
--- what holds of each element behind the cut holds with one more
-pub all-more : {J : Type 0} (P : J → Type 0) (xs : List J) (x : J) (m n : ℕ) → All P (drop m xs) → P x → drop n xs ≡ x ∷ drop m xs → All P (drop n xs)
-all-more P xs x m n all p d = subst (All P) (sym d) (All-append P (x ∷ []) (drop m xs) (one P x p) all)
+-- what is seen of an element
+pub map-at : {X Y : Type 0} (f : X → Y) (xs : List X) (n : ℕ) (x : X) (d : Y) → n < length xs → get_or xs n x ≡ x → get_or (map f xs) n d ≡ f x
+map-at f xs n x d h e = get_or-map f xs n x d h ∙ ap f e

@@ -1,10 +1,11 @@
 pub mod Ends
-pub mod Taken
+pub mod Filled
+pub mod Lent
 pub mod Dealt
+pub mod Opened
 pub mod Outcomes
 pub mod Merged
-pub mod Counts
+pub mod Marked
 pub mod Served
 pub mod Scripts
 pub mod Worlds
-pub mod Failing

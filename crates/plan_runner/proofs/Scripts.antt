@@ -18,7 +18,7 @@ use Rattle.plan_runner.specs.declared.result.ReplyLine.{ReplyLine}
 use Rattle.plan_runner.specs.Plans.{Ask, ask_of, asks_from, calls_in, event_by, looked_up, planned_at}
 use Rattle.plan_runner.specs.Merges.{ahead_behind, lines_by, reply_by, rest_by}
 use Rattle.plan_runner.specs.Runs.{AreInOrder, reply_lines}
-use Rattle.plan_runner.proofs.Served.{all-none, all-cons}
+use Rattle.plan_runner.proofs.Filled.{all-none, all-cons}
 
 -- ---- the same calls
 
@@ -159,3 +159,8 @@ lines-speak before after (l ∷ ls) x h =
     subst (λ i. All (λ r. IsFault r → FaultsRose (get_or before i None) (get_or after i None)) (rest_by (get_or x.replies l.thread []) l.planned)) (sym e)
     (rest-speaks (get_or before l.thread None) (get_or after l.thread None) (get_or x.replies l.thread []) l.planned (h l.thread)))
     (h t)))
+
+-- the threads are those of the plan
+pub lines-threads : (plan : List PlanLine) (x : Ahead) → All (λ l. l.thread < 64) plan → All (λ l. l.thread < 64) (lines_by x plan)
+lines-threads [] x all = all-none (λ (l : ReplyLine). l.thread < 64)
+lines-threads (l ∷ ls) x all = all-cons (λ (k : ReplyLine). k.thread < 64) _ _ (all 0 l (omega arith)) (lines-threads ls (ahead_behind x l.thread l.planned) (All-tail (λ (k : PlanLine). k.thread < 64) l ls all))

@@ -1,39 +1,73 @@
--- The jobs of all threads, before and after their work.
-use Rattle.std.specs.Prelude.{ℕ, ◌≡◌, Bool, false, List, [], ◌∷◌, All, map, Option, Some}
+-- What is seen of the threads' jobs, before and after their work.
+use Rattle.std.specs.Prelude.{ℕ, suc, ◌+◌, ◌≡◌, Bool, false, List, [], ◌∷◌, ◌++◌, All, map, Option, Some, None}
 use Rattle.overflow_dispatch.specs.declared.handler.Note.{Note}
 use Rattle.parallel_tasks.specs.Each.{Each}
-use Rattle.papi_base.specs.Streams.{Coming}
 use Rattle.postfix_rules.specs.Presets.{Book}
 use Rattle.event_sets.specs.AtRest.{Widths}
-use Rattle.event_sets.specs.Agreement.{BookFits}
 use Rattle.session_model.specs.declared.call.Call.{Call}
 use Rattle.session_model.specs.declared.reply.Reply.{Reply}
-use Rattle.session_model.specs.Account.{opening}
-use Rattle.stream_reader.specs.Reader.{ReaderView, coming}
-use Rattle.thread_session.specs.Faults.{fault_count}
-use Rattle.thread_session.specs.SessionView.{SessionView}
-use Rattle.thread_session.specs.Stands.{IsReady, Stands}
+use Rattle.stream_reader.specs.Reader.{ReaderView}
+use Rattle.thread_core.specs.CoreView.{opening_core}
 use Rattle.thread_registry.specs.Seen.{Seen, Worked, seen_of}
 
--- the session was made of the reader, and nothing was asked of it
-pub record IsOpened (shape : Widths) (thread : ℕ) (reader : ReaderView) (s : SessionView) : Type 0 where
-  pub shaped : s.core.shape ≡ shape
-  pub reads : s.reader ≡ reader
-  pub ready : (book : Book) → BookFits shape book → IsReady book s
-  pub stands : (book : Book) (stream : Coming) → coming reader ≡ Some stream → Stands book s (opening thread stream.rest stream.mark)
+-- what is seen of a thread before its work: a new core over its reader, what its handler was told, and its calls
+abbrev pub before : Widths → ℕ → ReaderView → List Note → List Call → Seen
+before shape t r ns cs = seen_of (record { core = opening_core t shape; reader = r }) ns cs [] false
 
--- a job for each thread
-abbrev pub jobs_of : List SessionView → List (List Note) → List (List Call) → List Seen
-jobs_of (s ∷ ss) (ns ∷ nss) (cs ∷ css) = seen_of s ns cs [] false ∷ jobs_of ss nss css
-jobs_of [] nss css = []
-jobs_of (s ∷ ss) [] css = []
-jobs_of (s ∷ ss) (ns ∷ nss) [] = []
+-- so of each thread
+abbrev pub befores_from : ℕ → Widths → List ReaderView → List (List Note) → List (List Call) → List Seen
+befores_from t shape (r ∷ rs) (ns ∷ nss) (cs ∷ css) = before shape t r ns cs ∷ befores_from (t + 1) shape rs nss css
+befores_from t shape [] nss css = []
+befores_from t shape (r ∷ rs) [] css = []
+befores_from t shape (r ∷ rs) (ns ∷ nss) [] = []
 
--- What the jobs left: each handler's list, the replies, and the count of faults of each source; and whether memory was refused in some job.
-pub record Left (book : Book) (refused : Bool) (befores : List Seen) (notes : List (List Note)) (replies : List (List Reply)) (faults : List (Option ℕ)) : Type 0 where
+abbrev pub befores : Widths → List ReaderView → List (List Note) → List (List Call) → List Seen
+befores shape readers notes lists = befores_from 0 shape readers notes lists
+
+-- the thread's job, where it has calls
+abbrev pub job_where : List Call → Seen → List Seen
+job_where [] x = []
+job_where (c ∷ cs) x = x ∷ []
+
+-- the threads that have calls
+abbrev pub busy : List Seen → List Seen
+busy [] = []
+busy (x ∷ xs) = job_where x.calls x ++ busy xs
+
+-- the thread, where it has none
+abbrev pub idle_where : List Call → Seen → Option Seen
+idle_where [] x = Some x
+idle_where (c ∷ cs) x = None
+
+abbrev pub idle_of : Seen → Option Seen
+idle_of x = idle_where x.calls x
+
+-- how many places are empty
+abbrev pub gaps : {X : Type 0} → List (Option X) → ℕ
+gaps [] = 0
+gaps (None ∷ places) = suc (gaps places)
+gaps (Some x ∷ places) = gaps places
+
+-- the places with these in the empty ones, in order
+abbrev pub filled : {X : Type 0} → List (Option X) → List X → List X
+filled [] ys = []
+filled (Some x ∷ places) ys = x ∷ filled places ys
+filled (None ∷ places) (y ∷ ys) = y ∷ filled places ys
+filled (None ∷ places) [] = []
+
+-- a thread without calls stays as it was, and the job of another was worked
+abbrev pub RanWhere : List Call → Book → Seen → Seen → Type 0
+RanWhere [] book x y = y ≡ x
+RanWhere (c ∷ cs) book x y = Worked book x y
+
+abbrev pub Ran : Book → Seen → Seen → Type 0
+Ran book x y = RanWhere x.calls book x y
+
+-- What the threads are left with: the list of each handler, its reader and its replies; and whether memory was refused in some job.
+pub record Left (book : Book) (refused : Bool) (befores : List Seen) (notes : List (List Note)) (readers : List ReaderView) (replies : List (List Reply)) : Type 0 where
   pub afters : List Seen
-  pub worked : Each (Worked book) befores afters
+  pub ran : Each (Ran book) befores afters
   pub told : notes ≡ map (λ y. y.notes) afters
+  pub back : readers ≡ map (λ y. y.session.reader) afters
   pub replied : replies ≡ map (λ y. y.replies) afters
-  pub counted : faults ≡ map (λ y. (fault_count y.session.reader)) afters
   pub whole : refused ≡ false → All (λ y. y.starved ≡ false) afters

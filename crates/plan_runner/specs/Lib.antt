@@ -1,7 +1,10 @@
 pub mod Plans
 pub mod Runs
+pub mod Works
 pub mod Jobs
+pub mod Served
 pub mod Merges
+pub mod Marks
 pub use Rattle.event_sets.specs.Agreement
 pub use Rattle.overflow_dispatch.specs.Notes
 pub use Rattle.papi_base.specs.Streams

@@ -14,10 +14,11 @@ use Rattle.session_model.specs.World.{Setting, mentioned_after, native_code, nat
 use Rattle.plan_runner.specs.declared.plan.Planned.{Planned}
 use Rattle.plan_runner.specs.declared.plan.Planned.TheVariants as planned
 use Rattle.plan_runner.specs.declared.plan.PlanLine.{PlanLine}
+use Rattle.papi_base.specs.declared.limits.TheConstants.{THREADS}
 
--- each line is of a thread below 64
+-- each line is of a thread that there is
 pub record AreThreads (plan : List PlanLine) : Type 0 where
-  pub each : All (λ l. l.thread < 64) plan
+  pub each : All (λ l. l.thread < THREADS) plan
 
 -- the event under a preset's row, or else a native
 abbrev pub event_by : Option ℕ → Option Native → Option EventRef

@@ -1,5 +1,5 @@
 -- What a run of a plan gives: the world of the script's lines, in their order.
-use Rattle.std.specs.Prelude.{ℕ, ◌≡◌, List, [], ◌∷◌, All, length, map, slice_index_or, Option, Some, None}
+use Rattle.std.specs.Prelude.{ℕ, ◌≡◌, List, [], ◌∷◌, length, map, slice_index_or, Option, Some, None}
 use Rattle.std.specs.List.{range_with_len}
 use Rattle.overflow_dispatch.specs.declared.handler.Note.{Note}
 use Rattle.papi_base.specs.Streams.{Coming}
@@ -8,10 +8,11 @@ use Rattle.event_sets.specs.AtRest.{Widths}
 use Rattle.session_model.specs.declared.line.Line.{Line}
 use Rattle.session_model.specs.World.{Setting, Told, told, opening_world, notes_of_thread}
 use Rattle.stream_reader.specs.Reader.{ReaderView, coming}
-use Rattle.thread_session.specs.Faults.{FaultsKept, FaultsRose, IsFault}
+use Rattle.thread_session.specs.Faults.{FaultsKept}
 use Rattle.plan_runner.specs.declared.plan.PlanLine.{PlanLine}
 use Rattle.plan_runner.specs.declared.result.ReplyLine.{ReplyLine}
 use Rattle.plan_runner.specs.Plans.{IsPlanOf}
+use Rattle.papi_base.specs.declared.limits.TheConstants.{THREADS}
 
 -- The plan is run with this book and shape on these readers: it is that of the script's lines in the setting, and the readers tell the streams, one a thread.
 pub record Tells (at : Setting) (script : List Line) (streams : List Coming) (book : Book) (shape : Widths) (plan : List PlanLine) (readers : List ReaderView) : Type 0 where
@@ -24,9 +25,9 @@ pub record Tells (at : Setting) (script : List Line) (streams : List Coming) (bo
 abbrev pub world_told : Setting → List Line → List Coming → List Told
 world_told at script streams = told at (opening_world streams) script
 
--- the notes of each of the 64 threads
+-- the notes of each thread
 abbrev pub notes_by_thread : List Told → List (List Note)
-notes_by_thread xs = map (λ t. notes_of_thread t xs) (range_with_len 0 64)
+notes_by_thread xs = map (λ t. notes_of_thread t xs) (range_with_len 0 THREADS)
 
 -- the replies beside the lines of the plan
 abbrev pub reply_lines : List PlanLine → List Told → List ReplyLine
@@ -34,23 +35,10 @@ reply_lines [] xs = []
 reply_lines (l ∷ ls) [] = []
 reply_lines (l ∷ ls) (x ∷ xs) = record { line = l.number; thread = l.thread; word = l.word; reply = x.reply } ∷ reply_lines ls xs
 
--- the counts that are there
-abbrev pub counts_there : List (Option ℕ) → List ℕ
-counts_there [] = []
-counts_there (None ∷ counts) = counts_there counts
-counts_there (Some n ∷ counts) = n ∷ counts_there counts
-
 -- each reader's count of faults, before and after: none fell
 pub record AllKept (before after : List (Option ℕ)) : Type 0 where
   pub same_length : length after ≡ length before
   pub each : (t : ℕ) → FaultsKept (slice_index_or before t None) (slice_index_or after t None)
-
--- The sources of the readers that had one come back in the order of their threads. A reply that says that a source failed comes only where the count of faults of its thread's source rose.
-pub record SourcesBack (before : List (Option ℕ)) (given : List ℕ) (lines : List ReplyLine) : Type 0 where
-  pub after : List (Option ℕ)
-  pub given_back : given ≡ counts_there after
-  pub kept : AllKept before after
-  pub faulty : All (λ l. IsFault l.reply → FaultsRose (slice_index_or before l.thread None) (slice_index_or after l.thread None)) lines
 
 -- the numbers, threads and words are those of the plan
 pub record AreInOrder (plan : List PlanLine) (lines : List ReplyLine) : Type 0 where

@@ -1,19 +1,46 @@
 //! The calls of each thread.
-ghost use Rattle.std.specs.Prelude.{◌≡◌, ◌<◌, ◌++◌, ℕ, [], IfOk, OnOk, map, vec_len, slice_index_or};
-ghost use Rattle.plan_runner.specs.Plans.{AreThreads, calls_on, planned_at};
+ghost use Rattle.std.specs.Prelude.{◌≡◌, ◌<◌, ◌++◌, ℕ, [], IfOk, OnOk, length, map, vec_len, slice_index_or};
+ghost use Rattle.plan_runner.specs.Plans.{AreThreads, calls_in, calls_on, planned_at};
 
 use crate::plan::{PlanLine, Planned};
+use papi_base::THREADS;
 use session_model::Call;
 use std::alloc::{AllocError, Global};
 
-/// A list without calls for each of 64 threads.
-fn empty_lists(alloc: Global) -> Result<Vec<Vec<Call>>, AllocError>
-    ensures len { IfOk result (λ v. vec_len v ≡ 64) }
-    ensures each { IfOk result (λ v. (t : ℕ) → t < 64 → slice_index_or (map (λ c. c.items) v.items) t [] ≡ []) }
+/// How many calls on its thread's session a line makes, 0 or 1.
+fn calls_in(planned: &Planned) -> usize
+    ensures { result ≡ length (calls_in planned.now) }
 {
-    let mut lists = Vec::with_capacity(alloc, 64)?;
-    for _thread in 0..64usize {
-        lists.push_reserved(Vec::new(alloc));
+    match planned {
+        Planned::Call(_) => 1,
+        Planned::Code(_) | Planned::Name(_) | Planned::Threads => 0,
+    }
+}
+
+/// How many calls each thread makes.
+fn count_calls(plan: &[PlanLine]) -> [usize; THREADS as usize]
+    requires threads { AreThreads plan.now }
+    ensures each { (t : ℕ) → t < THREADS → slice_index_or result t 0 ≡ length (planned_at t plan.now) }
+{
+    let mut counts = [0; THREADS as usize];
+    for line in plan {
+        counts[line.thread as usize] += calls_in(&line.planned);
+    }
+    counts
+}
+
+/// A list without calls for each thread, with the memory for so many calls.
+fn empty_lists(
+    alloc: Global,
+    counts: &[usize; THREADS as usize],
+) -> Result<Vec<Vec<Call>>, AllocError>
+    ensures len { IfOk result (λ v. vec_len v ≡ THREADS) }
+    ensures each { IfOk result (λ v. (t : ℕ) → t < THREADS → slice_index_or (map (λ c. c.items) v.items) t [] ≡ []) }
+{
+    let mut lists = Vec::with_capacity(alloc, THREADS as usize)?;
+    for thread in 0..THREADS as usize {
+        let list = Vec::with_capacity(alloc, counts[thread])?;
+        lists.push_reserved(list);
     }
     Ok(lists)
 }
@@ -31,13 +58,14 @@ fn deal_line(lists: &mut Vec<Vec<Call>>, line: &PlanLine) -> Result<(), AllocErr
     Ok(())
 }
 
-/// The calls of each of 64 threads, in order.
+/// The calls of each thread, in order.
 pub fn deal(alloc: Global, plan: &[PlanLine]) -> Result<Vec<Vec<Call>>, AllocError>
     requires threads { AreThreads plan.now }
-    ensures len { IfOk result (λ v. vec_len v ≡ 64) }
-    ensures each { IfOk result (λ v. (t : ℕ) → t < 64 → slice_index_or (map (λ c. c.items) v.items) t [] ≡ planned_at t plan.now) }
+    ensures len { IfOk result (λ v. vec_len v ≡ THREADS) }
+    ensures each { IfOk result (λ v. (t : ℕ) → t < THREADS → slice_index_or (map (λ c. c.items) v.items) t [] ≡ planned_at t plan.now) }
 {
-    let mut lists = empty_lists(alloc)?;
+    let counts = count_calls(plan);
+    let mut lists = empty_lists(alloc, &counts)?;
     for line in plan {
         deal_line(&mut lists, line)?;
     }

@@ -3,12 +3,13 @@
 
 mod deal;
 mod jobs;
+mod lending;
+mod marks;
 mod merge;
 pub mod plan;
 pub mod result;
 mod run;
-mod sessions;
-mod sources;
+mod works;
 
 pub use plan::{Plan, PlanLine, Planned};
 pub use result::{ReplyLine, RunResult};

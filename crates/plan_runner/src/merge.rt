@@ -6,13 +6,13 @@ ghost use Rattle.plan_runner.specs.Merges.{reply_by, rest_by, flags_by, lines_by
 
 use crate::plan::{PlanLine, Planned};
 use crate::result::ReplyLine;
-use papi_base::{Code, EventRef};
+use papi_base::{Code, EventRef, THREADS};
 use session_model::{Body, Call, Reply};
 use thread_registry::Registry;
 
 /// Keeps which threads are registered, after a call to which this code was replied.
 fn keep_registered(registry: &mut Registry, thread: u32, call: &Call, code: Code)
-    requires thread { thread < 64 }
+    requires thread { thread < THREADS }
     ensures registered { registry.new ≡ slice_set registry.old thread (registered_after call.now code (slice_index_or registry.old thread false)) }
 {
     match *call {
@@ -60,7 +60,7 @@ fn name_reply(event: Option<EventRef>) -> Reply
 
 /// Answers a line. The further replies of its thread stand in `replies`, the next one last.
 fn answer_line(line: &PlanLine, replies: &mut Vec<Reply>, registry: &mut Registry) -> Reply
-    requires thread { line.now.thread < 64 }
+    requires thread { line.now.thread < THREADS }
     requires replied { length (calls_in line.now.planned) ≤ vec_len replies.old }
     ensures reply { result ≡ reply_by registry.old (reverse replies.old.items) line.now.planned }
     ensures rest { reverse replies.new.items ≡ rest_by (reverse replies.old.items) line.now.planned }
@@ -91,20 +91,46 @@ fn turn_round(replies: &mut Vec<Vec<Reply>>)
     }
 }
 
-/// Answers the lines in their order. Each thread has as many replies as it has calls.
+/// How many replies are taken from a list before it gives their memory back.
+const REPLIES_HELD: usize = 256;
+
+/// Gives back the memory of the replies that were taken from the list, from time to time.
+fn give_back_memory(replies: &mut Vec<Reply>)
+    ensures same { replies.new.items ≡ replies.old.items }
+{
+    if replies.len() % REPLIES_HELD == 0 {
+        replies.shrink_to_fit();
+    }
+}
+
+/// Answers the next line of this thread.
+fn take_reply(line: &PlanLine, replies: &mut Vec<Reply>, registry: &mut Registry) -> Reply
+    requires thread { line.now.thread < THREADS }
+    requires replied { length (calls_in line.now.planned) ≤ vec_len replies.old }
+    ensures reply { result ≡ reply_by registry.old (reverse replies.old.items) line.now.planned }
+    ensures rest { reverse replies.new.items ≡ rest_by (reverse replies.old.items) line.now.planned }
+    ensures registered { registry.new ≡ flags_by registry.old (reverse replies.old.items) line.now.thread line.now.planned }
+{
+    let reply = answer_line(line, replies, registry);
+    give_back_memory(replies);
+    reply
+}
+
+/// Answers the lines in their order. Each thread has as many replies as it has calls. Each reply is held once: the lists give
+/// back their memory as the lines are answered.
 pub fn merge(plan: &[PlanLine], replies: &mut Vec<Vec<Reply>>, lines: &mut Vec<ReplyLine>)
     requires threads { AreThreads plan.now }
-    requires len { vec_len replies.old ≡ 64 }
-    requires counts { (t : ℕ) → t < 64 → length (slice_index_or (map (λ r. r.items) replies.old.items) t []) ≡ length (planned_at t plan.now) }
+    requires len { vec_len replies.old ≡ THREADS }
+    requires counts { (t : ℕ) → t < THREADS → length (slice_index_or (map (λ r. r.items) replies.old.items) t []) ≡ length (planned_at t plan.now) }
     requires none { vec_len lines.old ≡ 0 }
     requires room { length plan.now ≤ vec_capacity lines.old }
-    ensures lines { lines.new.items ≡ lines_by (record { flags = replicate 64 false; replies = map (λ r. r.items) replies.old.items }) plan.now }
+    ensures lines { lines.new.items ≡ lines_by (record { flags = replicate THREADS false; replies = map (λ r. r.items) replies.old.items }) plan.now }
 {
     turn_round(replies);
     let mut registry = Registry::new();
     for line in plan {
         let list = &mut replies[line.thread as usize];
-        let reply = answer_line(line, list, &mut registry);
+        let reply = take_reply(line, list, &mut registry);
         lines.push_reserved(ReplyLine {
             line: line.number,
             thread: line.thread,

@@ -1,5 +1,5 @@
 //! What a script's lines ask for, looked up.
-use papi_base::{Code, EventRef};
+use papi_base::{CallName, Code, EventRef};
 use session_model::Call;
 use std::marker::Model;
 
@@ -14,16 +14,16 @@ pub enum Planned {
     Threads,
 }
 
-/// A line of a plan: the number of its script line from 1, its thread below 64, the row of its call's word from 0, and what it asks for.
+/// A line of a plan: the number of its script line from 1, its thread below [`papi_base::THREADS`], the name of its call, and what it asks for.
 #[derive(Clone, Copy, Debug, PartialEq, Eq)]
 pub struct PlanLine {
     pub number: u64,
     pub thread: u32,
-    pub word: u32,
+    pub word: CallName,
     pub planned: Planned,
 }
 
-/// The lines of a plan, each of a thread below 64. Contracts see the list of them.
+/// The lines of a plan, each of a thread below [`papi_base::THREADS`]. Contracts see the list of them.
 #[derive(Drop)]
 pub struct Plan {
     lines: Vec<PlanLine>,

@@ -1,18 +1,19 @@
 //! What a run gives.
-use session_model::Reply;
+use papi_base::{CallName, THREADS};
+use session_model::{Ended, Reply};
 
-/// The reply to a line: the number of its script line from 1, its thread, the row of its call's word from 0, and the reply.
+/// The reply to a line: the number of its script line from 1, its thread, the name of its call, and the reply.
 #[derive(Drop)]
 pub struct ReplyLine {
     pub line: u64,
     pub thread: u32,
-    pub word: u32,
+    pub word: CallName,
     pub reply: Reply,
 }
 
-/// The replies in the order of the script, and the sources of the readers that had one, in the order of their threads.
+/// The replies in the order of the script, and the mark that the runs of each thread met, where they met one.
 #[derive(Drop)]
-pub struct RunResult<S> {
+pub struct RunResult {
     pub lines: Vec<ReplyLine>,
-    pub sources: Vec<S>,
+    pub marks: [Option<Ended>; THREADS as usize],
 }

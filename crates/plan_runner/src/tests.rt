@@ -6,30 +6,30 @@ ghost use Rattle.plan_runner.specs.Plans.{AreGood};
 
 use crate::{Plan, PlanLine, Planned, run_plan};
 use overflow_dispatch::{Handler, Recorder};
-use papi_base::{MemSource, Shape};
+use papi_base::{CallName, MemSource, Shape, THREADS};
 use postfix_rules::PresetBook;
 use session_model::{Body, Call, Reply};
 use std::alloc::{AllocError, Global};
 use stream_reader::StreamReader;
 
-/// A reader without a stream for each of 64 threads.
+/// A reader without a stream for each thread.
 fn ended_readers(alloc: Global) -> Result<Vec<StreamReader<MemSource>>, AllocError>
-    ensures len { IfOk result (λ v. vec_len v ≡ 64) }
+    ensures len { IfOk result (λ v. vec_len v ≡ THREADS) }
     ensures fresh { IfOk result (λ v. All IsFresh v.items) }
 {
     let mut readers: Vec<StreamReader<MemSource>> = Vec::new(alloc);
-    for _thread in 0..64usize {
+    for _thread in 0..THREADS as usize {
         readers.push(StreamReader::ended())?;
     }
     Ok(readers)
 }
 
-/// A handler for each of 64 threads.
+/// A handler for each thread.
 fn recorders(alloc: Global) -> Result<Vec<Box<dyn Handler + Send>>, AllocError>
-    ensures len { IfOk result (λ v. vec_len v ≡ 64) }
+    ensures len { IfOk result (λ v. vec_len v ≡ THREADS) }
 {
     let mut handlers: Vec<Box<dyn Handler + Send>> = Vec::new(alloc);
-    for _thread in 0..64usize {
+    for _thread in 0..THREADS as usize {
         handlers.push(Box::new(alloc, Recorder::new(alloc))?)?;
     }
     Ok(handlers)
@@ -43,8 +43,8 @@ fn plan(alloc: Global) -> Result<Plan, AllocError>
     for thread in [3u32, 60, 3, 60, 3] {
         lines.push(PlanLine {
             number: 1,
-            thread: thread % 64,
-            word: 2,
+            thread: thread % THREADS,
+            word: CallName::Create,
             planned: Planned::Call(Call::Create),
         })?;
     }
@@ -68,13 +68,14 @@ fn replies_come_in_the_order_of_the_plan_by_any_number_of_workers(
         let book = PresetBook::new(Vec::new(alloc));
         let lines = plan(alloc)?;
         let mut handlers = recorders(alloc)?;
+        let mut readers = ended_readers(alloc)?;
         let run = run_plan(
             &rt,
             alloc,
             lines,
             &book,
             &Shape::new(),
-            ended_readers(alloc)?,
+            &mut readers,
             &mut handlers,
             workers,
         )?;
@@ -82,7 +83,6 @@ fn replies_come_in_the_order_of_the_plan_by_any_number_of_workers(
         for (line, want) in run.lines.iter().zip([0, 0, 1, 1, 2]) {
             assert_eq!(rt; number_in(&line.reply), want, "{workers} workers");
         }
-        assert_eq!(rt; run.sources.len(), 0);
     }
     Ok(())
 }

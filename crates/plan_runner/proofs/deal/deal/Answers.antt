@@ -1,14 +1,12 @@
 use Rattle.std.proofs.Common.{rules, get_or, ap, sym, ◌∙◌, ◌++◌, ◌<◌, length}
 use Rattle.std.proofs.lemmas.List.{get_or_default}
-use Rattle.session_model.specs.declared.call.Call.TheVariants.{Register}
-use Rattle.plan_runner.specs.declared.plan.Planned.TheVariants.{Call}
 use Rattle.plan_runner.specs.Plans.{calls_on}
-use Rattle.plan_runner.proofs.Dealt.{planned-more}
+use Rattle.plan_runner.proofs.Dealt.{planned-more, some_line}
 use Rattle.plan_runner.proofs.deal.deal.Goals as goal
 
 pub loop-line-preserved : goal.loop-line-preserved
 loop-line-preserved c =
-    let line = get_or c.args.plan.now c.loop-line.line-index (record { number = 0; thread = 0; word = 0; planned = Call Register }) in
+    let line = get_or c.args.plan.now c.loop-line.line-index some_line in
     let below : c.loop-line.line-index < length c.args.plan.now = search rules in
     record {
       len = search rules;

@@ -4,7 +4,7 @@ use Rattle.plan_runner.proofs.deal.empty_lists.Given as goal
 abbrev pub invariant-loop-thread : goal.invariant-loop-thread
 invariant-loop-thread l =
     record {
-      len : vec_len l.lists ≡ l._thread;
+      len : vec_len l.lists ≡ l.thread;
       room : 64 ≤ vec_capacity l.lists;
-      each : (t : ℕ) → t < l._thread → slice_index_or (map (λ c. c.items) l.lists.items) t [] ≡ [];
+      each : (t : ℕ) → t < l.thread → slice_index_or (map (λ c. c.items) l.lists.items) t [] ≡ [];
     }

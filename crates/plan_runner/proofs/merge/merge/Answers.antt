@@ -1,16 +1,15 @@
 use Rattle.std.proofs.Common.{rules, arith, ap, sym, ◌∙◌, ◌<◌, [], get_or, length, reverse}
 use Rattle.std.proofs.lemmas.List.{get_or_default, get_or-map}
-use Rattle.session_model.specs.declared.call.Call.TheVariants.{Register}
-use Rattle.plan_runner.specs.declared.plan.Planned.TheVariants.{Call}
+use Rattle.plan_runner.proofs.Dealt.{some_line}
 use Rattle.plan_runner.proofs.Merged.{merged-more, counts-more}
 use Rattle.plan_runner.proofs.merge.merge.Goals as goal
 
 pub loop-line-preserved : goal.loop-line-preserved
 loop-line-preserved c =
-    let line = get_or c.args.plan.now c.loop-line.line-index (record { number = 0; thread = 0; word = 0; planned = Call Register }) in
+    let line = get_or c.args.plan.now c.loop-line.line-index some_line in
     let below : c.loop-line.line-index < length c.args.plan.now = search rules in
-    let here = get_or_default c.args.plan.now c.loop-line.line-index line (record { number = 0; thread = 0; word = 0; planned = Call Register }) below in
-    let few : line.thread < 64 = c.requires.threads.each c.loop-line.line-index (record { number = 0; thread = 0; word = 0; planned = Call Register }) below in
+    let here = get_or_default c.args.plan.now c.loop-line.line-index line some_line below in
+    let few : line.thread < 64 = c.requires.threads.each c.loop-line.line-index some_line below in
     let inside : line.thread < length c.loop-line.replies.items = omega (arith, few, c.loop-line.invariant.threads, c.loop-line.replies.ok.0) in
     let own =
     get_or-map (λ r. reverse r.items) c.loop-line.replies.items line.thread c.index_mut-list.result.now [] inside
@@ -19,8 +18,8 @@ loop-line-preserved c =
       threads = search rules;
       len = search rules;
       room = search rules;
-      counts = counts-more _ c.loop-line.replies.items c.index_mut-list.result.now c.answer_line-reply.new.replies c.args.plan.now c.loop-line.line-index line below here inside own c.answer_line-reply.ensures.rest c.loop-line.invariant.counts;
+      counts = counts-more _ c.loop-line.replies.items c.index_mut-list.result.now c.take_reply-reply.new.replies c.args.plan.now c.loop-line.line-index line below here inside own c.take_reply-reply.ensures.rest c.loop-line.invariant.counts;
       whole =
-          merged-more _ c.loop-line.replies.items c.index_mut-list.result.now c.answer_line-reply.new.replies c.loop-line.registry _ c.loop-line.lines.items _ _ c.answer_line-reply.result c.args.plan.now c.loop-line.line-index line
-          below here own c.answer_line-reply.ensures.reply c.answer_line-reply.ensures.rest c.answer_line-reply.ensures.registered c.push_reserved.ensures.items c.loop-line.invariant.whole;
+          merged-more _ c.loop-line.replies.items c.index_mut-list.result.now c.take_reply-reply.new.replies c.loop-line.registry _ c.loop-line.lines.items _ _ c.take_reply-reply.result c.args.plan.now c.loop-line.line-index line
+          below here own c.take_reply-reply.ensures.reply c.take_reply-reply.ensures.rest c.take_reply-reply.ensures.registered c.push_reserved.ensures.items c.loop-line.invariant.whole;
     }
