@@ -1,2 +1,3 @@
+pub mod Codes
 pub mod Pieces
-pub mod Planning
+pub mod PlannedLines

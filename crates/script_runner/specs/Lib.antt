@@ -1,3 +1,4 @@
+pub mod Pieces
 pub mod Replies
 pub mod Resolving
 pub use Rattle.component_table.specs.Catalogs

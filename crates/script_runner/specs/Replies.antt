@@ -2,18 +2,17 @@
 use Rattle.std.specs.Prelude.{ℕ, List}
 use Rattle.std.specs.List.{flat_map}
 use Rattle.component_table.specs.Catalogs.{CatalogView}
-use Rattle.event_tables.specs.Tables.{ComponentText}
 use Rattle.overflow_dispatch.specs.declared.handler.Note.{Note}
 use Rattle.plan_runner.specs.declared.result.ReplyLine.{ReplyLine}
 use Rattle.reply_text.specs.Notes.{note_text}
 use Rattle.reply_text.specs.Replies as Texts
 
-abbrev pub reply_line_text : List ComponentText → ReplyLine → List ℕ
-reply_line_text tables l = Texts.line_text tables l.line l.thread l.word l.reply
+abbrev pub reply_line_text : CatalogView → ReplyLine → List ℕ
+reply_line_text catalog l = Texts.line_text catalog l.line l.thread l.word l.reply
 
 -- a line for each reply, in order
 unfoldable pub reply_text : CatalogView → List ReplyLine → List ℕ
-reply_text catalog lines = flat_map (reply_line_text catalog.tables) lines
+reply_text catalog lines = flat_map (reply_line_text catalog) lines
 
 -- a line for each note, in order
 unfoldable pub notes_text : List Note → List ℕ

@@ -1,63 +1,90 @@
--- The lines of a script, with their events looked up: PAPI_event_name_to_code(3). The script is this project's own: docs/FORMATS.md.
-use Rattle.std.specs.Prelude.{List, [], ◌∷◌, map}
+-- The lines of a script, with their events looked up: PAPI_event_name_to_code(3), PAPI_event_code_to_name(3). The script is this project's own: docs/FORMATS.md.
+use Rattle.std.specs.Prelude.{◌≡◌, ◌++◌, ℕ, List, [], ◌∷◌, map, Result, Ok, Err, ⊤}
+use Rattle.std.specs.List.{flat_map}
 use Rattle.component_table.specs.Catalogs.{CatalogView, looked_up, shape_of}
-use Rattle.plan_runner.specs.declared.plan.PlanLine.{PlanLine}
-use Rattle.plan_runner.specs.declared.plan.Planned.TheVariants as planned
+use Rattle.papi_base.specs.declared.code.Code.{Code}
+use Rattle.papi_base.specs.declared.native.EventRef.{EventRef}
+use Rattle.papi_base.specs.declared.native.EventRef.TheVariants as event
+use Rattle.papi_base.specs.declared.native.Native.{Native}
 use Rattle.plan_runner.specs.declared.result.ReplyLine.{ReplyLine}
-use Rattle.plan_runner.specs.Plans.{IsGoodFor}
+use Rattle.postfix_rules.specs.Sameness.{joined_by}
 use Rattle.preset_table.specs.Table.{preset_rows}
-use Rattle.script_lines.specs.Rows.{row_of}
+use Rattle.script_lines.specs.Names.{name_of}
 use Rattle.script_lines.specs.declared.call.ScriptCall.{ScriptCall}
 use Rattle.script_lines.specs.declared.call.ScriptCall.TheVariants as script
 use Rattle.script_lines.specs.declared.script.ScriptLine.{ScriptLine}
-use Rattle.session_model.specs.World.{Setting, Told}
-use Rattle.session_model.specs.declared.call.Call.{Call}
+use Rattle.session_model.specs.Conditions.{IsGood}
+use Rattle.session_model.specs.World.{Setting, Told, mentions_of}
 use Rattle.session_model.specs.declared.call.Call.TheVariants as call
+use Rattle.session_model.specs.declared.line.Asked.{Asked}
 use Rattle.session_model.specs.declared.line.Asked.TheVariants as asked
 use Rattle.session_model.specs.declared.line.Line.{Line}
 
--- what all threads share: the presets, the codes of the preset table's rows, and the counters
-abbrev pub setting_of : CatalogView → Setting
-setting_of catalog = record { book = catalog.book; codes = map (λ r. r.code) preset_rows; shape = shape_of catalog.tables }
+-- the codes of the preset table's rows
+abbrev pub preset_codes : List ℕ
+preset_codes = map (λ r. r.code) preset_rows
 
--- the call on the thread's session that a line asks for
-abbrev pub call_of : CatalogView → ScriptCall → Call
-call_of catalog script.Create = call.Create
-call_of catalog (script.Destroy set) = call.Destroy set
-call_of catalog (script.Cleanup set) = call.Cleanup set
-call_of catalog (script.Add set event) = call.Add set (looked_up catalog event)
-call_of catalog (script.Remove set event) = call.Remove set (looked_up catalog event)
-call_of catalog (script.Component set component) = call.AssignComponent set component
-call_of catalog (script.Domain set bits) = call.SetDomain set bits
-call_of catalog (script.Multiplex set slice) = call.SetMultiplex set slice
-call_of catalog (script.Overflow set event threshold) = call.Overflow set (looked_up catalog event) threshold
-call_of catalog (script.Start set) = call.Start set
-call_of catalog (script.Stop set) = call.Stop set
-call_of catalog (script.Read set) = call.Read set
-call_of catalog (script.Accum set) = call.Accum set
-call_of catalog (script.Reset set) = call.Reset set
-call_of catalog (script.State set) = call.State set
-call_of catalog (script.Events set) = call.ListEvents set
-call_of catalog (script.Assign set) = call.Assign set
-call_of catalog (script.Raw set counter) = call.Raw set counter
-call_of catalog (script.Run count) = call.Run count
+-- what all threads share: the presets, their codes, and the counters
+abbrev pub setting_of : CatalogView → Setting
+setting_of catalog = record { book = catalog.book; codes = preset_codes; shape = shape_of catalog.tables }
+
+-- what a line asks for
+abbrev pub asked_of : CatalogView → ScriptCall → Asked
+asked_of catalog script.Register = asked.Call call.Register
+asked_of catalog script.Unregister = asked.Call call.Unregister
+asked_of catalog script.Threads = asked.Threads
+asked_of catalog script.Create = asked.Call call.Create
+asked_of catalog (script.Destroy set) = asked.Call (call.Destroy set)
+asked_of catalog (script.Cleanup set) = asked.Call (call.Cleanup set)
+asked_of catalog (script.Add set event) = asked.Call (call.Add set (looked_up catalog event))
+asked_of catalog (script.Remove set event) = asked.Call (call.Remove set (looked_up catalog event))
+asked_of catalog (script.Component set component) = asked.Call (call.AssignComponent set component)
+asked_of catalog (script.Domain set bits) = asked.Call (call.SetDomain set bits)
+asked_of catalog (script.Multiplex set slice) = asked.Call (call.SetMultiplex set slice)
+asked_of catalog (script.Overflow set event threshold) = asked.Call (call.Overflow set (looked_up catalog event) threshold)
+asked_of catalog (script.Start set) = asked.Call (call.Start set)
+asked_of catalog (script.Stop set) = asked.Call (call.Stop set)
+asked_of catalog (script.Read set) = asked.Call (call.Read set)
+asked_of catalog (script.Accum set) = asked.Call (call.Accum set)
+asked_of catalog (script.Reset set) = asked.Call (call.Reset set)
+asked_of catalog (script.State set) = asked.Call (call.State set)
+asked_of catalog (script.Events set) = asked.Call (call.ListEvents set)
+asked_of catalog (script.Assign set) = asked.Call (call.Assign set)
+asked_of catalog (script.Raw set counter) = asked.Call (call.Raw set counter)
+asked_of catalog (script.Run count) = asked.Call (call.Run count)
+asked_of catalog (script.Code event) = asked.CodeOf (looked_up catalog event)
+asked_of catalog (script.Name code) = asked.NameOf code
 
 abbrev pub line_of : CatalogView → ScriptLine → Line
-line_of catalog l = record { thread = l.thread; asked = asked.Call (call_of catalog l.call) }
+line_of catalog l = record { thread = l.thread; asked = asked_of catalog l.call }
 
 -- the lines of a script, looked up
 unfoldable pub lines_of : CatalogView → List ScriptLine → List Line
 lines_of catalog script = map (line_of catalog) script
 
--- the line of the plan
-abbrev pub plan_line : CatalogView → ScriptLine → PlanLine
-plan_line catalog l = record { number = l.line; thread = l.thread; word = row_of l.call; planned = planned.Call (call_of catalog l.call) }
+-- a call of a session is one that it may be given
+abbrev pub IsGoodAsk : CatalogView → Asked → Type 0
+IsGoodAsk catalog (asked.Call c) = IsGood catalog.book (shape_of catalog.tables) c
+IsGoodAsk catalog (asked.CodeOf e) = ⊤
+IsGoodAsk catalog (asked.NameOf c) = ⊤
+IsGoodAsk catalog asked.Threads = ⊤
 
-abbrev pub IsGoodLine : CatalogView → PlanLine → Type 0
-IsGoodLine catalog l = IsGoodFor catalog.book (shape_of catalog.tables) l.planned
+-- the native event that a text names, where it names one
+abbrev pub mentions_by : Result EventRef Code → List Native
+mentions_by (Ok (event.Native n)) = n ∷ []
+mentions_by (Ok (event.Preset row)) = []
+mentions_by (Err code) = []
+
+-- the native events that lines mention, in the order of their first mentions
+abbrev pub mentioned_in : List Line → List Native
+mentioned_in lines = joined_by [] (flat_map (λ l. mentions_of l.asked) lines)
+
+-- some of the first of them, or all
+abbrev pub IsBegun : List Native → List Native → Type 0
+IsBegun natives begun = (others : List Native) × (natives ≡ begun ++ others)
 
 -- the replies beside the lines of the script
 unfoldable pub reply_lines_of : List ScriptLine → List Told → List ReplyLine
 reply_lines_of [] told = []
 reply_lines_of (l ∷ ls) [] = []
-reply_lines_of (l ∷ ls) (x ∷ xs) = record { line = l.line; thread = l.thread; word = row_of l.call; reply = x.reply } ∷ reply_lines_of ls xs
+reply_lines_of (l ∷ ls) (x ∷ xs) = record { line = l.line; thread = l.thread; word = name_of l.call; reply = x.reply } ∷ reply_lines_of ls xs

@@ -1,13 +1,14 @@
 //! A script over a small unit, from its bytes to its replies.
-use crate::{ReplyLine, read_script, resolve, write_notes, write_replies};
-use component_table::Catalog;
+use crate::{Planned, ReplyLine, read_script, resolve, write_notes, write_replies};
+use component_table::{Catalog, NativeCodes};
 use event_tables::read_unit;
 use overflow_dispatch::Note;
-use papi_base::{Code, MemSink};
+use papi_base::{CallName, Code, EventRef, MemSink};
 use session_model::{Body, Call, Reply};
 use std::alloc::Global;
 
-const UNIT: &[u8] = b"COMPONENT,cpu,lab\nCOUNTER,P0,16,P\nEVENT,CYCLES,3c,P0,x\n";
+const UNIT: &[u8] =
+    b"COMPONENT,cpu,lab\nCOUNTER,P0,16,P\nEVENT,CYCLES,3c,P0,x\nEVENT,BR_MISP,c5,P0,x\n";
 
 fn catalog(alloc: Global) -> Option<Catalog> {
     let tables = read_unit(alloc, UNIT).ok()?;
@@ -18,17 +19,43 @@ fn catalog(alloc: Global) -> Option<Catalog> {
 fn a_plan(rt: HostRuntime) {
     let alloc = rt.alloc();
     let catalog = catalog(alloc).expect(&rt, "a catalog");
-    let script = read_script(alloc, b"0 create\n\n0 add 0 NOPE\n".as_slice());
+    let branches = catalog.lookup("lab::BR_MISP");
+    let refused = Err(Code::Enoevnt);
+    let rows = [
+        ("0 name 0x40000000\n", Planned::Name(None)),
+        ("1 code lab::CYCLES\n", Planned::Code(Ok(0x40000000))),
+        (
+            "0 add 7 BR_MISP\n",
+            Planned::Call(Call::Add {
+                set: 7,
+                e: branches,
+            }),
+        ),
+        ("63 code BR_MISP\n", Planned::Code(Ok(0x40000001))),
+        ("0 code CYCLES\n", Planned::Code(Ok(0x40000000))),
+        ("0 name 0x40000001\n", Planned::Name(branches.ok())),
+        ("0 name 0x40000002\n", Planned::Name(None)),
+        (
+            "0 name 0x8000003b\n",
+            Planned::Name(Some(EventRef::Preset(22))),
+        ),
+        ("0 code PAPI_TOT_CYC\n", Planned::Code(refused)),
+        ("0 register\n", Planned::Call(Call::Register)),
+        ("0 threads\n", Planned::Threads),
+    ];
+    let mut script = String::new(alloc);
+    for (line, _) in &rows {
+        script.push_str(line).expect(&rt, "memory");
+    }
+    let script = read_script(alloc, script.as_bytes());
     let script = script.ok().expect(&rt, "a script");
-    let plan = resolve(alloc, &script, &catalog).expect(&rt, "memory");
+    let mut codes = NativeCodes::new(alloc);
+    let plan = resolve(alloc, &script, &catalog, &mut codes).expect(&rt, "memory");
     let lines = plan.lines();
-    assert!(rt; lines.len() == 2);
-    assert!(rt; lines[1].number == 3 && lines[1].word == 6);
-    let refused = Call::Add {
-        set: 0,
-        e: Err(Code::Enoevnt),
-    };
-    assert!(rt; lines[1].planned == crate::Planned::Call(refused));
+    assert!(rt; lines.len() == rows.len() && codes.count() == 2);
+    for (line, (_, planned)) in lines.iter().zip(rows.iter()) {
+        assert!(rt; line.planned == *planned);
+    }
 }
 
 #[test]
@@ -36,7 +63,10 @@ fn replies_in_order(rt: HostRuntime) {
     let alloc = rt.alloc();
     let catalog = catalog(alloc).expect(&rt, "a catalog");
     let mut lines = Vec::new(alloc);
-    let bodies = [(1, 3, Body::SetNumber(0)), (2, 12, Body::Nothing)];
+    let bodies = [
+        (1, CallName::Create, Body::SetNumber(0)),
+        (2, CallName::Start, Body::Nothing),
+    ];
     for (line, word, body) in bodies {
         let reply = Reply {
             code: Code::Ok,

@@ -1,37 +1,39 @@
 //! Replies and notes, written as text.
 
-ghost use Rattle.std.specs.Prelude.{◌≡◌, ◌≤◌, ℕ, take, length, OnOk, OnErr, IsErrOf, IfOk};
+ghost use Rattle.std.specs.Prelude.{◌≡◌, ◌≤◌, ◌++◌, OnOk, OnErr, IsErrOf, string_bytes};
 ghost use Rattle.papi_base.specs.Outside.{Rose, appended};
 ghost use Rattle.reply_text.specs.Notes.{note_text};
+ghost use Rattle.script_runner.specs.Pieces.{IsPartWritten};
 ghost use Rattle.script_runner.specs.Replies.{notes_text, reply_line_text, reply_text};
 
+use crate::gathering::write_piece;
 use component_table::Catalog;
 use overflow_dispatch::Note;
-use papi_base::{Sink, Text, WriteFail, write_whole};
+use papi_base::{Sink, WriteFail, write_whole};
 use plan_runner::ReplyLine;
-use reply_text::{note_line, reply_line};
+use reply_text::{push_note_line, push_reply_line};
 use std::alloc::Global;
 
-// The text of a reply.
-fn line_text(alloc: Global, catalog: &Catalog, line: &ReplyLine) -> Result<Text, WriteFail>
-    ensures text { IfOk result (λ text. text ≡ reply_line_text catalog.now.tables line.now) }
+// Appends the text of a reply.
+fn push_reply(text: &mut String, catalog: &Catalog, line: &ReplyLine) -> Result<(), WriteFail>
+    ensures text { OnOk result (string_bytes text.new ≡ string_bytes text.old ++ reply_line_text catalog.now line.now) }
     ensures not_failed { IsErrOf result WriteFail.Failed → ⊥ }
 {
-    match reply_line(
-        alloc,
+    match push_reply_line(
+        text,
         catalog,
         line.line,
         line.thread,
         line.word,
         &line.reply,
     ) {
-        Ok(text) => Ok(text),
+        Ok(()) => Ok(()),
         Err(_) => Err(WriteFail::Memory),
     }
 }
 
 /// Writes the replies in order, each as a line: the number of the script's line, the thread, the call, the code and the results.
-/// After an error the first part of this text is written.
+/// After an error a prefix of this text is written.
 #[tactic(auto, unfolding(crate::specs::Replies::reply_text))]
 pub fn write_replies<K: Sink>(
     alloc: Global,
@@ -40,41 +42,43 @@ pub fn write_replies<K: Sink>(
     out: &mut K,
 ) -> Result<(), WriteFail>
     ensures ok { OnOk result (K.taken out.new ≡ appended (K.taken out.old) (reply_text catalog.now lines.now)) }
-    ensures part { OnErr result ((k : ℕ) × (k ≤ length (reply_text catalog.now lines.now)) × (K.taken out.new ≡ appended (K.taken out.old) (take k (reply_text catalog.now lines.now)))) }
+    ensures part { OnErr result (IsPartWritten (K.taken out.old) (K.taken out.new) (reply_text catalog.now lines.now)) }
     ensures failed { IsErrOf result WriteFail.Failed → Rose (K.faults out.old) (K.faults out.new) }
     ensures quiet { OnOk result (K.faults out.new ≡ K.faults out.old) }
     ensures memory { IsErrOf result WriteFail.Memory → K.faults out.new ≡ K.faults out.old }
     ensures falls_never { K.faults out.old ≤ K.faults out.new }
 {
+    let mut gathered = String::new(alloc);
     for line in lines {
-        let text = line_text(alloc, catalog, line)?;
-        write_whole(out, text.as_bytes())?;
+        push_reply(&mut gathered, catalog, line)?;
+        write_piece(&mut gathered, out)?;
     }
-    Ok(())
+    write_whole(out, gathered.as_bytes())
 }
 
-// The text of a note.
-fn noted_text(alloc: Global, note: &Note) -> Result<Text, WriteFail>
-    ensures text { IfOk result (λ text. text ≡ note_text note.now) }
+// Appends the text of a note.
+fn push_note(text: &mut String, note: &Note) -> Result<(), WriteFail>
+    ensures text { OnOk result (string_bytes text.new ≡ string_bytes text.old ++ note_text note.now) }
     ensures not_failed { IsErrOf result WriteFail.Failed → ⊥ }
 {
-    note_line(alloc, note).map_err(|_error| WriteFail::Memory)
+    push_note_line(text, note).map_err(|_error| WriteFail::Memory)
 }
 
 /// Writes the notes of passed thresholds in order, each as a line: the thread, the number of the set, the event's index in it
-/// and the program counter. After an error the first part of this text is written.
+/// and the program counter. After an error a prefix of this text is written.
 #[tactic(auto, unfolding(crate::specs::Replies::notes_text))]
 pub fn write_notes<K: Sink>(alloc: Global, notes: &[Note], out: &mut K) -> Result<(), WriteFail>
     ensures ok { OnOk result (K.taken out.new ≡ appended (K.taken out.old) (notes_text notes.now)) }
-    ensures part { OnErr result ((k : ℕ) × (k ≤ length (notes_text notes.now)) × (K.taken out.new ≡ appended (K.taken out.old) (take k (notes_text notes.now)))) }
+    ensures part { OnErr result (IsPartWritten (K.taken out.old) (K.taken out.new) (notes_text notes.now)) }
     ensures failed { IsErrOf result WriteFail.Failed → Rose (K.faults out.old) (K.faults out.new) }
     ensures quiet { OnOk result (K.faults out.new ≡ K.faults out.old) }
     ensures memory { IsErrOf result WriteFail.Memory → K.faults out.new ≡ K.faults out.old }
     ensures falls_never { K.faults out.old ≤ K.faults out.new }
 {
+    let mut gathered = String::new(alloc);
     for note in notes {
-        let line = noted_text(alloc, note)?;
-        write_whole(out, line.as_bytes())?;
+        push_note(&mut gathered, note)?;
+        write_piece(&mut gathered, out)?;
     }
-    Ok(())
+    write_whole(out, gathered.as_bytes())
 }

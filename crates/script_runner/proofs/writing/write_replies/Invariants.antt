@@ -1,11 +1,11 @@
-use Rattle.std.proofs.Common.{◌≡◌, take}
+use Rattle.std.proofs.Common.{◌≡◌, string_bytes, take}
 use Rattle.std.specs.List.{flat_map}
-use Rattle.papi_base.specs.Outside.{appended}
+use Rattle.script_runner.specs.Pieces.{IsWrittenSoFar}
 use Rattle.script_runner.specs.Replies.{reply_line_text}
 use Rattle.script_runner.proofs.writing.write_replies.Given as goal
 
 abbrev pub invariant-loop-line : goal.invariant-loop-line
 invariant-loop-line g l = record {
-  taken : g.K.Sink.taken l.out ≡ appended (g.K.Sink.taken l.initial.out) (flat_map (reply_line_text l.catalog.tables) (take l.line-index l.lines));
+  written : IsWrittenSoFar (g.K.Sink.taken l.initial.out) (g.K.Sink.taken l.out) (flat_map (reply_line_text l.catalog) (take l.line-index l.lines)) (string_bytes l.gathered);
   quiet : g.K.Sink.faults l.out ≡ g.K.Sink.faults l.initial.out;
 }
