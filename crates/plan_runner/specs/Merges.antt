@@ -19,7 +19,7 @@ reply_by flags replies (planned.Name (Some e)) = done (body.EventName e)
 reply_by flags replies (planned.Name None) = plain code.Enoevnt
 reply_by flags replies planned.Threads = done (body.Threads (bits_from 1 flags))
 
--- the thread's replies behind the line's
+-- the thread's replies after the line's
 abbrev pub rest_by : List Reply → Planned → List Reply
 rest_by replies (planned.Call c) = drop 1 replies
 rest_by replies (planned.Code c) = replies

@@ -104,7 +104,7 @@ pub fn take_out<S: Source>(
     }
 }
 
-/// Puts a thread's handler and reader back behind those that are there: the idle ones, or else those of the next job. Keeps the
+/// Puts a thread's handler and reader back after those that are there: the idle ones, or else those of the next job. Keeps the
 /// thread's replies. Says whether memory was refused in its job.
 fn give_back<S: Source>(
     alloc: Global,

@@ -31,7 +31,7 @@ script_from number above (line ∷ rest) =
     let below = script_from (number + 1) (if is_skipped line then above else above + 1) rest in
     if is_skipped line then below else onto number (call_line number above line) below
 
--- the call lines of a script, or its first line that is none, with the first cause that it has
+-- the call lines of a script, or its first line that is not a call line, with the first cause that it has
 unfoldable pub script_of : List ℕ → Result (List ScriptLine) Refused
 script_of bytes = script_from 1 0 (lines bytes)
 

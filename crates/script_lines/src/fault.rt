@@ -28,7 +28,7 @@ pub enum ScriptCause {
     BadNumber,
 }
 
-/// Why a script is refused: by its first line, numbered from 1, that is none, or for want of memory.
+/// Why a script is refused: its first line, numbered from 1, that is not a call line, or memory ran out.
 #[derive(Clone, Copy, Debug, PartialEq, Eq, Error)]
 pub enum ScriptFault {
     #[error("line {line}: {cause}")]

@@ -49,7 +49,7 @@ impl Script {
     }
 }
 
-/// The script of some bytes, or its first line that is none, with the first cause that it has.
+/// The script of some bytes, or its first line that is not a call line, with the first cause that it has.
 ///
 /// Lines end in a newline, the last one need not; a carriage return before a newline is dropped. Empty lines and lines that begin
 /// with `#` are passed over, and numbered. Each other line has words between spaces and tabs: a thread, a call and its arguments.

@@ -16,8 +16,7 @@ use std::alloc::{AllocError, Global};
 
 /// The plan of a script: its texts and codes are looked up in the order of the lines, each once.
 ///
-/// The native events that lines mention go to `codes`, of which none has a code yet. After want of memory some of the first of
-/// them did.
+/// The native events that lines mention go to `codes`, which has none yet. Where memory runs out, a prefix of them did.
 pub fn resolve(
     alloc: Global,
     script: &Script,
