@@ -1,5 +1,5 @@
 -- A fault among the marks is one among the replies.
-use Rattle.std.proofs.Common.{◌≡◌, ◌<◌, ◌==◌, ℕ, zero, suc, Bool, true, false, List, [], ◌∷◌, map, filter, Option, Some, None, refl, sym, ◌∙◌, arith, if◌then◌else◌}
+use Rattle.std.proofs.Common.{◌≡◌, ◌<◌, ◌==◌, ℕ, suc, Bool, true, false, List, [], ◌∷◌, map, filter, Option, Some, None, refl, sym, ◌∙◌, arith, if◌then◌else◌}
 use Rattle.std.specs.List.{Any, list_any}
 use Rattle.std.proofs.lemmas.List.Folds.{Any-from_list_any}
 use Rattle.std.proofs.lemmas.List.FromFn.{get_or-map-range_with_len, length-map-range_with_len}
@@ -11,7 +11,8 @@ use Rattle.session_model.specs.declared.reply.Body.{Body}
 use Rattle.session_model.specs.declared.reply.Body.TheVariants as body
 use Rattle.session_model.specs.World.{met_by}
 use Rattle.plan_runner.specs.declared.result.ReplyLine.{ReplyLine}
-use Rattle.papi_tools.specs.Marks.{is_bad, is_fault, mark_at, marks_in, outcome_at}
+use Rattle.plan_runner.specs.Marks.{mark_at, marks_in}
+use Rattle.papi_tools.specs.Marks.{is_bad, is_fault, outcome_at}
 use Rattle.papi_tools.specs.declared.status.Outcome.TheVariants.{Whole, Refused, ReadFault}
 
 -- some reply says that the source failed
@@ -80,15 +81,3 @@ by_tests false false e = cc
 -- the runs' marks end a call by a fault only where a reply says so
 pub fault_replied : (lines : List ReplyLine) → outcome_at (marks_in lines) ≡ ReadFault → SomeFault lines
 fault_replied lines e = fault_among lines (by_tests (list_any is_fault (marks_in lines)) (list_any is_bad (marks_in lines)) e)
-
--- some count is not 0
-abbrev SomeCount : List ℕ → Type 0
-SomeCount counts = Any (λ n. 0 < n) counts
-
--- a count of a list of things is one of some thing
-pub count_of_some : {X : Type 0} (f : X → ℕ) (xs : List X) → SomeCount (map f xs) → Any (λ x. 0 < f x) xs
-count_of_some f [] (k, n, small, is, h) = absurd (omega arith)
-count_of_some f (x ∷ xs) (zero, n, small, is, h) = (0, x, omega arith, refl, let q : f x ≡ n = is in omega (arith, q, h))
-count_of_some f (x ∷ xs) (suc k, n, small, is, h) =
-    let (j, y, within, at, p) = count_of_some f xs (k, n, omega arith, is, h) in
-    (suc j, y, omega arith, at, p)

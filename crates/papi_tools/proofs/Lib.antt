@@ -1,12 +1,11 @@
-pub mod AddedLemmas
+pub mod CarriedLemmas
 pub mod CauseLemmas
-pub mod DecodingLemmas
 pub mod FaultLemmas
-pub mod MarkLemmas
 pub mod OpeningLemmas
-pub mod ReaderLemmas
+pub mod QuietLemmas
 pub mod RunLemmas
 pub mod SayingLemmas
 pub mod SettlingLemmas
+pub mod StreamLemmas
 pub mod TellingLemmas
 pub mod WritingLemmas

@@ -1,73 +1,240 @@
 -- What is said of a run is what the definition says.
-use Rattle.std.proofs.Common.{◌≡◌, ◌<◌, ℕ, Bool, List, length, map, Some, Result, Ok, Err, OnOk, refl, sym, ap, ◌∙◌, arith, get_or, All}
-use Rattle.std.proofs.lemmas.List.{get_or-map, length-map}
+use Rattle.std.proofs.Common.{◌≡◌, ◌<◌, ◌≤◌, ◌+◌, ℕ, zero, suc, Bool, true, false, List, [], ◌∷◌, length, map, Option, Some, None, IfSome, IfOk, IsOkAnd, Result, Ok, Err, Vec, Global, vec_len, refl, sym, ap, ◌∙◌, arith, All, cond, if◌then◌else◌, inl, inr, is_some, slice_index_or, zero-add}
+use Rattle.std.proofs.lemmas.List.{length-map}
+use Rattle.std.specs.List.{range_with_len}
+use Rattle.std.specs.Option.{option_map, option_map_or}
 use Rattle.event_sets.specs.AtRest.{Widths}
 use Rattle.postfix_rules.specs.Presets.{Book}
 use Rattle.overflow_dispatch.specs.declared.handler.Note.{Note}
-use Rattle.papi_base.specs.Outside.{Rose}
-use Rattle.session_model.specs.World.{Told}
-use Rattle.stream_reader.specs.Reader.{ReaderView, coming}
-use Rattle.component_table.specs.Catalogs.{CatalogView, catalog_of, shape_of}
+use Rattle.overflow_dispatch.specs.Notes.{EachAdded, EachBegun, told_since}
+use Rattle.overflow_dispatch.proofs.SinceLemmas.{added_is_told}
+use Rattle.papi_base.specs.Outside.{Held, Rose}
+use Rattle.session_model.specs.World.{Told, notes_of_thread}
+use Rattle.session_model.specs.declared.reply.Ended.{Ended}
+use Rattle.stream_reader.specs.Reader.{ReaderView, SourceView}
+use Rattle.thread_session.specs.Faults.{FaultsKept, FaultsRose, IsFault, fault_count}
+use Rattle.component_table.specs.Catalogs.{CatalogView, shape_of}
 use Rattle.script_lines.specs.declared.script.ScriptLine.{ScriptLine}
-use Rattle.plan_runner.specs.declared.plan.Planned.TheVariants.{Threads}
 use Rattle.plan_runner.specs.declared.plan.PlanLine.{PlanLine}
 use Rattle.plan_runner.specs.declared.result.ReplyLine.{ReplyLine}
-use Rattle.plan_runner.specs.Plans.{AreThreads, IsPlanOf}
-use Rattle.plan_runner.specs.Runs.{AreInOrder, Tells, reply_lines}
+use Rattle.plan_runner.specs.Marks.{marks_in}
+use Rattle.plan_runner.specs.Plans.{IsPlanOf}
+use Rattle.plan_runner.specs.Runs.{AllKept, Tells, reply_lines}
 use Rattle.script_runner.specs.Resolving.{lines_of, reply_lines_of, setting_of}
+use Rattle.tool_words.specs.declared.run.RunWords.{RunWords}
+use Rattle.papi_tools.specs.Answers.{Answers, AnswersBy}
+use Rattle.papi_tools.specs.Causes.{MetCause}
+use Rattle.papi_tools.specs.Marks.{outcome_at}
+use Rattle.papi_tools.specs.Run.{given_under, ran_verdict, run_said, run_verdict, shown_notes}
+use Rattle.papi_tools.specs.Running.{Given, IsGiven, note_counts, ran_notes, ran_replies, told_in}
+use Rattle.papi_tools.specs.Seen.{FilesSeen}
+use Rattle.papi_tools.specs.Streams.{SomeFailed, sources_in}
+use Rattle.papi_tools.specs.Steps.{Verdict, and_then}
+use Rattle.papi_tools.specs.Verdict.{AnswersSaid, TellsBy, notes_in}
+use Rattle.papi_tools.specs.declared.refusal.Refusal.{Refusal}
+use Rattle.papi_tools.specs.declared.refusal.Stop.{Stop}
+use Rattle.papi_tools.specs.declared.refusal.Stop.TheVariants as stop
 use Rattle.papi_tools.specs.declared.said.Said.{Said}
 use Rattle.papi_tools.specs.declared.status.Outcome.{Outcome}
 use Rattle.papi_tools.specs.declared.status.Outcome.TheVariants.{Whole, No, Refused, ReadFault}
-use Rattle.papi_tools.specs.Causes.{MetCause}
-use Rattle.papi_tools.specs.Marks.{marks_in, outcome_at}
-use Rattle.papi_tools.specs.Run.{catalog_in, ran_notes, ran_said, replies_in, replies_said, shown_notes, told_in}
-use Rattle.papi_tools.specs.RunInput.{RunGiven, streams_of}
 use Rattle.papi_tools.proofs.FaultLemmas.{SomeFault, fault_replied}
+use Rattle.papi_tools.proofs.StreamLemmas.{sources_in-append}
+use Rattle.papi_tools.proofs.TellingLemmas.{added_begun, none_added, none_begun}
 
--- what runs met is the cause of how a call ends
-met_of : (catalog : CatalogView) (lines : List ReplyLine) (shown : List Note) (f f' : ℕ) → (SomeFault lines → Rose f f') → MetCause (replies_said catalog lines shown).outcome f f' (replies_said catalog lines shown)
-met_of catalog lines shown f f' h = go (outcome_at (marks_in lines)) refl
-  where
-    go : (o : Outcome) → outcome_at (marks_in lines) ≡ o → MetCause o f f' (replies_said catalog lines shown)
-    go Whole e = tt
-    go No e = tt
-    go Refused e = (marks_in lines, e, refl)
-    go ReadFault e = h (fault_replied lines e)
-
-pub met_in_said : (catalog : CatalogView) (lines : List ReplyLine) (shown : List Note) (f f' : ℕ) (said : Said) → said ≡ replies_said catalog lines shown → (SomeFault lines → Rose f f') → MetCause said.outcome f f' said
-met_in_said catalog lines shown f f' said e h = rw e (met_of catalog lines shown f f' h)
-
--- the replies are of threads below 64, as the plan's lines are
-pub threads_below : (plan : List PlanLine) (lines : List ReplyLine) → AreThreads plan → AreInOrder plan lines → All (λ l. l.thread < 64) lines
-threads_below plan lines below order k d small =
-    let p : PlanLine = record { number = 0; thread = d.thread; word = 0; planned = Threads } in
-    let long : length lines ≡ length plan = sym (length-map lines (λ l. l.thread)) ∙ ap length order.threads ∙ length-map plan (λ l. l.thread) in
-    let same : (get_or lines k d).thread ≡ (get_or plan k p).thread =
-    sym (get_or-map (λ l. l.thread) lines k d 0 small) ∙ ap (λ ts. get_or ts k 0) order.threads ∙ get_or-map (λ l. l.thread) plan k p 0 (omega arith) in
-    rw same (below.each k p (omega arith))
+-- ---- the run of a script
 
 -- the readers tell what is given
-pub tells : (catalog : CatalogView) (script : List ScriptLine) (given : RunGiven) (book : Book) (shape : Widths) (plan : List PlanLine) (readers : List ReaderView) →
-    catalog ≡ catalog_of given.tables given.presets → script ≡ given.script → book ≡ catalog.book → shape ≡ shape_of catalog.tables → IsPlanOf (setting_of catalog) (lines_of catalog script) plan →
-    map coming readers ≡ map (λ s. Some s) (streams_of given.tapes) →
-    Tells (setting_of (catalog_in given)) (lines_of (catalog_in given) given.script) (streams_of given.tapes) book shape plan readers
-tells catalog script given book shape plan readers c s b w p r = record {
-  same_book = ap (λ k. k.book) (sym c) ∙ sym b;
-  same_shape = ap (λ k. shape_of k.tables) (sym c) ∙ sym w;
-  looked_up = rw (c, s) at p;
-  streams_told = r;
+pub tells : (catalog : CatalogView) (script : List ScriptLine) (given : Given) (book : Book) (shape : Widths) (plan : List PlanLine) (readers : List ReaderView) →
+    IsGiven catalog script readers given → book ≡ catalog.book → shape ≡ shape_of catalog.tables → IsPlanOf (setting_of catalog) (lines_of catalog script) plan →
+    Tells (setting_of given.catalog) (lines_of given.catalog given.script) given.streams book shape plan readers
+tells catalog script given book shape plan readers is b w p = record {
+  same_book = ap (λ (k : CatalogView). k.book) (sym is.catalog_is) ∙ sym b;
+  same_shape = ap (λ (k : CatalogView). shape_of k.tables) (sym is.catalog_is) ∙ sym w;
+  looked_up = let c : catalog ≡ given.catalog = is.catalog_is in let s : script ≡ given.script = is.script_is in rw (c, s) at p;
+  streams_told = is.told.each;
 }
 
--- the replies, their marks and the notes that are shown are what the definition says
-pub ran_is : (catalog : CatalogView) (script : List ScriptLine) (wanted : Bool) (given : RunGiven) (plan : List PlanLine) (lines : List ReplyLine) (shown : List Note) →
-    catalog ≡ catalog_of given.tables given.presets → script ≡ given.script → lines ≡ reply_lines plan (told_in given) → ((told : List Told) → reply_lines plan told ≡ reply_lines_of script told) →
-    shown ≡ shown_notes wanted (ran_notes given) → replies_said catalog lines shown ≡ ran_said wanted given
-unfolding ran_said
-ran_is catalog script wanted given plan lines shown c s l heads n =
-    ap (λ k. replies_said k lines shown) c
-    ∙ ap (λ ls. replies_said (catalog_in given) ls shown) (l ∙ heads (told_in given) ∙ ap (λ ls. reply_lines_of ls (told_in given)) s)
-    ∙ ap (replies_said (catalog_in given) (replies_in given)) n
+-- the replies beside the plan's lines are those beside the script's
+pub replied : (given : Given) (script : List ScriptLine) (plan : List PlanLine) (lines : List ReplyLine) → script ≡ given.script → lines ≡ reply_lines plan (told_in given) →
+    ((told : List Told) → reply_lines plan told ≡ reply_lines_of script told) → lines ≡ ran_replies given
+unfolding ran_replies
+replied given script plan lines s e heads = e ∙ heads (told_in given) ∙ ap (λ ls. reply_lines_of ls (told_in given)) s
 
-pub on_ok : {A E : Type 0} {P : Type 0} (r : Result A E) → P → OnOk r P
-on_ok (Ok value) p = p
-on_ok (Err error) p = tt
+lengths_of : {X : Type 0} (told : X → List Note) (xs : List X) → map (λ x. length (told x)) xs ≡ note_counts (map told xs)
+lengths_of told [] = refl
+lengths_of told (x ∷ xs) = ap (λ ns. length (told x) ∷ ns) (lengths_of told xs)
+
+pub counted : {X : Type 0} (told : X → List Note) (xs : List X) (counts : List ℕ) → counts ≡ map (λ x. length (told x)) xs → counts ≡ note_counts (map told xs)
+counted told xs counts e = e ∙ lengths_of told xs
+
+-- ---- faults and sources
+
+rose_above : (old new : ℕ) → Rose old new → 0 < new
+rose_above old new (inl h) = omega arith
+rose_above old new (inr h) = omega arith
+
+rose_some : (old new : Option ℕ) → FaultsRose old new → (n : ℕ) × (new ≡ Some n) × (0 < n)
+rose_some (Some old) (Some new) h = (new, refl, rose_above old new h)
+rose_some (Some old) None h = absurd h
+rose_some None new h = absurd h
+
+faults_by : (s : Option SourceView) (n : ℕ) → option_map (λ (v : SourceView). v.faults) s ≡ Some n → option_map_or (λ (v : SourceView). v.faults) s 0 ≡ n
+faults_by None n e = cc
+faults_by (Some v) n e = cc
+
+failed_at : (readers : List ReaderView) (t n : ℕ) → slice_index_or (map fault_count readers) t None ≡ Some n → 0 < n → SomeFailed readers
+failed_at [] t n e h = cc
+failed_at (r ∷ rs) zero n e h = (0, r, omega arith, refl, rw (faults_by r.source n e) h)
+failed_at (r ∷ rs) (suc t) n e h =
+    let (k, x, small, is, p) = failed_at rs t n e h in
+    (suc k, x, omega arith, is, p)
+
+-- a reply of a fault comes where some source has failed
+pub faulty : (before : List (Option ℕ)) (readers : List ReaderView) (lines : List ReplyLine) →
+    All (λ l. IsFault l.reply → FaultsRose (slice_index_or before l.thread None) (slice_index_or (map fault_count readers) l.thread None)) lines → SomeFault lines → SomeFailed readers
+faulty before readers lines each (k, l, small, is, h) =
+    let here : IsFault l.reply → FaultsRose (slice_index_or before l.thread None) (slice_index_or (map fault_count readers) l.thread None) = rw is at (each k l small) in
+    let (n, e, above) = rose_some (slice_index_or before l.thread None) (slice_index_or (map fault_count readers) l.thread None) (here h) in
+    failed_at readers l.thread n e above
+
+sources_cons : (r : ReaderView) (rs : List ReaderView) → sources_in (r ∷ rs) ≡ cond (is_some r.source) 1 0 + sources_in rs
+sources_cons r rs = sources_in-append (r ∷ []) rs ∙ ap (λ n. n + sources_in rs) (zero-add (cond (is_some r.source) 1 0))
+
+same_source : (b a : Option SourceView) → FaultsKept (option_map (λ (v : SourceView). v.faults) b) (option_map (λ (v : SourceView). v.faults) a) → is_some a ≡ is_some b
+same_source None None h = refl
+same_source None (Some v) h = absurd h
+same_source (Some v) None h = absurd h
+same_source (Some v) (Some w) h = refl
+
+-- the readers that had a source have one
+pub sources_kept : (before after : List ReaderView) → AllKept (map fault_count before) (map fault_count after) → sources_in after ≡ sources_in before
+sources_kept [] [] h = refl
+sources_kept [] (a ∷ as') h = absurd (let e = h.same_length in omega arith)
+sources_kept (b ∷ bs) [] h = absurd (let e = h.same_length in omega arith)
+sources_kept (b ∷ bs) (a ∷ as') h =
+    let rest : AllKept (map fault_count bs) (map fault_count as') = record { same_length = let e = h.same_length in omega arith; each = λ t. h.each (suc t) } in
+    sources_cons a as' ∙ ap (λ x. cond x 1 0 + sources_in as') (same_source b.source a.source (h.each 0)) ∙ ap (λ n. cond (is_some b.source) 1 0 + n) (sources_kept bs as' rest) ∙ sym (sources_cons b bs)
+
+-- ---- what is said of it
+
+-- there is a list of notes for each of the 64 threads, as there are handlers
+as_many : {X : Type 0} (told : X → List Note) (handlers : Vec X Global) (given : Given) → vec_len handlers ≡ 64 → length (ran_notes given) ≡ length (map told handlers.items)
+unfolding ran_notes
+as_many told handlers given h =
+    let all : length handlers.items ≡ 64 = omega (arith, h) in
+    length-map (range_with_len 0 64) (λ t. notes_of_thread t (told_in given)) ∙ sym (length-map handlers.items told ∙ all)
+
+since : (wanted : Bool) (counts : List ℕ) (before given after : List (List Note)) → counts ≡ note_counts before → length given ≡ length before → EachAdded before given after →
+    (if wanted then told_since counts after else []) ≡ shown_notes wanted given
+since false counts before given after e same h = refl
+since true counts before given after e same h = ap (λ ks. told_since ks after) e ∙ added_is_told before given after same h
+
+said_is : {X : Type 0} (told : X → List Note) (handlers : Vec X Global) (after : List (List Note)) (given : Given) (wanted : Bool) (lines : List ReplyLine) (marks : List (Option Ended)) (counts : List ℕ) (said : Said) →
+    vec_len handlers ≡ 64 → lines ≡ ran_replies given → marks ≡ marks_in lines → counts ≡ note_counts (map told handlers.items) → EachAdded (map told handlers.items) (ran_notes given) after →
+    said ≡ run_said given.catalog lines marks (if wanted then told_since counts after else []) → (ran_verdict wanted given).said ≡ said
+unfolding ran_verdict
+said_is told handlers after given wanted lines marks counts said n l m c h e =
+    sym (e
+    ∙ ap (run_said given.catalog lines marks) (since wanted counts (map told handlers.items) (ran_notes given) after c (as_many told handlers given n) h)
+    ∙ ap (λ ms. run_said given.catalog lines ms (shown_notes wanted (ran_notes given))) m
+    ∙ ap (λ ls. run_said given.catalog ls (marks_in ls) (shown_notes wanted (ran_notes given))) l)
+
+-- what is said of a run is what the definition says
+pub said_told : {X : Type 0} (told : X → List Note) (handlers : Vec X Global) (after : List (List Note)) (given : Given) (catalog : CatalogView) (wanted : Bool) (lines : List ReplyLine) (marks : List (Option Ended)) (counts : List ℕ) (answer : Result Said Stop) →
+    vec_len handlers ≡ 64 → catalog ≡ given.catalog → lines ≡ ran_replies given → marks ≡ marks_in lines → counts ≡ note_counts (map told handlers.items) → EachAdded (map told handlers.items) (ran_notes given) after →
+    Answers answer (Ok (run_said catalog lines marks (if wanted then told_since counts after else []))) → AnswersSaid answer (Ok (ran_verdict wanted given))
+said_told told handlers after given catalog wanted lines marks counts (Ok said) n k l m c h e =
+    said_is told handlers after given wanted lines marks counts said n l m c h
+    (let same : run_said catalog lines marks (if wanted then told_since counts after else []) ≡ said = cc e in
+    sym same ∙ ap (λ x. run_said x lines marks (if wanted then told_since counts after else [])) k)
+said_told told handlers after given catalog wanted lines marks counts (Err (stop.Refused refusal)) n k l m c h e = absurd cc
+said_told told handlers after given catalog wanted lines marks counts (Err stop.Memory) n k l m c h e = tt
+
+-- all notes are told, whatever is said
+pub added_tells : (wanted : Bool) (given : Given) (before after : List (List Note)) (answer : Result Said Stop) → EachAdded before (ran_notes given) after → TellsBy answer (ran_verdict wanted given).notes before after
+unfolding ran_verdict
+added_tells wanted given before after (Ok said) h = h
+added_tells wanted given before after (Err (stop.Refused refusal)) h = h
+added_tells wanted given before after (Err stop.Memory) h = added_begun before (ran_notes given) after h
+
+pub begun_tells : (wanted : Bool) (given : Given) (before after : List (List Note)) → EachBegun before (ran_notes given) after → TellsBy (Err stop.Memory) (ran_verdict wanted given).notes before after
+unfolding ran_verdict
+begun_tells wanted given before after h = h
+
+-- what runs met is the cause of how a call ends
+met_of : (catalog : CatalogView) (lines : List ReplyLine) (marks : List (Option Ended)) (shown : List Note) (before after : FilesSeen) → marks ≡ marks_in lines →
+    (SomeFault lines → Rose before.faults after.faults) → (o : Outcome) → outcome_at marks ≡ o → MetCause o before after (run_said catalog lines marks shown)
+met_of catalog lines marks shown before after m h Whole e = tt
+met_of catalog lines marks shown before after m h No e = tt
+met_of catalog lines marks shown before after m h Refused e = (marks, e, refl)
+met_of catalog lines marks shown before after m h ReadFault e = h (fault_replied lines (rw m at e))
+
+pub met_in_said : (catalog : CatalogView) (lines : List ReplyLine) (marks : List (Option Ended)) (shown : List Note) (before after : FilesSeen) (answer : Result Said Stop) → Answers answer (Ok (run_said catalog lines marks shown)) →
+    marks ≡ marks_in lines → (SomeFault lines → Rose before.faults after.faults) → IfOk answer (λ said. MetCause said.outcome before after said)
+met_in_said catalog lines marks shown before after (Ok said) e m h =
+    let same : run_said catalog lines marks shown ≡ said = cc e in
+    rw (← same) (met_of catalog lines marks shown before after m h (outcome_at marks) refl)
+met_in_said catalog lines marks shown before after (Err s) e m h = tt
+
+-- ---- the whole of it
+
+said_by : (expected : Result Given Refusal) (wanted : Bool) (catalog : CatalogView) (script : List ScriptLine) (readers : List ReaderView) (answer : Result Said Stop) →
+    IsOkAnd expected (IsGiven catalog script readers) → ((given : Given) → IsGiven catalog script readers given → AnswersSaid answer (Ok (ran_verdict wanted given))) →
+    AnswersSaid answer (and_then expected (λ given. Ok (ran_verdict wanted given)))
+said_by (Ok given) wanted catalog script readers answer is each = each given is
+said_by (Err refusal) wanted catalog script readers answer is each = absurd is
+
+pub run_told : (told : Option Held) (words : RunWords) (catalog : CatalogView) (script : List ScriptLine) (readers : List ReaderView) (answer : Result Said Stop) →
+    IfSome told (λ held. IsOkAnd (given_under held words) (IsGiven catalog script readers)) → ((given : Given) → IsGiven catalog script readers given → AnswersSaid answer (Ok (ran_verdict words.notes given))) →
+    IfSome told (λ held. AnswersSaid answer (run_verdict held words))
+unfolding run_verdict
+run_told None words catalog script readers answer is each = tt
+run_told (Some held) words catalog script readers answer is each = said_by (given_under held words) words.notes catalog script readers answer is each
+
+tells_by : (expected : Result Given Refusal) (wanted : Bool) (catalog : CatalogView) (script : List ScriptLine) (readers : List ReaderView) (before after : List (List Note)) (answer : Result Said Stop) →
+    IsOkAnd expected (IsGiven catalog script readers) → ((given : Given) → IsGiven catalog script readers given → TellsBy answer (ran_verdict wanted given).notes before after) →
+    TellsBy answer (notes_in (and_then expected (λ given. Ok (ran_verdict wanted given)))) before after
+tells_by (Ok given) wanted catalog script readers before after answer is each = each given is
+tells_by (Err refusal) wanted catalog script readers before after answer is each = absurd is
+
+pub run_tells : (told : Option Held) (words : RunWords) (catalog : CatalogView) (script : List ScriptLine) (readers : List ReaderView) (before after : List (List Note)) (answer : Result Said Stop) →
+    IfSome told (λ held. IsOkAnd (given_under held words) (IsGiven catalog script readers)) →
+    ((given : Given) → IsGiven catalog script readers given → TellsBy answer (ran_verdict words.notes given).notes before after) →
+    IfSome told (λ held. TellsBy answer (notes_in (run_verdict held words)) before after)
+unfolding run_verdict
+run_tells None words catalog script readers before after answer is each = tt
+run_tells (Some held) words catalog script readers before after answer is each = tells_by (given_under held words) words.notes catalog script readers before after answer is each
+
+-- an answer that is no value
+abbrev pub IsRefusedBy : Stop → Result Given Refusal → Type 0
+IsRefusedBy s expected = AnswersBy {A = Unit {0}} (λ x e. Unit {0}) (Err s) expected
+
+refused_by : (expected : Result Given Refusal) (wanted : Bool) (s : Stop) → IsRefusedBy s expected → AnswersSaid (Err s) (and_then expected (λ given. Ok (ran_verdict wanted given)))
+refused_by expected wanted (stop.Refused refusal) h = let e : expected ≡ Err refusal = h in rw e refl
+refused_by expected wanted stop.Memory h = tt
+
+-- a file that is refused ends the call
+pub run_refused : (told : Option Held) (words : RunWords) (s : Stop) → IfSome told (λ held. IsRefusedBy s (given_under held words)) → IfSome told (λ held. AnswersSaid (Err s) (run_verdict held words))
+unfolding run_verdict
+run_refused None words s h = tt
+run_refused (Some held) words s h = refused_by (given_under held words) words.notes s h
+
+untold_by : (expected : Result Verdict Refusal) (lists : List (List Note)) (s : Stop) → AnswersSaid (Err s) expected → TellsBy (Err s) (notes_in expected) lists lists
+untold_by expected lists (stop.Refused refusal) h = let e : expected ≡ Err refusal = h in rw e (none_added lists [] refl)
+untold_by expected lists stop.Memory h = none_begun lists (notes_in expected)
+
+-- and nothing is told then
+pub none_told : (told : Option Held) (expected : Held → Result Verdict Refusal) (lists : List (List Note)) (s : Stop) → IfSome told (λ held. AnswersSaid (Err s) (expected held)) → IfSome told (λ held. TellsBy (Err s) (notes_in (expected held)) lists lists)
+none_told None expected lists s h = tt
+none_told (Some held) expected lists s h = untold_by (expected held) lists s h
+
+met_at : (o : Outcome) (before between after : FilesSeen) (said : Said) → before.faults ≤ between.faults → between.faults ≤ after.faults → MetCause o between after said → MetCause o before after said
+met_at Whole before between after said small big h = tt
+met_at No before between after said small big h = tt
+met_at Refused before between after said small big h = h
+met_at ReadFault before between after said small big h = let r : Rose between.faults after.faults = h in grind arith
+
+pub met_later : (before between after : FilesSeen) (answer : Result Said Stop) → before.faults ≤ between.faults → between.faults ≤ after.faults → IfOk answer (λ said. MetCause said.outcome between after said) →
+    IfOk answer (λ said. MetCause said.outcome before after said)
+met_later before between after (Ok said) small big h = met_at said.outcome before between after said small big h
+met_later before between after (Err s) small big h = tt

@@ -1,14 +1,14 @@
 -- What a call says at the end of its steps is what is expected, and has its cause.
-use Rattle.std.proofs.Common.{◌≡◌, ℕ, List, [], Option, None, Some, IfSome, IfOk, IsOkAnd, OnOk, OnErr, Result, Ok, Err, refl, sym, ◌∙◌, inl, append-nil}
+use Rattle.std.proofs.Common.{◌≡◌, List, Option, None, Some, IfSome, IfOk, IsOkAnd, OnOk, OnErr, Result, Ok, Err, refl, sym, ◌∙◌, inl, inr}
 use Rattle.papi_base.specs.Outside.{Held}
 use Rattle.overflow_dispatch.specs.declared.handler.Note.{Note}
 use Rattle.overflow_dispatch.specs.Notes.{EachAdded, EachBegun}
 use Rattle.tool_words.specs.declared.command.Command.{Command}
-use Rattle.papi_tools.specs.Answers.{HasFileCause, StopsByFile}
+use Rattle.papi_tools.specs.Looking.{HasFileCause, Looked}
+use Rattle.papi_tools.specs.Seen.{FilesSeen}
 use Rattle.papi_tools.specs.Causes.{IsCaused, IsTextual, MetCause}
-use Rattle.papi_tools.specs.Run.{Verdict, notes_in}
-use Rattle.papi_tools.specs.Steps.{and_then}
-use Rattle.papi_tools.specs.Verdict.{AnswersSaid, IsSettled, TellsBy, command_verdict, ended, refused_said, verdict_for}
+use Rattle.papi_tools.specs.Steps.{Verdict}
+use Rattle.papi_tools.specs.Verdict.{AnswersSaid, IsSettled, TellsBy, command_verdict, ended, notes_in, refused_said, verdict_for}
 use Rattle.papi_tools.specs.declared.refusal.Refusal.{Refusal}
 use Rattle.papi_tools.specs.declared.refusal.Refusal.TheVariants.{BadWords, NoSuchFile, CannotRead, TooLarge, Row, PresetRow, Line}
 use Rattle.papi_tools.specs.declared.refusal.Stop.{Stop}
@@ -61,7 +61,7 @@ begun_by given before after (Ok answer) h = added_begun before given after h
 begun_by given before after (Err (stop.Refused refusal)) h = added_begun before given after h
 begun_by given before after (Err stop.Memory) h = h
 
--- some of the first notes are told in any case
+-- a prefix of the notes is told in any case
 pub settled_begun : {E : Type 0} (told : Option Held) (asked : Option Command) (command : Command) (before after : List (List Note)) (answer : Result Said Stop) (result : Result Said E) → asked ≡ Some command →
     IfSome told (λ held. TellsBy answer (notes_in (command_verdict held command)) before after) →
     IfSome told (λ held. OnErr result (EachBegun before (ended (verdict_for held asked)).notes after))
@@ -70,57 +70,38 @@ settled_begun (Some held) asked command before after answer (Ok said) e h = tt
 settled_begun (Some held) asked command before after answer (Err error) e h =
     rw (e, ← same_notes (command_verdict held command)) (begun_by (notes_in (command_verdict held command)) before after answer h)
 
-same_lists : (lists : List (List Note)) → EachAdded lists [] lists
-same_lists lists = record { same_length = refl; added = λ t small. sym (append-nil _) }
-
-by_answer : (answer : Result Said Stop) (given lists : List (List Note)) → given ≡ [] → TellsBy answer given lists lists
-by_answer (Ok said) given lists e = rw e (same_lists lists)
-by_answer (Err (stop.Refused refusal)) given lists e = rw e (same_lists lists)
-by_answer (Err stop.Memory) given lists e = rw e (added_begun lists [] lists (same_lists lists))
-
--- a tool of one step that expects no notes
-pub no_notes : {A : Type 0} (given : Result A Refusal) (text : A → Verdict) → ((a : A) → (text a).notes ≡ []) → notes_in (and_then given (λ a. Ok (text a))) ≡ []
-no_notes (Ok a) text h = h a
-no_notes (Err refusal) text h = refl
-
--- where no notes are expected none are told
-pub none_told : (told : Option Held) (command : Command) (answer : Result Said Stop) (lists : List (List Note)) → ((held : Held) → notes_in (command_verdict held command) ≡ []) →
-    IfSome told (λ held. TellsBy answer (notes_in (command_verdict held command)) lists lists)
-none_told None command answer lists h = tt
-none_told (Some held) command answer lists h = by_answer answer (notes_in (command_verdict held command)) lists (h held)
-
 -- ---- its cause
 
-met_textual : (o : Outcome) (f f' : ℕ) (said : Said) → IsTextual o → MetCause o f f' said
-met_textual outcome.Whole f f' said h = tt
-met_textual outcome.No f f' said h = tt
-met_textual outcome.Refused f f' said h = absurd h
-met_textual outcome.ReadFault f f' said h = absurd h
+met_textual : (o : Outcome) (before after : FilesSeen) (said : Said) → IsTextual o → MetCause o before after said
+met_textual outcome.Whole before after said h = tt
+met_textual outcome.No before after said h = tt
+met_textual outcome.Refused before after said h = absurd h
+met_textual outcome.ReadFault before after said h = absurd h
 
 -- a text has no other cause than its own
-pub textual_met : (answer : Result Said Stop) (f f' : ℕ) → IfOk answer (λ said. IsTextual said.outcome) → IfOk answer (λ said. MetCause said.outcome f f' said)
-textual_met (Ok said) f f' h = met_textual said.outcome f f' said h
-textual_met (Err stop) f f' h = tt
+pub textual_met : (answer : Result Said Stop) (before after : FilesSeen) → IfOk answer (λ said. IsTextual said.outcome) → IfOk answer (λ said. MetCause said.outcome before after said)
+textual_met (Ok said) before after h = met_textual said.outcome before after said h
+textual_met (Err stop) before after h = tt
 
-by_refusal : (asked : Option Command) (m m' f f' : ℕ) (refusal : Refusal) → HasFileCause m m' f f' refusal → IsCaused asked m m' f f' (refused_said refusal)
-by_refusal asked m m' f f' BadWords h = absurd h
-by_refusal asked m m' f f' (NoSuchFile name) h = inl (NoSuchFile name, refl, h)
-by_refusal asked m m' f f' (CannotRead name) h = h
-by_refusal asked m m' f f' (TooLarge name) h = inl (TooLarge name, refl, tt)
-by_refusal asked m m' f f' (Row name row cause) h = inl (Row name row cause, refl, tt)
-by_refusal asked m m' f f' (PresetRow name row cause) h = inl (PresetRow name row cause, refl, tt)
-by_refusal asked m m' f f' (Line name line cause) h = inl (Line name line cause, refl, tt)
+by_refusal : (asked : Option Command) (before after : FilesSeen) (refusal : Refusal) → HasFileCause before after refusal → IsCaused asked before after (refused_said refusal)
+by_refusal asked before after BadWords h = absurd h
+by_refusal asked before after (NoSuchFile name) h = inl (NoSuchFile name, refl, inr h)
+by_refusal asked before after (CannotRead name) h = h
+by_refusal asked before after (TooLarge name) h = inl (TooLarge name, refl, inr h)
+by_refusal asked before after (Row name row cause) h = inl (Row name row cause, refl, inr h)
+by_refusal asked before after (PresetRow name row cause) h = inl (PresetRow name row cause, refl, inr h)
+by_refusal asked before after (Line name line cause) h = inl (Line name line cause, refl, inr h)
 
 -- what is said by steps has its cause
-pub settled_caused : {E : Type 0} (asked : Option Command) (answer : Result Said Stop) (result : Result Said E) (m m' f f' : ℕ) → IfOk answer (λ said. MetCause said.outcome f f' said) →
-    StopsByFile answer m m' f f' → IfOk result (IsSettled answer) → IfOk result (λ said. IsCaused asked m m' f f' said)
-settled_caused asked answer (Err error) m m' f f' h c s = tt
-settled_caused asked (Ok answer) (Ok said) m m' f f' h c s = let same : said ≡ answer = s in rw same (met_is_caused asked m m' f f' answer h)
-settled_caused asked (Err (stop.Refused refusal)) (Ok said) m m' f f' h c s = let same : said ≡ refused_said refusal = s in rw same (by_refusal asked m m' f f' refusal c)
-settled_caused asked (Err stop.Memory) (Ok said) m m' f f' h c s = absurd s
+pub settled_caused : {E : Type 0} (asked : Option Command) (answer : Result Said Stop) (result : Result Said E) (before after : FilesSeen) → IfOk answer (λ said. MetCause said.outcome before after said) →
+    Looked answer 0 before after → IfOk result (IsSettled answer) → IfOk result (λ said. IsCaused asked before after said)
+settled_caused asked answer (Err error) before after h c s = tt
+settled_caused asked (Ok answer) (Ok said) before after h c s = let same : said ≡ answer = s in rw same (met_is_caused asked before after answer h)
+settled_caused asked (Err (stop.Refused refusal)) (Ok said) before after h c s = let same : said ≡ refused_said refusal = s in rw same (by_refusal asked before after refusal c.cause)
+settled_caused asked (Err stop.Memory) (Ok said) before after h c s = absurd s
 
 -- words that ask for nothing are the cause of their refusal
-pub refused_caused : {E : Type 0} (asked : Option Command) (result : Result Said E) (m m' f f' : ℕ) → asked ≡ None →
-    IfOk result (λ said. said ≡ refused_said BadWords) → IfOk result (λ said. IsCaused asked m m' f f' said)
-refused_caused asked (Ok said) m m' f f' e s = let same : said ≡ refused_said BadWords = s in rw same (inl (BadWords, refl, e))
-refused_caused asked (Err error) m m' f f' e s = tt
+pub refused_caused : {E : Type 0} (asked : Option Command) (result : Result Said E) (before after : FilesSeen) → asked ≡ None →
+    IfOk result (λ said. said ≡ refused_said BadWords) → IfOk result (λ said. IsCaused asked before after said)
+refused_caused asked (Ok said) before after e s = let same : said ≡ refused_said BadWords = s in rw same (inl (BadWords, refl, inl (refl, e)))
+refused_caused asked (Err error) before after e s = tt

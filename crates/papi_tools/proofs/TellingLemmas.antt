@@ -1,17 +1,18 @@
--- What handlers have been told: all of their notes, or some of the first.
-use Rattle.std.proofs.Common.{◌≡◌, List, [], ◌++◌, length, Option, None, Some, IfSome, Result, Ok, Err, refl, sym, ap, ◌∙◌, arith, slice_index_or}
+-- What handlers have been told: all of their notes, or a prefix of them.
+use Rattle.std.proofs.Common.{◌≡◌, ℕ, List, [], ◌++◌, append-nil, length, Option, None, Some, IfSome, Result, Ok, Err, refl, sym, ap, ◌∙◌, arith, slice_index_or}
 use Rattle.std.proofs.lemmas.List.{take_all}
 use Rattle.papi_base.specs.Outside.{Held}
 use Rattle.overflow_dispatch.specs.declared.handler.Note.{Note}
-use Rattle.overflow_dispatch.specs.Notes.{EachAdded, EachBegun}
-use Rattle.papi_tools.specs.Run.{Verdict, notes_in}
+use Rattle.overflow_dispatch.specs.Notes.{EachAdded, EachBegun, EachGrown}
 use Rattle.papi_tools.specs.Saying.{Tells}
-use Rattle.papi_tools.specs.Verdict.{ended}
+use Rattle.papi_tools.specs.Steps.{Verdict}
+use Rattle.papi_tools.specs.Carried.{TellsHandlers}
+use Rattle.papi_tools.specs.Verdict.{ended, notes_in, verdict}
 use Rattle.papi_tools.specs.declared.refusal.Refusal.{Refusal}
 use Rattle.papi_tools.specs.declared.status.Status.{Status}
 use Rattle.papi_tools.specs.declared.status.Status.TheVariants.{Whole, No, Refused, ReadFault, Memory, WriteFault}
 
--- all notes are some of the first
+-- all notes are a prefix of them
 pub added_begun : (before given after : List (List Note)) → EachAdded before given after → EachBegun before given after
 added_begun before given after h = record {
   same_length = h.same_length;
@@ -39,3 +40,21 @@ all_told (Some held) given s before after h = by_status s before (given held) af
 pub same_notes : (expected : Result Verdict Refusal) → notes_in expected ≡ (ended expected).notes
 same_notes (Ok verdict) = refl
 same_notes (Err refusal) = refl
+
+-- lists to which nothing was added
+pub none_added : (lists given : List (List Note)) → given ≡ [] → EachAdded lists given lists
+none_added lists given e = rw e (record { same_length = refl; added = λ t small. sym (append-nil _) })
+
+pub none_begun : (lists given : List (List Note)) → EachBegun lists given lists
+none_begun lists given = record { same_length = refl; begun = λ t small. (0, omega arith, sym (append-nil _)) }
+
+pub none_grown : (lists : List (List Note)) → EachGrown lists lists
+none_grown lists = record { same_length = refl; grown = λ t small. ([], sym (append-nil _)) }
+
+begun_told : (words : List (List ℕ)) (held : Option Held) (lists : List (List Note)) → IfSome held (λ h. Tells Memory (verdict words h).notes lists lists)
+begun_told words None lists = tt
+begun_told words (Some held) lists = none_begun lists (verdict words held).notes
+
+-- nothing has been told, for memory ran out
+pub untold : (words : List (List ℕ)) (held : Option Held) (lists : List (List Note)) → TellsHandlers words Memory held lists lists
+untold words held lists = record { tells = begun_told words held lists; grown = none_grown lists }

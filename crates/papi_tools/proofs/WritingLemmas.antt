@@ -1,5 +1,5 @@
 -- Two texts that are written one after the other.
-use Rattle.std.proofs.Common.{◌≡◌, ◌≤◌, ◌+◌, ◌++◌, ℕ, List, Option, Some, None, length, take, refl, sym, ap, ◌∙◌, append_assoc, length-append, arith}
+use Rattle.std.proofs.Common.{◌≡◌, ◌≤◌, ◌+◌, ◌++◌, ℕ, List, Option, Some, None, length, take, refl, sym, ap, ◌∙◌, append_assoc, length-append, arith, OnErr, Result, Ok, Err}
 use Rattle.std.proofs.Math.Seq.{take-append-add}
 use Rattle.std.proofs.lemmas.List.{take-append-le}
 use Rattle.papi_base.specs.Outside.{appended}
@@ -22,3 +22,7 @@ part_of_second before between after xs ys first (k, small, w) = (
   omega (arith, length-append xs ys),
   both before between after xs (take k ys) first w ∙ ap (appended before) (sym (take-append-add xs ys k)),
 )
+
+pub always_on_err : {T E P : Type 0} (r : Result T E) → P → OnErr r P
+always_on_err (Ok x) p = tt
+always_on_err (Err e) p = p

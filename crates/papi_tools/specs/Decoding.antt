@@ -8,7 +8,7 @@ use Rattle.preset_csv.specs.Written.{table_text}
 use Rattle.tool_words.specs.declared.decode.DecodeWords.{DecodeWords}
 use Rattle.papi_tools.specs.Opening.{file_bytes}
 use Rattle.papi_tools.specs.PresetFile.{presets_of}
-use Rattle.papi_tools.specs.Run.{Verdict}
+use Rattle.papi_tools.specs.declared.limits.TheConstants.{TABLE_BYTES}
 use Rattle.papi_tools.specs.Steps.{and_then}
 use Rattle.papi_tools.specs.UnitFile.{unit_under}
 use Rattle.papi_tools.specs.declared.refusal.Refusal.{Refusal}
@@ -28,8 +28,8 @@ abbrev pub decoded_said : TableView → Said
 decoded_said presets = record { outcome = Whole; out = table_text presets; err = [] }
 
 -- the unit, then the preset file
-unfoldable pub decode_verdict : Held → DecodeWords → Result Verdict Refusal
+unfoldable pub decode_verdict : Held → DecodeWords → Result Said Refusal
 decode_verdict held words =
     and_then (unit_under held words.unit) (λ tables.
-    and_then (file_bytes 1048576 (opened held) words.presets.file) (λ bytes.
-    and_then (shown_in words tables bytes) (λ presets. Ok (record { said = decoded_said presets; notes = [] }))))
+    and_then (file_bytes TABLE_BYTES (opened held) words.presets.file) (λ bytes.
+    and_then (shown_in words tables bytes) (λ presets. Ok (decoded_said presets))))

@@ -10,7 +10,6 @@ use Rattle.name_encoder.specs.Canonical.{canonical, code64}
 use Rattle.name_encoder.specs.Names.{names, word_of}
 use Rattle.name_encoder.specs.declared.fault.NameFault.{NameFault}
 use Rattle.tool_words.specs.declared.encode.EncodeWords.{EncodeWords}
-use Rattle.papi_tools.specs.Run.{Verdict}
 use Rattle.papi_tools.specs.Steps.{and_then}
 use Rattle.papi_tools.specs.UnitFile.{unit_under}
 use Rattle.papi_tools.specs.declared.refusal.Refusal.{Refusal}
@@ -22,7 +21,7 @@ use Rattle.papi_tools.specs.declared.status.Outcome.TheVariants.{Whole, No}
 abbrev pub code_text : Native → List ℕ
 code_text native = codes "0x" ++ digits 16 false (code64 native)
 
--- the line of a name: the canonical name and the code of its native event, or why there is none, and the name as it was given
+-- the line of a name: the canonical name and the code of its native event, or why there is not one, and the name as it was given
 abbrev pub answer_line : List ComponentText → List ℕ → Result Native NameFault → List ℕ
 answer_line tables name (Ok native) = canonical tables native ++ (codes " " ++ (code_text native ++ codes "\n"))
 answer_line tables name (Err fault) = word_of fault ++ (codes " " ++ (name ++ codes "\n"))
@@ -40,6 +39,5 @@ unfoldable pub encoded_said : List ComponentText → List (List ℕ) → Said
 encoded_said tables ns = record { outcome = encoding_outcome tables ns; out = encoding_lines tables ns; err = [] }
 
 -- the unit, then the names
-unfoldable pub encode_verdict : Held → EncodeWords → Result Verdict Refusal
-encode_verdict held words =
-    and_then (unit_under held words.unit) (λ tables. Ok (record { said = encoded_said tables words.names; notes = [] }))
+unfoldable pub encode_verdict : Held → EncodeWords → Result Said Refusal
+encode_verdict held words = and_then (unit_under held words.unit) (λ tables. Ok (encoded_said tables words.names))

@@ -1,17 +1,23 @@
 pub mod Answers
+pub mod Carried
 pub mod Causes
 pub mod Decoding
 pub mod Encoding
 pub mod ErrorLines
+pub mod Looking
 pub mod Marks
 pub mod Opening
-pub mod PresetFile
 pub mod Outputs
+pub mod PresetFile
 pub mod Run
-pub mod RunInput
+pub mod Running
 pub mod Saying
+pub mod ScriptFile
+pub mod Seen
 pub mod Status
 pub mod Steps
+pub mod Streams
+pub mod Tables
 pub mod UnitFile
 pub mod Verdict
 pub use Rattle.component_table.specs.Catalogs
@@ -20,7 +26,7 @@ pub use Rattle.name_encoder.specs.Canonical
 pub use Rattle.name_encoder.specs.Names
 pub use Rattle.overflow_dispatch.specs.Notes
 pub use Rattle.papi_base.specs.Outside
-pub use Rattle.papi_base.specs.Streams
+pub use Rattle.papi_base.specs.Streams as PapiStreams
 pub use Rattle.plan_runner.specs.Runs
 pub use Rattle.script_lines.specs.Scripts
 pub use Rattle.script_runner.specs.Replies

@@ -1,23 +1,13 @@
--- The marks that runs met, thread by thread, and what is said of them: this project's own, docs/FORMATS.md.
-use Rattle.std.specs.Prelude.{◌==◌, ◌+◌, ℕ, Bool, true, false, List, [], ◌∷◌, ◌++◌, map, filter, codes, Option, Some, None, if◌then◌else◌}
-use Rattle.std.specs.List.{list_any, range_with_len}
+-- What is said of the marks that runs met, thread by thread: this project's own, docs/FORMATS.md.
+use Rattle.std.specs.Prelude.{◌+◌, ℕ, Bool, true, false, List, [], ◌∷◌, ◌++◌, codes, Option, Some, None, if◌then◌else◌}
+use Rattle.std.specs.List.{list_any}
 use Rattle.std.specs.Fmt.{decimal}
 use Rattle.papi_base.specs.declared.occurrence.LineCause.{LineCause}
 use Rattle.papi_base.specs.declared.occurrence.LineCause.TheVariants as cause
 use Rattle.session_model.specs.declared.reply.Ended.{Ended}
 use Rattle.session_model.specs.declared.reply.Ended.TheVariants.{Going, Bad, Fault}
-use Rattle.session_model.specs.World.{met_mark}
-use Rattle.plan_runner.specs.declared.result.ReplyLine.{ReplyLine}
 use Rattle.papi_tools.specs.declared.status.Outcome.{Outcome}
 use Rattle.papi_tools.specs.declared.status.Outcome.TheVariants as outcome
-
--- the mark that a run of a thread met, where one did
-unfoldable pub mark_at : List ReplyLine → ℕ → Option Ended
-mark_at lines t = met_mark (map (λ l. l.reply) (filter (λ l. l.thread == t) lines))
-
--- the marks of all 64 threads
-unfoldable pub marks_in : List ReplyLine → List (Option Ended)
-marks_in lines = map (mark_at lines) (range_with_len 0 64)
 
 abbrev pub is_fault : Option Ended → Bool
 is_fault (Some Fault) = true
@@ -27,7 +17,7 @@ abbrev pub is_bad : Option Ended → Bool
 is_bad (Some (Bad line cause)) = true
 is_bad m = false
 
--- how a call ends whose runs met these marks: a fault goes before a bad line
+-- how a call ends whose runs met these marks: a fault takes precedence over a bad line
 abbrev pub outcome_at : List (Option Ended) → Outcome
 outcome_at marks =
     if list_any is_fault marks then outcome.ReadFault
@@ -44,7 +34,8 @@ cause_words cause.Stamp = codes "stamp does not rise"
 
 -- the line on standard error of a thread's mark
 abbrev pub mark_line : ℕ → Option Ended → List ℕ
-mark_line t (Some (Bad line cause)) = codes "papi: stream " ++ (decimal t ++ (codes ": line " ++ (decimal line ++ (codes ": " ++ (cause_words cause ++ codes "\n")))))
+mark_line t (Some (Bad line cause)) =
+    codes "papi: stream " ++ (decimal t ++ (codes ": line " ++ (decimal line ++ (codes ": " ++ (cause_words cause ++ codes "\n")))))
 mark_line t (Some Fault) = codes "papi: stream " ++ (decimal t ++ codes ": read failed\n")
 mark_line t (Some Going) = []
 mark_line t None = []

@@ -19,7 +19,7 @@ abbrev pub bytes_until : List ℕ → List ℕ → Ending → Result (List ℕ) 
 bytes_until name bytes End = Ok bytes
 bytes_until name bytes Fault = Err (CannotRead name)
 
--- the whole of a tape, whose file has this name; too large goes before a read that fails
+-- the whole of a tape, whose file has this name; too large takes precedence over a read that fails
 abbrev pub bytes_of : ℕ → List ℕ → Tape → Result (List ℕ) Refusal
 bytes_of limit name tape = if nat_lt limit (length tape.bytes) then Err (TooLarge name) else bytes_until name tape.bytes tape.ending
 

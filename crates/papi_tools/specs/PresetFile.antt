@@ -7,6 +7,7 @@ use Rattle.preset_csv.specs.declared.fault.PresetCause.{PresetCause}
 use Rattle.tool_words.specs.declared.presets.PresetWords.{PresetWords}
 use Rattle.papi_tools.specs.Steps.{and_then}
 use Rattle.papi_tools.specs.Opening.{file_bytes}
+use Rattle.papi_tools.specs.declared.limits.TheConstants.{TABLE_BYTES}
 use Rattle.papi_tools.specs.declared.refusal.Refusal.{Refusal}
 use Rattle.papi_tools.specs.declared.refusal.Refusal.TheVariants.{PresetRow}
 
@@ -21,7 +22,7 @@ presets_of words bytes = presets_unless words.file (preset_fault words.cpu bytes
 
 -- the presets that are asked for, of which the opening of the file is the next one
 unfoldable pub presets_under : Held → PresetWords → Result TableView Refusal
-presets_under held words = and_then (file_bytes 1048576 held words.file) (presets_of words)
+presets_under held words = and_then (file_bytes TABLE_BYTES held words.file) (presets_of words)
 
 abbrev pub some_presets : TableView → Result (Option TableView) Refusal
 some_presets presets = Ok (Some presets)
@@ -31,7 +32,7 @@ abbrev pub presets_asked : Held → Option PresetWords → Result (Option TableV
 presets_asked held None = Ok None
 presets_asked held (Some words) = and_then (presets_under held words) some_presets
 
--- the files behind the presets that are asked for
-abbrev pub behind_presets : Option PresetWords → Held → Held
-behind_presets None held = held
-behind_presets (Some words) held = opened held
+-- the files after the presets that are asked for
+abbrev pub after_presets : Option PresetWords → Held → Held
+after_presets None held = held
+after_presets (Some words) held = opened held

@@ -1,65 +1,51 @@
 -- What `papi_run` comes to: the replies to its script's lines, the marks that its runs met, and the notes of each thread,
 -- which follow the replies where `--notes` asks for them.
-use Rattle.std.specs.Prelude.{ℕ, Bool, true, false, List, [], ◌++◌, length, map, Result, Ok, Err}
+use Rattle.std.specs.Prelude.{◌++◌, Bool, true, false, List, [], Result, Ok, Option}
 use Rattle.std.specs.List.{flat_map}
-use Rattle.papi_base.specs.Outside.{Held}
+use Rattle.papi_base.specs.Outside.{Held, opened}
 use Rattle.overflow_dispatch.specs.declared.handler.Note.{Note}
-use Rattle.session_model.specs.World.{Told}
-use Rattle.component_table.specs.Catalogs.{CatalogView, catalog_of}
-use Rattle.plan_runner.specs.Runs.{notes_by_thread, world_told}
-use Rattle.script_runner.specs.Replies.{notes_text, reply_text}
-use Rattle.script_runner.specs.Resolving.{lines_of, reply_lines_of, setting_of}
+use Rattle.session_model.specs.declared.reply.Ended.{Ended}
+use Rattle.component_table.specs.Catalogs.{CatalogView}
+use Rattle.plan_runner.specs.Marks.{marks_in}
 use Rattle.plan_runner.specs.declared.result.ReplyLine.{ReplyLine}
+use Rattle.script_runner.specs.Replies.{notes_text, reply_text}
 use Rattle.tool_words.specs.declared.run.RunWords.{RunWords}
-use Rattle.papi_tools.specs.Steps.{and_then}
-use Rattle.papi_tools.specs.Marks.{marks_in, mark_lines, outcome_at}
-use Rattle.papi_tools.specs.RunInput.{RunGiven, given_under, streams_of}
+use Rattle.papi_tools.specs.Marks.{mark_lines, outcome_at}
+use Rattle.papi_tools.specs.Running.{Given, ran_notes, ran_replies}
+use Rattle.papi_tools.specs.ScriptFile.{script_under}
+use Rattle.papi_tools.specs.Steps.{Verdict, and_then}
+use Rattle.papi_tools.specs.Streams.{streams_under}
+use Rattle.papi_tools.specs.Tables.{after_tables, catalog_under}
 use Rattle.papi_tools.specs.declared.refusal.Refusal.{Refusal}
 use Rattle.papi_tools.specs.declared.said.Said.{Said}
 
--- what a call comes to: what it says, and the notes that each thread's handler is told
-pub record Verdict : Type 0 where
-  pub said : Said
-  pub notes : List (List Note)
-
-abbrev pub catalog_in : RunGiven → CatalogView
-catalog_in given = catalog_of given.tables given.presets
-
--- what one thread tells that goes through the whole script in order
-abbrev pub told_in : RunGiven → List Told
-told_in given = world_told (setting_of (catalog_in given)) (lines_of (catalog_in given) given.script) (streams_of given.tapes)
-
-abbrev pub replies_in : RunGiven → List ReplyLine
-replies_in given = reply_lines_of given.script (told_in given)
-
--- what is said of replies: their text and that of the notes that are shown, and the lines of the marks that runs met
-abbrev pub replies_said : CatalogView → List ReplyLine → List Note → Said
-replies_said catalog lines shown = record {
-  outcome = outcome_at (marks_in lines);
+-- what is said of a run: the text of its replies and of the notes that are shown, and the lines of the marks that it met
+abbrev pub run_said : CatalogView → List ReplyLine → List (Option Ended) → List Note → Said
+run_said catalog lines marks shown = record {
+  outcome = outcome_at marks;
   out = reply_text catalog lines ++ notes_text shown;
-  err = mark_lines 0 (marks_in lines);
+  err = mark_lines 0 marks;
 }
-
-unfoldable pub ran_notes : RunGiven → List (List Note)
-ran_notes given = notes_by_thread (told_in given)
 
 -- the notes that are shown: all of them thread by thread, where they are wanted
 abbrev pub shown_notes : Bool → List (List Note) → List Note
 shown_notes false notes = []
 shown_notes true notes = flat_map (λ ns. ns) notes
 
-unfoldable pub ran_said : Bool → RunGiven → Said
-ran_said wanted given = replies_said (catalog_in given) (replies_in given) (shown_notes wanted (ran_notes given))
+unfoldable pub ran_verdict : Bool → Given → Verdict
+ran_verdict wanted given = record {
+  said = run_said given.catalog (ran_replies given) (marks_in (ran_replies given)) (shown_notes wanted (ran_notes given));
+  notes = ran_notes given;
+}
 
--- the unit, the script and the streams, then the runs
+-- the tables, then the script, then the streams in their order
+unfoldable pub given_under : Held → RunWords → Result Given Refusal
+given_under held words =
+    and_then (catalog_under held words.unit words.presets) (λ catalog.
+    and_then (script_under (after_tables words.presets held) words.script) (λ script.
+    and_then (streams_under (opened (after_tables words.presets held)) words.streams) (λ streams.
+    Ok (record { catalog = catalog; script = script; streams = streams }))))
+
+-- what is given, and then the run
 unfoldable pub run_verdict : Held → RunWords → Result Verdict Refusal
-run_verdict held words = and_then (given_under held words) (λ given. Ok (record { said = ran_said words.notes given; notes = ran_notes given }))
-
--- the notes of what is expected: a refusal has none
-abbrev pub notes_in : Result Verdict Refusal → List (List Note)
-notes_in (Ok verdict) = verdict.notes
-notes_in (Err refusal) = []
-
--- how many notes each of several lists has
-abbrev pub note_counts : List (List Note) → List ℕ
-note_counts lists = map (λ notes. length notes) lists
+run_verdict held words = and_then (given_under held words) (λ given. Ok (ran_verdict words.notes given))

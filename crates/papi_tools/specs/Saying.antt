@@ -24,7 +24,7 @@ Says status.Memory said out out' err err' = (k : ℕ) × Wrote said k out out' e
 Says status.WriteFault said out out' err err' = (k : ℕ) × Wrote said k out out' err err'
 Says s said out out' err err' = (s ≡ status_of said.outcome) × WroteAll said out out' err err'
 
--- A call with this status has told each handler the notes of its thread, after want of memory some of the first of them.
+-- A call with this status has told each handler the notes of its thread, where memory ran out, a prefix of them.
 abbrev pub Tells : Status → List (List Note) → List (List Note) → List (List Note) → Type 0
 Tells status.Memory given before after = EachBegun before given after
 Tells s given before after = EachAdded before given after
@@ -35,7 +35,7 @@ HasSinkCause status.Memory out out' err err' = Unit {0}
 HasSinkCause status.WriteFault out out' err err' = Rose out out' ⊎ Rose err err'
 HasSinkCause s out out' err err' = (out' ≡ out) × (err' ≡ err)
 
--- a status that stands for a judgment, or want of memory
+-- a status that stands for a judgment, or for out of memory
 abbrev pub IsJudged : Status → Type 0
 IsJudged status.Whole = Unit {0}
 IsJudged status.No = Unit {0}

@@ -6,6 +6,7 @@ use Rattle.event_tables.specs.Unit.{unit_fault, unit_tables}
 use Rattle.event_tables.specs.declared.fault.RowCause.{RowCause}
 use Rattle.papi_tools.specs.Steps.{and_then}
 use Rattle.papi_tools.specs.Opening.{file_bytes}
+use Rattle.papi_tools.specs.declared.limits.TheConstants.{TABLE_BYTES}
 use Rattle.papi_tools.specs.declared.refusal.Refusal.{Refusal}
 use Rattle.papi_tools.specs.declared.refusal.Refusal.TheVariants.{Row}
 
@@ -20,4 +21,4 @@ unit_of name bytes = tables_unless name (unit_fault bytes) (unit_tables bytes)
 
 -- the unit of this name, whose opening is the next one
 unfoldable pub unit_under : Held → List ℕ → Result (List ComponentText) Refusal
-unit_under held name = and_then (file_bytes 1048576 held name) (unit_of name)
+unit_under held name = and_then (file_bytes TABLE_BYTES held name) (unit_of name)

@@ -6,21 +6,23 @@ use Rattle.overflow_dispatch.specs.Notes.{EachAdded, EachBegun}
 use Rattle.tool_words.specs.Form.{form}
 use Rattle.tool_words.specs.declared.command.Command.{Command}
 use Rattle.tool_words.specs.declared.command.Command.TheVariants.{Run, Encode, Decode}
+use Rattle.papi_tools.specs.Answers.{AnswersBy}
 use Rattle.papi_tools.specs.Decoding.{decode_verdict}
 use Rattle.papi_tools.specs.Encoding.{encode_verdict}
 use Rattle.papi_tools.specs.ErrorLines.{line_of, outcome_of}
-use Rattle.papi_tools.specs.Run.{Verdict, run_verdict}
+use Rattle.papi_tools.specs.Run.{run_verdict}
+use Rattle.papi_tools.specs.Steps.{Verdict, quiet}
 use Rattle.papi_tools.specs.declared.refusal.Refusal.{Refusal}
 use Rattle.papi_tools.specs.declared.refusal.Refusal.TheVariants.{BadWords}
 use Rattle.papi_tools.specs.declared.refusal.Stop.{Stop}
 use Rattle.papi_tools.specs.declared.refusal.Stop.TheVariants as stop
 use Rattle.papi_tools.specs.declared.said.Said.{Said}
 
--- what a command comes to
+-- what a command comes to: a row for each tool
 abbrev pub command_verdict : Held → Command → Result Verdict Refusal
 command_verdict held (Run words) = run_verdict held words
-command_verdict held (Encode words) = encode_verdict held words
-command_verdict held (Decode words) = decode_verdict held words
+command_verdict held (Encode words) = quiet (encode_verdict held words)
+command_verdict held (Decode words) = quiet (decode_verdict held words)
 
 -- what the words come to, where they are a command
 abbrev pub verdict_for : Held → Option Command → Result Verdict Refusal
@@ -38,11 +40,17 @@ ended (Err refusal) = record { said = refused_said refusal; notes = [] }
 abbrev pub verdict : List (List ℕ) → Held → Verdict
 verdict words held = ended (verdict_for held (form words))
 
+-- the notes of what is expected: a refusal has none
+abbrev pub notes_in : Result Verdict Refusal → List (List Note)
+notes_in (Ok verdict) = verdict.notes
+notes_in (Err refusal) = []
+
 -- The answer of a tool says what is expected, or memory ran out.
+abbrev pub IsSaid : Said → Result Verdict Refusal → Type 0
+IsSaid said expected = IsOkAnd expected (λ verdict. verdict.said ≡ said)
+
 abbrev pub AnswersSaid : Result Said Stop → Result Verdict Refusal → Type 0
-AnswersSaid (Ok said) expected = IsOkAnd expected (λ verdict. verdict.said ≡ said)
-AnswersSaid (Err (stop.Refused refusal)) expected = expected ≡ Err refusal
-AnswersSaid (Err stop.Memory) expected = Unit {0}
+AnswersSaid answer expected = AnswersBy IsSaid answer expected
 
 -- What is said at the end of the steps: what they say, or the line of the refusal that ended them.
 abbrev pub IsSettled : Result Said Stop → Said → Type 0
@@ -50,7 +58,7 @@ IsSettled (Ok answer) said = said ≡ answer
 IsSettled (Err (stop.Refused refusal)) said = said ≡ refused_said refusal
 IsSettled (Err stop.Memory) said = ⊥
 
--- With this answer a tool has told each handler the notes of its thread, after want of memory some of the first of them.
+-- With this answer a tool has told each handler the notes of its thread; where memory ran out, a prefix of them.
 abbrev pub TellsBy : Result Said Stop → List (List Note) → List (List Note) → List (List Note) → Type 0
 TellsBy (Ok said) given before after = EachAdded before given after
 TellsBy (Err (stop.Refused refusal)) given before after = EachAdded before given after

@@ -1,9 +1,10 @@
 //! `papi_decode`: gives the presets of a cpu.
-ghost use Rattle.std.specs.Prelude.{◌≡◌, ◌≤◌, ℕ, IfOk, IfSome};
-ghost use Rattle.papi_tools.specs.Answers.{Answers, StopsByFile};
+ghost use Rattle.std.specs.Prelude.{◌≡◌, IfOk, IfSome};
+ghost use Rattle.papi_tools.specs.Answers.{Answers};
 ghost use Rattle.papi_tools.specs.Causes.{IsTextual};
 ghost use Rattle.papi_tools.specs.Decoding.{decode_verdict, decoded_said, shown_in};
-ghost use Rattle.papi_tools.specs.Verdict.{AnswersSaid};
+ghost use Rattle.papi_tools.specs.Looking.{Looked, StopsByFile};
+ghost use Rattle.papi_tools.specs.Seen.{FilesSeen, files_seen};
 
 use crate::preset_file::{presets_in, read_preset_bytes};
 use crate::unit_file::read_unit_file;
@@ -24,7 +25,7 @@ fn shown_of(
     bytes: &[u8],
 ) -> Result<PresetTable, Stop>
     ensures told { Answers result (shown_in words.now tables bytes.now) }
-    ensures cause { (misses misses' faults faults' : ℕ) → StopsByFile result misses misses' faults faults' }
+    ensures cause { (before after : FilesSeen) → StopsByFile result before after }
 {
     let presets = presets_in(alloc, &words.presets, bytes)?;
     if !words.available {
@@ -56,11 +57,9 @@ pub fn decode_presets<F: Files>(
     files: &mut F,
     words: &DecodeWords,
 ) -> Result<Said, Stop>
-    ensures told { IfSome (F.held files.old) (λ held. AnswersSaid result (decode_verdict held words.now)) }
+    ensures told { IfSome (F.held files.old) (λ held. Answers result (decode_verdict held words.now)) }
     ensures textual { IfOk result (λ said. IsTextual said.outcome) }
-    ensures cause { StopsByFile result (F.misses files.old) (F.misses files.new) (F.faults files.old) (F.faults files.new) }
-    ensures misses_stay { F.misses files.old ≤ F.misses files.new }
-    ensures faults_stay { F.faults files.old ≤ F.faults files.new }
+    ensures looked { Looked result 0 (files_seen F.held F.misses F.faults F.lent files.old) (files_seen F.held F.misses F.faults F.lent files.new) }
 {
     let tables = read_unit_file(alloc, files, words.unit.as_str())?;
     let bytes = read_preset_bytes(alloc, files, &words.presets)?;

@@ -1,26 +1,28 @@
 //! The tools, and the top call that carries out what the words ask for.
 #![tactic(auto)]
 
-pub mod added_notes;
 pub mod decoding;
-pub mod encode;
+pub mod encoding;
+pub mod limits;
 pub mod marks;
 pub mod opening;
 pub mod output;
 pub mod preset_file;
-pub mod readers;
 pub mod refusal;
 pub mod run;
-pub mod run_input;
+pub mod running;
 pub mod said;
 pub mod saying;
+pub mod script_file;
 pub mod settling;
 pub mod status;
 pub mod streams;
+pub mod tables;
 pub mod tool;
 pub mod top;
 pub mod unit_file;
 
+pub use limits::{SCRIPT_BYTES, TABLE_BYTES};
 pub use output::Output;
 pub use refusal::{Refusal, Stop};
 pub use said::Said;
@@ -29,8 +31,14 @@ pub use tool::{decode, encode_tool, run_tool};
 pub use top::papi_main;
 
 #[cfg(test)]
-mod refusing_handler;
+mod counting_sink;
 #[cfg(test)]
-mod tests;
+mod lab;
+#[cfg(test)]
+mod waiting_sources;
 #[cfg(test)]
 mod worked_scripts;
+#[cfg(test)]
+mod worked_threads;
+#[cfg(test)]
+mod worked_tools;

@@ -1,47 +1,21 @@
-//! The marks that runs met, thread by thread, and what is said of them.
-ghost use Rattle.std.specs.Prelude.{◌≡◌, ◌<◌, All, IfOk, codes, length, string_bytes};
+//! What is said of the marks that runs met, thread by thread.
+ghost use Rattle.std.specs.Prelude.{◌≡◌, IfOk, string_bytes};
 ghost use Rattle.std.specs.List.{list_any};
-ghost use Rattle.session_model.specs.World.{met_in};
-ghost use Rattle.papi_tools.specs.Marks.{cause_words, is_bad, is_fault, mark_line, mark_lines, marks_in, outcome_at};
+ghost use Rattle.papi_tools.specs.Marks.{cause_words, is_bad, is_fault, mark_line, mark_lines, outcome_at};
 
 use crate::Outcome;
 use papi_base::{Bytes, LineCause};
-use plan_runner::ReplyLine;
-use session_model::{Body, Ended, Reply};
+use session_model::Ended;
 use std::alloc::{AllocError, Global};
 
-// The mark that a reply carries, where it is that of a run that met one.
-fn met(reply: &Reply) -> Option<Ended>
-    ensures { result ≡ met_in reply.now.body }
-{
-    match &reply.body {
-        Body::Ran(ran) => match ran.ended {
-            Ended::Going => None,
-            mark => Some(mark),
-        },
-        _ => None,
-    }
-}
-
-/// The mark that the runs of each thread met, where they met one.
-pub fn marks_of(lines: &[ReplyLine]) -> [Option<Ended>; 64]
-    requires threads { All (λ l. l.thread < 64) lines.now }
-    ensures marks { result ≡ marks_in lines.now }
-{
-    let mut marks = [None; 64];
-    for line in lines {
-        let t = line.thread as usize;
-        marks[t] = marks[t].or(met(&line.reply));
-    }
-    marks
-}
-
+// Whether some mark is a fault.
 fn has_fault(marks: &[Option<Ended>]) -> bool
     ensures { result ≡ list_any is_fault marks.now }
 {
     marks.iter().any(|mark| matches!(mark, Some(Ended::Fault)))
 }
 
+// Whether some mark is a bad line.
 fn has_bad_line(marks: &[Option<Ended>]) -> bool
     ensures { result ≡ list_any is_bad marks.now }
 {

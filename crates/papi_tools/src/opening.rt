@@ -2,20 +2,22 @@
 ghost use Rattle.std.specs.Prelude.{◌≡◌, ◌≤◌, IfSome, IfOk, length};
 ghost use Rattle.std.specs.Option.{option_map};
 ghost use Rattle.papi_base.specs.Outside.{opened};
+ghost use Rattle.papi_tools.specs.Answers.{Answers, AnswersBy, IsTold};
+ghost use Rattle.papi_tools.specs.Looking.{Looked, out_with};
 ghost use Rattle.papi_tools.specs.Opening.{file_bytes, tape_under};
-ghost use Rattle.papi_tools.specs.Answers.{Answers, AnswersSource, StopsByFile};
+ghost use Rattle.papi_tools.specs.Seen.{files_seen};
 
 use crate::{Refusal, Stop};
 use papi_base::{Bytes, Files, OpenFail, Text, WholeFault, read_whole};
 use std::alloc::Global;
 
-/// Opens a file, or says why not.
+/// Opens a file, or says why not. The source has no faults.
 pub fn open_named<F: Files>(alloc: Global, files: &mut F, name: &str) -> Result<F::S, Stop>
-    ensures told { IfSome (F.held files.old) (λ held. AnswersSource F.S.tape result (tape_under held name.now)) }
+    ensures told { IfSome (F.held files.old) (λ held. AnswersBy (IsTold F.S.tape) result (tape_under held name.now)) }
+    ensures fresh { IfOk result (λ source. F.S.faults source ≡ 0) }
     ensures held { F.held files.new ≡ option_map opened (F.held files.old) }
-    ensures cause { StopsByFile result (F.misses files.old) (F.misses files.new) (F.faults files.old) (F.faults files.new) }
-    ensures misses_stay { F.misses files.old ≤ F.misses files.new }
-    ensures faults_stay { F.faults files.old ≤ F.faults files.new }
+    ensures looked { Looked result (out_with (λ _. 1) result)
+        (files_seen F.held F.misses F.faults F.lent files.old) (files_seen F.held F.misses F.faults F.lent files.new) }
 {
     let answer = files.open_source(name);
     match answer {
@@ -41,9 +43,7 @@ pub fn whole_file<F: Files>(
     ensures told { IfSome (F.held files.old) (λ held. Answers result (file_bytes limit held name.now)) }
     ensures small { IfOk result (λ bytes. length bytes ≤ limit) }
     ensures held { F.held files.new ≡ option_map opened (F.held files.old) }
-    ensures cause { StopsByFile result (F.misses files.old) (F.misses files.new) (F.faults files.old) (F.faults files.new) }
-    ensures misses_stay { F.misses files.old ≤ F.misses files.new }
-    ensures faults_stay { F.faults files.old ≤ F.faults files.new }
+    ensures looked { Looked result 0 (files_seen F.held F.misses F.faults F.lent files.old) (files_seen F.held F.misses F.faults F.lent files.new) }
 {
     let mut source = open_named(alloc, files, name)?;
     let answer = read_whole(alloc, &mut source, limit);

@@ -17,7 +17,7 @@ enum Content {
     Replies(Vec<ReplyLine>, Catalog, Vec<Note>),
 }
 
-/// What a tool writes on standard output: a text, or replies and the notes behind them, which are made into text as they
+/// What a tool writes on standard output: a text, or replies and the notes after them, which are made into text as they
 /// are written. Contracts see the bytes.
 #[derive(Drop)]
 pub struct Output {
@@ -33,7 +33,7 @@ impl Model for Output {
     ghost view = { λ o. content_bytes o.content };
 }
 
-// Writes the replies, and then the notes. After an error a first part of both is written.
+// Writes the replies, and then the notes. After an error a prefix of both is written.
 fn write_both<K: Sink>(
     alloc: Global,
     lines: &[ReplyLine],
@@ -64,7 +64,7 @@ impl Output {
         }
     }
 
-    /// The replies of a run, and the notes that are shown behind them.
+    /// The replies of a run, and the notes that are shown after them.
     pub fn replies(lines: Vec<ReplyLine>, catalog: Catalog, shown: Vec<Note>) -> Output
         ensures { result ≡ reply_text catalog lines.items ++ notes_text shown.items }
     {
@@ -73,7 +73,7 @@ impl Output {
         }
     }
 
-    /// Writes all of it in order. After an error a first part of it is written.
+    /// Writes all of it in order. After an error a prefix of it is written.
     pub fn write<K: Sink>(&self, alloc: Global, out: &mut K) -> Result<(), WriteFail>
         ensures ok { OnOk result (K.taken out.new ≡ appended (K.taken out.old) self.now) }
         ensures part { OnErr result ((k : ℕ) × (k ≤ length self.now) × (K.taken out.new ≡ appended (K.taken out.old) (take k self.now))) }

@@ -1,12 +1,15 @@
 //! Preset files by name.
-ghost use Rattle.std.specs.Prelude.{◌≡◌, ◌≤◌, ℕ, IfSome};
+ghost use Rattle.std.specs.Prelude.{◌≡◌, IfSome};
 ghost use Rattle.std.specs.Option.{option_map};
 ghost use Rattle.papi_base.specs.Outside.{opened};
-ghost use Rattle.papi_tools.specs.Answers.{Answers, StopsByFile};
-ghost use Rattle.papi_tools.specs.PresetFile as PresetFile;
+ghost use Rattle.papi_tools.specs.Answers.{Answers};
+ghost use Rattle.papi_tools.specs.Looking.{Looked, StopsByFile};
 ghost use Rattle.papi_tools.specs.Opening.{file_bytes};
-ghost use Rattle.papi_tools.specs.PresetFile.{behind_presets, presets_of, presets_under};
+ghost use Rattle.papi_tools.specs.PresetFile as PresetFile;
+ghost use Rattle.papi_tools.specs.PresetFile.{after_presets, presets_of, presets_under};
+ghost use Rattle.papi_tools.specs.Seen.{FilesSeen, files_seen};
 
+use crate::limits::TABLE_BYTES;
 use crate::opening::whole_file;
 use crate::{Refusal, Stop};
 use papi_base::{Bytes, Files, Text};
@@ -14,14 +17,11 @@ use preset_csv::{PresetFault, PresetTable, read_presets};
 use std::alloc::Global;
 use tool_words::PresetWords;
 
-// How many bytes a preset file has at most.
-const PRESET_BYTES: usize = 1_048_576;
-
 /// The presets for the asked cpu in the bytes of a preset file, or its first fault.
 #[tactic(auto, unfolding(crate::specs::PresetFile::presets_of))]
 pub fn presets_in(alloc: Global, words: &PresetWords, bytes: &[u8]) -> Result<PresetTable, Stop>
     ensures told { Answers result (presets_of words.now bytes.now) }
-    ensures cause { (misses misses' faults faults' : ℕ) → StopsByFile result misses misses' faults faults' }
+    ensures cause { (before after : FilesSeen) → StopsByFile result before after }
 {
     let answer = read_presets(alloc, bytes, words.cpu.as_str());
     match answer {
@@ -41,13 +41,11 @@ pub fn read_preset_bytes<F: Files>(
     files: &mut F,
     words: &PresetWords,
 ) -> Result<Bytes, Stop>
-    ensures told { IfSome (F.held files.old) (λ held. Answers result (file_bytes 1048576 held words.now.file)) }
+    ensures told { IfSome (F.held files.old) (λ held. Answers result (file_bytes TABLE_BYTES held words.now.file)) }
     ensures held { F.held files.new ≡ option_map opened (F.held files.old) }
-    ensures cause { StopsByFile result (F.misses files.old) (F.misses files.new) (F.faults files.old) (F.faults files.new) }
-    ensures misses_stay { F.misses files.old ≤ F.misses files.new }
-    ensures faults_stay { F.faults files.old ≤ F.faults files.new }
+    ensures looked { Looked result 0 (files_seen F.held F.misses F.faults F.lent files.old) (files_seen F.held F.misses F.faults F.lent files.new) }
 {
-    whole_file(alloc, files, words.file.as_str(), PRESET_BYTES)
+    whole_file(alloc, files, words.file.as_str(), TABLE_BYTES)
 }
 
 /// Reads the presets that are asked for, or says why not.
@@ -59,11 +57,9 @@ pub fn read_preset_file<F: Files>(
 ) -> Result<PresetTable, Stop>
     ensures told { IfSome (F.held files.old) (λ held. Answers result (presets_under held words.now)) }
     ensures held { F.held files.new ≡ option_map opened (F.held files.old) }
-    ensures cause { StopsByFile result (F.misses files.old) (F.misses files.new) (F.faults files.old) (F.faults files.new) }
-    ensures misses_stay { F.misses files.old ≤ F.misses files.new }
-    ensures faults_stay { F.faults files.old ≤ F.faults files.new }
+    ensures looked { Looked result 0 (files_seen F.held F.misses F.faults F.lent files.old) (files_seen F.held F.misses F.faults F.lent files.new) }
 {
-    let bytes = whole_file(alloc, files, words.file.as_str(), PRESET_BYTES)?;
+    let bytes = read_preset_bytes(alloc, files, words)?;
     presets_in(alloc, words, bytes.as_slice())
 }
 
@@ -74,10 +70,8 @@ pub fn read_presets_asked<F: Files>(
     words: &Option<PresetWords>,
 ) -> Result<Option<PresetTable>, Stop>
     ensures told { IfSome (F.held files.old) (λ held. Answers result (PresetFile.presets_asked held words.now)) }
-    ensures held { F.held files.new ≡ option_map (behind_presets words.now) (F.held files.old) }
-    ensures cause { StopsByFile result (F.misses files.old) (F.misses files.new) (F.faults files.old) (F.faults files.new) }
-    ensures misses_stay { F.misses files.old ≤ F.misses files.new }
-    ensures faults_stay { F.faults files.old ≤ F.faults files.new }
+    ensures held { F.held files.new ≡ option_map (after_presets words.now) (F.held files.old) }
+    ensures looked { Looked result 0 (files_seen F.held F.misses F.faults F.lent files.old) (files_seen F.held F.misses F.faults F.lent files.new) }
 {
     match words {
         Some(words) => {

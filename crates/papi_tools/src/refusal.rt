@@ -99,7 +99,7 @@ fn numbered(
     format!(in alloc; "papi: {name}: {place} {number}: {words}\n")
 }
 
-/// The end of a call before its output: a refusal, or want of memory.
+/// The end of a call before its output: a refusal, or memory ran out.
 #[derive(Debug, Drop)]
 pub enum Stop {
     Refused(Refusal),

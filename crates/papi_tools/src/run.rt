@@ -1,100 +1,152 @@
 //! `papi_run`: carries out a script.
-ghost use Rattle.std.specs.Prelude.{◌≡◌, ◌≤◌, ◌<◌, ℕ, All, Any, IfOk, IfSome, OnErr, OnOk, length, map, vec_len};
-ghost use Rattle.papi_base.specs.Outside.{Rose};
-ghost use Rattle.thread_session.specs.Faults.{IsFault};
-ghost use Rattle.overflow_dispatch.specs.Notes.{EachAdded, EachBegun};
-ghost use Rattle.papi_tools.specs.Answers.{StopsByFile};
+ghost use Rattle.std.specs.Prelude.{◌≡◌, ◌≤◌, ◌-◌, All, IfOk, IfSome, IsOkAnd, if◌then◌else◌, [], length, map, vec_len};
+ghost use Rattle.overflow_dispatch.specs.Notes.{EachGrown, told_since};
+ghost use Rattle.thread_session.specs.SessionView.{IsFresh};
+ghost use Rattle.papi_tools.specs.Answers.{Answers, AnswersBy};
 ghost use Rattle.papi_tools.specs.Causes.{MetCause};
-ghost use Rattle.papi_tools.specs.Run.{notes_in, ran_notes, ran_said, replies_said, run_verdict};
-ghost use Rattle.papi_tools.specs.RunInput.{IsGiven, RunGiven};
-ghost use Rattle.papi_tools.specs.Verdict.{AnswersSaid, TellsBy};
+ghost use Rattle.papi_tools.specs.Looking.{Looked, StopsByFile, out_with};
+ghost use Rattle.papi_tools.specs.Run.{given_under, ran_verdict, run_said, run_verdict};
+ghost use Rattle.papi_tools.specs.Running.{Given, IsGiven};
+ghost use Rattle.papi_tools.specs.Seen.{FilesSeen, files_seen};
+ghost use Rattle.papi_tools.specs.Streams.{sources_in};
+ghost use Rattle.papi_tools.specs.Verdict.{AnswersSaid, TellsBy, notes_in};
 
-use crate::added_notes::{counts_before, notes_behind};
-use crate::marks::{lines_of, marks_of, outcome_of};
-use crate::readers::readers_of;
-use crate::run_input::{RunInput, open_input};
-use crate::streams::close_all;
+use crate::marks::{lines_of, outcome_of};
+use crate::running::{Ran, run_script};
+use crate::script_file::read_script_file;
+use crate::streams::{close_readers, open_readers};
+use crate::tables::read_catalog;
 use crate::{Output, Said, Stop};
 use component_table::Catalog;
-use overflow_dispatch::{Handler, Note};
-use papi_base::Files;
-use plan_runner::{ReplyLine, RunResult, run_plan};
-use script_runner::resolve;
+use overflow_dispatch::{Handler, Note, notes_since};
+use papi_base::{Files, Source};
+use script_lines::Script;
 use std::alloc::{AllocError, Global};
 use std::marker::{Send, Sync};
 use std::thread::Threads;
+use stream_reader::StreamReader;
 use tool_words::RunWords;
 
-// What is said of the replies of a run, and of the notes that are shown.
+// The notes that the handlers have after so many each, where they are wanted.
+fn shown_notes(
+    alloc: Global,
+    wanted: bool,
+    noted: &[u64],
+    handlers: &Vec<Box<dyn Handler + Send>>,
+) -> Result<Vec<Note>, AllocError>
+    requires { length noted.now ≡ vec_len handlers.now }
+    ensures { IfOk result (λ shown. shown.items ≡ (if wanted then told_since noted.now (map (λ b. notes b) handlers.now.items) else [])) }
+{
+    if wanted {
+        notes_since(alloc, handlers, noted)
+    } else {
+        Ok(Vec::new(alloc))
+    }
+}
+
+// What is said of a run. The notes of the run are shown where they are wanted.
 fn said_of(
     alloc: Global,
-    lines: Vec<ReplyLine>,
     catalog: Catalog,
-    shown: Vec<Note>,
-) -> Result<Said, AllocError>
-    requires threads { All (λ l. l.thread < 64) lines.items }
-    ensures said { IfOk result (λ said. said ≡ replies_said catalog lines.items shown.items) }
-    ensures met { (faults faults' : ℕ) → (Any (λ l. IsFault l.reply) lines.items → Rose faults faults') → IfOk result (λ said. MetCause said.outcome faults faults' said) }
+    ran: Ran,
+    wanted: bool,
+    handlers: &Vec<Box<dyn Handler + Send>>,
+) -> Result<Said, Stop>
+    requires { vec_len ran.noted ≡ vec_len handlers.now }
+    ensures said { Answers result
+        (Ok (run_said catalog ran.lines.items ran.marks (if wanted then told_since ran.noted.items (map (λ b. notes b) handlers.now.items) else []))) }
+    ensures cause { (before after : FilesSeen) → StopsByFile result before after }
 {
-    let marks = marks_of(lines.as_slice());
-    let err = lines_of(alloc, &marks)?;
+    let shown = shown_notes(alloc, wanted, ran.noted.as_slice(), handlers)?;
+    let err = lines_of(alloc, &ran.marks)?;
     Ok(Said {
-        outcome: outcome_of(&marks),
-        out: Output::replies(lines, catalog, shown),
+        outcome: outcome_of(&ran.marks),
+        out: Output::replies(ran.lines, catalog, shown),
         err,
     })
 }
 
-// Runs the script's lines, and closes the streams. The notes that are told in this are shown where they are wanted.
+// What a run stands on: the catalog, the script, and the readers of all threads.
+#[derive(Drop)]
+struct RunInput<S: Source> {
+    catalog: Catalog,
+    script: Script,
+    readers: Vec<StreamReader<S>>,
+}
+
+// Reads the tables and the script, and opens the streams, or says why not.
+#[tactic(auto, unfolding(crate::specs::Run::given_under))]
+fn open_input<F: Files>(
+    alloc: Global,
+    files: &mut F,
+    words: &RunWords,
+) -> Result<RunInput<F::S>, Stop>
+    ensures told { IfSome (F.held files.old) (λ held.
+        AnswersBy (λ input given. IsOkAnd given (IsGiven input.catalog input.script input.readers.items)) result (given_under held words.now)) }
+    ensures len { IfOk result (λ input. vec_len input.readers ≡ 64) }
+    ensures fresh { IfOk result (λ input. All IsFresh input.readers.items) }
+    ensures looked { Looked result (out_with (λ input. sources_in input.readers.items) result)
+        (files_seen F.held F.misses F.faults F.lent files.old) (files_seen F.held F.misses F.faults F.lent files.new) }
+{
+    let catalog = read_catalog(alloc, files, &words.unit, &words.presets)?;
+    let script = read_script_file(alloc, files, words.script.as_str())?;
+    let readers = open_readers(alloc, files, words.streams.as_slice())?;
+    Ok(RunInput {
+        catalog,
+        script,
+        readers,
+    })
+}
+
+// Runs the script over the readers, closes them, and says what came of it.
 fn carry_out<R: Threads + Sync, F: Files>(
     rt: &R,
     alloc: Global,
     files: &mut F,
+    words: &RunWords,
     input: RunInput<F::S>,
-    wanted: bool,
     handlers: &mut Vec<Box<dyn Handler + Send>>,
-) -> Result<Said, AllocError>
-    requires few { vec_len input.sources ≤ 64 }
+) -> Result<Said, Stop>
+    requires readers { vec_len input.readers ≡ 64 }
+    requires fresh { All IsFresh input.readers.items }
     requires handlers { vec_len handlers.old ≡ 64 }
     ensures len { vec_len handlers.new ≡ 64 }
-    ensures told { (given : RunGiven) → IsGiven F.S.tape input given → IfOk result (λ said. said ≡ ran_said wanted given) }
-    ensures notes { (given : RunGiven) → IsGiven F.S.tape input given → OnOk result (EachAdded (map (λ b. notes b) handlers.old.items) (ran_notes given) (map (λ b. notes b) handlers.new.items)) }
-    ensures begun { (given : RunGiven) → IsGiven F.S.tape input given → EachBegun (map (λ b. notes b) handlers.old.items) (ran_notes given) (map (λ b. notes b) handlers.new.items) }
-    ensures met { IfOk result (λ said. MetCause said.outcome (F.faults files.old) (F.faults files.new) said) }
+    ensures told { (given : Given) → IsGiven input.catalog input.script input.readers.items given
+        → AnswersSaid result (Ok (ran_verdict words.now.notes given)) }
+    ensures tells { (given : Given) → IsGiven input.catalog input.script input.readers.items given
+        → TellsBy result (ran_verdict words.now.notes given).notes (map (λ b. notes b) handlers.old.items) (map (λ b. notes b) handlers.new.items) }
+    ensures grown { EachGrown (map (λ b. notes b) handlers.old.items) (map (λ b. notes b) handlers.new.items) }
+    ensures met { IfOk result (λ said. MetCause said.outcome
+        (files_seen F.held F.misses F.faults F.lent files.old) (files_seen F.held F.misses F.faults F.lent files.new) said) }
+    ensures cause { (before after : FilesSeen) → StopsByFile result before after }
+    ensures lent { F.lent files.new ≡ F.lent files.old - sources_in input.readers.items }
     ensures misses_stay { F.misses files.old ≤ F.misses files.new }
     ensures faults_stay { F.faults files.old ≤ F.faults files.new }
 {
     let RunInput {
-        tables,
-        presets,
+        catalog,
         script,
-        sources,
+        mut readers,
     } = input;
-    let readers = readers_of(alloc, sources)?;
-    let catalog = Catalog::build(alloc, tables, presets)?;
-    let plan = resolve(alloc, &script, &catalog)?;
-    let shape = catalog.shape();
-    let counts = counts_before(alloc, wanted, handlers)?;
-    let run = run_plan(
+    let answer = run_script(
         rt,
         alloc,
-        plan,
-        catalog.book(),
-        &shape,
-        readers,
+        &script,
+        &catalog,
+        &mut readers,
         handlers,
-        1,
-    )?;
-    let RunResult { lines, sources } = run;
-    close_all(files, sources);
-    let shown = notes_behind(alloc, &counts, handlers)?;
-    said_of(alloc, lines, catalog, shown)
+        words.workers.get(),
+    );
+    close_readers(files, readers);
+    match answer {
+        Ok(ran) => said_of(alloc, catalog, ran, words.notes, handlers),
+        Err(_) => Err(Stop::Memory),
+    }
 }
 
 /// `papi_run`: reads the unit, the presets and the script, opens the streams, and carries out the script, each thread's calls on a
 /// session of its own. The handlers, one a thread, are told the thresholds that were passed, and these notes follow the
 /// replies where the words ask for them.
-#[tactic(auto, unfolding(crate::specs::Run::run_verdict))]
 pub fn run<R: Threads + Sync, F: Files>(
     rt: &R,
     alloc: Global,
@@ -102,15 +154,18 @@ pub fn run<R: Threads + Sync, F: Files>(
     words: &RunWords,
     handlers: &mut Vec<Box<dyn Handler + Send>>,
 ) -> Result<Said, Stop>
-    requires few { length words.now.streams ≤ 64 }
     requires handlers { vec_len handlers.old ≡ 64 }
     ensures len { vec_len handlers.new ≡ 64 }
     ensures told { IfSome (F.held files.old) (λ held. AnswersSaid result (run_verdict held words.now)) }
-    ensures tells { IfSome (F.held files.old) (λ held. TellsBy result (notes_in (run_verdict held words.now)) (map (λ b. notes b) handlers.old.items) (map (λ b. notes b) handlers.new.items)) }
-    ensures met { IfOk result (λ said. MetCause said.outcome (F.faults files.old) (F.faults files.new) said) }
-    ensures cause { StopsByFile result (F.misses files.old) (F.misses files.new) (F.faults files.old) (F.faults files.new) }
+    ensures tells { IfSome (F.held files.old) (λ held. TellsBy result (notes_in (run_verdict held words.now))
+        (map (λ b. notes b) handlers.old.items) (map (λ b. notes b) handlers.new.items)) }
+    ensures grown { EachGrown (map (λ b. notes b) handlers.old.items) (map (λ b. notes b) handlers.new.items) }
+    ensures met { IfOk result (λ said. MetCause said.outcome
+        (files_seen F.held F.misses F.faults F.lent files.old) (files_seen F.held F.misses F.faults F.lent files.new) said) }
+    ensures looked { Looked result 0 (files_seen F.held F.misses F.faults F.lent files.old) (files_seen F.held F.misses F.faults F.lent files.new) }
 {
-    let input = open_input(alloc, files, words)?;
-    let said = carry_out(rt, alloc, files, input, words.notes, handlers)?;
-    Ok(said)
+    match open_input(alloc, files, words) {
+        Ok(input) => carry_out(rt, alloc, files, words, input, handlers),
+        Err(stop) => Err(stop),
+    }
 }

@@ -13,9 +13,9 @@ pub enum Status {
     Refused,
     /// An opening or a read failed.
     ReadFault,
-    /// Memory was refused. A first part of the output may have been written.
+    /// Memory was refused. A prefix of the output may have been written.
     Memory,
-    /// A write failed. A first part of the output has been written.
+    /// A write failed. A prefix of the output has been written.
     WriteFault,
 }
 

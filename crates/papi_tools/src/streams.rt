@@ -1,42 +1,110 @@
-//! The streams of a run: opened in order, and closed.
-ghost use Rattle.std.specs.Prelude.{◌≡◌, ◌≤◌, ◌<◌, IfOk, IfSome, Any, length, vec_len};
-ghost use Rattle.papi_tools.specs.Answers.{AnswersSources, StopsByFile};
-ghost use Rattle.papi_tools.specs.Opening.{tapes_under};
+//! The streams of a run: opened in their order into the readers of all threads, and closed.
+ghost use Rattle.std.specs.Prelude.{◌≡◌, ◌<◌, ◌≤◌, ◌-◌, ◌++◌, [], ◌∷◌, All, IfOk, IfSome, Some, length, map, replicate, vec_capacity, vec_len};
 ghost use Rattle.papi_base.specs.Outside.{Rose};
+ghost use Rattle.stream_reader.specs.Reader.{coming, faults_of};
+ghost use Rattle.thread_session.specs.SessionView.{IsFresh};
+ghost use Rattle.papi_tools.specs.Answers.{AnswersBy};
+ghost use Rattle.papi_tools.specs.Looking.{Looked, out_with};
+ghost use Rattle.papi_tools.specs.Opening.{tapes_under};
+ghost use Rattle.papi_tools.specs.Seen.{files_seen};
+ghost use Rattle.papi_tools.specs.Streams.{AreStreams, SomeFailed, TellExpected, empty_stream, sources_in, streams_under};
 
 use crate::Stop;
 use crate::opening::open_named;
-use papi_base::{Files, Text};
+use papi_base::{Files, Source, THREADS, Text};
 use std::alloc::Global;
+use stream_reader::StreamReader;
 
-/// Opens the streams in their order, or says why not.
-pub fn open_streams<F: Files>(
+// Opens the streams in their order into readers. After an error those that were opened stand there.
+fn open_into<F: Files>(
     alloc: Global,
     files: &mut F,
     names: &[Text],
-) -> Result<Vec<F::S>, Stop>
-    ensures told { IfSome (F.held files.old) (λ held. AnswersSources F.S.tape result (tapes_under held names.now)) }
-    ensures each { IfOk result (λ sources. vec_len sources ≡ length names.now) }
-    ensures cause { StopsByFile result (F.misses files.old) (F.misses files.new) (F.faults files.old) (F.faults files.new) }
-    ensures misses_stay { F.misses files.old ≤ F.misses files.new }
-    ensures faults_stay { F.faults files.old ≤ F.faults files.new }
+    readers: &mut Vec<StreamReader<F::S>>,
+) -> Result<(), Stop>
+    requires none { vec_len readers.old ≡ 0 }
+    requires room { length names.now ≤ vec_capacity readers.old }
+    ensures told { IfSome (F.held files.old) (λ held.
+        AnswersBy (λ _ tapes. AreStreams (map coming readers.new.items) tapes) result (tapes_under held names.now)) }
+    ensures few { vec_len readers.new ≤ length names.now }
+    ensures room { vec_capacity readers.new ≡ vec_capacity readers.old }
+    ensures fresh { All IsFresh readers.new.items }
+    ensures looked { Looked result (sources_in readers.new.items)
+        (files_seen F.held F.misses F.faults F.lent files.old) (files_seen F.held F.misses F.faults F.lent files.new) }
 {
-    let mut sources = Vec::new(alloc);
     for name in names {
-        let source = open_named(alloc, files, name.as_str())?;
-        sources.push(source)?;
+        match open_named(alloc, files, name.as_str()) {
+            Ok(source) => readers.push_reserved(StreamReader::new(source)),
+            Err(stop) => return Err(stop),
+        }
     }
-    Ok(sources)
+    Ok(())
 }
 
-/// Closes the sources. Their faults are then the files'.
-pub fn close_all<F: Files>(files: &mut F, sources: Vec<F::S>)
-    ensures faulty { Any (λ source. 0 < F.S.faults source) sources.items → Rose (F.faults files.old) (F.faults files.new) }
+// Readers of empty streams for the threads that have none.
+fn add_empty<S: Source>(readers: &mut Vec<StreamReader<S>>)
+    requires few { vec_len readers.old ≤ 64 }
+    requires room { 64 ≤ vec_capacity readers.old }
+    requires fresh { All IsFresh readers.old.items }
+    ensures len { vec_len readers.new ≡ 64 }
+    ensures fresh { All IsFresh readers.new.items }
+    ensures coming { map coming readers.new.items ≡ map coming readers.old.items ++ replicate (64 - vec_len readers.old) (Some empty_stream) }
+    ensures sources { sources_in readers.new.items ≡ sources_in readers.old.items }
+{
+    while readers.len() < THREADS as usize {
+        readers.push_reserved(StreamReader::ended());
+    }
+}
+
+/// Opens the streams in their order, and gives a reader for each of the 64 threads: those of the streams, and empty ones for the
+/// other threads. Or says why not: then every source that was opened is closed.
+pub fn open_readers<F: Files>(
+    alloc: Global,
+    files: &mut F,
+    names: &[Text],
+) -> Result<Vec<StreamReader<F::S>>, Stop>
+    requires few { length names.now ≤ 64 }
+    ensures told { IfSome (F.held files.old) (λ held. AnswersBy (λ readers streams. TellExpected readers.items streams) result (streams_under held names.now)) }
+    ensures len { IfOk result (λ readers. vec_len readers ≡ 64) }
+    ensures fresh { IfOk result (λ readers. All IsFresh readers.items) }
+    ensures looked { Looked result (out_with (λ readers. sources_in readers.items) result)
+        (files_seen F.held F.misses F.faults F.lent files.old) (files_seen F.held F.misses F.faults F.lent files.new) }
+{
+    let mut readers = Vec::with_capacity(alloc, THREADS as usize)?;
+    match open_into(alloc, files, names, &mut readers) {
+        Ok(()) => {
+            add_empty(&mut readers);
+            Ok(readers)
+        }
+        Err(stop) => {
+            close_readers(files, readers);
+            Err(stop)
+        }
+    }
+}
+
+// Closes the source of a reader, if it has one.
+fn close_reader<F: Files>(files: &mut F, reader: StreamReader<F::S>)
+    ensures faulty { 0 < faults_of reader → Rose (F.faults files.old) (F.faults files.new) }
+    ensures lent { F.lent files.new ≡ F.lent files.old - sources_in (reader ∷ []) }
     ensures held { F.held files.new ≡ F.held files.old }
     ensures misses_stay { F.misses files.old ≤ F.misses files.new }
     ensures faults_stay { F.faults files.old ≤ F.faults files.new }
 {
-    for source in sources {
+    if let Some(source) = reader.into_source() {
         files.close_source(source);
+    }
+}
+
+/// Closes the sources of the readers. Their faults are then the files'.
+pub fn close_readers<F: Files>(files: &mut F, readers: Vec<StreamReader<F::S>>)
+    ensures faulty { SomeFailed readers.items → Rose (F.faults files.old) (F.faults files.new) }
+    ensures lent { F.lent files.new ≡ F.lent files.old - sources_in readers.items }
+    ensures held { F.held files.new ≡ F.held files.old }
+    ensures misses_stay { F.misses files.old ≤ F.misses files.new }
+    ensures faults_stay { F.faults files.old ≤ F.faults files.new }
+{
+    for reader in readers {
+        close_reader(files, reader);
     }
 }

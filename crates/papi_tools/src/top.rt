@@ -1,21 +1,19 @@
 //! The top call.
-ghost use Rattle.std.specs.Prelude.{◌≡◌, ◌<◌, ◌⊎◌, Err, IfOk, IfSome, OnErr, OnOk, map, string_bytes, vec_len};
-ghost use Rattle.papi_base.specs.Outside.{Rose};
-ghost use Rattle.overflow_dispatch.specs.Notes.{EachAdded, EachBegun};
-ghost use Rattle.tool_words.specs.Form.{HasFewStreams, form};
-ghost use Rattle.papi_tools.specs.Answers.{StopsByFile};
+ghost use Rattle.std.specs.Prelude.{◌≡◌, IfOk, IfSome, OnErr, OnOk, map, string_bytes, vec_len};
+ghost use Rattle.overflow_dispatch.specs.Notes.{EachAdded, EachBegun, EachGrown};
+ghost use Rattle.tool_words.specs.Form.{form};
+ghost use Rattle.papi_tools.specs.Carried.{CarriesOut, TellsHandlers};
 ghost use Rattle.papi_tools.specs.Causes.{IsCaused, MetCause};
-ghost use Rattle.papi_tools.specs.Run.{notes_in};
-ghost use Rattle.papi_tools.specs.Saying.{HasSinkCause, IsJudged, Says, Tells};
-ghost use Rattle.papi_tools.specs.Verdict.{AnswersSaid, TellsBy, command_verdict, verdict};
-ghost use Rattle.papi_tools.specs.declared.said.Said.{Said};
+ghost use Rattle.papi_tools.specs.Looking.{Looked};
+ghost use Rattle.papi_tools.specs.Seen.{files_seen, sink_seen};
+ghost use Rattle.papi_tools.specs.Verdict.{AnswersSaid, TellsBy, command_verdict, notes_in, verdict};
 
 use crate::decoding::decode_presets;
-use crate::encode::encode_names;
+use crate::encoding::encode_names;
 use crate::run::run;
 use crate::saying::say;
 use crate::settling::{refused, settled};
-use crate::{Outcome, Refusal, Said, Status, Stop};
+use crate::{Refusal, Said, Status, Stop};
 use overflow_dispatch::Handler;
 use papi_base::{Files, Sink};
 use std::alloc::{AllocError, Global};
@@ -23,7 +21,7 @@ use std::marker::{Send, Sync};
 use std::thread::Threads;
 use tool_words::{Command, WordsFault, read_words};
 
-// Does what the command asks for, up to the writing.
+// Does what the command asks for, up to the writing: a row for each tool.
 fn carried_out<R: Threads + Sync, F: Files>(
     rt: &R,
     alloc: Global,
@@ -31,13 +29,15 @@ fn carried_out<R: Threads + Sync, F: Files>(
     command: &Command,
     handlers: &mut Vec<Box<dyn Handler + Send>>,
 ) -> Result<Said, Stop>
-    requires few { HasFewStreams command.now }
     requires handlers { vec_len handlers.old ≡ 64 }
     ensures len { vec_len handlers.new ≡ 64 }
     ensures told { IfSome (F.held files.old) (λ held. AnswersSaid result (command_verdict held command.now)) }
-    ensures tells { IfSome (F.held files.old) (λ held. TellsBy result (notes_in (command_verdict held command.now)) (map (λ b. notes b) handlers.old.items) (map (λ b. notes b) handlers.new.items)) }
-    ensures met { IfOk result (λ said. MetCause said.outcome (F.faults files.old) (F.faults files.new) said) }
-    ensures cause { StopsByFile result (F.misses files.old) (F.misses files.new) (F.faults files.old) (F.faults files.new) }
+    ensures tells { IfSome (F.held files.old) (λ held. TellsBy result (notes_in (command_verdict held command.now))
+        (map (λ b. notes b) handlers.old.items) (map (λ b. notes b) handlers.new.items)) }
+    ensures grown { EachGrown (map (λ b. notes b) handlers.old.items) (map (λ b. notes b) handlers.new.items) }
+    ensures met { IfOk result (λ said. MetCause said.outcome
+        (files_seen F.held F.misses F.faults F.lent files.old) (files_seen F.held F.misses F.faults F.lent files.new) said) }
+    ensures looked { Looked result 0 (files_seen F.held F.misses F.faults F.lent files.old) (files_seen F.held F.misses F.faults F.lent files.new) }
 {
     match command {
         Command::Run(words) => run(rt, alloc, files, words, handlers),
@@ -57,10 +57,14 @@ fn said_of<R: Threads + Sync, F: Files>(
     requires handlers { vec_len handlers.old ≡ 64 }
     ensures len { vec_len handlers.new ≡ 64 }
     ensures told { IfSome (F.held files.old) (λ held. IfOk result (λ said. said ≡ (verdict (map string_bytes words.now.items) held).said)) }
-    ensures tells { IfSome (F.held files.old) (λ held. OnOk result (EachAdded (map (λ b. notes b) handlers.old.items) (verdict (map string_bytes words.now.items) held).notes (map (λ b. notes b) handlers.new.items))) }
-    ensures begun { IfSome (F.held files.old) (λ held. OnErr result (EachBegun (map (λ b. notes b) handlers.old.items) (verdict (map string_bytes words.now.items) held).notes (map (λ b. notes b) handlers.new.items))) }
-    ensures cause { IfOk result (λ said. IsCaused (form (map string_bytes words.now.items))
-        (F.misses files.old) (F.misses files.new) (F.faults files.old) (F.faults files.new) said) }
+    ensures tells { IfSome (F.held files.old) (λ held. OnOk result (EachAdded (map (λ b. notes b) handlers.old.items)
+        (verdict (map string_bytes words.now.items) held).notes (map (λ b. notes b) handlers.new.items))) }
+    ensures begun { IfSome (F.held files.old) (λ held. OnErr result (EachBegun (map (λ b. notes b) handlers.old.items)
+        (verdict (map string_bytes words.now.items) held).notes (map (λ b. notes b) handlers.new.items))) }
+    ensures grown { EachGrown (map (λ b. notes b) handlers.old.items) (map (λ b. notes b) handlers.new.items) }
+    ensures cause { IfOk result (IsCaused (form (map string_bytes words.now.items))
+        (files_seen F.held F.misses F.faults F.lent files.old) (files_seen F.held F.misses F.faults F.lent files.new)) }
+    ensures returned { F.lent files.new ≡ F.lent files.old }
 {
     let command = match read_words(alloc, words.as_slice()) {
         Ok(command) => command,
@@ -71,7 +75,7 @@ fn said_of<R: Threads + Sync, F: Files>(
     settled(alloc, answer)
 }
 
-/// Carries out what the words ask for, which are those behind the program's name: the first names a tool.
+/// Carries out what the words ask for, which are those after the program's name: the first names a tool.
 ///
 /// The words are read, then the files in their order, each to its end before it is judged, then the streams are opened
 /// and the runs made, and then the output is written. The first fault in this order ends the call with its status and
@@ -87,21 +91,11 @@ pub fn papi_main<R: Threads + Sync, F: Files, K: Sink>(
 ) -> Status
     requires handlers { vec_len handlers.old ≡ 64 }
     ensures len { vec_len handlers.new ≡ 64 }
-
-    // Where the files tell what they hold, this is said, and the handlers are told these notes.
-    ensures says { IfSome (F.held files.old) (λ held. Says result (verdict (map string_bytes words.now.items) held).said
-        (K.taken out.old) (K.taken out.new) (K.taken err.old) (K.taken err.new)) }
-    ensures tells { IfSome (F.held files.old) (λ held. Tells result (verdict (map string_bytes words.now.items) held).notes
-        (map (λ b. notes b) handlers.old.items) (map (λ b. notes b) handlers.new.items)) }
-    ensures refused { IfSome (F.held files.old) (λ held. result ≡ Status.Refused → (verdict (map string_bytes words.now.items) held).said.outcome ≡ Outcome.Refused) }
-
-    // Told or not, a refusal has its cause, and is what is said.
-    ensures cause { (said : Said) × Says result said (K.taken out.old) (K.taken out.new) (K.taken err.old) (K.taken err.new)
-        × IsCaused (form (map string_bytes words.now.items)) (F.misses files.old) (F.misses files.new) (F.faults files.old) (F.faults files.new) said }
-    ensures read_fault { result ≡ Status.ReadFault → Rose (F.faults files.old) (F.faults files.new) }
-    ensures sinks { HasSinkCause result (K.faults out.old) (K.faults out.new) (K.faults err.old) (K.faults err.new) }
-    ensures rises { (K.faults out.old < K.faults out.new) ⊎ (K.faults err.old < K.faults err.new) → (result ≡ Status.WriteFault) ⊎ (result ≡ Status.Memory) }
-    ensures complete { ¬ (Rose (F.faults files.old) (F.faults files.new)) → ¬ (Rose (K.faults out.old) (K.faults out.new)) → ¬ (Rose (K.faults err.old) (K.faults err.new)) → IsJudged result }
+    ensures carries_out { CarriesOut (map string_bytes words.now.items) result
+        (files_seen F.held F.misses F.faults F.lent files.old) (files_seen F.held F.misses F.faults F.lent files.new)
+        (sink_seen K.taken K.faults out.old) (sink_seen K.taken K.faults out.new) (sink_seen K.taken K.faults err.old) (sink_seen K.taken K.faults err.new) }
+    ensures tells { TellsHandlers (map string_bytes words.now.items) result (F.held files.old)
+        (map (λ b. notes b) handlers.old.items) (map (λ b. notes b) handlers.new.items) }
 {
     match said_of(rt, alloc, words, files, handlers) {
         Ok(said) => say(alloc, &said, out, err),

@@ -1,24 +1,24 @@
 //! Unit files by name.
-ghost use Rattle.std.specs.Prelude.{◌≡◌, ◌≤◌, ℕ, IfSome};
+ghost use Rattle.std.specs.Prelude.{◌≡◌, IfSome};
 ghost use Rattle.std.specs.Option.{option_map};
 ghost use Rattle.papi_base.specs.Outside.{opened};
-ghost use Rattle.papi_tools.specs.Answers.{Answers, StopsByFile};
+ghost use Rattle.papi_tools.specs.Answers.{Answers};
+ghost use Rattle.papi_tools.specs.Looking.{Looked, StopsByFile};
+ghost use Rattle.papi_tools.specs.Seen.{FilesSeen, files_seen};
 ghost use Rattle.papi_tools.specs.UnitFile.{unit_of, unit_under};
 
+use crate::limits::TABLE_BYTES;
 use crate::opening::whole_file;
 use crate::{Refusal, Stop};
 use event_tables::{TableFault, Tables, read_unit};
 use papi_base::{Files, Text};
 use std::alloc::Global;
 
-// How many bytes a unit file has at most.
-const UNIT_BYTES: usize = 1_048_576;
-
 // The tables of a unit file of this name, or its first fault.
 #[tactic(auto, unfolding(crate::specs::UnitFile::unit_of))]
 fn unit_in(alloc: Global, name: &str, bytes: &[u8]) -> Result<Tables, Stop>
     ensures told { Answers result (unit_of name.now bytes.now) }
-    ensures cause { (misses misses' faults faults' : ℕ) → StopsByFile result misses misses' faults faults' }
+    ensures cause { (before after : FilesSeen) → StopsByFile result before after }
 {
     let answer = read_unit(alloc, bytes);
     match answer {
@@ -37,10 +37,8 @@ fn unit_in(alloc: Global, name: &str, bytes: &[u8]) -> Result<Tables, Stop>
 pub fn read_unit_file<F: Files>(alloc: Global, files: &mut F, name: &str) -> Result<Tables, Stop>
     ensures told { IfSome (F.held files.old) (λ held. Answers result (unit_under held name.now)) }
     ensures held { F.held files.new ≡ option_map opened (F.held files.old) }
-    ensures cause { StopsByFile result (F.misses files.old) (F.misses files.new) (F.faults files.old) (F.faults files.new) }
-    ensures misses_stay { F.misses files.old ≤ F.misses files.new }
-    ensures faults_stay { F.faults files.old ≤ F.faults files.new }
+    ensures looked { Looked result 0 (files_seen F.held F.misses F.faults F.lent files.old) (files_seen F.held F.misses F.faults F.lent files.new) }
 {
-    let bytes = whole_file(alloc, files, name, UNIT_BYTES)?;
+    let bytes = whole_file(alloc, files, name, TABLE_BYTES)?;
     unit_in(alloc, name, bytes.as_slice())
 }

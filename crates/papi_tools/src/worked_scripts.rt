@@ -1,128 +1,7 @@
-//! Scripts that were worked by hand, over files in memory.
-use crate::{papi_main, status_number};
-use overflow_dispatch::{Handler, Recorder};
-use papi_base::{Ending, MemFiles, MemSink};
-use std::alloc::{AllocError, Global};
-use std::marker::{Send, Sync};
-use std::process::Abort;
+//! Scripts of one thread that were worked by hand.
+use crate::lab::{Row, bad, check, good, repeated};
+use papi_base::Ending;
 use std::test::Fail;
-use std::thread::Threads;
-
-const UNIT: &str = "COMPONENT,cpu,lab\n\
-COUNTER,P0,16,P\n\
-COUNTER,P1,16,P\n\
-COUNTER,F0,16,F\n\
-EVENT,INST_RETIRED,c0,P0 P1 F0,Instructions retired\n\
-EVENT,CYCLES,3c,P0 P1,Core cycles\n\
-EVENT,BR_INST,c4,P0,Branch instructions\n\
-UMASK,ALL,01,dn,All branches\n\
-UMASK,TAKEN,02,n,Taken branches\n\
-EVENT,BR_MISP,c5,P0,Mispredicted branches\n\
-EVENT,CACHE,2e,P1,Cache references\n\
-EVENT,REF,00,F0,Reference cycles\n\
-COMPONENT,net,wire\n\
-COUNTER,M0,48,P\n\
-EVENT,PACKETS,10,M0,Packets seen\n";
-
-const PRESETS: &str = "CPU,lab1\n\
-CPU,lab2\n\
-PRESET,PAPI_TOT_CYC, NOT_DERIVED, lab::CYCLES, NOTE, 'core, not reference'\n\
-PRESET,PAPI_RES_STL,DERIVED_SUB,lab::CYCLES,lab::INST_RETIRED\n\
-PRESET,PAPI_LST_INS,DERIVED_ADD,lab::CACHE,lab::INST_RETIRED\n\
-PRESET,PAPI_BR_PRC,DERIVED_POSTFIX,N0|N1|-|,lab::BR_INST:ALL,lab::BR_MISP\n\
-PRESET,PAPI_L1_DCM,NOT_DERIVED,lab::NO_SUCH\n\
-PRESET,PAPI_TOT_INS,DERIVED_POSTFIX,N0|9223372036854775807|*|,lab::INST_RETIRED\n\
-CPU,other\n\
-PRESET,PAPI_TOT_INS,NOT_DERIVED,lab::CYCLES\n";
-
-/// A script, its stream, and what comes of it: the status, the end of the output, and the line on `err`.
-#[derive(Drop)]
-pub(crate) struct Row<'a> {
-    words: &'a str,
-    script: &'a str,
-    stream: &'a str,
-    status: u8,
-    tail: &'a str,
-    err: &'a str,
-}
-
-// A row of a good script over the unit alone.
-pub(crate) fn good<'a>(script: &'a str, stream: &'a str, tail: &'a str) -> Row<'a> {
-    Row {
-        words: "papi_run -U lab.unit s t0",
-        script,
-        stream,
-        status: 0,
-        tail,
-        err: "",
-    }
-}
-
-// The words of a line.
-pub(crate) fn words_in(alloc: Global, line: &str) -> Result<Vec<String>, AllocError> {
-    let mut words = Vec::new(alloc);
-    for word in line.split(' ') {
-        words.push(String::from_str(alloc, word)?)?;
-    }
-    Ok(words)
-}
-
-// The text so often.
-fn repeated(alloc: Global, text: &str, times: usize) -> Result<String, AllocError> {
-    let mut whole = String::new(alloc);
-    for _ in 0..times {
-        whole.push_str(text)?;
-    }
-    Ok(whole)
-}
-
-// The files that the row's words name.
-pub(crate) fn files_of(alloc: Global, row: &Row) -> Result<MemFiles, AllocError> {
-    let named = [
-        ("lab.unit", UNIT),
-        ("lab.presets", PRESETS),
-        ("s", row.script),
-        ("t0", row.stream),
-    ];
-    let mut tapes = Vec::new(alloc);
-    for (name, text) in named {
-        tapes.push((
-            String::from_str(alloc, name)?,
-            text.as_bytes().to_vec(alloc)?,
-            Ending::End,
-        ))?;
-    }
-    Ok(MemFiles::new(alloc, tapes, 4096, Vec::new(alloc)))
-}
-
-// The row is carried out as it says.
-fn check<R: Threads + Sync + Abort>(rt: &R, alloc: Global, row: &Row) -> Result<(), AllocError> {
-    let mut handlers: Vec<Box<dyn Handler + Send>> = Vec::new(alloc);
-    while handlers.len() < 64 {
-        handlers.push(Box::new(alloc, Recorder::new(alloc))?)?;
-    }
-    let mut files = files_of(alloc, row)?;
-    let mut out = MemSink::new(alloc, 100_000);
-    let mut err = MemSink::new(alloc, 1000);
-    let words = words_in(alloc, row.words)?;
-    let ended = papi_main(
-        rt,
-        alloc,
-        &words,
-        &mut files,
-        &mut out,
-        &mut err,
-        &mut handlers,
-    );
-    assert_eq!(rt; status_number(ended), row.status);
-    assert!(rt;
-        out.bytes().ends_with(row.tail.as_bytes()),
-        "not at the end: {}",
-        row.tail
-    );
-    assert_eq!(rt; err.bytes(), row.err.as_bytes());
-    Ok(())
-}
 
 #[test]
 fn counts(rt: HostRuntime) -> Result<(), Fail> {
@@ -181,12 +60,9 @@ fn refusals(rt: HostRuntime) -> Result<(), Fail> {
             "1 0 destroy PAPI_ENOEVST\n2 0 cleanup PAPI_ENOEVST\n3 0 remove PAPI_ENOEVST\n4 0 component PAPI_ENOEVST\n5 0 domain PAPI_ENOEVST\n6 0 multiplex PAPI_ENOEVST\n7 0 overflow PAPI_ENOEVST\n8 0 accum PAPI_ENOEVST\n9 0 reset PAPI_ENOEVST\n10 0 state PAPI_ENOEVST\n11 0 raw PAPI_ENOEVST\n12 0 events PAPI_ENOEVST\n13 0 assign PAPI_ENOEVST\n14 0 stop PAPI_ENOEVST\n",
         ),
         Row {
-            words: "papi_run -U lab.unit s",
-            script: "0 create\n0 domain 0 01\n",
-            stream: "",
             status: 2,
-            tail: "",
             err: "papi: s: line 2: bad number\n",
+            ..good("0 create\n0 domain 0 01\n", "", "")
         },
     ];
     for row in &rows {
@@ -230,7 +106,7 @@ fn thresholds(rt: HostRuntime) -> Result<(), Fail> {
                 "7 0 run PAPI_OK 2 2\nnote 0 0 0 0x2\nnote 0 0 1 0x2\n",
             )
         },
-        // A threshold is taken away, and the counts of a stopped set are 0 behind it.
+        // A threshold is taken away, and the counts of a stopped set are 0 after it.
         good(
             "0 create\n0 add 0 CYCLES\n0 overflow 0 CYCLES 256\n0 start 0\n0 run 1\n0 stop 0\n0 overflow 0 CYCLES 0\n0 read 0\n0 state 0\n0 start 0\n0 run 2\n",
             "0 3c 00 u 255 1\n0 3c 00 u 255 2\n0 3c 00 u 255 3\n",
@@ -303,7 +179,7 @@ fn turns(rt: HostRuntime) -> Result<(), Fail> {
                 "6 0 run PAPI_ESYS 3 0\n7 0 read PAPI_OK 4 15\n",
             )
         },
-        // With one group the estimate is the count, and behind a cleanup the set is as others are.
+        // With one group the estimate is the count, and after a cleanup the set is as others are.
         good(
             "0 create\n0 multiplex 0 1000000\n0 add 0 BR_INST\n0 start 0\n0 run 1\n0 stop 0\n0 cleanup 0\n0 add 0 BR_INST\n0 start 0\n0 run 1\n0 raw 0 0\n",
             "0 c4 01 u 7 1\n0 c4 01 u 8 1\n",
@@ -331,6 +207,11 @@ fn turns(rt: HostRuntime) -> Result<(), Fail> {
 fn presets(rt: HostRuntime) -> Result<(), Fail> {
     let alloc = rt.alloc();
     let words = "papi_run -U lab.unit -P lab.presets -C lab2 s t0";
+    let no_cpu = [(
+        "p",
+        "PRESET,PAPI_TOT_INS,NOT_DERIVED,lab::CYCLES\n",
+        Ending::End,
+    )];
     let rows = [
         Row {
             words,
@@ -373,18 +254,16 @@ fn presets(rt: HostRuntime) -> Result<(), Fail> {
                 "CPU,other\nPRESET,PAPI_TOT_INS,NOT_DERIVED,lab::CYCLES\n",
             )
         },
-        Row {
-            words: "papi_run -U lab.unit -P s -C lab1 s t0",
-            status: 2,
-            err: "papi: s: row 1: preset before cpu\n",
-            ..good("PRESET,PAPI_TOT_INS,NOT_DERIVED,lab::CYCLES\n", "", "")
-        },
-        Row {
-            words: "papi_run -U lab.unit -P lab.presets s t0",
-            status: 2,
-            err: "papi: bad words\n",
-            ..good("", "", "")
-        },
+        bad(
+            "papi_run -U lab.unit -P p -C lab1 s t0",
+            &no_cpu,
+            "papi: p: row 1: preset before cpu\n",
+        ),
+        bad(
+            "papi_run -U lab.unit -P lab.presets s t0",
+            &[],
+            "papi: bad words\n",
+        ),
     ];
     for row in &rows {
         check(&rt, alloc, row)?;

@@ -1,5 +1,4 @@
-use Rattle.script_runner.proofs.Pieces.{always_on_err}
-use Rattle.papi_tools.proofs.WritingLemmas.{both, part_of_first, part_of_second}
+use Rattle.papi_tools.proofs.WritingLemmas.{always_on_err, both, part_of_first, part_of_second}
 use Rattle.papi_tools.proofs.output.write_both.Goals as goal
 
 pub returns-in_err-write_replies-clause-part : goal.returns-in_err-write_replies-clause-part

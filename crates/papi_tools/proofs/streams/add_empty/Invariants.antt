@@ -1,0 +1,18 @@
+use Rattle.std.proofs.Common.{◌≡◌, ◌≤◌, ◌-◌, ◌++◌, All, Some, map, replicate, vec_capacity, vec_len}
+use Rattle.stream_reader.specs.Reader.{coming}
+use Rattle.thread_session.specs.SessionView.{IsFresh}
+use Rattle.papi_tools.specs.Streams.{empty_stream, sources_in}
+use Rattle.papi_tools.proofs.streams.add_empty.Given as goal
+
+abbrev pub invariant-loop-readers : goal.invariant-loop-readers
+invariant-loop-readers g l = record {
+  few : vec_len l.readers ≤ 64;
+  more : vec_len l.initial.readers ≤ vec_len l.readers;
+  room : vec_capacity l.readers ≡ vec_capacity l.initial.readers;
+  fresh : All IsFresh l.readers.items;
+  comes : map coming l.readers.items ≡ map coming l.initial.readers.items ++ replicate (vec_len l.readers - vec_len l.initial.readers) (Some empty_stream);
+  sources : sources_in l.readers.items ≡ sources_in l.initial.readers.items;
+}
+
+abbrev pub decreases-loop-readers : goal.decreases-loop-readers
+decreases-loop-readers g l = 64 - vec_len l.readers

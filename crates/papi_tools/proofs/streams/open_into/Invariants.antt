@@ -1,0 +1,17 @@
+use Rattle.std.proofs.Common.{◌≡◌, ◌≤◌, ◌+◌, All, drop, map, vec_capacity, vec_len}
+use Rattle.stream_reader.specs.Reader.{coming}
+use Rattle.thread_session.specs.SessionView.{IsFresh}
+use Rattle.papi_tools.specs.Streams.{sources_in}
+use Rattle.papi_tools.proofs.OpeningLemmas.{AreOpenTold}
+use Rattle.papi_tools.proofs.streams.open_into.Given as goal
+
+abbrev pub invariant-loop-name : goal.invariant-loop-name
+invariant-loop-name g l = record {
+  told : AreOpenTold (g.F.Files.held l.initial.files) l.names (drop l.name-index l.names) (g.F.Files.held l.files) (map coming l.readers.items);
+  each : vec_len l.readers ≡ l.name-index;
+  room : vec_capacity l.readers ≡ vec_capacity l.initial.readers;
+  fresh : All IsFresh l.readers.items;
+  lent : g.F.Files.lent l.files ≡ g.F.Files.lent l.initial.files + sources_in l.readers.items;
+  misses_stay : g.F.Files.misses l.initial.files ≤ g.F.Files.misses l.files;
+  faults_stay : g.F.Files.faults l.initial.files ≤ g.F.Files.faults l.files;
+}

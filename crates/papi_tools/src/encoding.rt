@@ -1,0 +1,87 @@
+//! `papi_encode`: gives the codes of events.
+ghost use Rattle.std.specs.Prelude.{◌≡◌, IfOk, IfSome, if◌then◌else◌, string_bytes};
+ghost use Rattle.papi_tools.specs.Answers.{Answers};
+ghost use Rattle.papi_tools.specs.Causes.{IsTextual};
+ghost use Rattle.papi_tools.specs.Encoding.{answer_line, encode_verdict, encoded_said};
+ghost use Rattle.papi_tools.specs.Looking.{Looked};
+ghost use Rattle.papi_tools.specs.Seen.{files_seen};
+
+use crate::unit_file::read_unit_file;
+use crate::{Outcome, Output, Said, Stop};
+use event_tables::Tables;
+use name_encoder::{NameFault, cause_word, code64, encode, write_name};
+use papi_base::{Bytes, Files, Native, Text};
+use std::alloc::{AllocError, Global};
+use tool_words::EncodeWords;
+
+// The line of a name, for which this is the answer.
+fn line_of(
+    alloc: Global,
+    tables: &Tables,
+    name: &Text,
+    answer: Result<Native, NameFault>,
+) -> Result<String, AllocError>
+    ensures { IfOk result (λ line. string_bytes line ≡ answer_line tables.now name.now answer) }
+{
+    match answer {
+        Ok(native) => {
+            let canonical = write_name(alloc, tables, &native)?;
+            let code = code64(&native);
+            format!(in alloc; "{canonical} 0x{code:x}\n")
+        }
+        Err(fault) => {
+            let word = cause_word(fault);
+            format!(in alloc; "{word} {name}\n")
+        }
+    }
+}
+
+// How a call ends of whose names all are names of native events, or not.
+fn outcome_of(all_encode: bool) -> Outcome
+    ensures { result ≡ (if all_encode then Outcome.Whole else Outcome.No) }
+{
+    if all_encode {
+        Outcome::Whole
+    } else {
+        Outcome::No
+    }
+}
+
+// What is said of names.
+#[tactic(auto, unfolding(crate::specs::Encoding::encoded_said))]
+fn said_of(alloc: Global, tables: &Tables, names: &[Text]) -> Result<Said, AllocError>
+    ensures said { IfOk result (λ said. said ≡ encoded_said tables.now names.now) }
+    ensures textual { IfOk result (λ said. IsTextual said.outcome) }
+{
+    let mut all_encode = true;
+    let mut lines = Bytes::new(Vec::new(alloc));
+    for name in names {
+        let answer = encode(tables, name.as_str());
+        if answer.is_err() {
+            all_encode = false;
+        }
+        let line = line_of(alloc, tables, name, answer)?;
+        lines.append(line.as_bytes())?;
+    }
+    Ok(Said {
+        outcome: outcome_of(all_encode),
+        out: Output::text(lines),
+        err: Bytes::new(Vec::new(alloc)),
+    })
+}
+
+/// `papi_encode`: reads the unit, and gives each name's canonical name and code, or why it names no native event.
+#[tactic(auto, unfolding(crate::specs::Encoding::encode_verdict))]
+pub fn encode_names<F: Files>(
+    alloc: Global,
+    files: &mut F,
+    words: &EncodeWords,
+) -> Result<Said, Stop>
+    ensures told { IfSome (F.held files.old) (λ held. Answers result (encode_verdict held words.now)) }
+    ensures textual { IfOk result (λ said. IsTextual said.outcome) }
+    ensures looked { Looked result 0 (files_seen F.held F.misses F.faults F.lent files.old) (files_seen F.held F.misses F.faults F.lent files.new) }
+{
+    let tables = read_unit_file(alloc, files, words.unit.as_str())?;
+    let said = said_of(alloc, &tables, words.names.as_slice())?;
+    Ok(said)
+}

@@ -1,0 +1,83 @@
+//! The run of a script, whoever asks for it: over streams that are open, told to the threads' handlers.
+ghost use Rattle.std.specs.Prelude.{◌≡◌, ◌≤◌, All, Any, IfOk, OnOk, map, vec_len};
+ghost use Rattle.overflow_dispatch.specs.Notes.{EachAdded, EachBegun, EachGrown};
+ghost use Rattle.plan_runner.specs.Marks.{marks_in};
+ghost use Rattle.thread_session.specs.Faults.{IsFault};
+ghost use Rattle.thread_session.specs.SessionView.{IsFresh};
+ghost use Rattle.papi_tools.specs.Running.{Given, IsGiven, note_counts, ran_notes, ran_replies};
+ghost use Rattle.papi_tools.specs.Streams.{SomeFailed, sources_in};
+
+use component_table::{Catalog, NativeCodes};
+use overflow_dispatch::{Handler, counts_of};
+use papi_base::Source;
+use plan_runner::{ReplyLine, RunResult, run_plan};
+use script_lines::Script;
+use script_runner::resolve;
+use session_model::Ended;
+use std::alloc::{AllocError, Global};
+use std::marker::{Send, Sync};
+use std::thread::Threads;
+use stream_reader::StreamReader;
+
+/// What a run gives: the replies in the order of the script, the mark that each thread's runs met, and how many notes each
+/// handler had before.
+#[derive(Drop)]
+pub struct Ran {
+    pub lines: Vec<ReplyLine>,
+    pub marks: [Option<Ended>; 64],
+    pub noted: Vec<u64>,
+}
+
+/// Runs a script: each thread's calls on a session of its own, over the thread's reader, told to the thread's handler, by at
+/// most this many workers, 1 to 64.
+///
+/// The readers and the handlers are back at their places on every outcome. An `Err` says that memory ran out; then each
+/// handler has a prefix of its notes.
+pub fn run_script<R: Threads + Sync, S: Source + Send>(
+    rt: &R,
+    alloc: Global,
+    script: &Script,
+    catalog: &Catalog,
+    readers: &mut Vec<StreamReader<S>>,
+    handlers: &mut Vec<Box<dyn Handler + Send>>,
+    workers: u32,
+) -> Result<Ran, AllocError>
+    requires readers { vec_len readers.old ≡ 64 }
+    requires fresh { All IsFresh readers.old.items }
+    requires handlers { vec_len handlers.old ≡ 64 }
+    requires low { 1 ≤ workers }
+    requires high { workers ≤ 64 }
+    ensures len { vec_len handlers.new ≡ 64 }
+    ensures replies { (given : Given) → IsGiven catalog.now script.now readers.old.items given → IfOk result (λ ran. ran.lines.items ≡ ran_replies given) }
+    ensures marks { IfOk result (λ ran. ran.marks ≡ marks_in ran.lines.items) }
+    ensures noted { IfOk result (λ ran. ran.noted.items ≡ note_counts (map (λ b. notes b) handlers.old.items)) }
+    ensures notes { (given : Given) → IsGiven catalog.now script.now readers.old.items given
+        → OnOk result (EachAdded (map (λ b. notes b) handlers.old.items) (ran_notes given) (map (λ b. notes b) handlers.new.items)) }
+    ensures begun { (given : Given) → IsGiven catalog.now script.now readers.old.items given
+        → EachBegun (map (λ b. notes b) handlers.old.items) (ran_notes given) (map (λ b. notes b) handlers.new.items) }
+
+    // Told or not, the lists of notes have grown, the sources are those of before, and a reply of a fault shows one of a source.
+    ensures grown { EachGrown (map (λ b. notes b) handlers.old.items) (map (λ b. notes b) handlers.new.items) }
+    ensures sources { sources_in readers.new.items ≡ sources_in readers.old.items }
+    ensures faulty { IfOk result (λ ran. Any (λ l. IsFault l.reply) ran.lines.items → SomeFailed readers.new.items) }
+{
+    let noted = counts_of(alloc, handlers)?;
+    let mut codes = NativeCodes::new(alloc);
+    let plan = resolve(alloc, script, catalog, &mut codes)?;
+    let shape = catalog.shape();
+    let RunResult { lines, marks } = run_plan(
+        rt,
+        alloc,
+        plan,
+        catalog.book(),
+        &shape,
+        readers,
+        handlers,
+        workers,
+    )?;
+    Ok(Ran {
+        lines,
+        marks,
+        noted,
+    })
+}

@@ -1,0 +1,35 @@
+//! Scripts by name.
+ghost use Rattle.std.specs.Prelude.{◌≡◌, IfSome};
+ghost use Rattle.std.specs.Option.{option_map};
+ghost use Rattle.papi_base.specs.Outside.{opened};
+ghost use Rattle.papi_tools.specs.Answers.{Answers};
+ghost use Rattle.papi_tools.specs.Looking.{Looked};
+ghost use Rattle.papi_tools.specs.ScriptFile.{script_under};
+ghost use Rattle.papi_tools.specs.Seen.{files_seen};
+
+use crate::limits::SCRIPT_BYTES;
+use crate::opening::whole_file;
+use crate::{Refusal, Stop};
+use papi_base::{Files, Text};
+use script_lines::{Script, ScriptFault, read_script};
+use std::alloc::Global;
+
+/// Reads a script whole, or says why not.
+#[tactic(auto, unfolding(crate::specs::ScriptFile::script_under))]
+pub fn read_script_file<F: Files>(alloc: Global, files: &mut F, name: &str) -> Result<Script, Stop>
+    ensures told { IfSome (F.held files.old) (λ held. Answers result (script_under held name.now)) }
+    ensures held { F.held files.new ≡ option_map opened (F.held files.old) }
+    ensures looked { Looked result 0 (files_seen F.held F.misses F.faults F.lent files.old) (files_seen F.held F.misses F.faults F.lent files.new) }
+{
+    let bytes = whole_file(alloc, files, name, SCRIPT_BYTES)?;
+    let answer = read_script(alloc, bytes.as_slice());
+    match answer {
+        Ok(script) => Ok(script),
+        Err(ScriptFault::Line { line, cause }) => Err(Stop::Refused(Refusal::Line {
+            name: Text::copy_of(alloc, name)?,
+            line,
+            cause,
+        })),
+        Err(ScriptFault::Memory) => Err(Stop::Memory),
+    }
+}
