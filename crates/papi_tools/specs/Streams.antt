@@ -3,6 +3,7 @@ use Rattle.std.specs.Prelude.{◌≡◌, ◌-◌, ◌<◌, ℕ, List, [], ◌++�
 use Rattle.std.specs.List.{Any}
 use Rattle.papi_base.specs.Outside.{Tape, Held}
 use Rattle.papi_base.specs.Streams.{Coming, Dry}
+use Rattle.papi_base.specs.declared.limits.TheConstants.{THREADS}
 use Rattle.stream_reader.specs.Occurs.{occurs_of}
 use Rattle.stream_reader.specs.Reader.{ReaderView, coming, faults_of}
 use Rattle.papi_tools.specs.Opening.{tapes_under}
@@ -18,7 +19,7 @@ empty_stream = record { rest = []; mark = Dry }
 
 -- the streams of all 64 threads: those of the tapes, and empty ones for the other threads
 unfoldable pub streams_of : List Tape → List Coming
-streams_of tapes = map stream_of tapes ++ replicate (64 - length tapes) empty_stream
+streams_of tapes = map stream_of tapes ++ replicate (THREADS - length tapes) empty_stream
 
 -- the streams under these names, whose openings are the next ones
 abbrev pub streams_under : Held → List (List ℕ) → Result (List Coming) Refusal

@@ -72,11 +72,19 @@ pub(crate) fn good<'a>(script: &'a str, stream: &'a str, tail: &'a str) -> Row<'
     }
 }
 
-/// A row of words that are refused, or of a file that is.
-pub(crate) fn bad<'a>(words: &'a str, files: &'a [TestFile<'a>], err: &'a str) -> Row<'a> {
+/// A row of words over the unit and the presets alone.
+pub(crate) fn said<'a>(words: &'a str, status: u8, tail: &'a str) -> Row<'a> {
     Row {
         words,
-        files,
+        status,
+        ..good("", "", tail)
+    }
+}
+
+/// A row of words that are refused.
+pub(crate) fn bad<'a>(words: &'a str, err: &'a str) -> Row<'a> {
+    Row {
+        words,
         status: 2,
         err,
         ..good("", "", "")

@@ -19,7 +19,7 @@ use crate::tables::read_catalog;
 use crate::{Output, Said, Stop};
 use component_table::Catalog;
 use overflow_dispatch::{Handler, Note, notes_since};
-use papi_base::{Files, Source};
+use papi_base::{Files, Source, THREADS};
 use script_lines::Script;
 use std::alloc::{AllocError, Global};
 use std::marker::{Send, Sync};
@@ -83,7 +83,7 @@ fn open_input<F: Files>(
 ) -> Result<RunInput<F::S>, Stop>
     ensures told { IfSome (F.held files.old) (λ held.
         AnswersBy (λ input given. IsOkAnd given (IsGiven input.catalog input.script input.readers.items)) result (given_under held words.now)) }
-    ensures len { IfOk result (λ input. vec_len input.readers ≡ 64) }
+    ensures len { IfOk result (λ input. vec_len input.readers ≡ THREADS) }
     ensures fresh { IfOk result (λ input. All IsFresh input.readers.items) }
     ensures looked { Looked result (out_with (λ input. sources_in input.readers.items) result)
         (files_seen F.held F.misses F.faults F.lent files.old) (files_seen F.held F.misses F.faults F.lent files.new) }
@@ -107,10 +107,10 @@ fn carry_out<R: Threads + Sync, F: Files>(
     input: RunInput<F::S>,
     handlers: &mut Vec<Box<dyn Handler + Send>>,
 ) -> Result<Said, Stop>
-    requires readers { vec_len input.readers ≡ 64 }
+    requires readers { vec_len input.readers ≡ THREADS }
     requires fresh { All IsFresh input.readers.items }
-    requires handlers { vec_len handlers.old ≡ 64 }
-    ensures len { vec_len handlers.new ≡ 64 }
+    requires handlers { vec_len handlers.old ≡ THREADS }
+    ensures len { vec_len handlers.new ≡ THREADS }
     ensures told { (given : Given) → IsGiven input.catalog input.script input.readers.items given
         → AnswersSaid result (Ok (ran_verdict words.now.notes given)) }
     ensures tells { (given : Given) → IsGiven input.catalog input.script input.readers.items given
@@ -154,8 +154,8 @@ pub fn run<R: Threads + Sync, F: Files>(
     words: &RunWords,
     handlers: &mut Vec<Box<dyn Handler + Send>>,
 ) -> Result<Said, Stop>
-    requires handlers { vec_len handlers.old ≡ 64 }
-    ensures len { vec_len handlers.new ≡ 64 }
+    requires handlers { vec_len handlers.old ≡ THREADS }
+    ensures len { vec_len handlers.new ≡ THREADS }
     ensures told { IfSome (F.held files.old) (λ held. AnswersSaid result (run_verdict held words.now)) }
     ensures tells { IfSome (F.held files.old) (λ held. TellsBy result (notes_in (run_verdict held words.now))
         (map (λ b. notes b) handlers.old.items) (map (λ b. notes b) handlers.new.items)) }

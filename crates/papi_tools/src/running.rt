@@ -9,7 +9,7 @@ ghost use Rattle.papi_tools.specs.Streams.{SomeFailed, sources_in};
 
 use component_table::{Catalog, NativeCodes};
 use overflow_dispatch::{Handler, counts_of};
-use papi_base::Source;
+use papi_base::{Source, THREADS};
 use plan_runner::{ReplyLine, RunResult, run_plan};
 use script_lines::Script;
 use script_runner::resolve;
@@ -24,12 +24,12 @@ use stream_reader::StreamReader;
 #[derive(Drop)]
 pub struct Ran {
     pub lines: Vec<ReplyLine>,
-    pub marks: [Option<Ended>; 64],
+    pub marks: [Option<Ended>; THREADS as usize],
     pub noted: Vec<u64>,
 }
 
 /// Runs a script: each thread's calls on a session of its own, over the thread's reader, told to the thread's handler, by at
-/// most this many workers, 1 to 64.
+/// most this many workers.
 ///
 /// The readers and the handlers are back at their places on every outcome. An `Err` says that memory ran out; then each
 /// handler has a prefix of its notes.
@@ -42,12 +42,11 @@ pub fn run_script<R: Threads + Sync, S: Source + Send>(
     handlers: &mut Vec<Box<dyn Handler + Send>>,
     workers: u32,
 ) -> Result<Ran, AllocError>
-    requires readers { vec_len readers.old ≡ 64 }
+    requires readers { vec_len readers.old ≡ THREADS }
     requires fresh { All IsFresh readers.old.items }
-    requires handlers { vec_len handlers.old ≡ 64 }
-    requires low { 1 ≤ workers }
-    requires high { workers ≤ 64 }
-    ensures len { vec_len handlers.new ≡ 64 }
+    requires handlers { vec_len handlers.old ≡ THREADS }
+    requires workers { 1 ≤ workers }
+    ensures len { vec_len handlers.new ≡ THREADS }
     ensures replies { (given : Given) → IsGiven catalog.now script.now readers.old.items given → IfOk result (λ ran. ran.lines.items ≡ ran_replies given) }
     ensures marks { IfOk result (λ ran. ran.marks ≡ marks_in ran.lines.items) }
     ensures noted { IfOk result (λ ran. ran.noted.items ≡ note_counts (map (λ b. notes b) handlers.old.items)) }

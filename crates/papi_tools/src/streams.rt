@@ -43,12 +43,12 @@ fn open_into<F: Files>(
 
 // Readers of empty streams for the threads that have none.
 fn add_empty<S: Source>(readers: &mut Vec<StreamReader<S>>)
-    requires few { vec_len readers.old ≤ 64 }
-    requires room { 64 ≤ vec_capacity readers.old }
+    requires few { vec_len readers.old ≤ THREADS }
+    requires room { THREADS ≤ vec_capacity readers.old }
     requires fresh { All IsFresh readers.old.items }
-    ensures len { vec_len readers.new ≡ 64 }
+    ensures len { vec_len readers.new ≡ THREADS }
     ensures fresh { All IsFresh readers.new.items }
-    ensures coming { map coming readers.new.items ≡ map coming readers.old.items ++ replicate (64 - vec_len readers.old) (Some empty_stream) }
+    ensures coming { map coming readers.new.items ≡ map coming readers.old.items ++ replicate (THREADS - vec_len readers.old) (Some empty_stream) }
     ensures sources { sources_in readers.new.items ≡ sources_in readers.old.items }
 {
     while readers.len() < THREADS as usize {
@@ -63,9 +63,9 @@ pub fn open_readers<F: Files>(
     files: &mut F,
     names: &[Text],
 ) -> Result<Vec<StreamReader<F::S>>, Stop>
-    requires few { length names.now ≤ 64 }
+    requires few { length names.now ≤ THREADS }
     ensures told { IfSome (F.held files.old) (λ held. AnswersBy (λ readers streams. TellExpected readers.items streams) result (streams_under held names.now)) }
-    ensures len { IfOk result (λ readers. vec_len readers ≡ 64) }
+    ensures len { IfOk result (λ readers. vec_len readers ≡ THREADS) }
     ensures fresh { IfOk result (λ readers. All IsFresh readers.items) }
     ensures looked { Looked result (out_with (λ readers. sources_in readers.items) result)
         (files_seen F.held F.misses F.faults F.lent files.old) (files_seen F.held F.misses F.faults F.lent files.new) }

@@ -32,8 +32,8 @@ pub fn run_tool<R: Threads + Sync, F: Files, K: Sink>(
     err: &mut K,
     handlers: &mut Vec<Box<dyn Handler + Send>>,
 ) -> Status
-    requires handlers { vec_len handlers.old ≡ 64 }
-    ensures len { vec_len handlers.new ≡ 64 }
+    requires handlers { vec_len handlers.old ≡ THREADS }
+    ensures len { vec_len handlers.new ≡ THREADS }
     ensures carries_out { CarriesOut (codes "papi_run" ∷ map string_bytes words.now) result
         (files_seen F.held F.misses F.faults F.lent files.old) (files_seen F.held F.misses F.faults F.lent files.new)
         (sink_seen K.taken K.faults out.old) (sink_seen K.taken K.faults out.new) (sink_seen K.taken K.faults err.old) (sink_seen K.taken K.faults err.new) }

@@ -15,7 +15,7 @@ use crate::saying::say;
 use crate::settling::{refused, settled};
 use crate::{Refusal, Said, Status, Stop};
 use overflow_dispatch::Handler;
-use papi_base::{Files, Sink};
+use papi_base::{Files, Sink, THREADS};
 use std::alloc::{AllocError, Global};
 use std::marker::{Send, Sync};
 use std::thread::Threads;
@@ -29,8 +29,8 @@ fn carried_out<R: Threads + Sync, F: Files>(
     command: &Command,
     handlers: &mut Vec<Box<dyn Handler + Send>>,
 ) -> Result<Said, Stop>
-    requires handlers { vec_len handlers.old ≡ 64 }
-    ensures len { vec_len handlers.new ≡ 64 }
+    requires handlers { vec_len handlers.old ≡ THREADS }
+    ensures len { vec_len handlers.new ≡ THREADS }
     ensures told { IfSome (F.held files.old) (λ held. AnswersSaid result (command_verdict held command.now)) }
     ensures tells { IfSome (F.held files.old) (λ held. TellsBy result (notes_in (command_verdict held command.now))
         (map (λ b. notes b) handlers.old.items) (map (λ b. notes b) handlers.new.items)) }
@@ -54,8 +54,8 @@ fn said_of<R: Threads + Sync, F: Files>(
     files: &mut F,
     handlers: &mut Vec<Box<dyn Handler + Send>>,
 ) -> Result<Said, AllocError>
-    requires handlers { vec_len handlers.old ≡ 64 }
-    ensures len { vec_len handlers.new ≡ 64 }
+    requires handlers { vec_len handlers.old ≡ THREADS }
+    ensures len { vec_len handlers.new ≡ THREADS }
     ensures told { IfSome (F.held files.old) (λ held. IfOk result (λ said. said ≡ (verdict (map string_bytes words.now.items) held).said)) }
     ensures tells { IfSome (F.held files.old) (λ held. OnOk result (EachAdded (map (λ b. notes b) handlers.old.items)
         (verdict (map string_bytes words.now.items) held).notes (map (λ b. notes b) handlers.new.items))) }
@@ -89,8 +89,8 @@ pub fn papi_main<R: Threads + Sync, F: Files, K: Sink>(
     err: &mut K,
     handlers: &mut Vec<Box<dyn Handler + Send>>,
 ) -> Status
-    requires handlers { vec_len handlers.old ≡ 64 }
-    ensures len { vec_len handlers.new ≡ 64 }
+    requires handlers { vec_len handlers.old ≡ THREADS }
+    ensures len { vec_len handlers.new ≡ THREADS }
     ensures carries_out { CarriesOut (map string_bytes words.now.items) result
         (files_seen F.held F.misses F.faults F.lent files.old) (files_seen F.held F.misses F.faults F.lent files.new)
         (sink_seen K.taken K.faults out.old) (sink_seen K.taken K.faults out.new) (sink_seen K.taken K.faults err.old) (sink_seen K.taken K.faults err.new) }

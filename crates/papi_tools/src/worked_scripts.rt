@@ -254,14 +254,15 @@ fn presets(rt: HostRuntime) -> Result<(), Fail> {
                 "CPU,other\nPRESET,PAPI_TOT_INS,NOT_DERIVED,lab::CYCLES\n",
             )
         },
-        bad(
-            "papi_run -U lab.unit -P p -C lab1 s t0",
-            &no_cpu,
-            "papi: p: row 1: preset before cpu\n",
-        ),
+        Row {
+            words: "papi_run -U lab.unit -P p -C lab1 s t0",
+            files: &no_cpu,
+            status: 2,
+            err: "papi: p: row 1: preset before cpu\n",
+            ..good("", "", "")
+        },
         bad(
             "papi_run -U lab.unit -P lab.presets s t0",
-            &[],
             "papi: bad words\n",
         ),
     ];

@@ -163,8 +163,8 @@ fn one_job_is_refused_memory(rt: HostRuntime) -> Result<(), Fail> {
         "start 0",
         "run 9",
     ] {
-        for thread in 0..3u32 {
-            script.push_str(&format!(in alloc; "{thread} {line}\n")?)?;
+        for number in 0..3u32 {
+            script.push_str(&format!(in alloc; "{number} {line}\n")?)?;
         }
     }
     let stream = "0 3c 00 u 255 1\n0 3c 00 u 255 2\n0 3c 00 u 255 3\n0 3c 00 u 255 4\n";

@@ -1,5 +1,5 @@
 //! Words of each tool that were worked by hand, and what is refused.
-use crate::lab::{Row, bad, check, files_of, good, words_in};
+use crate::lab::{Row, bad, check, files_of, good, said, words_in};
 use crate::{decode, encode_tool, run_tool, status_number};
 use overflow_dispatch::{Handler, Recorder};
 use papi_base::{Ending, MemSink};
@@ -67,12 +67,16 @@ fn runs(rt: HostRuntime) -> Result<(), Fail> {
         check(&rt, alloc, row)?;
     }
     // The output ends where `out` is full.
-    for room in [0, 5, 21, 100] {
-        let front = String::from_str(alloc, &REPLIES[..room])?;
+    for (room, front) in [
+        (0, ""),
+        (5, "1 0 c"),
+        (21, "1 0 create PAPI_OK 0\n"),
+        (30, "1 0 create PAPI_OK 0\n2 0 add P"),
+    ] {
         let row = Row {
-            room: room as u64,
+            room,
             status: 5,
-            ..good(SCRIPT, STREAM, &front)
+            ..good(SCRIPT, STREAM, front)
         };
         check(&rt, alloc, &row)?;
     }
@@ -82,40 +86,63 @@ fn runs(rt: HostRuntime) -> Result<(), Fail> {
 #[test]
 fn refused_files(rt: HostRuntime) -> Result<(), Fail> {
     let alloc = rt.alloc();
-    let narrow = [("narrow", "COMPONENT,cpu,lab\nCOUNTER,P0,8,P\n", Ending::End)];
-    let call = [("s", "0 start x\n", Ending::End)];
-    let torn = [("torn", "COMPONENT,", Ending::Fault)];
+    let files = [
+        ("narrow", "COMPONENT,cpu,lab\nCOUNTER,P0,8,P\n", Ending::End),
+        ("torn", "COMPONENT,", Ending::Fault),
+        ("call", "0 start x\n", Ending::End),
+    ];
     let rows = [
-        bad("papi_run", &[], "papi: bad words\n"),
-        bad(
-            "papi_run -U narrow s",
-            &narrow,
-            "papi: narrow: row 2: width out of range\n",
-        ),
-        bad(
-            "papi_run -U lab.unit s t0",
-            &call,
-            "papi: s: line 1: bad number\n",
-        ),
-        bad("papi_run -U lab.unit s t9", &[], "papi: no such file: t9\n"),
         Row {
-            status: 3,
-            ..bad("papi_run -U torn s", &torn, "papi: cannot read: torn\n")
+            words: "papi_run",
+            files: &files,
+            status: 2,
+            err: "papi: bad words\n",
+            ..good("", "", "")
         },
         Row {
+            words: "papi_run -U narrow s",
+            files: &files,
+            status: 2,
+            err: "papi: narrow: row 2: width out of range\n",
+            ..good("", "", "")
+        },
+        Row {
+            words: "papi_run -U lab.unit call",
+            files: &files,
+            status: 2,
+            err: "papi: call: line 1: bad number\n",
+            ..good("", "", "")
+        },
+        Row {
+            words: "papi_run -U lab.unit s t9",
+            files: &files,
+            status: 2,
+            err: "papi: no such file: t9\n",
+            ..good("", "", "")
+        },
+        Row {
+            words: "papi_run -U torn s",
+            files: &files,
             status: 3,
+            err: "papi: cannot read: torn\n",
+            ..good("", "", "")
+        },
+        Row {
+            words: "papi_run -U lab.unit s t0",
+            files: &files,
             failing: &[3],
-            ..bad("papi_run -U lab.unit s t0", &[], "papi: cannot read: t0\n")
-        },
-        // An opening that fails after others closes them.
-        Row {
             status: 3,
+            err: "papi: cannot read: t0\n",
+            ..good("", "", "")
+        },
+        // An opening that fails after others.
+        Row {
+            words: "papi_run -U lab.unit s t0 t0",
+            files: &files,
             failing: &[4],
-            ..bad(
-                "papi_run -U lab.unit s t0 t0",
-                &[],
-                "papi: cannot read: t0\n",
-            )
+            status: 3,
+            err: "papi: cannot read: t0\n",
+            ..good("", "", "")
         },
     ];
     for row in &rows {
@@ -128,31 +155,23 @@ fn refused_files(rt: HostRuntime) -> Result<(), Fail> {
 fn names(rt: HostRuntime) -> Result<(), Fail> {
     let alloc = rt.alloc();
     let rows = [
-        Row {
-            words: NAMES,
-            status: 1,
-            ..good("", "", CODES)
-        },
-        Row {
-            words: "papi_encode -U lab.unit CYCLES:e CYCLES:c=2:e CYCLES:e=2",
-            status: 1,
-            ..good(
-                "",
-                "",
-                "lab::CYCLES:e 0x57003c\nlab::CYCLES:e:c=2 0x257003c\nATTR_VAL CYCLES:e=2\n",
-            )
-        },
-        Row {
-            words: "papi_encode MEM:LOADS -U lab.unit",
-            ..good("", "", "lab::MEM:LOADS 0x5301d0\n")
-        },
-        bad("papi_encode -U lab.unit", &[], "papi: bad words\n"),
+        said(NAMES, 1, CODES),
+        said(
+            "papi_encode -U lab.unit CYCLES:e CYCLES:c=2:e CYCLES:e=2",
+            1,
+            "lab::CYCLES:e 0x57003c\nlab::CYCLES:e:c=2 0x257003c\nATTR_VAL CYCLES:e=2\n",
+        ),
+        said(
+            "papi_encode MEM:LOADS -U lab.unit",
+            0,
+            "lab::MEM:LOADS 0x5301d0\n",
+        ),
+        bad("papi_encode -U lab.unit", "papi: bad words\n"),
         bad(
             "papi_encode -U lab.unit --notes CYCLES",
-            &[],
             "papi: bad words\n",
         ),
-        bad("papi_encode CYCLES", &[], "papi: bad words\n"),
+        bad("papi_encode CYCLES", "papi: bad words\n"),
     ];
     for row in &rows {
         check(&rt, alloc, row)?;
