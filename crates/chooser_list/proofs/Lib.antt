@@ -1,0 +1,4 @@
+pub mod Umasks
+pub mod Rows
+pub mod Openings
+pub mod Natives

@@ -1,0 +1,4 @@
+pub mod Candidates
+pub mod Choosing
+pub mod Open
+pub mod Laws

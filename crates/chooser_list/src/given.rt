@@ -1,0 +1,53 @@
+//! The set of given events.
+
+ghost use Rattle.std.specs.Prelude.{◌≡◌, IfErr, IfOk, Ok, OnOk};
+ghost use Rattle.chooser_list.specs.Choosing as Choosing;
+ghost use Rattle.chooser_list.specs.Open.{IsOver};
+ghost use Rattle.component_table.specs.Catalogs.{shape_of};
+
+use component_table::Catalog;
+use event_sets::{EventSet, Refusal};
+use papi_base::{Shape, Text};
+
+/// A text that was refused, and how.
+#[derive(Drop)]
+pub struct Refused<'a> {
+    pub text: &'a str,
+    pub refusal: Refusal,
+}
+
+// Adds the event that a text names to a set.
+fn add_named(
+    catalog: &Catalog,
+    shape: &Shape,
+    set: &mut EventSet,
+    text: &str,
+) -> Result<(), Refusal>
+    requires shape { shape.now ≡ shape_of catalog.now.tables }
+    requires over { IsOver catalog.now set.old }
+    ensures added { OnOk result (Choosing.with_text catalog.now (Ok set.old.rest) text.now ≡ Ok set.new.rest) }
+    ensures over { OnOk result (IsOver catalog.now set.new) }
+    ensures refused { IfErr result (λ r. Choosing.with_text catalog.now (Ok set.old.rest) text.now ≡ Choosing.refused_by text.now r) }
+{
+    match catalog.lookup(text) {
+        Ok(event) => set.add(catalog.book(), shape, &event),
+        Err(code) => Err(Refusal::Plain(code)),
+    }
+}
+
+/// A new set with the events that some texts name, or the first text that is refused.
+pub fn given_set<'a>(catalog: &Catalog, texts: &'a [Text]) -> Result<EventSet, Refused<'a>>
+    ensures given { IfOk result (λ set. Choosing.given_set catalog.now texts.now ≡ Ok set.rest) }
+    ensures over { IfOk result (IsOver catalog.now) }
+    ensures refused { IfErr result (λ r. Choosing.given_set catalog.now texts.now ≡ Choosing.refused_by r.text.now r.refusal) }
+{
+    let shape = catalog.shape();
+    let mut set = EventSet::new();
+    for text in texts {
+        let text = text.as_str();
+        if let Err(refusal) = add_named(catalog, &shape, &mut set, text) {
+            return Err(Refused { text, refusal });
+        }
+    }
+    Ok(set)
+}
