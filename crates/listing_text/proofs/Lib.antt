@@ -1,0 +1,4 @@
+pub mod Containing
+pub mod Listed
+pub mod ListedEvents
+pub mod Tables

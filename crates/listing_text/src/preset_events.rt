@@ -1,0 +1,99 @@
+//! One preset event.
+
+ghost use Rattle.std.specs.Prelude.{◌≡◌, ◌<◌, ◌++◌, IfOk, OnOk, is_some, string_bytes};
+ghost use Rattle.std.specs.Option.{option_copied};
+ghost use Rattle.listing_text.specs.PresetEvents as PresetEvents;
+ghost use Rattle.preset_table.specs.Table.{row_of};
+
+use crate::lines::push_name_and_code;
+use crate::named_event::NamedEvent;
+use component_table::Catalog;
+use event_tables::Tables;
+use name_encoder::write_name;
+use papi_base::Natives;
+use postfix_rules::{Derived, Rule, write_formula};
+use preset_csv::{Kind, kind_text};
+use preset_table::{preset_code, preset_row, preset_symbol};
+use std::alloc::{AllocError, Global};
+use std::fmt::Write;
+
+// The kind of the presets that have a rule.
+fn kind_of(rule: &Rule) -> Kind
+    ensures { result ≡ PresetEvents.kind_of rule.now }
+{
+    match rule {
+        Rule::Plain => Kind::NotDerived,
+        Rule::Sum => Kind::Add,
+        Rule::Sub => Kind::Sub,
+        Rule::Postfix(_) => Kind::Postfix,
+    }
+}
+
+// Appends the line of a formula, where the rule has one.
+fn push_formula(text: &mut String, rule: &Rule) -> Result<(), AllocError>
+    ensures { OnOk result (string_bytes text.new ≡ string_bytes text.old ++ PresetEvents.formula_line rule.now) }
+{
+    match rule {
+        Rule::Plain | Rule::Sum | Rule::Sub => Ok(()),
+        Rule::Postfix(formula) => {
+            let formula = write_formula(*text.allocator(), formula)?;
+            writeln!(text, "Formula: {formula}")
+        }
+    }
+}
+
+fn push_natives(text: &mut String, tables: &Tables, natives: &Natives) -> Result<(), AllocError>
+    ensures { OnOk result (string_bytes text.new ≡ string_bytes text.old ++ PresetEvents.native_lines tables.now natives.now) }
+{
+    for place in 0..natives.len() {
+        let name = write_name(*text.allocator(), tables, &natives.at(place))?;
+        writeln!(text, "Native {place}: {name}")?;
+    }
+    Ok(())
+}
+
+// Appends what an available preset derives.
+fn push_derived(text: &mut String, tables: &Tables, derived: &Derived) -> Result<(), AllocError>
+    ensures { OnOk result (string_bytes text.new ≡ string_bytes text.old ++ PresetEvents.derived_lines tables.now derived.now) }
+{
+    let derived_type = kind_text(kind_of(derived.rule()));
+    writeln!(text, "Available: Yes\nDerived: {derived_type}")?;
+    push_formula(text, derived.rule())?;
+    push_natives(text, tables, derived.natives())?;
+    Ok(())
+}
+
+// The text of the event in a row of the preset table.
+fn row_text(alloc: Global, catalog: &Catalog, row: u32) -> Result<String, AllocError>
+    requires { row < 26 }
+    ensures { IfOk result (λ text. string_bytes text ≡ PresetEvents.row_lines catalog.now row) }
+{
+    let mut text = String::new(alloc);
+    push_name_and_code(&mut text, preset_symbol(row), u64::from(preset_code(row)))?;
+    match catalog.book().get(row) {
+        Some(derived) => push_derived(&mut text, catalog.tables(), derived)?,
+        None => text.push_str("Available: No\n")?,
+    }
+    Ok(text)
+}
+
+/// What papi_avail(1) prints of the preset event of a symbol: its name, its code, whether it is available, and then its type,
+/// its formula where it has one, and its native events by their canonical names.
+///
+/// A symbol is compared exactly. Of a name that is no symbol of the preset table it says that there is no such event.
+#[tactic(auto, unfolding(crate::specs::PresetEvents::preset_event))]
+pub fn avail_event(alloc: Global, catalog: &Catalog, name: &str) -> Result<NamedEvent, AllocError>
+    ensures text { IfOk result (λ event. string_bytes event.text ≡ PresetEvents.preset_event catalog.now name.now) }
+    ensures known { IfOk result (λ event. event.known ≡ is_some (row_of name.now)) }
+{
+    match preset_row(name) {
+        Some(row) => Ok(NamedEvent {
+            text: row_text(alloc, catalog, row)?,
+            known: true,
+        }),
+        None => Ok(NamedEvent {
+            text: format!(in alloc; "No such event: {name}\n")?,
+            known: false,
+        }),
+    }
+}
