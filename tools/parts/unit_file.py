@@ -1,0 +1,72 @@
+"""A unit file: its rows, its limits and its text (docs/FORMATS.md, The unit file)."""
+
+from __future__ import annotations
+
+import re
+from dataclasses import dataclass
+
+MOST_COUNTERS = 32
+MOST_EVENTS = 1024
+MOST_UMASKS = 16
+MOST_BYTES = 1_048_576
+LONGEST_DESCRIPTION = 200
+MODIFIER_NAMES = ("u", "k", "e", "i", "c")
+NAME = re.compile(r"[A-Za-z0-9_-]{1,64}")
+
+
+@dataclass(frozen=True)
+class Umask:
+    name: str
+    bits: int
+    is_default: bool
+    stands_alone: bool
+    description: str
+
+    def row(self) -> str:
+        flags = ("d" if self.is_default else "") + ("n" if self.stands_alone else "")
+        return f"UMASK,{self.name},{self.bits:02x},{flags or '-'},{plain(self.description)}"
+
+
+@dataclass(frozen=True)
+class Event:
+    name: str
+    select: int
+    counters: tuple[str, ...]
+    description: str
+    umasks: tuple[Umask, ...]
+
+    def rows(self) -> list[str]:
+        own = f"EVENT,{self.name},{self.select:02x},{' '.join(self.counters)},{plain(self.description)}"
+        return [own] + [umask.row() for umask in self.umasks]
+
+
+@dataclass(frozen=True)
+class Unit:
+    """A unit of one component."""
+
+    component: str
+    pmu: str
+    width: int
+    programmable: int
+    fixed: int
+    events: tuple[Event, ...]
+
+    def rows(self) -> list[str]:
+        rows = [f"COMPONENT,{self.component},{self.pmu}"]
+        rows += [f"COUNTER,P{number},{self.width},P" for number in range(self.programmable)]
+        rows += [f"COUNTER,F{number},{self.width},F" for number in range(self.fixed)]
+        return rows + [row for event in self.events for row in event.rows()]
+
+
+def plain(description: str) -> str:
+    """A description as a field can have it: one line of printable ASCII without commas, at most 200 characters."""
+    words = " ".join(description.replace(",", ";").split())
+    return "".join(letter if " " <= letter <= "~" else "?" for letter in words)[:LONGEST_DESCRIPTION].rstrip()
+
+
+def is_name(text: str) -> bool:
+    return NAME.fullmatch(text) is not None
+
+
+def is_umask_name(text: str) -> bool:
+    return is_name(text) and text.lower() not in MODIFIER_NAMES
