@@ -1,129 +1,173 @@
-/* The same job by hand: reads a stream of version 1, checks every field of every line, counts three events in user mode,
- * and prints their totals. Ends with 2 at the first bad line, which it names. */
-#include <stdint.h>
-#include <stdio.h>
-#include <string.h>
-#include <unistd.h>
+/* The work of papi_run by hand, for each row of bench/run: count KIND STREAM
+ * Prints what the replies of `run`, `read` and `stop` have after PAPI_OK, a line each. */
+#include "read_stream.h"
 #include <fcntl.h>
+#include <stdlib.h>
 
-enum { PIECE = 4096, LONGEST = 128 };
+static struct stream stream;
+static uint64_t totals[32];
 
-struct occurrence {
-    unsigned comp, select, umask, amount;
-    int kernel;
+static void print_run(uint64_t consumed, uint64_t notes) {
+    printf("%llu %llu\n", (unsigned long long)consumed, (unsigned long long)notes);
+}
+
+static void print_totals(int n) {
+    for (int i = 0; i < n; i++) printf("%llu%c", (unsigned long long)totals[i], i + 1 < n ? ' ' : '\n');
+}
+
+/* No set runs. */
+
+static void count_nothing(const struct occurrence *o) {
+    (void)o;
+}
+
+/* INST_RETIRED, CYCLES and BR_INST:ALL of component 0, in user mode. */
+
+INLINE int event_of(const struct occurrence *o) {
+    if (o->comp != 0 || o->kernel) return -1;
+    if (o->select == 0xc0) return 0;
+    if (o->select == 0x3c) return 1;
+    return o->select == 0xc4 && (o->umask & 1) ? 2 : -1;
+}
+
+static void count_three(const struct occurrence *o) {
+    int event = event_of(o);
+    if (event >= 0) totals[event] += o->amount;
+}
+
+/* BR_INST:ALL in both modes: a tenth of the lines. */
+
+static void count_branches(const struct occurrence *o) {
+    if (o->comp == 0 && o->select == 0xc4 && (o->umask & 1)) totals[0] += o->amount;
+}
+
+/* The three events, each with a threshold, and a list of the notes. */
+
+enum { THRESHOLD = 1000 };
+
+struct note {
+    uint32_t thread, set, index;
     uint64_t pc;
 };
 
-static uint64_t totals[3];
+static struct note *notes;
+static size_t noted, room_for_notes;
+static int left[3] = {THRESHOLD, THRESHOLD, THRESHOLD};
 
-static int hex(unsigned char c) {
-    if (c >= '0' && c <= '9') return c - '0';
-    c |= 0x20;
-    return c >= 'a' && c <= 'f' ? c - 'a' + 10 : -1;
-}
-
-/* A decimal number of at most three digits without leading zeros, and a space behind it; -1 where there is none. */
-static int decimal(const unsigned char **at, const unsigned char *end) {
-    const unsigned char *p = *at;
-    int n = 0, digits = 0;
-    while (p < end && *p >= '0' && *p <= '9' && digits < 4) {
-        n = n * 10 + (*p - '0');
-        p++;
-        digits++;
+static void note(int event, uint64_t pc) {
+    if (noted == room_for_notes) {
+        room_for_notes = room_for_notes ? 2 * room_for_notes : 16;
+        notes = realloc(notes, room_for_notes * sizeof *notes);
+        if (notes == NULL) exit(4);
     }
-    if (digits == 0 || digits > 3 || (digits > 1 && **at == '0') || p == end || *p != ' ') return -1;
-    *at = p + 1;
-    return n;
+    notes[noted++] = (struct note){0, 0, (uint32_t)event, pc};
 }
 
-static int byte(const unsigned char **at, const unsigned char *end) {
-    const unsigned char *p = *at;
-    if (end - p < 3 || p[2] != ' ') return -1;
-    int high = hex(p[0]), low = hex(p[1]);
-    if (high < 0 || low < 0) return -1;
-    *at = p + 3;
-    return high * 16 + low;
-}
-
-static int parse(const unsigned char *p, const unsigned char *end, struct occurrence *o) {
-    int comp = decimal(&p, end);
-    if (comp < 0 || comp > 15) return 0;
-    int select = byte(&p, end);
-    if (select < 0) return 0;
-    int umask = byte(&p, end);
-    if (umask < 0) return 0;
-    if (end - p < 2 || (p[0] != 'u' && p[0] != 'k') || p[1] != ' ') return 0;
-    o->kernel = p[0] == 'k';
-    p += 2;
-    int amount = decimal(&p, end);
-    if (amount < 1 || amount > 255) return 0;
-    if (p == end || end - p > 16) return 0;
-    uint64_t pc = 0;
-    for (; p < end; p++) {
-        int digit = hex(*p);
-        if (digit < 0) return 0;
-        pc = pc * 16 + (unsigned)digit;
+static void count_thresholds(const struct occurrence *o) {
+    int event = event_of(o);
+    if (event < 0) return;
+    totals[event] += o->amount;
+    left[event] -= (int)o->amount;
+    if (left[event] <= 0) {
+        /* (an amount is below the threshold) */
+        left[event] += THRESHOLD;
+        note(event, o->pc);
     }
-    o->comp = (unsigned)comp;
-    o->select = (unsigned)select;
-    o->umask = (unsigned)umask;
-    o->amount = (unsigned)amount;
-    o->pc = pc;
-    return 1;
 }
 
-static void count(const struct occurrence *o) {
-    if (o->comp != 0 || o->kernel) return;
-    if (o->select == 0xc0) totals[0] += o->amount;
-    if (o->select == 0x3c) totals[1] += o->amount;
-    if (o->select == 0xc4 && (o->umask & 1)) totals[2] += o->amount;
+/* 32 events of one select code: 16 umasks, each in user and in kernel mode. */
+
+static uint8_t umasks[32];
+static uint32_t wanted_mode[2][32];
+
+static void prepare_alike(void) {
+    for (int i = 0; i < 32; i++) {
+        umasks[i] = (uint8_t)(i / 2 % 3 + 1);
+        wanted_mode[i % 2][i] = ~0u;
+    }
 }
 
-static int line(const unsigned char *p, const unsigned char *end, unsigned long number) {
-    struct occurrence o;
-    if (end - p > LONGEST) {
-        fprintf(stderr, "line %lu: line too long\n", number);
-        return 0;
+static void count_alike(const struct occurrence *o) {
+    if (o->comp != 0 || o->select != 0xc0) return;
+    const uint32_t *wanted = wanted_mode[o->kernel];
+    for (int i = 0; i < 32; i++) totals[i] += umasks[i] & o->umask ? wanted[i] & o->amount : 0;
+}
+
+/* The third of these umasks in user mode. */
+
+static void count_one(const struct occurrence *o) {
+    if (o->comp == 0 && o->select == 0xc0 && (o->umask & 3) && !o->kernel) totals[0] += o->amount;
+}
+
+/* Six events in two groups, which take turns of 1,000 ticks. In version 1 each occurrence is a tick. */
+
+enum { SLICE = 1000 };
+
+static int group, left_of_turn = SLICE;
+static uint64_t active[2];
+
+static void count_turns(const struct occurrence *o) {
+    if (o->comp == 0 && group == 0) {
+        int event = event_of(o);
+        if (event >= 0) totals[event] += o->amount;
+    } else if (o->comp == 0) {
+        if (o->select == 0xc5 && !o->kernel) totals[3] += o->amount;
+        if (o->select == 0x2e && !o->kernel) totals[4] += o->amount;
+        if (o->select == 0xc0 && o->kernel) totals[5] += o->amount;
     }
-    if (end > p && end[-1] == '\r') end--;
-    if (p == end || *p == '#') return 1;
-    if (!parse(p, end, &o)) {
-        fprintf(stderr, "line %lu: bad field\n", number);
-        return 0;
+    active[group]++;
+    if (--left_of_turn == 0) {
+        left_of_turn = SLICE;
+        group = 1 - group;
     }
-    count(&o);
-    return 1;
+}
+
+static void estimate(void) {
+    for (int i = 0; i < 6; i++) {
+        uint64_t own = active[i / 3];
+        totals[i] = own ? totals[i] * (active[0] + active[1]) / own : 0;
+    }
+}
+
+/* One event of each of 16 components. */
+
+static void count_components(const struct occurrence *o) {
+    if (o->select == 0xc0 && !o->kernel) totals[o->comp] += o->amount;
+}
+
+/* The three events, read after each 32 occurrences. */
+
+enum { EACH = 32 };
+
+static void count_runs(const struct occurrence *o) {
+    count_three(o);
+    if (stream.consumed % EACH == 0) {
+        print_run(EACH, 0);
+        print_totals(3);
+    }
 }
 
 int main(int argc, char **argv) {
-    static unsigned char buffer[LONGEST + PIECE + 1];
-    size_t held = 0;
-    unsigned long number = 0;
-    int file = argc > 1 ? open(argv[1], O_RDONLY) : 0;
+    const char *kind = argc == 3 ? argv[1] : "";
+    int file = argc == 3 ? open(argv[2], O_RDONLY) : -1, status = 2, values = 0;
     if (file < 0) {
-        perror(argv[1]);
-        return 3;
+        fprintf(stderr, "usage: count KIND STREAM\n");
+        return 2;
     }
-    for (;;) {
-        ssize_t got = read(file, buffer + held, PIECE);
-        if (got < 0) {
-            perror("read");
-            return 3;
-        }
-        if (got == 0) break;
-        unsigned char *from = buffer, *end = buffer + held + got, *newline;
-        while ((newline = memchr(from, '\n', (size_t)(end - from))) != NULL) {
-            if (!line(from, newline, ++number)) return 2;
-            from = newline + 1;
-        }
-        held = (size_t)(end - from);
-        if (held > LONGEST) {
-            fprintf(stderr, "line %lu: line too long\n", number + 1);
-            return 2;
-        }
-        memmove(buffer, from, held);
-    }
-    if (held > 0 && !line(buffer, buffer + held, ++number)) return 2;
-    printf("%llu %llu %llu\n", (unsigned long long)totals[0], (unsigned long long)totals[1], (unsigned long long)totals[2]);
-    return 0;
+#define IS(name) (strcmp(kind, name) == 0)
+    if (IS("nothing")) status = read_stream(file, &stream, count_nothing);
+    if (IS("three")) status = read_stream(file, &stream, count_three), values = 3;
+    if (IS("branches")) status = read_stream(file, &stream, count_branches), values = 1;
+    if (IS("thresholds")) status = read_stream(file, &stream, count_thresholds), values = 3;
+    if (IS("alike")) prepare_alike(), status = read_stream(file, &stream, count_alike), values = 32;
+    if (IS("one")) status = read_stream(file, &stream, count_one), values = 1;
+    if (IS("turns")) status = read_stream(file, &stream, count_turns), values = 6, estimate();
+    if (IS("components")) status = read_stream(file, &stream, count_components), values = 16;
+    if (IS("runs")) status = read_stream(file, &stream, count_runs), values = 3;
+    if (status != 0) return status;
+    if (!IS("runs")) print_run(stream.consumed, noted);
+    if (IS("components"))
+        for (int i = 0; i < values; i++) printf("%llu\n", (unsigned long long)totals[i]);
+    else print_totals(values);
+    return fflush(stdout) == 0 ? 0 : 5;
 }
