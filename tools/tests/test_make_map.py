@@ -1,0 +1,75 @@
+"""tools/make_map: widths, names, and the functions of a real program."""
+
+from __future__ import annotations
+
+import subprocess
+import unittest
+
+from parts.map_file import MOST_BUCKETS, MOST_RANGES, ranges_of, map_names
+from parts.symbols import Function
+from tests.support import TOOLS, InFolder, needs_command, run_tool
+
+
+def rows(functions: list[Function], base: int = 0) -> list[str]:
+    return [each.row() for each in ranges_of(functions, base)]
+
+
+class Ranges(unittest.TestCase):
+    def test_a_bucket_for_each_address_where_they_fit(self) -> None:
+        functions = [Function("init", 0x10, 5), Function("loop", 0x20, 16)]
+        self.assertEqual(rows(functions, 0x400000), ["RANGE,init,0x400010,1,5", "RANGE,loop,0x400020,1,16"])
+
+    def test_wider_buckets_where_there_are_too_many(self) -> None:
+        functions = [Function("a", 0, 50_000), Function("b", 50_001, 40_000)]
+        self.assertEqual(rows(functions), ["RANGE,a,0x0,2,25000", "RANGE,b,0xc351,2,20000"])
+
+    def test_no_bucket_reaches_into_the_next_function(self) -> None:
+        functions = [Function("a", 0, 33), Function("b", 33, 100_000), Function("c", 200_000, 30)]
+        self.assertEqual(rows(functions), ["RANGE,a,0x0,1,33", "RANGE,b,0x21,2,50000", "RANGE,c,0x30d40,2,15"])
+        self.assertEqual(rows([Function("a", 0, 10), Function("b", 4, 6)]), ["RANGE,a,0x0,1,4", "RANGE,b,0x4,1,6"])
+
+    def test_limits(self) -> None:
+        many = [Function(f"f{number}", number * 4096, 2 if number % 2 else 4000) for number in range(3000)]
+        ranges = ranges_of(many, 0)
+        self.assertEqual(len(ranges), MOST_RANGES)
+        self.assertTrue(all(each.width * each.buckets >= 4000 for each in ranges))
+        self.assertLessEqual(sum(each.buckets for each in ranges), MOST_BUCKETS)
+        huge = ranges_of([Function("huge", 0, 1 << 40)], 0)
+        self.assertEqual([each.row() for each in huge], ["RANGE,huge,0x0,1048576,65536"])
+
+    def test_names(self) -> None:
+        long = "x" * 70
+        self.assertEqual(map_names(["f.part.0", "f_part_0", "g@@V1", long, long]), ["f_part_0", "f_part_0_2", "g__V1", "x" * 64, "x" * 62 + "_2"])
+
+
+@needs_command("nm", "binutils")
+@needs_command("cc", "a C compiler")
+class RealProgram(InFolder):
+    def test_functions(self) -> None:
+        program = str(self.folder / "sample")
+        words = ["cc", "-O1", "-static", "-nostdlib", "-fno-stack-protector", "-fno-pie", "-no-pie", "-o", program]
+        subprocess.run([*words, str(TOOLS / "tests/sample.c")], check=True)
+        done = run_tool("make_map", "--base", "0x1000", program)
+        self.assertEqual((done.returncode, done.stderr), (0, ""))
+        ranges = [row.split(",") for row in done.stdout.splitlines()]
+        self.assertEqual(sorted(row[1] for row in ranges), ["_start", "fill", "look"])
+        listed = subprocess.run(["nm", program], capture_output=True, text=True, check=True).stdout
+        look = next(line for line in listed.splitlines() if line.endswith(" look"))
+        self.assertEqual(next(int(row[2], 16) for row in ranges if row[1] == "look"), int(look.split()[0], 16) + 0x1000)
+        subprocess.run(["strip", program], check=True)
+        done = run_tool("make_map", program)
+        self.assertEqual((done.returncode, done.stdout), (1, ""))
+        self.assertIn("has no functions among its symbols", done.stderr)
+
+    def test_refusals(self) -> None:
+        for program, cause in ((str(self.folder / "absent"), "No such file"), (self.write("text", "words"), "file format not recognized")):
+            done = run_tool("make_map", program)
+            self.assertEqual((done.returncode, done.stdout), (1, ""))
+            self.assertIn(cause, done.stderr)
+
+
+class Words(unittest.TestCase):
+    def test_bad_words(self) -> None:
+        for words in ((), ("--base", "x", "p"), ("--base", "-1", "p"), ("a", "b")):
+            self.assertEqual(run_tool("make_map", *words).returncode, 2, words)
+        self.assertEqual(run_tool("make_map", "--help").returncode, 0)
