@@ -51,7 +51,8 @@ class Account:
             lines.append(f"left out: {counted(self.combinations, 'pair')} of umasks that libpfm4 combines")
         lines += [f"left out: modifier {name} of {counted(count, 'event')}" for name, count in sorted(self.modifiers.items())]
         if self.lacking_modifiers:
-            lines.append(f"taken all the same: {' '.join(SAYABLE_MODIFIERS)} of {counted(self.lacking_modifiers, 'event')} that lack one of them in libpfm4")
+            lacking = counted(self.lacking_modifiers, "event")
+            lines.append(f"taken all the same: {' '.join(SAYABLE_MODIFIERS)} of {lacking} that lack one of them in libpfm4")
         if with_files:
             lines.append(f"counters: {self.counters_known:,} of {self.codes:,} codes are in the event files")
         return lines

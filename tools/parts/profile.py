@@ -1,0 +1,72 @@
+"""A profile as papi_profil prints it: `range NAME HITS` and its buckets `0xADDRESS HITS`, then `outside K` and `total N`."""
+
+from __future__ import annotations
+
+from dataclasses import dataclass, field
+from typing import Iterable
+
+from parts.command import Fault
+
+
+@dataclass(frozen=True)
+class Bucket:
+    address: int
+    hits: int
+
+
+@dataclass
+class FunctionHits:
+    name: str
+    hits: int
+    buckets: list[Bucket] = field(default_factory=list)
+
+    def hottest(self) -> Bucket | None:
+        """The bucket with the most hits, and of these the lowest."""
+        return max(self.buckets, key=lambda bucket: (bucket.hits, -bucket.address), default=None)
+
+
+@dataclass
+class Profile:
+    functions: list[FunctionHits] = field(default_factory=list)
+    outside: int = 0
+    total: int = 0
+
+
+def read_profile(lines: Iterable[str]) -> Profile:
+    profile = Profile()
+    ended = ""  # the word of the last line that is no range's
+    for number, line in enumerate(lines, start=1):
+        try:
+            ended = _take(profile, line.split(), ended)
+        except ValueError:
+            raise Fault(f"standard input: line {number}: not a line of papi_profil's output") from None
+    if ended != "total":
+        raise Fault("standard input: the profile does not end with a line `total`")
+    _check_sums(profile)
+    return profile
+
+
+def _take(profile: Profile, words: list[str], ended: str) -> str:
+    """Takes one line. `outside` stands after all ranges, and `total` after it."""
+    match words:
+        case ["range", name, hits] if not ended:
+            profile.functions.append(FunctionHits(name, int(hits)))
+        case ["outside", hits] if not ended:
+            profile.outside = int(hits)
+            return "outside"
+        case ["total", hits] if ended == "outside":
+            profile.total = int(hits)
+            return "total"
+        case [address, hits] if profile.functions and not ended:
+            profile.functions[-1].buckets.append(Bucket(int(address, 16), int(hits)))
+        case _:
+            raise ValueError
+    return ended
+
+
+def _check_sums(profile: Profile) -> None:
+    for function in profile.functions:
+        if sum(bucket.hits for bucket in function.buckets) != function.hits:
+            raise Fault(f"standard input: the buckets of {function.name} do not add up to {function.hits:,}")
+    if sum(function.hits for function in profile.functions) + profile.outside != profile.total:
+        raise Fault(f"standard input: the ranges and what is outside do not add up to {profile.total:,}")
