@@ -8,6 +8,7 @@ pub mod Refusals
 pub mod Written
 mod Divided
 mod Stacks
+mod TreeValues
 mod Sums
 mod Digits
 mod Pieces

@@ -45,3 +45,8 @@ made-pile (y ∷ x ∷ pile) (token.Operator o ∷ rest) out e =
 pub one-made : (tokens : List Token) (t : Tree) → pile_from [] tokens ≡ Some (t ∷ []) → tokens ≡ spelling t
 unfolding pile_text
 one-made tokens t e = made-pile [] tokens (t ∷ []) e
+
+-- and a tree's tokens make that tree alone
+pub tree-made : (t : Tree) → pile_from [] (spelling t) ≡ Some (t ∷ [])
+unfolding pile_text
+tree-made t = pile-made (t ∷ [])

@@ -1,5 +1,5 @@
 -- Laws of equal events, of the natives of a list of events, and of formulas.
-use Rattle.std.specs.Prelude.{ℕ, ◌≡◌, ◌↔◌, true, List, [], ◌∷◌, ◌++◌, length, take, slice_get, Some}
+use Rattle.std.specs.Prelude.{ℕ, ℤ, ◌≡◌, ◌↔◌, true, List, [], ◌∷◌, ◌++◌, length, take, slice_get, Some}
 use Rattle.papi_base.specs.declared.native.Native.{Native}
 use Rattle.papi_base.specs.declared.native.EventRef.{EventRef}
 use Rattle.postfix_rules.specs.declared.token.Token.{Token}
@@ -7,6 +7,7 @@ use Rattle.postfix_rules.specs.Faults.{IsFormula}
 use Rattle.postfix_rules.specs.Sameness.{among, joined_by, same_event, same_native}
 use Rattle.postfix_rules.specs.Presets.{Book, natives_of, natives_of_event}
 use Rattle.postfix_rules.specs.Trees.{Tree, spelling}
+use Rattle.postfix_rules.specs.Values.{IsTreeValue, formula_value}
 
 abbrev pub SameNatives : Type 0
 SameNatives = (m n : Native) → (same_native m n ≡ true) ↔ (m ≡ n)
@@ -33,3 +34,7 @@ NoneTwice = (book : Book) (es : List EventRef) (i j : ℕ) (n : Native) → slic
 -- the tokens of a formula are those of one tree
 abbrev pub FormulasSpell : Type 0
 FormulasSpell = (natives : ℕ) (tokens : List Token) → IsFormula natives tokens → (tree : Tree) × (tokens ≡ spelling tree)
+
+-- what tokens are worth is the value of every tree that they spell
+abbrev pub TreesValued : Type 0
+TreesValued = (counts : List ℤ) (tokens : List Token) → IsTreeValue counts tokens (formula_value counts tokens)

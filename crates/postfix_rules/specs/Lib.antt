@@ -5,6 +5,8 @@ pub mod Stack
 pub mod Rules
 pub mod Sameness
 pub mod Presets
+pub mod Fitting
+pub mod NativeCodes
 pub mod Tokens
 pub mod Judged
 pub mod Reading

@@ -1,6 +1,7 @@
 -- The values that rules give of counts, and what derived events keep: papi_events.csv.
 use Rattle.std.specs.Prelude.{ℕ, ◌≡◌, ◌<◌, ◌≤◌, ℤ, pos, ◌-ℤ◌, List, [], ◌∷◌, length, slice_index_or, All, ⊤}
 use Rattle.papi_base.specs.declared.native.Native.{Native}
+use Rattle.postfix_rules.specs.declared.derived.TheConstants.{MOST_NATIVES}
 use Rattle.postfix_rules.specs.declared.rule.Rule.{Rule}
 use Rattle.postfix_rules.specs.declared.rule.Rule.TheVariants as rule
 use Rattle.postfix_rules.specs.Values.{formula_value, signed_sum, wrapped}
@@ -40,10 +41,10 @@ pub record DerivedView : Type 0 where
   pub natives : List Native
   pub rule : Rule
 
--- from 1 to 8 natives of one component, of which a plain rule has one, and a formula so many as it is over
+-- from 1 to MOST_NATIVES natives of one component, of which a plain rule has one, and a formula so many as it is over
 pub record IsDerived (d : DerivedView) : Type 0 where
   pub some : 0 < length d.natives
-  pub few : length d.natives ≤ 8
+  pub few : length d.natives ≤ MOST_NATIVES
   pub one_component : (comp : ℕ) × All (λ n. n.comp ≡ comp) d.natives
   pub plain : d.rule ≡ rule.Plain → length d.natives ≡ 1
   pub fits : Counts d.rule (length d.natives)

@@ -1,10 +1,10 @@
 -- The values of formulas, in signed numbers of 64 bits that wrap: papi_events.csv, in whole numbers.
-use Rattle.std.specs.Prelude.{◌==◌, List, [], ◌∷◌, slice_index_or, ℤ, pos, ◌+ℤ◌, ◌-ℤ◌, ◌*ℤ◌, int_div, unsigned_abs, if◌then◌else◌, Option, Some, None}
+use Rattle.std.specs.Prelude.{◌≡◌, ◌==◌, List, [], ◌∷◌, slice_index_or, ℤ, pos, ◌+ℤ◌, ◌-ℤ◌, ◌*ℤ◌, int_div, unsigned_abs, if◌then◌else◌, Option, Some, None}
 use Rattle.std.specs.Int.{int_wrap, w64}
 use Rattle.postfix_rules.specs.declared.token.Operator.{Operator}
 use Rattle.postfix_rules.specs.declared.token.Operator.TheVariants as op
 use Rattle.postfix_rules.specs.declared.token.Token.{Token}
-use Rattle.postfix_rules.specs.Trees.{Tree, Constant, Count, Node, pile_from}
+use Rattle.postfix_rules.specs.Trees.{Tree, Constant, Count, Node, pile_from, spelling}
 
 -- the signed number of 64 bits that is congruent to z
 abbrev pub wrapped : ℤ → ℤ
@@ -35,6 +35,10 @@ top_value counts (Some (tree ∷ below)) = tree_value counts tree
 -- the value of the tree that the tokens spell
 abbrev pub formula_value : List ℤ → List Token → ℤ
 formula_value counts tokens = top_value counts (pile_from [] tokens)
+
+-- a number is the value of every tree that the tokens spell
+abbrev pub IsTreeValue : List ℤ → List Token → ℤ → Type 0
+IsTreeValue counts tokens value = (tree : Tree) → tokens ≡ spelling tree → value ≡ tree_value counts tree
 
 -- the sum of signed numbers
 unfoldable pub signed_sum : List ℤ → ℤ

@@ -6,8 +6,11 @@ use crate::Rule;
 use papi_base::Natives;
 use std::marker::Model;
 
-/// An event that is derived from 1 to 8 native events of one component by a rule. A plain rule has one native event, and
-/// a formula is over so many as there are. Source: papi_events.csv.
+/// How many native events a derived event has at most.
+pub const MOST_NATIVES: u32 = 8;
+
+/// An event that is derived from 1 to [`MOST_NATIVES`] native events of one component by a rule. A plain rule has
+/// one native event, and a formula is over so many as there are. Source: papi_events.csv.
 #[derive(Drop)]
 pub struct Derived {
     natives: Natives,
@@ -50,13 +53,13 @@ fn is_over(rule: &Rule, natives: u32) -> bool
     }
 }
 
-/// Whether native events and a rule make a derived event: there are from 1 to 8 of one component, a plain rule has one,
-/// and a formula was read with this number.
+/// Whether native events and a rule make a derived event: there are from 1 to [`MOST_NATIVES`] of one component, a
+/// plain rule has one, and a formula was read with this number.
 pub fn is_derived(natives: &Natives, rule: &Rule) -> bool
     ensures { IsTrue result ↔ IsDerived (record { natives = natives.now; rule = rule.now }) }
 {
     let count = natives.len();
-    if count == 0 || count > 8 {
+    if count == 0 || count > MOST_NATIVES {
         return false;
     }
     are_of_one_component(natives) && is_over(rule, count)

@@ -1,5 +1,5 @@
 // Laws of the definitions, each the contract of a function that does nothing.
-ghost use Rattle.postfix_rules.specs.Laws.{EachIsAmong, EarlierStay, FormulasSpell, NoneTwice, OneMoreJoins, SameEvents, SameNatives};
+ghost use Rattle.postfix_rules.specs.Laws.{EachIsAmong, EarlierStay, FormulasSpell, NoneTwice, OneMoreJoins, SameEvents, SameNatives, TreesValued};
 ghost use Rattle.postfix_rules.specs.Reading.{FirstFaults, FromOne, SameTokens, WrittenBytes, WrittenRead};
 
 /// The tests for equal events mean equality.
@@ -16,9 +16,10 @@ pub fn natives_laws()
     ensures once { NoneTwice }
 {}
 
-/// The tokens of a formula spell one tree.
+/// The tokens of a formula spell a tree, and their value is that of every tree that they spell.
 pub fn formula_laws()
     ensures spell { FormulasSpell }
+    ensures valued { TreesValued }
 {}
 
 /// A text is a formula exactly where its parts are the formula's tokens, and is refused exactly at its first fault, which

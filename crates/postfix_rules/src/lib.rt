@@ -15,7 +15,7 @@ pub mod token;
 pub mod writing;
 
 pub use book::PresetBook;
-pub use derived::{Derived, is_derived};
+pub use derived::{Derived, MOST_NATIVES, is_derived};
 pub use fault::{FormulaCause, FormulaFault};
 pub use formula::Formula;
 pub use reading::read_postfix;

@@ -2,7 +2,7 @@
 ghost use Rattle.std.specs.Prelude.{◌≡◌, ◌≤◌, length, map, Some, None};
 ghost use Rattle.postfix_rules.specs.Faults.{IsFormula, height_after, token_cause};
 ghost use Rattle.postfix_rules.specs.Stack.{pile, stepped};
-ghost use Rattle.postfix_rules.specs.Values.{applied, formula_value};
+ghost use Rattle.postfix_rules.specs.Values.{IsTreeValue, applied, formula_value};
 
 use crate::{Formula, Operator, Token};
 
@@ -58,9 +58,12 @@ fn value_on_stack(tokens: &[Token], counts: &[i64]) -> i64
 }
 
 /// The value of a formula at the counts of its native events, in signed 64 bits that wrap.
+///
+/// It is the value of the tree that the formula's tokens spell.
 pub fn eval(f: &Formula, counts: &[i64]) -> i64
     requires counts { length counts.now ≡ f.now.natives }
     ensures value { result ≡ formula_value counts.now f.now.tokens }
+    ensures tree { IsTreeValue counts.now f.now.tokens result }
 {
     value_on_stack(f.tokens(), counts)
 }
