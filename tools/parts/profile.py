@@ -22,7 +22,7 @@ class FunctionHits:
 
     def hottest(self) -> Bucket | None:
         """The bucket with the most hits, and of these the lowest."""
-        return max(self.buckets, key=lambda bucket: (bucket.hits, -bucket.address), default=None)
+        return max(self.buckets, key=lambda bucket: (bucket.hits, -bucket.address)) if self.buckets else None
 
 
 @dataclass

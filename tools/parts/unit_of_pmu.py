@@ -258,8 +258,6 @@ def _names(places: Places) -> tuple[str, ...]:
 def _shared_by_most(rows: Iterable[Places | None]) -> Places | None:
     """The set of programmable counters that lies in most of the others, and of these the largest."""
     known = [places for places in rows if places]
-    return max(
-        known,
-        key=lambda one: (sum(other.programmable >= one.programmable for other in known if one.programmable), len(one.programmable)),
-        default=None,
-    )
+    if not known:
+        return None
+    return max(known, key=lambda one: (sum(other.programmable >= one.programmable for other in known), len(one.programmable)))
