@@ -10,6 +10,7 @@ fail() {
 # Sets `program` to the one that is named, or else to that of crates/papi, which is built first.
 find_program() {
     if [ $# -gt 0 ]; then
+        [ -x "$1" ] || fail "no program: $1"
         program=$(CDPATH='' cd -- "$(dirname -- "$1")" && pwd)/$(basename -- "$1")
     else
         program=$here/../crates/papi/out/papi

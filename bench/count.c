@@ -11,8 +11,8 @@ static void print_run(uint64_t consumed, uint64_t notes) {
     printf("%llu %llu\n", (unsigned long long)consumed, (unsigned long long)notes);
 }
 
-static void print_totals(int n) {
-    for (int i = 0; i < n; i++) printf("%llu%c", (unsigned long long)totals[i], i + 1 < n ? ' ' : '\n');
+static void print_values(int first, int n) {
+    for (int i = 0; i < n; i++) printf("%llu%c", (unsigned long long)totals[first + i], i + 1 < n ? ' ' : '\n');
 }
 
 /* No set runs. */
@@ -143,31 +143,53 @@ static void count_runs(const struct occurrence *o) {
     count_three(o);
     if (stream.consumed % EACH == 0) {
         print_run(EACH, 0);
-        print_totals(3);
+        print_values(0, 3);
     }
 }
 
+/* The kinds of work. Each has a reader of its own, into which the compiler puts its counting. */
+
+#define READER(name, count) \
+    static int name(int file) { return read_stream(file, &stream, count); }
+
+READER(read_nothing, count_nothing)
+READER(read_three, count_three)
+READER(read_branches, count_branches)
+READER(read_thresholds, count_thresholds)
+READER(read_alike, count_alike)
+READER(read_one, count_one)
+READER(read_turns, count_turns)
+READER(read_components, count_components)
+READER(read_runs, count_runs)
+
+static const struct work {
+    const char *kind;
+    int (*read)(int file);
+    int values, sets;
+} works[] = {
+    {"nothing", read_nothing, 0, 0},       {"three", read_three, 3, 1}, {"branches", read_branches, 1, 1},
+    {"thresholds", read_thresholds, 3, 1}, {"alike", read_alike, 32, 1}, {"one", read_one, 1, 1},
+    {"turns", read_turns, 6, 1},           {"components", read_components, 16, 16}, {"runs", read_runs, 3, 1},
+};
+
+static const struct work *work_of(const char *kind) {
+    for (size_t i = 0; i < sizeof works / sizeof *works; i++)
+        if (strcmp(works[i].kind, kind) == 0) return &works[i];
+    return NULL;
+}
+
 int main(int argc, char **argv) {
-    const char *kind = argc == 3 ? argv[1] : "";
-    int file = argc == 3 ? open(argv[2], O_RDONLY) : -1, status = 2, values = 0;
+    const struct work *work = argc == 3 ? work_of(argv[1]) : NULL;
+    int file = work ? open(argv[2], O_RDONLY) : -1;
     if (file < 0) {
         fprintf(stderr, "usage: count KIND STREAM\n");
         return 2;
     }
-#define IS(name) (strcmp(kind, name) == 0)
-    if (IS("nothing")) status = read_stream(file, &stream, count_nothing);
-    if (IS("three")) status = read_stream(file, &stream, count_three), values = 3;
-    if (IS("branches")) status = read_stream(file, &stream, count_branches), values = 1;
-    if (IS("thresholds")) status = read_stream(file, &stream, count_thresholds), values = 3;
-    if (IS("alike")) prepare_alike(), status = read_stream(file, &stream, count_alike), values = 32;
-    if (IS("one")) status = read_stream(file, &stream, count_one), values = 1;
-    if (IS("turns")) status = read_stream(file, &stream, count_turns), values = 6, estimate();
-    if (IS("components")) status = read_stream(file, &stream, count_components), values = 16;
-    if (IS("runs")) status = read_stream(file, &stream, count_runs), values = 3;
+    prepare_alike();
+    int status = work->read(file);
     if (status != 0) return status;
-    if (!IS("runs")) print_run(stream.consumed, noted);
-    if (IS("components"))
-        for (int i = 0; i < values; i++) printf("%llu\n", (unsigned long long)totals[i]);
-    else print_totals(values);
+    if (work->read == read_turns) estimate();
+    if (work->read != read_runs) print_run(stream.consumed, noted);
+    for (int set = 0; set < work->sets; set++) print_values(set * work->values / work->sets, work->values / work->sets);
     return fflush(stdout) == 0 ? 0 : 5;
 }
