@@ -22,6 +22,8 @@ def end_with(tool: str, work: Callable[[], None]) -> None:
         # The reader has enough. Python would complain once more when it flushes at its end.
         os.dup2(os.open(os.devnull, os.O_WRONLY), sys.stdout.fileno())
         sys.exit(1)
+    except OSError as error:
+        sys.exit(f"{tool}: {error.filename + ': ' if error.filename else ''}{error.strerror}")
     except KeyboardInterrupt:
         sys.exit(130)
 

@@ -9,8 +9,7 @@ from __future__ import annotations
 import os
 import shutil
 import subprocess
-from dataclasses import dataclass
-from typing import IO, Iterator
+from typing import IO, Iterator, NamedTuple
 
 from parts.command import Fault
 from parts.symbols import is_loaded_anywhere
@@ -22,8 +21,7 @@ MODIFY = "M"
 TOTAL_LABEL = "guest instrs:"
 
 
-@dataclass(frozen=True)
-class Access:
+class Access(NamedTuple):
     """A line of the trace. The program counter has no leading zeros."""
 
     kind: str

@@ -105,7 +105,6 @@ class RealProgram(InFolder):
         cases = (
             (("nosuchprogram",), "record: nosuchprogram: no such program"),
             (("--from", "nosuch", self.program), f"record: {self.program} has no function nosuch"),
-            (("--cache", "1,2", self.program), "record: 1,2: a cache is SIZE,WAYS,LINE"),
             (("-o", str(self.folder / "no/where"), self.program), "No such file or directory"),
         )
         for words, cause in cases:
@@ -119,6 +118,6 @@ class RealProgram(InFolder):
 
 class Words(unittest.TestCase):
     def test_bad_words(self) -> None:
-        for words in ((), ("--nothing", "true"), ("--cache",)):
+        for words in ((), ("--nothing", "true"), ("--cache",), ("--cache", "1,2", "true")):
             self.assertEqual(run_tool("record", *words).returncode, 2, words)
         self.assertEqual(run_tool("record", "--help").returncode, 0)
