@@ -1,7 +1,7 @@
 -- The native events of an event, and that they fit the unit.
-use Rattle.std.proofs.Common.{◌≡◌, ◌∙◌, ◌+◌, ◌<◌, ◌≤◌, ◌^◌, ◌∷◌, ℕ, zero, suc, Bool, true, false, List, [], Option, Some, None, filter, length, map, slice_get, refl, sym, ap, subst, arith}
-use Rattle.std.specs.Prelude.{is_none, option_map, unwrap_or}
-use Rattle.std.specs.List.{AllByRecursion, flat_map, range_with_len}
+use Rattle.std.proofs.Common.{◌≡◌, ◌∙◌, ◌<◌, ◌≤◌, ◌^◌, ◌∷◌, ℕ, zero, suc, true, false, List, [], Option, Some, None, filter, length, map, slice_get, refl, sym, ap, subst, arith}
+use Rattle.std.specs.Prelude.{option_map, unwrap_or}
+use Rattle.std.specs.List.{AllByRecursion, range_with_len}
 use Rattle.std.specs.Option.{option_and_then}
 use Rattle.std.proofs.lemmas.List.{length-map}
 use Rattle.std.proofs.lemmas.Option.{slice_get-map, slice_get_within}
@@ -11,7 +11,6 @@ use Rattle.event_sets.specs.AtRest.{AtRest, is_other, widths_at}
 use Rattle.event_tables.specs.Kept.{IsComponent, IsEvent, IsTables}
 use Rattle.event_tables.specs.Tables.{ComponentText, EventText, MaskText, event_at, widths_of}
 use Rattle.name_encoder.specs.Names.{Found, native_of}
-use Rattle.papi_base.specs.declared.native.EventRef.{EventRef}
 use Rattle.papi_base.specs.declared.native.EventRef.TheVariants as event
 use Rattle.papi_base.specs.declared.native.Native.{Native}
 use Rattle.chooser_list.specs.Candidates.{alone, found, natives_by, natives_in_row, natives_of_component, natives_of_event, no_modifiers, with_umask}

@@ -1,6 +1,6 @@
 -- What a set takes whose natives are on the counters of a component.
-use Rattle.std.proofs.Common.{◌≡◌, ◌∙◌, ◌+◌, ◌<◌, ◌≤◌, ◌^◌, ◌++◌, ◌∷◌, ◌||◌, ◌&&◌, ℕ, zero, suc, Bool, true, false, List, [], Option, Some, None, Result, Ok, Err, length, map, slice_get, refl, sym, ap, ap₂, subst, arith}
-use Rattle.std.specs.Prelude.{◌↔◌, All, IsTrue, OnErr, is_none, is_ok, nat_le, nat_lt, slice_index}
+use Rattle.std.proofs.Common.{◌≡◌, ◌∙◌, ◌<◌, ◌++◌, ◌∷◌, ◌&&◌, ℕ, zero, suc, Bool, true, false, List, [], None, Result, Ok, Err, length, refl, sym, ap, arith}
+use Rattle.std.specs.Prelude.{◌↔◌, All, IsTrue, OnErr, is_none, is_ok, nat_le, slice_index}
 use Rattle.std.specs.Option.{option_map}
 use Rattle.std.proofs.lemmas.Bool.Decides.{nat_tests}
 use Rattle.counter_alloc.specs.Assignments.{Assignable}
@@ -9,10 +9,8 @@ use Rattle.counter_alloc.specs.Masks.{AreMasks, masks_of}
 use Rattle.counter_alloc.proofs.Fitting.{is_assignable_false, is_assignable_true}
 use Rattle.event_sets.specs.Adding.{add_refusal}
 use Rattle.event_sets.specs.Assigning.{blamed_unless, clash_of}
-use Rattle.event_sets.specs.AtRest.{Widths, clash_with, is_full}
+use Rattle.event_sets.specs.AtRest.{Widths, clash_with}
 use Rattle.event_sets.specs.Sets.{SetView}
-use Rattle.event_sets.specs.declared.refusal.Clash.{Clash}
-use Rattle.event_sets.specs.declared.refusal.Refusal.{Refusal}
 use Rattle.event_sets.specs.declared.refusal.Refusal.TheVariants.{Conflict}
 use Rattle.event_sets.proofs.Adding.{Ready, can_take, clash_is, full_of_natives, not_full, refused_full}
 use Rattle.papi_base.specs.declared.native.EventRef.{EventRef}

@@ -1,7 +1,7 @@
 -- The events that are looked at for a set: PAPI's papi_event_chooser(1), docs/FORMATS.md.
-use Rattle.std.specs.Prelude.{ℕ, zero, suc, Bool, true, false, List, [], ◌∷◌, Option, Some, None, map, length, slice_get, if◌then◌else◌}
+use Rattle.std.specs.Prelude.{ℕ, zero, suc, Bool, true, false, List, [], ◌∷◌, map, length, slice_get, if◌then◌else◌}
 use Rattle.std.specs.List.{flat_map, range_with_len}
-use Rattle.std.specs.Option.{option_and_then, option_map, option_map_or}
+use Rattle.std.specs.Option.{option_map_or}
 use Rattle.component_table.specs.Books.{is_available}
 use Rattle.component_table.specs.Catalogs.{CatalogView}
 use Rattle.event_tables.specs.Tables.{ComponentText, EventText, MaskText}
@@ -9,7 +9,6 @@ use Rattle.name_encoder.specs.Names.{Found, native_of}
 use Rattle.papi_base.specs.declared.native.EventRef.{EventRef}
 use Rattle.papi_base.specs.declared.native.EventRef.TheVariants as event
 use Rattle.papi_base.specs.declared.native.Mods.{Mods}
-use Rattle.papi_base.specs.declared.native.Native.{Native}
 use Rattle.postfix_rules.specs.Presets.{Book}
 use Rattle.preset_table.specs.Table.{preset_count}
 use Rattle.chooser_list.specs.declared.candidates.Candidates.{Candidates}

@@ -7,12 +7,10 @@ use Rattle.event_sets.specs.Adding.{add_refusal}
 use Rattle.event_sets.specs.AtRest.{AtRest, new_set, with_event}
 use Rattle.event_sets.specs.declared.refusal.Refusal.{Refusal}
 use Rattle.event_sets.specs.declared.refusal.Refusal.TheVariants.{Plain}
-use Rattle.papi_base.specs.Codes.{name_of}
 use Rattle.papi_base.specs.declared.code.Code.{Code}
 use Rattle.papi_base.specs.declared.native.EventRef.{EventRef}
-use Rattle.reply_text.specs.Replies.{Text, results_of, spaced}
+use Rattle.reply_text.specs.Replies.{Text, reply_text}
 use Rattle.session_model.specs.Replies.{refused}
-use Rattle.session_model.specs.declared.reply.Reply.{Reply}
 use Rattle.chooser_list.specs.declared.candidates.Candidates.{Candidates}
 use Rattle.chooser_list.specs.Candidates.{candidates}
 
@@ -71,10 +69,6 @@ total_text total = codes "Total events: " ++ (decimal total ++ 10 ∷ [])
 
 abbrev pub list_text : CatalogView → List EventRef → Text
 list_text catalog events = names_text catalog events ++ total_text (length events)
-
--- the code of a reply and its results, each after a space
-abbrev pub reply_text : CatalogView → Reply → Text
-reply_text catalog reply = spaced (name_of reply.code ∷ results_of catalog reply.body)
 
 -- the text, a colon, and the refusal as a reply has it
 abbrev pub refused_text : CatalogView → RefusedText → Text

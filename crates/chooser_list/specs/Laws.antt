@@ -10,5 +10,7 @@ use Rattle.session_model.specs.declared.call.Call.TheVariants as call
 
 -- a call of `add` on a set that does not run is refused as the set itself refuses the event
 abbrev pub RefusesAsAdd : Type 0
-RefusesAsAdd = (book : Book) (shape : Widths) (registered : Bool) (faces : List (Option Face)) (k : ℕ) (e : EventRef) (f : Face) → at faces k ≡ Some f → f.running ≡ false
+RefusesAsAdd =
+    (book : Book) (shape : Widths) (registered : Bool) (faces : List (Option Face)) (k : ℕ) (e : EventRef) (f : Face)
+    → at faces k ≡ Some f → f.running ≡ false
     → refusal_of book shape registered faces (call.Add k (Ok e)) ≡ add_refusal book e f.set

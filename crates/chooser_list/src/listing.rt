@@ -54,7 +54,8 @@ fn keep_natives(
     requires kept { IsTables catalog.now.tables }
     requires here { event_at catalog.now.tables comp row ≡ Some (event_text event.now) }
     requires open { IsOpen catalog.now set.now matching.now (Some comp) }
-    ensures { (c : ComponentText) → OnOk result (events.new.items ≡ events.old.items ++ filter (takes catalog.now set.now.rest) (natives_of_event (found comp row c (event_text event.now)))) }
+    ensures { (c : ComponentText) → OnOk result (events.new.items
+        ≡ events.old.items ++ filter (takes catalog.now set.now.rest) (natives_of_event (found comp row c (event_text event.now)))) }
 {
     if event.masks.is_empty() {
         let native = without_umask(comp, row, event);

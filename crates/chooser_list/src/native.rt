@@ -36,7 +36,8 @@ pub fn without_umask(comp: u32, row: u32, event: &EventRow) -> Native
 pub fn with_umask(comp: u32, row: u32, event: &EventRow, umask: usize) -> Native
     requires there { umask < vec_len event.now.masks }
     requires few { vec_len event.now.masks ≤ 16 }
-    ensures { (c : ComponentText) → result ≡ Names.native_of (Candidates.found comp row c (event_text event.now)) (Candidates.alone umask (event_text event.now).masks) Candidates.no_modifiers }
+    ensures { (c : ComponentText) → result
+        ≡ Names.native_of (Candidates.found comp row c (event_text event.now)) (Candidates.alone umask (event_text event.now).masks) Candidates.no_modifiers }
 {
     Native {
         comp,

@@ -1,19 +1,17 @@
 //! The line of a refused text.
 
-ghost use Rattle.std.specs.Prelude.{◌≡◌, ◌≤◌, ◌++◌, ◌∷◌, [], OnOk, drop, length};
+ghost use Rattle.std.specs.Prelude.{◌≡◌, ◌++◌, ◌∷◌, [], OnOk};
 ghost use Rattle.chooser_list.specs.Choosing as Choosing;
+ghost use Rattle.reply_text.specs.Replies.{reply_text};
 ghost use Rattle.session_model.specs.Replies as Replies;
 
 use crate::given::Refused;
 use component_table::Catalog;
 use event_sets::Refusal;
-use papi_base::{Bytes, CallName, Code};
-use reply_text::push_reply_line;
+use papi_base::{Bytes, Code};
+use reply_text::push_reply;
 use session_model::{Body, Reply};
 use std::alloc::{AllocError, Global};
-
-// How many bytes of a line stand before the code of its reply: `0 0 add`.
-const HEAD: usize = 7;
 
 // The reply to a call that is refused.
 fn reply_of(refusal: Refusal) -> Reply
@@ -31,26 +29,19 @@ fn reply_of(refusal: Refusal) -> Reply
     }
 }
 
-// What follows the word of the call in a line of a reply.
-fn from_code(line: &[u8]) -> &[u8]
-    requires { 7 ≤ length line.now }
-    ensures { result.now ≡ drop 7 line.now }
-{
-    &line[HEAD..]
-}
-
-// Appends a space, the code of a reply and its results, and a newline.
-fn push_reply(
+// Appends the code of a reply and its results, each after a space, and a newline.
+fn push_line(
     alloc: Global,
     text: &mut Bytes,
     catalog: &Catalog,
     reply: &Reply,
 ) -> Result<(), AllocError>
-    ensures { OnOk result (text.new ≡ text.old ++ (Choosing.reply_text catalog.now reply.now ++ 10 ∷ [])) }
+    ensures { OnOk result (text.new ≡ text.old ++ (reply_text catalog.now reply.now ++ 10 ∷ [])) }
 {
     let mut line = String::new(alloc);
-    push_reply_line(&mut line, catalog, 0, 0, CallName::Add, reply)?;
-    text.append(from_code(line.as_bytes()))
+    push_reply(&mut line, catalog, reply)?;
+    line.push_str("\n")?;
+    text.append(line.as_bytes())
 }
 
 /// Appends a refused text, a colon, a space, and the refusal as a reply has it from its code on.
@@ -60,9 +51,10 @@ pub fn push_refused(
     catalog: &Catalog,
     refused: Refused<'_>,
 ) -> Result<(), AllocError>
-    ensures { OnOk result (text.new ≡ text.old ++ Choosing.refused_text catalog.now (record { text = refused.entry.text.now; refusal = refused.entry.refusal })) }
+    ensures { OnOk result (text.new ≡ text.old
+        ++ Choosing.refused_text catalog.now (record { text = refused.entry.text.now; refusal = refused.entry.refusal })) }
 {
     text.append(refused.text.as_bytes())?;
     text.append(b":")?;
-    push_reply(alloc, text, catalog, &reply_of(refused.refusal))
+    push_line(alloc, text, catalog, &reply_of(refused.refusal))
 }

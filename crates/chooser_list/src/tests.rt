@@ -1,4 +1,4 @@
-//! Listings over the lab unit with its presets.
+//! Listings over the lab unit, with one event more in its second component, and its presets.
 use crate::{Candidates, choose};
 use component_table::Catalog;
 use event_tables::read_unit;
@@ -23,7 +23,9 @@ UMASK,STORES,02,-,Stores\n\
 EVENT,REF,00,F0,Reference cycles\n\
 COMPONENT,net,wire\n\
 COUNTER,M0,48,P\n\
-EVENT,PACKETS,10,M0,Packets seen\n";
+COUNTER,M1,48,P\n\
+EVENT,PACKETS,10,M0,Packets seen\n\
+EVENT,BYTES,11,M1,Bytes seen\n";
 
 const PRESETS: &str = "CPU,lab1\n\
 PRESET,PAPI_TOT_INS,NOT_DERIVED,lab::INST_RETIRED\n\
@@ -36,7 +38,7 @@ PRESET,PAPI_BR_PRC,DERIVED_POSTFIX,N0|N1|-|,lab::BR_INST:ALL,lab::BR_MISP\n\
 PRESET,PAPI_L1_DCM,NOT_DERIVED,lab::NO_SUCH\n";
 
 // Candidates and given events; then what is listed, or else the refusal.
-const LISTS: [(Candidates, &str, bool, &str); 9] = [
+const LISTS: [(Candidates, &str, bool, &str); 11] = [
     (
         Candidates::Native,
         "BR_INST",
@@ -55,7 +57,27 @@ const LISTS: [(Candidates, &str, bool, &str); 9] = [
         true,
         "Total events: 0\n",
     ),
-    (Candidates::Native, "PACKETS", true, "Total events: 0\n"),
+    // Candidates of the second component alone.
+    (
+        Candidates::Native,
+        "PACKETS",
+        true,
+        "wire::BYTES\nTotal events: 1\n",
+    ),
+    // All others of the component fit.
+    (
+        Candidates::Native,
+        "REF",
+        true,
+        "lab::INST_RETIRED\nlab::CYCLES\nlab::BR_INST:ALL\nlab::BR_INST:TAKEN\nlab::BR_MISP\nlab::CACHE\nlab::MEM:LOADS\nlab::MEM:STORES\nTotal events: 8\n",
+    ),
+    // Each counter is taken: presets fit that have no other native events.
+    (
+        Candidates::Preset,
+        "CYCLES INST_RETIRED BR_INST",
+        true,
+        "PAPI_TOT_INS\nPAPI_BR_INS\nPAPI_RES_STL\nPAPI_TOT_CYC\nTotal events: 4\n",
+    ),
     (
         Candidates::Preset,
         "PAPI_TOT_CYC",

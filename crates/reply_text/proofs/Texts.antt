@@ -19,6 +19,10 @@ spaced_one : (text : Text) → spaced (text ∷ []) ≡ 32 ∷ text
 unfolding spaced
 spaced_one text = ap (λ (t : Text). 32 ∷ t) (append-nil text)
 
+spaced_two : (first second : Text) → spaced (first ∷ second ∷ []) ≡ 32 ∷ (first ++ 32 ∷ second)
+unfolding spaced
+spaced_two first second = ap (λ (t : Text). 32 ∷ (first ++ 32 ∷ t)) (append-nil second)
+
 -- nothing is pushed
 pub pushed_none : (start : Text) → start ≡ start ++ spaced []
 unfolding spaced
@@ -113,7 +117,10 @@ parts_pushed start first mid after text xs ys a b c =
     ∙ append_assoc start (spaced (xs ++ text ∷ [])) (spaced ys)
     ∙ ap (λ (t : Text). start ++ t) (sym (spaced-append (xs ++ text ∷ []) ys) ∙ ap spaced (append_assoc xs (text ∷ []) ys))
 
-pub line_joined : (start line thread word code head results after : Text) (texts : List Text) → head ≡ start ++ (line ++ (32 ∷ (thread ++ (32 ∷ (word ++ (32 ∷ code)))))) → results ≡ head ++ spaced texts
-    → after ≡ results ++ 10 ∷ [] → after ≡ start ++ (line ++ (spaced (thread ∷ word ∷ code ∷ texts) ++ 10 ∷ []))
+pub reply_joined : (start code head after : Text) (texts : List Text) → head ≡ start ++ 32 ∷ code → after ≡ head ++ spaced texts → after ≡ start ++ spaced (code ∷ texts)
 unfolding spaced
-line_joined start line thread word code head results after texts a b c = rw (c, b, a) (simp append_assoc)
+reply_joined start code head after texts a b = rw (b, a) (simp append_assoc)
+
+pub line_joined : (start line thread word reply head mid after : Text) → head ≡ start ++ (line ++ (32 ∷ (thread ++ (32 ∷ word)))) → mid ≡ head ++ reply → after ≡ mid ++ 10 ∷ []
+    → after ≡ start ++ (line ++ (spaced (thread ∷ word ∷ []) ++ (reply ++ 10 ∷ [])))
+line_joined start line thread word reply head mid after a b c = rw (c, b, a, spaced_two thread word) (simp append_assoc)

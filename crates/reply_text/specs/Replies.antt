@@ -63,7 +63,11 @@ results_of catalog (body.Threads threads) = map decimal (members_below THREADS t
 unfoldable pub spaced : List Text → Text
 spaced texts = flat_map (λ text. 32 ∷ text) texts
 
--- the line, the thread, the word of the call, the code and the results
+-- the code of a reply and its results, each after a space
+abbrev pub reply_text : CatalogView → Reply → Text
+reply_text catalog reply = spaced (name_of reply.code ∷ results_of catalog reply.body)
+
+-- the line, the thread, the word of the call and the reply
 unfoldable pub line_text : CatalogView → ℕ → ℕ → CallName → Reply → Text
 line_text catalog line thread word reply =
-    decimal line ++ (spaced (decimal thread ∷ word_of word ∷ name_of reply.code ∷ results_of catalog reply.body) ++ 10 ∷ [])
+    decimal line ++ (spaced (decimal thread ∷ word_of word ∷ []) ++ (reply_text catalog reply ++ 10 ∷ []))

@@ -7,7 +7,7 @@ mod names;
 mod note;
 mod results;
 
-pub use line::push_reply_line;
+pub use line::{push_reply, push_reply_line};
 pub use note::push_note_line;
 
 #[cfg(test)]

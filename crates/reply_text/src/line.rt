@@ -3,7 +3,7 @@
 ghost use Rattle.std.specs.Prelude.{◌≡◌, ◌++◌, ◌∷◌, OnOk, decimal, string_bytes};
 ghost use Rattle.papi_base.specs.CallNames.{word_of};
 ghost use Rattle.papi_base.specs.Codes.{name_of};
-ghost use Rattle.reply_text.specs.Replies.{line_text};
+ghost use Rattle.reply_text.specs.Replies.{line_text, reply_text};
 
 use crate::results::push_results;
 use component_table::Catalog;
@@ -12,19 +12,30 @@ use session_model::Reply;
 use std::alloc::AllocError;
 use std::fmt::Write;
 
-// Appends what stands before the results.
-fn push_head(
-    text: &mut String,
-    line: u64,
-    thread: u32,
-    word: CallName,
-    code: Code,
-) -> Result<(), AllocError>
-    ensures { OnOk result (string_bytes text.new ≡ string_bytes text.old ++ (decimal line ++ (32 ∷ (decimal thread ++ (32 ∷ (word_of word ++ (32 ∷ name_of code))))))) }
+// Appends what stands before the reply.
+fn push_head(text: &mut String, line: u64, thread: u32, word: CallName) -> Result<(), AllocError>
+    ensures { OnOk result (string_bytes text.new ≡ string_bytes text.old ++ (decimal line ++ (32 ∷ (decimal thread ++ (32 ∷ word_of word))))) }
 {
     let word = call_word(word);
+    write!(text, "{line} {thread} {word}")
+}
+
+fn push_code(text: &mut String, code: Code) -> Result<(), AllocError>
+    ensures { OnOk result (string_bytes text.new ≡ string_bytes text.old ++ 32 ∷ name_of code) }
+{
     let code = code_name(code);
-    write!(text, "{line} {thread} {word} {code}")
+    write!(text, " {code}")
+}
+
+/// Appends the name of a reply's code and its results, each after a space.
+///
+/// Where memory is refused, it is open how much of it is appended.
+pub fn push_reply(text: &mut String, catalog: &Catalog, reply: &Reply) -> Result<(), AllocError>
+    ensures text { OnOk result (string_bytes text.new ≡ string_bytes text.old ++ reply_text catalog.now reply.now) }
+{
+    push_code(text, reply.code)?;
+    push_results(text, catalog, &reply.body)?;
+    Ok(())
 }
 
 /// Appends the line of a reply: the number of the script's line, the thread, the word of the call, the code's name and the
@@ -41,8 +52,8 @@ pub fn push_reply_line(
 ) -> Result<(), AllocError>
     ensures text { OnOk result (string_bytes text.new ≡ string_bytes text.old ++ line_text catalog.now line thread word reply.now) }
 {
-    push_head(text, line, thread, word, reply.code)?;
-    push_results(text, catalog, &reply.body)?;
+    push_head(text, line, thread, word)?;
+    push_reply(text, catalog, reply)?;
     text.push_str("\n")?;
     Ok(())
 }

@@ -59,7 +59,8 @@ fn push_assignment(
     catalog: &Catalog,
     assigned: &Assigned,
 ) -> Result<(), AllocError>
-    ensures { OnOk result (string_bytes text.new ≡ string_bytes text.old ++ spaced (map (Replies.assigned_text catalog.now) (zip assigned.now.natives assigned.now.counters))) }
+    ensures { OnOk result (string_bytes text.new ≡ string_bytes text.old
+        ++ spaced (map (Replies.assigned_text catalog.now) (zip assigned.now.natives assigned.now.counters))) }
 {
     for i in 0..assigned.natives.len().min(assigned.counters.len()) {
         let native = assigned.natives.at(i);
@@ -76,7 +77,8 @@ fn push_counters(
     comp: u32,
     counters: u32,
 ) -> Result<(), AllocError>
-    ensures { OnOk result (string_bytes text.new ≡ string_bytes text.old ++ spaced (map (Replies.counter_text catalog.now comp) (Replies.members_below 32 counters))) }
+    ensures { OnOk result (string_bytes text.new ≡ string_bytes text.old
+        ++ spaced (map (Replies.counter_text catalog.now comp) (Replies.members_below 32 counters))) }
 {
     for counter in 0..32 {
         if has(u64::from(counters), counter) {

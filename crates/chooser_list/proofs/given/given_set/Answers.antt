@@ -1,9 +1,9 @@
-use Rattle.std.proofs.Common.{◌≡◌, ◌∙◌, ◌∷◌, ◌<◌, ◌≤◌, ◌+◌, ℕ, length, List, [], Some, Ok, Err, refl, ap, sym, drop, get_or, arith}
+use Rattle.std.proofs.Common.{◌≡◌, ◌∙◌, ◌∷◌, ◌<◌, ◌≤◌, ◌+◌, ℕ, length, List, [], Some, Ok, Err, refl, ap, sym, drop, get_or}
 use Rattle.std.proofs.lemmas.List.{drop_all, drop_more}
 use Rattle.std.proofs.lemmas.Option.{get_or_from_slice_get, slice_get-get_or}
 use Rattle.component_table.specs.Catalogs.{CatalogView}
 use Rattle.reply_text.specs.Replies.{Text}
-use Rattle.chooser_list.specs.Choosing.{Given, RefusedText, refused_by, with_text, with_texts}
+use Rattle.chooser_list.specs.Choosing.{Given, RefusedText, with_text, with_texts}
 use Rattle.chooser_list.proofs.given.given_set.Goals as goal
 
 after_refused : (catalog : CatalogView) (r : RefusedText) (texts : List Text) → with_texts catalog (Err r) texts ≡ Err r

@@ -1,7 +1,6 @@
 -- the texts that are left, with the set so far
 use Rattle.std.proofs.Common.{◌≡◌, drop, Ok}
 use Rattle.event_sets.specs.AtRest.{new_set}
-use Rattle.component_table.specs.Catalogs.{shape_of}
 use Rattle.chooser_list.specs.Choosing.{with_texts}
 use Rattle.chooser_list.specs.Open.{IsOver}
 use Rattle.chooser_list.proofs.given.given_set.Given as goal

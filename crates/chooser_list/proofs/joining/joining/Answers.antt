@@ -1,6 +1,6 @@
 -- a native event that is there does not join
 use Rattle.std.proofs.Common.{◌≡◌, ◌++◌, true, false, ◌∷◌, [], List, ap, arith, sym, ◌∙◌, append_assoc, length-append}
-use Rattle.std.proofs.lemmas.List.{append-nil, drop_all}
+use Rattle.std.proofs.lemmas.List.{append-nil}
 use Rattle.papi_base.specs.declared.native.Native.{Native}
 use Rattle.postfix_rules.specs.Sameness.{among, joined_by}
 use Rattle.event_sets.proofs.JoinedNatives.{joins_new, joins_old}

@@ -1,4 +1,4 @@
-use Rattle.std.proofs.Common.{◌≡◌, ◌∙◌, ◌++◌, ◌∷◌, [], List, ℕ, ap, sym, arith, length-set}
+use Rattle.std.proofs.Common.{◌∙◌, ◌++◌, ◌∷◌, [], List, ℕ, ap, sym, arith, length-set}
 use Rattle.std.proofs.lemmas.List.{take_more_set}
 use Rattle.event_sets.proofs.Clashing.{masks_at}
 use Rattle.chooser_list.proofs.joining.masks.Goals as goal

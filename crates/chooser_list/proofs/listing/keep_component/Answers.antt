@@ -1,10 +1,10 @@
-use Rattle.std.proofs.Common.{◌≡◌, ◌∙◌, ◌<◌, ◌≤◌, ◌++◌, ◌∷◌, [], ℕ, List, Some, None, Option, filter, get_or, length, map, refl, slice_get, sym, ap, subst, arith}
+use Rattle.std.proofs.Common.{◌≡◌, ◌∙◌, ◌<◌, ◌++◌, [], ℕ, List, Some, Option, filter, get_or, length, map, slice_get, sym, ap, arith}
 use Rattle.std.specs.Prelude.{option_map}
 use Rattle.std.specs.List.{flat_map, range_with_len}
 use Rattle.std.specs.Option.{option_and_then, option_map_or}
 use Rattle.std.proofs.lemmas.List.{append-nil, length-map}
 use Rattle.std.proofs.lemmas.Option.{slice_get-get_or, slice_get-map}
-use Rattle.event_tables.specs.Tables.{ComponentText, EventText, event_at}
+use Rattle.event_tables.specs.Tables.{ComponentText, EventText}
 use Rattle.event_tables.specs.Views.{component_text, event_text}
 use Rattle.event_tables.specs.declared.component.EventRow.{EventRow}
 use Rattle.papi_base.specs.declared.native.EventRef.{EventRef}

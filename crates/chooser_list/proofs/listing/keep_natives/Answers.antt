@@ -1,8 +1,7 @@
-use Rattle.std.proofs.Common.{◌≡◌, ◌∙◌, ◌<◌, ◌≤◌, ◌++◌, ◌∷◌, [], ℕ, Bool, List, Some, filter, length, map, refl, sym, ap, subst, arith}
+use Rattle.std.proofs.Common.{◌≡◌, ◌∙◌, ◌<◌, ◌++◌, ◌∷◌, [], ℕ, Bool, List, Some, filter, length, sym, ap, subst, arith}
 use Rattle.std.specs.Prelude.{OnOk, Result}
 use Rattle.std.proofs.lemmas.Bool.Decides.{nat_tests}
 use Rattle.std.proofs.lemmas.List.{length-map}
-use Rattle.event_tables.specs.Tables.{ComponentText}
 use Rattle.event_tables.specs.Views.{event_text, mask_text}
 use Rattle.papi_base.specs.declared.native.EventRef.{EventRef}
 use Rattle.papi_base.specs.declared.native.EventRef.TheVariants as event
@@ -11,7 +10,7 @@ use Rattle.chooser_list.specs.Candidates.{found, with_umask}
 use Rattle.chooser_list.specs.Choosing.{takes}
 use Rattle.chooser_list.specs.Open.{IsOpen}
 use Rattle.chooser_list.proofs.Natives.{event_kept, native_fits, with_masks, without_masks}
-use Rattle.chooser_list.proofs.Rows.{kept_none, kept_one}
+use Rattle.chooser_list.proofs.Rows.{kept_one}
 use Rattle.chooser_list.proofs.listing.keep_natives.Goals as goal
 
 -- what is kept of the same events is the same

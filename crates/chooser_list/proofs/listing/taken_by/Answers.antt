@@ -1,10 +1,9 @@
-use Rattle.std.proofs.Common.{◌≡◌, ◌∙◌, ◌≤◌, List, [], ℕ, filter, length, sym, ap, arith, refl}
+use Rattle.std.proofs.Common.{◌≡◌, ◌∙◌, [], ℕ, filter, length, ap, arith}
 use Rattle.std.specs.List.{flat_map, range_with_len}
 use Rattle.component_table.specs.Catalogs.{CatalogView}
-use Rattle.papi_base.specs.declared.native.EventRef.{EventRef}
 use Rattle.preset_table.specs.Table.{preset_count}
 use Rattle.chooser_list.specs.Candidates.{candidates, natives_at, preset_in}
-use Rattle.chooser_list.specs.Choosing.{takes, taken}
+use Rattle.chooser_list.specs.Choosing.{takes}
 use Rattle.chooser_list.specs.declared.candidates.Candidates.TheVariants as which
 use Rattle.chooser_list.proofs.Rows.{kept_more}
 use Rattle.chooser_list.proofs.listing.taken_by.Goals as goal

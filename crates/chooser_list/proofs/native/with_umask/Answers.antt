@@ -1,4 +1,4 @@
-use Rattle.std.proofs.Common.{◌≡◌, ◌∙◌, ◌<◌, ◌*◌, ◌^◌, ◌%◌, ℕ, Some, length, map, slice_get, ap, ap₂, sym, arith}
+use Rattle.std.proofs.Common.{◌∙◌, ◌<◌, ℕ, Some, length, map, ap, ap₂, sym, arith}
 use Rattle.std.proofs.lemmas.List.{length-map}
 use Rattle.std.proofs.lemmas.Option.{slice_get-get_or, slice_get-map}
 use Rattle.std.specs.Prelude.{option_map}

@@ -1,12 +1,8 @@
 -- what is found is what the definition of the refusals says
-use Rattle.std.proofs.Common.{◌≡◌, ◌∙◌, ◌<◌, ◌^◌, ◌++◌, ◌&&◌, false, List, None, Option, Some, ℕ, ap, ap₂, length, refl, sym, subst, arith, slice_get}
-use Rattle.std.specs.Prelude.{All, nat_le}
+use Rattle.std.proofs.Common.{◌≡◌, ◌∙◌, ◌<◌, ◌++◌, ap, ap₂, length, sym, arith}
 use Rattle.std.specs.List.{list_any}
 use Rattle.std.specs.Option.{option_map}
 use Rattle.component_table.specs.Catalogs.{shape_of}
-use Rattle.counter_alloc.specs.Listing.{is_assignable}
-use Rattle.counter_alloc.specs.Masks.{masks_of}
-use Rattle.event_sets.specs.Agreement.{BookFits}
 use Rattle.event_sets.specs.AtRest.{is_other, widths_at}
 use Rattle.event_sets.specs.Sets.{SetView}
 use Rattle.event_sets.proofs.Adding.{Ready, all_in_range}

@@ -1,7 +1,6 @@
 use Rattle.std.specs.Prelude.{decimal}
 use Rattle.papi_base.specs.CallNames.{word_of}
-use Rattle.papi_base.specs.Codes.{name_of}
-use Rattle.reply_text.specs.Replies.{line_text}
+use Rattle.reply_text.specs.Replies.{line_text, reply_text}
 use Rattle.reply_text.proofs.Texts.{line_joined}
 use Rattle.reply_text.proofs.line.push_reply_line.Goals as goal
 
@@ -9,5 +8,6 @@ pub returns : goal.returns
 unfolding line_text
 returns c = record {
   text =
-      line_joined _ (decimal c.args.line) (decimal c.args.thread) (word_of c.args.word) (name_of c.args.reply.now.code) _ _ _ _ c.in_ok-push_head.ensures c.in_ok-push_results.ensures c.in_ok-push_str.ensures.bytes;
+      line_joined _ (decimal c.args.line) (decimal c.args.thread) (word_of c.args.word) (reply_text c.args.catalog.now c.args.reply.now) _ _ _
+      c.in_ok-push_head.ensures c.in_ok-push_reply.ensures.text c.in_ok-push_str.ensures.bytes;
 }
