@@ -33,7 +33,8 @@ fn make_calls<S: Source>(
     replies: &mut Vec<Reply>,
 ) -> Result<(), AllocError>
     requires { CanWork book.now session.old calls.now }
-    ensures { Worked book.now (seen_of session.old (notes h.old) calls.now replies.old.items false) (seen_of session.new (notes h.new) calls.now replies.new.items (is_err result)) }
+    ensures { Worked book.now (seen_of session.old (notes h.old) calls.now replies.old.items false)
+        (seen_of session.new (notes h.new) calls.now replies.new.items (is_err result)) }
 {
     for call in calls {
         let reply = session.call(book, call, h)?;
@@ -51,7 +52,8 @@ fn make_boxed<S: Source>(
     replies: &mut Vec<Reply>,
 ) -> Result<(), AllocError>
     requires { CanWork book.now session.old calls.now }
-    ensures { Worked book.now (seen_of session.old (notes h.old) calls.now replies.old.items false) (seen_of session.new (notes h.new) calls.now replies.new.items (is_err result)) }
+    ensures { Worked book.now (seen_of session.old (notes h.old) calls.now replies.old.items false)
+        (seen_of session.new (notes h.new) calls.now replies.new.items (is_err result)) }
 {
     make_calls(session, book, &mut **h, calls, replies)
 }

@@ -17,7 +17,7 @@ use Rattle.stream_reader.specs.Reader.{coming}
 use Rattle.thread_core.specs.Following.{Follows}
 use Rattle.thread_core.specs.Stands.{CoreStands}
 use Rattle.thread_session.specs.SessionView.{SessionView}
-use Rattle.thread_session.specs.Stands.{Stands}
+use Rattle.thread_session.specs.Stands.{Stands, to_come}
 
 -- a run, which alone consumes occurrences and takes memory
 abbrev pub is_run : Call → Bool
@@ -40,7 +40,7 @@ pub record FollowsAs (book : Book) (old new : SessionView) (made : Call) (answer
   pub notes : (a : Account) → CoreStands book old.core a → after ≡ before ++ (step book old.core.shape (expecting expected a) made).notes
   pub told : (c : Coming) → coming old.reader ≡ Some c → c ≡ expected
   pub left : (a : Account) → CoreStands book old.core a → coming old.reader ≡ Some expected
-      → coming new.reader ≡ Some (record { rest = (step book old.core.shape (expecting expected a) made).account.rest; mark = (step book old.core.shape (expecting expected a) made).account.mark })
+      → coming new.reader ≡ Some (to_come (step book old.core.shape (expecting expected a) made).account)
 
 -- the account after these occurrences
 abbrev pub consuming : List Occ → Account → Account
@@ -55,7 +55,8 @@ pub record IsCut (book : Book) (old new : SessionView) (n : ℕ) (before after :
   pub core : (a : Account) → CoreStands book old.core a → CoreStands book new.core (consuming (earlier ++ last ∷ []) a)
   pub notes : (a : Account) → CoreStands book old.core a
       → PartAdded (before ++ notes_over book a.thread a.sets a.past earlier) (notes_at book a.thread (a.past ++ earlier) last 0 a.sets) after
-  pub told : (a : Account) → Stands book old a → (later : List Occ) × (a.rest ≡ earlier ++ last ∷ later) × (coming new.reader ≡ Some (record { rest = later; mark = a.mark }))
+  pub told : (a : Account) → Stands book old a
+      → (later : List Occ) × (a.rest ≡ earlier ++ last ∷ later) × (coming new.reader ≡ Some (record { rest = later; mark = a.mark }))
 
 -- No other call is refused memory.
 abbrev pub IsCutIn : Book → SessionView → SessionView → Call → List Note → List Note → Type 0

@@ -220,10 +220,13 @@ impl<S: Source> Session<S> {
     ) -> Result<Reply, AllocError>
         requires ready { IsReady book.now self.old }
         requires good { IsGood book.now self.old.core.shape c.now }
-        ensures stands { (a : Account) → Stands book.now self.old a → OnOk result (Stands book.now self.new (step book.now self.old.core.shape a c.now).account) }
+        ensures stands { (a : Account) → Stands book.now self.old a
+            → OnOk result (Stands book.now self.new (step book.now self.old.core.shape a c.now).account) }
         ensures reply { (a : Account) → Stands book.now self.old a → IfOk result (λ r. r ≡ (step book.now self.old.core.shape a c.now).reply) }
-        ensures notes { (a : Account) → Stands book.now self.old a → OnOk result (notes h.new ≡ notes h.old ++ (step book.now self.old.core.shape a c.now).notes) }
-        ensures part { (a : Account) → Stands book.now self.old a → OnErr result (PartAdded (notes h.old) (step book.now self.old.core.shape a c.now).notes (notes h.new)) }
+        ensures notes { (a : Account) → Stands book.now self.old a
+            → OnOk result (notes h.new ≡ notes h.old ++ (step book.now self.old.core.shape a c.now).notes) }
+        ensures part { (a : Account) → Stands book.now self.old a
+            → OnErr result (PartAdded (notes h.old) (step book.now self.old.core.shape a c.now).notes (notes h.new)) }
 
         // Told or not.
         ensures follows { IfOk result (λ r. FollowsAs book.now self.old self.new c.now r (notes h.old) (notes h.new)) }

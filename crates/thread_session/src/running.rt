@@ -65,10 +65,13 @@ impl<S: Source> Session<S> {
     /// taken by the handler alone.
     pub fn run(&mut self, book: &PresetBook, n: u32, h: &mut dyn Handler) -> Result<Ran, AllocError>
         requires ready { IsReady book.now self.old }
-        ensures stands { (a : Account) → Stands book.now self.old a → OnOk result (Stands book.now self.new (step book.now self.old.core.shape a (Run n)).account) }
+        ensures stands { (a : Account) → Stands book.now self.old a
+            → OnOk result (Stands book.now self.new (step book.now self.old.core.shape a (Run n)).account) }
         ensures reply { (a : Account) → Stands book.now self.old a → IfOk result (λ ran. run_reply ran ≡ (step book.now self.old.core.shape a (Run n)).reply) }
-        ensures notes { (a : Account) → Stands book.now self.old a → OnOk result (notes h.new ≡ notes h.old ++ (step book.now self.old.core.shape a (Run n)).notes) }
-        ensures part { (a : Account) → Stands book.now self.old a → OnErr result (PartAdded (notes h.old) (step book.now self.old.core.shape a (Run n)).notes (notes h.new)) }
+        ensures notes { (a : Account) → Stands book.now self.old a
+            → OnOk result (notes h.new ≡ notes h.old ++ (step book.now self.old.core.shape a (Run n)).notes) }
+        ensures part { (a : Account) → Stands book.now self.old a
+            → OnErr result (PartAdded (notes h.old) (step book.now self.old.core.shape a (Run n)).notes (notes h.new)) }
 
         // Told or not.
         ensures follows { IfOk result (λ ran. FollowsAs book.now self.old self.new (Run n) (run_reply ran) (notes h.old) (notes h.new)) }

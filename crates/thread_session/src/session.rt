@@ -51,7 +51,8 @@ impl<S: Source> Session<S> {
         ensures shape { IfOk result (λ s. s.core.shape ≡ shape) }
         ensures reader { IfOk result (λ s. s.reader ≡ reader) }
         ensures ready { (book : Book) → BookFits shape book → IfOk result (λ s. IsReady book s) }
-        ensures stands { (book : Book) (stream : Coming) → coming reader ≡ Some stream → IfOk result (λ s. Stands book s (opening thread stream.rest stream.mark)) }
+        ensures stands { (book : Book) (stream : Coming) → coming reader ≡ Some stream
+            → IfOk result (λ s. Stands book s (opening thread stream.rest stream.mark)) }
     {
         let core = Core::new(alloc, thread, shape)?;
         Ok(Session::over(core, reader))
