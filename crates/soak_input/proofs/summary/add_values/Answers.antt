@@ -1,0 +1,17 @@
+use Rattle.std.specs.Prelude.{FitsSigned}
+use Rattle.std.specs.Int.{int_wrapping_add}
+use Rattle.std.proofs.Common.{◌∙◌, ap, rules, to_z, w64}
+use Rattle.std.proofs.lemmas.Int.{to_z-of_z}
+use Rattle.soak_input.proofs.Sums.{added_more, from_value}
+use Rattle.soak_input.proofs.summary.add_values.Goals as goal
+
+pub loop-i-preserved : goal.loop-i-preserved
+loop-i-preserved c =
+    let value = c.at.result in
+    let next = c.wrapped_sum-sum.result in
+    let sum = to_z w64 c.loop-i.sum-bits in
+    let value_fits : FitsSigned w64 value = search rules in
+    let next_fits : FitsSigned w64 next = search rules in
+    rw (to_z-of_z w64 next next_fits)
+    (added_more (int_wrapping_add w64) c.args.values.now c.loop-i.i value sum next _ (from_value c.args.values.now c.loop-i.i value c.at.ensures.item)
+    (c.wrapped_sum-sum.ensures ∙ ap (int_wrapping_add w64 sum) (to_z-of_z w64 value value_fits)) c.loop-i.invariant)

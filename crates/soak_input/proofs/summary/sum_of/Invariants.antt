@@ -1,0 +1,6 @@
+use Rattle.std.proofs.Common.{◌≡◌, drop, fold}
+use Rattle.soak_input.specs.Summary.{add_values, sum_of}
+use Rattle.soak_input.proofs.summary.sum_of.Given as goal
+
+abbrev pub invariant-loop-total : goal.invariant-loop-total
+invariant-loop-total l = fold (λ sum total. add_values sum total.values) l.sum (drop l.total-index l.totals) ≡ sum_of l.totals
