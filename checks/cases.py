@@ -34,11 +34,13 @@ def read_tables(document: Path) -> list[dict[str, list[str]]]:
 
 
 def _rows(document: Path, sections: dict[str, str], section: str) -> dict[str, list[str]]:
+    """The rows of all tables of a section. Where there is one cell after the first, it is that of both sides."""
     if section not in sections:
         raise Fault(f"{document}: there is no section {section}")
-    lines = [line for line in sections[section].splitlines() if line.startswith("| ")][1:]
-    cells = [[cell.strip().strip("`") for cell in line.strip().strip("|").split("|")] for line in lines]
-    return {row[0].replace("`", ""): row[1:] for row in cells}
+    lines = sections[section].splitlines()
+    rows = [line for line, below in zip(lines, lines[1:] + [""]) if line.startswith("| ") and not below.startswith("|-")]
+    cells = [[cell.strip().strip("`") for cell in row.strip().strip("|").split("|")] for row in rows]
+    return {row[0].replace("`", ""): (row[1:] * 2)[:2] for row in cells}
 
 
 Replies = list[str]
