@@ -10,7 +10,7 @@ from parts.cache import Cache, CacheShape, read_shape
 from parts.command import Fault
 from parts.lackey import Access, TracedRun
 from parts.recording import Recorder, from_entry
-from tests.support import ROOT, TOOLS, InFolder, needs_command, needs_program, run_program, run_tool
+from tests.support import ROOT, TOOLS, InFolder, needs_command, needs_libpfm4, needs_program, run_program, run_tool
 
 ACCESSES = [Access("I", "10", 3), Access("L", "ff8", 8), Access("I", "13", 4), Access("S", "1000", 8), Access("M", "103c", 8)]
 
@@ -55,6 +55,7 @@ class Lines(unittest.TestCase):
 
 
 @needs_command("valgrind", "valgrind")
+@needs_command("nm", "binutils")
 @needs_command("cc", "a C compiler")
 class RealProgram(InFolder):
     def setUp(self) -> None:
@@ -89,17 +90,44 @@ class RealProgram(InFolder):
         self.assertGreaterEqual(len(misses), 8)
         self.assertRegex(done.stderr, rf"^record: [\d,]+ instructions, {len(loads)} loads, \d+ stores, {len(misses)} misses\n$")
 
-    @needs_program
-    def test_the_program_counts_what_was_recorded(self) -> None:
+    def test_a_program_that_is_loaded_anywhere(self) -> None:
+        """The first instruction is where make_map has the function."""
+        program, stream = str(self.folder / "anywhere"), str(self.folder / "stream")
+        words = ["cc", "-O1", "-nostdlib", "-static-pie", "-fpie", "-fno-stack-protector", "-o", program]
+        subprocess.run([*words, str(TOOLS / "tests/sample.c")], check=True)
+        self.assertEqual(run_tool("record", "--from", "look", "-o", stream, program).returncode, 0)
+        with open(stream, encoding="ascii") as file:
+            head, first = file.readline(), file.readline()
+        base = head.removeprefix("# loaded at ").strip()
+        self.assertNotEqual(base, "0x0")
+        ranges = run_tool("make_map", "--base", base, program).stdout
+        self.assertIn(f"RANGE,look,0x{first.split()[5]},", ranges)
+
+    def count(self, unit: str, events: list[str], presets: list[str]) -> tuple[list[str], str]:
+        """What record tells of the sample, and what the program counts of these events."""
         stream = str(self.folder / "stream")
         done = run_tool("record", "--cache", "256,2,64", "-o", stream, self.program)
         told = [number.replace(",", "") for number in re.findall(r"([\d,]+) [ilsm]", done.stderr)]
-        presets = ["PAPI_TOT_INS", "PAPI_LD_INS", "PAPI_SR_INS", "PAPI_L1_DCM"]
-        calls = ["create"] + [f"add 0 {preset}" for preset in presets] + ["start 0", "run 100000", "stop 0"]
+        calls = ["create"] + [f"add 0 {event}" for event in events] + ["start 0", "run 100000", "stop 0"]
         script = self.write("script", "".join(f"0 {call}\n" for call in calls))
-        unit, table = str(ROOT / "examples/recorded.unit"), str(ROOT / "examples/recorded.presets")
-        counted = run_program("papi_run", "-U", unit, "-P", table, "-C", "recorded", script, stream)
-        self.assertEqual(counted.stdout.splitlines()[-1], "8 0 stop PAPI_OK " + " ".join(told))
+        counted = run_program("papi_run", "-U", unit, *presets, script, stream)
+        self.assertEqual(counted.stderr, "")
+        return told, counted.stdout.splitlines()[-1].removeprefix("8 0 stop PAPI_OK ")
+
+    @needs_program
+    def test_the_presets_of_a_recorded_program(self) -> None:
+        events = ["PAPI_TOT_INS", "PAPI_LD_INS", "PAPI_SR_INS", "PAPI_L1_DCM"]
+        presets = ["-P", str(ROOT / "examples/recorded.presets"), "-C", "recorded"]
+        told, counted = self.count(str(ROOT / "examples/recorded.unit"), events, presets)
+        self.assertEqual(counted, " ".join(told))
+
+    @needs_program
+    @needs_libpfm4
+    def test_the_events_of_a_real_processor(self) -> None:
+        events = ["INST_RETIRED:ANY_P", "MEM_INST_RETIRED:ALL_LOADS", "MEM_INST_RETIRED:ALL_STORES", "L1D:REPLACEMENT"]
+        unit = self.write("skl.unit", run_tool("make_unit", "skl").stdout)
+        told, counted = self.count(unit, events, [])
+        self.assertEqual(counted, " ".join(told))
 
     def test_refusals(self) -> None:
         cases = (
