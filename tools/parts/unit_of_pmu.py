@@ -1,7 +1,7 @@
 """A unit file's rows out of libpfm4's table of a PMU, and what cannot be said in them.
 
-The unit accepts a name only where libpfm4 gives it the code that the unit gives. So every name is encoded by
-libpfm4, and what its code is made of decides.
+Every name is encoded by libpfm4, and what its code is made of decides. So where both accept a name they give it the
+same code. The unit also accepts some modifiers that libpfm4 refuses: it has all of them for all events.
 """
 
 from __future__ import annotations
@@ -72,6 +72,8 @@ class CodedUmask:
 
 
 class Converter:
+    """Makes one unit, and keeps the account of what it left out."""
+
     def __init__(self, library: Libpfm4, pmu: Pmu, table: CounterTable | None = None, width: int = 48):
         self.library = library
         self.pmu = pmu
