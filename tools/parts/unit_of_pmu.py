@@ -52,7 +52,7 @@ class Account:
         lines += [f"left out: modifier {name} of {counted(count, 'event')}" for name, count in sorted(self.modifiers.items())]
         if self.lacking_modifiers:
             lacking = counted(self.lacking_modifiers, "event")
-            lines.append(f"taken all the same: {' '.join(SAYABLE_MODIFIERS)} of {lacking} that lack one of them in libpfm4")
+            lines.append(f"taken all the same: the modifiers {' '.join(SAYABLE_MODIFIERS)}, of which libpfm4 lacks some for {lacking}")
         if with_files:
             lines.append(f"counters: {self.counters_known:,} of {self.codes:,} codes are in the event files")
         return lines
