@@ -111,6 +111,7 @@ class RealProcessors(InFolder):
     def test_all_encodings_agree(self) -> None:
         done = subprocess.run([str(ROOT / "checks/encodings")], capture_output=True, text=True)
         self.assertEqual((done.returncode, done.stderr), (0, ""), done.stdout)
+        print("encodings:", done.stdout.splitlines()[-1])
 
 
 class Words(unittest.TestCase):
