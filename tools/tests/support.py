@@ -8,6 +8,7 @@ import subprocess
 import tempfile
 import unittest
 from pathlib import Path
+from typing import Any, Callable
 
 TOOLS = Path(__file__).resolve().parent.parent
 ROOT = TOOLS.parent
@@ -36,7 +37,7 @@ needs_libpfm4 = unittest.skipUnless(has_library("libpfm.so.4"), "libpfm4 is not 
 needs_program = unittest.skipUnless(PROGRAM.exists(), "crates/papi/out/papi is not built")
 
 
-def needs_command(command: str, package: str) -> object:
+def needs_command(command: str, package: str) -> Callable[[Any], Any]:
     return unittest.skipUnless(shutil.which(command), f"{package} is not installed")
 
 

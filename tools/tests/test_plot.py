@@ -7,7 +7,7 @@ from xml.etree import ElementTree
 
 from parts.chart import MOST_BARS
 from parts.command import Fault
-from parts.profile import read_profile
+from parts.profile import Bucket, read_profile
 from tests.support import run_tool
 
 # The first worked example of papi_profil, and one with more in it.
@@ -26,8 +26,8 @@ class Reading(unittest.TestCase):
         profile = read_profile(LARGE.splitlines())
         self.assertEqual([(function.name, function.hits) for function in profile.functions], [("cold", 0), ("warm", 10), ("hot", 85)])
         self.assertEqual((profile.outside, profile.total), (5, 100))
-        hottest = profile.functions[1].hottest()
-        self.assertEqual((hottest.address, hottest.hits), (0x14, 6))
+        self.assertEqual(profile.functions[1].hottest(), Bucket(0x14, 6))
+        self.assertIsNone(profile.functions[0].hottest())
 
     def test_refusals(self) -> None:
         cases = (
