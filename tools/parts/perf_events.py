@@ -65,6 +65,8 @@ def _entries(name: str) -> list[dict[str, Any]]:
         entries = json.loads(read_file(name))
     except json.JSONDecodeError as error:
         raise Fault(f"{name}: line {error.lineno}: not JSON: {error.msg}") from None
+    if isinstance(entries, dict) and all(isinstance(value, str) for value in entries.values()):
+        return []  # metricgroups.json, which lies beside the lists of events
     if not isinstance(entries, list) or not all(isinstance(entry, dict) for entry in entries):
         raise Fault(f"{name}: not a list of events, as perf's event files are")
     return entries

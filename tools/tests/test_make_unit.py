@@ -47,10 +47,15 @@ class EventFiles(InFolder):
         self.assertIsNone(table.places((0xFF, 0x00)))
         self.assertEqual(table.programmable(), 4)
 
+    def test_texts_of_metrics_are_passed_over(self) -> None:
+        texts = self.write("metricgroups.json", '{"Backend": "Grouping of metrics"}')
+        self.assertEqual(read_event_files([texts]).programmable(), 0)
+
     def test_refusals(self) -> None:
         cases = (
             ("[", "line 1: not JSON"),
-            ("{}", "not a list of events"),
+            ('{"EventName": 1}', "not a list of events"),
+            ("[1]", "not a list of events"),
             ('[{"EventName": "A", "Counter": "x", "EventCode": "0x1"}]', "A: EventCode, UMask or Counter"),
         )
         for text, cause in cases:
