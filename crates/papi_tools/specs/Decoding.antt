@@ -1,5 +1,5 @@
 -- What `papi_decode` comes to: the presets of a cpu as a preset file, after papi_decode(1). The text is that of docs/FORMATS.md.
-use Rattle.std.specs.Prelude.{ℕ, Bool, true, false, List, [], Result, Ok}
+use Rattle.std.specs.Prelude.{ℕ, Bool, true, false, List, Result, Ok}
 use Rattle.papi_base.specs.Outside.{Held, opened}
 use Rattle.component_table.specs.Books.{available_only, book_of}
 use Rattle.event_tables.specs.Tables.{ComponentText}
@@ -10,10 +10,10 @@ use Rattle.papi_tools.specs.Opening.{file_bytes}
 use Rattle.papi_tools.specs.PresetFile.{presets_of}
 use Rattle.papi_tools.specs.declared.limits.TheConstants.{TABLE_BYTES}
 use Rattle.papi_tools.specs.Steps.{and_then}
+use Rattle.papi_tools.specs.Texts.{text_said}
 use Rattle.papi_tools.specs.UnitFile.{unit_under}
 use Rattle.papi_tools.specs.declared.refusal.Refusal.{Refusal}
 use Rattle.papi_tools.specs.declared.said.Said.{Said}
-use Rattle.papi_tools.specs.declared.status.Outcome.TheVariants.{Whole}
 
 -- the presets that are shown: all of them, or the available ones alone
 abbrev pub shown_of : Bool → List ComponentText → TableView → TableView
@@ -25,7 +25,7 @@ unfoldable pub shown_in : DecodeWords → List ComponentText → List ℕ → Re
 shown_in words tables bytes = and_then (presets_of words.presets bytes) (λ presets. Ok (shown_of words.available tables presets))
 
 abbrev pub decoded_said : TableView → Said
-decoded_said presets = record { outcome = Whole; out = table_text presets; err = [] }
+decoded_said presets = text_said true (table_text presets)
 
 -- the unit, then the preset file
 unfoldable pub decode_verdict : Held → DecodeWords → Result Said Refusal

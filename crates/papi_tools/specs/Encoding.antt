@@ -1,6 +1,6 @@
 -- What `papi_encode` comes to: a line for each name. Names, causes and codes are libpfm4's, and the text is this project's own
 -- (docs/FORMATS.md).
-use Rattle.std.specs.Prelude.{ℕ, List, [], ◌∷◌, ◌++◌, false, codes, if◌then◌else◌, is_ok, Result, Ok, Err}
+use Rattle.std.specs.Prelude.{ℕ, List, [], ◌∷◌, ◌++◌, false, codes, is_ok, Result, Ok, Err}
 use Rattle.std.specs.Fmt.{digits}
 use Rattle.std.specs.List.{list_all}
 use Rattle.papi_base.specs.Outside.{Held}
@@ -11,11 +11,10 @@ use Rattle.name_encoder.specs.Names.{names, word_of}
 use Rattle.name_encoder.specs.declared.fault.NameFault.{NameFault}
 use Rattle.tool_words.specs.declared.encode.EncodeWords.{EncodeWords}
 use Rattle.papi_tools.specs.Steps.{and_then}
+use Rattle.papi_tools.specs.Texts.{text_said}
 use Rattle.papi_tools.specs.UnitFile.{unit_under}
 use Rattle.papi_tools.specs.declared.refusal.Refusal.{Refusal}
 use Rattle.papi_tools.specs.declared.said.Said.{Said}
-use Rattle.papi_tools.specs.declared.status.Outcome.{Outcome}
-use Rattle.papi_tools.specs.declared.status.Outcome.TheVariants.{Whole, No}
 
 -- the code of a native event: `0x` and hexadecimal digits without leading zeros
 abbrev pub code_text : Native → List ℕ
@@ -32,11 +31,8 @@ encoding_lines tables [] = []
 encoding_lines tables (n ∷ ns) = answer_line tables n (names tables n) ++ encoding_lines tables ns
 
 -- a name that names no native event is a no
-abbrev pub encoding_outcome : List ComponentText → List (List ℕ) → Outcome
-encoding_outcome tables ns = if list_all (λ n. is_ok (names tables n)) ns then Whole else No
-
 unfoldable pub encoded_said : List ComponentText → List (List ℕ) → Said
-encoded_said tables ns = record { outcome = encoding_outcome tables ns; out = encoding_lines tables ns; err = [] }
+encoded_said tables ns = text_said (list_all (λ n. is_ok (names tables n)) ns) (encoding_lines tables ns)
 
 -- the unit, then the names
 unfoldable pub encode_verdict : Held → EncodeWords → Result Said Refusal

@@ -1,14 +1,17 @@
 pub mod Answers
 pub mod Carried
 pub mod Causes
+pub mod Choosing
 pub mod Decoding
 pub mod Encoding
 pub mod ErrorLines
 pub mod Looking
 pub mod Marks
+pub mod NativeListing
 pub mod Opening
 pub mod Outputs
 pub mod PresetFile
+pub mod PresetListing
 pub mod Run
 pub mod Running
 pub mod Saying
@@ -18,6 +21,7 @@ pub mod Status
 pub mod Steps
 pub mod Streams
 pub mod Tables
+pub mod Texts
 pub mod UnitFile
 pub mod Verdict
 pub use Rattle.component_table.specs.Catalogs

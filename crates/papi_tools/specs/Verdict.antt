@@ -5,11 +5,14 @@ use Rattle.overflow_dispatch.specs.declared.handler.Note.{Note}
 use Rattle.overflow_dispatch.specs.Notes.{EachAdded, EachBegun}
 use Rattle.tool_words.specs.Form.{form}
 use Rattle.tool_words.specs.declared.command.Command.{Command}
-use Rattle.tool_words.specs.declared.command.Command.TheVariants.{Run, Encode, Decode}
+use Rattle.tool_words.specs.declared.command.Command.TheVariants.{Run, Avail, NativeAvail, Decode, EventChooser, Encode}
 use Rattle.papi_tools.specs.Answers.{AnswersBy}
+use Rattle.papi_tools.specs.Choosing.{chooser_verdict}
 use Rattle.papi_tools.specs.Decoding.{decode_verdict}
 use Rattle.papi_tools.specs.Encoding.{encode_verdict}
 use Rattle.papi_tools.specs.ErrorLines.{line_of, outcome_of}
+use Rattle.papi_tools.specs.NativeListing.{native_avail_verdict}
+use Rattle.papi_tools.specs.PresetListing.{avail_verdict}
 use Rattle.papi_tools.specs.Run.{run_verdict}
 use Rattle.papi_tools.specs.Steps.{Verdict, quiet}
 use Rattle.papi_tools.specs.declared.refusal.Refusal.{Refusal}
@@ -21,8 +24,11 @@ use Rattle.papi_tools.specs.declared.said.Said.{Said}
 -- what a command comes to: a row for each tool
 abbrev pub command_verdict : Held → Command → Result Verdict Refusal
 command_verdict held (Run words) = run_verdict held words
-command_verdict held (Encode words) = quiet (encode_verdict held words)
+command_verdict held (Avail words) = quiet (avail_verdict held words)
+command_verdict held (NativeAvail words) = quiet (native_avail_verdict held words)
 command_verdict held (Decode words) = quiet (decode_verdict held words)
+command_verdict held (EventChooser words) = quiet (chooser_verdict held words)
+command_verdict held (Encode words) = quiet (encode_verdict held words)
 
 -- what the words come to, where they are a command
 abbrev pub verdict_for : Held → Option Command → Result Verdict Refusal

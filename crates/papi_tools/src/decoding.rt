@@ -8,7 +8,7 @@ ghost use Rattle.papi_tools.specs.Seen.{FilesSeen, files_seen};
 
 use crate::preset_file::{presets_in, read_preset_bytes};
 use crate::unit_file::read_unit_file;
-use crate::{Outcome, Output, Said, Stop};
+use crate::{Said, Stop};
 use component_table::Catalog;
 use event_tables::Tables;
 use papi_base::{Bytes, Files};
@@ -42,11 +42,7 @@ fn said_of(alloc: Global, presets: &PresetTable) -> Result<Said, AllocError>
     ensures textual { IfOk result (λ said. IsTextual said.outcome) }
 {
     let text = write_presets(alloc, presets)?;
-    Ok(Said {
-        outcome: Outcome::Whole,
-        out: Output::text(Bytes::new(text)),
-        err: Bytes::new(Vec::new(alloc)),
-    })
+    Ok(Said::text(alloc, true, Bytes::new(text)))
 }
 
 /// `papi_decode`: reads the unit and the preset file, and gives the presets of a cpu as a preset file, all of them or the

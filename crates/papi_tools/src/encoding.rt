@@ -1,5 +1,5 @@
 //! `papi_encode`: gives the codes of events.
-ghost use Rattle.std.specs.Prelude.{◌≡◌, IfOk, IfSome, if◌then◌else◌, string_bytes};
+ghost use Rattle.std.specs.Prelude.{◌≡◌, IfOk, IfSome, string_bytes};
 ghost use Rattle.papi_tools.specs.Answers.{Answers};
 ghost use Rattle.papi_tools.specs.Causes.{IsTextual};
 ghost use Rattle.papi_tools.specs.Encoding.{answer_line, encode_verdict, encoded_said};
@@ -7,7 +7,7 @@ ghost use Rattle.papi_tools.specs.Looking.{Looked};
 ghost use Rattle.papi_tools.specs.Seen.{files_seen};
 
 use crate::unit_file::read_unit_file;
-use crate::{Outcome, Output, Said, Stop};
+use crate::{Said, Stop};
 use event_tables::Tables;
 use name_encoder::{NameFault, cause_word, code64, encode, write_name};
 use papi_base::{Bytes, Files, Native, Text};
@@ -36,17 +36,6 @@ fn line_of(
     }
 }
 
-// How a call ends of whose names all are names of native events, or not.
-fn outcome_of(all_encode: bool) -> Outcome
-    ensures { result ≡ (if all_encode then Outcome.Whole else Outcome.No) }
-{
-    if all_encode {
-        Outcome::Whole
-    } else {
-        Outcome::No
-    }
-}
-
 // What is said of names.
 #[tactic(auto, unfolding(crate::specs::Encoding::encoded_said))]
 fn said_of(alloc: Global, tables: &Tables, names: &[Text]) -> Result<Said, AllocError>
@@ -63,11 +52,7 @@ fn said_of(alloc: Global, tables: &Tables, names: &[Text]) -> Result<Said, Alloc
         let line = line_of(alloc, tables, name, answer)?;
         lines.append(line.as_bytes())?;
     }
-    Ok(Said {
-        outcome: outcome_of(all_encode),
-        out: Output::text(lines),
-        err: Bytes::new(Vec::new(alloc)),
-    })
+    Ok(Said::text(alloc, all_encode, lines))
 }
 
 /// `papi_encode`: reads the unit, and gives each name's canonical name and code, or why it names no native event.

@@ -26,16 +26,24 @@ COMPONENT,net,wire\n\
 COUNTER,M0,48,P\n\
 EVENT,PACKETS,10,M0,Packets seen\n";
 
-const PRESETS: &str = "CPU,lab1\n\
+const PRESETS: &str = "# presets of the lab unit\n\
+CPU,lab1\n\
 CPU,lab2\n\
-PRESET,PAPI_TOT_CYC, NOT_DERIVED, lab::CYCLES, NOTE, 'core, not reference'\n\
+PRESET,PAPI_TOT_INS,NOT_DERIVED,lab::INST_RETIRED\n\
+PRESET, PAPI_TOT_CYC, NOT_DERIVED, lab::CYCLES, NOTE, 'core, not reference'\n\
+PRESET,PAPI_BR_INS,NOT_DERIVED,lab::BR_INST:ALL\n\
+PRESET,PAPI_BR_MSP,NOT_DERIVED,lab::BR_MISP\n\
 PRESET,PAPI_RES_STL,DERIVED_SUB,lab::CYCLES,lab::INST_RETIRED\n\
 PRESET,PAPI_LST_INS,DERIVED_ADD,lab::CACHE,lab::INST_RETIRED\n\
 PRESET,PAPI_BR_PRC,DERIVED_POSTFIX,N0|N1|-|,lab::BR_INST:ALL,lab::BR_MISP\n\
+PRESET,PAPI_FP_OPS,DERIVED_PS,lab::INST_RETIRED\n\
+PRESET,PAPI_FOO,NOT_DERIVED,lab::CYCLES\n\
 PRESET,PAPI_L1_DCM,NOT_DERIVED,lab::NO_SUCH\n\
-PRESET,PAPI_TOT_INS,DERIVED_POSTFIX,N0|9223372036854775807|*|,lab::INST_RETIRED\n\
 CPU,other\n\
-PRESET,PAPI_TOT_INS,NOT_DERIVED,lab::CYCLES\n";
+PRESET,PAPI_TOT_INS,NOT_DERIVED,lab::CYCLES\n\
+CPU,wide\n\
+PRESET,PAPI_TOT_INS,DERIVED_POSTFIX,N0|9223372036854775807|*|,lab::INST_RETIRED\n\
+PRESET,PAPI_TOT_CYC,NOT_DERIVED,lab::CYCLES\n";
 
 /// A file: its name, its text and how it ends.
 pub(crate) type TestFile<'a> = (&'a str, &'a str, Ending);
@@ -72,12 +80,13 @@ pub(crate) fn good<'a>(script: &'a str, stream: &'a str, tail: &'a str) -> Row<'
     }
 }
 
-/// A row of words over the unit and the presets alone.
-pub(crate) fn said<'a>(words: &'a str, status: u8, tail: &'a str) -> Row<'a> {
+/// A row of words over the unit and the presets alone, whose whole output is this text.
+pub(crate) fn said<'a>(words: &'a str, status: u8, text: &'a str) -> Row<'a> {
     Row {
         words,
         status,
-        ..good("", "", tail)
+        room: text.len() as u64,
+        ..good("", "", text)
     }
 }
 

@@ -1,13 +1,16 @@
 //! The tools, and the top call that carries out what the words ask for.
 #![tactic(auto)]
 
+pub mod choosing;
 pub mod decoding;
 pub mod encoding;
 pub mod limits;
 pub mod marks;
+pub mod native_listing;
 pub mod opening;
 pub mod output;
 pub mod preset_file;
+pub mod preset_listing;
 pub mod refusal;
 pub mod run;
 pub mod running;
@@ -27,7 +30,7 @@ pub use output::Output;
 pub use refusal::{Refusal, Stop};
 pub use said::Said;
 pub use status::{Outcome, Status, status_number};
-pub use tool::{decode, encode_tool, run_tool};
+pub use tool::{avail, decode, encode_tool, event_chooser, native_avail, run_tool};
 pub use top::papi_main;
 
 #[cfg(test)]
@@ -36,6 +39,8 @@ mod counting_sink;
 mod lab;
 #[cfg(test)]
 mod waiting_sources;
+#[cfg(test)]
+mod worked_lists;
 #[cfg(test)]
 mod worked_scripts;
 #[cfg(test)]

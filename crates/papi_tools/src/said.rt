@@ -1,6 +1,11 @@
 //! What a call is to write, and how it ends then.
+ghost use Rattle.std.specs.Prelude.{◌≡◌};
+ghost use Rattle.papi_tools.specs.Causes.{IsTextual};
+ghost use Rattle.papi_tools.specs.Texts.{text_said};
+
 use crate::{Outcome, Output};
 use papi_base::Bytes;
+use std::alloc::Global;
 
 /// What a call is to write, and how it ends then: the output, and the lines on standard error.
 #[derive(Drop)]
@@ -8,4 +13,19 @@ pub struct Said {
     pub outcome: Outcome,
     pub out: Output,
     pub err: Bytes,
+}
+
+impl Said {
+    /// The text of a tool that looks at files alone, which says yes or no.
+    pub fn text(alloc: Global, is_yes: bool, text: Bytes) -> Said
+        ensures said { result ≡ text_said is_yes text }
+        ensures textual { IsTextual result.outcome }
+    {
+        let outcome = if is_yes { Outcome::Whole } else { Outcome::No };
+        Said {
+            outcome,
+            out: Output::text(text),
+            err: Bytes::new(Vec::new(alloc)),
+        }
+    }
 }

@@ -75,8 +75,8 @@ fn quiet_tool<R: Threads + Sync, F: Files, K: Sink>(
     papi_main(rt, alloc, &all, files, out, err, &mut handlers)
 }
 
-/// `papi_encode` over the words after its name, as `papi_main` does it.
-pub fn encode_tool<R: Threads + Sync, F: Files, K: Sink>(
+/// `papi_avail` over the words after its name, as `papi_main` does it.
+pub fn avail<R: Threads + Sync, F: Files, K: Sink>(
     rt: &R,
     alloc: Global,
     words: &[String],
@@ -84,11 +84,27 @@ pub fn encode_tool<R: Threads + Sync, F: Files, K: Sink>(
     out: &mut K,
     err: &mut K,
 ) -> Status
-    ensures { CarriesOut (codes "papi_encode" ∷ map string_bytes words.now) result
+    ensures { CarriesOut (codes "papi_avail" ∷ map string_bytes words.now) result
         (files_seen F.held F.misses F.faults F.lent files.old) (files_seen F.held F.misses F.faults F.lent files.new)
         (sink_seen K.taken K.faults out.old) (sink_seen K.taken K.faults out.new) (sink_seen K.taken K.faults err.old) (sink_seen K.taken K.faults err.new) }
 {
-    quiet_tool(rt, alloc, "papi_encode", words, files, out, err)
+    quiet_tool(rt, alloc, "papi_avail", words, files, out, err)
+}
+
+/// `papi_native_avail` over the words after its name, as `papi_main` does it.
+pub fn native_avail<R: Threads + Sync, F: Files, K: Sink>(
+    rt: &R,
+    alloc: Global,
+    words: &[String],
+    files: &mut F,
+    out: &mut K,
+    err: &mut K,
+) -> Status
+    ensures { CarriesOut (codes "papi_native_avail" ∷ map string_bytes words.now) result
+        (files_seen F.held F.misses F.faults F.lent files.old) (files_seen F.held F.misses F.faults F.lent files.new)
+        (sink_seen K.taken K.faults out.old) (sink_seen K.taken K.faults out.new) (sink_seen K.taken K.faults err.old) (sink_seen K.taken K.faults err.new) }
+{
+    quiet_tool(rt, alloc, "papi_native_avail", words, files, out, err)
 }
 
 /// `papi_decode` over the words after its name, as `papi_main` does it.
@@ -105,4 +121,36 @@ pub fn decode<R: Threads + Sync, F: Files, K: Sink>(
         (sink_seen K.taken K.faults out.old) (sink_seen K.taken K.faults out.new) (sink_seen K.taken K.faults err.old) (sink_seen K.taken K.faults err.new) }
 {
     quiet_tool(rt, alloc, "papi_decode", words, files, out, err)
+}
+
+/// `papi_event_chooser` over the words after its name, as `papi_main` does it.
+pub fn event_chooser<R: Threads + Sync, F: Files, K: Sink>(
+    rt: &R,
+    alloc: Global,
+    words: &[String],
+    files: &mut F,
+    out: &mut K,
+    err: &mut K,
+) -> Status
+    ensures { CarriesOut (codes "papi_event_chooser" ∷ map string_bytes words.now) result
+        (files_seen F.held F.misses F.faults F.lent files.old) (files_seen F.held F.misses F.faults F.lent files.new)
+        (sink_seen K.taken K.faults out.old) (sink_seen K.taken K.faults out.new) (sink_seen K.taken K.faults err.old) (sink_seen K.taken K.faults err.new) }
+{
+    quiet_tool(rt, alloc, "papi_event_chooser", words, files, out, err)
+}
+
+/// `papi_encode` over the words after its name, as `papi_main` does it.
+pub fn encode_tool<R: Threads + Sync, F: Files, K: Sink>(
+    rt: &R,
+    alloc: Global,
+    words: &[String],
+    files: &mut F,
+    out: &mut K,
+    err: &mut K,
+) -> Status
+    ensures { CarriesOut (codes "papi_encode" ∷ map string_bytes words.now) result
+        (files_seen F.held F.misses F.faults F.lent files.old) (files_seen F.held F.misses F.faults F.lent files.new)
+        (sink_seen K.taken K.faults out.old) (sink_seen K.taken K.faults out.new) (sink_seen K.taken K.faults err.old) (sink_seen K.taken K.faults err.new) }
+{
+    quiet_tool(rt, alloc, "papi_encode", words, files, out, err)
 }

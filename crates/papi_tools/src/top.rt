@@ -8,8 +8,11 @@ ghost use Rattle.papi_tools.specs.Looking.{Looked};
 ghost use Rattle.papi_tools.specs.Seen.{files_seen, sink_seen};
 ghost use Rattle.papi_tools.specs.Verdict.{AnswersSaid, TellsBy, command_verdict, notes_in, verdict};
 
+use crate::choosing::choose_events;
 use crate::decoding::decode_presets;
 use crate::encoding::encode_names;
+use crate::native_listing::list_natives;
+use crate::preset_listing::list_presets;
 use crate::run::run;
 use crate::saying::say;
 use crate::settling::{refused, settled};
@@ -41,8 +44,11 @@ fn carried_out<R: Threads + Sync, F: Files>(
 {
     match command {
         Command::Run(words) => run(rt, alloc, files, words, handlers),
-        Command::Encode(words) => encode_names(alloc, files, words),
+        Command::Avail(words) => list_presets(alloc, files, words),
+        Command::NativeAvail(words) => list_natives(alloc, files, words),
         Command::Decode(words) => decode_presets(alloc, files, words),
+        Command::EventChooser(words) => choose_events(alloc, files, words),
+        Command::Encode(words) => encode_names(alloc, files, words),
     }
 }
 

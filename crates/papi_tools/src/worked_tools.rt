@@ -1,27 +1,10 @@
 //! Words of each tool that were worked by hand, and what is refused.
-use crate::lab::{Row, bad, check, files_of, good, said, words_in};
-use crate::{decode, encode_tool, run_tool, status_number};
+use crate::lab::{Row, check, files_of, good, words_in};
+use crate::{avail, decode, encode_tool, event_chooser, native_avail, run_tool, status_number};
 use overflow_dispatch::{Handler, Recorder};
 use papi_base::{Ending, MemSink};
 use std::marker::Send;
 use std::test::Fail;
-
-const NAMES: &str =
-    "papi_encode -U lab.unit lab::INST_RETIRED lab::INST_RETIRED:u lab::INST_RETIRED:c=2:i inst_retired \
-cpu:::BR_INST MEM:STORES:LOADS MEM INST_RETIRED:c=256 INST_RETIRED:u:u BR_INST:ALL:TAKEN INST_RETIRED:x NOPE";
-
-const CODES: &str = "lab::INST_RETIRED 0x5300c0\n\
-lab::INST_RETIRED:u 0x5100c0\n\
-lab::INST_RETIRED:i:c=2 0x2d300c0\n\
-lab::INST_RETIRED 0x5300c0\n\
-lab::BR_INST:ALL 0x5301c4\n\
-lab::MEM:LOADS:STORES 0x5303d0\n\
-UMASK MEM\n\
-ATTR_VAL INST_RETIRED:c=256\n\
-ATTR_SET INST_RETIRED:u:u\n\
-FEATCOMB BR_INST:ALL:TAKEN\n\
-ATTR INST_RETIRED:x\n\
-NOTFOUND NOPE\n";
 
 const SCRIPT: &str =
     "0 create\n0 add 0 INST_RETIRED\n0 start 0\n0 run 3\n0 read 0\n0 run 1\n0 stop 0\n";
@@ -152,34 +135,6 @@ fn refused_files(rt: HostRuntime) -> Result<(), Fail> {
 }
 
 #[test]
-fn names(rt: HostRuntime) -> Result<(), Fail> {
-    let alloc = rt.alloc();
-    let rows = [
-        said(NAMES, 1, CODES),
-        said(
-            "papi_encode -U lab.unit CYCLES:e CYCLES:c=2:e CYCLES:e=2",
-            1,
-            "lab::CYCLES:e 0x57003c\nlab::CYCLES:e:c=2 0x257003c\nATTR_VAL CYCLES:e=2\n",
-        ),
-        said(
-            "papi_encode MEM:LOADS -U lab.unit",
-            0,
-            "lab::MEM:LOADS 0x5301d0\n",
-        ),
-        bad("papi_encode -U lab.unit", "papi: bad words\n"),
-        bad(
-            "papi_encode -U lab.unit --notes CYCLES",
-            "papi: bad words\n",
-        ),
-        bad("papi_encode CYCLES", "papi: bad words\n"),
-    ];
-    for row in &rows {
-        check(&rt, alloc, row)?;
-    }
-    Ok(())
-}
-
-#[test]
 fn each_tool_by_itself(rt: HostRuntime) -> Result<(), Fail> {
     let alloc = rt.alloc();
     let row = good(SCRIPT, STREAM, "");
@@ -231,5 +186,44 @@ fn each_tool_by_itself(rt: HostRuntime) -> Result<(), Fail> {
         out.bytes(),
         b"CPU,other\nPRESET,PAPI_TOT_INS,NOT_DERIVED,lab::CYCLES\n".as_slice()
     );
+    let mut out = MemSink::new(alloc, 100);
+    let words = words_in(alloc, "-U lab.unit -P lab.presets -C lab1 -e PAPI_L1_DCM")?;
+    let ended = avail(
+        &rt,
+        alloc,
+        words.as_slice(),
+        &mut files_of(alloc, &row)?,
+        &mut out,
+        &mut err,
+    );
+    assert_eq!(rt; status_number(ended), 0);
+    assert_eq!(rt;
+        out.bytes(),
+        b"Name: PAPI_L1_DCM\nCode: 0x80000000\nAvailable: No\n".as_slice()
+    );
+    let mut out = MemSink::new(alloc, 100);
+    let words = words_in(alloc, "-U lab.unit -e MEM")?;
+    let ended = native_avail(
+        &rt,
+        alloc,
+        words.as_slice(),
+        &mut files_of(alloc, &row)?,
+        &mut out,
+        &mut err,
+    );
+    assert_eq!(rt; status_number(ended), 1);
+    assert_eq!(rt; out.bytes(), b"UMASK: MEM\n".as_slice());
+    let mut out = MemSink::new(alloc, 100);
+    let words = words_in(alloc, "-U lab.unit NATIVE PACKETS")?;
+    let ended = event_chooser(
+        &rt,
+        alloc,
+        words.as_slice(),
+        &mut files_of(alloc, &row)?,
+        &mut out,
+        &mut err,
+    );
+    assert_eq!(rt; status_number(ended), 0);
+    assert_eq!(rt; out.bytes(), b"Total events: 0\n".as_slice());
     Ok(())
 }

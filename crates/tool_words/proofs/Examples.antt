@@ -3,12 +3,17 @@ use Rattle.std.proofs.Common.{◌≡◌, ℕ, zero, suc, Bool, true, false, List
 use Rattle.clap.specs.Words.{Text}
 use Rattle.clap.proofs.OnLiterals.{clap_on_literals}
 use Rattle.tool_words.specs.declared.command.Command.{Command}
-use Rattle.tool_words.specs.declared.command.Command.TheVariants.{Decode, Encode, Run}
+use Rattle.tool_words.specs.declared.command.Command.TheVariants.{Avail, Decode, Encode, EventChooser, NativeAvail, Run}
+use Rattle.tool_words.specs.declared.chooser.EventKind.{EventKind}
+use Rattle.tool_words.specs.declared.chooser.EventKind.TheVariants.{Native, Preset}
+use Rattle.tool_words.specs.AvailForm.{avail_rules, avail_words_in}
+use Rattle.tool_words.specs.ChooserForm.{chooser_rules, chooser_words_in, events_rule, kind_rule}
 use Rattle.tool_words.specs.EncodeForm.{encode_rules, encode_words_in, names_rule}
 use Rattle.tool_words.specs.Form.{form}
 use Rattle.tool_words.specs.declared.presets.PresetWords.{PresetWords}
-use Rattle.tool_words.specs.DecodeForm.{available_rule, decode_rules, decode_words_in}
-use Rattle.tool_words.specs.Options.{unit_rule}
+use Rattle.tool_words.specs.DecodeForm.{decode_rules, decode_words_in}
+use Rattle.tool_words.specs.NativeAvailForm.{excluded_rule, included_rule, native_avail_rules, native_avail_words_in, no_umasks_rule}
+use Rattle.tool_words.specs.Options.{available_rule, event_rule, unit_rule}
 use Rattle.tool_words.specs.Presets.{cpu_rule, is_cpu, needed_cpu_rule, needed_presets_rule, presets_rule}
 use Rattle.tool_words.specs.RunForm.{notes_rule, run_rules, run_words_in, script_rule}
 use Rattle.tool_words.specs.Streams.{streams_rule}
@@ -16,7 +21,7 @@ use Rattle.tool_words.specs.Words.{read_by}
 use Rattle.tool_words.specs.Workers.{workers_rule}
 
 unfoldable on_words : Unit {0}
-unfolding clap_on_literals read_by unit_rule presets_rule cpu_rule is_cpu run_words_in run_rules workers_rule notes_rule script_rule streams_rule encode_words_in encode_rules names_rule decode_words_in decode_rules needed_presets_rule needed_cpu_rule available_rule
+unfolding clap_on_literals read_by unit_rule presets_rule cpu_rule is_cpu run_words_in run_rules workers_rule notes_rule script_rule streams_rule encode_words_in encode_rules names_rule decode_words_in decode_rules needed_presets_rule needed_cpu_rule available_rule avail_words_in avail_rules event_rule native_avail_words_in native_avail_rules included_rule excluded_rule no_umasks_rule chooser_words_in chooser_rules kind_rule events_rule
 on_words = tt
 
 abbrev lab_run : Text → List Text → Command
@@ -197,9 +202,89 @@ pub option_of_another_tool : form (codes "papi_encode" ∷ codes "-U" ∷ codes 
 unfolding on_words
 option_of_another_tool = refl
 
+-- ---- `papi_avail`
+
+abbrev lab_avail : Bool → Option Text → Option Command
+lab_avail available event =
+    Some (Avail (record { unit = codes "lab.unit"; presets = record { file = codes "p"; cpu = codes "lab2" }; available = available; event = event }))
+
+pub one_preset : form (codes "papi_avail" ∷ codes "-a" ∷ codes "-Ulab.unit" ∷ codes "-Pp" ∷ codes "-e" ∷ codes "PAPI_TOT_CYC" ∷ codes "-Clab2" ∷ []) ≡ lab_avail true (Some (codes "PAPI_TOT_CYC"))
+unfolding on_words
+one_preset = refl
+
+pub listed_presets : form (codes "papi_avail" ∷ codes "-U" ∷ codes "lab.unit" ∷ codes "-P" ∷ codes "p" ∷ codes "-C" ∷ codes "lab2" ∷ []) ≡ lab_avail false None
+unfolding on_words
+listed_presets = refl
+
+pub no_presets : form (codes "papi_avail" ∷ codes "-U" ∷ codes "lab.unit" ∷ codes "-a" ∷ []) ≡ None
+unfolding on_words
+no_presets = refl
+
+pub help_of_avail : form (codes "papi_avail" ∷ codes "--help" ∷ []) ≡ None
+unfolding on_words
+help_of_avail = refl
+
+-- ---- `papi_native_avail`
+
+abbrev lab_natives : Option Text → Option Text → Option Text → Bool → Option Command
+lab_natives event included excluded umasks =
+    Some (NativeAvail (record { unit = codes "lab.unit"; event = event; included = included; excluded = excluded; umasks = umasks }))
+
+pub all_natives : form (codes "papi_native_avail" ∷ codes "-U" ∷ codes "lab.unit" ∷ []) ≡ lab_natives None None None true
+unfolding on_words
+all_natives = refl
+
+pub chosen_natives : form (codes "papi_native_avail" ∷ codes "-x" ∷ codes "INST" ∷ codes "--noumasks" ∷ codes "-U" ∷ codes "lab.unit" ∷ codes "-i=BR" ∷ []) ≡ lab_natives None (Some (codes "BR")) (Some (codes "INST")) false
+unfolding on_words
+chosen_natives = refl
+
+pub one_native : form (codes "papi_native_avail" ∷ codes "-U" ∷ codes "lab.unit" ∷ codes "-e" ∷ codes "MEM:LOADS" ∷ []) ≡ lab_natives (Some (codes "MEM:LOADS")) None None true
+unfolding on_words
+one_native = refl
+
+pub cpu_of_natives : form (codes "papi_native_avail" ∷ codes "-U" ∷ codes "lab.unit" ∷ codes "-C" ∷ codes "lab2" ∷ []) ≡ None
+unfolding on_words
+cpu_of_natives = refl
+
+-- ---- `papi_event_chooser`
+
+abbrev lab_chooser : Option PresetWords → EventKind → List Text → Option Command
+lab_chooser presets kind events = Some (EventChooser (record { unit = codes "lab.unit"; presets = presets; kind = kind; events = events }))
+
+abbrev chooser_words_of : List Text → List Text
+chooser_words_of words = codes "papi_event_chooser" ∷ codes "-U" ∷ codes "lab.unit" ∷ words
+
+pub natives_chosen : form (chooser_words_of (codes "NATIVE" ∷ codes "BR_INST" ∷ codes "REF" ∷ [])) ≡ lab_chooser None Native (codes "BR_INST" ∷ codes "REF" ∷ [])
+unfolding on_words
+natives_chosen = refl
+
+pub presets_chosen : form (chooser_words_of (codes "PRESET" ∷ codes "-Clab2" ∷ codes "MEM" ∷ codes "-P" ∷ codes "p" ∷ codes "--" ∷ codes "-x" ∷ [])) ≡ lab_chooser (lab_presets (codes "lab2")) Preset (codes "MEM" ∷ codes "-x" ∷ [])
+unfolding on_words
+presets_chosen = refl
+
+pub kind_in_lower_case : form (chooser_words_of (codes "native" ∷ codes "BR_INST" ∷ [])) ≡ None
+unfolding on_words
+kind_in_lower_case = refl
+
+pub no_event : form (chooser_words_of (codes "NATIVE" ∷ [])) ≡ None
+unfolding on_words
+no_event = refl
+
+pub presets_of_no_cpu : form (chooser_words_of (codes "-P" ∷ codes "p" ∷ codes "PRESET" ∷ codes "MEM" ∷ [])) ≡ None
+unfolding on_words
+presets_of_no_cpu = refl
+
+pub a_full_set : form (chooser_words_of (codes "NATIVE" ∷ streams 32)) ≡ lab_chooser None Native (streams 32)
+unfolding on_words
+a_full_set = refl
+
+pub an_event_too_many : form (chooser_words_of (codes "NATIVE" ∷ streams 33)) ≡ None
+unfolding on_words
+an_event_too_many = refl
+
 -- ---- no tool
 
-pub other_tool : form (codes "papi_soak" ∷ codes "-U" ∷ codes "lab.unit" ∷ codes "s" ∷ []) ≡ None
+pub other_tool : form (codes "papi_cost" ∷ codes "-U" ∷ codes "lab.unit" ∷ codes "s" ∷ []) ≡ None
 unfolding on_words
 other_tool = refl
 

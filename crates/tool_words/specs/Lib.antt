@@ -5,6 +5,10 @@ pub mod Presets
 pub mod Workers
 pub mod Streams
 pub mod RunForm
+pub mod AvailForm
+pub mod NativeAvailForm
+pub mod ChooserForm
+pub mod SoakForm
 pub mod EncodeForm
 pub mod DecodeForm
 pub mod Form

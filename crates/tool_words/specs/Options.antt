@@ -2,10 +2,19 @@
 use Rattle.std.specs.Prelude.{Bool, true, false, Option, Some, None, codes}
 use Rattle.std.specs.Str.{bytes_eq}
 use Rattle.clap.specs.Words.{Rule, Text, new_rule}
+use Rattle.clap.specs.declared.builder.ArgAction.TheVariants.{SetTrue}
 
--- `-U UNIT`, the unit file, which every tool needs
+-- `-U UNIT`, the unit file, which every tool over files needs
 unfoldable pub unit_rule : Rule
 unit_rule = record (new_rule (codes "unit")) { short = Some 85; required = true }
+
+-- `-a`, the available presets alone
+unfoldable pub available_rule : Rule
+available_rule = record (new_rule (codes "available")) { short = Some 97; action = Some SetTrue }
+
+-- `-e NAME`, one event
+unfoldable pub event_rule : Rule
+event_rule = record (new_rule (codes "event")) { short = Some 101 }
 
 -- whether the value of a flag is there, and set
 abbrev pub is_set : Option Text → Bool

@@ -40,3 +40,8 @@ abbrev pub presets_asked : Option Text → Option Text → Option (Option Preset
 presets_asked None None = Some None
 presets_asked (Some file) (Some cpu) = option_map Some (presets_of file cpu)
 presets_asked _ _ = None
+
+-- the presets of a tool that needs them
+abbrev pub presets_needed : Option Text → Option Text → Option PresetWords
+presets_needed (Some file) (Some cpu) = presets_of file cpu
+presets_needed _ _ = None

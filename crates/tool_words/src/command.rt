@@ -1,7 +1,10 @@
 //! What the words ask for.
 
+use crate::avail::AvailWords;
+use crate::chooser::ChooserWords;
 use crate::decode::DecodeWords;
 use crate::encode::EncodeWords;
+use crate::native_avail::NativeAvailWords;
 use crate::run::RunWords;
 
 /// A tool, with what its words ask for.
@@ -9,8 +12,14 @@ use crate::run::RunWords;
 pub enum Command {
     /// `papi_run`: carries out a script.
     Run(RunWords),
-    /// `papi_encode`: gives the codes of events.
-    Encode(EncodeWords),
+    /// `papi_avail`: lists the presets of a processor.
+    Avail(AvailWords),
+    /// `papi_native_avail`: lists native events.
+    NativeAvail(NativeAvailWords),
     /// `papi_decode`: gives the presets of a processor.
     Decode(DecodeWords),
+    /// `papi_event_chooser`: lists the events that can be added to given ones.
+    EventChooser(ChooserWords),
+    /// `papi_encode`: gives the codes of events.
+    Encode(EncodeWords),
 }

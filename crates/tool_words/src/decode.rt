@@ -1,16 +1,16 @@
 //! The words of `papi_decode`: `-U UNIT -P PRESETS -C CPU [-a]`.
 
-ghost use Rattle.std.specs.Prelude.{◌≡◌, map, option_map};
+ghost use Rattle.std.specs.Prelude.{◌≡◌, Some, map, option_map};
 ghost use Rattle.clap.specs.Words.{rule_of};
-ghost use Rattle.tool_words.specs.DecodeForm.{available_rule, decode_rules, decode_rules-defined, decode_words, decode_words_in};
+ghost use Rattle.tool_words.specs.DecodeForm.{decode_rules, decode_rules-defined, decode_words, decode_words_in};
 ghost use Rattle.tool_words.specs.Words.{Answers};
 
 use crate::fault::WordsFault;
 use crate::matches::text_of;
-use crate::options::{is_set, unit_argument};
-use crate::presets::{PresetWords, needed_cpu_argument, needed_presets_argument, presets_of};
+use crate::options::{available_argument, is_set, unit_argument};
+use crate::presets::{PresetWords, needed_cpu_argument, needed_presets_argument, presets_needed};
 use crate::tool::ToolWords;
-use clap::{Arg, ArgAction, ArgMatches};
+use clap::{Arg, ArgMatches};
 use papi_base::Text;
 use std::alloc::{AllocError, Global};
 
@@ -23,35 +23,18 @@ pub struct DecodeWords {
     pub available: bool,
 }
 
-// ---- the arguments
-
-// `-a`.
-#[tactic(auto, unfolding(crate::specs::DecodeForm::available_rule))]
-fn available_argument<'a>(alloc: Global) -> Arg<'a>
-    ensures { rule_of result ≡ available_rule }
-{
-    Arg::new(alloc, "available")
-        .short('a')
-        .action(ArgAction::SetTrue)
-}
-
-// ---- the values
-
 // What the values of the arguments ask for.
 fn asked(
     alloc: Global,
     unit: Option<&str>,
-    presets: Option<&str>,
-    cpu: Option<&str>,
+    presets: PresetWords,
     available: bool,
 ) -> Result<DecodeWords, WordsFault>
-    ensures { Answers result (decode_words (option_map (λ s. s.now) unit.entry) (option_map (λ s. s.now) presets.entry)
-        (option_map (λ s. s.now) cpu.entry) available) }
+    ensures { Answers result (decode_words (option_map (λ s. s.now) unit.entry) (Some presets) available) }
 {
-    let (Some(unit), Some(presets), Some(cpu)) = (unit, presets, cpu) else {
+    let Some(unit) = unit else {
         return Err(WordsFault::BadWords);
     };
-    let presets = presets_of(alloc, presets, cpu)?;
     Ok(DecodeWords {
         unit: Text::copy_of(alloc, unit)?,
         presets,
@@ -81,9 +64,8 @@ impl ToolWords for DecodeWords {
     #[tactic(auto, unfolding(crate::specs::DecodeForm::decode_words_in))]
     fn asked_by(alloc: Global, matches: &ArgMatches<'_>) -> Result<DecodeWords, WordsFault> {
         let unit = text_of(matches, "unit");
-        let presets = text_of(matches, "presets");
-        let cpu = text_of(matches, "cpu");
+        let presets = presets_needed(alloc, text_of(matches, "presets"), text_of(matches, "cpu"))?;
         let available = is_set(text_of(matches, "available"));
-        asked(alloc, unit, presets, cpu, available)
+        asked(alloc, unit, presets, available)
     }
 }

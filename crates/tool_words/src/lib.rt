@@ -5,25 +5,33 @@ ghost use Rattle.std.specs.Prelude.{◌≡◌, map, string_bytes};
 ghost use Rattle.tool_words.specs.Form.{form, tool_of};
 ghost use Rattle.tool_words.specs.Words.{Answers};
 
+pub mod avail;
+pub mod chooser;
 pub mod command;
 pub mod decode;
 pub mod encode;
 pub mod fault;
 mod matches;
+pub mod native_avail;
 mod options;
 pub mod presets;
 pub mod run;
+pub mod soak;
 pub mod streams;
 pub mod texts;
 mod tool;
 pub mod workers;
 
+pub use avail::AvailWords;
+pub use chooser::{ChooserWords, EventKind, MOST_EVENTS};
 pub use command::Command;
 pub use decode::DecodeWords;
 pub use encode::EncodeWords;
 pub use fault::WordsFault;
+pub use native_avail::NativeAvailWords;
 pub use presets::PresetWords;
 pub use run::RunWords;
+pub use soak::{MOST_ROUNDS, Rounds, SoakWords};
 use std::alloc::Global;
 pub use streams::StreamNames;
 pub use texts::Texts;
@@ -39,8 +47,11 @@ pub fn read_words(alloc: Global, words: &[String]) -> Result<Command, WordsFault
 {
     match tool_in(words) {
         "papi_run" => Ok(Command::Run(read_tool(alloc, words)?)),
-        "papi_encode" => Ok(Command::Encode(read_tool(alloc, words)?)),
+        "papi_avail" => Ok(Command::Avail(read_tool(alloc, words)?)),
+        "papi_native_avail" => Ok(Command::NativeAvail(read_tool(alloc, words)?)),
         "papi_decode" => Ok(Command::Decode(read_tool(alloc, words)?)),
+        "papi_event_chooser" => Ok(Command::EventChooser(read_tool(alloc, words)?)),
+        "papi_encode" => Ok(Command::Encode(read_tool(alloc, words)?)),
         _ => Err(WordsFault::BadWords),
     }
 }

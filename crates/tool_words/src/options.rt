@@ -1,20 +1,43 @@
 //! The options that several tools have.
 
-ghost use Rattle.std.specs.Prelude.{◌≡◌, option_map};
+ghost use Rattle.std.specs.Prelude.{◌≡◌, IfOk, option_map};
 ghost use Rattle.clap.specs.Words.{rule_of};
-ghost use Rattle.tool_words.specs.Options.{unit_rule};
+ghost use Rattle.tool_words.specs.Options.{available_rule, event_rule, unit_rule};
 ghost use Rattle.tool_words.specs.Options as Options;
 
-use clap::Arg;
-use std::alloc::Global;
+use clap::{Arg, ArgAction};
+use papi_base::Text;
+use std::alloc::{AllocError, Global};
 
-// `-U UNIT`, which every tool needs.
+// ---- the arguments
+
+// `-U UNIT`, which every tool over files needs.
 #[tactic(auto, unfolding(crate::specs::Options::unit_rule))]
 pub(crate) fn unit_argument<'a>(alloc: Global) -> Arg<'a>
     ensures { rule_of result ≡ unit_rule }
 {
     Arg::new(alloc, "unit").short('U').required(true)
 }
+
+// `-a`.
+#[tactic(auto, unfolding(crate::specs::Options::available_rule))]
+pub(crate) fn available_argument<'a>(alloc: Global) -> Arg<'a>
+    ensures { rule_of result ≡ available_rule }
+{
+    Arg::new(alloc, "available")
+        .short('a')
+        .action(ArgAction::SetTrue)
+}
+
+// `-e NAME`.
+#[tactic(auto, unfolding(crate::specs::Options::event_rule))]
+pub(crate) fn event_argument<'a>(alloc: Global) -> Arg<'a>
+    ensures { rule_of result ≡ event_rule }
+{
+    Arg::new(alloc, "event").short('e')
+}
+
+// ---- the values
 
 // Whether the value of a flag is there, and set.
 pub(crate) fn is_set(value: Option<&str>) -> bool
@@ -23,5 +46,15 @@ pub(crate) fn is_set(value: Option<&str>) -> bool
     match value {
         Some(value) => value == "true",
         None => false,
+    }
+}
+
+// The value of an option, copied where it is there.
+pub(crate) fn text_asked(alloc: Global, value: Option<&str>) -> Result<Option<Text>, AllocError>
+    ensures { IfOk result (λ text. text ≡ option_map (λ s. s.now) value.entry) }
+{
+    match value {
+        Some(value) => Ok(Some(Text::copy_of(alloc, value)?)),
+        None => Ok(None),
     }
 }

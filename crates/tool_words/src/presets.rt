@@ -85,7 +85,7 @@ fn is_cpu(name: &str) -> bool
 }
 
 // The presets of a cpu, by a file.
-pub(crate) fn presets_of(alloc: Global, file: &str, cpu: &str) -> Result<PresetWords, WordsFault>
+fn presets_of(alloc: Global, file: &str, cpu: &str) -> Result<PresetWords, WordsFault>
     ensures { Answers result (Presets.presets_of file.now cpu.now) }
 {
     if !is_cpu(cpu) {
@@ -108,6 +108,20 @@ pub(crate) fn presets_asked(
     match (file, cpu) {
         (None, None) => Ok(None),
         (Some(file), Some(cpu)) => Ok(Some(presets_of(alloc, file, cpu)?)),
+        _ => Err(WordsFault::BadWords),
+    }
+}
+
+// The presets of a tool that needs them.
+pub(crate) fn presets_needed(
+    alloc: Global,
+    file: Option<&str>,
+    cpu: Option<&str>,
+) -> Result<PresetWords, WordsFault>
+    ensures { Answers result (Presets.presets_needed (option_map (λ s. s.now) file.entry) (option_map (λ s. s.now) cpu.entry)) }
+{
+    match (file, cpu) {
+        (Some(file), Some(cpu)) => presets_of(alloc, file, cpu),
         _ => Err(WordsFault::BadWords),
     }
 }

@@ -1,5 +1,5 @@
 //! Words that are read with memory at hand.
-use crate::{Command, read_words};
+use crate::{Command, EventKind, read_words};
 use std::alloc::{AllocError, Global};
 use std::test::Fail;
 
@@ -64,12 +64,51 @@ fn decode_words(rt: HostRuntime) -> Result<(), Fail> {
 }
 
 #[test]
+fn avail_words(rt: HostRuntime) -> Result<(), Fail> {
+    let alloc = rt.alloc();
+    let words = words_in(alloc, "papi_avail -U lab.unit -e PAPI_TOT_CYC -P p -C lab2")?;
+    match &read_words(alloc, words.as_slice()) {
+        Ok(Command::Avail(avail)) => {
+            assert!(rt; avail.unit.as_str() == "lab.unit" && avail.presets.cpu.as_str() == "lab2");
+            assert!(rt; !avail.available && avail.event.is_some());
+        }
+        _ => assert!(rt; false),
+    }
+    let words = words_in(alloc, "papi_native_avail -x ST -U lab.unit --noumasks")?;
+    match &read_words(alloc, words.as_slice()) {
+        Ok(Command::NativeAvail(natives)) => {
+            assert!(rt; natives.event.is_none() && natives.included.is_none());
+            assert!(rt; natives.excluded.is_some() && !natives.umasks);
+        }
+        _ => assert!(rt; false),
+    }
+    Ok(())
+}
+
+#[test]
+fn chooser_words(rt: HostRuntime) -> Result<(), Fail> {
+    let alloc = rt.alloc();
+    let words = words_in(alloc, "papi_event_chooser -U lab.unit NATIVE CYCLES REF")?;
+    match &read_words(alloc, words.as_slice()) {
+        Ok(Command::EventChooser(chooser)) => {
+            assert!(rt; chooser.presets.is_none() && chooser.kind == EventKind::Native);
+            assert!(rt; chooser.events.as_slice().len() == 2);
+        }
+        _ => assert!(rt; false),
+    }
+    Ok(())
+}
+
+#[test]
 fn bad_words(rt: HostRuntime) -> Result<(), Fail> {
     let alloc = rt.alloc();
     let lines = [
         "papi_run -U lab.unit --workers 65 s",
         "papi_run -U lab.unit -P lab.presets s",
         "papi_encode --help",
+        "papi_avail -U lab.unit -P lab.presets",
+        "papi_native_avail",
+        "papi_event_chooser -U lab.unit native CYCLES",
     ];
     for line in lines {
         let words = words_in(alloc, line)?;

@@ -3,17 +3,29 @@ use Rattle.papi_tools.proofs.SettlingLemmas.{textual_met}
 use Rattle.papi_tools.proofs.TellingLemmas.{none_grown}
 use Rattle.papi_tools.proofs.top.carried_out.Goals as goal
 
-pub returns-in-Encode-clause-told : goal.returns-in-Encode-clause-told
-returns-in-Encode-clause-told g c = rw c.in-Encode.is (quiet_said _ c.encode_names.result _ c.encode_names.ensures.told)
+pub returns-in-Avail-clause-told : goal.returns-in-Avail-clause-told
+returns-in-Avail-clause-told g c = rw c.in-Avail.is (quiet_said _ c.list_presets.result _ c.list_presets.ensures.told)
 
-pub returns-in-Encode-clause-tells : goal.returns-in-Encode-clause-tells
-returns-in-Encode-clause-tells g c = rw c.in-Encode.is (quiet_tells _ c.encode_names.result _ _)
+pub returns-in-Avail-clause-tells : goal.returns-in-Avail-clause-tells
+returns-in-Avail-clause-tells g c = rw c.in-Avail.is (quiet_tells _ c.list_presets.result _ _)
 
-pub returns-in-Encode-clause-grown : goal.returns-in-Encode-clause-grown
-returns-in-Encode-clause-grown g c = none_grown _
+pub returns-in-Avail-clause-grown : goal.returns-in-Avail-clause-grown
+returns-in-Avail-clause-grown g c = none_grown _
 
-pub returns-in-Encode-clause-met : goal.returns-in-Encode-clause-met
-returns-in-Encode-clause-met g c = textual_met c.encode_names.result _ _ c.encode_names.ensures.textual
+pub returns-in-Avail-clause-met : goal.returns-in-Avail-clause-met
+returns-in-Avail-clause-met g c = textual_met c.list_presets.result _ _ c.list_presets.ensures.textual
+
+pub returns-in-NativeAvail-clause-told : goal.returns-in-NativeAvail-clause-told
+returns-in-NativeAvail-clause-told g c = rw c.in-NativeAvail.is (quiet_said _ c.list_natives.result _ c.list_natives.ensures.told)
+
+pub returns-in-NativeAvail-clause-tells : goal.returns-in-NativeAvail-clause-tells
+returns-in-NativeAvail-clause-tells g c = rw c.in-NativeAvail.is (quiet_tells _ c.list_natives.result _ _)
+
+pub returns-in-NativeAvail-clause-grown : goal.returns-in-NativeAvail-clause-grown
+returns-in-NativeAvail-clause-grown g c = none_grown _
+
+pub returns-in-NativeAvail-clause-met : goal.returns-in-NativeAvail-clause-met
+returns-in-NativeAvail-clause-met g c = textual_met c.list_natives.result _ _ c.list_natives.ensures.textual
 
 pub returns-in-Decode-clause-told : goal.returns-in-Decode-clause-told
 returns-in-Decode-clause-told g c = rw c.in-Decode.is (quiet_said _ c.decode_presets.result _ c.decode_presets.ensures.told)
@@ -26,3 +38,27 @@ returns-in-Decode-clause-grown g c = none_grown _
 
 pub returns-in-Decode-clause-met : goal.returns-in-Decode-clause-met
 returns-in-Decode-clause-met g c = textual_met c.decode_presets.result _ _ c.decode_presets.ensures.textual
+
+pub returns-in-EventChooser-clause-told : goal.returns-in-EventChooser-clause-told
+returns-in-EventChooser-clause-told g c = rw c.in-EventChooser.is (quiet_said _ c.choose_events.result _ c.choose_events.ensures.told)
+
+pub returns-in-EventChooser-clause-tells : goal.returns-in-EventChooser-clause-tells
+returns-in-EventChooser-clause-tells g c = rw c.in-EventChooser.is (quiet_tells _ c.choose_events.result _ _)
+
+pub returns-in-EventChooser-clause-grown : goal.returns-in-EventChooser-clause-grown
+returns-in-EventChooser-clause-grown g c = none_grown _
+
+pub returns-in-EventChooser-clause-met : goal.returns-in-EventChooser-clause-met
+returns-in-EventChooser-clause-met g c = textual_met c.choose_events.result _ _ c.choose_events.ensures.textual
+
+pub returns-in-Encode-clause-told : goal.returns-in-Encode-clause-told
+returns-in-Encode-clause-told g c = rw c.in-Encode.is (quiet_said _ c.encode_names.result _ c.encode_names.ensures.told)
+
+pub returns-in-Encode-clause-tells : goal.returns-in-Encode-clause-tells
+returns-in-Encode-clause-tells g c = rw c.in-Encode.is (quiet_tells _ c.encode_names.result _ _)
+
+pub returns-in-Encode-clause-grown : goal.returns-in-Encode-clause-grown
+returns-in-Encode-clause-grown g c = none_grown _
+
+pub returns-in-Encode-clause-met : goal.returns-in-Encode-clause-met
+returns-in-Encode-clause-met g c = textual_met c.encode_names.result _ _ c.encode_names.ensures.textual

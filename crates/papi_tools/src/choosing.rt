@@ -1,0 +1,57 @@
+//! `papi_event_chooser`: lists the events that can be added to given ones.
+ghost use Rattle.std.specs.Prelude.{◌≡◌, IfOk, IfSome};
+ghost use Rattle.papi_tools.specs.Answers.{Answers};
+ghost use Rattle.papi_tools.specs.Causes.{IsTextual};
+ghost use Rattle.papi_tools.specs.Choosing as Choosing;
+ghost use Rattle.papi_tools.specs.Choosing.{chooser_verdict, choice_said};
+ghost use Rattle.papi_tools.specs.Looking.{Looked};
+ghost use Rattle.papi_tools.specs.Seen.{files_seen};
+
+use crate::tables::read_catalog;
+use crate::{Said, Stop};
+use chooser_list::{Candidates, choose};
+use component_table::Catalog;
+use papi_base::{Files, Text};
+use std::alloc::{AllocError, Global};
+use tool_words::{ChooserWords, EventKind};
+
+// The candidates of a kind.
+fn candidates_of(kind: EventKind) -> Candidates
+    ensures { result ≡ Choosing.candidates_of kind }
+{
+    match kind {
+        EventKind::Native => Candidates::Native,
+        EventKind::Preset => Candidates::Preset,
+    }
+}
+
+// What is said of the given events.
+fn said_of(
+    alloc: Global,
+    catalog: &Catalog,
+    kind: EventKind,
+    events: &[Text],
+) -> Result<Said, AllocError>
+    ensures said { IfOk result (λ said. said ≡ choice_said catalog.now kind events.now) }
+    ensures textual { IfOk result (λ said. IsTextual said.outcome) }
+{
+    let choice = choose(alloc, catalog, candidates_of(kind), events)?;
+    Ok(Said::text(alloc, choice.all_taken, choice.text))
+}
+
+/// `papi_event_chooser`: reads the unit, and the presets where they are asked for, and lists the events that can be added to
+/// the given ones, or says which of these is refused, and how.
+#[tactic(auto, unfolding(crate::specs::Choosing::chooser_verdict))]
+pub fn choose_events<F: Files>(
+    alloc: Global,
+    files: &mut F,
+    words: &ChooserWords,
+) -> Result<Said, Stop>
+    ensures told { IfSome (F.held files.old) (λ held. Answers result (chooser_verdict held words.now)) }
+    ensures textual { IfOk result (λ said. IsTextual said.outcome) }
+    ensures looked { Looked result 0 (files_seen F.held F.misses F.faults F.lent files.old) (files_seen F.held F.misses F.faults F.lent files.new) }
+{
+    let catalog = read_catalog(alloc, files, &words.unit, &words.presets)?;
+    let said = said_of(alloc, &catalog, words.kind, words.events.as_slice())?;
+    Ok(said)
+}

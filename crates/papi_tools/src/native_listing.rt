@@ -1,0 +1,61 @@
+//! `papi_native_avail`: lists the native events of a unit, or says what one of them is.
+ghost use Rattle.std.specs.Prelude.{◌≡◌, IfOk, IfSome, option_map};
+ghost use Rattle.papi_tools.specs.Answers.{Answers};
+ghost use Rattle.papi_tools.specs.Causes.{IsTextual};
+ghost use Rattle.papi_tools.specs.Looking.{Looked};
+ghost use Rattle.papi_tools.specs.NativeListing.{native_avail_verdict, natives_said};
+ghost use Rattle.papi_tools.specs.Seen.{files_seen};
+
+use crate::unit_file::read_unit_file;
+use crate::{Said, Stop};
+use event_tables::Tables;
+use listing_text::{native_event, native_list};
+use papi_base::{Bytes, Files, Text};
+use std::alloc::{AllocError, Global};
+use tool_words::NativeAvailWords;
+
+// The text, where it is there.
+fn str_of(text: &Option<Text>) -> Option<&str>
+    ensures { option_map (λ s. s.now) result ≡ text.now }
+{
+    match text {
+        Some(text) => Some(text.as_str()),
+        None => None,
+    }
+}
+
+// What is said of the native events of a unit.
+fn said_of(alloc: Global, tables: &Tables, words: &NativeAvailWords) -> Result<Said, AllocError>
+    ensures said { IfOk result (λ said. said ≡ natives_said tables.now words.now words.now.event) }
+    ensures textual { IfOk result (λ said. IsTextual said.outcome) }
+{
+    match &words.event {
+        None => {
+            let included = str_of(&words.included);
+            let excluded = str_of(&words.excluded);
+            let list = native_list(alloc, tables, included, excluded, words.umasks)?;
+            Ok(Said::text(alloc, true, Bytes::new(list.into_bytes())))
+        }
+        Some(name) => {
+            let event = native_event(alloc, tables, name.as_str())?;
+            Ok(Said::text(alloc, event.known, Bytes::new(event.text.into_bytes())))
+        }
+    }
+}
+
+/// `papi_native_avail`: reads the unit, and lists those of its native events that the words choose, or says what the event of a
+/// name is.
+#[tactic(auto, unfolding(crate::specs::NativeListing::native_avail_verdict))]
+pub fn list_natives<F: Files>(
+    alloc: Global,
+    files: &mut F,
+    words: &NativeAvailWords,
+) -> Result<Said, Stop>
+    ensures told { IfSome (F.held files.old) (λ held. Answers result (native_avail_verdict held words.now)) }
+    ensures textual { IfOk result (λ said. IsTextual said.outcome) }
+    ensures looked { Looked result 0 (files_seen F.held F.misses F.faults F.lent files.old) (files_seen F.held F.misses F.faults F.lent files.new) }
+{
+    let tables = read_unit_file(alloc, files, words.unit.as_str())?;
+    let said = said_of(alloc, &tables, words)?;
+    Ok(said)
+}

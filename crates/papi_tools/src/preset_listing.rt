@@ -1,0 +1,54 @@
+//! `papi_avail`: lists the presets of a cpu, or says what one of them is.
+ghost use Rattle.std.specs.Prelude.{◌≡◌, IfOk, IfSome};
+ghost use Rattle.papi_tools.specs.Answers.{Answers};
+ghost use Rattle.papi_tools.specs.Causes.{IsTextual};
+ghost use Rattle.papi_tools.specs.Looking.{Looked};
+ghost use Rattle.papi_tools.specs.PresetListing.{avail_verdict, presets_said};
+ghost use Rattle.papi_tools.specs.Seen.{files_seen};
+
+use crate::tables::read_preset_catalog;
+use crate::{Said, Stop};
+use component_table::Catalog;
+use listing_text::{avail_event, avail_list};
+use papi_base::{Bytes, Files, Text};
+use std::alloc::{AllocError, Global};
+use tool_words::AvailWords;
+
+// What is said of the presets of a catalog.
+fn said_of(
+    alloc: Global,
+    catalog: &Catalog,
+    available: bool,
+    event: &Option<Text>,
+) -> Result<Said, AllocError>
+    ensures said { IfOk result (λ said. said ≡ presets_said catalog.now available event.now) }
+    ensures textual { IfOk result (λ said. IsTextual said.outcome) }
+{
+    match event {
+        None => {
+            let list = avail_list(alloc, catalog, available)?;
+            Ok(Said::text(alloc, true, Bytes::new(list.into_bytes())))
+        }
+        Some(name) => {
+            let event = avail_event(alloc, catalog, name.as_str())?;
+            Ok(Said::text(alloc, event.known, Bytes::new(event.text.into_bytes())))
+        }
+    }
+}
+
+/// `papi_avail`: reads the unit and the preset file, and lists the presets of a cpu, all of them or the available ones alone,
+/// or says what the event of a name is.
+#[tactic(auto, unfolding(crate::specs::PresetListing::avail_verdict))]
+pub fn list_presets<F: Files>(
+    alloc: Global,
+    files: &mut F,
+    words: &AvailWords,
+) -> Result<Said, Stop>
+    ensures told { IfSome (F.held files.old) (λ held. Answers result (avail_verdict held words.now)) }
+    ensures textual { IfOk result (λ said. IsTextual said.outcome) }
+    ensures looked { Looked result 0 (files_seen F.held F.misses F.faults F.lent files.old) (files_seen F.held F.misses F.faults F.lent files.new) }
+{
+    let catalog = read_preset_catalog(alloc, files, &words.unit, &words.presets)?;
+    let said = said_of(alloc, &catalog, words.available, &words.event)?;
+    Ok(said)
+}

@@ -1,0 +1,138 @@
+//! The words of `papi_event_chooser`: `-U UNIT [-P PRESETS -C CPU] NATIVE EVENT..`, or `PRESET` in place of `NATIVE`.
+
+ghost use Rattle.std.specs.Prelude.{◌≡◌, Some, map, option_and_then, option_map};
+ghost use Rattle.clap.specs.Words.{rule_of};
+ghost use Rattle.tool_words.specs.ChooserForm as ChooserForm;
+ghost use Rattle.tool_words.specs.ChooserForm.{events_rule, few_events, kind_rule};
+ghost use Rattle.tool_words.specs.ChooserForm.{chooser_rules, chooser_rules-defined, chooser_words, chooser_words_in};
+ghost use Rattle.tool_words.specs.Words.{Answers};
+
+use crate::fault::WordsFault;
+use crate::matches::{copied, text_of, texts_of};
+use crate::options::unit_argument;
+use crate::presets::{PresetWords, cpu_argument, presets_argument, presets_asked};
+use crate::texts::Texts;
+use crate::tool::ToolWords;
+use clap::{Arg, ArgAction, ArgMatches};
+use papi_base::Text;
+use std::alloc::{AllocError, Global};
+
+/// How many events a set has at most, and so how many can be given: docs/FORMATS.md.
+pub const MOST_EVENTS: u32 = 32;
+
+/// Which events are listed.
+#[derive(Clone, Copy, Debug, PartialEq, Eq)]
+pub enum EventKind {
+    /// `NATIVE`.
+    Native,
+    /// `PRESET`.
+    Preset,
+}
+
+/// What the words of `papi_event_chooser` ask for: the name of the unit file, the presets where they are asked for, which
+/// events are listed, and the texts of the events that are given, from 1 to [`MOST_EVENTS`].
+#[derive(Drop)]
+pub struct ChooserWords {
+    pub unit: Text,
+    pub presets: Option<PresetWords>,
+    pub kind: EventKind,
+    pub events: Texts,
+}
+
+// ---- the arguments
+
+// `NATIVE` or `PRESET`.
+#[tactic(auto, unfolding(crate::specs::ChooserForm::kind_rule))]
+fn kind_argument<'a>(alloc: Global) -> Arg<'a>
+    ensures { rule_of result ≡ kind_rule }
+{
+    Arg::new(alloc, "kind").required(true)
+}
+
+// `EVENT..`.
+#[tactic(auto, unfolding(crate::specs::ChooserForm::events_rule))]
+fn events_argument<'a>(alloc: Global) -> Arg<'a>
+    ensures { rule_of result ≡ events_rule }
+{
+    Arg::new(alloc, "events")
+        .required(true)
+        .action(ArgAction::Append)
+        .num_args(1..)
+}
+
+// ---- the values
+
+// Which events a word lists.
+fn kind_of(word: Option<&str>) -> Result<EventKind, WordsFault>
+    ensures { Answers result (option_and_then ChooserForm.kind_of (option_map (λ s. s.now) word.entry)) }
+{
+    match word {
+        Some("NATIVE") => Ok(EventKind::Native),
+        Some("PRESET") => Ok(EventKind::Preset),
+        _ => Err(WordsFault::BadWords),
+    }
+}
+
+// The texts of the events that are given.
+fn events_of(alloc: Global, events: Option<&[&str]>) -> Result<Texts, WordsFault>
+    ensures { Answers result (option_and_then few_events (option_map (λ s. map (λ v. v.now) s.now) events.entry)) }
+{
+    let Some(events) = events else {
+        return Err(WordsFault::BadWords);
+    };
+    if events.len() > MOST_EVENTS as usize {
+        return Err(WordsFault::BadWords);
+    }
+    Ok(copied(alloc, events)?)
+}
+
+// What the values of the arguments ask for.
+fn asked(
+    alloc: Global,
+    unit: Option<&str>,
+    presets: Option<PresetWords>,
+    kind: EventKind,
+    events: Texts,
+) -> Result<ChooserWords, WordsFault>
+    ensures { Answers result (chooser_words (option_map (λ s. s.now) unit.entry) (Some presets) (Some kind) (Some events)) }
+{
+    let Some(unit) = unit else {
+        return Err(WordsFault::BadWords);
+    };
+    Ok(ChooserWords {
+        unit: Text::copy_of(alloc, unit)?,
+        presets,
+        kind,
+        events,
+    })
+}
+
+// ---- the tool
+
+impl ToolWords for ChooserWords {
+    ghost rules = { chooser_rules };
+
+    ghost asked = { chooser_words_in };
+
+    ghost defined = { chooser_rules-defined };
+
+    #[tactic(auto, unfolding(crate::specs::ChooserForm::chooser_rules))]
+    fn arguments<'a>(alloc: Global) -> Result<Vec<Arg<'a>>, AllocError> {
+        Ok(vec![in alloc;
+            unit_argument(alloc),
+            presets_argument(alloc),
+            cpu_argument(alloc),
+            kind_argument(alloc),
+            events_argument(alloc),
+        ]?)
+    }
+
+    #[tactic(auto, unfolding(crate::specs::ChooserForm::chooser_words_in))]
+    fn asked_by(alloc: Global, matches: &ArgMatches<'_>) -> Result<ChooserWords, WordsFault> {
+        let unit = text_of(matches, "unit");
+        let presets = presets_asked(alloc, text_of(matches, "presets"), text_of(matches, "cpu"))?;
+        let kind = kind_of(text_of(matches, "kind"))?;
+        let events = events_of(alloc, texts_of(matches, "events"))?;
+        asked(alloc, unit, presets, kind, events)
+    }
+}
