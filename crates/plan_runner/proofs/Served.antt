@@ -120,15 +120,19 @@ done-by : (book : Book) (a : Account) (x y : Seen) (b : Bool) → b ≡ false �
 done-by book a x y true e h = absurd (cc)
 done-by book a x y false e h = h
 
+no-idle : (calls : List Call) → 0 < length calls → calls ≡ [] → ⊥
+no-idle calls some none = omega (arith, some, ap length none)
+
 -- a thread with calls
 served-job : (book : Book) (shape : Widths) (refused : Bool) (t : ℕ) (reader : ReaderView) (calls : List Call) (notes : List Note) (y : Seen) → IsShape shape
-    → Worked book (before shape t reader notes calls) y → (refused ≡ false → y.starved ≡ false) → Served book shape refused t reader y.session.reader calls notes y.notes y.replies
-served-job book shape refused t reader calls notes y shaped w whole =
+    → 0 < length calls → Worked book (before shape t reader notes calls) y → (refused ≡ false → y.starved ≡ false) → Served book shape refused t reader y.session.reader calls notes y.notes y.replies
+served-job book shape refused t reader calls notes y shaped some w whole =
     let x = before shape t reader notes calls in
     let made : y.replies ≡ w.replied.0 = w.replied.1.appended in
     let stands : (stream : Coming) → coming reader ≡ Some stream → Stands book x.session (opening t stream.rest stream.mark) =
     λ stream e. record { kept = opening_stands book t shape stream.rest stream.mark shaped; told = e } in
     record {
+      idle = λ none. absurd (no-idle calls some none);
       kept = w.faults;
       faulty = subst (All (λ r. IsFault r → FaultsRose (fault_count reader) (fault_count y.session.reader))) (sym made) w.replied.1.faulty;
       grown = w.grown;
@@ -144,6 +148,7 @@ served-job book shape refused t reader calls notes y shaped w whole =
 served-idle : (book : Book) (shape : Widths) (refused : Bool) (t : ℕ) (reader : ReaderView) (notes : List Note) → Served book shape refused t reader reader [] notes notes []
 served-idle book shape refused t reader notes =
     record {
+      idle = λ none. (refl, refl);
       kept = kept_same reader;
       faulty = all-none (λ (r : Reply). IsFault r → FaultsRose (fault_count reader) (fault_count reader));
       grown = grown_same notes;
@@ -157,7 +162,7 @@ served-one : (book : Book) (shape : Widths) (refused : Bool) (t : ℕ) (reader :
     → Served book shape refused t reader y.session.reader calls notes y.notes y.replies
 served-one book shape refused t reader [] notes y shaped ran whole =
     subst (λ (z : Seen). Served book shape refused t reader z.session.reader [] notes z.notes z.replies) (sym ran) (served-idle book shape refused t reader notes)
-served-one book shape refused t reader (c ∷ cs) notes y shaped ran whole = served-job book shape refused t reader (c ∷ cs) notes y (shaped c cs refl) ran whole
+served-one book shape refused t reader (c ∷ cs) notes y shaped ran whole = served-job book shape refused t reader (c ∷ cs) notes y (shaped c cs refl) (omega arith) ran whole
 
 -- each thread got so
 pub are-served : (book : Book) (shape : Widths) (refused : Bool) (plan : List PlanLine) (readers readers_then : List ReaderView) (before_all after : List (List Note)) (replies : List (List Reply)) (works : List (Option Work))

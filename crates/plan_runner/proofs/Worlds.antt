@@ -1,5 +1,5 @@
 -- What all threads got is what the world of the script says.
-use Rattle.std.proofs.Common.{◌≡◌, ℕ, zero, suc, ◌+◌, ◌<◌, ◌≤◌, Bool, false, List, [], ◌∷◌, ◌++◌, All, length, map, replicate, get_or, refl, sym, ◌∙◌, ap, ap₂, subst, arith, Option, Some, None, Result, Ok, Err, OnOk, IfOk, inl, inr}
+use Rattle.std.proofs.Common.{◌≡◌, ℕ, zero, suc, ◌+◌, ◌<◌, ◌≤◌, Bool, false, List, [], ◌∷◌, ◌++◌, All, length, map, replicate, get_or, refl, sym, ◌∙◌, ap, ap₂, subst, arith, Option, Some, None, Result, Ok, Err, OnOk, IfOk, inl, inr, slice_get}
 use Rattle.std.specs.Result.{is_err}
 use Rattle.std.proofs.lemmas.List.{get_or-map, get_or_past, length-map}
 use Rattle.std.proofs.lemmas.List.FromFn.{get_or-map-range_with_len}
@@ -26,7 +26,7 @@ use Rattle.plan_runner.specs.declared.plan.PlanLine.{PlanLine}
 use Rattle.plan_runner.specs.declared.result.ReplyLine.{ReplyLine}
 use Rattle.plan_runner.specs.Plans.{AreThreads, planned_at}
 use Rattle.plan_runner.specs.Merges.{lines_by}
-use Rattle.plan_runner.specs.Runs.{AllKept, Tells, reply_lines, world_told}
+use Rattle.plan_runner.specs.Runs.{AllKept, IdleStay, Tells, reply_lines, world_told}
 use Rattle.plan_runner.specs.Runs as runs
 use Rattle.plan_runner.specs.Served.{AreServed}
 use Rattle.plan_runner.proofs.Filled.{all-none}
@@ -152,6 +152,24 @@ grown-all book shape plan readers readers_then before after refused replies rl e
       same_length = got.notes_len ∙ sym e;
       grown = λ t h. with_some readers (omega (arith, rl)) (λ r. (got.each t r (omega (arith, h, e))).grown);
     }
+
+same-at : {X : Type 0} (xs ys : List X) (t : ℕ) (d : X) → length xs ≡ length ys → (t < length xs → get_or xs t d ≡ get_or ys t d) → slice_get xs t ≡ slice_get ys t
+same-at [] [] t d e same = refl
+same-at [] (y ∷ ys) t d e same = absurd (omega (arith, e))
+same-at (x ∷ xs) [] t d e same = absurd (omega (arith, e))
+same-at (x ∷ xs) (y ∷ ys) zero d e same = ap (λ v. Some v) (same (omega arith))
+same-at (x ∷ xs) (y ∷ ys) (suc t) d e same = same-at xs ys t d (omega (arith, e)) (λ h. same (omega (arith, h)))
+
+-- a thread without calls is left alone
+pub idle-all : (book : Book) (shape : Widths) (plan : List PlanLine) (readers readers_then : List ReaderView) (before after : List (List Note)) (refused : Bool) (replies : List (List Reply))
+    → length readers ≡ 64 → length before ≡ 64 → AreServed book shape refused plan readers readers_then before after replies → IdleStay plan readers readers_then before after
+idle-all book shape plan readers readers_then before after refused replies rl nl got =
+    with_some readers (omega (arith, rl))
+    (λ r.
+    record {
+      unread = λ t none. same-at readers_then readers t r (got.readers_len ∙ sym rl) (λ h. ((got.each t r (omega (arith, h, got.readers_len))).idle none).0);
+      untold = λ t none. same-at after before t [] (got.notes_len ∙ sym nl) (λ h. ((got.each t r (omega (arith, h, got.notes_len))).idle none).1);
+    })
 
 abbrev counts : List ReaderView → List (Option ℕ)
 counts readers = map (λ r. fault_count r) readers

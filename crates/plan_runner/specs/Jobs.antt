@@ -1,5 +1,6 @@
 -- What is seen of the threads' jobs, before and after their work.
-use Rattle.std.specs.Prelude.{ℕ, suc, ◌+◌, ◌≡◌, Bool, false, List, [], ◌∷◌, ◌++◌, All, map, Option, Some, None}
+use Rattle.std.specs.Prelude.{ℕ, suc, ◌+◌, ◌≡◌, Bool, false, List, [], ◌∷◌, ◌++◌, All, map, reverse, Option, Some, None}
+use Rattle.std.specs.Option.{option_map}
 use Rattle.overflow_dispatch.specs.declared.handler.Note.{Note}
 use Rattle.parallel_tasks.specs.Each.{Each}
 use Rattle.postfix_rules.specs.Presets.{Book}
@@ -9,6 +10,8 @@ use Rattle.session_model.specs.declared.reply.Reply.{Reply}
 use Rattle.stream_reader.specs.Reader.{ReaderView}
 use Rattle.thread_core.specs.CoreView.{opening_core}
 use Rattle.thread_registry.specs.Seen.{Seen, Worked, seen_of}
+use Rattle.plan_runner.specs.declared.works.Work.{Work}
+use Rattle.plan_runner.specs.Works.{calls_of}
 
 -- what is seen of a thread before its work: a new core over its reader, what its handler was told, and its calls
 abbrev pub before : Widths → ℕ → ReaderView → List Note → List Call → Seen
@@ -24,10 +27,20 @@ befores_from t shape (r ∷ rs) (ns ∷ nss) [] = []
 abbrev pub befores : Widths → List ReaderView → List (List Note) → List (List Call) → List Seen
 befores shape readers notes lists = befores_from 0 shape readers notes lists
 
+-- so of a thread with this work, and of all threads
+abbrev pub before_work : Widths → ℕ → ReaderView → List Note → Option Work → Seen
+before_work shape t reader notes work = before shape t reader notes (calls_of work)
+
+abbrev pub befores_of : Widths → List ReaderView → List (List Note) → List (Option Work) → List Seen
+befores_of shape readers notes works = befores shape readers notes (map calls_of works)
+
 -- the thread's job, where it has calls
 abbrev pub job_where : List Call → Seen → List Seen
 job_where [] x = []
 job_where (c ∷ cs) x = x ∷ []
+
+abbrev pub job_of : Seen → List Seen
+job_of x = job_where x.calls x
 
 -- the threads that have calls
 abbrev pub busy : List Seen → List Seen
@@ -42,6 +55,13 @@ idle_where (c ∷ cs) x = None
 abbrev pub idle_of : Seen → Option Seen
 idle_of x = idle_where x.calls x
 
+-- what the handler of a thread without calls was told, and its reader
+abbrev pub idle_notes : Seen → Option (List Note)
+idle_notes x = option_map (λ y. y.notes) (idle_of x)
+
+abbrev pub idle_reader : Seen → Option ReaderView
+idle_reader x = option_map (λ y. y.session.reader) (idle_of x)
+
 -- how many places are empty
 abbrev pub gaps : {X : Type 0} → List (Option X) → ℕ
 gaps [] = 0
@@ -55,6 +75,15 @@ filled (Some x ∷ places) ys = x ∷ filled places ys
 filled (None ∷ places) (y ∷ ys) = y ∷ filled places ys
 filled (None ∷ places) [] = []
 
+-- the places with these in the empty ones, the last one first
+abbrev pub filled_back : {X : Type 0} → List (Option X) → List X → List X
+filled_back places ys = filled (reverse places) (reverse ys)
+
+-- One place more is put behind those that are there, filled from those that come where it is empty: whatever places follow, the whole stays the same.
+abbrev pub PutsBack : {X : Type 0} → Option X → List X → List X → List X → List X → Type 0
+PutsBack {X} place coming coming_then put put_then =
+    (places : List (Option X)) → put_then ++ filled places (reverse coming_then) ≡ put ++ filled (place ∷ places) (reverse coming)
+
 -- a thread without calls stays as it was, and the job of another was worked
 abbrev pub RanWhere : List Call → Book → Seen → Seen → Type 0
 RanWhere [] book x y = y ≡ x
@@ -64,7 +93,8 @@ abbrev pub Ran : Book → Seen → Seen → Type 0
 Ran book x y = RanWhere x.calls book x y
 
 -- What the threads are left with: the list of each handler, its reader and its replies; and whether memory was refused in some job.
-pub record Left (book : Book) (refused : Bool) (befores : List Seen) (notes : List (List Note)) (readers : List ReaderView) (replies : List (List Reply)) : Type 0 where
+pub record Left (book : Book) (refused : Bool) (befores : List Seen) (notes : List (List Note)) (readers : List ReaderView)
+    (replies : List (List Reply)) : Type 0 where
   pub afters : List Seen
   pub ran : Each (Ran book) befores afters
   pub told : notes ≡ map (λ y. y.notes) afters

@@ -46,7 +46,9 @@ ask_of l = record { thread = l.thread; planned = l.planned }
 -- what the lines of a script ask for, one after another, where these natives were mentioned before
 abbrev pub asks_from : Setting → List Native → List Line → List Ask
 asks_from at mentioned [] = []
-asks_from at mentioned (l ∷ ls) = record { thread = l.thread; planned = looked_up at (mentioned_after mentioned l) l.asked } ∷ asks_from at (mentioned_after mentioned l) ls
+asks_from at mentioned (l ∷ ls) =
+    record { thread = l.thread; planned = looked_up at (mentioned_after mentioned l) l.asked }
+    ∷ asks_from at (mentioned_after mentioned l) ls
 
 -- the plan is that of the script's lines
 pub record IsPlanOf (at : Setting) (script : List Line) (plan : List PlanLine) : Type 0 where

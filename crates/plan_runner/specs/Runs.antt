@@ -1,5 +1,5 @@
 -- What a run of a plan gives: the world of the script's lines, in their order.
-use Rattle.std.specs.Prelude.{ℕ, ◌≡◌, List, [], ◌∷◌, length, map, slice_index_or, Option, Some, None}
+use Rattle.std.specs.Prelude.{ℕ, ◌≡◌, List, [], ◌∷◌, length, map, slice_get, slice_index_or, Option, Some, None}
 use Rattle.std.specs.List.{range_with_len}
 use Rattle.overflow_dispatch.specs.declared.handler.Note.{Note}
 use Rattle.papi_base.specs.Streams.{Coming}
@@ -11,11 +11,12 @@ use Rattle.stream_reader.specs.Reader.{ReaderView, coming}
 use Rattle.thread_session.specs.Faults.{FaultsKept}
 use Rattle.plan_runner.specs.declared.plan.PlanLine.{PlanLine}
 use Rattle.plan_runner.specs.declared.result.ReplyLine.{ReplyLine}
-use Rattle.plan_runner.specs.Plans.{IsPlanOf}
+use Rattle.plan_runner.specs.Plans.{IsPlanOf, planned_at}
 use Rattle.papi_base.specs.declared.limits.TheConstants.{THREADS}
 
 -- The plan is run with this book and shape on these readers: it is that of the script's lines in the setting, and the readers tell the streams, one a thread.
-pub record Tells (at : Setting) (script : List Line) (streams : List Coming) (book : Book) (shape : Widths) (plan : List PlanLine) (readers : List ReaderView) : Type 0 where
+pub record Tells (at : Setting) (script : List Line) (streams : List Coming) (book : Book) (shape : Widths) (plan : List PlanLine)
+    (readers : List ReaderView) : Type 0 where
   pub same_book : at.book ≡ book
   pub same_shape : at.shape ≡ shape
   pub looked_up : IsPlanOf at script plan
@@ -34,6 +35,11 @@ abbrev pub reply_lines : List PlanLine → List Told → List ReplyLine
 reply_lines [] xs = []
 reply_lines (l ∷ ls) [] = []
 reply_lines (l ∷ ls) (x ∷ xs) = record { line = l.number; thread = l.thread; word = l.word; reply = x.reply } ∷ reply_lines ls xs
+
+-- the reader of a thread without calls, and what its handler was told, are as they were before
+pub record IdleStay (plan : List PlanLine) (readers readers_then : List ReaderView) (before after : List (List Note)) : Type 0 where
+  pub unread : (t : ℕ) → planned_at t plan ≡ [] → slice_get readers_then t ≡ slice_get readers t
+  pub untold : (t : ℕ) → planned_at t plan ≡ [] → slice_get after t ≡ slice_get before t
 
 -- each reader's count of faults, before and after: none fell
 pub record AllKept (before after : List (Option ℕ)) : Type 0 where

@@ -16,7 +16,9 @@ use Rattle.plan_runner.specs.Plans.{planned_at}
 use Rattle.papi_base.specs.declared.limits.TheConstants.{THREADS}
 
 -- The thread made these calls over its reader, and its handler was told of them; or memory was refused in some job.
-pub record Served (book : Book) (shape : Widths) (refused : Bool) (t : ℕ) (reader reader_then : ReaderView) (calls : List Call) (before after : List Note) (replies : List Reply) : Type 0 where
+pub record Served (book : Book) (shape : Widths) (refused : Bool) (t : ℕ) (reader reader_then : ReaderView) (calls : List Call)
+    (before after : List Note) (replies : List Reply) : Type 0 where
+  pub idle : calls ≡ [] → (reader_then ≡ reader) × (after ≡ before)
   pub kept : FaultsKept (fault_count reader) (fault_count reader_then)
   pub faulty : All (λ r. IsFault r → FaultsRose (fault_count reader) (fault_count reader_then)) replies
   pub grown : Grown before after
@@ -24,13 +26,16 @@ pub record Served (book : Book) (shape : Widths) (refused : Bool) (t : ℕ) (rea
   pub begun : (stream : Coming) → coming reader ≡ Some stream → Begun before (notes_to book shape (opening t stream.rest stream.mark) calls) after
   pub done :
       refused ≡ false → (stream : Coming) → coming reader ≡ Some stream
-      → (after ≡ before ++ notes_to book shape (opening t stream.rest stream.mark) calls) × (replies ≡ replies_to book shape (opening t stream.rest stream.mark) calls)
+      → (after ≡ before ++ notes_to book shape (opening t stream.rest stream.mark) calls)
+      × (replies ≡ replies_to book shape (opening t stream.rest stream.mark) calls)
 
 -- Each thread made its calls of the plan.
-pub record AreServed (book : Book) (shape : Widths) (refused : Bool) (plan : List PlanLine) (readers readers_then : List ReaderView) (before after : List (List Note)) (replies : List (List Reply)) : Type 0 where
+pub record AreServed (book : Book) (shape : Widths) (refused : Bool) (plan : List PlanLine) (readers readers_then : List ReaderView)
+    (before after : List (List Note)) (replies : List (List Reply)) : Type 0 where
   pub readers_len : length readers_then ≡ THREADS
   pub notes_len : length after ≡ THREADS
   pub replies_len : length replies ≡ THREADS
   pub each :
       (t : ℕ) (r : ReaderView) → t < THREADS
-      → Served book shape refused t (slice_index_or readers t r) (slice_index_or readers_then t r) (planned_at t plan) (slice_index_or before t []) (slice_index_or after t []) (slice_index_or replies t [])
+      → Served book shape refused t (slice_index_or readers t r) (slice_index_or readers_then t r) (planned_at t plan)
+      (slice_index_or before t []) (slice_index_or after t []) (slice_index_or replies t [])

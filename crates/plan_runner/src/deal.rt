@@ -49,7 +49,8 @@ fn empty_lists(
 fn deal_line(lists: &mut Vec<Vec<Call>>, line: &PlanLine) -> Result<(), AllocError>
     requires thread { line.now.thread < vec_len lists.old }
     ensures len { vec_len lists.new ≡ vec_len lists.old }
-    ensures each { (t : ℕ) → OnOk result (slice_index_or (map (λ c. c.items) lists.new.items) t [] ≡ slice_index_or (map (λ c. c.items) lists.old.items) t [] ++ calls_on t line.now) }
+    ensures each { (t : ℕ) → OnOk result (slice_index_or (map (λ c. c.items) lists.new.items) t []
+        ≡ slice_index_or (map (λ c. c.items) lists.old.items) t [] ++ calls_on t line.now) }
 {
     if let Planned::Call(call) = line.planned {
         let list = &mut lists[line.thread as usize];

@@ -3,8 +3,8 @@ ghost use Rattle.std.specs.Prelude.{◌≡◌, ℕ, ◌≤◌, All, map, vec_len
 ghost use Rattle.event_sets.specs.AtRest.{Widths};
 ghost use Rattle.thread_registry.specs.Seen.{CanWork};
 ghost use Rattle.thread_session.specs.SessionView.{IsFresh};
-ghost use Rattle.plan_runner.specs.Jobs.{Left, befores, busy};
-ghost use Rattle.plan_runner.specs.Works.{AreWorks, calls_of};
+ghost use Rattle.plan_runner.specs.Jobs.{Left, befores_of, busy};
+ghost use Rattle.plan_runner.specs.Works.{AreWorks};
 
 use crate::lending::{Idle, put_back, take_out};
 use crate::works::Work;
@@ -32,7 +32,8 @@ pub fn run_jobs<R: Threads + Sync, S: Source + Send>(
     mut idle: Vec<Option<Idle<S>>>,
     replies: &mut Vec<Vec<Reply>>,
 ) -> bool
-    requires shaped { (shape : Widths) × AreWorks shape works.items × All (λ x. CanWork book.now x.session x.calls) (busy (befores shape readers.old.items (map (λ b. notes b) handlers.old.items) (map calls_of works.items))) }
+    requires shaped { (shape : Widths) × AreWorks shape works.items
+        × All (λ x. CanWork book.now x.session x.calls) (busy (befores_of shape readers.old.items (map (λ b. notes b) handlers.old.items) works.items)) }
     requires works { vec_len works ≡ vec_len handlers.old }
     requires readers { vec_len readers.old ≡ vec_len handlers.old }
     requires fresh { All IsFresh readers.old.items }
@@ -46,7 +47,9 @@ pub fn run_jobs<R: Threads + Sync, S: Source + Send>(
     ensures len { vec_len handlers.new ≡ vec_len handlers.old }
     ensures readers_len { vec_len readers.new ≡ vec_len handlers.old }
     ensures replies_len { vec_len replies.new ≡ vec_len handlers.old }
-    ensures left { (shape : Widths) → AreWorks shape works.items → Left book.now result (befores shape readers.old.items (map (λ b. notes b) handlers.old.items) (map calls_of works.items)) (map (λ b. notes b) handlers.new.items) readers.new.items (map (λ r. r.items) replies.new.items) }
+    ensures left { (shape : Widths) → AreWorks shape works.items
+        → Left book.now result (befores_of shape readers.old.items (map (λ b. notes b) handlers.old.items) works.items)
+        (map (λ b. notes b) handlers.new.items) readers.new.items (map (λ r. r.items) replies.new.items) }
 {
     take_out(&mut works, handlers, readers, &mut jobs, &mut idle);
     work_all(rt, &mut jobs, book, workers);

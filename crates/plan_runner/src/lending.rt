@@ -1,14 +1,11 @@
 //! Handlers and readers are lent to the jobs of the threads that have calls, and come back to their places.
-ghost use Rattle.std.specs.Prelude.{false, ℕ, ◌≡◌, ◌<◌, ◌≤◌, ◌+◌, ◌++◌, ◌∷◌, [], All, List, Option, None, map, reverse, vec_len, vec_capacity};
+ghost use Rattle.std.specs.Prelude.{false, ℕ, ◌≡◌, ◌<◌, ◌≤◌, ◌+◌, ◌++◌, ◌∷◌, [], All, map, reverse, vec_len, vec_capacity};
 ghost use Rattle.std.specs.Option.{option_map};
-ghost use Rattle.overflow_dispatch.specs.declared.handler.Note.{Note};
 ghost use Rattle.event_sets.specs.AtRest.{Widths};
-ghost use Rattle.session_model.specs.declared.reply.Reply.{Reply};
-ghost use Rattle.stream_reader.specs.Reader.{ReaderView};
 ghost use Rattle.thread_registry.specs.JobView.{seen};
 ghost use Rattle.thread_session.specs.SessionView.{IsFresh};
-ghost use Rattle.plan_runner.specs.Jobs.{before, befores, busy, filled, gaps, idle_of, job_where};
-ghost use Rattle.plan_runner.specs.Works.{AreWorks, IsWorkOf, calls_of};
+ghost use Rattle.plan_runner.specs.Jobs.{PutsBack, before_work, befores_of, busy, filled_back, gaps, idle_notes, idle_reader, job_of};
+ghost use Rattle.plan_runner.specs.Works.{AreWorks, IsWorkOf};
 
 use crate::works::Work;
 use overflow_dispatch::Handler;
@@ -39,9 +36,12 @@ fn lend<S: Source>(
     requires fresh { IsFresh reader }
     requires room { vec_len jobs.old < vec_capacity jobs.old }
     requires idle_room { vec_len idle.old < vec_capacity idle.old }
-    ensures jobs { (shape : Widths) (t : ℕ) → IsWorkOf shape t work → map (λ j. seen (notes j.handler) j) jobs.new.items ≡ map (λ j. seen (notes j.handler) j) jobs.old.items ++ job_where (calls_of work) (before shape t reader (notes handler) (calls_of work)) }
-    ensures idle { (shape : Widths) (t : ℕ) → IsWorkOf shape t work → map (option_map (λ i. notes i.handler)) idle.new.items ≡ map (option_map (λ i. notes i.handler)) idle.old.items ++ option_map (λ y. y.notes) (idle_of (before shape t reader (notes handler) (calls_of work))) ∷ [] }
-    ensures idle_readers { (shape : Widths) (t : ℕ) → IsWorkOf shape t work → map (option_map (λ i. i.reader)) idle.new.items ≡ map (option_map (λ i. i.reader)) idle.old.items ++ option_map (λ y. y.session.reader) (idle_of (before shape t reader (notes handler) (calls_of work))) ∷ [] }
+    ensures jobs { (shape : Widths) (t : ℕ) → IsWorkOf shape t work → map (λ j. seen (notes j.handler) j) jobs.new.items
+        ≡ map (λ j. seen (notes j.handler) j) jobs.old.items ++ job_of (before_work shape t reader (notes handler) work) }
+    ensures idle { (shape : Widths) (t : ℕ) → IsWorkOf shape t work → map (option_map (λ i. notes i.handler)) idle.new.items
+        ≡ map (option_map (λ i. notes i.handler)) idle.old.items ++ idle_notes (before_work shape t reader (notes handler) work) ∷ [] }
+    ensures idle_readers { (shape : Widths) (t : ℕ) → IsWorkOf shape t work → map (option_map (λ i. i.reader)) idle.new.items
+        ≡ map (option_map (λ i. i.reader)) idle.old.items ++ idle_reader (before_work shape t reader (notes handler) work) ∷ [] }
     ensures as_many { gaps idle.old.items ≡ vec_len jobs.old → gaps idle.new.items ≡ vec_len jobs.new }
     ensures len { vec_len idle.new ≡ vec_len idle.old + 1 }
     ensures jobs_len { vec_len jobs.new ≤ vec_len jobs.old + 1 }
@@ -92,9 +92,12 @@ pub fn take_out<S: Source>(
     ensures reader_capacity { vec_capacity readers.new ≡ vec_capacity readers.old }
     ensures len { vec_len idle.new ≡ vec_len handlers.old }
     ensures as_many { gaps idle.new.items ≡ vec_len jobs.new }
-    ensures jobs { (shape : Widths) → AreWorks shape works.old.items → map (λ j. seen (notes j.handler) j) jobs.new.items ≡ reverse (busy (befores shape readers.old.items (map (λ b. notes b) handlers.old.items) (map calls_of works.old.items))) }
-    ensures idle { (shape : Widths) → AreWorks shape works.old.items → map (option_map (λ i. notes i.handler)) idle.new.items ≡ reverse (map (λ x. option_map (λ y. y.notes) (idle_of x)) (befores shape readers.old.items (map (λ b. notes b) handlers.old.items) (map calls_of works.old.items))) }
-    ensures idle_readers { (shape : Widths) → AreWorks shape works.old.items → map (option_map (λ i. i.reader)) idle.new.items ≡ reverse (map (λ x. option_map (λ y. y.session.reader) (idle_of x)) (befores shape readers.old.items (map (λ b. notes b) handlers.old.items) (map calls_of works.old.items))) }
+    ensures jobs { (shape : Widths) → AreWorks shape works.old.items → map (λ j. seen (notes j.handler) j) jobs.new.items
+        ≡ reverse (busy (befores_of shape readers.old.items (map (λ b. notes b) handlers.old.items) works.old.items)) }
+    ensures idle { (shape : Widths) → AreWorks shape works.old.items → map (option_map (λ i. notes i.handler)) idle.new.items
+        ≡ reverse (map idle_notes (befores_of shape readers.old.items (map (λ b. notes b) handlers.old.items) works.old.items)) }
+    ensures idle_readers { (shape : Widths) → AreWorks shape works.old.items → map (option_map (λ i. i.reader)) idle.new.items
+        ≡ reverse (map idle_reader (befores_of shape readers.old.items (map (λ b. notes b) handlers.old.items) works.old.items)) }
 {
     for _taken in 0..handlers.len() {
         let handler = handlers.take_last();
@@ -118,9 +121,12 @@ fn give_back<S: Source>(
     requires room { vec_len handlers.old < vec_capacity handlers.old }
     requires reader_room { vec_len readers.old < vec_capacity readers.old }
     requires reply_room { vec_len replies.old < vec_capacity replies.old }
-    ensures handlers { (places : List (Option (List Note))) → map (λ b. notes b) handlers.new.items ++ filled places (reverse (map (λ j. notes j.handler) jobs.new.items)) ≡ map (λ b. notes b) handlers.old.items ++ filled (option_map (λ i. notes i.handler) place ∷ places) (reverse (map (λ j. notes j.handler) jobs.old.items)) }
-    ensures readers { (places : List (Option ReaderView)) → readers.new.items ++ filled places (reverse (map (λ j. j.session.reader) jobs.new.items)) ≡ readers.old.items ++ filled (option_map (λ i. i.reader) place ∷ places) (reverse (map (λ j. j.session.reader) jobs.old.items)) }
-    ensures replies { (places : List (Option (List Reply))) → map (λ r. r.items) replies.new.items ++ filled places (reverse (map (λ j. j.replies.items) jobs.new.items)) ≡ map (λ r. r.items) replies.old.items ++ filled (option_map (λ i. []) place ∷ places) (reverse (map (λ j. j.replies.items) jobs.old.items)) }
+    ensures handlers { PutsBack (option_map (λ i. notes i.handler) place) (map (λ j. notes j.handler) jobs.old.items)
+        (map (λ j. notes j.handler) jobs.new.items) (map (λ b. notes b) handlers.old.items) (map (λ b. notes b) handlers.new.items) }
+    ensures readers { PutsBack (option_map (λ i. i.reader) place) (map (λ j. j.session.reader) jobs.old.items)
+        (map (λ j. j.session.reader) jobs.new.items) readers.old.items readers.new.items }
+    ensures replies { PutsBack (option_map (λ i. []) place) (map (λ j. j.replies.items) jobs.old.items)
+        (map (λ j. j.replies.items) jobs.new.items) (map (λ r. r.items) replies.old.items) (map (λ r. r.items) replies.new.items) }
     ensures jobs { vec_len jobs.new + gaps (place ∷ []) ≡ vec_len jobs.old }
     ensures len { vec_len handlers.new ≡ vec_len handlers.old + 1 }
     ensures readers_len { vec_len readers.new ≡ vec_len readers.old + 1 }
@@ -174,9 +180,11 @@ pub fn put_back<S: Source>(
     ensures len { vec_len handlers.new ≡ vec_len idle.old }
     ensures readers_len { vec_len readers.new ≡ vec_len idle.old }
     ensures replies_len { vec_len replies.new ≡ vec_len idle.old }
-    ensures handlers { map (λ b. notes b) handlers.new.items ≡ filled (reverse (map (option_map (λ i. notes i.handler)) idle.old.items)) (reverse (map (λ j. notes j.handler) jobs.old.items)) }
-    ensures readers { readers.new.items ≡ filled (reverse (map (option_map (λ i. i.reader)) idle.old.items)) (reverse (map (λ j. j.session.reader) jobs.old.items)) }
-    ensures replies { map (λ r. r.items) replies.new.items ≡ filled (reverse (map (option_map (λ i. [])) idle.old.items)) (reverse (map (λ j. j.replies.items) jobs.old.items)) }
+    ensures handlers { map (λ b. notes b) handlers.new.items
+        ≡ filled_back (map (option_map (λ i. notes i.handler)) idle.old.items) (map (λ j. notes j.handler) jobs.old.items) }
+    ensures readers { readers.new.items ≡ filled_back (map (option_map (λ i. i.reader)) idle.old.items) (map (λ j. j.session.reader) jobs.old.items) }
+    ensures replies { map (λ r. r.items) replies.new.items
+        ≡ filled_back (map (option_map (λ i. [])) idle.old.items) (map (λ j. j.replies.items) jobs.old.items) }
     ensures whole { result ≡ false → All (λ j. j.starved ≡ false) jobs.old.items }
 {
     let mut refused = false;

@@ -13,7 +13,7 @@ ghost use Rattle.thread_session.specs.Faults.{FaultsRose, IsFault, fault_count};
 ghost use Rattle.plan_runner.specs.Marks.{marks_in};
 ghost use Rattle.plan_runner.specs.Merges.{lines_by};
 ghost use Rattle.plan_runner.specs.Plans.{AreGood, AreThreads, planned_at};
-ghost use Rattle.plan_runner.specs.Runs.{AllKept, AreInOrder, Tells, notes_by_thread, reply_lines, world_told};
+ghost use Rattle.plan_runner.specs.Runs.{AllKept, AreInOrder, IdleStay, Tells, notes_by_thread, reply_lines, world_told};
 ghost use Rattle.plan_runner.specs.Served.{AreServed};
 ghost use Rattle.plan_runner.specs.Works.{AreWorks, calls_of};
 
@@ -53,7 +53,8 @@ fn prepare<S: Source>(
     requires threads { AreThreads plan.now }
     ensures len { IfOk result (λ p. vec_len p.works ≡ THREADS) }
     ensures empty { IfOk result (λ p. (vec_len p.jobs ≡ 0) × (vec_len p.idle ≡ 0) × (vec_len p.replies ≡ 0) × (vec_len p.lines ≡ 0)) }
-    ensures room { IfOk result (λ p. (THREADS ≤ vec_capacity p.jobs) × (THREADS ≤ vec_capacity p.idle) × (THREADS ≤ vec_capacity p.replies) × (length plan.now ≤ vec_capacity p.lines)) }
+    ensures room { IfOk result (λ p. (THREADS ≤ vec_capacity p.jobs) × (THREADS ≤ vec_capacity p.idle)
+        × (THREADS ≤ vec_capacity p.replies) × (length plan.now ≤ vec_capacity p.lines)) }
     ensures works { IfOk result (λ p. AreWorks shape.now p.works.items) }
     ensures dealt { IfOk result (λ p. (t : ℕ) → t < THREADS → slice_index_or (map calls_of p.works.items) t [] ≡ planned_at t plan.now) }
 {
@@ -89,13 +90,17 @@ fn run_prepared<R: Threads + Sync, S: Source + Send>(
     requires fresh { All IsFresh readers.old.items }
     requires len { vec_len prepared.works ≡ THREADS }
     requires empty { (vec_len prepared.jobs ≡ 0) × (vec_len prepared.idle ≡ 0) × (vec_len prepared.replies ≡ 0) × (vec_len prepared.lines ≡ 0) }
-    requires room { (THREADS ≤ vec_capacity prepared.jobs) × (THREADS ≤ vec_capacity prepared.idle) × (THREADS ≤ vec_capacity prepared.replies) × (length plan.now ≤ vec_capacity prepared.lines) }
+    requires room { (THREADS ≤ vec_capacity prepared.jobs) × (THREADS ≤ vec_capacity prepared.idle)
+        × (THREADS ≤ vec_capacity prepared.replies) × (length plan.now ≤ vec_capacity prepared.lines) }
     requires low { 1 ≤ workers }
     requires works { (shape : Widths) × AreWorks shape prepared.works.items × BookFits shape book.now × AreGood book.now shape plan.now }
     requires dealt { (t : ℕ) → t < THREADS → slice_index_or (map calls_of prepared.works.items) t [] ≡ planned_at t plan.now }
     ensures len { vec_len handlers.new ≡ THREADS }
     ensures readers_len { vec_len readers.new ≡ THREADS }
-    ensures served { (shape : Widths) → AreWorks shape prepared.works.items → BookFits shape book.now → (replies : List (List Reply)) × AreServed book.now shape (is_err result) plan.now readers.old.items readers.new.items (map (λ b. notes b) handlers.old.items) (map (λ b. notes b) handlers.new.items) replies × IfOk result (λ run. run.lines.items ≡ lines_by (record { flags = replicate THREADS false; replies = replies }) plan.now) }
+    ensures served { (shape : Widths) → AreWorks shape prepared.works.items → BookFits shape book.now → (replies : List (List Reply))
+        × AreServed book.now shape (is_err result) plan.now readers.old.items readers.new.items
+        (map (λ b. notes b) handlers.old.items) (map (λ b. notes b) handlers.new.items) replies
+        × IfOk result (λ run. run.lines.items ≡ lines_by (record { flags = replicate THREADS false; replies = replies }) plan.now) }
     ensures marks { IfOk result (λ run. run.marks ≡ marks_in run.lines.items) }
 {
     let Prepared {
@@ -147,16 +152,22 @@ pub fn run_plan<R: Threads + Sync, S: Source + Send>(
     requires good { AreGood book.now shape.now plan }
     ensures len { vec_len handlers.new ≡ THREADS }
     ensures readers_len { vec_len readers.new ≡ THREADS }
-    ensures replies { (at : Setting) (script : List Line) (streams : List Coming) → Tells at script streams book.now shape.now plan readers.old.items → IfOk result (λ run. run.lines.items ≡ reply_lines plan (world_told at script streams)) }
-    ensures notes { (at : Setting) (script : List Line) (streams : List Coming) → Tells at script streams book.now shape.now plan readers.old.items → OnOk result (EachAdded (map (λ b. notes b) handlers.old.items) (notes_by_thread (world_told at script streams)) (map (λ b. notes b) handlers.new.items)) }
-    ensures begun { (at : Setting) (script : List Line) (streams : List Coming) → Tells at script streams book.now shape.now plan readers.old.items → EachBegun (map (λ b. notes b) handlers.old.items) (notes_by_thread (world_told at script streams)) (map (λ b. notes b) handlers.new.items) }
+    ensures replies { (at : Setting) (script : List Line) (streams : List Coming) → Tells at script streams book.now shape.now plan readers.old.items
+        → IfOk result (λ run. run.lines.items ≡ reply_lines plan (world_told at script streams)) }
+    ensures notes { (at : Setting) (script : List Line) (streams : List Coming) → Tells at script streams book.now shape.now plan readers.old.items
+        → OnOk result (EachAdded (map (λ b. notes b) handlers.old.items) (notes_by_thread (world_told at script streams)) (map (λ b. notes b) handlers.new.items)) }
+    ensures begun { (at : Setting) (script : List Line) (streams : List Coming) → Tells at script streams book.now shape.now plan readers.old.items
+        → EachBegun (map (λ b. notes b) handlers.old.items) (notes_by_thread (world_told at script streams)) (map (λ b. notes b) handlers.new.items) }
 
     // Told or not.
     ensures grown { EachGrown (map (λ b. notes b) handlers.old.items) (map (λ b. notes b) handlers.new.items) }
+    ensures idle { IdleStay plan readers.old.items readers.new.items (map (λ b. notes b) handlers.old.items) (map (λ b. notes b) handlers.new.items) }
     ensures order { IfOk result (λ run. AreInOrder plan run.lines.items) }
     ensures marks { IfOk result (λ run. run.marks ≡ marks_in run.lines.items) }
     ensures readers { AllKept (map (λ r. fault_count r) readers.old.items) (map (λ r. fault_count r) readers.new.items) }
-    ensures faulty { IfOk result (λ run. All (λ l. IsFault l.reply → FaultsRose (slice_index_or (map (λ r. fault_count r) readers.old.items) l.thread None) (slice_index_or (map (λ r. fault_count r) readers.new.items) l.thread None)) run.lines.items) }
+    ensures faulty { IfOk result (λ run. All (λ l. IsFault l.reply
+        → FaultsRose (slice_index_or (map (λ r. fault_count r) readers.old.items) l.thread None)
+        (slice_index_or (map (λ r. fault_count r) readers.new.items) l.thread None)) run.lines.items) }
 {
     let prepared = prepare(alloc, plan.lines(), shape)?;
     run_prepared(

@@ -63,7 +63,7 @@ fn number_in(reply: &Reply) -> u64 {
 fn replies_come_in_the_order_of_the_plan_by_any_number_of_workers(
     rt: HostRuntime,
 ) -> Result<(), AllocError> {
-    for workers in [1, 5] {
+    for workers in [1, 2, 64, 1000] {
         let alloc = rt.alloc();
         let book = PresetBook::new(Vec::new(alloc));
         let lines = plan(alloc)?;

@@ -4,7 +4,7 @@ use Rattle.plan_runner.specs.Merges.{lines_by}
 use Rattle.plan_runner.specs.Runs.{AreInOrder}
 use Rattle.plan_runner.proofs.Scripts.{lines-order}
 use Rattle.plan_runner.proofs.Served.{served-as}
-use Rattle.plan_runner.proofs.Worlds.{added-all, begun-all, faulty-all, grown-all, if_ok, kept-all, lines-all, on_ok}
+use Rattle.plan_runner.proofs.Worlds.{added-all, begun-all, faulty-all, grown-all, idle-all, if_ok, kept-all, lines-all, on_ok}
 use Rattle.plan_runner.proofs.run.run_plan.Goals as goal
 
 pub returns-clause-replies : goal.returns-clause-replies
@@ -30,6 +30,11 @@ pub returns-clause-grown : goal.returns-clause-grown
 returns-clause-grown g c =
     let served = c.run_prepared.ensures.served c.args.shape.now c.in_ok-prepared.ensures.works c.requires.fits in
     grown-all c.args.book.now c.args.shape.now c.args.plan c.args.readers.now.items _ _ _ _ _ (omega (arith, c.requires.readers, c.args.readers.now.ok.0)) (omega (arith, length-map c.args.handlers.now.items (λ b. (goal.Handler-dyn g (b.vtable, b.value)).notes b.value), c.requires.handlers, c.args.handlers.now.ok.0)) (served-as _ _ _ c.args.plan _ _ _ _ _ _ c.lines-2.ensures.lines served.1)
+
+pub returns-clause-idle : goal.returns-clause-idle
+returns-clause-idle g c =
+    let served = c.run_prepared.ensures.served c.args.shape.now c.in_ok-prepared.ensures.works c.requires.fits in
+    idle-all c.args.book.now c.args.shape.now c.args.plan c.args.readers.now.items _ _ _ _ _ (omega (arith, c.requires.readers, c.args.readers.now.ok.0)) (omega (arith, length-map c.args.handlers.now.items (λ b. (goal.Handler-dyn g (b.vtable, b.value)).notes b.value), c.requires.handlers, c.args.handlers.now.ok.0)) (served-as _ _ _ c.args.plan _ _ _ _ _ _ c.lines-2.ensures.lines served.1)
 
 pub returns-clause-order : goal.returns-clause-order
 returns-clause-order g c =
