@@ -6,7 +6,7 @@ use Rattle.std.specs.Option.{option_and_then}
 use Rattle.std.proofs.lemmas.List.{length-map}
 use Rattle.std.proofs.lemmas.Option.{slice_get-map, slice_get_within}
 use Rattle.component_table.specs.Catalogs.{CatalogView, shape_of}
-use Rattle.event_sets.specs.Agreement.{Fits}
+use Rattle.postfix_rules.specs.Fitting.{Fits}
 use Rattle.event_sets.specs.AtRest.{AtRest, is_other, widths_at}
 use Rattle.event_tables.specs.Kept.{IsComponent, IsEvent, IsTables}
 use Rattle.event_tables.specs.Tables.{ComponentText, EventText, MaskText, event_at, widths_of}

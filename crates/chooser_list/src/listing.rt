@@ -5,7 +5,7 @@ ghost use Rattle.chooser_list.specs.Candidates.{found, natives_at, natives_of_ev
 ghost use Rattle.chooser_list.specs.Choosing.{taken, takes};
 ghost use Rattle.chooser_list.specs.Open.{IsOpen, IsOver};
 ghost use Rattle.component_table.specs.Catalogs.{shape_of};
-ghost use Rattle.event_sets.specs.Agreement.{EventFits, IsHeld};
+ghost use Rattle.postfix_rules.specs.Fitting.{EventFits, IsHeld};
 ghost use Rattle.event_tables.specs.Kept.{IsTables};
 ghost use Rattle.event_tables.specs.Tables.{ComponentText, event_at};
 ghost use Rattle.event_tables.specs.Views.{event_text};

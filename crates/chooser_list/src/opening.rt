@@ -6,7 +6,7 @@ ghost use Rattle.counter_alloc.specs.Masks.{masks_of};
 ghost use Rattle.chooser_list.specs.Choosing.{takes};
 ghost use Rattle.chooser_list.specs.Open.{IsOpen, IsOver};
 ghost use Rattle.component_table.specs.Catalogs.{shape_of};
-ghost use Rattle.event_sets.specs.Agreement.{EventFits, IsHeld};
+ghost use Rattle.postfix_rules.specs.Fitting.{EventFits, IsHeld};
 ghost use Rattle.event_sets.specs.AtRest.{is_other};
 ghost use Rattle.postfix_rules.specs.Presets.{component_of_event};
 

@@ -5,8 +5,7 @@ use Rattle.std.specs.Option.{ForSome}
 use Rattle.std.proofs.lemmas.Bool.{eq-eqb, eqb-true}
 use Rattle.std.proofs.lemmas.List.Sums.{AllPass-from_list_all, list_all-from_AllPass}
 use Rattle.std.proofs.lemmas.List.Elements.{All-append}
-use Rattle.event_sets.specs.AtRest.{Widths}
-use Rattle.event_sets.specs.Agreement.{BookFits, Fits}
+use Rattle.postfix_rules.specs.Fitting.{BookFits, Fits, Widths}
 use Rattle.event_tables.specs.Tables.{ComponentText}
 use Rattle.name_encoder.specs.Names.{FitsShape}
 use Rattle.papi_base.specs.declared.native.Native.{Native}

@@ -8,7 +8,7 @@ use mathlib.Core.Bool.{beq}
 use Rattle.papi_base.specs.declared.native.Native.{Native}
 use Rattle.papi_base.specs.contracts.native.NativePartialEq.TheImpl.{eq-value}
 use Rattle.postfix_rules.specs.Sameness.{among, joined_by, same_bool, same_native}
-use Rattle.session_model.specs.World.{native_code}
+use Rattle.postfix_rules.specs.NativeCodes.{native_code}
 use Rattle.component_table.specs.Codes.{code_in}
 
 -- ---- the derived test for equal native events is the test of all fields

@@ -2,7 +2,7 @@
 use Rattle.std.specs.Prelude.{ℕ, List, Option, Some, None, if◌then◌else◌}
 use Rattle.papi_base.specs.declared.native.Native.{Native}
 use Rattle.postfix_rules.specs.Sameness.{among}
-use Rattle.session_model.specs.World.{native_code}
+use Rattle.postfix_rules.specs.NativeCodes.{native_code}
 
 -- the code of a native event, where it is mentioned
 abbrev pub code_in : List Native → Native → Option ℕ

@@ -6,6 +6,8 @@ pub mod Laws
 pub use Rattle.event_tables.specs.Tables
 pub use Rattle.name_encoder.specs.Names
 pub use Rattle.name_encoder.specs.Canonical
+pub use Rattle.postfix_rules.specs.Fitting
+pub use Rattle.postfix_rules.specs.NativeCodes
 pub use Rattle.postfix_rules.specs.Presets
 pub use Rattle.preset_csv.specs.Tables as PresetTables
 pub use Rattle.preset_table.specs.Table

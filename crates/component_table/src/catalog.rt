@@ -5,10 +5,9 @@ ghost use Rattle.component_table.specs.Books.{available_only, is_available, is_d
 ghost use Rattle.component_table.specs.Catalogs as Catalogs;
 ghost use Rattle.component_table.specs.Catalogs.{catalog_of, looked_up, preset_looked_up};
 ghost use Rattle.component_table.specs.EventNames as EventNames;
-ghost use Rattle.event_sets.specs.Agreement.{BookFits};
+ghost use Rattle.postfix_rules.specs.Fitting.{BookFits, IsNamed};
 ghost use Rattle.event_tables.specs.Tables.{shape_of};
 ghost use Rattle.preset_table.specs.Table as Table;
-ghost use Rattle.session_model.specs.Conditions.{IsNamed};
 
 use crate::derivation::book_of;
 use event_tables::Tables;
@@ -28,7 +27,7 @@ pub struct Catalog {
 }
 
 impl Model for Catalog {
-    ghost use Rattle.event_sets.specs.Agreement.{BookFits};
+    ghost use Rattle.postfix_rules.specs.Fitting.{BookFits};
     ghost use Rattle.event_tables.specs.Tables.{shape_of};
     ghost use Rattle.component_table.specs.Catalogs.{CatalogView};
 

@@ -3,7 +3,8 @@
 ghost use Rattle.std.specs.Prelude.{◌≡◌, ◌≤◌, All, IfOk, IfSome, length, map, string_bytes};
 ghost use Rattle.component_table.specs.Books as Books;
 ghost use Rattle.component_table.specs.Catalogs.{shape_of};
-ghost use Rattle.event_sets.specs.Agreement.{BookFits, Fits};
+ghost use Rattle.postfix_rules.specs.declared.derived.TheConstants.{MOST_NATIVES};
+ghost use Rattle.postfix_rules.specs.Fitting.{BookFits, Fits};
 
 use event_tables::Tables;
 use name_encoder::encode;
@@ -14,7 +15,7 @@ use std::alloc::{AllocError, Global};
 
 // The native events that some texts name, in their order, where each text names one.
 fn natives_named(tables: &Tables, texts: &[String]) -> Option<Natives>
-    requires few { length texts.now ≤ 8 }
+    requires few { length texts.now ≤ MOST_NATIVES }
     ensures named { result ≡ Books.natives_named tables.now (map string_bytes texts.now) }
     ensures fit { IfSome result (λ natives. All (Fits (shape_of tables.now)) natives) }
 {

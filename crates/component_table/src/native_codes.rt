@@ -3,7 +3,7 @@
 ghost use Rattle.std.specs.Prelude.{◌≡◌, ◌<◌, ◌≤◌, [], ◌∷◌, take, length, IfOk, OnErr, OnOk};
 ghost use Rattle.component_table.specs.Codes.{code_in};
 ghost use Rattle.postfix_rules.specs.Sameness.{joined_by};
-ghost use Rattle.session_model.specs.World.{native_code, native_named};
+ghost use Rattle.postfix_rules.specs.NativeCodes.{native_code, native_named};
 
 use indexmap::IndexSet;
 use papi_base::Native;

@@ -21,7 +21,7 @@ use Rattle.postfix_rules.proofs.Places.{get_pushed}
 use Rattle.event_sets.specs.declared.refusal.Clash.{Clash}
 use Rattle.event_sets.specs.declared.refusal.Refusal.TheVariants.{Plain, Conflict}
 use Rattle.event_sets.specs.Adding.{add_refusal}
-use Rattle.event_sets.specs.Agreement.{Fits, IsHeld}
+use Rattle.postfix_rules.specs.Fitting.{Fits, IsHeld}
 use Rattle.event_sets.specs.Assigning.{alone, clash_of}
 use Rattle.event_sets.specs.AtRest.{Widths, cannot_take, clash_with, has_event, is_full, is_other, natives_with, set_natives, widths_at, with_event}
 use Rattle.event_sets.specs.Sets.{IsMatched, IsSound, SetView, set_view}

@@ -14,7 +14,8 @@ use Rattle.postfix_rules.specs.Presets.{Book, component_of_event, entry, lead, n
 use Rattle.postfix_rules.specs.Rules.{DerivedView, IsDerived}
 use Rattle.papi_base.specs.declared.native.EventRef.TheVariants as event
 use Rattle.event_sets.specs.AtRest.{has_event, is_other, place_of, is_plain, armed_elsewhere, shares_native}
-use Rattle.event_sets.specs.Agreement.{IsHeld, IsOwned}
+use Rattle.event_sets.specs.Agreement.{IsOwned}
+use Rattle.postfix_rules.specs.Fitting.{IsHeld}
 use Rattle.event_sets.specs.Laws.{AddedAgrees, ArmedAgrees, AssignedAgrees, EmptiedAgrees, HeldHaveNatives, NativesAreOwned, RemovedAgrees}
 use Rattle.postfix_rules.proofs.Equal.{event_is, event_self, native_self}
 use Rattle.event_sets.proofs.Removing.{stood, stood_apart, get_removed, get_put}

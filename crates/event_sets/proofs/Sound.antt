@@ -16,7 +16,7 @@ use Rattle.postfix_rules.specs.Rules.{DerivedView, IsDerived}
 use Rattle.postfix_rules.proofs.Joined.{one_more_joins}
 use Rattle.event_sets.specs.declared.refusal.Clash.{Clash}
 use Rattle.event_sets.specs.declared.refusal.Refusal.TheVariants.{Plain, Conflict}
-use Rattle.event_sets.specs.Agreement.{Fits}
+use Rattle.postfix_rules.specs.Fitting.{Fits}
 use Rattle.event_sets.specs.Assigning.{blamed_unless, clash_of}
 use Rattle.event_sets.specs.AtRest.{Widths, cannot_arm, cannot_take, clash_with, has_event, is_armed, is_bad_domain, is_bad_slice, is_bad_threshold, is_full, is_other, natives_with, new_set, place_of, shares_native, widths_at}
 use Rattle.event_sets.specs.Sets.{IsSound, set_view}

@@ -1,30 +1,10 @@
--- What calls ask of the book, of the shape and of their own arguments, and what a set shares with the book.
-use Rattle.std.specs.Prelude.{ℕ, suc, ◌≡◌, ◌<◌, ◌^◌, All, IsSomeAnd, length, Option, Some, true, slice_get, ⊤}
-use Rattle.std.specs.Option.{ForSome}
+-- What a set shares with the book.
+use Rattle.std.specs.Prelude.{ℕ, suc, ◌≡◌, All, length, Option, Some, true, slice_get}
 use Rattle.papi_base.specs.declared.native.Native.{Native}
 use Rattle.papi_base.specs.declared.native.EventRef.{EventRef}
-use Rattle.papi_base.specs.declared.native.EventRef.TheVariants as event
-use Rattle.postfix_rules.specs.Rules.{IsDerived}
-use Rattle.postfix_rules.specs.Presets.{Book, entry, lead, natives_of_event, rule_of_event}
-use Rattle.event_sets.specs.AtRest.{AtRest, Widths, is_plain, widths_at}
-
--- the native's component is one of the shape's, and it is allowed only counters of it
-pub record Fits (shape : Widths) (n : Native) : Type 0 where
-  pub has_component : n.comp < length shape
-  pub has_counters : n.allowed < 2 ^ length (widths_at shape (Some n.comp))
-
--- so is each native of the book
-pub record BookFits (shape : Widths) (book : Book) : Type 0 where
-  pub each : All (λ place. ForSome place (λ d. All (Fits shape) d.natives)) book
-
--- a preset is one that the book holds
-abbrev pub IsHeld : Book → EventRef → Type 0
-IsHeld book (event.Native n) = ⊤
-IsHeld book (event.Preset row) = IsSomeAnd (entry book row) IsDerived
-
-abbrev pub EventFits : Widths → EventRef → Type 0
-EventFits shape (event.Native n) = Fits shape n
-EventFits shape (event.Preset row) = ⊤
+use Rattle.postfix_rules.specs.Fitting.{IsHeld}
+use Rattle.postfix_rules.specs.Presets.{Book, lead, natives_of_event, rule_of_event}
+use Rattle.event_sets.specs.AtRest.{AtRest, is_plain}
 
 -- each native of the event is of this component
 abbrev pub IsOwned : Book → Option ℕ → EventRef → Type 0

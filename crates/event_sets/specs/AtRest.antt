@@ -1,5 +1,5 @@
 -- A set that does not run: what it holds, what its calls look at, and what they change.
-use Rattle.std.specs.Prelude.{ℕ, ◌^◌, min, Bool, true, false, ◌||◌, ◌&&◌, not, ◌==◌, nat_le, nat_lt, List, [], ◌∷◌, ◌++◌, length, remove, Option, Some, None, slice_get, slice_set, unwrap_or}
+use Rattle.std.specs.Prelude.{ℕ, ◌^◌, min, Bool, true, false, ◌||◌, ◌&&◌, not, ◌==◌, nat_le, nat_lt, List, [], ◌∷◌, ◌++◌, length, remove, Option, Some, None, slice_set}
 use Rattle.std.specs.Option.{option_map_or}
 use Rattle.std.specs.List.{list_any, position_or_len}
 use Rattle.papi_base.specs.declared.bits.Domain.{Domain}
@@ -8,13 +8,10 @@ use Rattle.papi_base.specs.declared.native.EventRef.{EventRef}
 use Rattle.postfix_rules.specs.declared.rule.Rule.{Rule}
 use Rattle.postfix_rules.specs.declared.rule.Rule.TheVariants as rule
 use Rattle.postfix_rules.specs.Sameness.{same_event, same_native}
+pub use Rattle.postfix_rules.specs.Fitting.{Widths, widths_at}
 use Rattle.postfix_rules.specs.Presets.{Book, component_of_event, lead, natives_of, rule_of_event}
 use Rattle.event_sets.specs.declared.refusal.Clash.{Clash}
 use Rattle.event_sets.specs.Assigning.{clash_of}
-
--- for each component the widths of its counters
-abbrev pub Widths : Type 0
-Widths = List (List ℕ)
 
 -- its events, for each its threshold or 0, its component once that is fixed, its domain, and its slice where it is multiplexed
 pub record AtRest : Type 0 where
@@ -71,11 +68,6 @@ is_plain (rule.Postfix f) = false
 -- PAPI_overflow(3): the event is not in the set, or is derived
 abbrev pub cannot_arm : Book → EventRef → AtRest → Bool
 cannot_arm book e s = not (has_event e s) || not (is_plain (rule_of_event book e))
-
--- the widths of the set's component's counters
-abbrev pub widths_at : Widths → Option ℕ → List ℕ
-widths_at shape None = []
-widths_at shape (Some comp) = unwrap_or (slice_get shape comp) []
 
 abbrev pub least_width : List ℕ → ℕ
 least_width [] = 0

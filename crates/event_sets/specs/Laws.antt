@@ -4,7 +4,8 @@ use Rattle.papi_base.specs.declared.native.Native.{Native}
 use Rattle.papi_base.specs.declared.native.EventRef.{EventRef}
 use Rattle.postfix_rules.specs.Presets.{Book, lead, rule_of_event}
 use Rattle.event_sets.specs.AtRest.{AtRest, cannot_take, emptied, has_event, is_other, is_plain, set_natives, shares_native, with_event, with_threshold, without_event}
-use Rattle.event_sets.specs.Agreement.{Agrees, IsHeld}
+use Rattle.event_sets.specs.Agreement.{Agrees}
+use Rattle.postfix_rules.specs.Fitting.{IsHeld}
 
 -- with all events gone
 abbrev pub EmptiedAgrees : Type 0

@@ -8,5 +8,6 @@ pub mod Changing
 pub mod Soundness
 pub use Rattle.counter_alloc.specs.Listing
 pub use Rattle.counter_alloc.specs.Masks
+pub use Rattle.postfix_rules.specs.Fitting
 pub use Rattle.postfix_rules.specs.Presets
 pub use Rattle.postfix_rules.specs.Sameness

@@ -5,7 +5,7 @@ use Rattle.postfix_rules.specs.Presets.{Book, natives_of_event}
 use Rattle.event_sets.specs.AtRest.{AtRest, Widths, emptied, is_bad_domain, new_set, with_event, with_threshold, without_event}
 use Rattle.event_sets.specs.Adding.{add_refusal}
 use Rattle.event_sets.specs.Changing.{assign_refusal, multiplex_refusal, threshold_refusal}
-use Rattle.event_sets.specs.Agreement.{BookFits, EventFits, Fits, IsHeld}
+use Rattle.postfix_rules.specs.Fitting.{BookFits, EventFits, Fits, IsHeld}
 use Rattle.event_sets.specs.Sets.{IsSound, set_view}
 
 -- a new set

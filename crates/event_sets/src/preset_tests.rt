@@ -1,7 +1,7 @@
 // Presets that share native events, in a set.
 ghost use Rattle.std.specs.Prelude.{◌≡◌, [], ◌∷◌, All};
 ghost use Rattle.postfix_rules.specs.Rules.{IsDerived};
-ghost use Rattle.event_sets.specs.Agreement.{BookFits, Fits};
+ghost use Rattle.postfix_rules.specs.Fitting.{BookFits, Fits};
 ghost use Rattle.event_sets.specs.Sets.{set_view};
 
 use crate::{EventSet, Refusal};

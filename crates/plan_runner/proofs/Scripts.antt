@@ -8,7 +8,8 @@ use Rattle.session_model.specs.declared.line.Asked.{Asked}
 use Rattle.session_model.specs.declared.line.Asked.TheVariants as asked
 use Rattle.session_model.specs.declared.line.Line.{Line}
 use Rattle.session_model.specs.declared.reply.Reply.{Reply}
-use Rattle.session_model.specs.World.{Setting, Told, call_of, calls_at, mentioned_after, name_by, native_named}
+use Rattle.session_model.specs.World.{Setting, Told, call_of, calls_at, mentioned_after, name_by}
+use Rattle.postfix_rules.specs.NativeCodes.{native_named}
 use Rattle.session_laws.specs.Worlds.{Ahead, ahead_after, merged, merged_reply, next_reply}
 use Rattle.thread_session.specs.Faults.{FaultsRose, IsFault}
 use Rattle.plan_runner.specs.declared.plan.Planned.{Planned}

@@ -10,7 +10,8 @@ use Rattle.session_model.specs.declared.line.Asked.{Asked}
 use Rattle.session_model.specs.declared.line.Asked.TheVariants as asked
 use Rattle.session_model.specs.declared.line.Line.{Line}
 use Rattle.session_model.specs.Conditions.{IsGood}
-use Rattle.session_model.specs.World.{Setting, mentioned_after, native_code, native_named}
+use Rattle.session_model.specs.World.{Setting, mentioned_after}
+use Rattle.postfix_rules.specs.NativeCodes.{native_code, native_named}
 use Rattle.plan_runner.specs.declared.plan.Planned.{Planned}
 use Rattle.plan_runner.specs.declared.plan.Planned.TheVariants as planned
 use Rattle.plan_runner.specs.declared.plan.PlanLine.{PlanLine}

@@ -3,7 +3,7 @@ ghost use Rattle.std.specs.Prelude.{false, ◌≡◌, ◌<◌, ◌≤◌, ℕ, [
 ghost use Rattle.std.specs.Result.{is_err};
 ghost use Rattle.overflow_dispatch.specs.Notes.{EachAdded, EachBegun, EachGrown};
 ghost use Rattle.papi_base.specs.Streams.{Coming};
-ghost use Rattle.event_sets.specs.Agreement.{BookFits};
+ghost use Rattle.postfix_rules.specs.Fitting.{BookFits};
 ghost use Rattle.event_sets.specs.AtRest.{Widths};
 ghost use Rattle.session_model.specs.declared.line.Line.{Line};
 ghost use Rattle.session_model.specs.World.{Setting};

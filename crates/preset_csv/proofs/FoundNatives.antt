@@ -1,18 +1,17 @@
 -- The natives of a row, field by field.
-use Rattle.std.proofs.Common.{◌≡◌, ◌∙◌, ◌+◌, ◌<◌, ◌≤◌, ◌∷◌, ◌++◌, ℕ, Bool, true, false, List, [], Option, Some, None, map, drop, length, get_or, refl, sym, ap, append_assoc, append-nil}
+use Rattle.std.proofs.Common.{◌≡◌, ◌∙◌, ◌+◌, ◌<◌, ◌≤◌, ◌∷◌, ◌++◌, ℕ, zero, suc, Bool, true, false, List, [], Some, None, Ok, Err, map, drop, take, length, get_or, refl, sym, ap, arith, append_assoc, append-nil, lt-ltb, le-ltb}
 use Rattle.std.specs.Prelude.{if◌then◌else◌}
 use Rattle.std.specs.List.{list_all}
 use Rattle.std.proofs.lemmas.Bool.{and_from}
-use Rattle.std.proofs.lemmas.List.{drop_all, drop_more}
+use Rattle.std.proofs.lemmas.List.{drop_all, drop_more, length-append, length-take, take_all}
 use Rattle.std.proofs.lemmas.List.Folds.{list_all-append}
 use Rattle.std.proofs.lemmas.Option.{slice_get-get_or}
 use Rattle.table_rows.specs.Texts.{Text, is_printable, text_at, trimmed}
+use Rattle.postfix_rules.specs.declared.derived.TheConstants.{MOST_NATIVES}
 use Rattle.preset_csv.specs.Defs.{ends_natives}
-use Rattle.preset_csv.specs.Lines.{natives_in}
-
--- the natives from a field on
-abbrev pub natives_from : List Text → ℕ → List Text
-natives_from fields i = natives_in (map trimmed (drop i fields))
+use Rattle.preset_csv.specs.Entries.{kept_natives}
+use Rattle.preset_csv.specs.Lines.{natives_from, natives_in}
+use Rattle.preset_csv.specs.declared.fault.PresetCause.TheVariants as cause
 
 pub text-here : (fields : List Text) (i : ℕ) → i < length fields → text_at fields i ≡ trimmed (get_or fields i [])
 unfolding text_at
@@ -38,13 +37,6 @@ pub record Found (fields : List Text) (first i : ℕ) (natives : List Text) : Ty
   pub found : natives_from fields first ≡ natives ++ natives_from fields i
   pub printed : list_all is_printable natives ≡ true
 
--- all natives of a row, where all are printable
-abbrev pub all_printed : List Text → Option (List Text)
-all_printed natives = if list_all is_printable natives then Some natives else None
-
-pub none-found : (fields : List Text) (first : ℕ) → Found fields first first []
-none-found fields first = record { found = refl; printed = refl }
-
 pub one-more : (fields : List Text) (first i : ℕ) (natives more : List Text) → i < length fields → Found fields first i natives → ends_natives (text_at fields i) ≡ false → is_printable (text_at fields i) ≡ true
     → more ≡ natives ++ text_at fields i ∷ [] → Found fields first (i + 1) more
 one-more fields first i natives more lt f stays printed is = rw is (record {
@@ -52,22 +44,65 @@ one-more fields first i natives more lt f stays printed is = rw is (record {
   printed = list_all-append is_printable natives (text_at fields i ∷ []) ∙ and_from _ _ f.printed (and_from _ _ printed refl);
 })
 
-pub ended : (fields : List Text) (first i : ℕ) (natives : List Text) → natives_from fields i ≡ [] → Found fields first i natives → Some natives ≡ all_printed (natives_from fields first)
-ended fields first i natives none f =
-    let whole : natives_from fields first ≡ natives = f.found ∙ ap (λ (t : List Text). natives ++ t) none ∙ append-nil natives in
-    rw (whole, f.printed) refl
+-- ---- the natives that are held, of those before field i
 
-pub ended-here : (fields : List Text) (first i : ℕ) (natives : List Text) → i < length fields → ends_natives (text_at fields i) ≡ true → Found fields first i natives → Some natives ≡ all_printed (natives_from fields first)
-ended-here fields first i natives lt e f = ended fields first i natives (from-here fields i lt ∙ first-ends (text_at fields i) _ e) f
+pub record Held (fields : List Text) (first i count : ℕ) (natives : List Text) : Type 0 where
+  pub all : List Text
+  pub found : Found fields first i all
+  pub counted : count ≡ length all
+  pub placed : first + count ≡ i
+  pub few : natives ≡ take MOST_NATIVES all
 
-pub ended-last : (fields : List Text) (first i : ℕ) (natives : List Text) → length fields ≤ i → Found fields first i natives → Some natives ≡ all_printed (natives_from fields first)
-ended-last fields first i natives le f = ended fields first i natives (at-end fields i le) f
+pub none-held : (fields : List Text) (first : ℕ) → Held fields first first 0 []
+none-held fields first = record { all = []; found = record { found = refl; printed = refl }; counted = refl; placed = omega arith; few = refl }
 
-pub broken : (fields : List Text) (first i : ℕ) (natives : List Text) → i < length fields → Found fields first i natives → ends_natives (text_at fields i) ≡ false → is_printable (text_at fields i) ≡ false
-    → None ≡ all_printed (natives_from fields first)
-broken fields first i natives lt f stays bad =
-    let whole : natives_from fields first ≡ natives ++ text_at fields i ∷ natives_from fields (i + 1) = f.found ∙ ap (λ (t : List Text). natives ++ t) (from-here fields i lt ∙ first-stays (text_at fields i) _ stays) in
-    rw (whole, list_all-append is_printable natives (text_at fields i ∷ natives_from fields (i + 1)), f.printed, bad) refl
+take-more : (n : ℕ) (xs ys : List Text) → take n (take n xs ++ ys) ≡ take n (xs ++ ys)
+take-more zero xs ys = refl
+take-more (suc n) [] ys = refl
+take-more (suc n) (x ∷ xs) ys = ap (λ (rest : List Text). x ∷ rest) (take-more n xs ys)
+
+pub held-more : (fields : List Text) (first i count : ℕ) (natives more : List Text) → i < length fields → Held fields first i count natives → ends_natives (text_at fields i) ≡ false → is_printable (text_at fields i) ≡ true
+    → more ≡ take MOST_NATIVES (natives ++ text_at fields i ∷ []) → Held fields first (i + 1) (count + 1) more
+held-more fields first i count natives more lt h stays printed is = record {
+  all = h.all ++ text_at fields i ∷ [];
+  found = one-more fields first i h.all _ lt h.found stays printed refl;
+  counted = omega (arith, h.counted, length-append h.all (text_at fields i ∷ []));
+  placed = omega (arith, h.placed);
+  few = is ∙ ap (λ (t : List Text). take MOST_NATIVES (t ++ text_at fields i ∷ [])) h.few ∙ take-more MOST_NATIVES h.all (text_at fields i ∷ []);
+}
+
+-- not more than that many are held
+pub held-few : (fields : List Text) (first i count : ℕ) (natives : List Text) → Held fields first i count natives → length natives ≤ MOST_NATIVES
+held-few fields first i count natives h = rw h.few (omega (arith, length-take MOST_NATIVES h.all))
+
+-- the fields before field i are all of the row's natives
+pub record Ends (fields : List Text) (first i : ℕ) : Type 0 where
+  pub none : natives_from fields i ≡ []
+
+pub ends-here : (fields : List Text) (first i : ℕ) → i < length fields → ends_natives (text_at fields i) ≡ true → Ends fields first i
+ends-here fields first i lt e = record { none = from-here fields i lt ∙ first-ends (text_at fields i) _ e }
+
+pub ends-last : (fields : List Text) (first i : ℕ) → length fields ≤ i → Ends fields first i
+ends-last fields first i le = record { none = at-end fields i le }
+
+whole : (fields : List Text) (first i : ℕ) (all : List Text) → Ends fields first i → Found fields first i all → natives_from fields first ≡ all
+whole fields first i all e f = f.found ∙ ap (λ (t : List Text). all ++ t) e.none ∙ append-nil all
+
+pub within : (fields : List Text) (first i count : ℕ) (natives : List Text) → Ends fields first i → Held fields first i count natives → count ≤ MOST_NATIVES → kept_natives (natives_from fields first) ≡ Ok natives
+within fields first i count natives e h le =
+    let short : length h.all ≤ MOST_NATIVES = omega (arith, h.counted, le) in
+    rw (whole fields first i h.all e h.found, h.found.printed, le-ltb MOST_NATIVES (length h.all) short) (ap Ok (sym (h.few ∙ take_all MOST_NATIVES h.all short)))
+
+pub over : (fields : List Text) (first i count : ℕ) (natives : List Text) → Ends fields first i → Held fields first i count natives → MOST_NATIVES < count → kept_natives (natives_from fields first) ≡ Err cause.OverLimit
+over fields first i count natives e h lt =
+    let long : MOST_NATIVES < length h.all = omega (arith, h.counted, lt) in
+    rw (whole fields first i h.all e h.found, h.found.printed, lt-ltb MOST_NATIVES (length h.all) long) refl
+
+pub broken : (fields : List Text) (first i count : ℕ) (natives : List Text) → i < length fields → Held fields first i count natives → ends_natives (text_at fields i) ≡ false → is_printable (text_at fields i) ≡ false
+    → kept_natives (natives_from fields first) ≡ Err cause.BadField
+broken fields first i count natives lt h stays bad =
+    let whole : natives_from fields first ≡ h.all ++ text_at fields i ∷ natives_from fields (i + 1) = h.found.found ∙ ap (λ (t : List Text). h.all ++ t) (from-here fields i lt ∙ first-stays (text_at fields i) _ stays) in
+    rw (whole, list_all-append is_printable h.all (text_at fields i ∷ natives_from fields (i + 1)), h.found.printed, bad) refl
 
 -- ---- a field as the code has it
 

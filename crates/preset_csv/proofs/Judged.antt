@@ -1,14 +1,15 @@
 -- What the entry of a row keeps.
-use Rattle.std.proofs.Common.{◌≡◌, ◌≤◌, ◌==◌, ◌∷◌, ℕ, Bool, true, false, List, [], length, refl, sym, subst, arith, nat_lt, Option, Some, None, Result, Ok, Err}
+use Rattle.std.proofs.Common.{◌≡◌, ◌≤◌, ◌==◌, ◌∷◌, ℕ, Bool, true, false, List, [], length, refl, sym, subst, arith, IfOk, Option, Some, None, Result, Ok, Err}
 use Rattle.std.specs.Prelude.{⊤, if◌then◌else◌}
-use Rattle.std.specs.List.{AllByRecursion, list_all}
-use Rattle.std.proofs.lemmas.Bool.{and_parts, eqb-true, ltb-false}
+use Rattle.std.specs.List.{AllByRecursion}
+use Rattle.std.proofs.lemmas.Bool.{eqb-true}
 use Rattle.table_rows.specs.Texts.{Text, is_empty, is_printable}
+use Rattle.postfix_rules.specs.declared.derived.TheConstants.{MOST_NATIVES}
 use Rattle.postfix_rules.specs.Faults.{FormulaView, IsFormula}
 use Rattle.postfix_rules.specs.Reading.{Refused, formula_of}
 use Rattle.postfix_rules.proofs.Refusals.{same_tokens}
 use Rattle.preset_csv.specs.Defs.{Agrees, IsDef, IsNativeText}
-use Rattle.preset_csv.specs.Entries.{formula_entry, has_rate, is_printed, judged, judged_as, limited_entry, typed_entry}
+use Rattle.preset_csv.specs.Entries.{formula_entry, has_rate, judged, judged_as, kept_entry, kept_natives, typed_entry}
 use Rattle.preset_csv.specs.Lines.{Derivation}
 use Rattle.preset_csv.specs.Tables.{IsEntry}
 use Rattle.preset_csv.specs.declared.entry.Entry.{Entry}
@@ -19,7 +20,7 @@ use Rattle.preset_csv.specs.declared.kind.Kind.{Kind}
 use Rattle.preset_csv.specs.declared.kind.Kind.TheVariants as kind
 use Rattle.preset_csv.specs.declared.kind.DerivedType.{DerivedType}
 use Rattle.preset_csv.specs.declared.kind.DerivedType.TheVariants as derived
-use Rattle.preset_csv.proofs.NativesKept.{IsNative, texts-kept}
+use Rattle.preset_csv.proofs.NativesKept.{IsNative, kept-is, texts-kept}
 
 -- a formula that was read over so many natives agrees with them
 pub read-agrees : (natives : List Text) (text : Text) (f : FormulaView) → formula_of (length natives) text ≡ Ok f → Agrees kind.Postfix (Some f) natives
@@ -27,11 +28,11 @@ read-agrees natives text f e =
     let t = (same_tokens (length natives) text f).0 e in
     (t.1, subst (λ (n : ℕ). IsFormula n f.tokens) (sym t.1) t.2)
 
--- one or more natives that can be written, and at most 8
+-- one or more natives that can be written, and not too many
 pub record Ready (natives : List Text) : Type 0 where
   pub each : AllByRecursion IsNativeText natives
   pub some : 1 ≤ length natives
-  pub few : length natives ≤ 8
+  pub few : length natives ≤ MOST_NATIVES
 
 pub def-kept : (natives : List Text) (k : Kind) (f : Option FormulaView) → Ready natives → Agrees k f natives → IsDef (record { kind = k; formula = f; natives = natives })
 def-kept natives k f ready agrees = record { each = ready.each; some = ready.some; few = ready.few; agrees = agrees }
@@ -69,21 +70,25 @@ some-natives : (natives : List Text) → is_empty natives ≡ false → 1 ≤ le
 some-natives [] e = cc e
 some-natives (t ∷ rest) e = omega arith
 
-limited-kept : (t : DerivedType) (formula : Text) (natives : List Text) → AllByRecursion IsNativeText natives → Keeps (limited_entry t formula natives)
-limited-kept t formula natives each = go (nat_lt 8 (length natives)) (is_empty natives) refl refl
+entry-kept : (t : DerivedType) (formula : Text) (natives : Result (List Text) PresetCause) → IfOk natives (λ kept. AllByRecursion IsNativeText kept × (length kept ≤ MOST_NATIVES)) → Keeps (kept_entry t formula natives)
+entry-kept t formula (Ok natives) h = go (is_empty natives) refl
   where
-    go : (b c : Bool) → nat_lt 8 (length natives) ≡ b → is_empty natives ≡ c → Keeps (if b then Err cause.OverLimit else if c then Ok entry.Uncomputed else typed_entry t formula natives)
-    go true c p q = tt
-    go false true p q = tt
-    go false false p q = typed-kept t formula natives (record { each = each; some = some-natives natives q; few = ltb-false 8 (length natives) p })
+    go : (b : Bool) → is_empty natives ≡ b → Keeps (if b then Ok entry.Uncomputed else typed_entry t formula natives)
+    go true e = tt
+    go false e = typed-kept t formula natives (record { each = h.0; some = some-natives natives e; few = h.1 })
+entry-kept t formula (Err why) h = tt
 
 as-kept : (t : Option DerivedType) (formula : Text) (natives : List Text) → AllByRecursion IsNative natives → Keeps (judged_as t formula natives)
 as-kept None formula natives h = tt
-as-kept (Some t) formula natives h = go (is_printed formula natives) refl
+as-kept (Some t) formula natives h = go (is_printable formula)
   where
-    go : (b : Bool) → is_printed formula natives ≡ b → Keeps (if b then limited_entry t formula natives else Err cause.BadField)
-    go true e = limited-kept t formula natives (texts-kept natives h (and_parts (is_printable formula) (list_all is_printable natives) e).1)
-    go false e = tt
+    texts : (o : Result (List Text) PresetCause) → kept_natives natives ≡ o → IfOk o (λ kept. AllByRecursion IsNativeText kept × (length kept ≤ MOST_NATIVES))
+    texts (Ok kept) e = let k = kept-is natives kept e in (subst (AllByRecursion IsNativeText) k.0 (texts-kept natives h k.1), k.2)
+    texts (Err why) e = tt
+
+    go : (b : Bool) → Keeps (if b then kept_entry t formula (kept_natives natives) else Err cause.BadField)
+    go true = entry-kept t formula (kept_natives natives) (texts (kept_natives natives) refl)
+    go false = tt
 
 -- the entry of a row whose natives are fields
 pub judged-kept : (r : Derivation) → AllByRecursion IsNative r.natives → Keeps (judged r)

@@ -1,15 +1,19 @@
 -- What the natives of a row keep, and its symbol.
-use Rattle.std.proofs.Common.{◌≡◌, ◌==◌, ◌∷◌, ℕ, zero, suc, Bool, true, false, not, List, [], map, drop, refl, subst, Some, None}
+use Rattle.std.proofs.Common.{◌≡◌, ◌≤◌, ◌==◌, ◌∷◌, ℕ, zero, suc, Bool, true, false, not, List, [], map, drop, length, refl, subst, nat_lt, Result, Ok, Err}
 use Rattle.std.specs.Prelude.{if◌then◌else◌}
 use Rattle.std.specs.List.{AllByRecursion, list_all}
-use Rattle.std.proofs.lemmas.Bool.{and_parts}
+use Rattle.std.proofs.lemmas.Bool.{and_parts, ltb-false}
 use Rattle.table_rows.specs.Rows.{IsInner, IsPlainField}
 use Rattle.table_rows.specs.Texts.{Text, is_printable, text_at, trimmed}
 use Rattle.table_rows.proofs.Texts.{trimmed-all, trimmed-once}
+use Rattle.postfix_rules.specs.declared.derived.TheConstants.{MOST_NATIVES}
 use Rattle.preset_csv.specs.Defs.{IsNativeText, ends_natives}
+use Rattle.preset_csv.specs.Entries.{kept_natives}
 use Rattle.preset_csv.specs.Kinds.{has_formula, type_of}
-use Rattle.preset_csv.specs.Lines.{Derivation, derivation_of, natives_in}
+use Rattle.preset_csv.specs.Lines.{Derivation, derivation_of, natives_from, natives_in}
 use Rattle.preset_csv.specs.Steps.{IsReadRow}
+use Rattle.preset_csv.specs.declared.fault.PresetCause.{PresetCause}
+use Rattle.preset_csv.specs.declared.fault.PresetCause.TheVariants as cause
 
 -- what a field keeps once it is trimmed
 abbrev pub IsCut : Text → Type 0
@@ -47,19 +51,25 @@ texts-kept (t ∷ natives) h p =
     no-comma (b ∷ u) k = rw k.0.0 (no-comma u k.1)
 
 -- natives of a row that are printable
-pub natives-kept : (fields : List Text) (first : ℕ) → IsReadRow fields → list_all is_printable (natives_in (map trimmed (drop first fields))) ≡ true
-    → AllByRecursion IsNativeText (natives_in (map trimmed (drop first fields)))
+pub natives-kept : (fields : List Text) (first : ℕ) → IsReadRow fields → list_all is_printable (natives_from fields first) ≡ true
+    → AllByRecursion IsNativeText (natives_from fields first)
 natives-kept fields first h p = texts-kept _ (cut-natives _ (cut-trimmed (drop first fields) (read-drop first fields h))) p
 
--- natives that were found printable
-pub found-kept : (fields : List Text) (first : ℕ) (natives : List Text) → IsReadRow fields
-    → Some natives ≡ (if list_all is_printable (natives_in (map trimmed (drop first fields))) then Some (natives_in (map trimmed (drop first fields))) else None)
-    → AllByRecursion IsNativeText natives
-found-kept fields first natives h e = go (list_all is_printable (natives_in (map trimmed (drop first fields)))) refl e
+-- natives that are kept are printable, and not too many
+pub kept-is : (natives kept : List Text) → kept_natives natives ≡ Ok kept → (natives ≡ kept) × (list_all is_printable natives ≡ true) × (length kept ≤ MOST_NATIVES)
+kept-is natives kept e = go (list_all is_printable natives) (nat_lt MOST_NATIVES (length natives)) refl refl e
   where
-    go : (b : Bool) → list_all is_printable (natives_in (map trimmed (drop first fields))) ≡ b → Some natives ≡ (if b then Some (natives_in (map trimmed (drop first fields))) else None) → AllByRecursion IsNativeText natives
-    go true p e = let is : natives_in (map trimmed (drop first fields)) ≡ natives = cc e in subst (AllByRecursion IsNativeText) is (natives-kept fields first h p)
-    go false p e = cc e
+    judged : Bool → Bool → Result (List Text) PresetCause
+    judged b c = if not b then Err cause.BadField else if c then Err cause.OverLimit else Ok natives
+
+    go : (b c : Bool) → list_all is_printable natives ≡ b → nat_lt MOST_NATIVES (length natives) ≡ c → judged b c ≡ Ok kept → (natives ≡ kept) × (list_all is_printable natives ≡ true) × (length kept ≤ MOST_NATIVES)
+    go false c p q h = cc h
+    go true true p q h = cc h
+    go true false p q h = let is : natives ≡ kept = cc h in (is, p, subst (λ (k : List Text). length k ≤ MOST_NATIVES) is (ltb-false MOST_NATIVES (length natives) q))
+
+-- and stand in a row
+pub found-kept : (fields : List Text) (first : ℕ) (natives : List Text) → IsReadRow fields → kept_natives (natives_from fields first) ≡ Ok natives → AllByRecursion IsNativeText natives
+found-kept fields first natives h e = let k = kept-is (natives_from fields first) natives e in subst (AllByRecursion IsNativeText) k.0 (natives-kept fields first h k.1)
 
 -- the symbol of a row stands in its second field
 pub symbol-there : (fields : List Text) → (derivation_of fields).symbol ≡ text_at fields 1
@@ -69,8 +79,8 @@ symbol-there fields = go (has_formula (type_of (text_at fields 2)))
     row : Bool → Derivation
     row b =
         if b
-        then record { symbol = text_at fields 1; derived_type = type_of (text_at fields 2); formula = text_at fields 3; natives = natives_in (map trimmed (drop 4 fields)) }
-        else record { symbol = text_at fields 1; derived_type = type_of (text_at fields 2); formula = []; natives = natives_in (map trimmed (drop 3 fields)) }
+        then record { symbol = text_at fields 1; derived_type = type_of (text_at fields 2); formula = text_at fields 3; natives = natives_from fields 4 }
+        else record { symbol = text_at fields 1; derived_type = type_of (text_at fields 2); formula = []; natives = natives_from fields 3 }
 
     go : (b : Bool) → (row b).symbol ≡ text_at fields 1
     go true = refl

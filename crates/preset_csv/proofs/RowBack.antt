@@ -5,6 +5,7 @@ use Rattle.std.proofs.lemmas.Bool.{le-ltb, eq-eqb}
 use Rattle.table_rows.specs.Rows.{BeginsPlain, IsPlainField, IsPlainRow}
 use Rattle.table_rows.specs.Texts.{Text, is_empty, text_at, trimmed}
 use Rattle.table_rows.proofs.Texts.{all-map}
+use Rattle.postfix_rules.specs.declared.derived.TheConstants.{MOST_NATIVES}
 use Rattle.postfix_rules.specs.Faults.{FormulaView}
 use Rattle.postfix_rules.specs.Reading.{formula_of}
 use Rattle.postfix_rules.specs.Tokens.{formula_text}
@@ -46,13 +47,13 @@ rest_fields s = codes "PRESET" ∷ s ∷ codes "DERIVED_CMPD" ∷ []
 
 -- ---- the fields are good
 
-small : (f : FormulaView) (natives : List Text) → length natives ≤ 8 → f.natives ≡ length natives → f.natives < 2 ^ 32
+small : (f : FormulaView) (natives : List Text) → length natives ≤ MOST_NATIVES → f.natives ≡ length natives → f.natives < 2 ^ 32
 small f natives few is = omega (arith, few, is)
 
-text-good : (f : FormulaView) (natives : List Text) → length natives ≤ 8 → Agrees kind.Postfix (Some f) natives → IsGood (formula_text f.tokens)
+text-good : (f : FormulaView) (natives : List Text) → length natives ≤ MOST_NATIVES → Agrees kind.Postfix (Some f) natives → IsGood (formula_text f.tokens)
 text-good f natives few agrees = ink-good (formula_text f.tokens) (formula-ink f (small f natives few agrees.0) agrees.1)
 
-formula-good : (k : Kind) (f : Option FormulaView) (natives : List Text) → AllByRecursion IsNativeText natives → length natives ≤ 8 → Agrees k f natives → AllByRecursion IsGood (formula_fields f ++ natives)
+formula-good : (k : Kind) (f : Option FormulaView) (natives : List Text) → AllByRecursion IsNativeText natives → length natives ≤ MOST_NATIVES → Agrees k f natives → AllByRecursion IsGood (formula_fields f ++ natives)
 formula-good k None natives each few agrees = natives-good natives each
 formula-good kind.NotDerived (Some f) natives each few agrees = absurd agrees
 formula-good kind.Add (Some f) natives each few agrees = absurd agrees
@@ -107,7 +108,7 @@ type-back kind.Postfix = refl
 natives-read : (natives : List Text) → AllByRecursion IsNativeText natives → natives_in (map trimmed natives) ≡ natives
 natives-read natives each = ap natives_in (trims natives (natives-good natives each)) ∙ natives-back natives each
 
-typed-row : (s : Text) (k : Kind) (f : Option FormulaView) (natives : List Text) → IsGood s → AllByRecursion IsNativeText natives → length natives ≤ 8 → Agrees k f natives
+typed-row : (s : Text) (k : Kind) (f : Option FormulaView) (natives : List Text) → IsGood s → AllByRecursion IsNativeText natives → length natives ≤ MOST_NATIVES → Agrees k f natives
     → derivation (row_fields s k f natives) (Some (kind_type k)) ≡ def_row s k f natives
 typed-row s kind.NotDerived None natives g each few agrees = rw (second-good (codes "PRESET") s (codes "NOT_DERIVED" ∷ natives) g, natives-read natives each) refl
 typed-row s kind.NotDerived (Some f) natives g each few agrees = absurd agrees
@@ -143,10 +144,10 @@ filled : (natives : List Text) → 1 ≤ length natives → is_empty natives ≡
 filled [] h = absurd (omega arith)
 filled (t ∷ rest) h = refl
 
-eight : (natives : List Text) → length natives ≤ 8 → nat_lt 8 (length natives) ≡ false
-eight natives h = le-ltb 8 (length natives) h
+eight : (natives : List Text) → length natives ≤ MOST_NATIVES → nat_lt MOST_NATIVES (length natives) ≡ false
+eight natives h = le-ltb MOST_NATIVES (length natives) h
 
-judged-plain : (s : Text) (k : Kind) (natives : List Text) → AllByRecursion IsNativeText natives → 1 ≤ length natives → length natives ≤ 8 → Agrees k None natives
+judged-plain : (s : Text) (k : Kind) (natives : List Text) → AllByRecursion IsNativeText natives → 1 ≤ length natives → length natives ≤ MOST_NATIVES → Agrees k None natives
     → judged (def_row s k None natives) ≡ Ok (entry.Def (record { kind = k; formula = None; natives = natives }))
 unfolding judged
 judged-plain s kind.NotDerived natives each some few agrees = rw (natives-printed natives each, eight natives few, filled natives some, eq-eqb (length natives) 1 agrees) refl
@@ -154,7 +155,7 @@ judged-plain s kind.Add natives each some few agrees = rw (natives-printed nativ
 judged-plain s kind.Sub natives each some few agrees = rw (natives-printed natives each, eight natives few, filled natives some) refl
 judged-plain s kind.Postfix natives each some few agrees = absurd agrees
 
-judged-postfix : (s : Text) (f : FormulaView) (natives : List Text) → AllByRecursion IsNativeText natives → 1 ≤ length natives → length natives ≤ 8 → Agrees kind.Postfix (Some f) natives
+judged-postfix : (s : Text) (f : FormulaView) (natives : List Text) → AllByRecursion IsNativeText natives → 1 ≤ length natives → length natives ≤ MOST_NATIVES → Agrees kind.Postfix (Some f) natives
     → judged (def_row s kind.Postfix (Some f) natives) ≡ Ok (entry.Def (record { kind = kind.Postfix; formula = Some f; natives = natives }))
 unfolding judged
 judged-postfix s f natives each some few agrees =
@@ -166,7 +167,7 @@ judged-postfix s f natives each some few agrees =
 pub def-judged : (s : Text) (d : DefView) → IsDef d → judged (def_row s d.kind d.formula d.natives) ≡ Ok (entry.Def d)
 def-judged s d h = go d.kind d.formula d.natives h.each h.some h.few h.agrees
   where
-    go : (k : Kind) (f : Option FormulaView) (natives : List Text) → AllByRecursion IsNativeText natives → 1 ≤ length natives → length natives ≤ 8 → Agrees k f natives
+    go : (k : Kind) (f : Option FormulaView) (natives : List Text) → AllByRecursion IsNativeText natives → 1 ≤ length natives → length natives ≤ MOST_NATIVES → Agrees k f natives
         → judged (def_row s k f natives) ≡ Ok (entry.Def (record { kind = k; formula = f; natives = natives }))
     go k None natives each some few agrees = judged-plain s k natives each some few agrees
     go kind.NotDerived (Some f) natives each some few agrees = absurd agrees

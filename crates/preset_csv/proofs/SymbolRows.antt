@@ -119,14 +119,6 @@ changed-at f t x = go (nat_lt (place t preset_rows) (length preset_rows)) refl
 
 -- ---- the row of a text that is a symbol
 
-place-of : (t : Text) (b : Bool) (row : ℕ) → nat_lt (place t preset_rows) (length preset_rows) ≡ b → cond b (Some (place t preset_rows)) None ≡ Some row → (place t preset_rows < length preset_rows) × (place t preset_rows ≡ row)
-place-of t true row e is = (ltb-true _ _ e, cc is)
-place-of t false row e is = cc is
-
-pub row-within : (t : Text) (row : ℕ) → row_of t ≡ Some row → row < 26
-unfolding row_of preset_rows
-row-within t row is = let p = place-of t _ row refl is in omega (arith, p.0, p.1)
-
 among-printed : (t : Text) (rows : List PresetRow) → AllByRecursion (λ r. is_printable r.symbol ≡ true) rows → place t rows < length rows → is_printable t ≡ true
 among-printed t [] h lt = absurd (omega arith)
 among-printed t (r ∷ rows) h lt = go (bytes_eq r.symbol t) (bytes_eq-Decides r.symbol t) lt (λ q. among-printed t rows h.1 q)

@@ -3,6 +3,7 @@ use Rattle.std.specs.Prelude.{◌≡◌, ◌≤◌, ◌==◌, ◌||◌, Bool, tr
 use Rattle.std.specs.List.{AllByRecursion, list_all}
 use Rattle.std.specs.Str.{str_eq_ignore_ascii_case}
 use Rattle.table_rows.specs.Texts.{Text, is_empty, is_printable, trimmed}
+use Rattle.postfix_rules.specs.declared.derived.TheConstants.{MOST_NATIVES}
 use Rattle.postfix_rules.specs.Faults.{FormulaView, IsFormula}
 use Rattle.preset_csv.specs.declared.kind.Kind.{Kind}
 use Rattle.preset_csv.specs.declared.kind.Kind.TheVariants as kind
@@ -36,9 +37,9 @@ Agrees kind.Sub (Some f) natives = ⊥
 Agrees kind.Postfix None natives = ⊥
 Agrees kind.Postfix (Some f) natives = (f.natives ≡ length natives) × IsFormula f.natives f.tokens
 
--- from 1 to 8 natives, which agree with the kind and the formula
+-- from 1 to MOST_NATIVES natives, which agree with the kind and the formula
 pub record IsDef (d : DefView) : Type 0 where
   pub each : AllByRecursion IsNativeText d.natives
   pub some : 1 ≤ length d.natives
-  pub few : length d.natives ≤ 8
+  pub few : length d.natives ≤ MOST_NATIVES
   pub agrees : Agrees d.kind d.formula d.natives

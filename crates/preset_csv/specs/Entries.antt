@@ -1,8 +1,9 @@
--- The entry that a row gives, or why the row is refused: papi_events.csv, with at most 8 natives.
-use Rattle.std.specs.Prelude.{◌&&◌, ◌==◌, Bool, List, length, Option, Some, None, Result, Ok, Err, if◌then◌else◌, nat_lt, codes}
+-- The entry that a row gives, or why the row is refused: papi_events.csv, with at most MOST_NATIVES natives.
+use Rattle.std.specs.Prelude.{◌==◌, Bool, List, length, Option, Some, None, Result, Ok, Err, if◌then◌else◌, nat_lt, not, codes}
 use Rattle.std.specs.List.{list_all, list_any, slice_split}
 use Rattle.std.specs.Str.{bytes_eq}
 use Rattle.table_rows.specs.Texts.{Text, is_empty, is_printable, trimmed}
+use Rattle.postfix_rules.specs.declared.derived.TheConstants.{MOST_NATIVES}
 use Rattle.postfix_rules.specs.Faults.{FormulaView}
 use Rattle.postfix_rules.specs.Reading.{Refused, formula_of}
 use Rattle.preset_csv.specs.Lines.{Derivation}
@@ -18,10 +19,6 @@ use Rattle.preset_csv.specs.declared.kind.DerivedType.TheVariants as derived
 -- a token of the formula is `#`, which is not computed
 unfoldable pub has_rate : Text → Bool
 has_rate formula = list_any (λ p. bytes_eq (trimmed p) (codes "#")) (slice_split (λ b. b == 124) formula)
-
--- the formula and the natives of a row are printable
-abbrev pub is_printed : Text → List Text → Bool
-is_printed formula natives = is_printable formula && list_all is_printable natives
 
 abbrev pub def_entry : Kind → Option FormulaView → List Text → Entry
 def_entry k formula natives = entry.Def (record { kind = k; formula = formula; natives = natives })
@@ -41,17 +38,21 @@ typed_entry derived.Ps formula natives = Ok entry.Uncomputed
 typed_entry derived.AddPs formula natives = Ok entry.Uncomputed
 typed_entry derived.Cmpd formula natives = Ok entry.Uncomputed
 
--- the limit goes before all that is not computed, and that before a broken formula
-abbrev pub limited_entry : DerivedType → Text → List Text → Result Entry PresetCause
-limited_entry t formula natives =
-    if nat_lt 8 (length natives) then Err cause.OverLimit
-    else if is_empty natives then Ok entry.Uncomputed
-    else typed_entry t formula natives
+-- the natives of a row, where each is printable and there are not too many; a field that is refused goes before the limit
+abbrev pub kept_natives : List Text → Result (List Text) PresetCause
+kept_natives natives =
+    if not (list_all is_printable natives) then Err cause.BadField
+    else if nat_lt MOST_NATIVES (length natives) then Err cause.OverLimit
+    else Ok natives
 
--- a field that is refused goes before the limit
+-- what is not computed goes before a broken formula
+abbrev pub kept_entry : DerivedType → Text → Result (List Text) PresetCause → Result Entry PresetCause
+kept_entry t formula (Ok natives) = if is_empty natives then Ok entry.Uncomputed else typed_entry t formula natives
+kept_entry t formula (Err why) = Err why
+
 abbrev pub judged_as : Option DerivedType → Text → List Text → Result Entry PresetCause
 judged_as None formula natives = Err cause.BadField
-judged_as (Some t) formula natives = if is_printed formula natives then limited_entry t formula natives else Err cause.BadField
+judged_as (Some t) formula natives = if is_printable formula then kept_entry t formula (kept_natives natives) else Err cause.BadField
 
 -- the entry of a row, or its first cause
 unfoldable pub judged : Derivation → Result Entry PresetCause

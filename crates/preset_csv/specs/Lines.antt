@@ -28,12 +28,16 @@ unfoldable pub natives_in : List Text → List Text
 natives_in [] = []
 natives_in (t ∷ rest) = if ends_natives t then [] else t ∷ natives_in rest
 
+-- the natives of a row from a field on
+abbrev pub natives_from : List Text → ℕ → List Text
+natives_from fields first = natives_in (map trimmed (drop first fields))
+
 -- what a row of this derived type derives; a field that is not there is taken as an empty one
 abbrev pub derivation : List Text → Option DerivedType → Derivation
 derivation fields t =
     if has_formula t
-    then record { symbol = text_at fields 1; derived_type = t; formula = text_at fields 3; natives = natives_in (map trimmed (drop 4 fields)) }
-    else record { symbol = text_at fields 1; derived_type = t; formula = []; natives = natives_in (map trimmed (drop 3 fields)) }
+    then record { symbol = text_at fields 1; derived_type = t; formula = text_at fields 3; natives = natives_from fields 4 }
+    else record { symbol = text_at fields 1; derived_type = t; formula = []; natives = natives_from fields 3 }
 
 unfoldable pub derivation_of : List Text → Derivation
 derivation_of fields = derivation fields (type_of (text_at fields 2))

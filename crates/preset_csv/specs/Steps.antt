@@ -89,11 +89,15 @@ abbrev pub formula_refusal : FormulaFault → Refusal
 formula_refusal (formula.At place why) = refusal.Cause (cause.BadFormula why)
 formula_refusal formula.Memory = refusal.Memory
 
+-- the row is refused for the cause of what it says
+abbrev pub IsRefusal : {A : Type 0} → Result A PresetCause → Refusal → Type 0
+IsRefusal judgement (refusal.Cause why) = judgement ≡ Err why
+IsRefusal judgement refusal.Memory = Unit {0}
+
 -- an entry is given, or refused for its cause
 abbrev pub Judges : Result Entry PresetCause → Result Entry Refusal → Type 0
 Judges judgement (Ok e) = judgement ≡ Ok e
-Judges judgement (Err (refusal.Cause why)) = judgement ≡ Err why
-Judges judgement (Err refusal.Memory) = Unit {0}
+Judges judgement (Err refused) = IsRefusal judgement refused
 
 -- the fault of a refused row, whose place is from 0
 abbrev pub fault_at : ℕ → Refusal → PresetFault

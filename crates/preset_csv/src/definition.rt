@@ -4,8 +4,8 @@ use crate::kind::Kind;
 use postfix_rules::Formula;
 use std::marker::Model;
 
-/// A preset that is computed of its native events by its kind: 1 to 8 natives, one where the preset is not derived, and
-/// a formula over so many exactly where its kind is `Postfix`. Source: papi_events.csv.
+/// A preset that is computed of its native events by its kind: 1 to [`MOST_NATIVES`](postfix_rules::MOST_NATIVES) natives,
+/// one where the preset is not derived, and a formula over so many exactly where its kind is `Postfix`. Source: papi_events.csv.
 #[derive(Drop)]
 pub struct Def {
     kind: Kind,

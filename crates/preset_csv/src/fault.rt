@@ -14,19 +14,19 @@ pub enum PresetCause {
     /// A PRESET row above the first CPU row.
     #[error("preset before cpu")]
     NoCpu,
-    /// A derived type that is none, or a formula or a native with a byte that is not printable.
+    /// A derived type that is not one of those, or a formula or a native with a byte that is not printable.
     #[error("bad field")]
     BadField,
-    /// More than 8 natives.
+    /// More than [`MOST_NATIVES`](postfix_rules::MOST_NATIVES) natives.
     #[error("over a limit")]
     OverLimit,
-    /// A formula in postfix order that is none over the row's natives.
+    /// A text in postfix order that is not a formula over the row's natives.
     #[error("broken formula")]
     BadFormula(FormulaCause),
 }
 
 /// Why a preset file is refused: its first faulty row, numbered from 1, with the row's first cause, or want of memory.
-#[derive(Debug, Drop, Error)]
+#[derive(Clone, Copy, Debug, PartialEq, Eq, Error)]
 pub enum PresetFault {
     #[error("row {row}: {cause}")]
     Row { row: u64, cause: PresetCause },

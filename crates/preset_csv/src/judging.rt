@@ -1,8 +1,9 @@
 // The entry that a row gives.
 
-ghost use Rattle.std.specs.Prelude.{◌≡◌, ◌≤◌, Some, map, length, string_bytes};
+ghost use Rattle.std.specs.Prelude.{◌≡◌, ◌≤◌, Ok, map, length, string_bytes};
 ghost use Rattle.std.specs.List.{AllByRecursion};
 ghost use Rattle.csv.specs.Records.{fields_of};
+ghost use Rattle.postfix_rules.specs.declared.derived.TheConstants.{MOST_NATIVES};
 ghost use Rattle.preset_csv.specs.Defs.{IsNativeText};
 ghost use Rattle.preset_csv.specs.Entries as Entries;
 ghost use Rattle.preset_csv.specs.Lines.{derivation_of};
@@ -14,7 +15,7 @@ use crate::definition::Def;
 use crate::entry::Entry;
 use crate::fault::PresetCause;
 use crate::kind::{DerivedType, Kind, has_formula, type_of};
-use crate::natives::printed_natives;
+use crate::natives::row_natives;
 use crate::refusal::Refusal;
 use postfix_rules::{FormulaFault, read_postfix};
 use std::alloc::Global;
@@ -44,7 +45,7 @@ fn formula_refusal(fault: FormulaFault) -> Refusal
 fn postfix_entry(alloc: Global, formula: &str, natives: Vec<String>) -> Result<Entry, Refusal>
     requires each { AllByRecursion IsNativeText (map string_bytes natives.items) }
     requires some { 1 ≤ length natives.items }
-    requires few { length natives.items ≤ 8 }
+    requires few { length natives.items ≤ MOST_NATIVES }
     ensures { Judges (Entries.typed_entry derived.Postfix formula.now (map string_bytes natives.items)) result }
 {
     if has_rate(formula.as_bytes()) {
@@ -65,7 +66,7 @@ fn typed_entry(
 ) -> Result<Entry, Refusal>
     requires each { AllByRecursion IsNativeText (map string_bytes natives.items) }
     requires some { 1 ≤ length natives.items }
-    requires few { length natives.items ≤ 8 }
+    requires few { length natives.items ≤ MOST_NATIVES }
     ensures { Judges (Entries.typed_entry derived_type formula.now (map string_bytes natives.items)) result }
 {
     match derived_type {
@@ -85,19 +86,17 @@ fn typed_entry(
     }
 }
 
-// The entry of a printable formula and printable natives, by the derived type.
-fn limited_entry(
+// The entry of a printable formula and of natives that may stand in a row, by the derived type.
+fn kept_entry(
     alloc: Global,
     derived_type: DerivedType,
     formula: &str,
     natives: Vec<String>,
 ) -> Result<Entry, Refusal>
-    requires { AllByRecursion IsNativeText (map string_bytes natives.items) }
-    ensures { Judges (Entries.limited_entry derived_type formula.now (map string_bytes natives.items)) result }
+    requires each { AllByRecursion IsNativeText (map string_bytes natives.items) }
+    requires few { length natives.items ≤ MOST_NATIVES }
+    ensures { Judges (Entries.kept_entry derived_type formula.now (Ok (map string_bytes natives.items))) result }
 {
-    if natives.len() > 8 {
-        return Err(Refusal::Cause(PresetCause::OverLimit));
-    }
     if natives.is_empty() {
         return Ok(Entry::Uncomputed);
     }
@@ -107,7 +106,7 @@ fn limited_entry(
 /// The entry that a row gives by its derived type, its formula and its natives, whatever its first two fields say, or its
 /// first cause.
 #[tactic(auto, unfolding(crate::specs::Entries::judged, crate::specs::Lines::derivation_of))]
-pub fn judge(alloc: Global, row: &ByteRecord) -> Result<Entry, Refusal>
+pub(crate) fn judge(alloc: Global, row: &ByteRecord) -> Result<Entry, Refusal>
     requires { IsReadRow (fields_of row.now) }
     ensures { Judges (Entries.judged (derivation_of (fields_of row.now))) result }
 {
@@ -122,8 +121,6 @@ pub fn judge(alloc: Global, row: &ByteRecord) -> Result<Entry, Refusal>
     let Some(formula) = printable_text(formula) else {
         return Err(Refusal::Cause(PresetCause::BadField));
     };
-    match printed_natives(alloc, row, first)? {
-        Some(natives) => limited_entry(alloc, derived_type, formula, natives),
-        None => Err(Refusal::Cause(PresetCause::BadField)),
-    }
+    let natives = row_natives(alloc, row, first)?;
+    kept_entry(alloc, derived_type, formula, natives)
 }

@@ -18,13 +18,13 @@ mod writing;
 pub use crate::definition::Def;
 pub use crate::entry::Entry;
 pub use crate::fault::{PresetCause, PresetFault, cause_text};
-pub use crate::judging::judge;
-pub use crate::kind::{DerivedType, Kind, kind_text};
+pub use crate::kind::{Kind, kind_text};
 pub use crate::reading::read_presets;
-pub use crate::refusal::Refusal;
 pub use crate::table::PresetTable;
 pub use crate::writing::write_presets;
-pub use preset_table::{preset_code, preset_count, preset_row, preset_symbol, preset_text};
+pub use preset_table::{
+    PRESETS, preset_code, preset_count, preset_row, preset_symbol, preset_text,
+};
 
 #[cfg(test)]
 mod tests;

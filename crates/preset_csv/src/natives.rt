@@ -1,13 +1,18 @@
 // The natives of a row.
 
-ghost use Rattle.std.specs.Prelude.{◌≡◌, IfOk, map, drop, string_bytes, Some, None, if◌then◌else◌, option_map};
-ghost use Rattle.std.specs.List.{list_all};
+ghost use Rattle.std.specs.Prelude.{◌≡◌, ◌<◌, ◌≤◌, ◌∷◌, ◌++◌, [], IfErr, IfOk, OnOk, Ok, length, map, string_bytes, take};
 ghost use Rattle.csv.specs.Records.{fields_of};
-ghost use Rattle.table_rows.specs.Texts as Texts;
-ghost use Rattle.table_rows.specs.Texts.{trimmed};
+ghost use Rattle.postfix_rules.specs.declared.derived.TheConstants.{MOST_NATIVES};
 ghost use Rattle.preset_csv.specs.Defs as Defs;
-ghost use Rattle.preset_csv.specs.Lines.{natives_in};
+ghost use Rattle.preset_csv.specs.Entries.{kept_natives};
+ghost use Rattle.preset_csv.specs.Lines.{natives_from};
+ghost use Rattle.preset_csv.specs.Steps.{IsRefusal};
+ghost use Rattle.preset_csv.specs.declared.fault.PresetCause.TheVariants as cause;
+ghost use Rattle.preset_csv.specs.declared.refusal.Refusal.TheVariants as refusal;
 
+use crate::fault::PresetCause;
+use crate::refusal::Refusal;
+use postfix_rules::MOST_NATIVES;
 use std::alloc::{AllocError, Global};
 use table_rows::{ByteRecord, printable_text, text_at};
 
@@ -21,24 +26,47 @@ fn ends_natives(field: &[u8]) -> bool
         || field.eq_ignore_ascii_case(b"LDESC")
 }
 
-/// The natives from a field of a row up to their end, and `None` where one is not printable.
-pub fn printed_natives(
-    alloc: Global,
-    row: &ByteRecord,
-    first: usize,
-) -> Result<Option<Vec<String>>, AllocError>
-    ensures { IfOk result (λ o. option_map (λ v. map string_bytes v.items) o ≡ (if list_all Texts.is_printable (natives_in (map trimmed (drop first (fields_of row.now)))) then Some (natives_in (map trimmed (drop first (fields_of row.now)))) else None)) }
+// Keeps one more native, unless as many as a preset may have are kept.
+fn keep(alloc: Global, natives: &mut Vec<String>, text: &str) -> Result<(), AllocError>
+    requires { length natives.old.items ≤ MOST_NATIVES }
+    ensures { OnOk result (map string_bytes natives.new.items ≡ take MOST_NATIVES (map string_bytes natives.old.items ++ text.now ∷ [])) }
+{
+    if natives.len() < MOST_NATIVES as usize {
+        natives.push(String::from_str(alloc, text)?)?;
+    }
+    Ok(())
+}
+
+// The natives of which so many were counted, where there are not too many.
+fn within_limit(natives: Vec<String>, count: usize) -> Result<Vec<String>, Refusal>
+    ensures within { IfOk result (λ v. (v ≡ natives) × (count ≤ MOST_NATIVES)) }
+    ensures over { IfErr result (λ refused. (refused ≡ refusal.Cause cause.OverLimit) × (MOST_NATIVES < count)) }
+{
+    if count > MOST_NATIVES as usize {
+        Err(Refusal::Cause(PresetCause::OverLimit))
+    } else {
+        Ok(natives)
+    }
+}
+
+/// The natives of a row from a field on, or why the row is refused: a native that is not printable goes before more than
+/// [`MOST_NATIVES`]. No more than so many are ever held.
+pub fn row_natives(alloc: Global, row: &ByteRecord, first: usize) -> Result<Vec<String>, Refusal>
+    ensures natives { IfOk result (λ v. kept_natives (natives_from (fields_of row.now) first) ≡ Ok (map string_bytes v.items)) }
+    ensures refused { IfErr result (λ refused. IsRefusal (kept_natives (natives_from (fields_of row.now) first)) refused) }
 {
     let mut natives = Vec::new(alloc);
+    let mut count = 0;
     for i in first..row.len() {
         let field = text_at(row, i);
         if ends_natives(field) {
-            return Ok(Some(natives));
+            return within_limit(natives, count);
         }
-        match printable_text(field) {
-            Some(text) => natives.push(String::from_str(alloc, text)?)?,
-            None => return Ok(None),
-        }
+        let Some(text) = printable_text(field) else {
+            return Err(Refusal::Cause(PresetCause::BadField));
+        };
+        keep(alloc, &mut natives, text)?;
+        count += 1;
     }
-    Ok(Some(natives))
+    within_limit(natives, count)
 }

@@ -2,6 +2,7 @@
 
 ghost use Rattle.std.specs.Prelude.{◌≡◌, ◌<◌, IfOk, length, replicate, set};
 ghost use Rattle.csv.specs.Records.{fields_of};
+ghost use Rattle.preset_table.specs.declared.TheConstants.{PRESETS};
 ghost use Rattle.preset_csv.specs.Lines.{derivation_of, row_line};
 ghost use Rattle.preset_csv.specs.Presets.{ReadsPresets};
 ghost use Rattle.preset_csv.specs.Steps.{IsPlainRow, IsReadRow, TakesPreset, TakesRow};
@@ -15,16 +16,16 @@ use crate::refusal::{Refusal, fault_at};
 use crate::row::{Row, row_of};
 use crate::symbol::symbol_row;
 use crate::table::PresetTable;
-use preset_table::preset_count;
+use preset_table::PRESETS;
 use std::alloc::{AllocError, Global};
 use table_rows::{ByteRecord, read_rows, text_at};
 
 // A missing entry for each row of the preset table.
 fn all_missing(alloc: Global) -> Result<Vec<Entry>, AllocError>
-    ensures { IfOk result (λ v. v.items ≡ replicate 26 entry.Missing) }
+    ensures { IfOk result (λ v. v.items ≡ replicate PRESETS entry.Missing) }
 {
     let mut entries = Vec::new(alloc);
-    for _ in 0..preset_count() {
+    for _ in 0..PRESETS {
         entries.push(Entry::Missing)?;
     }
     Ok(entries)
@@ -46,7 +47,7 @@ fn take_preset(
     entries: &mut Vec<Entry>,
 ) -> Result<(), Refusal>
     requires plain { IsReadRow (fields_of row.now) }
-    requires all { length entries.old.items ≡ 26 }
+    requires all { length entries.old.items ≡ PRESETS }
     ensures { TakesPreset holds (derivation_of (fields_of row.now)) entries.old.items entries.new.items result }
 {
     if !holds {
@@ -67,7 +68,7 @@ fn take_row(
     entries: &mut Vec<Entry>,
 ) -> Result<(), Refusal>
     requires plain { IsPlainRow row }
-    requires all { length entries.old.items ≡ 26 }
+    requires all { length entries.old.items ≡ PRESETS }
     ensures { TakesRow cpu.now (row_line row.entry) group.old entries.old.items group.new entries.new.items result }
 {
     match row {

@@ -3,7 +3,7 @@
 use crate::Entry;
 use std::marker::Model;
 
-/// The presets for a cpu: an entry for each of the 26 rows of the preset table.
+/// The presets for a cpu: an entry for each row of the preset table.
 ///
 /// Contracts see the cpu's name and the list of entries. No row is read for a cpu whose name can stand in no field.
 #[derive(Drop)]
@@ -25,6 +25,7 @@ impl Model for PresetTable {
 
 impl PresetTable {
     ghost use Rattle.std.specs.Prelude.{◌≡◌, ◌<◌, set, string_bytes};
+    ghost use Rattle.preset_table.specs.declared.TheConstants.{PRESETS};
     ghost use Rattle.preset_csv.specs.Tables.{IsTable};
     ghost use Rattle.preset_csv.specs.declared.entry.Entry.TheVariants as entry;
 
@@ -59,9 +60,9 @@ impl PresetTable {
         self.rows
     }
 
-    /// Makes the entry of a row below 26 a missing one.
+    /// Makes the entry of a row below [`PRESETS`](preset_table::PRESETS) a missing one.
     pub fn set_missing(&mut self, row: u32)
-        requires { row < 26 }
+        requires { row < PRESETS }
         ensures { self.new ≡ record self.old { rows = set self.old.rows row entry.Missing } }
     {
         self.rows[row as usize] = Entry::Missing;

@@ -2,6 +2,7 @@
 use Rattle.std.specs.Prelude.{ℕ, List, [], ◌∷◌, Option, codes, position, slice_get}
 use Rattle.std.specs.Option.{option_map_or}
 use Rattle.std.specs.Str.{bytes_eq}
+use Rattle.preset_table.specs.declared.TheConstants.{PRESETS}
 
 pub record PresetRow : Type 0 where
   pub symbol : List ℕ
@@ -42,8 +43,9 @@ preset_rows =
     ∷ preset (codes "PAPI_REF_CYC") 0x8000006b (codes "Reference clock cycles")
     ∷ []
 
+-- how many there are
 abbrev pub preset_count : ℕ
-preset_count = 26
+preset_count = PRESETS
 
 -- the symbol, the code and the description in a row
 unfoldable pub symbol_at : ℕ → List ℕ

@@ -3,20 +3,23 @@
 //! Symbols and codes are those of PAPI's list of presets, PAPI_presets(3). The choice of rows and the descriptions are this project's own.
 #![tactic(auto)]
 
-ghost use Rattle.std.specs.Prelude.{◌≡◌, ◌<◌};
+ghost use Rattle.std.specs.Prelude.{◌≡◌, ◌<◌, IfSome};
 ghost use Rattle.preset_table.specs.Table as Table;
 
 /// How many rows the table has.
+pub const PRESETS: u32 = 26;
+
+/// How many rows the table has.
 pub fn preset_count() -> u32
-    ensures count { result ≡ Table.preset_count }
+    ensures count { result ≡ PRESETS }
 {
-    26
+    PRESETS
 }
 
-/// The symbol in a row below 26.
+/// The symbol in a row below [`PRESETS`].
 #[tactic(auto, unfolding(crate::specs::Table::preset_rows, crate::specs::Table::symbol_at))]
 pub fn preset_symbol(row: u32) -> &'static str
-    requires { row < 26 }
+    requires { row < PRESETS }
     ensures symbol { result.now ≡ Table.symbol_at row }
 {
     match row {
@@ -49,10 +52,10 @@ pub fn preset_symbol(row: u32) -> &'static str
     }
 }
 
-/// The code in a row below 26, which has bit 31 set.
+/// The code in a row below [`PRESETS`], which has bit 31 set.
 #[tactic(auto, unfolding(crate::specs::Table::preset_rows, crate::specs::Table::code_at))]
 pub fn preset_code(row: u32) -> u32
-    requires { row < 26 }
+    requires { row < PRESETS }
     ensures code { result ≡ Table.code_at row }
 {
     match row {
@@ -85,10 +88,10 @@ pub fn preset_code(row: u32) -> u32
     }
 }
 
-/// The description in a row below 26.
+/// The description in a row below [`PRESETS`].
 #[tactic(auto, unfolding(crate::specs::Table::preset_rows, crate::specs::Table::description_at))]
 pub fn preset_text(row: u32) -> &'static str
-    requires { row < 26 }
+    requires { row < PRESETS }
     ensures description { result.now ≡ Table.description_at row }
 {
     match row {
@@ -121,10 +124,11 @@ pub fn preset_text(row: u32) -> &'static str
     }
 }
 
-/// The row of a symbol, and `None` where the text is none of the table.
+/// The row of a symbol, compared exactly, which is below [`PRESETS`], and `None` where the text is no symbol of the table.
 #[tactic(auto, unfolding(crate::specs::Table::preset_rows, crate::specs::Table::row_of))]
 pub fn preset_row(symbol: &str) -> Option<u32>
     ensures row { result ≡ Table.row_of symbol.now }
+    ensures within { IfSome result (λ row. row < PRESETS) }
 {
     match symbol {
         "PAPI_L1_DCM" => Some(0),

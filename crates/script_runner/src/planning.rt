@@ -5,7 +5,8 @@ ghost use Rattle.component_table.specs.declared.native_codes.TheConstants.{MOST_
 ghost use Rattle.plan_runner.specs.Plans.{event_by, looked_up};
 ghost use Rattle.postfix_rules.specs.Sameness.{joined_by};
 ghost use Rattle.script_runner.specs.Resolving.{mentions_by, preset_codes, setting_of};
-ghost use Rattle.session_model.specs.World.{Setting, mentions_of, mentions_of_call, native_named};
+ghost use Rattle.session_model.specs.World.{Setting, mentions_of, mentions_of_call};
+ghost use Rattle.postfix_rules.specs.NativeCodes.{native_named};
 
 use component_table::NativeCodes;
 use papi_base::EventRef;

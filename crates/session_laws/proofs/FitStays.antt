@@ -7,7 +7,7 @@ use Rattle.std.proofs.lemmas.Bool.Decides.{nat_tests}
 use Rattle.postfix_rules.specs.Presets.{Book, rule_of_event}
 use Rattle.event_sets.specs.declared.refusal.Clash.{Clash}
 use Rattle.event_sets.specs.AtRest.{Widths, cannot_arm, cannot_take, clash_with, has_event, is_armed, is_bad_threshold, is_full, is_other, is_plain, shares_native}
-use Rattle.event_sets.specs.Agreement.{BookFits}
+use Rattle.postfix_rules.specs.Fitting.{BookFits}
 use Rattle.event_sets.proofs.Agreeing.{by_number, neither, numbered}
 use Rattle.session_model.specs.declared.call.Call.{Call}
 use Rattle.session_model.specs.declared.call.Call.TheVariants as call

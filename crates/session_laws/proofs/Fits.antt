@@ -12,7 +12,8 @@ use Rattle.postfix_rules.specs.Presets.{Book, component_of_event, entry, natives
 use Rattle.event_sets.specs.declared.refusal.Refusal.TheVariants.{Conflict}
 use Rattle.event_sets.specs.Adding.{add_refusal}
 use Rattle.event_sets.specs.AtRest.{AtRest, Widths, cannot_take, clash_with, emptied, has_event, is_armed, is_bad_domain, is_bad_slice, is_bad_threshold, is_full, is_other, is_plain, least_width, new_set, place_of, shares_native, widths_at, with_event, with_threshold, without_event}
-use Rattle.event_sets.specs.Agreement.{Agrees, BookFits, EventFits, Fits, IsHeld}
+use Rattle.event_sets.specs.Agreement.{Agrees}
+use Rattle.postfix_rules.specs.Fitting.{BookFits, EventFits, Fits, IsHeld}
 use Rattle.event_sets.specs.Sets.{set_view}
 use Rattle.event_sets.proofs.Agreeing.{added_agrees, armed_agrees, assigned_agrees, by_number, emptied_agrees, event_owned, held_component, held_have_natives, neither, numbered, removed_agrees}
 use Rattle.event_sets.proofs.Clashing.{none_of}

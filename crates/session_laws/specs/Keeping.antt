@@ -4,7 +4,7 @@ use Rattle.papi_base.specs.declared.occurrence.Occ.{Occ}
 use Rattle.papi_base.specs.Streams.{Mark}
 use Rattle.postfix_rules.specs.Presets.{Book}
 use Rattle.event_sets.specs.AtRest.{Widths}
-use Rattle.event_sets.specs.Agreement.{BookFits}
+use Rattle.postfix_rules.specs.Fitting.{BookFits}
 use Rattle.session_model.specs.declared.call.Call.{Call}
 use Rattle.session_model.specs.Account.{Account, opening}
 use Rattle.session_model.specs.Bounds.{AllValued, AllWithin, AreApart, Rises}

@@ -1,12 +1,12 @@
 -- All threads, line by line in the script's order: PAPI_register_thread(3), PAPI_list_threads(3),
 -- PAPI_event_name_to_code(3). The script is this project's own.
-use Rattle.std.specs.Prelude.{ℕ, zero, suc, ◌+◌, ◌-◌, ◌*◌, nat_le, Bool, true, false, ◌==◌, ◌&&◌, if◌then◌else◌, List, [], ◌∷◌, ◌++◌, Option, Some, None, Ok, Err, slice_get, slice_set, unwrap_or, position}
-use Rattle.std.specs.List.{position_or_len}
+use Rattle.std.specs.Prelude.{ℕ, zero, suc, ◌+◌, ◌*◌, Bool, true, false, ◌==◌, ◌&&◌, if◌then◌else◌, List, [], ◌∷◌, ◌++◌, Option, Some, None, Ok, Err, slice_get, slice_set, unwrap_or, position}
 use Rattle.papi_base.specs.declared.native.Native.{Native}
 use Rattle.overflow_dispatch.specs.declared.handler.Note.{Note}
 use Rattle.papi_base.specs.declared.native.EventRef.TheVariants as event
 use Rattle.papi_base.specs.declared.code.Code.TheVariants as code
-use Rattle.postfix_rules.specs.Sameness.{same_native, joined_by}
+use Rattle.postfix_rules.specs.NativeCodes.{native_code, native_named}
+use Rattle.postfix_rules.specs.Sameness.{joined_by}
 use Rattle.postfix_rules.specs.Presets.{Book}
 use Rattle.session_model.specs.declared.call.Call.{Call}
 use Rattle.session_model.specs.declared.call.Call.TheVariants as call
@@ -61,18 +61,11 @@ mentions_of (asked.CodeOf e) = []
 mentions_of (asked.NameOf c) = []
 mentions_of asked.Threads = []
 
--- PAPI_event_name_to_code(3): a native's code is its rank among the mentions
-abbrev pub native_code : List Native → Native → ℕ
-native_code mentioned n = 0x40000000 + position_or_len (same_native n) mentioned
-
 -- PAPI_event_code_to_name(3): the row of a preset, or a native mentioned so far
 abbrev pub name_by : Option ℕ → Option Native → Reply
 name_by (Some row) native = done (body.EventName (event.Preset row))
 name_by None (Some n) = done (body.EventName (event.Native n))
 name_by None None = plain code.Enoevnt
-
-abbrev pub native_named : List Native → ℕ → Option Native
-native_named mentioned c = if nat_le 0x40000000 c then slice_get mentioned (c - 0x40000000) else None
 
 -- the registered threads as bits, where the list begins at this bit: PAPI_list_threads(3)
 abbrev pub listed_from : ℕ → List Account → ℕ

@@ -21,7 +21,7 @@ use Rattle.event_sets.specs.Sets.{SetView, set_view}
 use Rattle.session_model.specs.declared.call.Call.TheVariants as call
 use Rattle.session_model.specs.Account.{Account, Kept, clock, end}
 use Rattle.session_model.specs.Changes.{altered, kept_after, with_zeros}
-use Rattle.session_model.specs.Conditions.{IsNamed}
+use Rattle.postfix_rules.specs.Fitting.{IsNamed}
 use Rattle.session_model.specs.Counts.{weighed}
 use Rattle.session_model.specs.Estimates.{estimated_in, total}
 use Rattle.session_model.specs.Faces.{Face, at, change, face_of, is_absent, runs}

@@ -5,7 +5,7 @@ use Rattle.papi_base.specs.declared.occurrence.Occ.{Occ}
 use Rattle.papi_base.specs.Streams.{Mark}
 use Rattle.counter_unit.specs.Counting.{UnitView}
 use Rattle.postfix_rules.specs.Presets.{Book}
-use Rattle.event_sets.specs.Agreement.{BookFits}
+use Rattle.postfix_rules.specs.Fitting.{BookFits}
 use Rattle.event_sets.specs.AtRest.{Widths}
 use Rattle.session_model.specs.Account.{Kept, opening}
 use Rattle.session_model.specs.Faces.{faces_of}

@@ -22,7 +22,7 @@ use Rattle.postfix_rules.specs.Presets.{Book, event_value, natives_of_event, rul
 use Rattle.postfix_rules.specs.Rules.{rule_value}
 use Rattle.postfix_rules.specs.Sameness.{same_native}
 use Rattle.postfix_rules.proofs.Joined.{each_is_among, is_among}
-use Rattle.event_sets.specs.Agreement.{IsHeld}
+use Rattle.postfix_rules.specs.Fitting.{IsHeld}
 use Rattle.event_sets.specs.Assigning.{counters_for}
 use Rattle.event_sets.specs.AtRest.{AtRest, set_natives, widths_at}
 use Rattle.event_sets.specs.Sets.{SetView}

@@ -21,7 +21,7 @@ use Rattle.multiplex.proofs.Grouping.{each_has_group}
 use Rattle.overflow_dispatch.specs.Passing.{passed_from}
 use Rattle.postfix_rules.specs.Presets.{Book, lead}
 use Rattle.postfix_rules.specs.Sameness.{same_native}
-use Rattle.event_sets.specs.Agreement.{IsHeld}
+use Rattle.postfix_rules.specs.Fitting.{IsHeld}
 use Rattle.event_sets.specs.Assigning.{counters_for}
 use Rattle.event_sets.specs.AtRest.{AtRest, Widths, set_natives, widths_at}
 use Rattle.event_sets.proofs.Agreeing.{held_have_natives}

@@ -12,7 +12,7 @@ use Rattle.papi_base.specs.declared.occurrence.Occ.{Occ}
 use Rattle.counter_unit.specs.Counting.{UnitView}
 use Rattle.postfix_rules.specs.Presets.{Book}
 use Rattle.event_sets.proofs.Agreeing.{held_have_natives}
-use Rattle.event_sets.specs.Agreement.{IsHeld}
+use Rattle.postfix_rules.specs.Fitting.{IsHeld}
 use Rattle.event_sets.specs.declared.refusal.Refusal.TheVariants.{Plain}
 use Rattle.event_sets.specs.AtRest.{AtRest, Widths, set_natives, widths_at}
 use Rattle.session_model.specs.declared.call.Call.TheVariants as call

@@ -2,7 +2,7 @@
 use Rattle.std.specs.Prelude.{◌≤◌, ◌≡◌, [], ◌∷◌, ◌++◌, length, None}
 use Rattle.papi_base.specs.declared.occurrence.Occ.{Occ}
 use Rattle.postfix_rules.specs.Presets.{Book}
-use Rattle.event_sets.specs.Agreement.{BookFits}
+use Rattle.postfix_rules.specs.Fitting.{BookFits}
 use Rattle.session_model.specs.Account.{Account, last_after, time_after}
 use Rattle.session_model.specs.Bounds.{AllWithin, AreApart, Rises}
 use Rattle.session_model.specs.Fitness.{AreFit, IsShape}

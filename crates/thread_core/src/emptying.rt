@@ -7,7 +7,7 @@ use session_model::{Call, Named};
 use thread_slots::Change;
 
 impl Core {
-    ghost use Rattle.session_model.specs.Conditions.{IsNamed};
+    ghost use Rattle.postfix_rules.specs.Fitting.{IsNamed};
     ghost use Rattle.session_model.specs.Replies.{plain};
     ghost use Rattle.session_model.specs.declared.call.Call.TheVariants as call;
     ghost use Rattle.thread_core.specs.Following.{Follows};

@@ -2,7 +2,7 @@
 ghost use Rattle.std.specs.Prelude.{◌≡◌, ◌≢◌, ◌+◌, ◌<◌, ◌≤◌, [], IfOk, List, Some, map};
 ghost use Rattle.papi_base.specs.Streams.{Mark};
 ghost use Rattle.papi_base.specs.declared.occurrence.Occ.{Occ};
-ghost use Rattle.event_sets.specs.Agreement.{BookFits};
+ghost use Rattle.postfix_rules.specs.Fitting.{BookFits};
 ghost use Rattle.postfix_rules.specs.Presets.{Book};
 ghost use Rattle.session_model.specs.Account.{Account, opening, time_after};
 ghost use Rattle.session_model.specs.Thresholds.{note, notes_at};
@@ -68,7 +68,7 @@ impl Core {
     ghost use Rattle.std.specs.Option.{option_map};
     ghost use Rattle.papi_base.specs.declared.code.Code.TheVariants as code;
     ghost use Rattle.event_sets.specs.declared.refusal.Refusal.TheVariants.{Plain};
-    ghost use Rattle.session_model.specs.Conditions.{IsNamed};
+    ghost use Rattle.postfix_rules.specs.Fitting.{IsNamed};
     ghost use Rattle.session_model.specs.Faces.{free};
     ghost use Rattle.session_model.specs.Refusals.{refusal_of};
     ghost use Rattle.thread_core.specs.Refusing.{asks_slots, rest_code, slot_faces};

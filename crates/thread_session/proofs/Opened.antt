@@ -2,7 +2,7 @@
 use Rattle.std.proofs.Common.{◌≡◌, ℕ, [], ap, sym, ◌∙◌, subst}
 use Rattle.papi_base.specs.Streams.{Coming, Dry}
 use Rattle.postfix_rules.specs.Presets.{Book}
-use Rattle.event_sets.specs.Agreement.{BookFits}
+use Rattle.postfix_rules.specs.Fitting.{BookFits}
 use Rattle.event_sets.specs.AtRest.{Widths}
 use Rattle.session_model.specs.Account.{opening}
 use Rattle.session_model.specs.Fitness.{IsShape}

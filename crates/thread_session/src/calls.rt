@@ -3,7 +3,8 @@ ghost use Rattle.std.specs.Prelude.{◌≡◌, ◌≢◌, ◌++◌, IfOk, OnErr,
 ghost use Rattle.overflow_dispatch.specs.Notes.{Grown, PartAdded};
 ghost use Rattle.papi_base.specs.declared.code.Code.TheVariants as code;
 ghost use Rattle.session_model.specs.Account.{Account};
-ghost use Rattle.session_model.specs.Conditions.{IsGood, IsNamed};
+ghost use Rattle.session_model.specs.Conditions.{IsGood};
+ghost use Rattle.postfix_rules.specs.Fitting.{IsNamed};
 ghost use Rattle.session_model.specs.Step.{step};
 ghost use Rattle.session_model.specs.declared.call.Call.TheVariants as call;
 ghost use Rattle.session_model.specs.declared.reply.Body.TheVariants as body;

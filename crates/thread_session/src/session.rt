@@ -2,7 +2,7 @@
 ghost use Rattle.std.specs.Prelude.{◌≡◌, IfOk, Some};
 ghost use Rattle.std.specs.Option.{option_map};
 ghost use Rattle.postfix_rules.specs.Presets.{Book};
-ghost use Rattle.event_sets.specs.Agreement.{BookFits};
+ghost use Rattle.postfix_rules.specs.Fitting.{BookFits};
 ghost use Rattle.papi_base.specs.Streams.{Coming};
 ghost use Rattle.session_model.specs.Account.{Account, opening};
 

@@ -16,7 +16,7 @@ use Rattle.counter_unit.proofs.Counts.{begun_is}
 use Rattle.postfix_rules.specs.Presets.{Book, lead}
 use Rattle.postfix_rules.specs.Sameness.{same_native}
 use Rattle.event_sets.proofs.Agreeing.{held_have_natives}
-use Rattle.event_sets.specs.Agreement.{IsHeld}
+use Rattle.postfix_rules.specs.Fitting.{IsHeld}
 use Rattle.event_sets.specs.Assigning.{counters_for}
 use Rattle.event_sets.specs.AtRest.{AtRest, Widths, is_bad_slice, leads, set_natives, widths_at}
 use Rattle.session_model.specs.Fitness.{IsFit}

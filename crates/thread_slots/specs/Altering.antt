@@ -10,7 +10,7 @@ use Rattle.event_sets.specs.Changing.{assign_refusal, multiplex_refusal, thresho
 use Rattle.event_sets.specs.Sets.{set_view}
 use Rattle.session_model.specs.declared.call.Call.{Call}
 use Rattle.session_model.specs.declared.call.Call.TheVariants as call
-use Rattle.session_model.specs.Conditions.{IsNamed}
+use Rattle.postfix_rules.specs.Fitting.{IsNamed}
 use Rattle.session_model.specs.Faces.{Face, is_absent, runs}
 use Rattle.thread_slots.specs.declared.changing.Change.{Change}
 use Rattle.thread_slots.specs.declared.changing.Change.TheVariants as change

@@ -8,7 +8,7 @@ use Rattle.multiplex.specs.Rotations.{RotationView}
 use Rattle.multiplex.specs.Turns.{Turns, active, estimate}
 use Rattle.postfix_rules.specs.Presets.{Book, event_value}
 use Rattle.postfix_rules.specs.Sameness.{same_native}
-use Rattle.event_sets.specs.Agreement.{IsHeld}
+use Rattle.postfix_rules.specs.Fitting.{IsHeld}
 use Rattle.thread_slots.specs.declared.pins.Pin.{Pin}
 use Rattle.thread_slots.specs.declared.slot.Slot.{Slot}
 use Rattle.thread_slots.specs.Countable.{IsCountable}

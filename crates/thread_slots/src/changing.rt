@@ -1,7 +1,7 @@
 //! What calls change in a set that does not run.
 ghost use Rattle.std.specs.Prelude.{◌≡◌, ◌<◌, All, IfErr, OnErr, OnOk, Some, None, length, pos, replicate, slice_set};
 ghost use Rattle.event_sets.specs.Adding.{add_refusal};
-ghost use Rattle.event_sets.specs.Agreement.{Fits, IsHeld};
+ghost use Rattle.postfix_rules.specs.Fitting.{Fits, IsHeld};
 ghost use Rattle.event_sets.specs.Sets.{set_view};
 ghost use Rattle.postfix_rules.specs.Presets.{natives_of_event};
 ghost use Rattle.session_model.specs.Faces.{at};

@@ -1,5 +1,5 @@
 use Rattle.std.proofs.Common.{◌≡◌}
-use Rattle.event_sets.specs.Agreement.{BookFits}
+use Rattle.postfix_rules.specs.Fitting.{BookFits}
 use Rattle.event_tables.specs.Tables.{shape_of}
 use Rattle.component_table.specs.Books.{book_of}
 use Rattle.component_table.proofs.derivation.book_of.Given as goal

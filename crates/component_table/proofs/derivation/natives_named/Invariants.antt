@@ -1,5 +1,5 @@
 use Rattle.std.proofs.Common.{All, map, string_bytes}
-use Rattle.event_sets.specs.Agreement.{Fits}
+use Rattle.postfix_rules.specs.Fitting.{Fits}
 use Rattle.event_tables.specs.Tables.{shape_of}
 use Rattle.component_table.proofs.Naming.{Named}
 use Rattle.component_table.proofs.derivation.natives_named.Given as goal

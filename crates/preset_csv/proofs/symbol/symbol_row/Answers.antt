@@ -4,4 +4,4 @@ use Rattle.preset_csv.proofs.SymbolRows.{no-symbol}
 use Rattle.preset_csv.proofs.symbol.symbol_row.Goals as goal
 
 pub returns-in-None : goal.returns-in-None
-returns-in-None c = no-symbol c.args.symbol.now (not-printed (is_printable c.args.symbol.now) c.args.symbol.now c.in-None.ensures)
+returns-in-None c = record { row = no-symbol c.args.symbol.now (not-printed (is_printable c.args.symbol.now) c.args.symbol.now c.in-None.ensures); within = tt }

@@ -1,7 +1,7 @@
 use Rattle.std.proofs.Common.{◌∙◌, ◌==◌, ap, sym, position}
 use Rattle.plan_runner.specs.Plans.{event_by, looked_up}
 use Rattle.plan_runner.specs.declared.plan.Planned.TheVariants as planned
-use Rattle.session_model.specs.World.{native_named}
+use Rattle.postfix_rules.specs.NativeCodes.{native_named}
 use Rattle.script_runner.proofs.planning.planned_of.Goals as goal
 
 pub returns-in-NameOf-clause-planned : goal.returns-in-NameOf-clause-planned

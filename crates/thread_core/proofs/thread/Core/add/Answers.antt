@@ -2,7 +2,7 @@ use Rattle.std.proofs.Common.{◌≡◌, None, sym, subst, refl, ◌∙◌}
 use Rattle.std.specs.Prelude.{Err, Ok}
 use Rattle.event_sets.specs.declared.refusal.Refusal.TheVariants.{Plain}
 use Rattle.session_model.specs.declared.call.Call.TheVariants as call
-use Rattle.session_model.specs.Conditions.{IsNamed}
+use Rattle.postfix_rules.specs.Fitting.{IsNamed}
 use Rattle.session_model.specs.Replies.{plain}
 use Rattle.thread_core.specs.CoreView.{CoreView}
 use Rattle.thread_core.specs.Following.{Follows, changed_reply}

@@ -1,0 +1,10 @@
+use Rattle.std.proofs.Common.{◌∙◌, ◌≤◌, ◌∷◌, [], arith, length, map, string_bytes, sym}
+use Rattle.std.proofs.lemmas.List.{length-map, take-append-le, take_all}
+use Rattle.postfix_rules.specs.declared.derived.TheConstants.{MOST_NATIVES}
+use Rattle.preset_csv.proofs.natives.keep.Goals as goal
+
+pub returns-else-len : goal.returns-else-len
+returns-else-len c =
+    let held = map string_bytes c.args.natives.now.items in
+    let count = length-map c.args.natives.now.items string_bytes in
+    sym (take-append-le MOST_NATIVES held (c.args.text.now ∷ []) (omega (arith, count, c.if-len.false, c.len.ensures)) ∙ take_all MOST_NATIVES held (omega (arith, count, c.requires)))
