@@ -2,3 +2,5 @@ pub mod Periods
 pub mod Places
 pub mod Bits
 pub mod Counts
+pub mod Tables
+pub mod Steps

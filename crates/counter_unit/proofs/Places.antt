@@ -53,32 +53,11 @@ AreSound-empty ws = record {
   length-empty zero = refl
   length-empty (suc n) = ap suc (length-empty n)
 
--- all places, seen at one
 pub length-all_moved : (before : Option Occ) (o : Occ) (ws : List ℕ) (rs : List (Option Register)) → length rs ≡ length ws → length (all_moved before o ws rs) ≡ length rs
 length-all_moved before o [] [] e = refl
 length-all_moved before o [] (r ∷ rs) e = absurd (omega arith)
 length-all_moved before o (w ∷ ws) [] e = refl
 length-all_moved before o (w ∷ ws) (r ∷ rs) e = ap suc (length-all_moved before o ws rs (omega arith))
-
-pub length-all_carries : (before : Option Occ) (o : Occ) (ws : List ℕ) (rs : List (Option Register)) → length rs ≡ length ws → length (all_carries before o ws rs) ≡ length rs
-length-all_carries before o [] [] e = refl
-length-all_carries before o [] (r ∷ rs) e = absurd (omega arith)
-length-all_carries before o (w ∷ ws) [] e = refl
-length-all_carries before o (w ∷ ws) (r ∷ rs) e = ap suc (length-all_carries before o ws rs (omega arith))
-
-pub get-all_moved : (before : Option Occ) (o : Occ) (ws : List ℕ) (rs : List (Option Register)) (c : ℕ) (r : Option Register) → length rs ≡ length ws → slice_get rs c ≡ Some r
-    → slice_get (all_moved before o ws rs) c ≡ Some (moved_place before o (get_or ws c 0) r).place
-get-all_moved before o ws [] c r e g = cc
-get-all_moved before o [] (x ∷ rs) c r e g = absurd (omega arith)
-get-all_moved before o (w ∷ ws) (x ∷ rs) zero r e g = let same : x ≡ r = cc in ap (λ y. Some (moved_place before o w y).place) same
-get-all_moved before o (w ∷ ws) (x ∷ rs) (suc c) r e g = get-all_moved before o ws rs c r (omega arith) g
-
-pub get-all_carries : (before : Option Occ) (o : Occ) (ws : List ℕ) (rs : List (Option Register)) (c : ℕ) (r : Option Register) → length rs ≡ length ws → slice_get rs c ≡ Some r
-    → slice_get (all_carries before o ws rs) c ≡ Some (moved_place before o (get_or ws c 0) r).carried
-get-all_carries before o ws [] c r e g = cc
-get-all_carries before o [] (x ∷ rs) c r e g = absurd (omega arith)
-get-all_carries before o (w ∷ ws) (x ∷ rs) zero r e g = let same : x ≡ r = cc in ap (λ y. Some (moved_place before o w y).carried) same
-get-all_carries before o (w ∷ ws) (x ∷ rs) (suc c) r e g = get-all_carries before o ws rs c r (omega arith) g
 
 pub period_none : (w t : ℕ) → t ≡ 0 → period w t ≡ 2 ^ w
 period_none w t none = cond-true (t == 0) (2 ^ w) t (eq-eqb t 0 none)
@@ -107,16 +86,17 @@ pub moved_place-sound : (before : Option Occ) (o : Occ) (w : ℕ) (r : Option Re
 moved_place-sound before o w None low small h = tt
 moved_place-sound before o w (Some r) low small h = moved-sound w (weight_of r.native r.domain before o) r low (weight_of-le r.native r.domain before o small) h
 
-at_place-all_moved : (before : Option Occ) (o : Occ) (ws : List ℕ) (rs : List (Option Register)) (c : ℕ) → length rs ≡ length ws → c < length ws → at_place (all_moved before o ws rs) c ≡ (moved_place before o (get_or ws c 0) (at_place rs c)).place
-at_place-all_moved before o [] rs c e h = absurd (omega arith)
-at_place-all_moved before o (w ∷ ws) [] c e h = absurd (omega arith)
-at_place-all_moved before o (w ∷ ws) (r ∷ rs) zero e h = refl
-at_place-all_moved before o (w ∷ ws) (r ∷ rs) (suc c) e h = at_place-all_moved before o ws rs c (omega arith) (omega arith)
+pub at_place-all_moved : (before : Option Occ) (o : Occ) (ws : List ℕ) (rs : List (Option Register)) (c : ℕ) → length rs ≡ length ws → at_place (all_moved before o ws rs) c ≡ (moved_place before o (get_or ws c 0) (at_place rs c)).place
+at_place-all_moved before o [] [] c e = refl
+at_place-all_moved before o [] (r ∷ rs) c e = absurd (omega arith)
+at_place-all_moved before o (w ∷ ws) [] c e = absurd (omega arith)
+at_place-all_moved before o (w ∷ ws) (r ∷ rs) zero e = refl
+at_place-all_moved before o (w ∷ ws) (r ∷ rs) (suc c) e = at_place-all_moved before o ws rs c (omega arith)
 
 pub AreSound-moved : (before : Option Occ) (o : Occ) (ws : List ℕ) (rs : List (Option Register)) → AreWidths ws → o.amount ≤ 255 → AreSound ws rs → AreSound ws (all_moved before o ws rs)
 AreSound-moved before o ws rs widths small h = record {
   same_length = length-all_moved before o ws rs h.same_length ∙ h.same_length;
-  each = λ c lt. rw (at_place-all_moved before o ws rs c h.same_length lt) (moved_place-sound before o (get_or ws c 0) (at_place rs c) (widths.low c lt) small (h.each c lt));
+  each = λ c lt. rw (at_place-all_moved before o ws rs c h.same_length) (moved_place-sound before o (get_or ws c 0) (at_place rs c) (widths.low c lt) small (h.each c lt));
 }
 
 -- the first places of a longer list
@@ -125,12 +105,6 @@ at_place-take zero rs c h = absurd (omega arith)
 at_place-take (suc n) [] c h = refl
 at_place-take (suc n) (r ∷ rs) zero h = refl
 at_place-take (suc n) (r ∷ rs) (suc c) h = at_place-take n rs c (omega arith)
-
--- what is programmed on a counter that exists
-pub place_at : (rs : List (Option Register)) (c : ℕ) → c < length rs → slice_get rs c ≡ Some (at_place rs c)
-place_at [] c h = absurd (omega arith)
-place_at (r ∷ rs) zero h = refl
-place_at (r ∷ rs) (suc c) h = place_at rs c (omega arith)
 
 -- a place that is read is sound
 pub place-sound : (ws : List ℕ) (rs : List (Option Register)) (c : ℕ) (r : Option Register) → AreSound ws rs → c < length ws → slice_get rs c ≡ Some r → IsSound (get_or ws c 0) r

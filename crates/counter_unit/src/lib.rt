@@ -7,4 +7,5 @@ pub use unit::Unit;
 
 pub mod laws;
 pub mod registers;
+mod selects;
 pub mod unit;

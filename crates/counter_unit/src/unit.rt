@@ -7,6 +7,7 @@ ghost use Rattle.papi_base.specs.Widths.{AreWidths};
 ghost use Rattle.counter_unit.specs.Counting.{IsThreshold, IsSound, AreSound, beginning, period, at_place, begun, begun_again, moved, carries, moved_place, all_moved, all_carries, bits_of};
 
 use crate::registers::{Register, Registers};
+use crate::selects::Selects;
 use papi_base::{CompShape, Domain, Native, Occ, weight};
 use std::marker::Model;
 
@@ -15,17 +16,19 @@ use std::marker::Model;
 pub struct Unit {
     shape: CompShape,
     registers: Registers,
+    selects: Selects,
 }
 
 impl Model for Unit {
     ghost use Rattle.std.specs.Prelude.{◌≡◌, length};
-    ghost use Rattle.counter_unit.specs.Counting.{UnitView, AreSound};
+    ghost use Rattle.counter_unit.specs.Counting.{UnitView};
+    ghost use Rattle.counter_unit.specs.Units.{IsUnit};
 
     ghost Value = { UnitView };
 
     ghost view = { λ u. record { widths = u.shape; registers = u.registers } };
 
-    ghost invariant = { λ u. AreSound u.shape u.registers };
+    ghost invariant = { λ u. IsUnit u.shape u.registers u.selects.masks };
 }
 
 /// The values of a register of this width, and one more than the greatest.
@@ -106,6 +109,7 @@ impl Unit {
         Unit {
             shape: shape.copy(),
             registers: Registers::empty(shape.counters()),
+            selects: Selects::none(),
         }
     }
 
@@ -117,6 +121,8 @@ impl Unit {
         ensures { self.new ≡ record self.old { registers = slice_set self.old.registers c (Some (begun (slice_index self.old.widths c) n d threshold)) } }
     {
         let value = beginning_of(self.shape.width(c), threshold);
+        self.selects.remove(self.registers.at(c), c);
+        self.selects.add(n.select, c);
         self.registers.put(
             c,
             Some(Register {
@@ -137,7 +143,10 @@ impl Unit {
     {
         let _amount = o.amount;
         let mut carry = 0;
-        for c in 0..self.shape.counters() {
+        let mut left = self.selects.at(o.select);
+        while left != 0 {
+            let c = left.trailing_zeros();
+            left &= !(1 << c);
             let width = self.shape.width(c);
             if self.registers.count(c, width, before, o) {
                 carry |= 1 << c;
@@ -197,6 +206,7 @@ impl Unit {
         requires exists { c < length self.old.widths }
         ensures { self.new ≡ record self.old { registers = slice_set self.old.registers c None } }
     {
+        self.selects.remove(self.registers.at(c), c);
         self.registers.put(c, None);
     }
 }

@@ -1,0 +1,162 @@
+-- An occurrence goes over the counters that are programmed with its select code, lowest first: those that are left are as
+-- they were, and all others are done. A counter with another select code is done from the beginning, since nothing moves it.
+use Rattle.std.proofs.Common.{◌≡◌, ℕ, zero, suc, ◌+◌, ◌*◌, ◌%◌, ◌^◌, ◌<◌, ◌≤◌, ◌⊎◌, inl, inr, Bool, true, false, List, [], ◌∷◌, length, set, get_or, refl, ap, sym, ◌∙◌, arith, Option, Some, None, bit_and}
+use Rattle.std.specs.Prelude.{if◌then◌else◌, ◌==◌, ◌&&◌}
+use Rattle.std.specs.Int.{bit_at, bit_not, trailing_zeros, w32}
+use Rattle.std.proofs.lemmas.Bool.{cases_eq, cases_lt, cond-false, lt-leb}
+use Rattle.std.proofs.lemmas.Nat.{and_le_l}
+use Rattle.std.proofs.lemmas.Nat.Bits.{bit_at-zero, bit_at-lt, bit_at_and, bit_at_above, bit_at_clear_same, bit_at_clear_other, bit_at-trailing_zeros, same_from_bits}
+use Rattle.papi_base.specs.Weight.{weight_of, holds, in_mode, share, differ}
+use Rattle.papi_base.specs.declared.occurrence.Occ.{Occ}
+use Rattle.counter_unit.specs.declared.registers.Register.{Register}
+use Rattle.counter_unit.specs.Counting.{After, IsSound, AreSound, at_place, all_carries, all_moved, bits_of, carries, moved, moved_place}
+use Rattle.counter_unit.specs.Selects.{AreSelects, has_select}
+use Rattle.counter_unit.proofs.Bits.{bit_at-bits_of}
+use Rattle.counter_unit.proofs.Places.{at_place-all_moved, at_place-set_same, at_place-set_other, length-all_moved, length-set_place}
+use Rattle.counter_unit.proofs.Tables.{at_place_past, bit_of, no_bit}
+
+-- the lowest of the counters that are left, and the others
+abbrev pub lowest : ℕ → ℕ
+lowest left = trailing_zeros w32 left
+
+abbrev pub others : ℕ → ℕ
+others left = bit_and left (bit_not w32 (1 * 2 ^ lowest left % 2 ^ 32))
+
+pub lowest_is : (left : ℕ) → 0 < left → left < 2 ^ 32 → (lowest left < 32) × (bit_at left (lowest left) ≡ 1)
+lowest_is left some small = let h = bit_at-trailing_zeros w32 left some small in (h.0, h.1)
+
+other_bit : (left k : ℕ) → 0 < left → left < 2 ^ 32 → (k ≡ lowest left → ⊥) → bit_at (others left) k ≡ bit_at left k
+other_bit left k some small apart = elim (cases_lt k 32) [
+  | inl below ↦ bit_at_clear_other w32 left (lowest left) (lowest_is left some small).0 k below apart
+  | inr above ↦ bit_at_above (others left) 32 k (fits left small) above ∙ sym (bit_at_above left 32 k small above)
+] where
+  fits : (n : ℕ) → n < 2 ^ 32 → others n < 2 ^ 32
+  fits n h = let le = and_le_l n (bit_not w32 (1 * 2 ^ lowest n % 2 ^ 32)) in go (others n) n le h where
+    go : (a b : ℕ) → a ≤ b → b < 2 ^ 32 → a < 2 ^ 32
+    go a b le h = omega arith
+
+cleared : (left : ℕ) → 0 < left → left < 2 ^ 32 → bit_at (others left) (lowest left) ≡ 0
+cleared left some small = bit_at_clear_same w32 left (lowest left) (lowest_is left some small).0
+
+pub others-lt : (left : ℕ) → 0 < left → left < 2 ^ 32 → others left < left
+others-lt left some small = go (others left) left (lowest left) (and_le_l left (bit_not w32 (1 * 2 ^ lowest left % 2 ^ 32))) (cleared left some small) (lowest_is left some small).1 where
+  go : (a b k : ℕ) → a ≤ b → bit_at a k ≡ 0 → bit_at b k ≡ 1 → a < b
+  go a b k le zero_at one_at = elim (cases_eq a b) [
+    | inl same ↦ absurd (no_bit (bit_at a k) (ap (λ n. bit_at n k) same ∙ one_at) zero_at)
+    | inr apart ↦ omega arith
+  ]
+
+-- nothing is added to a register whose select code is another one
+unheld : (select code : Bool) (a : Bool) → select ≡ false → (a && select) ≡ false
+unheld select code true e = e
+unheld select code false e = refl
+
+weight_of_other : (r : Register) (before : Option Occ) (o : Occ) → (r.native.select == o.select) ≡ false → weight_of r.native r.domain before o ≡ 0
+weight_of_other r before o e = cond-false (holds r.native r.domain o) _ 0 (no_hold r o e) where
+  no_hold : (r : Register) (o : Occ) → (r.native.select == o.select) ≡ false → holds r.native r.domain o ≡ false
+  no_hold r o e = let first = unheld (r.native.select == o.select) true (r.native.comp == o.comp) e in rw first refl
+
+abbrev after : ℕ → Register → ℕ → After
+after w r more = record { place = Some (moved w more r); carried = carries w more r }
+
+abbrev pub unchanged : Option Register → After
+unchanged place = record { place = place; carried = false }
+
+pub unmoved : (before : Option Occ) (o : Occ) (w : ℕ) (r : Option Register) → IsSound w r → has_select o.select r ≡ false → moved_place before o w r ≡ unchanged r
+unmoved before o w None sound other = refl
+unmoved before o w (Some r) sound other = ap (after w r) (weight_of_other r before o other) ∙ still r sound.2 where
+  still : (r : Register) → r.value < 2 ^ w → after w r 0 ≡ unchanged (Some r)
+  still r below =
+      let no : carries w 0 r ≡ false = lt-leb (2 ^ w) (r.value + 0) (omega arith) in
+      let same : r.value + 0 ≡ r.value = omega arith in
+      rw no (ap (λ v. unchanged (Some (record r { value = v }))) same)
+
+-- the loop with these counters left, these places, and these carries
+pub record Stepping (before : Option Occ) (o : Occ) (ws : List ℕ) (rs : List (Option Register)) (left : ℕ) (now : List (Option Register)) (carry : ℕ) : Type 0 where
+  pub same_length : length now ≡ length ws
+  pub within : (k : ℕ) → bit_at left k ≡ 1 → k < length ws
+  pub waits : (k : ℕ) → bit_at left k ≡ 1 → at_place now k ≡ at_place rs k
+  pub done : (k : ℕ) → bit_at left k ≡ 0 → at_place now k ≡ (moved_place before o (get_or ws k 0) (at_place rs k)).place
+  pub quiet : (k : ℕ) → bit_at left k ≡ 1 → bit_at carry k ≡ 0
+  pub carried : (k : ℕ) → bit_at left k ≡ 0 → bit_at carry k ≡ bit_of (moved_place before o (get_or ws k 0) (at_place rs k)).carried
+
+sound_at : (ws : List ℕ) (rs : List (Option Register)) (k : ℕ) → AreSound ws rs → IsSound (get_or ws k 0) (at_place rs k)
+sound_at ws rs k h = elim (cases_lt k (length ws)) [
+  | inl below ↦ h.each k below
+  | inr past ↦ let e = h.same_length in rw (at_place_past rs k (omega arith)) tt
+]
+
+bit_no : (b : Bool) → bit_of b ≡ 0 → b ≡ false
+bit_no true h = absurd (no_bit 1 refl h)
+bit_no false h = refl
+
+pub begins : (before : Option Occ) (o : Occ) (ws masks : List ℕ) (rs : List (Option Register)) → o.select < 256 → AreSound ws rs → AreSelects masks rs → Stepping before o ws rs (get_or masks o.select 0) rs 0
+begins before o ws masks rs small sound selects = record {
+  same_length = sound.same_length;
+  within = λ k is. elim (cases_lt k (length ws)) [
+    | inl below ↦ below
+    | inr past ↦ absurd (no_bit (bit_at (get_or masks o.select 0) k) is (none_past k past))
+  ];
+  waits = λ k is. refl;
+  done = λ k isnt. sym (ap (λ (a : After). a.place) (stays k isnt));
+  quiet = λ k is. bit_at-zero k;
+  carried = λ k isnt. bit_at-zero k ∙ sym (ap (λ (a : After). bit_of a.carried) (stays k isnt));
+} where
+  none_past : (k : ℕ) → length ws ≤ k → bit_at (get_or masks o.select 0) k ≡ 0
+  none_past k past = let e = sound.same_length in selects.each o.select k small ∙ ap (λ r. bit_of (has_select o.select r)) (at_place_past rs k (omega arith))
+
+  stays : (k : ℕ) → bit_at (get_or masks o.select 0) k ≡ 0 → moved_place before o (get_or ws k 0) (at_place rs k) ≡ unchanged (at_place rs k)
+  stays k isnt = unmoved before o (get_or ws k 0) (at_place rs k) (sound_at ws rs k sound) (bit_no (has_select o.select (at_place rs k)) (sym (selects.each o.select k small) ∙ isnt))
+
+pub goes_on : (before : Option Occ) (o : Occ) (ws : List ℕ) (rs now : List (Option Register)) (left carry more : ℕ) (x : Option Register) → 0 < left → left < 2 ^ 32 → Stepping before o ws rs left now carry
+    → x ≡ (moved_place before o (get_or ws (lowest left) 0) (at_place now (lowest left))).place
+    → bit_at more (lowest left) ≡ bit_of (moved_place before o (get_or ws (lowest left) 0) (at_place now (lowest left))).carried
+    → ((k : ℕ) → (k ≡ lowest left → ⊥) → bit_at more k ≡ bit_at carry k)
+    → Stepping before o ws rs (others left) (set now (lowest left) x) more
+goes_on before o ws rs now left carry more x some small s place here there = record {
+  same_length = length-set_place now (lowest left) x ∙ s.same_length;
+  within = λ k is. s.within k (was k is);
+  waits = λ k is. at_place-set_other now (lowest left) k x (apart k is) ∙ s.waits k (was k is);
+  done = λ k isnt. elim (cases_eq k (lowest left)) [
+    | inl same ↦ rw same (at_place-set_same now (lowest left) x exists ∙ place ∙ ap (λ r. (moved_place before o (get_or ws (lowest left) 0) r).place) still)
+    | inr other ↦ at_place-set_other now (lowest left) k x other ∙ s.done k (sym (other_bit left k some small other) ∙ isnt)
+  ];
+  quiet = λ k is. there k (apart k is) ∙ s.quiet k (was k is);
+  carried = λ k isnt. elim (cases_eq k (lowest left)) [
+    | inl same ↦ rw same (here ∙ ap (λ r. bit_of (moved_place before o (get_or ws (lowest left) 0) r).carried) still)
+    | inr other ↦ there k other ∙ s.carried k (sym (other_bit left k some small other) ∙ isnt)
+  ];
+} where
+  still : at_place now (lowest left) ≡ at_place rs (lowest left)
+  still = s.waits (lowest left) (lowest_is left some small).1
+
+  exists : lowest left < length now
+  exists = let e = s.same_length in let h = s.within (lowest left) (lowest_is left some small).1 in omega arith
+
+  apart : (k : ℕ) → bit_at (others left) k ≡ 1 → k ≡ lowest left → ⊥
+  apart k is same = no_bit (bit_at (others left) k) is (ap (bit_at (others left)) same ∙ cleared left some small)
+
+  was : (k : ℕ) → bit_at (others left) k ≡ 1 → bit_at left k ≡ 1
+  was k is = sym (other_bit left k some small (apart k is)) ∙ is
+
+same_places : (xs ys : List (Option Register)) → length xs ≡ length ys → ((k : ℕ) → at_place xs k ≡ at_place ys k) → xs ≡ ys
+same_places [] [] e h = refl
+same_places [] (y ∷ ys) e h = absurd (omega arith)
+same_places (x ∷ xs) [] e h = absurd (omega arith)
+same_places (x ∷ xs) (y ∷ ys) e h = let first : x ≡ y = h 0 in let rest = same_places xs ys (omega arith) (λ k. h (suc k)) in cc
+
+carries_at : (before : Option Occ) (o : Occ) (ws : List ℕ) (rs : List (Option Register)) (k : ℕ) → length rs ≡ length ws → get_or (all_carries before o ws rs) k false ≡ (moved_place before o (get_or ws k 0) (at_place rs k)).carried
+carries_at before o [] [] k e = refl
+carries_at before o [] (r ∷ rs) k e = absurd (omega arith)
+carries_at before o (w ∷ ws) [] k e = absurd (omega arith)
+carries_at before o (w ∷ ws) (r ∷ rs) zero e = refl
+carries_at before o (w ∷ ws) (r ∷ rs) (suc k) e = carries_at before o ws rs k (omega arith)
+
+-- at the end all are done
+pub all_done : (before : Option Occ) (o : Occ) (ws : List ℕ) (rs now : List (Option Register)) (left carry : ℕ) → length rs ≡ length ws → left ≡ 0 → Stepping before o ws rs left now carry → now ≡ all_moved before o ws rs
+all_done before o ws rs now left carry e none s =
+    same_places now (all_moved before o ws rs) (s.same_length ∙ sym (length-all_moved before o ws rs e ∙ e)) (λ k. s.done k (ap (λ n. bit_at n k) none ∙ bit_at-zero k) ∙ sym (at_place-all_moved before o ws rs k e))
+
+pub all_carried : (before : Option Occ) (o : Occ) (ws : List ℕ) (rs now : List (Option Register)) (left carry : ℕ) → length rs ≡ length ws → left ≡ 0 → Stepping before o ws rs left now carry → carry ≡ bits_of (all_carries before o ws rs)
+all_carried before o ws rs now left carry e none s =
+    same_from_bits carry (bits_of (all_carries before o ws rs)) (λ k. s.carried k (ap (λ n. bit_at n k) none ∙ bit_at-zero k) ∙ sym (bit_at-bits_of (all_carries before o ws rs) k ∙ ap bit_of (carries_at before o ws rs k e)))
