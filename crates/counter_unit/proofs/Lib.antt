@@ -3,4 +3,5 @@ pub mod Places
 pub mod Bits
 pub mod Counts
 pub mod Tables
+pub mod Setting
 pub mod Steps

@@ -1,6 +1,7 @@
 -- Places of registers, one by one and all together.
 use Rattle.std.proofs.Common.{◌≡◌, ℕ, zero, suc, ◌+◌, ◌-◌, ◌^◌, ◌<◌, ◌≤◌, inl, inr, List, [], ◌∷◌, length, set, get_or, take, replicate, refl, ap, ◌∙◌, arith, Option, Some, None, slice_get}
 use Rattle.std.specs.Prelude.{unwrap_or, ◌==◌}
+use Rattle.std.specs.Option.{option_map}
 use Rattle.std.proofs.lemmas.Bool.{cases_eq, cond_both, cond-true, cond-false, eq-eqb, ne_eqb, leb-true, leb-false}
 use Rattle.papi_base.proofs.Weights.{weight_of-le}
 use Rattle.papi_base.specs.Weight.{weight_of}
@@ -11,7 +12,7 @@ use Rattle.papi_base.specs.declared.occurrence.Occ.{Occ}
 use Rattle.papi_base.specs.declared.native.Native.{Native}
 use Rattle.papi_base.specs.declared.bits.Domain.{Domain}
 use Rattle.counter_unit.specs.declared.registers.Register.{Register}
-use Rattle.counter_unit.specs.Counting.{IsThreshold, period, beginning, begun, at_place, IsSound, AreSound, moved, carries, moved_place, all_moved, all_carries}
+use Rattle.counter_unit.specs.Counting.{IsThreshold, period, beginning, begun, begun_again, at_place, IsSound, AreSound, moved, carries, moved_place, all_moved, all_carries}
 
 pub at_place-set_same : (rs : List (Option Register)) (c : ℕ) (x : Option Register) → c < length rs → at_place (set rs c x) c ≡ x
 at_place-set_same [] c x h = absurd (omega arith)
@@ -72,6 +73,10 @@ period_fits w t low (inr fits) = let e = period_some w t (omega (arith, fits.0))
 
 pub begun-sound : (w : ℕ) (n : Native) (d : Domain) (t : ℕ) → 16 ≤ w → IsThreshold w t → IsSound w (Some (begun w n d t))
 begun-sound w n d t low fits = let p = period_fits w t low fits in (fits, omega arith, omega (arith, pow_pos w))
+
+pub again-sound : (w : ℕ) (place : Option Register) → 16 ≤ w → IsSound w place → IsSound w (option_map (begun_again w) place)
+again-sound w None low h = tt
+again-sound w (Some r) low h = let p = period_fits w r.threshold low h.0 in (h.0, omega arith, omega (arith, pow_pos w))
 
 -- what is added is less than a period, so a register stays sound
 moved-sound : (w more : ℕ) (r : Register) → 16 ≤ w → more ≤ 255 → IsSound w (Some r) → IsSound w (Some (moved w more r))

@@ -8,4 +8,5 @@ pub use unit::Unit;
 pub mod laws;
 pub mod registers;
 mod selects;
+mod setups;
 pub mod unit;

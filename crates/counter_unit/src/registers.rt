@@ -2,7 +2,9 @@
 ghost use Rattle.std.specs.Prelude.{◌≡◌, ◌<◌, ◌≤◌, length, slice_get, slice_set, replicate, None};
 ghost use Rattle.std.specs.Option.{option_copied};
 ghost use Rattle.counter_unit.specs.Counting.{IsSound, at_place, moved_place};
+ghost use Rattle.counter_unit.specs.Setups.{IsSetUp};
 
+use crate::setups::Setup;
 use crate::unit::count_place;
 use papi_base::{Domain, Native, Occ};
 use std::marker::Model;
@@ -73,14 +75,22 @@ impl Registers {
 
     /// Counts one occurrence at a place with this width, and tells whether its register carried.
     #[inline(always)]
-    pub fn count(&mut self, i: u32, width: u8, before: Option<&Occ>, o: &Occ) -> bool
+    pub(crate) fn count(
+        &mut self,
+        i: u32,
+        width: u8,
+        setup: Setup,
+        before: Option<&Occ>,
+        o: &Occ,
+    ) -> bool
         requires place { i < length self.old }
         requires low { 16 ≤ width }
         requires high { width ≤ 48 }
         requires sound { IsSound width (at_place self.old i) }
+        requires set_up { IsSetUp width (at_place self.old i) setup }
         ensures registers { self.new ≡ slice_set self.old i (moved_place (option_copied before.entry) o.now width (at_place self.old i)).place }
         ensures carried { result ≡ (moved_place (option_copied before.entry) o.now width (at_place self.old i)).carried }
     {
-        count_place(&mut self.buf[i as usize], width, before, o)
+        count_place(&mut self.buf[i as usize], width, setup, before, o)
     }
 }

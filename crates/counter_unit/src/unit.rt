@@ -4,11 +4,13 @@ ghost use Rattle.std.specs.Prelude.{◌≡◌, ℕ, ◌+◌, ◌^◌, ◌<◌, �
 ghost use Rattle.std.specs.Option.{option_copied, option_map};
 ghost use Rattle.papi_base.specs.Weight.{weight_of};
 ghost use Rattle.papi_base.specs.Widths.{AreWidths};
+ghost use Rattle.counter_unit.specs.Setups.{IsSetUp};
 ghost use Rattle.counter_unit.specs.Counting.{IsThreshold, IsSound, AreSound, beginning, period, at_place, begun, begun_again, moved, carries, moved_place, all_moved, all_carries, bits_of};
 
 use crate::registers::{Register, Registers};
 use crate::selects::Selects;
-use papi_base::{CompShape, Domain, Native, Occ, weight};
+use crate::setups::{Setup, Setups};
+use papi_base::{CompShape, Domain, Native, Occ};
 use std::marker::Model;
 
 /// The counters of one component. Contracts see for each its width in bits, and what is programmed on it.
@@ -17,6 +19,7 @@ pub struct Unit {
     shape: CompShape,
     registers: Registers,
     selects: Selects,
+    setups: Setups,
 }
 
 impl Model for Unit {
@@ -28,12 +31,12 @@ impl Model for Unit {
 
     ghost view = { λ u. record { widths = u.shape; registers = u.registers } };
 
-    ghost invariant = { λ u. IsUnit u.shape u.registers u.selects.masks };
+    ghost invariant = { λ u. IsUnit u.shape u.registers u.selects.masks u.setups.items };
 }
 
 /// The values of a register of this width, and one more than the greatest.
 #[inline(always)]
-fn room(width: u8) -> u64
+pub(crate) fn room(width: u8) -> u64
     requires { width ≤ 48 }
     ensures value { result ≡ 2 ^ width }
     ensures bound { result ≤ 2 ^ 48 }
@@ -71,30 +74,38 @@ pub fn beginning_of(width: u8, threshold: u64) -> u64
 pub(crate) fn count_place(
     place: &mut Option<Register>,
     width: u8,
+    setup: Setup,
     before: Option<&Occ>,
     o: &Occ,
 ) -> bool
     requires low { 16 ≤ width }
     requires high { width ≤ 48 }
     requires sound { IsSound width place.old }
+    requires set_up { IsSetUp width place.old setup }
     ensures place { place.new ≡ (moved_place (option_copied before.entry) o.now width place.old).place }
     ensures carried { result ≡ (moved_place (option_copied before.entry) o.now width place.old).carried }
 {
     match place {
         None => false,
         Some(register) => {
-            let more = u64::from(weight(&register.native, register.domain, before, o));
+            let more = u64::from(setup.weight(register, before, o));
             let sum = register.value + more;
-            let full = room(width);
-            let carried = full <= sum;
-            register.value = if carried {
-                beginning_of(width, register.threshold) + (sum - full)
-            } else {
-                sum
-            };
+            let carried = setup.room <= sum;
+            register.value = if carried { sum - setup.period } else { sum };
             carried
         }
     }
+}
+
+/// The register at its beginning again, if the counter is programmed.
+fn again(place: Option<Register>, width: u8) -> Option<Register>
+    requires width { width ≤ 48 }
+    requires sound { IsSound width place }
+    ensures { result ≡ option_map (begun_again width) place }
+{
+    let mut register = place?;
+    register.value = beginning_of(width, register.threshold);
+    Some(register)
 }
 
 impl Unit {
@@ -110,6 +121,7 @@ impl Unit {
             shape: shape.copy(),
             registers: Registers::empty(shape.counters()),
             selects: Selects::none(),
+            setups: Setups::none(),
         }
     }
 
@@ -120,9 +132,11 @@ impl Unit {
         requires threshold { IsThreshold (slice_index self.old.widths c) threshold }
         ensures { self.new ≡ record self.old { registers = slice_set self.old.registers c (Some (begun (slice_index self.old.widths c) n d threshold)) } }
     {
-        let value = beginning_of(self.shape.width(c), threshold);
+        let width = self.shape.width(c);
+        let value = beginning_of(width, threshold);
         self.selects.remove(self.registers.at(c), c);
         self.selects.add(n.select, c);
+        self.setups.put(c, Setup::of(&n, d, width, threshold));
         self.registers.put(
             c,
             Some(Register {
@@ -148,7 +162,8 @@ impl Unit {
             let c = left.trailing_zeros();
             left &= !(1 << c);
             let width = self.shape.width(c);
-            if self.registers.count(c, width, before, o) {
+            let setup = self.setups.at(c);
+            if self.registers.count(c, width, setup, before, o) {
                 carry |= 1 << c;
             }
         }
@@ -173,13 +188,8 @@ impl Unit {
         requires exists { c < length self.old.widths }
         ensures { self.new ≡ record self.old { registers = slice_set self.old.registers c (option_map (begun_again (slice_index self.old.widths c)) (at_place self.old.registers c)) } }
     {
-        let place = match self.registers.at(c) {
-            Some(mut register) => {
-                register.value = beginning_of(self.shape.width(c), register.threshold);
-                Some(register)
-            }
-            None => None,
-        };
+        let width = self.shape.width(c);
+        let place = again(self.registers.at(c), width);
         self.registers.put(c, place);
     }
 

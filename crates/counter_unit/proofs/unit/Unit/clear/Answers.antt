@@ -3,6 +3,7 @@ use Rattle.std.specs.Prelude.{unwrap_or, None}
 use Rattle.counter_unit.specs.declared.registers.Register.{Register}
 use Rattle.counter_unit.specs.Counting.{at_place, UnitView}
 use Rattle.counter_unit.proofs.Places.{AreSound-put}
+use Rattle.counter_unit.proofs.Setting.{AreSetUp-clear}
 use Rattle.counter_unit.proofs.Tables.{AreSelects-without}
 use Rattle.counter_unit.proofs.unit.Unit.clear.Goals as goal
 
@@ -23,4 +24,6 @@ invariant_of-self c =
       are_widths = c.self.invariant.are_widths;
       sound = AreSound-put ws rs c.args.c None exists tt c.self.invariant.sound;
       selects = AreSelects-without c.self.inside.selects.masks rs c.at.result c.args.c (omega arith) (omega arith) (omega arith) was c.self.invariant.selects;
+      places = c.self.invariant.places;
+      set_up = AreSetUp-clear ws rs c.self.inside.setups.items c.args.c (omega arith) c.self.invariant.set_up;
     }

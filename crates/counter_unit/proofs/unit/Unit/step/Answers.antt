@@ -1,10 +1,12 @@
-use Rattle.std.proofs.Common.{◌≡◌, ℕ, ◌<◌, ◌^◌, length, get_or, true, false, List, Option, refl, ap, ap₂, sym, ◌∙◌, arith}
+use Rattle.std.proofs.Common.{◌≡◌, ℕ, ◌<◌, ◌^◌, length, get_or, slice_get, Some, true, false, List, Option, refl, ap, ap₂, sym, ◌∙◌, arith}
 use Rattle.std.specs.Option.{option_copied}
 use Rattle.std.specs.Int.{w32}
 use Rattle.std.proofs.lemmas.Nat.Bits.{bit_at_set_same, bit_at_set_other}
 use Rattle.counter_unit.specs.declared.registers.Register.{Register}
 use Rattle.counter_unit.specs.Counting.{After, IsSound, at_place, moved_place}
 use Rattle.counter_unit.proofs.Places.{AreSound-moved}
+use Rattle.counter_unit.specs.declared.setups.Setups.{Setups}
+use Rattle.counter_unit.proofs.Setting.{AreSetUp-moved}
 use Rattle.counter_unit.proofs.Tables.{AreSelects-moved, bit_of}
 use Rattle.counter_unit.proofs.Steps.{Stepping, all_carried, all_done, begins, goes_on, lowest, lowest_is, others-lt}
 use Rattle.counter_unit.proofs.unit.Unit.step.Goals as goal
@@ -13,6 +15,7 @@ pub loop-left-init : goal.loop-left-init
 loop-left-init c = record {
   shape = refl;
   selects = refl;
+  setups = refl;
   stepping = rw c.at-left.ensures (begins (option_copied c.args.before) c.args.o.now c.self.inside.shape c.self.inside.selects.masks c.self.inside.registers (omega arith) c.self.invariant.sound c.self.invariant.selects);
 }
 
@@ -27,6 +30,15 @@ count-requires-clause-sound c =
     let is = (lowest_is c.loop-left.left (omega arith) (omega arith)).1 in
     let width : c.width-width.result ≡ get_or c.self.inside.shape k 0 = c.width-width.ensures.width ∙ ap (λ (ws : List ℕ). get_or ws k 0) c.loop-left.invariant.shape in
     rw (c.loop-left.invariant.stepping.waits k is, width) (c.self.invariant.sound.each k (c.loop-left.invariant.stepping.within k is))
+
+pub count-requires-clause-set_up : goal.count-requires-clause-set_up
+count-requires-clause-set_up c =
+    let k = lowest c.loop-left.left in
+    let is = (lowest_is c.loop-left.left (omega arith) (omega arith)).1 in
+    let width : c.width-width.result ≡ get_or c.self.inside.shape k 0 = c.width-width.ensures.width ∙ ap (λ (ws : List ℕ). get_or ws k 0) c.loop-left.invariant.shape in
+    let setup : slice_get c.self.inside.setups.items k ≡ Some c.at-setup.result = ap (λ (s : Setups). slice_get s.items k) (sym c.loop-left.invariant.setups) ∙ c.at-setup.ensures in
+    rw (c.loop-left.invariant.stepping.waits k is, width) (c.self.invariant.set_up k c.at-setup.result setup)
+
 pub loop-left-preserved-then-count : goal.loop-left-preserved-then-count
 loop-left-preserved-then-count c =
     let k = lowest c.loop-left.left in
@@ -38,8 +50,9 @@ loop-left-preserved-then-count c =
     record {
       shape = c.loop-left.invariant.shape;
       selects = c.loop-left.invariant.selects;
+      setups = c.loop-left.invariant.setups;
       stepping = rw c.count.ensures.registers (goes_on _ _ _ _ now c.loop-left.left c.loop-left.carry _ _ (omega arith) (omega arith) c.loop-left.invariant.stepping (ap (λ (a : After). a.place) after)
-        (bit_at_set_same w32 c.loop-left.carry k is.0 ∙ sym (ap bit_of carried)) (λ i apart. bit_at_set_other w32 c.loop-left.carry k is.0 i apart));
+          (bit_at_set_same w32 c.loop-left.carry k is.0 ∙ sym (ap bit_of carried)) (λ i apart. bit_at_set_other w32 c.loop-left.carry k is.0 i apart));
     }
 
 pub loop-left-preserved : goal.loop-left-preserved
@@ -53,8 +66,9 @@ loop-left-preserved c =
     record {
       shape = c.loop-left.invariant.shape;
       selects = c.loop-left.invariant.selects;
+      setups = c.loop-left.invariant.setups;
       stepping = rw c.count.ensures.registers (goes_on _ _ _ _ now c.loop-left.left c.loop-left.carry c.loop-left.carry _ (omega arith) (omega arith) c.loop-left.invariant.stepping (ap (λ (a : After). a.place) after)
-        (c.loop-left.invariant.stepping.quiet k is.1 ∙ sym (ap bit_of carried)) (λ i apart. refl));
+          (c.loop-left.invariant.stepping.quiet k is.1 ∙ sym (ap bit_of carried)) (λ i apart. refl));
     }
 
 pub invariant_of-self : goal.invariant_of-self
@@ -63,11 +77,13 @@ invariant_of-self c =
     let rs = c.self.inside.registers in
     let ws = c.self.inside.shape in
     let done = all_done before c.args.o.now ws rs c.loop-left.self-inside.registers c.loop-left.left c.loop-left.carry c.self.invariant.sound.same_length (omega arith) c.loop-left.invariant.stepping in
-    rw (c.loop-left.invariant.shape, done, c.loop-left.invariant.selects) record {
+    rw (c.loop-left.invariant.shape, done, c.loop-left.invariant.selects, c.loop-left.invariant.setups) record {
       few = c.self.invariant.few;
       are_widths = c.self.invariant.are_widths;
       sound = AreSound-moved before c.args.o.now ws rs c.self.invariant.are_widths (omega arith) c.self.invariant.sound;
       selects = AreSelects-moved before c.args.o.now c.self.inside.selects.masks ws rs c.self.invariant.sound.same_length c.self.invariant.selects;
+      places = c.self.invariant.places;
+      set_up = AreSetUp-moved before c.args.o.now ws rs c.self.inside.setups.items c.self.invariant.sound.same_length c.self.invariant.set_up;
     }
 
 pub loop-left-smaller-then-count : goal.loop-left-smaller-then-count
