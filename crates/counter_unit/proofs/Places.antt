@@ -12,7 +12,7 @@ use Rattle.papi_base.specs.declared.occurrence.Occ.{Occ}
 use Rattle.papi_base.specs.declared.native.Native.{Native}
 use Rattle.papi_base.specs.declared.bits.Domain.{Domain}
 use Rattle.counter_unit.specs.declared.registers.Register.{Register}
-use Rattle.counter_unit.specs.Counting.{IsThreshold, period, beginning, begun, begun_again, at_place, IsSound, AreSound, moved, carries, moved_place, all_moved, all_carries}
+use Rattle.counter_unit.specs.Counting.{IsThreshold, period, beginning, begun, begun_again, at_place, IsSound, AreSound, moved, carries, moved_place, all_moved}
 
 pub at_place-set_same : (rs : List (Option Register)) (c : ℕ) (x : Option Register) → c < length rs → at_place (set rs c x) c ≡ x
 at_place-set_same [] c x h = absurd (omega arith)

@@ -1,5 +1,5 @@
 -- The setup of each counter, as the registers change.
-use Rattle.std.proofs.Common.{◌≡◌, ℕ, zero, suc, ◌<◌, ◌≤◌, inl, inr, List, [], ◌∷◌, length, set, get_or, replicate, slice_get, refl, ap, sym, ◌∙◌, arith, Option, Some, None}
+use Rattle.std.proofs.Common.{◌≡◌, ℕ, zero, suc, ◌<◌, inl, inr, List, [], ◌∷◌, length, set, get_or, replicate, slice_get, refl, ap, sym, ◌∙◌, arith, Option, Some, None}
 use Rattle.std.specs.Option.{option_map}
 use Rattle.std.proofs.lemmas.Bool.{cases_eq}
 use Rattle.papi_base.specs.declared.occurrence.Occ.{Occ}

@@ -1,4 +1,4 @@
-use Rattle.std.proofs.Common.{◌≡◌, length}
+use Rattle.std.proofs.Common.{length}
 use Rattle.counter_unit.proofs.Places.{AreSound-empty}
 use Rattle.counter_unit.proofs.Setting.{AreSetUp-none}
 use Rattle.counter_unit.proofs.Tables.{AreSelects-none}

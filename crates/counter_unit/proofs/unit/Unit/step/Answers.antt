@@ -1,14 +1,13 @@
-use Rattle.std.proofs.Common.{◌≡◌, ℕ, ◌<◌, ◌^◌, length, get_or, slice_get, Some, true, false, List, Option, refl, ap, ap₂, sym, ◌∙◌, arith}
+use Rattle.std.proofs.Common.{◌≡◌, ℕ, get_or, slice_get, Some, List, refl, ap, sym, ◌∙◌, arith}
 use Rattle.std.specs.Option.{option_copied}
 use Rattle.std.specs.Int.{w32}
 use Rattle.std.proofs.lemmas.Nat.Bits.{bit_at_set_same, bit_at_set_other}
-use Rattle.counter_unit.specs.declared.registers.Register.{Register}
-use Rattle.counter_unit.specs.Counting.{After, IsSound, at_place, moved_place}
+use Rattle.counter_unit.specs.Counting.{After, at_place, moved_place}
 use Rattle.counter_unit.proofs.Places.{AreSound-moved}
 use Rattle.counter_unit.specs.declared.setups.Setups.{Setups}
 use Rattle.counter_unit.proofs.Setting.{AreSetUp-moved}
 use Rattle.counter_unit.proofs.Tables.{AreSelects-moved, bit_of}
-use Rattle.counter_unit.proofs.Steps.{Stepping, all_carried, all_done, begins, goes_on, lowest, lowest_is, others-lt}
+use Rattle.counter_unit.proofs.Steps.{all_carried, all_done, begins, goes_on, lowest, lowest_is, others-lt}
 use Rattle.counter_unit.proofs.unit.Unit.step.Goals as goal
 
 pub loop-left-init : goal.loop-left-init
