@@ -2,3 +2,4 @@ pub mod Ticks
 pub mod Estimates
 pub mod Grouping
 pub mod Parts
+pub mod Slices

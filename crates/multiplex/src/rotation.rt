@@ -1,15 +1,22 @@
 // The groups of a multiplexed set, and which of them runs.
-ghost use Rattle.std.specs.Prelude.{◌≡◌, ℕ, ◌+◌, ◌*◌, ◌<◌, ◌≤◌, ◌^◌, ◌∷◌, ◌++◌, [], All, length, slice_index, true};
+ghost use Rattle.std.specs.Prelude.{◌≡◌, ℕ, ◌+◌, ◌*◌, ◌/◌, ◌%◌, ◌<◌, ◌≤◌, ◌^◌, ◌∷◌, ◌++◌, [], All, length, slice_index, true};
 ghost use Rattle.counter_alloc.specs.Listing.{is_assignable};
 ghost use Rattle.counter_alloc.specs.Masks.{AreMasks, masks_of};
 ghost use Rattle.papi_base.specs.declared.native.Native.{Native};
 ghost use Rattle.multiplex.specs.Groups.{groups, group_count};
-ghost use Rattle.multiplex.specs.Rotations.{RotationView};
+ghost use Rattle.multiplex.specs.Rotations.{RotationView, IsSliceOf};
 ghost use Rattle.multiplex.specs.Turns.{group_at, active, estimate};
 
 use counter_alloc::Matching;
 use papi_base::{Natives, Places};
 use std::marker::Model;
+
+/// A slice of the time: its first tick, and the group that runs in it.
+#[derive(Clone, Copy)]
+struct Slice {
+    first: u64,
+    group: u32,
+}
 
 /// The groups of at most 32 native events, the length of a slice in ticks, and the time: PAPI_set_multiplex(3).
 ///
@@ -20,6 +27,7 @@ pub struct Rotation {
     groups: u32,
     slice: u32,
     time: u64,
+    kept: Slice,
 }
 
 impl Model for Rotation {
@@ -29,7 +37,27 @@ impl Model for Rotation {
 
     ghost view = { λ r. record { numbers = r.numbers; turns = record { slice = r.slice; count = r.groups; start = 0 }; time = r.time } };
 
-    ghost invariant = { λ r. IsTurning r.numbers r.groups r.slice };
+    ghost invariant = { λ r. IsTurning r.numbers r.groups r.slice r.kept.first r.kept.group };
+}
+
+/// The slice that a time is in, which may be the one that is kept.
+#[inline(always)]
+fn slice_of(kept: Slice, slice: u32, groups: u32, time: u64) -> Slice
+    requires some_slice { 0 < slice }
+    requires some_group { 0 < groups }
+    requires kept { IsSliceOf slice groups kept.first kept.group }
+    ensures slice { IsSliceOf slice groups result.first result.group }
+    ensures group { result.group ≡ time / slice % groups }
+{
+    let ticks = u64::from(slice);
+    if kept.first <= time && time - kept.first < ticks {
+        return kept;
+    }
+    let number = time / ticks;
+    Slice {
+        first: number * ticks,
+        group: (number % u64::from(groups)) as u32,
+    }
 }
 
 /// Adds a native event to the group's matching where it fits, and says whether it does.
@@ -85,6 +113,7 @@ impl Rotation {
             groups: u32::from(number) + 1,
             slice,
             time: 0,
+            kept: Slice { first: 0, group: 0 },
         }
     }
 
@@ -113,6 +142,18 @@ impl Rotation {
     {
         let number = time / u64::from(self.slice) % u64::from(self.groups);
         number as u32
+    }
+
+    /// The group that runs at a time, in ticks, as [`Rotation::group_at`] gives it. The slice of that time is kept, so that
+    /// nothing is divided at a later time in it.
+    #[inline(always)]
+    pub fn running_group(&mut self, time: u64) -> u32
+        ensures group { result ≡ group_at self.old.turns time }
+        ensures below { result < self.old.turns.count }
+        ensures same { self.new ≡ self.old }
+    {
+        self.kept = slice_of(self.kept, self.slice, self.groups, time);
+        self.kept.group
     }
 
     /// The group that runs now.
