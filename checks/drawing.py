@@ -35,6 +35,9 @@ CODES = ["0x40000000", "0x40000001", "0x80000032", "0x8000003b", "0x0", "0xfffff
 MODIFIERS = ["u", "k", "e", "i", "u=0", "k=1", "e=y", "i=n", "c=0", "c=1", "c=2", "c=255", "c=0xff", "c=256", "c=01", "c", "u=2", "u=", "=1", "x", ""]
 
 
+ODD_WORDS = ["", "-", "--", "-U", "-P", "-C", "-a", "-e", "-x", "--notes", "--workers", "--help", "-h", "--version", "-Uunit", "x" * 5000]
+
+
 @dataclass
 class Drawn:
     """A unit file, with the names and codes that stand in it."""
@@ -198,9 +201,8 @@ def stream(rng: Random, drawn: Drawn) -> str:
     lines, stamp = (["version 2"], rng.randrange(3)) if stamped else ([], 0)
     selects = drawn.selects or ["c0"]
     for _ in range(rng.choice([0, 1, 10, 60, 400])):
-        amount = rng.choice(["1", "1", "2", "7", "100", "254", "255"])
-        counter = f"{rng.randrange(1 << rng.choice([1, 24, 64])):x}"
-        fields = [rng.choice(["0", "0", "0", "1", "2", "15"]), rng.choice(selects), rng.choice(["00", "01", "02", "03", "ff"]), rng.choice("uuuk"), amount, counter]
+        matter = [rng.choice(["0", "0", "0", "1", "2", "15"]), rng.choice(selects), rng.choice(["00", "01", "02", "03", "ff"]), rng.choice("uuuk")]
+        fields = [*matter, rng.choice(["1", "1", "2", "7", "100", "254", "255"]), f"{rng.randrange(1 << rng.choice([1, 24, 64])):x}"]
         if stamped:
             fields.append(str(stamp))
             stamp += rng.choice([1, 1, 1, 2, 5, 100, 100_000_000])
@@ -309,7 +311,7 @@ def words_changed(rng: Random, words: list[str]) -> list[str]:
     elif change == 1:
         words.insert(place, rng.choice(words))
     elif change == 2:
-        words[place] = rng.choice(["", "-", "--", "-U", "-P", "-C", "-a", "-e", "-x", "--notes", "--workers", "--help", "-h", "--version", "-Uunit", "x" * 5000])
+        words[place] = rng.choice(ODD_WORDS)
     elif change == 3:
         words.insert(place, "--")
     elif change == 4:

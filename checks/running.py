@@ -9,13 +9,13 @@ import subprocess
 import sys
 from dataclasses import dataclass
 from pathlib import Path
-from typing import Callable
+from typing import Callable, Union
 
 ROOT = Path(__file__).resolve().parent.parent
 EXAMPLES = ROOT / "examples"
 PROGRAM = ROOT / "crates/papi/out/papi"
 SECONDS = 10
-Word = "str | bytes"
+Word = Union[str, bytes]
 
 # The tools, each with an example that reads all kinds of files that the tool reads.
 EXAMPLE_OF = {
@@ -44,10 +44,11 @@ class Run:
 
 @dataclass(frozen=True)
 class Example:
-    """An example of examples/: its words, and what it writes and ends with."""
+    """Words over the files of a folder, as those of examples/, and what the program writes and ends with."""
 
     words: tuple[str, ...]
     wanted: Run
+    folder: Path = EXAMPLES
 
     @classmethod
     def named(cls, name: str) -> Example:
