@@ -155,7 +155,8 @@ pub fn run_plan<R: Threads + Sync, S: Source + Send>(
     ensures replies { (at : Setting) (script : List Line) (streams : List Coming) → Tells at script streams book.now shape.now plan readers.old.items
         → IfOk result (λ run. run.lines.items ≡ reply_lines plan (world_told at script streams)) }
     ensures notes { (at : Setting) (script : List Line) (streams : List Coming) → Tells at script streams book.now shape.now plan readers.old.items
-        → OnOk result (EachAdded (map (λ b. notes b) handlers.old.items) (notes_by_thread (world_told at script streams)) (map (λ b. notes b) handlers.new.items)) }
+        → OnOk result (EachAdded (map (λ b. notes b) handlers.old.items) (notes_by_thread (world_told at script streams))
+        (map (λ b. notes b) handlers.new.items)) }
     ensures begun { (at : Setting) (script : List Line) (streams : List Coming) → Tells at script streams book.now shape.now plan readers.old.items
         → EachBegun (map (λ b. notes b) handlers.old.items) (notes_by_thread (world_told at script streams)) (map (λ b. notes b) handlers.new.items) }
 
