@@ -35,6 +35,7 @@ CODES = ["0x40000000", "0x40000001", "0x80000032", "0x8000003b", "0x0", "0xfffff
 MODIFIERS = ["u", "k", "e", "i", "u=0", "k=1", "e=y", "i=n", "c=0", "c=1", "c=2", "c=255", "c=0xff", "c=256", "c=01", "c", "u=2", "u=", "=1", "x", ""]
 
 
+ODD_FILES = ["absent", "folder", "unit/x", "/dev/null", "/dev/zero", "/proc/self/mem", ""]
 ODD_WORDS = ["", "-", "--", "-U", "-P", "-C", "-a", "-e", "-x", "--notes", "--workers", "--help", "-h", "--version", "-Uunit", "x" * 5000]
 
 
@@ -262,10 +263,15 @@ def with_bytes_changed(rng: Random, text: str) -> str:
     return text[:place] + rng.choice([added, ""]) + text[place + rng.choice([0, 1, 1, 2]) :]
 
 
+def file(rng: Random, name: str) -> str:
+    """The name of a file, or now and then of one that is no plain file."""
+    return rng.choice(ODD_FILES) if rarely(rng, 50) else name
+
+
 def words_of(rng: Random, tool: str, drawn: Drawn) -> list[str]:
     """The words of a call over the files `unit`, `presets`, `script` and `stream0` to `stream2`."""
-    options = [["-U", "unit"]]
-    table = [["-P", "presets"], ["-C", rng.choice(["lab1", "lab1", "lab2", "other", "none"])]]
+    options = [["-U", file(rng, "unit")]]
+    table = [["-P", file(rng, "presets")], ["-C", rng.choice(["lab1", "lab1", "lab2", "other", "none"])]]
     others: list[str] = []
     if tool in ("papi_decode", "papi_avail") or tool in ("papi_run", "papi_event_chooser") and rng.randrange(2):
         options += table
@@ -278,7 +284,7 @@ def words_of(rng: Random, tool: str, drawn: Drawn) -> list[str]:
         options += [["--noumasks"]] * rng.randrange(2)
     if tool == "papi_run":
         options += [["--notes"]] * rng.randrange(2) + [["--workers", rng.choice(["1", "2", "3", "64", "0", "65", "02"])]] * rarely(rng, 3)
-        others = ["script"] + [f"stream{index}" for index in range(rng.randint(0, 3))]
+        others = [file(rng, "script")] + [file(rng, f"stream{index}") for index in range(rng.randint(0, 3))]
         others += ["stream0"] * (rng.choice([60, 61, 62]) if rarely(rng, 20) else 0)
     elif tool == "papi_event_chooser":
         others = [rng.choice(["NATIVE", "PRESET"])] + [name(rng, drawn) for _ in range(rng.choice([1, 2, 3, 32, 33]))]
@@ -315,7 +321,7 @@ def words_changed(rng: Random, words: list[str]) -> list[str]:
     elif change == 3:
         words.insert(place, "--")
     elif change == 4:
-        words[place] = rng.choice(["absent", "folder", "unit/x", "/dev/null", "script", "unit", "presets", "stream0", *NUMBERS])
+        words[place] = rng.choice([*ODD_FILES, "script", "unit", "presets", "stream0", *NUMBERS])
     elif change == 5:
         words[place] = with_bytes_changed(rng, words[place])
     else:
