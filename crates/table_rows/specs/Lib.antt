@@ -1,4 +1,5 @@
 pub mod Texts
 pub mod Rows
+pub mod Reader
 pub use Rattle.csv.specs.Records
 pub use Rattle.papi_base.specs.Numerals

@@ -1,12 +1,10 @@
-use Rattle.std.proofs.Common.{◌≡◌, ◌<◌, ℕ, List, Some, map}
-use Rattle.csv.specs.Reading.{Reached, Ready, source_of, strip_bom}
+use Rattle.std.proofs.Common.{◌≡◌, ◌++◌, length, map}
 use Rattle.csv.specs.Records.{fields_of}
-use Rattle.csv.specs.declared.parser.State.TheVariants as st
-use Rattle.csv.specs.declared.reader.Trim.TheVariants as trim
-use Rattle.table_rows.specs.Rows.{table_config}
+use Rattle.table_rows.specs.Rows.{rows_of}
 use Rattle.table_rows.proofs.row.read_rows.Given as goal
 
-abbrev pub invariant-loop-row : goal.invariant-loop-row
-invariant-loop-row l = (l.row-iterator.rdr.trim ≡ trim.None) × Ready l.row-iterator.rdr × (0 < l.row-iterator.left) × (l.row-iterator.rdr.config ≡ table_config)
-    × (y : List ℕ) × (source_of (λ s. Some s.now) l.row-iterator.rdr ≡ Some y)
-    × Reached table_config st.StartRecord (strip_bom l.fn.bytes) (map fields_of l.rows.items) l.row-iterator.rdr.state y
+abbrev pub invariant-loop-rows : goal.invariant-loop-rows
+invariant-loop-rows l = map fields_of l.rows.items ++ l.reader ≡ rows_of l.fn.bytes
+
+abbrev pub decreases-loop-rows : goal.decreases-loop-rows
+decreases-loop-rows l = length l.reader

@@ -1,0 +1,13 @@
+// How much a unit file may have.
+
+/// The components of a unit.
+pub const MOST_COMPONENTS: usize = 16;
+
+/// The counters of a component.
+pub const MOST_COUNTERS: usize = 32;
+
+/// The events of a component.
+pub const MOST_EVENTS: usize = 1024;
+
+/// The umasks of an event.
+pub const MOST_UMASKS: usize = 16;
