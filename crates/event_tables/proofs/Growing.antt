@@ -1,13 +1,13 @@
 -- A list whose last item is changed in place.
-use Rattle.std.proofs.Common.{◌≡◌, ◌∙◌, ◌+◌, ◌-◌, ◌<◌, ◌∷◌, ℕ, zero, suc, List, [], Option, Some, None, Bor, map, length, get_or, refl, sym, ap, subst, arith}
+use Rattle.std.proofs.Common.{◌≡◌, ◌∙◌, ◌+◌, ◌-◌, ◌<◌, ◌∷◌, ℕ, zero, suc, List, [], Option, Some, None, Bool, true, false, Bor, map, length, get_or, refl, sym, ap, subst, arith}
 use Rattle.std.proofs.Math.ListN.{set}
 use Rattle.std.proofs.lemmas.List.{length-map}
 use Rattle.std.proofs.lemmas.Option.{slice_get-get_or, slice_get-map}
-use Rattle.std.specs.Prelude.{⊤}
-use Rattle.std.specs.List.{AllByRecursion}
+use Rattle.std.specs.Prelude.{⊤, if◌then◌else◌, nat_le}
+use Rattle.std.specs.List.{AllByRecursion, list_any}
 use Rattle.std.specs.Option.{option_map_or}
 use Rattle.table_rows.specs.Texts.{Text}
-use Rattle.event_tables.specs.Tables.{ComponentText, EventText}
+use Rattle.event_tables.specs.Tables.{ComponentText, EventText, same_name}
 use Rattle.event_tables.specs.Lines.{Line, skipped, bad, component, counter, event, umask, row_line}
 use Rattle.event_tables.specs.Unit.{cause_in, last_of, mask_cause}
 use Rattle.event_tables.specs.Steps.{CanGrow, grown, on_last, with_line}
@@ -17,6 +17,7 @@ use Rattle.event_tables.specs.declared.row.Row.{Row}
 use Rattle.event_tables.specs.declared.row.Row.TheVariants as row
 use Rattle.event_tables.specs.declared.fault.RowCause.{RowCause}
 use Rattle.event_tables.specs.declared.fault.RowCause.TheVariants as cause
+use Rattle.event_tables.specs.declared.limits.TheConstants.{MOST_EVENTS}
 
 pub on_last-set : {X Y : Type 0} (view : X → Y) (f : Y → Y) (xs : List X) (i : ℕ) (new d : X) → i + 1 ≡ length xs → view new ≡ f (view (get_or xs i d))
     → map view (set xs i new) ≡ on_last f (map view xs)
@@ -64,10 +65,16 @@ events-filled : (events : List EventText) (o : EventText → Option RowCause) �
 events-filled [] o e = cc e
 events-filled (x ∷ xs) o e = omega arith
 
+fresh : (a b : Bool) (o : Option RowCause) → (if a then Some cause.OverLimit else if b then Some cause.RepeatedName else o) ≡ None → b ≡ false
+fresh true b o e = cc e
+fresh false true o e = cc e
+fresh false false o e = refl
+
 pub inner-grows : (above : List ComponentText) (line : Line) (c : ComponentText) → IsInner line → last_of above ≡ Some c → cause_in above line ≡ None → CanGrow line c
 unfolding cause_in
 inner-grows above (counter n w f) c i l e = tt
-inner-grows above (event n s ns t) c i l e = tt
+inner-grows above (event n s ns t) c i l e =
+    fresh (nat_le MOST_EVENTS (length c.events)) (list_any (λ (x : EventText). same_name x.name n) c.events) _ (rw l at e)
 inner-grows above (umask m) c i l e = events-filled c.events (λ x. mask_cause x.masks m.name m.preset_choice) (rw l at e)
 inner-grows above skipped c i l e = tt
 inner-grows above bad c i l e = tt

@@ -2,7 +2,7 @@
 use Rattle.std.proofs.Common.{◌≡◌, ◌∙◌, ◌<◌, ◌≤◌, ◌^◌, ◌∷◌, ◌++◌, ℕ, List, [], Option, Some, None, Bool, true, false, length, refl, ap, arith, length-append}
 use Rattle.std.proofs.Math.Pow.{pow-lt}
 use Rattle.std.proofs.lemmas.Bool.{leb-false}
-use Rattle.std.specs.Prelude.{⊤, ◌&&◌, ◌||◌, IfSome, is_some, if◌then◌else◌, nat_le, unwrap_or}
+use Rattle.std.specs.Prelude.{◌&&◌, ◌||◌, IfSome, is_some, if◌then◌else◌, nat_le, unwrap_or}
 use Rattle.std.specs.List.{AllByRecursion, list_all, list_any}
 use Rattle.std.specs.Str.{bytes_eq}
 use Rattle.table_rows.specs.Texts.{Text, is_empty, is_name}
@@ -11,8 +11,9 @@ use Rattle.event_tables.specs.Tables.{ComponentText, CounterText, EventText, Mas
 use Rattle.event_tables.specs.Lines.{Line, skipped, bad, component, counter, event, umask}
 use Rattle.event_tables.specs.Unit.{bits_of, cause_in, component_cause, component_of, counter_cause, counter_place, counter_row, counters_in, event_cause, event_row, events_in, inner_mask_cause, is_modifier, last_of, mask_cause, modifier_words}
 use Rattle.event_tables.specs.Steps.{grown, on_last, with_counter, with_event, with_inner_mask, with_line, with_mask}
-use Rattle.event_tables.specs.Kept.{IsComponent, IsCounter, IsEvent, IsMask, IsTables, NoRepeats}
+use Rattle.event_tables.specs.Kept.{IsComponent, IsCounter, IsEvent, IsEventLine, IsLine, IsMask, IsTables, IsWidth, NoRepeats}
 use Rattle.event_tables.specs.declared.fault.RowCause.TheVariants as cause
+use Rattle.event_tables.specs.declared.limits.TheConstants.{MOST_COMPONENTS, MOST_COUNTERS, MOST_EVENTS, MOST_UMASKS}
 use Rattle.event_tables.proofs.Bits.{bits_of-lt, bits_of-some}
 use Rattle.event_tables.proofs.Growing.{last_of-later}
 
@@ -65,31 +66,13 @@ no_repeats-on_last same f (x ∷ []) e h = (tt, tt)
 no_repeats-on_last same f (x ∷ y ∷ rest) e h =
     (all-on_last (λ z. same x z ≡ false) f (y ∷ rest) h.0 (λ z l k. e x z ∙ k), no_repeats-on_last same f (y ∷ rest) e h.1)
 
--- ---- what a row by itself keeps
-
-abbrev pub IsWidth : ℕ → Type 0
-IsWidth w = (16 ≤ w) × (w ≤ 48)
-
-pub record IsEventLine (name : Text) (select : ℕ) (names : List Text) : Type 0 where
-  pub named : is_name name ≡ true
-  pub byte : select < 2 ^ 8
-  pub some : is_empty names ≡ false
-
-abbrev pub IsLine : Line → Type 0
-IsLine skipped = ⊤
-IsLine bad = ⊤
-IsLine (component name pmu) = (is_name name ≡ true) × (is_name pmu ≡ true)
-IsLine (counter name width fixed) = (is_name name ≡ true) × IfSome width IsWidth
-IsLine (event name select names text) = IsEventLine name select names
-IsLine (umask m) = (is_name m.name ≡ true) × (m.bits < 2 ^ 8)
-
 -- ---- a component
 
 component-kept : (above : List ComponentText) (name pmu : Text) → is_name name ≡ true → is_name pmu ≡ true → component_cause above name pmu ≡ None
     → IsTables above → IsTables (above ++ component_of name pmu [] ∷ [])
 unfolding counters_in events_in
 component-kept above name pmu n p e h =
-    let few = if-none (nat_le 16 (length above)) cause.OverLimit _ e in
+    let few = if-none (nat_le MOST_COMPONENTS (length above)) cause.OverLimit _ e in
     let fresh = if-none (list_any (λ (c : ComponentText). same_name c.name name || same_name c.pmu pmu) above) cause.RepeatedName None few.1 in
     let distinct = either-none (λ (c : ComponentText). same_name c.name name) (λ (c : ComponentText). same_name c.pmu pmu) above fresh.0 in
     let new : ComponentText = component_of name pmu [] in
@@ -103,7 +86,7 @@ component-kept above name pmu n p e h =
       events = tt;
       events_distinct = tt;
     } in
-    let low = leb-false 16 (length above) few.0 in
+    let low = leb-false MOST_COMPONENTS (length above) few.0 in
     record {
       few = omega (arith, length-append above (new ∷ []), low);
       each = all-append IsComponent above (new ∷ []) h.each (is, tt);
@@ -139,10 +122,10 @@ event-wider n m lt e h =
 counter-kept : (c : ComponentText) (name : Text) (width : Option ℕ) (fixed : Bool) → is_name name ≡ true → IfSome width IsWidth → counter_cause c.counters name width ≡ None
     → IsComponent c → IsComponent (with_counter (counter_row name width fixed) c)
 counter-kept c name width fixed n w e h =
-    let few = if-none (nat_le 32 (length c.counters)) cause.OverLimit _ e in
+    let few = if-none (nat_le MOST_COUNTERS (length c.counters)) cause.OverLimit _ e in
     let fresh = if-none (list_any (λ (k : CounterText). bytes_eq k.name name) c.counters) cause.RepeatedName _ few.1 in
     let range = wide width w (some-width width fresh.1) in
-    let low = leb-false 32 (length c.counters) few.0 in
+    let low = leb-false MOST_COUNTERS (length c.counters) few.0 in
     let more = length-append c.counters (counter_row name width fixed ∷ []) in
     record {
       named = h.named;
@@ -172,7 +155,7 @@ all-known false e = cc e
 event-kept : (c : ComponentText) (name : Text) (select : ℕ) (names : List Text) (text : Text) → IsEventLine name select names → event_cause c name names ≡ None
     → IsComponent c → IsComponent (with_event (event_row c.counters name select names text []) c)
 event-kept c name select names text i e h =
-    let few = if-none (nat_le 1024 (length c.events)) cause.OverLimit _ e in
+    let few = if-none (nat_le MOST_EVENTS (length c.events)) cause.OverLimit _ e in
     let fresh = if-none (list_any (λ (x : EventText). same_name x.name name) c.events) cause.RepeatedName _ few.1 in
     let known = all-known (list_all (λ n. is_some (counter_place c.counters n)) names) fresh.1 in
     let new : EventText = event_row c.counters name select names text [] in
@@ -186,7 +169,7 @@ event-kept c name select names text i e h =
       distinct = tt;
       one_default = tt;
     } in
-    let low = leb-false 1024 (length c.events) few.0 in
+    let low = leb-false MOST_EVENTS (length c.events) few.0 in
     record {
       named = h.named;
       pmu_named = h.pmu_named;
@@ -220,10 +203,10 @@ no-default m masks e = go m.preset_choice masks e
 mask-kept : (n : ℕ) (e : EventText) (m : MaskText) → is_name m.name ≡ true → m.bits < 2 ^ 8 → mask_cause e.masks m.name m.preset_choice ≡ None → IsEvent n e → IsEvent n (with_mask m e)
 mask-kept n e m named byte none h =
     let one = if-none (m.preset_choice && list_any (λ (o : MaskText). o.preset_choice) e.masks) cause.BadRow _ none in
-    let few = if-none (nat_le 16 (length e.masks)) cause.OverLimit _ one.1 in
+    let few = if-none (nat_le MOST_UMASKS (length e.masks)) cause.OverLimit _ one.1 in
     let fresh = if-none (is_modifier m.name || list_any (λ (o : MaskText). same_name o.name m.name) e.masks) cause.RepeatedName None few.1 in
     let names = either (is_modifier m.name) _ fresh.0 in
-    let low = leb-false 16 (length e.masks) few.0 in
+    let low = leb-false MOST_UMASKS (length e.masks) few.0 in
     record {
       named = h.named;
       byte = h.byte;

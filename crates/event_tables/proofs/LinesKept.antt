@@ -7,7 +7,7 @@ use Rattle.table_rows.proofs.Numerals.{both}
 use Rattle.table_rows.proofs.Ranges.{decimal_in-range, hex_in-range}
 use Rattle.event_tables.specs.Lines.{Line, skipped, bad, component, counter, event, umask, are_names, component_line, counter_line, event_line, flags_of, is_description, line_of, mask_of, umask_line, words_of}
 use Rattle.event_tables.specs.declared.row.Flags.{Flags}
-use Rattle.event_tables.proofs.Keeping.{IsLine, IsWidth}
+use Rattle.event_tables.specs.Kept.{IsLine, IsWidth}
 
 given : (b : Bool) (line : Line) → (b ≡ true → IsLine line) → IsLine (if b then line else bad)
 given true line h = h refl

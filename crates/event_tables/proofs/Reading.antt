@@ -1,17 +1,17 @@
 -- The rows that were read, and those that are left.
-use Rattle.std.proofs.Common.{◌≡◌, ◌∙◌, ◌+◌, ◌<◌, ◌≤◌, ℕ, List, [], Some, None, map, length, get_or, take, drop, refl, sym, ap, subst, arith}
+use Rattle.std.proofs.Common.{◌≡◌, ◌∙◌, ◌+◌, ◌<◌, ◌≤◌, ◌∷◌, ℕ, List, [], Some, None, map, length, get_or, take, drop, length-drop, refl, sym, ap, subst, arith}
 use Rattle.std.proofs.lemmas.List.{take_all, drop_more, take_more, drop_all, get_or-map, length-map, length-take-le}
 use Rattle.std.specs.Prelude.{Err}
-use Rattle.csv.specs.Records.{Row, fields_of}
+use Rattle.table_rows.specs.Texts.{Text}
 use Rattle.event_tables.specs.Tables.{ComponentText}
 use Rattle.event_tables.specs.Lines.{Line, line_of, skipped}
 use Rattle.event_tables.specs.Unit.{ReadsUnit, cause_in, components_in, fault_from, lines_of, unit_fault, unit_tables}
 use Rattle.event_tables.specs.Steps.{AddsRow, fault_at, with_line}
-use Rattle.event_tables.specs.Kept.{IsTables}
+use Rattle.event_tables.specs.Kept.{IsLine, IsTables}
 use Rattle.event_tables.specs.declared.fault.RowCause.{RowCause}
 use Rattle.event_tables.specs.declared.adding.Refusal.{Refusal}
 use Rattle.event_tables.specs.declared.adding.Refusal.TheVariants as refusal
-use Rattle.event_tables.proofs.Keeping.{IsLine, kept}
+use Rattle.event_tables.proofs.Keeping.{kept}
 use Rattle.event_tables.proofs.RowsMore.{components-more}
 
 fault-none : (lines : List Line) (i : ℕ) → i < length lines → cause_in (components_in (take i lines)) (get_or lines i skipped) ≡ None
@@ -33,10 +33,29 @@ fault-end lines i h = rw (drop_all i lines h) refl
 tables-more : (lines : List Line) (i : ℕ) → i < length lines → components_in (take (i + 1) lines) ≡ with_line (components_in (take i lines)) (get_or lines i skipped)
 tables-more lines i lt = rw (take_more lines i skipped lt) (components-more (take i lines) (get_or lines i skipped))
 
-pub line-at : (rows : List Row) (i : ℕ) (r : Row) → i < length rows → get_or (map line_of (map fields_of rows)) i skipped ≡ line_of (fields_of (get_or rows i r))
-line-at rows i r lt =
-    get_or-map line_of (map fields_of rows) i (fields_of r) skipped (omega (arith, length-map rows fields_of))
-    ∙ ap line_of (get_or-map fields_of rows i r (fields_of r) lt)
+-- the next row of those that are left
+pub record Next (rows : List (List Text)) (i : ℕ) (fields : List Text) (left : List (List Text)) : Type 0 where
+  pub inside : i < length (map line_of rows)
+  pub line : get_or (map line_of rows) i skipped ≡ line_of fields
+  pub rest : left ≡ drop (i + 1) rows
+
+pub next-row : (rows : List (List Text)) (i : ℕ) (fields : List Text) (left : List (List Text)) → drop i rows ≡ fields ∷ left → Next rows i fields left
+next-row rows i fields left e =
+    let count = ap length e in
+    let inside : i < length rows = omega (arith, count, length-drop i rows) in
+    let parts : get_or rows i fields ∷ drop (i + 1) rows ≡ fields ∷ left = sym (drop_more rows i fields inside) ∙ e in
+    let first : get_or rows i fields ≡ fields = cc parts in
+    record {
+      inside = omega (arith, inside, length-map rows line_of);
+      line = get_or-map line_of rows i fields skipped inside ∙ ap line_of first;
+      rest = cc parts;
+    }
+
+-- no row is left
+pub no-row : (rows : List (List Text)) (i : ℕ) → drop i rows ≡ [] → length (map line_of rows) ≤ i
+no-row rows i e =
+    let count = ap length e in
+    omega (arith, count, length-drop i rows, length-map rows line_of)
 
 -- what a loop over rows keeps, with the first i rows added
 pub record Added (lines : List Line) (i : ℕ) (read : List ComponentText) : Type 0 where

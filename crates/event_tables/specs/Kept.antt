@@ -1,10 +1,12 @@
 -- What the tables of a unit keep: the limits, the forms of names, and that no name is repeated.
-use Rattle.std.specs.Prelude.{⊤, ◌≡◌, ◌<◌, ◌≤◌, ◌^◌, ◌&&◌, ℕ, Bool, true, false, List, [], ◌∷◌, length}
+use Rattle.std.specs.Prelude.{⊤, ◌≡◌, ◌<◌, ◌≤◌, ◌^◌, ◌&&◌, ℕ, Bool, true, false, List, [], ◌∷◌, length, IfSome}
 use Rattle.std.specs.List.{AllByRecursion}
 use Rattle.std.specs.Str.{bytes_eq}
-use Rattle.table_rows.specs.Texts.{is_name}
+use Rattle.table_rows.specs.Texts.{Text, is_empty, is_name}
 use Rattle.event_tables.specs.Tables.{ComponentText, CounterText, EventText, MaskText, same_name}
+use Rattle.event_tables.specs.Lines.{Line, skipped, bad, component, counter, event, umask}
 use Rattle.event_tables.specs.Unit.{modifier_words}
+use Rattle.event_tables.specs.declared.limits.TheConstants.{MOST_COMPONENTS, MOST_COUNTERS, MOST_EVENTS, MOST_UMASKS}
 
 -- no item repeats an earlier one
 abbrev pub NoRepeats : {X : Type 0} → (X → X → Bool) → List X → Type 0
@@ -27,7 +29,7 @@ pub record IsEvent (counters : ℕ) (e : EventText) : Type 0 where
   pub byte : e.select < 2 ^ 8
   pub counted : 0 < e.allowed
   pub within : e.allowed < 2 ^ counters
-  pub few : length e.masks ≤ 16
+  pub few : length e.masks ≤ MOST_UMASKS
   pub each : AllByRecursion IsMask e.masks
   pub distinct : NoRepeats (λ (a b : MaskText). same_name a.name b.name) e.masks
   pub one_default : NoRepeats (λ (a b : MaskText). a.preset_choice && b.preset_choice) e.masks
@@ -35,15 +37,33 @@ pub record IsEvent (counters : ℕ) (e : EventText) : Type 0 where
 pub record IsComponent (c : ComponentText) : Type 0 where
   pub named : is_name c.name ≡ true
   pub pmu_named : is_name c.pmu ≡ true
-  pub few_counters : length c.counters ≤ 32
-  pub few_events : length c.events ≤ 1024
+  pub few_counters : length c.counters ≤ MOST_COUNTERS
+  pub few_events : length c.events ≤ MOST_EVENTS
   pub counters : AllByRecursion IsCounter c.counters
   pub counters_distinct : NoRepeats (λ (a b : CounterText). bytes_eq a.name b.name) c.counters
   pub events : AllByRecursion (IsEvent (length c.counters)) c.events
   pub events_distinct : NoRepeats (λ (a b : EventText). same_name a.name b.name) c.events
 
 pub record IsTables (tables : List ComponentText) : Type 0 where
-  pub few : length tables ≤ 16
+  pub few : length tables ≤ MOST_COMPONENTS
   pub each : AllByRecursion IsComponent tables
   pub names_distinct : NoRepeats (λ (a b : ComponentText). same_name a.name b.name) tables
   pub pmus_distinct : NoRepeats (λ (a b : ComponentText). same_name a.pmu b.pmu) tables
+
+-- ---- what a row by itself keeps
+
+abbrev pub IsWidth : ℕ → Type 0
+IsWidth w = (16 ≤ w) × (w ≤ 48)
+
+pub record IsEventLine (name : Text) (select : ℕ) (names : List Text) : Type 0 where
+  pub named : is_name name ≡ true
+  pub byte : select < 2 ^ 8
+  pub some : is_empty names ≡ false
+
+abbrev pub IsLine : Line → Type 0
+IsLine skipped = ⊤
+IsLine bad = ⊤
+IsLine (component name pmu) = (is_name name ≡ true) × (is_name pmu ≡ true)
+IsLine (counter name width fixed) = (is_name name ≡ true) × IfSome width IsWidth
+IsLine (event name select names text) = IsEventLine name select names
+IsLine (umask m) = (is_name m.name ≡ true) × (m.bits < 2 ^ 8)

@@ -4,5 +4,6 @@ pub mod Views
 pub mod Unit
 pub mod Steps
 pub mod Kept
+pub mod Index
 pub use Rattle.table_rows.specs.Rows
 pub use Rattle.table_rows.specs.Texts

@@ -1,7 +1,8 @@
 -- The tables of some rows and of one row more.
-use Rattle.std.specs.Prelude.{⊤, ◌≡◌, ◌+◌, ◌<◌, length, ℕ, List, [], ◌∷◌, ◌++◌, Some, None, Result, Ok, Err}
+use Rattle.std.specs.Prelude.{⊤, ◌≡◌, ◌+◌, ◌<◌, length, ℕ, false, List, [], ◌∷◌, ◌++◌, Some, None, Result, Ok, Err}
 use Rattle.event_tables.specs.Lines.{Line, skipped, bad, component, counter, event, umask}
-use Rattle.event_tables.specs.Tables.{ComponentText, CounterText, EventText, MaskText}
+use Rattle.std.specs.List.{list_any}
+use Rattle.event_tables.specs.Tables.{ComponentText, CounterText, EventText, MaskText, same_name}
 use Rattle.event_tables.specs.Unit.{cause_in, component_of, counter_row, event_row}
 use Rattle.event_tables.specs.declared.fault.TableFault.{TableFault}
 use Rattle.event_tables.specs.declared.fault.TableFault.TheVariants as fault
@@ -36,8 +37,9 @@ grown (counter name width fixed) c = with_counter (counter_row name width fixed)
 grown (event name select names text) c = with_event (event_row c.counters name select names text []) c
 grown (umask m) c = with_inner_mask m c
 
--- a umask has an event above it
+-- an event has a new name, and a umask has an event above it
 abbrev pub CanGrow : Line → ComponentText → Type 0
+CanGrow (event name select names text) c = list_any (λ e. same_name e.name name) c.events ≡ false
 CanGrow (umask m) c = 0 < length c.events
 CanGrow line c = ⊤
 

@@ -2,7 +2,7 @@
 use Rattle.std.specs.Prelude.{ℕ, Bool, List, map, Option, slice_get}
 use Rattle.std.specs.List.{position_from}
 use Rattle.std.specs.Option.{option_and_then}
-use Rattle.std.specs.Str.{str_eq_ignore_ascii_case}
+use Rattle.std.specs.Str.{bytes_eq, str_eq_ignore_ascii_case, str_to_ascii_lowercase}
 use Rattle.table_rows.specs.Texts.{Text}
 
 -- a umask of an event: its bits of the umask byte, whether it is the default one, and whether it cannot be combined
@@ -36,6 +36,13 @@ pub record ComponentText : Type 0 where
 -- names are equal, without regard to ASCII case
 abbrev pub same_name : Text → Text → Bool
 same_name a b = str_eq_ignore_ascii_case a b
+
+-- the row of the event whose name in lower case is this
+abbrev pub row_of_lower : List EventText → Text → Option ℕ
+row_of_lower events lower = position_from (λ e. bytes_eq (str_to_ascii_lowercase e.name) lower) 0 events
+
+abbrev pub event_of_lower : List ComponentText → ℕ → Text → Option ℕ
+event_of_lower tables comp lower = option_and_then (λ c. row_of_lower c.events lower) (slice_get tables comp)
 
 -- the event in a row of a component, and a counter of a component, where there are such
 abbrev pub event_at : List ComponentText → ℕ → ℕ → Option EventText

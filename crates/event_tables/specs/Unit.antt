@@ -14,6 +14,7 @@ use Rattle.event_tables.specs.declared.fault.RowCause.TheVariants as cause
 use Rattle.event_tables.specs.declared.fault.TableFault.{TableFault}
 use Rattle.event_tables.specs.declared.fault.TableFault.TheVariants as fault
 use Rattle.event_tables.specs.declared.tables.Tables.{Tables}
+use Rattle.event_tables.specs.declared.limits.TheConstants.{MOST_COMPONENTS, MOST_COUNTERS, MOST_EVENTS, MOST_UMASKS}
 
 -- ---- the tables of some rows: each row under the row to which it belongs
 
@@ -83,20 +84,20 @@ components_in (umask m ∷ rest) = components_in rest
 
 abbrev pub component_cause : List ComponentText → Text → Text → Option RowCause
 component_cause above name pmu =
-    if nat_le 16 (length above) then Some cause.OverLimit
+    if nat_le MOST_COMPONENTS (length above) then Some cause.OverLimit
     else if list_any (λ c. same_name c.name name || same_name c.pmu pmu) above then Some cause.RepeatedName
     else None
 
 abbrev pub counter_cause : List CounterText → Text → Option ℕ → Option RowCause
 counter_cause above name width =
-    if nat_le 32 (length above) then Some cause.OverLimit
+    if nat_le MOST_COUNTERS (length above) then Some cause.OverLimit
     else if list_any (λ k. bytes_eq k.name name) above then Some cause.RepeatedName
     else if is_some width then None
     else Some cause.BadWidth
 
 abbrev pub event_cause : ComponentText → Text → List Text → Option RowCause
 event_cause above name names =
-    if nat_le 1024 (length above.events) then Some cause.OverLimit
+    if nat_le MOST_EVENTS (length above.events) then Some cause.OverLimit
     else if list_any (λ e. same_name e.name name) above.events then Some cause.RepeatedName
     else if list_all (λ n. is_some (counter_place above.counters n)) names then None
     else Some cause.UnknownCounter
@@ -112,7 +113,7 @@ is_modifier name = list_any (λ w. same_name name w) modifier_words
 abbrev pub mask_cause : List MaskText → Text → Bool → Option RowCause
 mask_cause above name preset_choice =
     if preset_choice && list_any (λ o. o.preset_choice) above then Some cause.BadRow
-    else if nat_le 16 (length above) then Some cause.OverLimit
+    else if nat_le MOST_UMASKS (length above) then Some cause.OverLimit
     else if is_modifier name || list_any (λ o. same_name o.name name) above then Some cause.RepeatedName
     else None
 
@@ -149,7 +150,7 @@ unit_fault bytes = fault_from [] (lines_of bytes)
 unfoldable pub unit_tables : List ℕ → List ComponentText
 unit_tables bytes = components_in (lines_of bytes)
 
--- the tables where no row is faulty, or the first fault, or want of memory
+-- the tables where no row is faulty, or the first fault, or out of memory
 abbrev pub ReadsUnit : Result Tables TableFault → List ℕ → Type 0
 ReadsUnit (Ok tables) bytes = (unit_fault bytes ≡ None) × (tables ≡ unit_tables bytes)
 ReadsUnit (Err (fault.Row row cause)) bytes = unit_fault bytes ≡ Some (row, cause)

@@ -1,7 +1,15 @@
 // The tables, row by row.
 
-ghost use Rattle.std.specs.Prelude.{◌≡◌, ◌<◌, ◌≤◌, ◌-◌, ◌^◌, [], map, OnOk, IfOk, length, vec_len};
-ghost use Rattle.event_tables.specs.Kept.{IsTables};
+ghost use Rattle.std.specs.Prelude.{◌≡◌, ◌<◌, ◌≤◌, ◌-◌, ◌^◌, false, [], Some, map, OnOk, IfOk, length, string_bytes, vec_len};
+ghost use Rattle.std.specs.HashMap.{get_by_text};
+ghost use Rattle.std.specs.List.{AllByRecursion, list_any};
+ghost use Rattle.std.specs.Map.{update};
+ghost use Rattle.std.specs.Str.{bytes_eq, str_to_ascii_lowercase};
+ghost use Rattle.table_rows.specs.Texts.{Text};
+ghost use Rattle.event_tables.specs.Index.{AreKept, IsIndexed};
+ghost use Rattle.event_tables.specs.Kept.{IsLine};
+ghost use Rattle.event_tables.specs.Tables.{same_name};
+ghost use Rattle.event_tables.specs.declared.limits.TheConstants.{MOST_COUNTERS, MOST_EVENTS};
 ghost use Rattle.event_tables.specs.Lines as Lines;
 ghost use Rattle.event_tables.specs.Lines.{row_line, words_of};
 ghost use Rattle.event_tables.specs.Steps as Steps;
@@ -15,6 +23,7 @@ use crate::component::{Component, Counter, EventRow, UmaskRow};
 use crate::fault::{RowCause, TableFault};
 use crate::row::{Flags, Row};
 use std::alloc::{AllocError, AllocFailed, Global};
+use std::collections::HashMap;
 
 /// Why a row is not added.
 #[derive(Drop)]
@@ -55,7 +64,7 @@ pub fn fault_at(place: usize, refusal: Refusal) -> TableFault
 
 // A counter of this name as a bit, and 0 where there is none.
 fn counter_bit(counters: &[Counter], name: &[u8]) -> u32
-    requires { length counters.now ≤ 32 }
+    requires { length counters.now ≤ MOST_COUNTERS }
     ensures { result ≡ Unit.place_bit (Unit.counter_place (map counter_text counters.now) name.now) }
 {
     match counter_place(counters, name) {
@@ -66,7 +75,7 @@ fn counter_bit(counters: &[Counter], name: &[u8]) -> u32
 
 // The counters of these names, as bits.
 fn bits_of(counters: &[Counter], names: &[u8]) -> u32
-    requires { length counters.now ≤ 32 }
+    requires { length counters.now ≤ MOST_COUNTERS }
     ensures { result ≡ Unit.bits_of (map counter_text counters.now) (words_of names.now) }
 {
     names
@@ -84,7 +93,7 @@ fn event_of(
     names: &[u8],
     text: &str,
 ) -> Result<EventRow, AllocError>
-    requires { length counters.now ≤ 32 }
+    requires { length counters.now ≤ MOST_COUNTERS }
     ensures { IfOk result (λ e. event_text e ≡ Unit.event_row (map counter_text counters.now) name.now select (words_of names.now) text.now []) }
 {
     Ok(EventRow {
@@ -115,23 +124,49 @@ fn mask_of(
 }
 
 fn add_counter(component: &mut Component, counter: Counter) -> Result<(), AllocError>
-    ensures { OnOk result (component_text component.new ≡ Steps.with_counter (counter_text counter) (component_text component.old)) }
+    requires { IsIndexed component.old }
+    ensures counter { OnOk result (component_text component.new ≡ Steps.with_counter (counter_text counter) (component_text component.old)) }
+    ensures indexed { OnOk result (IsIndexed component.new) }
 {
     component.counters.push(counter)?;
     Ok(())
 }
 
-fn add_event(component: &mut Component, event: EventRow) -> Result<(), AllocError>
-    ensures { OnOk result (component_text component.new ≡ Steps.with_event (event_text event) (component_text component.old)) }
+// Notes the row of a new event under its name.
+fn note_row(
+    alloc: Global,
+    rows: &mut HashMap<String, u32>,
+    name: &str,
+    row: u32,
+) -> Result<(), AllocError>
+    ensures { OnOk result ((lower : Text) → get_by_text rows.new lower ≡ update bytes_eq (get_by_text rows.old) (str_to_ascii_lowercase name.now) (Some row) lower) }
 {
+    let mut lower = String::from_str(alloc, name)?;
+    lower.make_ascii_lowercase();
+    rows.insert(lower, row)?;
+    Ok(())
+}
+
+// An event whose name is new.
+fn add_event(alloc: Global, component: &mut Component, event: EventRow) -> Result<(), AllocError>
+    requires few { vec_len component.old.events ≤ MOST_EVENTS }
+    requires indexed { IsIndexed component.old }
+    requires fresh { list_any (λ e. same_name e.name (string_bytes event.name)) (map event_text component.old.events.items) ≡ false }
+    ensures event { OnOk result (component_text component.new ≡ Steps.with_event (event_text event) (component_text component.old)) }
+    ensures indexed { OnOk result (IsIndexed component.new) }
+{
+    let row = component.events.len() as u32;
+    note_row(alloc, &mut component.rows, event.name.as_str(), row)?;
     component.events.push(event)?;
     Ok(())
 }
 
 // A umask at the end of the last event.
 fn add_mask(component: &mut Component, mask: UmaskRow) -> Result<(), AllocError>
-    requires { 0 < vec_len component.old.events }
-    ensures { OnOk result (component_text component.new ≡ Steps.with_inner_mask (mask_text mask) (component_text component.old)) }
+    requires filled { 0 < vec_len component.old.events }
+    requires indexed { IsIndexed component.old }
+    ensures mask { OnOk result (component_text component.new ≡ Steps.with_inner_mask (mask_text mask) (component_text component.old)) }
+    ensures indexed { OnOk result (IsIndexed component.new) }
 {
     let last = component.events.len() - 1;
     component.events[last].masks.push(mask)?;
@@ -140,9 +175,12 @@ fn add_mask(component: &mut Component, mask: UmaskRow) -> Result<(), AllocError>
 
 // Adds a row of its own to a component.
 fn grow(alloc: Global, component: &mut Component, row: Row<'_>) -> Result<(), AllocError>
-    requires few { vec_len component.old.counters ≤ 32 }
+    requires few_counters { vec_len component.old.counters ≤ MOST_COUNTERS }
+    requires few_events { vec_len component.old.events ≤ MOST_EVENTS }
+    requires indexed { IsIndexed component.old }
     requires owned { CanGrow (row_line row) (component_text component.old) }
-    ensures { OnOk result (component_text component.new ≡ Steps.grown (row_line row.entry) (component_text component.old)) }
+    ensures grown { OnOk result (component_text component.new ≡ Steps.grown (row_line row.entry) (component_text component.old)) }
+    ensures indexed { OnOk result (IsIndexed component.new) }
 {
     match row {
         Row::Counter { name, width, fixed } => {
@@ -158,7 +196,7 @@ fn grow(alloc: Global, component: &mut Component, row: Row<'_>) -> Result<(), Al
         } => {
             let counters = component.counters.as_slice();
             let event = event_of(alloc, counters, name, select, names, text)?;
-            add_event(component, event)
+            add_event(alloc, component, event)
         }
         Row::Umask {
             name,
@@ -177,20 +215,24 @@ fn grow(alloc: Global, component: &mut Component, row: Row<'_>) -> Result<(), Al
 
 #[tactic(auto, unfolding(crate::specs::Unit::counters_in, crate::specs::Unit::events_in))]
 fn component_of(alloc: Global, name: &str, pmu: &str) -> Result<Component, AllocError>
-    ensures { IfOk result (λ c. component_text c ≡ Unit.component_of name.now pmu.now []) }
+    ensures component { IfOk result (λ c. component_text c ≡ Unit.component_of name.now pmu.now []) }
+    ensures indexed { IfOk result IsIndexed }
 {
     Ok(Component {
         name: String::from_str(alloc, name)?,
         pmu: String::from_str(alloc, pmu)?,
         counters: Vec::new(alloc),
         events: Vec::new(alloc),
+        rows: HashMap::new(alloc),
     })
 }
 
 /// Adds a row below the others.
 pub fn add_row(alloc: Global, components: &mut Vec<Component>, row: Row<'_>) -> Result<(), Refusal>
-    requires { IsTables (map component_text components.old.items) }
-    ensures { AddsRow (map component_text components.old.items) (row_line row.entry) (map component_text components.new.items) result }
+    requires kept { AreKept components.old.items }
+    requires line { IsLine (row_line row) }
+    ensures adds { AddsRow (map component_text components.old.items) (row_line row.entry) (map component_text components.new.items) result }
+    ensures indexed { OnOk result (AllByRecursion IsIndexed components.new.items) }
 {
     if let Some(cause) = cause_of(components.as_slice(), &row) {
         return Err(Refusal::Cause(cause));

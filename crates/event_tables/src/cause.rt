@@ -1,15 +1,20 @@
 // Why a row is refused, in view of the tables of the rows above it.
 
-ghost use Rattle.std.specs.Prelude.{◌≡◌, ◌||◌, map, is_some, string_bytes};
-ghost use Rattle.std.specs.List.{list_all, list_any};
+ghost use Rattle.std.specs.Prelude.{◌≡◌, ◌||◌, true, map, is_some, string_bytes};
+ghost use Rattle.std.specs.List.{AllByRecursion, list_all, list_any};
+ghost use Rattle.table_rows.specs.Texts.{is_name};
+ghost use Rattle.event_tables.specs.Index.{IsIndexed};
+ghost use Rattle.event_tables.specs.Kept.{IsLine};
 ghost use Rattle.event_tables.specs.Lines.{row_line, words_of, mask_of};
 ghost use Rattle.event_tables.specs.Tables as Tables;
 ghost use Rattle.event_tables.specs.Unit as Unit;
 ghost use Rattle.event_tables.specs.Views.{component_text, counter_text, event_text, mask_text};
 ghost use Rattle.std.specs.Str.{bytes_eq};
 
-use crate::component::{Component, Counter, EventRow, UmaskRow};
+use crate::component::{Component, Counter, UmaskRow};
 use crate::fault::RowCause;
+use crate::limits::{MOST_COMPONENTS, MOST_COUNTERS, MOST_EVENTS, MOST_UMASKS};
+use crate::lower_name::LowerName;
 use crate::row::{Flags, Row};
 
 fn same_name(a: &str, b: &str) -> bool
@@ -38,10 +43,13 @@ fn has_counter(above: &[Counter], name: &str) -> bool
     above.iter().any(|k| k.name.as_str() == name)
 }
 
-fn has_event(above: &[EventRow], name: &str) -> bool
-    ensures { result ≡ list_any (λ e. Tables.same_name e.name name.now) (map event_text above.now) }
+fn has_event(above: &Component, name: &str) -> bool
+    requires indexed { IsIndexed above.now }
+    requires named { is_name name.now ≡ true }
+    ensures { result ≡ list_any (λ e. Tables.same_name e.name name.now) (map event_text above.now.events.items) }
 {
-    above.iter().any(|e| same_name(e.name.as_str(), name))
+    let lower = LowerName::of_name(name);
+    above.rows.contains_key(lower.as_str())
 }
 
 fn has_mask(above: &[UmaskRow], name: &str) -> bool
@@ -80,7 +88,7 @@ fn knows_all(counters: &[Counter], names: &[u8]) -> bool
 fn component_cause(above: &[Component], name: &str, pmu: &str) -> Option<RowCause>
     ensures { result ≡ Unit.component_cause (map component_text above.now) name.now pmu.now }
 {
-    if above.len() >= 16 {
+    if above.len() >= MOST_COMPONENTS {
         return Some(RowCause::OverLimit);
     }
     if has_component(above, name, pmu) {
@@ -92,7 +100,7 @@ fn component_cause(above: &[Component], name: &str, pmu: &str) -> Option<RowCaus
 fn counter_cause(above: &[Counter], name: &str, width: Option<u8>) -> Option<RowCause>
     ensures { result ≡ Unit.counter_cause (map counter_text above.now) name.now width }
 {
-    if above.len() >= 32 {
+    if above.len() >= MOST_COUNTERS {
         return Some(RowCause::OverLimit);
     }
     if has_counter(above, name) {
@@ -105,12 +113,14 @@ fn counter_cause(above: &[Counter], name: &str, width: Option<u8>) -> Option<Row
 }
 
 fn event_cause(above: &Component, name: &str, counters: &[u8]) -> Option<RowCause>
+    requires indexed { IsIndexed above.now }
+    requires named { is_name name.now ≡ true }
     ensures { result ≡ Unit.event_cause (component_text above.now) name.now (words_of counters.now) }
 {
-    if above.events.len() >= 1024 {
+    if above.events.len() >= MOST_EVENTS {
         return Some(RowCause::OverLimit);
     }
-    if has_event(above.events.as_slice(), name) {
+    if has_event(above, name) {
         return Some(RowCause::RepeatedName);
     }
     if knows_all(above.counters.as_slice(), counters) {
@@ -126,7 +136,7 @@ fn mask_cause(above: &[UmaskRow], name: &str, preset_choice: bool) -> Option<Row
     if preset_choice && has_default(above) {
         return Some(RowCause::BadRow);
     }
-    if above.len() >= 16 {
+    if above.len() >= MOST_UMASKS {
         return Some(RowCause::OverLimit);
     }
     if is_modifier(name) || has_mask(above, name) {
@@ -147,6 +157,8 @@ fn inner_mask_cause(above: &Component, name: &str, preset_choice: bool) -> Optio
 /// The first cause of a row, and `None` where it has none.
 #[tactic(auto, unfolding(crate::specs::Unit::cause_in))]
 pub fn cause_of(above: &[Component], row: &Row<'_>) -> Option<RowCause>
+    requires indexed { AllByRecursion IsIndexed above.now }
+    requires line { IsLine (row_line row.now) }
     ensures { result ≡ Unit.cause_in (map component_text above.now) (row_line row.now) }
 {
     match row {

@@ -1,5 +1,7 @@
 // The rows of a unit's tables.
 
+use std::collections::HashMap;
+
 /// A counter: its name, its width from 16 to 48 bits, and whether it is a fixed one.
 #[derive(Debug, Drop)]
 pub struct Counter {
@@ -35,4 +37,6 @@ pub struct Component {
     pub pmu: String,
     pub counters: Vec<Counter>,
     pub events: Vec<EventRow>,
+    // The rows of the events by their names in lower case.
+    pub(crate) rows: HashMap<String, u32>,
 }

@@ -27,8 +27,8 @@ pub enum RowCause {
     UnknownCounter,
 }
 
-/// Why a unit file is refused: its first faulty row, numbered from 1, with the row's first cause, or want of memory.
-#[derive(Debug, Drop, Error)]
+/// Why a unit file is refused: its first faulty row, numbered from 1, with the row's first cause, or out of memory.
+#[derive(Debug, Drop, PartialEq, Eq, Error)]
 pub enum TableFault {
     #[error("row {row}: {cause}")]
     Row { row: u64, cause: RowCause },

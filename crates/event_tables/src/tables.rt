@@ -2,11 +2,14 @@
 
 ghost use Rattle.std.specs.Prelude.{◌≡◌, ◌≤◌, map, length, slice_get, option_map};
 ghost use Rattle.std.specs.List.{AllByRecursion};
+ghost use Rattle.event_tables.specs.Index.{AreKept};
 ghost use Rattle.event_tables.specs.Kept.{IsCounter, IsTables};
 ghost use Rattle.event_tables.specs.Tables as Texts;
+ghost use Rattle.event_tables.specs.declared.limits.TheConstants.{MOST_COUNTERS};
 ghost use Rattle.event_tables.specs.Views.{component_text, counter_text, event_text};
 
 use crate::component::{Component, Counter, EventRow};
+use crate::lower_name::LowerName;
 use papi_base::{CompShape, Shape};
 use std::marker::Model;
 
@@ -25,18 +28,18 @@ impl Model for Tables {
 
     ghost Value = { List ComponentText };
 
-    ghost use Rattle.event_tables.specs.Kept.{IsTables};
+    ghost use Rattle.event_tables.specs.Index.{AreKept};
     ghost use Rattle.event_tables.specs.Views.{component_text};
 
     ghost view = { λ t. map component_text t.components.items };
 
-    ghost invariant = { λ t. IsTables (map component_text t.components.items) };
+    ghost invariant = { λ t. AreKept t.components.items };
 }
 
 impl Tables {
     /// These components, which keep what tables keep.
     pub(crate) fn new(components: Vec<Component>) -> Tables
-        requires { IsTables (map component_text components.items) }
+        requires { AreKept components.items }
         ensures { result ≡ map component_text components.items }
     {
         Tables { components }
@@ -87,6 +90,16 @@ impl Tables {
         }
     }
 
+    /// The row of the event of this name in a component, and `None` where there is none.
+    pub fn find_event(&self, comp: u32, name: &LowerName) -> Option<u32>
+        ensures { result ≡ Texts.event_of_lower self.now comp name.now }
+    {
+        match self.components.as_slice().get(comp as usize) {
+            Some(c) => c.rows.get(name.as_str()).copied(),
+            None => None,
+        }
+    }
+
     /// The widths of each component's counters.
     pub fn shape(&self) -> Shape
         ensures { result ≡ Texts.shape_of self.now }
@@ -109,7 +122,7 @@ fn shape_of(components: &[Component]) -> Shape
 
 // The widths of these counters.
 fn comp_shape(counters: &[Counter]) -> CompShape
-    requires few { length counters.now ≤ 32 }
+    requires few { length counters.now ≤ MOST_COUNTERS }
     requires counters { AllByRecursion IsCounter (map counter_text counters.now) }
     ensures { result ≡ map (λ k. k.width) (map counter_text counters.now) }
 {

@@ -7,7 +7,7 @@ use crate::fault::TableFault;
 use crate::row::row_of;
 use crate::tables::Tables;
 use std::alloc::Global;
-use table_rows::read_rows;
+use table_rows::{ByteRecord, RowReader};
 
 /// The tables of a unit file, or its first faulty row with that row's first cause.
 ///
@@ -15,12 +15,14 @@ use table_rows::read_rows;
 pub fn read_unit(alloc: Global, bytes: &[u8]) -> Result<Tables, TableFault>
     ensures { ReadsUnit result bytes.now }
 {
-    let rows = read_rows(alloc, bytes)?;
+    let mut reader = RowReader::new(alloc, bytes);
+    let mut row = ByteRecord::new(alloc);
     let mut components = Vec::new(alloc);
-    for i in 0..rows.len() {
-        match add_row(alloc, &mut components, row_of(&rows[i])) {
-            Ok(()) => {}
-            Err(refusal) => return Err(fault_at(i, refusal)),
+    let mut place = 0;
+    while reader.read_row(&mut row)? {
+        match add_row(alloc, &mut components, row_of(&row)) {
+            Ok(()) => place += 1,
+            Err(refusal) => return Err(fault_at(place, refusal)),
         }
     }
     Ok(Tables::new(components))

@@ -3,6 +3,7 @@
 ghost use Rattle.std.specs.Prelude.{◌≡◌, ◌<◌, ◌≤◌, ◌==◌, map, length, option_map, codes, bytes_eq, Some, [], ◌∷◌};
 ghost use Rattle.std.specs.Str.{str_eq_ignore_ascii_case, str_to_ascii_lowercase};
 ghost use Rattle.event_tables.specs.Views.{mask_text};
+ghost use Rattle.event_tables.specs.declared.limits.TheConstants.{MOST_UMASKS};
 ghost use Rattle.name_encoder.specs.Judged as Judged;
 ghost use Rattle.name_encoder.specs.Judged.{meaning_text, modifier_text};
 ghost use Rattle.name_encoder.specs.Names as Names;
@@ -11,7 +12,7 @@ ghost use Rattle.name_encoder.specs.Views.{between_colons, text_of};
 
 use crate::fault::NameFault;
 use crate::parts::{cut_at, first_part};
-use event_tables::UmaskRow;
+use event_tables::{MOST_UMASKS, UmaskRow};
 use table_rows::{decimal_in, hex_in};
 
 /// A modifier: `u`, `k`, `e`, `i` or `c`.
@@ -37,7 +38,7 @@ pub enum Meaning {
 /// combined. A modifier has its value where it was named.
 #[derive(Clone, Copy)]
 pub struct Given {
-    pub named: [bool; 16],
+    pub named: [bool; MOST_UMASKS],
     pub some: bool,
     pub alone: bool,
     pub user: Option<u8>,
@@ -154,7 +155,7 @@ impl Given {
         ensures { result ≡ Judged.nothing }
     {
         Given {
-            named: [false; 16],
+            named: [false; MOST_UMASKS],
             some: false,
             alone: false,
             user: None,
@@ -209,7 +210,7 @@ impl Given {
         row: usize,
         value: Option<&[u8]>,
     ) -> Result<Given, NameFault>
-        requires few { length masks.now ≤ 16 }
+        requires few { length masks.now ≤ MOST_UMASKS }
         requires there { row < length masks.now }
         ensures { result ≡ Judged.mask_given (map mask_text masks.now) self row (text_of value.entry) }
     {
@@ -232,7 +233,7 @@ impl Given {
 
     // What is given with one attribute more, or that attribute's first fault.
     fn with(self, masks: &[UmaskRow], attribute: &[u8]) -> Result<Given, NameFault>
-        requires { length masks.now ≤ 16 }
+        requires { length masks.now ≤ MOST_UMASKS }
         ensures { result ≡ Judged.said_given (map mask_text masks.now) self (Names.said_of (map mask_text masks.now) (Split.attribute_of attribute.now)) }
     {
         let (name, value) = name_and_value(attribute);
@@ -257,7 +258,7 @@ fn name_and_value(attribute: &[u8]) -> (&[u8], Option<&[u8]>)
 
 /// What all attributes give, or the fault of the first that has one in view of those before it.
 pub fn given_by(masks: &[UmaskRow], attributes: Option<&[u8]>) -> Result<Given, NameFault>
-    requires { length masks.now ≤ 16 }
+    requires { length masks.now ≤ MOST_UMASKS }
     ensures { result ≡ Judged.all_given (map mask_text masks.now) Judged.nothing (Names.saids_of (map mask_text masks.now) (between_colons (text_of attributes.entry))) }
 {
     let mut given = Given::nothing();

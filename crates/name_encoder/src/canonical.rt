@@ -1,6 +1,6 @@
 // The canonical name of a native event.
 
-ghost use Rattle.std.specs.Prelude.{◌≡◌, ◌++◌, ◌∷◌, List, ℕ, IfOk, OnOk, Ok, map, string_bytes, if◌then◌else◌, []};
+ghost use Rattle.std.specs.Prelude.{◌≡◌, ◌++◌, ◌∷◌, List, ℕ, IfOk, OnOk, Ok, codes, decimal, map, nat_lt, string_bytes, if◌then◌else◌, []};
 ghost use Rattle.event_tables.specs.Kept.{IsTables};
 ghost use Rattle.event_tables.specs.Views.{event_text, mask_text};
 ghost use Rattle.name_encoder.specs.Canonical as Canonical;
@@ -42,17 +42,27 @@ fn push_masks(name: &mut String, bits: u16, masks: &[UmaskRow]) -> Result<(), Al
     Ok(())
 }
 
+// The counter mask, where it is not 0.
+fn push_cmask(alloc: Global, name: &mut String, cmask: u8) -> Result<(), AllocError>
+    ensures { OnOk result (string_bytes name.new ≡ string_bytes name.old ++ Canonical.text_if (nat_lt 0 cmask) (codes ":c=" ++ decimal cmask)) }
+{
+    if cmask > 0 {
+        let count = format!(in alloc; ":c={cmask}")?;
+        name.push_str(count.as_str())?;
+    }
+    Ok(())
+}
+
 // The modifiers that are set.
 #[tactic(auto, unfolding(crate::specs::Canonical::mods_text))]
 fn push_mods(alloc: Global, name: &mut String, mods: &Mods) -> Result<(), AllocError>
     ensures { OnOk result (string_bytes name.new ≡ string_bytes name.old ++ Canonical.mods_text mods.now) }
 {
-    let count = format!(in alloc; ":c={}", mods.cmask)?;
     push_if(name, mods.user, ":u")?;
     push_if(name, mods.kernel, ":k")?;
     push_if(name, mods.edge, ":e")?;
     push_if(name, mods.invert, ":i")?;
-    push_if(name, mods.cmask > 0, count.as_str())
+    push_cmask(alloc, name, mods.cmask)
 }
 
 fn event_name(alloc: Global, pmu: &str, event: &EventRow, n: &Native) -> Result<String, AllocError>

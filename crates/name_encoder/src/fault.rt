@@ -4,21 +4,28 @@ ghost use Rattle.std.specs.Prelude.{◌≡◌};
 ghost use Rattle.name_encoder.specs.Names as Names;
 
 use papi_base::Code;
+use thiserror::Error;
 
 /// Why a text names no native event, after the error codes of pfm_get_os_event_encoding(3).
-#[derive(Clone, Copy, Debug, PartialEq, Eq)]
+#[derive(Clone, Copy, Debug, PartialEq, Eq, Error)]
 pub enum NameFault {
     /// No component that agrees with the prefixes has the event.
+    #[error("no such event")]
     NotFound,
     /// The event has umasks, none is named and none is the default.
+    #[error("no umask given")]
     Umask,
     /// A umask that cannot be combined is combined.
+    #[error("umasks that cannot be combined")]
     FeatComb,
     /// An attribute is neither a umask nor a modifier.
+    #[error("no such attribute")]
     Attr,
     /// An attribute has a value that it cannot have, or lacks one.
+    #[error("bad attribute value")]
     AttrVal,
     /// An attribute is given twice.
+    #[error("attribute given twice")]
     AttrSet,
 }
 

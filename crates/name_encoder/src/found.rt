@@ -1,15 +1,15 @@
 // The event that a text names.
 
-ghost use Rattle.std.specs.Prelude.{◌≡◌, ◌≤◌, map, option_map, slice_get, vec_len};
+ghost use Rattle.std.specs.Prelude.{◌≡◌, option_map, slice_get};
 ghost use Rattle.std.specs.Option.{option_and_then};
+ghost use Rattle.std.specs.Str.{str_to_ascii_lowercase};
 ghost use Rattle.event_tables.specs.Kept.{IsTables};
-ghost use Rattle.event_tables.specs.Views.{component_text, event_text};
 ghost use Rattle.name_encoder.specs.Names as Names;
 ghost use Rattle.name_encoder.specs.Views.{found_text, parts_split, text_of};
 
 use crate::attribute::is_word;
 use crate::parts::Parts;
-use event_tables::{Component, EventRow, Tables};
+use event_tables::{Component, EventRow, LowerName, Tables};
 
 /// An event of a table, with its places.
 #[derive(Clone, Copy)]
@@ -29,46 +29,28 @@ fn agrees(prefix: Option<&[u8]>, name: &str) -> bool
     }
 }
 
-// The first event of this name in a component.
-fn event_in<'t>(comp: u32, component: &'t Component, name: &[u8]) -> Option<Found<'t>>
-    requires { vec_len component.now.events ≤ 1024 }
-    ensures { option_map found_text result ≡ Names.event_from comp (component_text component.now) name.now 0 (map event_text component.now.events.items) }
-{
-    for row in 0..component.events.len() {
-        let event = &component.events[row];
-        if is_word(event.name.as_bytes(), name) {
-            return Some(Found {
-                comp,
-                row: row as u32,
-                component,
-                event,
-            });
-        }
-    }
-    None
-}
-
-// The event in this component, where that agrees with the prefixes.
-fn found_in<'t>(comp: u32, component: &'t Component, parts: &Parts<'_>) -> Option<Found<'t>>
-    requires { vec_len component.now.events ≤ 1024 }
-    ensures { option_map found_text result ≡ Names.choice (parts_split parts.now) comp (component_text component.now) }
-{
-    if agrees(parts.comp, component.name.as_str()) && agrees(parts.pmu, component.pmu.as_str()) {
-        event_in(comp, component, parts.event)
-    } else {
-        None
-    }
-}
-
-// The event in the component in this place, where that is there and agrees with the prefixes.
-fn found_at<'t>(tables: &'t Tables, comp: u32, parts: &Parts<'_>) -> Option<Found<'t>>
-    requires { IsTables tables.now }
+// The event of this name in the component in this place, where that is there and agrees with the prefixes.
+fn found_at<'t>(
+    tables: &'t Tables,
+    comp: u32,
+    parts: &Parts<'_>,
+    name: &LowerName,
+) -> Option<Found<'t>>
+    requires { name.now ≡ str_to_ascii_lowercase parts.now.event.now }
     ensures { option_map found_text result ≡ option_and_then (Names.choice (parts_split parts.now) comp) (slice_get tables.now comp) }
 {
-    match tables.component(comp) {
-        Some(component) => found_in(comp, component, parts),
-        None => None,
+    let component = tables.component(comp)?;
+    if !agrees(parts.comp, component.name.as_str()) || !agrees(parts.pmu, component.pmu.as_str()) {
+        return None;
     }
+    let row = tables.find_event(comp, name)?;
+    let event = tables.event(comp, row)?;
+    Some(Found {
+        comp,
+        row,
+        component,
+        event,
+    })
 }
 
 /// The event in the first component that agrees with the prefixes and has it.
@@ -76,8 +58,10 @@ pub fn find<'t>(tables: &'t Tables, parts: &Parts<'_>) -> Option<Found<'t>>
     ensures found { option_map found_text result ≡ Names.found_from (parts_split parts.now) 0 tables.now }
     ensures kept { IsTables tables.now }
 {
-    for comp in 0..tables.components() {
-        if let Some(found) = found_at(tables, comp, parts) {
+    let components = tables.components();
+    let name = LowerName::of(parts.event)?;
+    for comp in 0..components {
+        if let Some(found) = found_at(tables, comp, parts, &name) {
             return Some(found);
         }
     }

@@ -2,6 +2,7 @@
 
 ghost use Rattle.std.specs.Prelude.{◌≡◌, ◌≤◌, ◌<◌, ◌^◌, List, Bool, map, not, take, length, option_map, vec_len, if◌then◌else◌, Some, None};
 ghost use Rattle.event_tables.specs.Views.{counter_text, event_text, mask_text};
+ghost use Rattle.event_tables.specs.declared.limits.TheConstants.{MOST_COUNTERS, MOST_UMASKS};
 ghost use Rattle.name_encoder.specs.Flags as Flags;
 ghost use Rattle.name_encoder.specs.Judged as Judged;
 ghost use Rattle.name_encoder.specs.Names as Names;
@@ -10,15 +11,15 @@ ghost use Rattle.name_encoder.specs.Views.{found_text};
 use crate::attribute::Given;
 use crate::fault::NameFault;
 use crate::found::Found;
-use event_tables::{Counter, UmaskRow};
+use event_tables::{Counter, MOST_UMASKS, UmaskRow};
 use papi_base::{Mods, Native};
 
 // The default umask's flag.
-fn default_flags(masks: &[UmaskRow]) -> [bool; 16]
-    requires { length masks.now ≤ 16 }
+fn default_flags(masks: &[UmaskRow]) -> [bool; MOST_UMASKS]
+    requires { length masks.now ≤ MOST_UMASKS }
     ensures { take (length masks.now) result ≡ Names.choices (map mask_text masks.now) }
 {
-    let mut flags = [false; 16];
+    let mut flags = [false; MOST_UMASKS];
     for i in 0..masks.len() {
         flags[i] = masks[i].preset_choice;
     }
@@ -32,8 +33,8 @@ fn has_true(flags: &[bool]) -> bool
 }
 
 // The umasks that are named, else the default one, and `None` where the event has umasks and there is neither.
-fn chosen(masks: &[UmaskRow], named: [bool; 16]) -> Option<[bool; 16]>
-    requires { length masks.now ≤ 16 }
+fn chosen(masks: &[UmaskRow], named: [bool; MOST_UMASKS]) -> Option<[bool; MOST_UMASKS]>
+    requires { length masks.now ≤ MOST_UMASKS }
     ensures { option_map (λ (flags : List Bool). take (length masks.now) flags) result ≡ Names.chosen (map mask_text masks.now) (take (length masks.now) named) }
 {
     if masks.is_empty() || has_true(&named[..masks.len()]) {
@@ -49,7 +50,7 @@ fn chosen(masks: &[UmaskRow], named: [bool; 16]) -> Option<[bool; 16]>
 
 // The flags as bits, the first as bit 0.
 fn mask_bits(flags: &[bool]) -> u16
-    requires { length flags.now ≤ 16 }
+    requires { length flags.now ≤ MOST_UMASKS }
     ensures { result ≡ Flags.bits_of flags.now }
 {
     let mut bits = 0;
@@ -83,7 +84,7 @@ fn umask_of(flags: &[bool], masks: &[UmaskRow]) -> u8
 
 // The programmable counters as bits.
 fn programmable(counters: &[Counter]) -> u32
-    requires { length counters.now ≤ 32 }
+    requires { length counters.now ≤ MOST_COUNTERS }
     ensures { result ≡ Names.programmable (map counter_text counters.now) }
 {
     let mut bits = 0;
@@ -115,7 +116,7 @@ fn mods_of(given: &Given) -> Mods
 
 // The counters that may count with these modifiers: no fixed one with `e`, `i` or `c`.
 fn allowed_with(mods: &Mods, counters: &[Counter], allowed: u32) -> u32
-    requires { length counters.now ≤ 32 }
+    requires { length counters.now ≤ MOST_COUNTERS }
     ensures { result ≡ Names.allowed_with mods.now (map counter_text counters.now) allowed }
 {
     if mods.edge || mods.invert || mods.cmask > 0 {
@@ -127,8 +128,8 @@ fn allowed_with(mods: &Mods, counters: &[Counter], allowed: u32) -> u32
 
 /// The native event of a found event and of what its attributes give.
 pub fn native_of(f: &Found<'_>, given: &Given) -> Result<Native, NameFault>
-    requires few_counters { vec_len f.now.component.now.counters ≤ 32 }
-    requires few_masks { vec_len f.now.event.now.masks ≤ 16 }
+    requires few_counters { vec_len f.now.component.now.counters ≤ MOST_COUNTERS }
+    requires few_masks { vec_len f.now.event.now.masks ≤ MOST_UMASKS }
     ensures { result ≡ Judged.native_given (found_text f.now) given.now }
 {
     let masks = f.event.masks.as_slice();

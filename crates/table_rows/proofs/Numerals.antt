@@ -26,7 +26,7 @@ ascii-all p [] h e i = omega arith
 ascii-all p (x ∷ xs) h e zero = h x (both _ _ e).0
 ascii-all p (x ∷ xs) h e (suc i) = ascii-all p xs h (both _ _ e).1 i
 
-name_byte-ascii : (b : ℕ) → is_name_byte b ≡ true → b < 128
+pub name_byte-ascii : (b : ℕ) → is_name_byte b ≡ true → b < 128
 name_byte-ascii b e = grind (arith, common_steps)
 
 printable_byte-ascii : (b : ℕ) → is_printable_byte b ≡ true → b < 128

@@ -5,7 +5,9 @@ use Rattle.event_tables.specs.Tables.{ComponentText, EventText, MaskText}
 use Rattle.event_tables.specs.Steps.{with_mask}
 use Rattle.event_tables.specs.Views.{counter_text, event_text, mask_text}
 use Rattle.event_tables.specs.declared.component.EventRow.{EventRow}
+use Rattle.std.specs.HashMap.{get_by_text}
 use Rattle.event_tables.proofs.Growing.{on_last-set}
+use Rattle.event_tables.proofs.Indexing.{indexed-masked}
 use Rattle.event_tables.proofs.adding.add_mask.Goals as goal
 
 pub returns : goal.returns
@@ -17,4 +19,7 @@ returns c =
     let masks = ap (map mask_text) c.in_ok-push.ensures.items ∙ map-append mask_text x.masks.items (c.args.mask ∷ []) in
     let here = ap (λ (ms : List MaskText). let r : EventText = record { name = string_bytes x.name; select = x.select; allowed = x.allowed; text = string_bytes x.text; masks = ms } in r) masks in
     let events = on_last-set event_text (with_mask m) old.events.items (c.len-last.result - 1) _ x at_last (here ∙ ap (λ (e : EventRow). with_mask m (event_text e)) c.index_mut.ensures.value) in
-    ap (λ (es : List EventText). let r : ComponentText = record { name = string_bytes old.name; pmu = string_bytes old.pmu; counters = map counter_text old.counters.items; events = es } in r) events
+    record {
+      mask = ap (λ (es : List EventText). let r : ComponentText = record { name = string_bytes old.name; pmu = string_bytes old.pmu; counters = map counter_text old.counters.items; events = es } in r) events;
+      indexed = record { rows = indexed-masked m (map event_text old.events.items) _ (get_by_text old.rows) events c.requires.indexed.rows };
+    }

@@ -1,13 +1,16 @@
-use Rattle.std.proofs.Common.{◌∙◌, rules, tests}
-use Rattle.std.specs.Prelude.{string_bytes}
-use Rattle.std.proofs.lemmas.Iterator.{YieldsList-from_slice}
-use Rattle.std.proofs.lemmas.Iterator.Search.{any_from_yields_List}
-use Rattle.event_tables.specs.Tables.{same_name}
+use Rattle.std.proofs.Common.{◌≡◌, ◌∙◌, map, ap}
+use Rattle.std.specs.Prelude.{is_some}
+use Rattle.std.specs.HashMap.{get_by_text}
+use Rattle.std.specs.Str.{str_to_ascii_lowercase}
+use Rattle.table_rows.specs.Texts.{Text}
+use Rattle.event_tables.specs.Tables.{EventText, same_name}
 use Rattle.event_tables.specs.Views.{event_text}
-use Rattle.event_tables.proofs.Searches.{list_any-map}
+use Rattle.event_tables.proofs.Indexing.{any-found}
 use Rattle.event_tables.proofs.cause.has_event.Goals as goal
 
 pub returns : goal.returns
 returns c =
-    any_from_yields_List (λ x. same_name (string_bytes x.name) c.args.name.now) _ _ _ c.any.ensures.ran (YieldsList-from_slice c.args.above.now cc) (λ x b q k. search (rules, tests))
-    ∙ list_any-map (λ e. same_name e.name c.args.name.now) event_text c.args.above.now
+    let lower : c.as_str.result.now ≡ str_to_ascii_lowercase c.args.name.now = c.as_str.ensures ∙ c.of_name-lower.ensures in
+    c.contains_key.ensures ∙ ap (λ (q : Text). is_some (get_by_text c.args.above.now.rows q)) lower
+    ∙ ap is_some (c.requires.indexed.rows (str_to_ascii_lowercase c.args.name.now))
+    ∙ any-found (λ (e : EventText). same_name e.name c.args.name.now) 0 (map event_text c.args.above.now.events.items)
