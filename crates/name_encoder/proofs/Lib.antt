@@ -3,6 +3,7 @@ pub mod Cuts
 pub mod Steps
 pub mod Judging
 pub mod Searching
+pub mod Unnamed
 pub mod Bits
 pub mod Splits
 pub mod Finds

@@ -1,31 +1,85 @@
--- An event is searched row by row, and component by component.
-use Rattle.std.proofs.Common.{◌≡◌, ◌∙◌, ◌+◌, ◌<◌, ◌≤◌, ◌∷◌, ℕ, List, [], Option, Some, None, true, false, length, get_or, map, drop, refl, ap, arith}
+-- An event is found by its row, and searched component by component.
+use Rattle.std.proofs.Common.{◌≡◌, ◌∙◌, ◌+◌, ◌<◌, ◌≤◌, ◌∷◌, ℕ, suc, List, [], Option, Some, None, Bool, true, false, length, get_or, drop, refl, sym, ap, subst, arith}
 use Rattle.std.proofs.lemmas.List.{drop_more, drop_all}
 use Rattle.std.proofs.lemmas.Option.{slice_get-get_or}
-use Rattle.std.specs.Prelude.{slice_get}
+use Rattle.std.specs.Prelude.{◌&&◌, if◌then◌else◌, option_map, slice_get}
+use Rattle.std.specs.List.{position_from}
 use Rattle.std.specs.Option.{option_and_then, option_or}
-use Rattle.std.specs.Str.{str_eq_ignore_ascii_case}
+use Rattle.std.specs.Str.{str_eq_ignore_ascii_case, str_to_ascii_lowercase}
 use Rattle.table_rows.specs.Texts.{Text}
-use Rattle.event_tables.specs.Tables.{ComponentText, EventText}
+use Rattle.event_tables.specs.Tables.{ComponentText, EventText, event_at, event_of_lower, row_of_lower}
 use Rattle.name_encoder.specs.Split.{Split}
-use Rattle.name_encoder.specs.Names.{Found, choice, event_from, found_from}
+use Rattle.name_encoder.specs.Names.{Found, agrees, choice, event_from, found_from}
 
-pub event-here : {X : Type 0} (view : X → EventText) (comp : ℕ) (c : ComponentText) (name : Text) (xs : List X) (row : ℕ) (d : X) → row < length xs
-    → str_eq_ignore_ascii_case (view (get_or xs row d)).name name ≡ true
-    → event_from comp c name row (map view (drop row xs)) ≡ Some (record { comp = comp; row = row; component = c; event = view (get_or xs row d) })
-unfolding event_from
-event-here view comp c name xs row d lt e = rw (drop_more xs row d lt, e) refl
+abbrev found : ℕ → ℕ → ComponentText → EventText → Found
+found comp row c e = record { comp = comp; row = row; component = c; event = e }
 
-pub event-later : {X : Type 0} (view : X → EventText) (comp : ℕ) (c : ComponentText) (name : Text) (xs : List X) (row : ℕ) (d : X) → row < length xs
-    → str_eq_ignore_ascii_case (view (get_or xs row d)).name name ≡ false
-    → event_from comp c name row (map view (drop row xs)) ≡ event_from comp c name (row + 1) (map view (drop (row + 1) xs))
-unfolding event_from
-event-later view comp c name xs row d lt e = rw (drop_more xs row d lt, e) refl
+-- ---- the event in the row that has its name
 
-pub event-never : {X : Type 0} (view : X → EventText) (comp : ℕ) (c : ComponentText) (name : Text) (xs : List X) (row : ℕ) → length xs ≤ row
-    → event_from comp c name row (map view (drop row xs)) ≡ None
+record At (comp row k : ℕ) (c : ComponentText) (es : List EventText) (o : Option Found) : Type 0 where
+  place : ℕ
+  row_is : row ≡ k + place
+  event : EventText
+  at : slice_get es place ≡ Some event
+  is : o ≡ Some (found comp row c event)
+
+event-at : (comp row k : ℕ) (c : ComponentText) (name : Text) (es : List EventText) → position_from (λ x. str_eq_ignore_ascii_case x.name name) k es ≡ Some row
+    → At comp row k c es (event_from comp c name k es)
 unfolding event_from
-event-never view comp c name xs row le = rw (drop_all row xs le) refl
+event-at comp row k c name [] e = cc e
+event-at comp row k c name (x ∷ es) e = go (str_eq_ignore_ascii_case x.name name) e (λ q. event-at comp row (k + 1) c name es q)
+  where
+    go : (b : Bool) → (if b then Some k else position_from (λ y. str_eq_ignore_ascii_case y.name name) (k + 1) es) ≡ Some row
+        → (position_from (λ y. str_eq_ignore_ascii_case y.name name) (k + 1) es ≡ Some row → At comp row (k + 1) c es (event_from comp c name (k + 1) es))
+        → At comp row k c (x ∷ es) (if b then Some (found comp k c x) else event_from comp c name (k + 1) es)
+    go true q more =
+        let same : k ≡ row = cc q in
+        record { place = 0; row_is = omega (arith, same); event = x; at = refl; is = ap (λ (n : ℕ). Some (found comp n c x)) same }
+    go false q more =
+        let m = more q in
+        record { place = suc m.place; row_is = omega (arith, m.row_is); event = m.event; at = m.at; is = m.is }
+
+event-none : (comp k : ℕ) (c : ComponentText) (name : Text) (es : List EventText) → position_from (λ x. str_eq_ignore_ascii_case x.name name) k es ≡ None → event_from comp c name k es ≡ None
+unfolding event_from
+event-none comp k c name [] e = refl
+event-none comp k c name (x ∷ es) e = go (str_eq_ignore_ascii_case x.name name) e (λ q. event-none comp (k + 1) c name es q)
+  where
+    go : (b : Bool) → (if b then Some k else position_from (λ y. str_eq_ignore_ascii_case y.name name) (k + 1) es) ≡ None
+        → (position_from (λ y. str_eq_ignore_ascii_case y.name name) (k + 1) es ≡ None → event_from comp c name (k + 1) es ≡ None)
+        → (if b then Some (found comp k c x) else event_from comp c name (k + 1) es) ≡ None
+    go true q more = cc q
+    go false q more = more q
+
+row-of : (tables : List ComponentText) (comp : ℕ) (c : ComponentText) (lower name : Text) (o : Option ℕ) → slice_get tables comp ≡ Some c → lower ≡ str_to_ascii_lowercase name
+    → o ≡ event_of_lower tables comp lower → position_from (λ x. str_eq_ignore_ascii_case x.name name) 0 c.events ≡ o
+row-of tables comp c lower name o at is e =
+    sym (e ∙ ap (option_and_then (λ (k : ComponentText). row_of_lower k.events lower)) at ∙ ap (row_of_lower c.events) is)
+
+-- ---- the component in a place
+
+meant : (a : Bool) (o : Option Found) → a ≡ true → (if a then o else None) ≡ o
+meant a o e = rw e refl
+
+pub place-lacks : (s : Split) (tables : List ComponentText) (comp : ℕ) (c : ComponentText) (lower : Text) → slice_get tables comp ≡ Some c
+    → (agrees s.comp c.name && agrees s.pmu c.pmu) ≡ true → lower ≡ str_to_ascii_lowercase s.event → None ≡ event_of_lower tables comp lower
+    → option_and_then (choice s comp) (slice_get tables comp) ≡ None
+place-lacks s tables comp c lower at agree is e =
+    ap (option_and_then (choice s comp)) at ∙ meant (agrees s.comp c.name && agrees s.pmu c.pmu) (event_from comp c s.event 0 c.events) agree
+    ∙ event-none comp 0 c s.event c.events (row-of tables comp c lower s.event None at is e)
+
+-- the row that was found has an event, which is the one that the component has
+pub place-has : (s : Split) (tables : List ComponentText) (comp row : ℕ) (c : ComponentText) (lower : Text) (o : Option EventText) → slice_get tables comp ≡ Some c
+    → (agrees s.comp c.name && agrees s.pmu c.pmu) ≡ true → lower ≡ str_to_ascii_lowercase s.event → Some row ≡ event_of_lower tables comp lower
+    → o ≡ event_at tables comp row → option_and_then (choice s comp) (slice_get tables comp) ≡ option_map (found comp row c) o
+place-has s tables comp row c lower o at agree is e ev =
+    let m = event-at comp row 0 c s.event c.events (row-of tables comp c lower s.event (Some row) at is e) in
+    let place : m.place ≡ row = omega (arith, m.row_is) in
+    let here : slice_get c.events row ≡ Some m.event = subst (λ (n : ℕ). slice_get c.events n ≡ Some m.event) place m.at in
+    let event : o ≡ Some m.event = ev ∙ ap (option_and_then (λ (k : ComponentText). slice_get k.events row)) at ∙ here in
+    ap (option_and_then (choice s comp)) at ∙ meant (agrees s.comp c.name && agrees s.pmu c.pmu) (event_from comp c s.event 0 c.events) agree
+    ∙ m.is ∙ sym (ap (option_map (found comp row c)) event)
+
+-- ---- component by component
 
 split-first : (s : Split) (tables : List ComponentText) (comp : ℕ) (d : ComponentText) → comp < length tables
     → found_from s comp (drop comp tables) ≡ option_or (choice s comp (get_or tables comp d)) (found_from s (comp + 1) (drop (comp + 1) tables))

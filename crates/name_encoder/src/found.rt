@@ -1,9 +1,10 @@
 // The event that a text names.
 
-ghost use Rattle.std.specs.Prelude.{◌≡◌, option_map, slice_get};
+ghost use Rattle.std.specs.Prelude.{◌≡◌, ◌&&◌, option_map, slice_get};
 ghost use Rattle.std.specs.Option.{option_and_then};
 ghost use Rattle.std.specs.Str.{str_to_ascii_lowercase};
 ghost use Rattle.event_tables.specs.Kept.{IsTables};
+ghost use Rattle.event_tables.specs.Views.{component_text};
 ghost use Rattle.name_encoder.specs.Names as Names;
 ghost use Rattle.name_encoder.specs.Views.{found_text, parts_split, text_of};
 
@@ -29,6 +30,13 @@ fn agrees(prefix: Option<&[u8]>, name: &str) -> bool
     }
 }
 
+// Whether a component agrees with the prefixes.
+fn is_meant(parts: &Parts<'_>, component: &Component) -> bool
+    ensures { result ≡ (Names.agrees (parts_split parts.now).comp (component_text component.now).name && Names.agrees (parts_split parts.now).pmu (component_text component.now).pmu) }
+{
+    agrees(parts.comp, component.name.as_str()) && agrees(parts.pmu, component.pmu.as_str())
+}
+
 // The event of this name in the component in this place, where that is there and agrees with the prefixes.
 fn found_at<'t>(
     tables: &'t Tables,
@@ -40,7 +48,7 @@ fn found_at<'t>(
     ensures { option_map found_text result ≡ option_and_then (Names.choice (parts_split parts.now) comp) (slice_get tables.now comp) }
 {
     let component = tables.component(comp)?;
-    if !agrees(parts.comp, component.name.as_str()) || !agrees(parts.pmu, component.pmu.as_str()) {
+    if !is_meant(parts, component) {
         return None;
     }
     let row = tables.find_event(comp, name)?;

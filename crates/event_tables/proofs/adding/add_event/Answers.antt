@@ -13,6 +13,6 @@ returns-clause-indexed c =
     let count : c.len-row.result ≡ length (map event_text old.events.items) = omega (arith, c.len-row.ensures, length-map old.events.items event_text) in
     record {
       rows = indexed-more (map event_text old.events.items) (map event_text c.push.new.self.items) (event_text c.args.event) c.len-row.result c.as_str.result.now
-      (get_by_text old.rows) (get_by_text c.note_row.new.rows) items count c.as_str.ensures.value
-      c.requires.indexed.rows c.requires.fresh c.in_ok-note_row.ensures;
+          (get_by_text old.rows) (get_by_text c.note_row.new.rows) items count c.as_str.ensures.value
+          c.requires.indexed.rows c.requires.fresh c.in_ok-note_row.ensures;
     }

@@ -1,6 +1,8 @@
-use Rattle.std.proofs.Common.{◌∙◌, sym, arith}
+use Rattle.std.proofs.Common.{◌≡◌, ◌∙◌, None, sym, ap, rules, arith}
+use Rattle.std.specs.Prelude.{option_map}
 use Rattle.name_encoder.specs.Views.{found_text, parts_split}
 use Rattle.name_encoder.proofs.Searching.{component-here, component-later, component-never}
+use Rattle.name_encoder.proofs.Unnamed.{given-none, unnamed}
 use Rattle.name_encoder.proofs.found.find.Goals as goal
 
 pub returns-in-Some-clause-found : goal.returns-in-Some-clause-found
@@ -11,3 +13,9 @@ loop-comp-preserved c = c.loop-comp.invariant ∙ component-later (parts_split c
 
 pub returns-clause-found : goal.returns-clause-found
 returns-clause-found c = sym (c.loop-comp.invariant ∙ component-never (parts_split c.args.parts.now) c.args.tables.now c.loop-comp.comp (omega arith))
+
+pub returns-in_err-name-clause-found : goal.returns-in_err-name-clause-found
+returns-in_err-name-clause-found c =
+    let none : c.from_residual.result ≡ None = search rules in
+    ap (option_map found_text) none
+    ∙ sym (unnamed (parts_split c.args.parts.now) 0 c.args.tables.now (given-none _ _ c.in_err-name.ensures) c.components-components.ensures.kept.each)
