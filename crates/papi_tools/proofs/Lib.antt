@@ -6,6 +6,7 @@ pub mod QuietLemmas
 pub mod RunLemmas
 pub mod SayingLemmas
 pub mod SettlingLemmas
+pub mod SoakLemmas
 pub mod StreamLemmas
 pub mod TellingLemmas
 pub mod WritingLemmas

@@ -8,6 +8,7 @@ pub mod ErrorLines
 pub mod Looking
 pub mod Marks
 pub mod NativeListing
+pub mod NoFiles
 pub mod Opening
 pub mod Outputs
 pub mod PresetFile
@@ -17,6 +18,7 @@ pub mod Running
 pub mod Saying
 pub mod ScriptFile
 pub mod Seen
+pub mod Soaking
 pub mod Status
 pub mod Steps
 pub mod Streams

@@ -5,7 +5,7 @@ use Rattle.overflow_dispatch.specs.declared.handler.Note.{Note}
 use Rattle.overflow_dispatch.specs.Notes.{EachAdded, EachBegun}
 use Rattle.tool_words.specs.Form.{form}
 use Rattle.tool_words.specs.declared.command.Command.{Command}
-use Rattle.tool_words.specs.declared.command.Command.TheVariants.{Run, Avail, NativeAvail, Decode, EventChooser, Encode}
+use Rattle.tool_words.specs.declared.command.Command.TheVariants.{Run, Avail, NativeAvail, Decode, EventChooser, Encode, Soak}
 use Rattle.papi_tools.specs.Answers.{AnswersBy}
 use Rattle.papi_tools.specs.Choosing.{chooser_verdict}
 use Rattle.papi_tools.specs.Decoding.{decode_verdict}
@@ -14,6 +14,7 @@ use Rattle.papi_tools.specs.ErrorLines.{line_of, outcome_of}
 use Rattle.papi_tools.specs.NativeListing.{native_avail_verdict}
 use Rattle.papi_tools.specs.PresetListing.{avail_verdict}
 use Rattle.papi_tools.specs.Run.{run_verdict}
+use Rattle.papi_tools.specs.Soaking.{soak_verdict}
 use Rattle.papi_tools.specs.Steps.{Verdict, quiet}
 use Rattle.papi_tools.specs.declared.refusal.Refusal.{Refusal}
 use Rattle.papi_tools.specs.declared.refusal.Refusal.TheVariants.{BadWords}
@@ -29,6 +30,7 @@ command_verdict held (NativeAvail words) = quiet (native_avail_verdict held word
 command_verdict held (Decode words) = quiet (decode_verdict held words)
 command_verdict held (EventChooser words) = quiet (chooser_verdict held words)
 command_verdict held (Encode words) = quiet (encode_verdict held words)
+command_verdict held (Soak words) = soak_verdict words
 
 -- what the words come to, where they are a command
 abbrev pub verdict_for : Held → Option Command → Result Verdict Refusal

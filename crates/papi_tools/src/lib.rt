@@ -7,6 +7,7 @@ pub mod encoding;
 pub mod limits;
 pub mod marks;
 pub mod native_listing;
+pub mod no_files;
 pub mod opening;
 pub mod output;
 pub mod preset_file;
@@ -18,6 +19,8 @@ pub mod said;
 pub mod saying;
 pub mod script_file;
 pub mod settling;
+pub mod soak_totals;
+pub mod soaking;
 pub mod status;
 pub mod streams;
 pub mod tables;
@@ -30,7 +33,7 @@ pub use output::Output;
 pub use refusal::{Refusal, Stop};
 pub use said::Said;
 pub use status::{Outcome, Status, status_number};
-pub use tool::{avail, decode, encode_tool, event_chooser, native_avail, run_tool};
+pub use tool::{avail, decode, encode_tool, event_chooser, native_avail, run_tool, soak};
 pub use top::papi_main;
 
 #[cfg(test)]
@@ -43,6 +46,8 @@ mod waiting_sources;
 mod worked_lists;
 #[cfg(test)]
 mod worked_scripts;
+#[cfg(test)]
+mod worked_soaks;
 #[cfg(test)]
 mod worked_threads;
 #[cfg(test)]

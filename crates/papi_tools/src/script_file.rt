@@ -2,10 +2,11 @@
 ghost use Rattle.std.specs.Prelude.{◌≡◌, IfSome};
 ghost use Rattle.std.specs.Option.{option_map};
 ghost use Rattle.papi_base.specs.Outside.{opened};
+ghost use Rattle.script_lines.specs.Scripts.{script_of};
 ghost use Rattle.papi_tools.specs.Answers.{Answers};
-ghost use Rattle.papi_tools.specs.Looking.{Looked};
-ghost use Rattle.papi_tools.specs.ScriptFile.{script_under};
-ghost use Rattle.papi_tools.specs.Seen.{files_seen};
+ghost use Rattle.papi_tools.specs.Looking.{Looked, StopsByFile};
+ghost use Rattle.papi_tools.specs.ScriptFile.{script_under, script_unless};
+ghost use Rattle.papi_tools.specs.Seen.{FilesSeen, files_seen};
 
 use crate::limits::SCRIPT_BYTES;
 use crate::opening::whole_file;
@@ -14,15 +15,12 @@ use papi_base::{Files, Text};
 use script_lines::{Script, ScriptFault, read_script};
 use std::alloc::Global;
 
-/// Reads a script whole, or says why not.
-#[tactic(auto, unfolding(crate::specs::ScriptFile::script_under))]
-pub fn read_script_file<F: Files>(alloc: Global, files: &mut F, name: &str) -> Result<Script, Stop>
-    ensures told { IfSome (F.held files.old) (λ held. Answers result (script_under held name.now)) }
-    ensures held { F.held files.new ≡ option_map opened (F.held files.old) }
-    ensures looked { Looked result 0 (files_seen F.held F.misses F.faults F.lent files.old) (files_seen F.held F.misses F.faults F.lent files.new) }
+/// The script of a file of this name and these bytes, or its first fault.
+pub fn script_in(alloc: Global, name: &str, bytes: &[u8]) -> Result<Script, Stop>
+    ensures told { Answers result (script_unless name.now (script_of bytes.now)) }
+    ensures cause { (before after : FilesSeen) → StopsByFile result before after }
 {
-    let bytes = whole_file(alloc, files, name, SCRIPT_BYTES)?;
-    let answer = read_script(alloc, bytes.as_slice());
+    let answer = read_script(alloc, bytes);
     match answer {
         Ok(script) => Ok(script),
         Err(ScriptFault::Line { line, cause }) => Err(Stop::Refused(Refusal::Line {
@@ -32,4 +30,15 @@ pub fn read_script_file<F: Files>(alloc: Global, files: &mut F, name: &str) -> R
         })),
         Err(ScriptFault::Memory) => Err(Stop::Memory),
     }
+}
+
+/// Reads a script whole, or says why not.
+#[tactic(auto, unfolding(crate::specs::ScriptFile::script_under))]
+pub fn read_script_file<F: Files>(alloc: Global, files: &mut F, name: &str) -> Result<Script, Stop>
+    ensures told { IfSome (F.held files.old) (λ held. Answers result (script_under held name.now)) }
+    ensures held { F.held files.new ≡ option_map opened (F.held files.old) }
+    ensures looked { Looked result 0 (files_seen F.held F.misses F.faults F.lent files.old) (files_seen F.held F.misses F.faults F.lent files.new) }
+{
+    let bytes = whole_file(alloc, files, name, SCRIPT_BYTES)?;
+    script_in(alloc, name, bytes.as_slice())
 }

@@ -41,8 +41,8 @@ fn open_into<F: Files>(
     Ok(())
 }
 
-// Readers of empty streams for the threads that have none.
-fn add_empty<S: Source>(readers: &mut Vec<StreamReader<S>>)
+/// Readers of empty streams for the threads that have none.
+pub fn add_empty<S: Source>(readers: &mut Vec<StreamReader<S>>)
     requires few { vec_len readers.old ≤ THREADS }
     requires room { THREADS ≤ vec_capacity readers.old }
     requires fresh { All IsFresh readers.old.items }

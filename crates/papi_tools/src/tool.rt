@@ -1,8 +1,10 @@
 //! The tools by themselves, each over the words after its name.
 ghost use Rattle.std.specs.Prelude.{◌≡◌, ◌∷◌, IfOk, codes, map, string_bytes, vec_len};
 ghost use Rattle.papi_tools.specs.Carried.{CarriesOut, TellsHandlers};
+ghost use Rattle.papi_tools.specs.NoFiles.{no_files};
 ghost use Rattle.papi_tools.specs.Seen.{files_seen, sink_seen};
 
+use crate::no_files::NoFiles;
 use crate::{Status, papi_main};
 use overflow_dispatch::{Handler, Recorder};
 use papi_base::{Files, Sink, THREADS};
@@ -153,4 +155,26 @@ pub fn encode_tool<R: Threads + Sync, F: Files, K: Sink>(
         (sink_seen K.taken K.faults out.old) (sink_seen K.taken K.faults out.new) (sink_seen K.taken K.faults err.old) (sink_seen K.taken K.faults err.new) }
 {
     quiet_tool(rt, alloc, "papi_encode", words, files, out, err)
+}
+
+/// `papi_soak` over the words after its name, as `papi_main` does it over no files.
+pub fn soak<R: Threads + Sync, K: Sink>(
+    rt: &R,
+    alloc: Global,
+    words: &[String],
+    out: &mut K,
+    err: &mut K,
+    handlers: &mut Vec<Box<dyn Handler + Send>>,
+) -> Status
+    requires handlers { vec_len handlers.old ≡ THREADS }
+    ensures len { vec_len handlers.new ≡ THREADS }
+    ensures carries_out { CarriesOut (codes "papi_soak" ∷ map string_bytes words.now) result no_files no_files
+        (sink_seen K.taken K.faults out.old) (sink_seen K.taken K.faults out.new) (sink_seen K.taken K.faults err.old) (sink_seen K.taken K.faults err.new) }
+    ensures tells { TellsHandlers (codes "papi_soak" ∷ map string_bytes words.now) result no_files.held
+        (map (λ b. notes b) handlers.old.items) (map (λ b. notes b) handlers.new.items) }
+{
+    match named(alloc, "papi_soak", words) {
+        Ok(all) => papi_main(rt, alloc, &all, &mut NoFiles, out, err, handlers),
+        Err(_) => Status::Memory,
+    }
 }

@@ -16,6 +16,7 @@ use crate::preset_listing::list_presets;
 use crate::run::run;
 use crate::saying::say;
 use crate::settling::{refused, settled};
+use crate::soaking::soak;
 use crate::{Refusal, Said, Status, Stop};
 use overflow_dispatch::Handler;
 use papi_base::{Files, Sink, THREADS};
@@ -49,6 +50,7 @@ fn carried_out<R: Threads + Sync, F: Files>(
         Command::Decode(words) => decode_presets(alloc, files, words),
         Command::EventChooser(words) => choose_events(alloc, files, words),
         Command::Encode(words) => encode_names(alloc, files, words),
+        Command::Soak(words) => soak(rt, alloc, words, handlers),
     }
 }
 

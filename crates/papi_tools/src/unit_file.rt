@@ -14,9 +14,9 @@ use event_tables::{TableFault, Tables, read_unit};
 use papi_base::{Files, Text};
 use std::alloc::Global;
 
-// The tables of a unit file of this name, or its first fault.
+/// The tables of a unit file of this name and these bytes, or its first fault.
 #[tactic(auto, unfolding(crate::specs::UnitFile::unit_of))]
-fn unit_in(alloc: Global, name: &str, bytes: &[u8]) -> Result<Tables, Stop>
+pub fn unit_in(alloc: Global, name: &str, bytes: &[u8]) -> Result<Tables, Stop>
     ensures told { Answers result (unit_of name.now bytes.now) }
     ensures cause { (before after : FilesSeen) → StopsByFile result before after }
 {

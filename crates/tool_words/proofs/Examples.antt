@@ -3,7 +3,7 @@ use Rattle.std.proofs.Common.{◌≡◌, ℕ, zero, suc, Bool, true, false, List
 use Rattle.clap.specs.Words.{Text}
 use Rattle.clap.proofs.OnLiterals.{clap_on_literals}
 use Rattle.tool_words.specs.declared.command.Command.{Command}
-use Rattle.tool_words.specs.declared.command.Command.TheVariants.{Avail, Decode, Encode, EventChooser, NativeAvail, Run}
+use Rattle.tool_words.specs.declared.command.Command.TheVariants.{Avail, Decode, Encode, EventChooser, NativeAvail, Run, Soak}
 use Rattle.tool_words.specs.declared.chooser.EventKind.{EventKind}
 use Rattle.tool_words.specs.declared.chooser.EventKind.TheVariants.{Native, Preset}
 use Rattle.tool_words.specs.AvailForm.{avail_rules, avail_words_in}
@@ -16,12 +16,13 @@ use Rattle.tool_words.specs.NativeAvailForm.{excluded_rule, included_rule, nativ
 use Rattle.tool_words.specs.Options.{available_rule, event_rule, unit_rule}
 use Rattle.tool_words.specs.Presets.{cpu_rule, is_cpu, needed_cpu_rule, needed_presets_rule, presets_rule}
 use Rattle.tool_words.specs.RunForm.{notes_rule, run_rules, run_words_in, script_rule}
+use Rattle.tool_words.specs.SoakForm.{rounds_rule, soak_rules, soak_words_in}
 use Rattle.tool_words.specs.Streams.{streams_rule}
 use Rattle.tool_words.specs.Words.{read_by}
 use Rattle.tool_words.specs.Workers.{workers_rule}
 
 unfoldable on_words : Unit {0}
-unfolding clap_on_literals read_by unit_rule presets_rule cpu_rule is_cpu run_words_in run_rules workers_rule notes_rule script_rule streams_rule encode_words_in encode_rules names_rule decode_words_in decode_rules needed_presets_rule needed_cpu_rule available_rule avail_words_in avail_rules event_rule native_avail_words_in native_avail_rules included_rule excluded_rule no_umasks_rule chooser_words_in chooser_rules kind_rule events_rule
+unfolding clap_on_literals read_by unit_rule presets_rule cpu_rule is_cpu run_words_in run_rules workers_rule notes_rule script_rule streams_rule encode_words_in encode_rules names_rule decode_words_in decode_rules needed_presets_rule needed_cpu_rule available_rule avail_words_in avail_rules event_rule native_avail_words_in native_avail_rules included_rule excluded_rule no_umasks_rule chooser_words_in chooser_rules kind_rule events_rule soak_words_in soak_rules rounds_rule
 on_words = tt
 
 abbrev lab_run : Text → List Text → Command
@@ -281,6 +282,31 @@ a_full_set = refl
 pub an_event_too_many : form (chooser_words_of (codes "NATIVE" ∷ streams 33)) ≡ None
 unfolding on_words
 an_event_too_many = refl
+
+-- ---- `papi_soak`
+
+abbrev soak_of : ℕ → ℕ → Option Command
+soak_of rounds workers = Some (Soak (record { rounds = rounds; workers = workers }))
+
+pub one_round : form (codes "papi_soak" ∷ codes "1" ∷ []) ≡ soak_of 1 1
+unfolding on_words
+one_round = refl
+
+pub most_rounds : form (codes "papi_soak" ∷ codes "1000" ∷ codes "--workers" ∷ codes "64" ∷ []) ≡ soak_of 1000 64
+unfolding on_words
+most_rounds = refl
+
+pub no_round : form (codes "papi_soak" ∷ codes "0" ∷ []) ≡ None
+unfolding on_words
+no_round = refl
+
+pub a_round_too_many : form (codes "papi_soak" ∷ codes "1001" ∷ []) ≡ None
+unfolding on_words
+a_round_too_many = refl
+
+pub two_numbers : form (codes "papi_soak" ∷ codes "1" ∷ codes "2" ∷ []) ≡ None
+unfolding on_words
+two_numbers = refl
 
 -- ---- no tool
 

@@ -6,6 +6,7 @@ use crate::decode::DecodeWords;
 use crate::encode::EncodeWords;
 use crate::native_avail::NativeAvailWords;
 use crate::run::RunWords;
+use crate::soak::SoakWords;
 
 /// A tool, with what its words ask for.
 #[derive(Drop)]
@@ -22,4 +23,6 @@ pub enum Command {
     EventChooser(ChooserWords),
     /// `papi_encode`: gives the codes of events.
     Encode(EncodeWords),
+    /// `papi_soak`: counts a large input that it makes.
+    Soak(SoakWords),
 }

@@ -52,6 +52,7 @@ pub fn read_words(alloc: Global, words: &[String]) -> Result<Command, WordsFault
         "papi_decode" => Ok(Command::Decode(read_tool(alloc, words)?)),
         "papi_event_chooser" => Ok(Command::EventChooser(read_tool(alloc, words)?)),
         "papi_encode" => Ok(Command::Encode(read_tool(alloc, words)?)),
+        "papi_soak" => Ok(Command::Soak(read_tool(alloc, words)?)),
         _ => Err(WordsFault::BadWords),
     }
 }

@@ -1,5 +1,6 @@
 use Rattle.papi_tools.proofs.QuietLemmas.{quiet_said, quiet_tells}
 use Rattle.papi_tools.proofs.SettlingLemmas.{textual_met}
+use Rattle.papi_tools.proofs.SoakLemmas.{whatever}
 use Rattle.papi_tools.proofs.TellingLemmas.{none_grown}
 use Rattle.papi_tools.proofs.top.carried_out.Goals as goal
 
@@ -62,3 +63,12 @@ returns-in-Encode-clause-grown g c = none_grown _
 
 pub returns-in-Encode-clause-met : goal.returns-in-Encode-clause-met
 returns-in-Encode-clause-met g c = textual_met c.encode_names.result _ _ c.encode_names.ensures.textual
+
+pub returns-in-Soak-clause-told : goal.returns-in-Soak-clause-told
+returns-in-Soak-clause-told g c = rw c.in-Soak.is (whatever _ c.soak.ensures.told)
+
+pub returns-in-Soak-clause-tells : goal.returns-in-Soak-clause-tells
+returns-in-Soak-clause-tells g c = rw c.in-Soak.is (whatever _ c.soak.ensures.tells)
+
+pub returns-in-Soak-clause-met : goal.returns-in-Soak-clause-met
+returns-in-Soak-clause-met g c = textual_met c.soak.result _ _ c.soak.ensures.textual

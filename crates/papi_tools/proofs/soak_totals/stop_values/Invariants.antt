@@ -1,0 +1,7 @@
+use Rattle.std.proofs.Common.{◌≡◌, drop}
+use Rattle.std.specs.Prelude.{find}
+use Rattle.papi_tools.specs.Soaking.{stops}
+use Rattle.papi_tools.proofs.soak_totals.stop_values.Given as goal
+
+abbrev pub invariant-loop-line : goal.invariant-loop-line
+invariant-loop-line l = find (stops l.thread) l.lines ≡ find (stops l.thread) (drop l.line-index l.lines)

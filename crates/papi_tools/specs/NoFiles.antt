@@ -1,0 +1,6 @@
+-- What is seen of no files.
+use Rattle.std.specs.Prelude.{◌-◌, ◌^◌, [], Some}
+use Rattle.papi_tools.specs.Seen.{FilesSeen}
+
+abbrev pub no_files : FilesSeen
+no_files = record { held = Some (record { tapes = []; refused = [] }); misses = 2 ^ 64 - 1; faults = 0; lent = 0 }
