@@ -5,6 +5,7 @@ from __future__ import annotations
 import argparse
 import os
 import re
+import signal
 import subprocess
 import sys
 from dataclasses import dataclass
@@ -15,6 +16,7 @@ ROOT = Path(__file__).resolve().parent.parent
 EXAMPLES = ROOT / "examples"
 PROGRAM = ROOT / "crates/papi/out/papi"
 SECONDS = 10
+PATIENCE = 30
 Word = Union[str, bytes]
 
 # The tools, each with an example that reads all kinds of files that the tool reads.
@@ -59,6 +61,27 @@ class Example:
         return cls(tuple(text("words").decode().splitlines()), Run(int(text("status") or 0), text("expected"), text("errors")))
 
 
+def held_up(process: int) -> bool:
+    """Whether a process has work to do, and has had less than its seconds of a processor, as on a machine with much other work."""
+    states, ticks = set(), 0
+    for file in Path(f"/proc/{process}/task").glob("*/stat"):
+        fields = file.read_text().rpartition(")")[2].split()
+        states.add(fields[0])
+        ticks += int(fields[11]) + int(fields[12])
+    return bool(states & {"R", "D"}) and ticks < SECONDS * os.sysconf("SC_CLK_TCK")
+
+
+def communicate(child: subprocess.Popen) -> tuple[bytes | None, bytes | None]:
+    """What a process writes up to its end. It has its seconds, and more of them while others hold it up."""
+    for _ in range(PATIENCE):
+        try:
+            return child.communicate(timeout=SECONDS)
+        except subprocess.TimeoutExpired:
+            if not held_up(child.pid):
+                break
+    raise subprocess.TimeoutExpired(child.args, SECONDS)
+
+
 class Program:
     """The built program."""
 
@@ -68,14 +91,15 @@ class Program:
     def run(self, words: list[Word], folder: Path = EXAMPLES, **how: object) -> Run:
         """A run in a folder. `how` goes to subprocess.Popen; what is written elsewhere than to a pipe of this process reads as empty."""
         how = {"stdin": subprocess.DEVNULL, "stdout": subprocess.PIPE, "stderr": subprocess.PIPE, **how}
-        child = subprocess.Popen([self.path, *words], cwd=folder, **how)
+        child = subprocess.Popen([self.path, *words], cwd=folder, start_new_session=True, **how)
+        ended_in_time = True
         try:
-            out, err = child.communicate(timeout=SECONDS)
+            out, err = communicate(child)
         except subprocess.TimeoutExpired:
-            child.kill()
+            ended_in_time = False
+            os.killpg(child.pid, signal.SIGKILL)
             out, err = child.communicate()
-            return Run(None, out or b"", err or b"")
-        return Run(child.returncode, out or b"", err or b"")
+        return Run(child.returncode if ended_in_time else None, out or b"", err or b"")
 
     def tools(self) -> list[str]:
         """The tools that the program has. Of each other one a line says that it is not there."""
