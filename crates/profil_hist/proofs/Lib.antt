@@ -1,0 +1,4 @@
+pub mod Keeping
+pub mod LinesKept
+pub mod RowsRead
+pub mod Searches

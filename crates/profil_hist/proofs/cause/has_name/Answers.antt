@@ -1,0 +1,13 @@
+use Rattle.std.proofs.Common.{◌∙◌, rules, tests}
+use Rattle.std.specs.Prelude.{string_bytes}
+use Rattle.std.proofs.lemmas.Iterator.{YieldsList-from_slice}
+use Rattle.std.proofs.lemmas.Iterator.Search.{any_from_yields_List}
+use Rattle.std.specs.Str.{bytes_eq}
+use Rattle.profil_hist.specs.Views.{range_text}
+use Rattle.profil_hist.proofs.Searches.{list_any-map}
+use Rattle.profil_hist.proofs.cause.has_name.Goals as goal
+
+pub returns : goal.returns
+returns c =
+    any_from_yields_List (λ x. bytes_eq (string_bytes x.name) c.args.name.now) _ _ _ c.any.ensures.ran (YieldsList-from_slice c.args.above.now cc) (λ x b q k. search (rules, tests))
+    ∙ list_any-map (λ k. bytes_eq k.name c.args.name.now) range_text c.args.above.now

@@ -1,0 +1,12 @@
+use Rattle.std.proofs.Common.{◌∙◌, rules, tests}
+use Rattle.std.proofs.lemmas.Iterator.{YieldsList-from_slice}
+use Rattle.std.proofs.lemmas.Iterator.Search.{any_from_yields_List}
+use Rattle.profil_hist.specs.Ranges.{overlaps}
+use Rattle.profil_hist.specs.Views.{range_text}
+use Rattle.profil_hist.proofs.Searches.{list_any-map}
+use Rattle.profil_hist.proofs.cause.has_overlap.Goals as goal
+
+pub returns : goal.returns
+returns c =
+    any_from_yields_List (λ x. overlaps (range_text x) (range_text c.args.range.now)) _ _ _ c.any.ensures.ran (YieldsList-from_slice c.args.above.now cc) (λ x b q k. search (rules, tests))
+    ∙ list_any-map (λ k. overlaps k (range_text c.args.range.now)) range_text c.args.above.now

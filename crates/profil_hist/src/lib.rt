@@ -1,0 +1,20 @@
+//! Histograms of program counters after PAPI_profil(3): maps of ranges, and how often each bucket was met.
+#![tactic(auto)]
+
+mod adding;
+mod cause;
+mod fault;
+mod limits;
+mod map;
+mod range;
+mod reading;
+mod row;
+
+pub use crate::fault::{MapCause, MapFault, cause_text};
+pub use crate::limits::{MOST_BUCKETS, MOST_RANGES, MOST_WIDTH};
+pub use crate::map::Map;
+pub use crate::range::MapRange;
+pub use crate::reading::read_map;
+
+#[cfg(test)]
+mod tests;

@@ -1,0 +1,108 @@
+// One row of a map, by itself.
+
+ghost use Rattle.std.specs.Prelude.{◌≡◌};
+ghost use Rattle.csv.specs.Records.{fields_of};
+ghost use Rattle.profil_hist.specs.Lines as Lines;
+ghost use Rattle.profil_hist.specs.Lines.{line_of, row_line};
+ghost use Rattle.table_rows.specs.Texts as Texts;
+ghost use Rattle.profil_hist.specs.declared.limits.TheConstants.{MOST_BUCKETS, MOST_WIDTH};
+
+use crate::limits::{MOST_BUCKETS, MOST_WIDTH};
+use table_rows::{ByteRecord, decimal_in, hex_in, is_skipped, name_text, text_at};
+
+/// A row by its kind.
+#[derive(Clone, Copy)]
+pub enum Row<'r> {
+    Skipped,
+    Bad,
+    Range {
+        name: &'r str,
+        start: u64,
+        width: u32,
+        buckets: u32,
+    },
+}
+
+// The address that `0x` and hexadecimal digits write.
+#[tactic(auto, unfolding(crate::specs::Lines::address_in))]
+fn address_in(text: &[u8]) -> Option<u64>
+    ensures { result ≡ Lines.address_in text.now }
+{
+    if text.starts_with(b"0x") {
+        hex_in(1, 16, &text[2..])
+    } else {
+        None
+    }
+}
+
+fn width_in(text: &[u8]) -> Option<u32>
+    ensures { result ≡ Texts.decimal_in 1 MOST_WIDTH text.now }
+{
+    match decimal_in(1, MOST_WIDTH as u64, text) {
+        Some(n) => Some(n as u32),
+        None => None,
+    }
+}
+
+fn buckets_in(text: &[u8]) -> Option<u32>
+    ensures { result ≡ Texts.decimal_in 1 MOST_BUCKETS text.now }
+{
+    match decimal_in(1, MOST_BUCKETS as u64, text) {
+        Some(n) => Some(n as u32),
+        None => None,
+    }
+}
+
+// Whether a range that starts here and has so many addresses, one or more, ends at 2^64 or below.
+fn fits(start: u64, width: u32, buckets: u32) -> bool
+    ensures { result ≡ Lines.fits start width buckets }
+{
+    let span = width as u64 * buckets as u64;
+    span == 0 || span - 1 <= u64::MAX - start
+}
+
+fn range_row<'r>(name: &'r [u8], start: &[u8], width: &[u8], buckets: &[u8]) -> Row<'r>
+    ensures { row_line result ≡ Lines.range_line name.now start.now width.now buckets.now }
+{
+    let Some(start) = address_in(start) else {
+        return Row::Bad;
+    };
+    let Some(width) = width_in(width) else {
+        return Row::Bad;
+    };
+    let Some(buckets) = buckets_in(buckets) else {
+        return Row::Bad;
+    };
+    if !fits(start, width, buckets) {
+        return Row::Bad;
+    }
+    match name_text(name) {
+        Some(name) => Row::Range {
+            name,
+            start,
+            width,
+            buckets,
+        },
+        None => Row::Bad,
+    }
+}
+
+/// What a record says, by itself.
+#[tactic(auto, unfolding(crate::specs::Lines::line_of))]
+pub fn row_of(row: &ByteRecord) -> Row<'_>
+    ensures { row_line result ≡ line_of (fields_of row.now) }
+{
+    let first = text_at(row, 0);
+    if is_skipped(first) {
+        return Row::Skipped;
+    }
+    if first == b"RANGE".as_slice() && row.len() == 5 {
+        return range_row(
+            text_at(row, 1),
+            text_at(row, 2),
+            text_at(row, 3),
+            text_at(row, 4),
+        );
+    }
+    Row::Bad
+}
