@@ -1,4 +1,8 @@
+pub mod Fresh
+pub mod InOrder
 pub mod Keeping
 pub mod LinesKept
+pub mod Noted
+pub mod Rows
 pub mod RowsRead
 pub mod Searches

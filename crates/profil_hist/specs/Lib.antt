@@ -3,5 +3,8 @@ pub mod Views
 pub mod Lines
 pub mod Maps
 pub mod Steps
+pub mod Counts
+pub mod Places
+pub mod Histograms
 pub use Rattle.table_rows.specs.Rows
 pub use Rattle.table_rows.specs.Texts

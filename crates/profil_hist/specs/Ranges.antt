@@ -19,6 +19,10 @@ end_of r = r.start + r.width * r.buckets
 abbrev pub in_range : RangeText → ℕ → Bool
 in_range r pc = nat_le r.start pc && nat_lt pc (end_of r)
 
+-- bucket i of a range, from 0
+abbrev pub in_bucket : RangeText → ℕ → ℕ → Bool
+in_bucket r i pc = nat_le (r.start + i * r.width) pc && nat_lt pc (r.start + (i + 1) * r.width)
+
 -- two ranges that are not empty have an address in common
 abbrev pub overlaps : RangeText → RangeText → Bool
 overlaps a b = nat_lt a.start (end_of b) && nat_lt b.start (end_of a)

@@ -3,14 +3,18 @@
 
 mod adding;
 mod cause;
+mod counts;
 mod fault;
+mod hist;
 mod limits;
 mod map;
+mod placing;
 mod range;
 mod reading;
 mod row;
 
 pub use crate::fault::{MapCause, MapFault, cause_text};
+pub use crate::hist::Hist;
 pub use crate::limits::{MOST_BUCKETS, MOST_RANGES, MOST_WIDTH};
 pub use crate::map::Map;
 pub use crate::range::MapRange;

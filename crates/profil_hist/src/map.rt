@@ -1,10 +1,15 @@
 // A map of program counters.
 
-ghost use Rattle.std.specs.Prelude.{◌≡◌, map, length, slice_get, option_map};
+ghost use Rattle.std.specs.Prelude.{◌≡◌, map, length, slice_get, option_map, IfOk};
+ghost use Rattle.profil_hist.specs.Counts.{counts_text, no_counts};
+ghost use Rattle.profil_hist.specs.Places.{IsOrder, IsPlaceOf};
 ghost use Rattle.profil_hist.specs.Ranges.{IsMap};
 ghost use Rattle.profil_hist.specs.Views.{range_text};
 
+use crate::counts::{RangeCounts, zeros_of};
+use crate::placing::{Place, Placed, order_of, place_in};
 use crate::range::MapRange;
+use std::alloc::{AllocError, Global};
 use std::marker::Model;
 
 /// Ranges of program counters, in the order of their file.
@@ -13,7 +18,7 @@ use std::marker::Model;
 /// not repeated, each range ends at 2^64 or below, and no address is in two ranges.
 #[derive(Debug, Drop)]
 pub struct Map {
-    pub(crate) ranges: Vec<MapRange>,
+    ranges: Vec<MapRange>,
 }
 
 impl Model for Map {
@@ -51,5 +56,28 @@ impl Map {
         ensures { option_map (λ r. range_text r.now) result ≡ slice_get self.now i }
     {
         self.ranges.as_slice().get(i as usize)
+    }
+
+    /// The ranges in the order of their addresses.
+    pub(crate) fn order(&self, alloc: Global) -> Result<Vec<Placed>, AllocError>
+        ensures { IfOk result (λ places. IsOrder self.now places.items) }
+    {
+        order_of(alloc, self.ranges.as_slice())
+    }
+
+    /// No range was met yet.
+    pub(crate) fn zeros(&self, alloc: Global) -> Result<Vec<RangeCounts>, AllocError>
+        ensures rows { IfOk result (λ rows. map counts_text rows.items ≡ no_counts self.now) }
+        ensures kept { IsMap self.now }
+    {
+        zeros_of(alloc, self.ranges.as_slice())
+    }
+
+    /// The range and the bucket that hold an address, and `None` where it is in no range.
+    pub(crate) fn place_of(&self, order: &[Placed], pc: u64) -> Option<Place>
+        requires { IsOrder self.now order.now }
+        ensures { IsPlaceOf self.now pc result }
+    {
+        place_in(self.ranges.as_slice(), order, pc)
     }
 }

@@ -1,7 +1,9 @@
-//! Maps, read with memory at hand.
+//! Maps and histograms, made with memory at hand.
 
-use crate::{MapCause, MapFault, cause_text, read_map};
+use crate::{Hist, MapCause, MapFault, cause_text, read_map};
 use std::alloc::Global;
+use std::fmt::Write;
+use std::test::Fail;
 
 // The row and the cause of a refused map, and `None` where it is taken or memory runs out.
 fn fault_of(alloc: Global, text: &str) -> Option<(u64, MapCause)> {
@@ -49,4 +51,62 @@ fn one_map_for_each_cause(rt: HostRuntime) {
     assert!(rt; fault_of(alloc, "RANGE,a,0x0,1,65535\nRANGE,b,0x10000,1,1\n").is_none());
     assert!(rt; fault_of(alloc, "RANGE,a,0x0,1,65535\nRANGE,a,0x0,1,2\n") == limit);
     assert!(rt; cause_text(MapCause::Overlap) == "ranges overlap");
+}
+
+// An empty histogram over a map, and `None` where the map is refused or memory runs out.
+fn hist_over(alloc: Global, text: &str) -> Option<Hist> {
+    match read_map(alloc, text.as_bytes()) {
+        Ok(map) => Hist::new(alloc, map).ok(),
+        Err(_) => None,
+    }
+}
+
+#[test]
+fn nothing_counted_yet(rt: HostRuntime) {
+    let map = "RANGE,top,0xfffffffffffffffe,1,2\nRANGE,init,0x0,4,1\n";
+    let hist = hist_over(rt.alloc(), map).expect(&rt, "a histogram");
+    assert!(rt; hist.map().ranges() == 2 && hist.total() == 0 && hist.outside() == 0);
+    assert!(rt; hist.bucket(0, 1) == Some(0) && hist.bucket(0, 2) == None);
+    assert!(rt; hist.bucket(2, 0) == None);
+    assert!(rt; hist.hits(1) == Some(0) && hist.hits(2) == None);
+}
+
+#[test]
+fn counts_of_buckets(rt: HostRuntime) {
+    let map = "RANGE,loop,0x4,2,2\nRANGE,top,0xffffffffffffffff,1,1\nRANGE,init,0x0,4,1\n";
+    match read_map(rt.alloc(), map.as_bytes()) {
+        Ok(map) => match Hist::new(rt.alloc(), map) {
+            Ok(hist) => {
+                let mut hist = hist;
+                hist.add(4);
+                hist.add(8);
+                hist.add(7);
+                hist.add(u64::MAX);
+                assert!(rt; hist.bucket(0, 0) == Some(1) && hist.bucket(0, 1) == Some(1));
+                assert!(rt; hist.bucket(1, 0) == Some(1) && hist.bucket(2, 0) == Some(0));
+                assert!(rt; hist.hits(0) == Some(2) && hist.hits(2) == Some(0));
+                assert!(rt; hist.outside() == 1 && hist.total() == 4);
+            }
+            Err(_) => assert!(rt; false),
+        },
+        Err(_) => assert!(rt; false),
+    }
+}
+
+// So many ranges of one bucket each, one after another.
+fn ranges_text(alloc: Global, count: u32) -> Result<String, Fail> {
+    let mut text = String::new(alloc);
+    for k in 0..count {
+        write!(text, "RANGE,r{k},{:#x},64,1\n", k as u64 * 64)?;
+    }
+    Ok(text)
+}
+
+#[test]
+fn one_range_too_many(rt: HostRuntime) -> Result<(), Fail> {
+    let most = ranges_text(rt.alloc(), 1024)?;
+    assert!(rt; read_map(rt.alloc(), most.as_bytes())?.ranges() == 1024);
+    let more = ranges_text(rt.alloc(), 1025)?;
+    assert!(rt; fault_of(rt.alloc(), more.as_str()) == Some((1025, MapCause::OverLimit)));
+    Ok(())
 }

@@ -1,0 +1,152 @@
+-- The search of the range of an address among the ranges in the order of their addresses.
+use Rattle.std.proofs.Common.{◌≡◌, ◌∙◌, ◌+◌, ◌-◌, ◌*◌, ◌/◌, ◌<◌, ◌≤◌, ◌∷◌, ℕ, zero, suc, List, [], Option, Some, None, Bool, true, false, length, get_or, refl, sym, ap, subst, arith, map, ◌++◌, eq-eqb}
+use Rattle.std.proofs.Math.Bool.{or-true}
+use Rattle.std.proofs.Math.Nat.{div-lt_iff_lt-mul, div-mul-le_self, lt-mul-div-succ, mul_comm, mul-le-mul}
+use Rattle.std.proofs.lemmas.Bool.{eqb-true, lt-ltb, ltb-false, ltb-true}
+use Rattle.std.proofs.lemmas.Option.{slice_get-get_or, slice_get-map, slice_get_within}
+use Rattle.std.specs.Prelude.{◌&&◌, ◌||◌, ◌==◌, nat_le, nat_lt, option_map, slice_get}
+use Rattle.std.proofs.lemmas.List.{length-map}
+use Rattle.std.proofs.lemmas.List.Elements.{All-push}
+use Rattle.std.proofs.lemmas.List.Folds.{list_any-append}
+use Rattle.std.proofs.lemmas.List.Sorted.{All-permutation, list_any-IsPermutation}
+use Rattle.std.specs.List.{list_any}
+use Rattle.std.specs.List.Sorted.{IsPartitionPoint, IsPermutation}
+use Rattle.profil_hist.specs.Views.{range_text}
+use Rattle.profil_hist.specs.declared.range.MapRange.{MapRange}
+use Rattle.profil_hist.specs.Places.{IsOrder, IsPlaced, IsRangeOf, Places}
+use Rattle.profil_hist.specs.Ranges.{IsMap, IsRange, RangeText, end_of, in_bucket, in_range, overlaps}
+use Rattle.profil_hist.specs.declared.placing.Placed.{Placed}
+use Rattle.profil_hist.proofs.Noted.{all-found, and-true, false-unless, inside, true-not-false, two-apart, within}
+
+-- ---- the bucket of an address
+
+pub bucket-found : (r : RangeText) (pc : ℕ) → 1 ≤ r.width → in_range r pc ≡ true
+    → (in_bucket r ((pc - r.start) / r.width) pc ≡ true) × ((pc - r.start) / r.width < r.buckets)
+bucket-found r pc wide e =
+    let h = inside r.start (end_of r) pc e in
+    let q : ℕ = (pc - r.start) / r.width in
+    let low = div-mul-le_self (pc - r.start) r.width in
+    let high = lt-mul-div-succ (pc - r.start) {b = r.width} (omega (arith, wide)) in
+    let turn : r.width * (q + 1) ≡ (q + 1) * r.width = mul_comm r.width (q + 1) in
+    let span : r.width * r.buckets ≡ r.buckets * r.width = mul_comm r.width r.buckets in
+    let few : pc - r.start < r.buckets * r.width = omega (arith, h.lower, h.upper, span) in (
+      within (r.start + q * r.width) (r.start + (q + 1) * r.width) pc (omega (arith, low, h.lower)) (omega (arith, high, turn, h.lower)),
+      (div-lt_iff_lt-mul {k = r.width} {x = pc - r.start} {y = r.buckets} (omega (arith, wide))).1 few,
+    )
+
+-- ---- the range of an address
+
+any-at : {X : Type 0} (p : X → Bool) (xs : List X) → list_any p xs ≡ true → (j : ℕ) × (j < length xs) × ((d : X) → p (get_or xs j d) ≡ true)
+any-at p [] e = cc e
+any-at {X = X} p (x ∷ xs) e = go (p x) refl e (any-at p xs)
+  where
+    go : (b : Bool) → p x ≡ b → (b || list_any p xs) ≡ true → (list_any p xs ≡ true → (j : ℕ) × (j < length xs) × ((d : X) → p (get_or xs j d) ≡ true))
+        → (j : ℕ) × (j < length (x ∷ xs)) × ((d : X) → p (get_or (x ∷ xs) j d) ≡ true)
+    go true t e rest = (zero, omega arith, λ d. t)
+    go false t e rest = let more = rest e in (suc more.0, omega (arith, more.1), more.2)
+
+pub none-of-all : (ranges : List RangeText) (pc : ℕ) → ((k : ℕ) (r : RangeText) → slice_get ranges k ≡ Some r → in_range r pc ≡ false) → list_any (λ (r : RangeText). in_range r pc) ranges ≡ false
+none-of-all [] pc h = refl
+none-of-all (x ∷ rest) pc h = rw (h zero x refl, none-of-all rest pc (λ k r e. h (suc k) r e)) refl
+
+start-of : (ranges : List RangeText) (p : Placed) (k : ℕ) (r : RangeText) → IsPlaced ranges p → p.range ≡ k → slice_get ranges k ≡ Some r → r.start ≡ p.start
+start-of ranges p k r is same at =
+    let there : slice_get ranges p.range ≡ Some r = ap (slice_get ranges) same ∙ at in
+    let both : Some r.start ≡ Some p.start = sym (ap (option_map (λ (x : RangeText). x.start)) there) ∙ is in
+    cc both
+
+-- the range that holds an address is among those that start at it or below it
+record Below (r : RangeText) (places : List Placed) (below : ℕ) : Type 0 where
+  place : ℕ
+  under : place < below
+  start : (d : Placed) → (get_or places place d).start ≡ r.start
+
+range-below : (ranges : List RangeText) (places : List Placed) (pc below : ℕ) (d : Placed) → IsOrder ranges places
+    → IsPartitionPoint (λ (p : Placed). p.start ≤ pc) (λ (p : Placed). pc < p.start) places below
+    → (k : ℕ) (r : RangeText) → slice_get ranges k ≡ Some r → in_range r pc ≡ true → Below r places below
+range-below ranges places pc below d order point k r at holds =
+    let found = any-at (λ (p : Placed). p.range == k) places (order.all.each k (slice_get_within ranges k r at)) in
+    let start : (e : Placed) → (get_or places found.0 e).start ≡ r.start =
+    λ e. sym (start-of ranges (get_or places found.0 e) k r (order.all.right found.0 e found.1) (eqb-true _ k (found.2 e)) at) in
+    let low = (inside r.start (end_of r) pc holds).lower in
+    go (nat_lt found.0 below) found.0 refl found.1 start low
+  where
+    go : (b : Bool) (j : ℕ) → b ≡ nat_lt j below → j < length places → ((e : Placed) → (get_or places j e).start ≡ r.start) → r.start ≤ pc → Below r places below
+    go true j t lt start low = record { place = j; under = ltb-true j below (sym t); start = start }
+    go false j t lt start low =
+        let past = ltb-false j below (sym t) in
+        let above = point.1 j d past lt in
+        absurd (omega (arith, above, start d, low))
+
+-- none holds it where none starts at it or below it
+pub none-below : (ranges : List RangeText) (places : List Placed) (pc : ℕ) (d : Placed) → IsOrder ranges places
+    → IsPartitionPoint (λ (p : Placed). p.start ≤ pc) (λ (p : Placed). pc < p.start) places 0 → list_any (λ (r : RangeText). in_range r pc) ranges ≡ false
+none-below ranges places pc d order point =
+    none-of-all ranges pc
+    (λ k r at. false-unless (in_range r pc) (λ h. let b = range-below ranges places pc 0 d order point k r at h in absurd (omega (arith, b.under))))
+
+-- and where the last of those does not
+pub none-last : (ranges : List RangeText) (places : List Placed) (pc below m : ℕ) (q : RangeText) (d : Placed) → IsMap ranges → IsOrder ranges places
+    → IsPartitionPoint (λ (p : Placed). p.start ≤ pc) (λ (p : Placed). pc < p.start) places below → below ≤ length places → 0 < below
+    → (get_or places (below - 1) d).range ≡ m → slice_get ranges m ≡ Some q → in_range q pc ≡ false
+    → list_any (λ (r : RangeText). in_range r pc) ranges ≡ false
+none-last ranges places pc below m q d kept order point bound some is at not_in =
+    let last : Placed = get_or places (below - 1) d in
+    let placed = order.all.right (below - 1) d (omega arith) in
+    let start : q.start ≡ last.start = start-of ranges last m q placed is at in
+    let low : last.start ≤ pc = point.0 (below - 1) d (omega arith) (omega arith) in
+    let range = all-found IsRange ranges m q kept.each at in
+    let wide : 1 * 1 ≤ q.width * q.buckets = mul-le-mul range.some_width range.some_buckets in
+    none-of-all ranges pc
+    (λ k r here. false-unless (in_range r pc)
+    (λ h.
+    let b = range-below ranges places pc below d order point k r here h in
+    let span = inside r.start (end_of r) pc h in
+    let rising = order.rising b.place (below - 1) d (omega (arith, b.under)) (omega arith) in
+    let first = b.start d in
+    let over = and-true _ _ (lt-ltb r.start (end_of q) (omega (arith, rising, first, start, wide))) (lt-ltb q.start (end_of r) (omega (arith, start, low, span.upper))) in
+    let back = and-true _ _ (lt-ltb q.start (end_of r) (omega (arith, start, low, span.upper))) (lt-ltb r.start (end_of q) (omega (arith, rising, first, start, wide))) in
+    let same = two-apart ranges k m r q kept.apart here at over back in
+    let one : Some r ≡ Some q = sym here ∙ ap (slice_get ranges) same ∙ at in
+    let equal : r ≡ q = cc one in
+    let held : in_range q pc ≡ true = subst (λ (x : RangeText). in_range x pc ≡ true) equal h in
+    true-not-false (in_range q pc) held not_in))
+
+-- ---- the ranges of the code
+
+pub at-range : (items : List MapRange) (i : ℕ) (x : MapRange) → x ≡ get_or items i x → i < length items → slice_get (map range_text items) i ≡ Some (range_text x)
+at-range items i x e lt = slice_get-map range_text items i ∙ ap (option_map range_text) (slice_get-get_or items i x lt ∙ ap (λ (y : MapRange). Some y) (sym e))
+
+mapped-within : {X : Type 0} (f : RangeText → X) (items : List MapRange) (i : ℕ) (v : X) → option_map f (slice_get (map range_text items) i) ≡ Some v → i < length items
+mapped-within f items i v e = go (slice_get (map range_text items) i) refl e
+  where
+    go : (o : Option RangeText) → slice_get (map range_text items) i ≡ o → option_map f o ≡ Some v → i < length items
+    go None at e = cc e
+    go (Some r) at e = let lt = slice_get_within (map range_text items) i r at in omega (arith, lt, length-map items range_text)
+
+pub placed-within : (items : List MapRange) (p : Placed) → IsPlaced (map range_text items) p → p.range < length items
+placed-within items p is = mapped-within (λ (r : RangeText). r.start) items p.range p.start is
+
+pub range-within : (items : List MapRange) (i pc : ℕ) → IsRangeOf (map range_text items) pc (Some i) → i < length items
+range-within items i pc is = mapped-within (λ (r : RangeText). in_range r pc) items i true is
+
+-- ---- the ranges in order
+
+pub places-more : (ranges : List RangeText) (n : ℕ) (places : List Placed) (new : Placed) → Places ranges n places → IsPlaced ranges new → new.range ≡ n → Places ranges (n + 1) (places ++ new ∷ [])
+places-more ranges n places new h is at = record { right = All-push (IsPlaced ranges) places new h.right is; each = λ k lt. one k (nat_lt k n) refl lt }
+  where
+    one : (k : ℕ) (b : Bool) → nat_lt k n ≡ b → k < n + 1 → list_any (λ (p : Placed). p.range == k) (places ++ new ∷ []) ≡ true
+    one k true t lt =
+        list_any-append (λ (p : Placed). p.range == k) places (new ∷ []) ∙ ap (λ (b : Bool). b || list_any (λ (p : Placed). p.range == k) (new ∷ [])) (h.each k (ltb-true k n t))
+    one k false t lt =
+        let low = ltb-false k n t in
+        let same : new.range ≡ k = omega (arith, at, low, lt) in
+        list_any-append (λ (p : Placed). p.range == k) places (new ∷ [])
+        ∙ ap (λ (b : Bool). list_any (λ (p : Placed). p.range == k) places || (b || false)) (eq-eqb new.range k same)
+        ∙ or-true (list_any (λ (p : Placed). p.range == k) places)
+
+pub places-moved : (ranges : List RangeText) (n : ℕ) (xs ys : List Placed) → IsPermutation xs ys → Places ranges n xs → Places ranges n ys
+places-moved ranges n xs ys moved h = record {
+  right = All-permutation (IsPlaced ranges) xs ys moved h.right;
+  each = λ k lt. sym (list_any-IsPermutation (λ (p : Placed). p.range == k) xs ys moved) ∙ h.each k lt;
+}

@@ -1,0 +1,53 @@
+-- The counts of ranges in memory.
+use Rattle.std.proofs.Common.{◌≡◌, ◌∙◌, ◌+◌, ◌<◌, ◌≤◌, ◌∷◌, ℕ, zero, suc, List, [], Option, Some, None, true, map, length, get_or, refl, sym, ap, arith}
+use Rattle.std.proofs.Math.ListN.{set}
+use Rattle.std.proofs.lemmas.Bool.{ltb-true}
+use Rattle.std.proofs.lemmas.List.{get_or-map, length-map}
+use Rattle.std.proofs.lemmas.List.Sums.{get_or-le-sum_by}
+use Rattle.std.proofs.lemmas.Option.{slice_get-get_or, slice_get-map, slice_get_within}
+use Rattle.std.specs.Prelude.{nat_lt, option_map, slice_get, sum_by}
+use Rattle.profil_hist.specs.Counts.{IsThere, RowText, counts_text, with_hit, with_note}
+use Rattle.profil_hist.specs.declared.counts.RangeCounts.{RangeCounts}
+use Rattle.profil_hist.specs.declared.placing.Place.{Place}
+use Rattle.profil_hist.proofs.Noted.{noted-rows}
+
+map-set : {X Y : Type 0} (f : X → Y) (xs : List X) (k : ℕ) (v : X) → map f (set xs k v) ≡ set (map f xs) k (f v)
+map-set f [] k v = refl
+map-set f (x ∷ xs) zero v = refl
+map-set f (x ∷ xs) (suc k) v = ap (λ ys. f x ∷ ys) (map-set f xs k v)
+
+pub record There (items : List RangeCounts) (p : Place) (x : RangeCounts) : Type 0 where
+  pub inside : p.range < length items
+  pub at : slice_get (map counts_text items) p.range ≡ Some (counts_text x)
+  pub below : p.bucket < length x.buckets.items
+
+pub there : (items : List RangeCounts) (p : Place) (x : RangeCounts) → x ≡ get_or items p.range x → IsThere p (map counts_text items) → There items p x
+there items p x e h = record { inside = inside; at = at; below = ltb-true p.bucket (length x.buckets.items) below }
+  where
+    go : (o : Option RowText) → slice_get (map counts_text items) p.range ≡ o → option_map (λ (row : RowText). nat_lt p.bucket (length row.buckets)) o ≡ Some true → p.range < length items
+    go None a b = cc b
+    go (Some row) a b = let lt = slice_get_within (map counts_text items) p.range row a in omega (arith, lt, length-map items counts_text)
+
+    inside : p.range < length items
+    inside = go (slice_get (map counts_text items) p.range) refl h
+
+    at : slice_get (map counts_text items) p.range ≡ Some (counts_text x)
+    at = slice_get-map counts_text items p.range ∙ ap (option_map counts_text) (slice_get-get_or items p.range x inside ∙ ap (λ (y : RangeCounts). Some y) (sym e))
+
+    some : Some (nat_lt p.bucket (length x.buckets.items)) ≡ Some true
+    some = sym (ap (option_map (λ (row : RowText). nat_lt p.bucket (length row.buckets))) at) ∙ h
+
+    below : nat_lt p.bucket (length x.buckets.items) ≡ true
+    below = cc some
+
+-- a row's number is no greater than the sum over all rows
+pub row-le-sum : (f : RowText → ℕ) (items : List RangeCounts) (i : ℕ) (x : RangeCounts) → x ≡ get_or items i x → i < length items → f (counts_text x) ≤ sum_by f (map counts_text items)
+row-le-sum f items i x e lt =
+    let most = get_or-le-sum_by f (map counts_text items) i (counts_text x) (omega (arith, lt, length-map items counts_text)) in
+    let same : f (get_or (map counts_text items) i (counts_text x)) ≡ f (counts_text x) = ap f (get_or-map counts_text items i x (counts_text x) lt ∙ sym (ap counts_text e)) in
+    omega (arith, most, same)
+
+pub noted-items : (items : List RangeCounts) (p : Place) (x new : RangeCounts) → There items p x → counts_text new ≡ with_hit p.bucket (counts_text x)
+    → map counts_text (set items p.range new) ≡ with_note p (map counts_text items)
+noted-items items p x new t e =
+    map-set counts_text items p.range new ∙ ap (set (map counts_text items) p.range) e ∙ sym (noted-rows (map counts_text items) p (counts_text x) t.at)

@@ -1,0 +1,16 @@
+use Rattle.std.proofs.Common.{◌≡◌, ◌∙◌, List, Option, ℕ, sym, ap}
+use Rattle.std.specs.Prelude.{is_some}
+use Rattle.profil_hist.specs.Counts.{RowText, bucket_in, rows_text}
+use Rattle.profil_hist.specs.Histograms.{HistText, bucket_at, has_bucket}
+use Rattle.profil_hist.proofs.Fresh.{bucket-there}
+use Rattle.profil_hist.proofs.hist.Hist.bucket.Goals as goal
+
+pub returns-clause-count : goal.returns-clause-count
+returns-clause-count c =
+    rw c.as_slice.ensures.value at c.bucket_in.ensures ∙ ap (λ (h : HistText). bucket_at h c.args.range c.args.i) c.self.view_is
+
+pub returns-clause-there : goal.returns-clause-there
+returns-clause-there c =
+    ap (λ (o : Option ℕ). is_some o) (rw c.as_slice.ensures.value at c.bucket_in.ensures)
+    ∙ bucket-there c.self.inside.map (rows_text c.self.inside.rows.items) c.args.range c.args.i c.self.invariant.0.shape
+    ∙ ap (λ (h : HistText). has_bucket h.map c.args.range c.args.i) c.self.view_is
