@@ -4,7 +4,7 @@ use Rattle.std.proofs.Math.Bool.{or-true}
 use Rattle.std.proofs.Math.Nat.{div-lt_iff_lt-mul, div-mul-le_self, lt-mul-div-succ, mul_comm, mul-le-mul}
 use Rattle.std.proofs.lemmas.Bool.{eqb-true, lt-ltb, ltb-false, ltb-true}
 use Rattle.std.proofs.lemmas.Option.{slice_get-get_or, slice_get-map, slice_get_within}
-use Rattle.std.specs.Prelude.{◌&&◌, ◌||◌, ◌==◌, nat_le, nat_lt, option_map, slice_get}
+use Rattle.std.specs.Prelude.{◌||◌, ◌==◌, nat_lt, option_map, slice_get}
 use Rattle.std.proofs.lemmas.List.{length-map}
 use Rattle.std.proofs.lemmas.List.Elements.{All-push}
 use Rattle.std.proofs.lemmas.List.Folds.{list_any-append}
@@ -14,7 +14,7 @@ use Rattle.std.specs.List.Sorted.{IsPartitionPoint, IsPermutation}
 use Rattle.profil_hist.specs.Views.{range_text}
 use Rattle.profil_hist.specs.declared.range.MapRange.{MapRange}
 use Rattle.profil_hist.specs.Places.{IsOrder, IsPlaced, IsRangeOf, Places}
-use Rattle.profil_hist.specs.Ranges.{IsMap, IsRange, RangeText, end_of, in_bucket, in_range, overlaps}
+use Rattle.profil_hist.specs.Ranges.{IsMap, IsRange, RangeText, end_of, in_bucket, in_range}
 use Rattle.profil_hist.specs.declared.placing.Placed.{Placed}
 use Rattle.profil_hist.proofs.Noted.{all-found, and-true, false-unless, inside, true-not-false, two-apart, within}
 

@@ -6,14 +6,14 @@ use Rattle.std.proofs.lemmas.Bool.{eqb-true, ltb-false, le-leb, leb-true, lt-ltb
 use Rattle.std.proofs.lemmas.List.Folds.{list_any_at}
 use Rattle.std.proofs.lemmas.List.Sums.{sum_by-append, sum_by-set}
 use Rattle.std.proofs.lemmas.Option.{get_or_from_slice_get, slice_get-map, slice_get_within}
-use Rattle.std.specs.Prelude.{◌&&◌, ◌||◌, ◌==◌, count_by, if◌then◌else◌, nat_le, nat_lt, not, option_map, slice_get, slice_index, sum, sum_by}
+use Rattle.std.specs.Prelude.{◌&&◌, ◌||◌, ◌==◌, count_by, if◌then◌else◌, nat_le, nat_lt, not, option_map, slice_get, sum, sum_by}
 use Rattle.std.specs.List.{AllByRecursion, list_any}
 use Rattle.std.specs.Option.{option_and_then, option_map_or}
 use Rattle.table_rows.proofs.Numerals.{both}
 use Rattle.profil_hist.specs.Counts.{IsThere, RowText, met, with_hit, with_note}
-use Rattle.profil_hist.specs.Histograms.{HistText, IsHist, IsHistogram, bucket_at, bucket_count, hits_at, outside_count, range_count}
+use Rattle.profil_hist.specs.Histograms.{HistText, IsHist, IsHistogram, bucket_count, range_count}
 use Rattle.profil_hist.specs.Places.{IsPlaceOf}
-use Rattle.profil_hist.specs.Ranges.{IsMap, IsRange, NoTwo, RangeText, end_of, in_bucket, in_range, overlaps}
+use Rattle.profil_hist.specs.Ranges.{NoTwo, RangeText, end_of, in_bucket, in_range, overlaps}
 use Rattle.profil_hist.specs.declared.placing.Place.{Place}
 
 -- ---- tests and numbers

@@ -1,4 +1,4 @@
-use Rattle.std.proofs.Common.{◌≡◌, ◌+◌, ◌<◌, ◌^◌, ◌∷◌, ◌++◌, [], List, sym, ap, subst, arith}
+use Rattle.std.proofs.Common.{◌+◌, ◌<◌, ◌^◌, ◌∷◌, ◌++◌, [], List, sym, ap, subst, arith}
 use Rattle.profil_hist.specs.Counts.{RowText, rows_text}
 use Rattle.profil_hist.specs.Histograms.{HistText, IsHist, IsHistogram, hist_text}
 use Rattle.profil_hist.proofs.Noted.{noted-counts, noted-kept, passed-counts, spotted-there}
