@@ -1,9 +1,5 @@
 //! Soaks. The numbers are those of a model of docs/FORMATS.md in another language.
-use crate::lab::{Row, bad, check, said, words_in};
-use crate::{soak, status_number};
-use overflow_dispatch::{Handler, Recorder};
-use papi_base::MemSink;
-use std::marker::Send;
+use crate::lab::{Row, bad, check, said};
 use std::test::Fail;
 
 const ONE_ROUND: &str = "thread 0: 2152 1651 1032 notes 2\n\
@@ -50,31 +46,5 @@ fn soaks(rt: HostRuntime) -> Result<(), Fail> {
     for row in &rows {
         check(&rt, alloc, row)?;
     }
-    Ok(())
-}
-
-#[test]
-fn a_soak_counts_its_own_notes(rt: HostRuntime) -> Result<(), Fail> {
-    let alloc = rt.alloc();
-    let mut handlers: Vec<Box<dyn Handler + Send>> = Vec::new(alloc);
-    for _thread in 0..64usize {
-        handlers.push(Box::new(alloc, Recorder::new(alloc))?)?;
-    }
-    // The same twice, over the same handlers.
-    let words = words_in(alloc, "1")?;
-    let mut out = MemSink::new(alloc, 10_000);
-    let mut err = MemSink::new(alloc, 1000);
-    for _call in 0..2usize {
-        let status = soak(&rt, alloc, &words, &mut out, &mut err, &mut handlers);
-        assert_eq!(rt; status_number(status), 0);
-    }
-    let twice = format!(in alloc; "{ONE_ROUND}{ONE_ROUND}")?;
-    assert_eq!(rt; out.bytes(), twice.as_bytes());
-    assert_eq!(rt; err.bytes(), b"".as_slice());
-    let mut counts = Vec::new(alloc);
-    for handler in &handlers {
-        counts.push(handler.noted())?;
-    }
-    assert!(rt; counts.as_slice().starts_with(&[4, 2, 2, 2, 0, 0]));
     Ok(())
 }
