@@ -13,6 +13,3 @@ mod refused;
 
 pub use candidates::Candidates;
 pub use choice::{Choice, choose};
-
-#[cfg(test)]
-mod tests;

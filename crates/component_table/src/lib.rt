@@ -8,6 +8,3 @@ pub mod native_codes;
 
 pub use catalog::Catalog;
 pub use native_codes::{MOST_MENTIONED, NativeCodes};
-
-#[cfg(test)]
-mod tests;

@@ -9,5 +9,3 @@ mod augment;
 mod laws;
 mod lowest;
 mod matching;
-#[cfg(test)]
-mod tests;

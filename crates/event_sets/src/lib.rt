@@ -5,13 +5,9 @@ mod clashes;
 pub mod event_set;
 mod joining;
 pub mod laws;
-#[cfg(test)]
-mod preset_tests;
 pub mod refusal;
 mod removal;
 mod sameness;
-#[cfg(test)]
-mod tests;
 mod thresholds;
 
 pub use event_set::EventSet;

@@ -17,6 +17,3 @@ pub use crate::limits::{MOST_COMPONENTS, MOST_COUNTERS, MOST_EVENTS, MOST_UMASKS
 pub use crate::lower_name::LowerName;
 pub use crate::tables::Tables;
 pub use crate::unit::read_unit;
-
-#[cfg(test)]
-mod tests;

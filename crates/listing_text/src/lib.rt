@@ -14,6 +14,3 @@ pub use native_events::native_event;
 pub use native_lists::native_list;
 pub use preset_events::avail_event;
 pub use preset_lists::avail_list;
-
-#[cfg(test)]
-mod tests;

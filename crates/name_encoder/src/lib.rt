@@ -14,6 +14,3 @@ pub use crate::canonical::write_name;
 pub use crate::code::code64;
 pub use crate::encoder::encode;
 pub use crate::fault::{NameFault, cause_code, cause_word};
-
-#[cfg(test)]
-mod tests;

@@ -11,6 +11,4 @@ pub mod handler;
 pub mod passed;
 pub mod recorder;
 pub mod since;
-#[cfg(test)]
-mod tests;
 pub mod thresholds;

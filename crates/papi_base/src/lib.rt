@@ -44,6 +44,3 @@ pub use sure_files::SureFiles;
 pub use text::Text;
 pub use values::Values;
 pub use whole::{WholeFault, read_whole, write_whole};
-
-#[cfg(test)]
-mod tests;

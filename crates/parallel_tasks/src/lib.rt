@@ -104,6 +104,3 @@ pub fn work_tasks<R: Threads + Sync, B: Sync, T: Task<B> + Send>(
     let parts = (workers as usize).min(tasks.len()) as u32;
     work_slice(rt, book, parts, tasks.as_mut_slice());
 }
-
-#[cfg(test)]
-mod tests;

@@ -14,6 +14,3 @@ mod works;
 pub use plan::{Plan, PlanLine, Planned};
 pub use result::{ReplyLine, RunResult};
 pub use run::run_plan;
-
-#[cfg(test)]
-mod tests;

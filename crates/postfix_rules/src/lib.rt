@@ -23,6 +23,3 @@ pub use rule::{Rule, value_of};
 pub use stack::eval;
 pub use token::{Operator, Token};
 pub use writing::write_formula;
-
-#[cfg(test)]
-mod tests;

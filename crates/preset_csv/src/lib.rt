@@ -25,6 +25,3 @@ pub use crate::writing::write_presets;
 pub use preset_table::{
     PRESETS, preset_code, preset_count, preset_row, preset_symbol, preset_text,
 };
-
-#[cfg(test)]
-mod tests;

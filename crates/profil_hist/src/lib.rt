@@ -19,6 +19,3 @@ pub use crate::limits::{MOST_BUCKETS, MOST_RANGES, MOST_WIDTH};
 pub use crate::map::Map;
 pub use crate::range::MapRange;
 pub use crate::reading::read_map;
-
-#[cfg(test)]
-mod tests;

@@ -9,6 +9,3 @@ mod results;
 
 pub use line::{push_reply, push_reply_line};
 pub use note::push_note_line;
-
-#[cfg(test)]
-mod tests;

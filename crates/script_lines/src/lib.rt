@@ -11,6 +11,3 @@ mod words;
 pub use call::ScriptCall;
 pub use fault::{ScriptCause, ScriptFault, cause_text};
 pub use script::{MOST_CALLS, Script, ScriptLine, read_script};
-
-#[cfg(test)]
-mod tests;

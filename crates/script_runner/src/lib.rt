@@ -13,6 +13,3 @@ pub use script_lines::{
     Script, ScriptCall, ScriptCause, ScriptFault, ScriptLine, cause_text, read_script,
 };
 pub use writing::{write_notes, write_replies};
-
-#[cfg(test)]
-mod tests;

@@ -17,6 +17,3 @@ pub use script::script_text;
 pub use source::SoakSource;
 pub use summary::{ThreadTotal, summary_text};
 pub use unit::unit_text;
-
-#[cfg(test)]
-mod tests;

@@ -10,8 +10,6 @@ mod line;
 mod next;
 mod occurrence;
 mod reader;
-#[cfg(test)]
-mod tests;
 
 pub use limits::{LARGEST_STREAM, LONGEST_LINE, READER_BYTES};
 pub use line::{Judgement, LineStart};

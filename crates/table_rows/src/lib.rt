@@ -16,6 +16,3 @@ pub use crate::row::read_rows;
 pub use crate::row_reader::RowReader;
 pub use crate::word::{is_name, is_printable, name_text, printable_text};
 pub use csv::ByteRecord;
-
-#[cfg(test)]
-mod tests;

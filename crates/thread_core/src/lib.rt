@@ -9,8 +9,6 @@ mod arming;
 mod changing;
 mod emptying;
 mod raw_reading;
-#[cfg(test)]
-mod reading_tests;
 mod refusal;
 mod registering;
 pub mod running;

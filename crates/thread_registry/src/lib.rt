@@ -9,6 +9,3 @@ pub mod work;
 pub use job::Job;
 pub use registry::Registry;
 pub use work::work_all;
-
-#[cfg(test)]
-mod tests;

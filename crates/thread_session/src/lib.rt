@@ -7,7 +7,5 @@ mod delivery;
 mod running;
 pub mod session;
 mod several;
-#[cfg(test)]
-mod tests;
 
 pub use session::Session;

@@ -66,6 +66,3 @@ fn tool_in(words: &[String]) -> &str
         None => "",
     }
 }
-
-#[cfg(test)]
-mod tests;
