@@ -2,7 +2,6 @@
 ghost use Rattle.std.specs.Prelude.{◌≡◌, ℕ, ◌^◌, ◌<◌, ◌≤◌, ◌==◌, if◌then◌else◌, map, length, All, None, Some, slice_get};
 ghost use Rattle.std.specs.Option.{option_copied, option_map};
 ghost use Rattle.counter_unit.specs.Counting.{UnitView};
-ghost use Rattle.multiplex.specs.Turns.{group_at};
 ghost use Rattle.thread_slots.specs.declared.slot.Slot.{Slot};
 ghost use Rattle.thread_slots.specs.Countable.{AreCountable, IsCountable};
 ghost use Rattle.thread_slots.specs.Counted.{counted, counted_all, counted_place, with_turn};
@@ -44,22 +43,21 @@ fn bank_carries(banks: &mut Counts, pins: &Pins, unit: &Unit, carry: u32)
     }
 }
 
-/// Counts one occurrence in the native events of the group that runs at this tick.
+/// Counts one occurrence in the native events of this group.
 fn count_turn(
     counts: &mut Counts,
     natives: &Natives,
     domain: Domain,
     rotation: &Rotation,
-    tick: u64,
+    group: u32,
     before: Option<&Occ>,
     o: &Occ,
 )
     requires same_length { length counts.old ≡ length natives.now }
     requires grouped { length rotation.now.numbers ≡ length natives.now }
     requires room { All (λ t. t < 2 ^ 32) counts.old }
-    ensures { counts.new ≡ with_turn domain (option_copied before.entry) o.now (group_at rotation.now.turns tick) natives.now rotation.now.numbers counts.old }
+    ensures { counts.new ≡ with_turn domain (option_copied before.entry) o.now group natives.now rotation.now.numbers counts.old }
 {
-    let group = rotation.group_at(tick);
     for i in 0..natives.len() {
         if rotation.group_of(i) == group {
             let w = weight(&natives.at(i), domain, before, o);
@@ -78,12 +76,12 @@ fn count_slot(unit: &mut Unit, slot: &mut Slot, before: Option<&Occ>, o: &Occ) -
     ensures slot { slot.new ≡ (counted (option_copied before.entry) o.now unit.old slot.old).slot }
     ensures passed { result ≡ (counted (option_copied before.entry) o.now unit.old slot.old).passed }
 {
-    match &slot.rotation {
+    match &mut slot.rotation {
         Some(rotation) => {
-            let tick = o.stamp.saturating_sub(slot.begun);
+            let group = rotation.running_group(o.stamp.saturating_sub(slot.begun));
             let natives = slot.set.natives();
             let domain = slot.set.domain();
-            count_turn(&mut slot.kept, natives, domain, rotation, tick, before, o);
+            count_turn(&mut slot.kept, natives, domain, rotation, group, before, o);
             Passed::new()
         }
         None => {

@@ -9,7 +9,7 @@ pub count_turn-requires-clause-same_length : goal.count_turn-requires-clause-sam
 count_turn-requires-clause-same_length c = let h = c.requires.turning c.in-Some.rotation c.in-Some.is in h.same_length ∙ sym (ap length c.natives-natives.ensures.natives)
 
 pub count_turn-requires-clause-grouped : goal.count_turn-requires-clause-grouped
-count_turn-requires-clause-grouped c = let h = c.requires.turning c.in-Some.rotation c.in-Some.is in h.grouped ∙ sym (ap length c.natives-natives.ensures.natives)
+count_turn-requires-clause-grouped c = let h = c.requires.turning c.in-Some.rotation c.in-Some.is in rw c.running_group-group.ensures.same (h.grouped ∙ sym (ap length c.natives-natives.ensures.natives))
 
 pub returns-then-carry-eq0-clause-slot : goal.returns-then-carry-eq0-clause-slot
 returns-then-carry-eq0-clause-slot c =
