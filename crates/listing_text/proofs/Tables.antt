@@ -13,6 +13,7 @@ use Rattle.event_tables.specs.Views.{component_text, counter_text}
 use Rattle.event_tables.specs.declared.component.Component.{Component}
 use Rattle.event_tables.specs.declared.component.Counter.{Counter}
 use Rattle.preset_table.specs.Table.{preset, preset_rows, row_of}
+use Rattle.preset_table.specs.declared.TheConstants.{PRESETS}
 use Rattle.listing_text.specs.Lines.{Text}
 
 -- the name of a counter
@@ -46,6 +47,6 @@ pub few_events : (tables : List ComponentText) (i : ℕ) (c : Component) → IsT
 few_events tables i c h e = (each_at IsComponent tables i (component_text c) h.each (sym e)).few_events
 
 -- the row of a symbol is one of the table
-pub row_within : (symbol : Text) (row : ℕ) → row_of symbol ≡ Some row → row < 26
+pub row_within : (symbol : Text) (row : ℕ) → row_of symbol ≡ Some row → row < PRESETS
 unfolding row_of preset_rows
 row_within symbol row e = (position-Some (λ r. bytes_eq r.symbol symbol) preset_rows row (preset [] 0 []) e).0

@@ -4,6 +4,7 @@ ghost use Rattle.std.specs.Prelude.{◌≡◌, ◌<◌, ◌++◌, IfOk, OnOk, is
 ghost use Rattle.std.specs.Option.{option_copied};
 ghost use Rattle.listing_text.specs.PresetEvents as PresetEvents;
 ghost use Rattle.preset_table.specs.Table.{row_of};
+ghost use Rattle.preset_table.specs.declared.TheConstants.{PRESETS};
 
 use crate::lines::push_name_and_code;
 use crate::named_event::NamedEvent;
@@ -65,7 +66,7 @@ fn push_derived(text: &mut String, tables: &Tables, derived: &Derived) -> Result
 
 // The text of the event in a row of the preset table.
 fn row_text(alloc: Global, catalog: &Catalog, row: u32) -> Result<String, AllocError>
-    requires { row < 26 }
+    requires { row < PRESETS }
     ensures { IfOk result (λ text. string_bytes text ≡ PresetEvents.row_lines catalog.now row) }
 {
     let mut text = String::new(alloc);

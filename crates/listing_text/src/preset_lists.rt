@@ -2,6 +2,7 @@
 
 ghost use Rattle.std.specs.Prelude.{◌≡◌, ◌<◌, ◌++◌, IfOk, OnOk, string_bytes};
 ghost use Rattle.listing_text.specs.PresetLists as PresetLists;
+ghost use Rattle.preset_table.specs.declared.TheConstants.{PRESETS};
 
 use crate::lines::push_column;
 use component_table::Catalog;
@@ -51,7 +52,7 @@ fn yes_or_no(is_so: bool) -> &'static str
 
 // Appends the line of a row of the preset table.
 fn push_preset(text: &mut String, catalog: &Catalog, row: u32) -> Result<(), AllocError>
-    requires { row < 26 }
+    requires { row < PRESETS }
     ensures { OnOk result (string_bytes text.new ≡ string_bytes text.old ++ PresetLists.preset_line catalog.now.book row) }
 {
     let code = format!(in *text.allocator(); "0x{:x}", preset_code(row))?;

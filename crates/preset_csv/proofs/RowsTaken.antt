@@ -1,8 +1,7 @@
 -- The rows that were taken, and those that are left.
-use Rattle.std.proofs.Common.{◌≡◌, ◌∙◌, ◌+◌, ◌<◌, ◌≤◌, ◌∷◌, ℕ, zero, suc, List, [], Some, None, true, false, Bool, map, length, get_or, set, take, drop, replicate, refl, sym, ap, arith, Ok, Err}
+use Rattle.std.proofs.Common.{◌≡◌, ◌∙◌, ◌+◌, ◌<◌, ◌≤◌, ◌∷◌, ℕ, zero, suc, List, [], Some, None, true, false, Bool, map, length, get_or, set, take, drop, replicate, length-drop, refl, sym, ap, subst, arith, Ok, Err}
 use Rattle.std.specs.List.{AllByRecursion}
 use Rattle.std.proofs.lemmas.List.{take_all, drop_more, take_more, drop_all, get_or-map, length-map, length-take-le}
-use Rattle.csv.specs.Records.{Row, fields_of}
 use Rattle.table_rows.specs.Texts.{Text, text_at}
 use Rattle.preset_table.specs.Table.{preset_rows, row_of}
 use Rattle.preset_csv.specs.Entries.{judged}
@@ -58,15 +57,36 @@ fault-end : (name : Text) (lines : List Line) (i : ℕ) → length lines ≤ i �
 unfolding fault_from
 fault-end name lines i h = rw (drop_all i lines h) refl
 
-pub line-at : (rows : List Row) (i : ℕ) (r : Row) → i < length rows → get_or (map line_of (map fields_of rows)) i other ≡ line_of (fields_of (get_or rows i r))
-line-at rows i r lt =
-    get_or-map line_of (map fields_of rows) i (fields_of r) other (omega (arith, length-map rows fields_of))
-    ∙ ap line_of (get_or-map fields_of rows i r (fields_of r) lt)
+-- the next row of those that are left
+pub record Next (rows : List (List Text)) (i : ℕ) (fields : List Text) (left : List (List Text)) : Type 0 where
+  pub inside : i < length (map line_of rows)
+  pub line : get_or (map line_of rows) i other ≡ line_of fields
+  pub plain : IsReadRow fields
+  pub rest : left ≡ drop (i + 1) rows
 
-pub row-read : (rows : List Row) (i : ℕ) (r : Row) → AllByRecursion IsReadRow (map fields_of rows) → i < length rows → IsReadRow (fields_of (get_or rows i r))
-row-read [] i r h lt = absurd (omega arith)
-row-read (x ∷ rows) zero r h lt = h.0
-row-read (x ∷ rows) (suc i) r h lt = row-read rows i r h.1 (omega arith)
+row-read : (rows : List (List Text)) (i : ℕ) (fields : List Text) → AllByRecursion IsReadRow rows → i < length rows → IsReadRow (get_or rows i fields)
+row-read [] i fields h lt = absurd (omega arith)
+row-read (x ∷ rows) zero fields h lt = h.0
+row-read (x ∷ rows) (suc i) fields h lt = row-read rows i fields h.1 (omega arith)
+
+pub next-row : (rows : List (List Text)) (i : ℕ) (fields : List Text) (left : List (List Text)) → AllByRecursion IsReadRow rows → drop i rows ≡ fields ∷ left → Next rows i fields left
+next-row rows i fields left h e =
+    let count = ap length e in
+    let inside : i < length rows = omega (arith, count, length-drop i rows) in
+    let parts : get_or rows i fields ∷ drop (i + 1) rows ≡ fields ∷ left = sym (drop_more rows i fields inside) ∙ e in
+    let first : get_or rows i fields ≡ fields = cc parts in
+    record {
+      inside = omega (arith, inside, length-map rows line_of);
+      line = get_or-map line_of rows i fields other inside ∙ ap line_of first;
+      plain = subst IsReadRow first (row-read rows i fields h inside);
+      rest = cc parts;
+    }
+
+-- no row is left
+pub no-row : (rows : List (List Text)) (i : ℕ) → drop i rows ≡ [] → length (map line_of rows) ≤ i
+no-row rows i e =
+    let count = ap length e in
+    omega (arith, count, length-drop i rows, length-map rows line_of)
 
 -- what a loop over rows keeps, with the first i rows taken
 pub record Taken (name : Text) (lines : List Line) (i : ℕ) (g : Group) (entries : List Entry) : Type 0 where

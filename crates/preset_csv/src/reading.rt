@@ -18,7 +18,7 @@ use crate::symbol::symbol_row;
 use crate::table::PresetTable;
 use preset_table::PRESETS;
 use std::alloc::{AllocError, Global};
-use table_rows::{ByteRecord, read_rows, text_at};
+use table_rows::{ByteRecord, RowReader, text_at};
 
 // A missing entry for each row of the preset table.
 fn all_missing(alloc: Global) -> Result<Vec<Entry>, AllocError>
@@ -94,13 +94,15 @@ fn take_row(
 pub fn read_presets(alloc: Global, bytes: &[u8], cpu: &str) -> Result<PresetTable, PresetFault>
     ensures { ReadsPresets result bytes.now cpu.now }
 {
-    let rows = read_rows(alloc, bytes)?;
+    let mut reader = RowReader::new(alloc, bytes);
+    let mut row = ByteRecord::new(alloc);
     let mut group = Group::new();
     let mut entries = all_missing(alloc)?;
-    for i in 0..rows.len() {
-        match take_row(alloc, cpu, row_of(&rows[i]), &mut group, &mut entries) {
-            Ok(()) => {}
-            Err(refusal) => return Err(fault_at(i, refusal)),
+    let mut place = 0;
+    while reader.read_row(&mut row)? {
+        match take_row(alloc, cpu, row_of(&row), &mut group, &mut entries) {
+            Ok(()) => place += 1,
+            Err(refusal) => return Err(fault_at(place, refusal)),
         }
     }
     Ok(PresetTable::new(String::from_str(alloc, cpu)?, entries))
