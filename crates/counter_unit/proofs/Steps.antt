@@ -1,19 +1,20 @@
--- An occurrence goes over the counters that are programmed with its select code, lowest first: those that are left are as
--- they were, and all others are done. A counter with another select code is done from the beginning, since nothing moves it.
+-- An occurrence goes over the counters that it can move, lowest first: those that are left are as they were, and all others are
+-- done. A counter that it cannot move is done from the beginning.
 use Rattle.std.proofs.Common.{◌≡◌, ℕ, zero, suc, ◌+◌, ◌*◌, ◌%◌, ◌^◌, ◌<◌, ◌≤◌, inl, inr, Bool, true, false, List, [], ◌∷◌, length, set, get_or, refl, ap, sym, ◌∙◌, arith, Option, Some, None, bit_and}
-use Rattle.std.specs.Prelude.{◌==◌, ◌&&◌}
+use Rattle.std.specs.Prelude.{◌==◌, ◌&&◌, ◌||◌, if◌then◌else◌}
 use Rattle.std.specs.Int.{bit_at, bit_not, trailing_zeros, w32}
 use Rattle.std.proofs.lemmas.Bool.{cases_eq, cases_lt, cond-false, lt-leb}
 use Rattle.std.proofs.lemmas.Nat.{and_le_l}
 use Rattle.std.proofs.lemmas.Nat.Bits.{bit_at-zero, bit_at_above, bit_at_clear_same, bit_at_clear_other, bit_at-trailing_zeros, same_from_bits}
-use Rattle.papi_base.specs.Weight.{weight_of, holds}
+use Rattle.papi_base.specs.Weight.{weight_of, holds, share}
 use Rattle.papi_base.specs.declared.occurrence.Occ.{Occ}
 use Rattle.counter_unit.specs.declared.registers.Register.{Register}
+use Rattle.counter_unit.specs.declared.selects.Key.TheVariants as key
 use Rattle.counter_unit.specs.Counting.{After, IsSound, AreSound, at_place, all_carries, all_moved, bits_of, carries, moved, moved_place}
-use Rattle.counter_unit.specs.Selects.{AreSelects, has_select}
+use Rattle.counter_unit.specs.Selects.{admits, bit_of, has_code}
 use Rattle.counter_unit.proofs.Bits.{bit_at-bits_of}
 use Rattle.counter_unit.proofs.Places.{at_place-all_moved, at_place-set_same, at_place-set_other, length-all_moved, length-set_place}
-use Rattle.counter_unit.proofs.Tables.{at_place_past, bit_of, no_bit}
+use Rattle.counter_unit.proofs.Tables.{at_place_past, no_bit}
 
 -- the lowest of the counters that are left, and the others
 abbrev pub lowest : ℕ → ℕ
@@ -46,15 +47,24 @@ others-lt left some small = go (others left) left (lowest left) (and_le_l left (
     | inr apart ↦ omega arith
   ]
 
--- nothing is added to a register whose select code is another one
-unheld : (select code : Bool) (a : Bool) → select ≡ false → (a && select) ≡ false
-unheld select code true e = e
-unheld select code false e = refl
+-- nothing is added to a register that the occurrence cannot move
+abbrev in_mode_by : Bool → Register → Bool
+in_mode_by kernel r = if (r.native.mods.user || r.native.mods.kernel) then (if kernel then r.native.mods.kernel else r.native.mods.user) else (if kernel then share r.domain.0 2 else share r.domain.0 1)
 
-weight_of_other : (r : Register) (before : Option Occ) (o : Occ) → (r.native.select == o.select) ≡ false → weight_of r.native r.domain before o ≡ 0
-weight_of_other r before o e = cond-false (holds r.native r.domain o) _ 0 (no_hold r o e) where
-  no_hold : (r : Register) (o : Occ) → (r.native.select == o.select) ≡ false → holds r.native r.domain o ≡ false
-  no_hold r o e = let first = unheld (r.native.select == o.select) true (r.native.comp == o.comp) e in rw first refl
+coded : (kernel : Bool) (code : ℕ) (r : Register) → has_code (if kernel then key.Kernel else key.User) code r ≡ ((r.native.select == code) && in_mode_by kernel r)
+coded true code r = refl
+coded false code r = refl
+
+unheld : (comp select umask mode reaches : Bool) → ((select && mode) && umask) ≡ false → (comp && select && umask && mode && reaches) ≡ false
+unheld false select umask mode reaches e = refl
+unheld true false umask mode reaches e = refl
+unheld true true false mode reaches e = refl
+unheld true true true false reaches e = refl
+unheld true true true true reaches e = absurd cc
+
+weight_of_other : (r : Register) (before : Option Occ) (o : Occ) → admits o (Some r) ≡ false → weight_of r.native r.domain before o ≡ 0
+weight_of_other r before o e = cond-false (holds r.native r.domain o) _ 0 (unheld _ (r.native.select == o.select) ((r.native.umask == 0) || share r.native.umask o.umask) (in_mode_by o.kernel r) _
+    (sym (ap (λ b. b && ((r.native.umask == 0) || share r.native.umask o.umask)) (coded o.kernel o.select r)) ∙ e))
 
 abbrev after : ℕ → Register → ℕ → After
 after w r more = record { place = Some (moved w more r); carried = carries w more r }
@@ -62,7 +72,7 @@ after w r more = record { place = Some (moved w more r); carried = carries w mor
 abbrev pub unchanged : Option Register → After
 unchanged place = record { place = place; carried = false }
 
-pub unmoved : (before : Option Occ) (o : Occ) (w : ℕ) (r : Option Register) → IsSound w r → has_select o.select r ≡ false → moved_place before o w r ≡ unchanged r
+pub unmoved : (before : Option Occ) (o : Occ) (w : ℕ) (r : Option Register) → IsSound w r → admits o r ≡ false → moved_place before o w r ≡ unchanged r
 unmoved before o w None sound other = refl
 unmoved before o w (Some r) sound other = ap (after w r) (weight_of_other r before o other) ∙ still r sound.2 where
   still : (r : Register) → r.value < 2 ^ w → after w r 0 ≡ unchanged (Some r)
@@ -75,6 +85,7 @@ unmoved before o w (Some r) sound other = ap (after w r) (weight_of_other r befo
 pub record Stepping (before : Option Occ) (o : Occ) (ws : List ℕ) (rs : List (Option Register)) (left : ℕ) (now : List (Option Register)) (carry : ℕ) : Type 0 where
   pub same_length : length now ≡ length ws
   pub within : (k : ℕ) → bit_at left k ≡ 1 → k < length ws
+  pub admitted : (k : ℕ) → bit_at left k ≡ 1 → admits o (at_place rs k) ≡ true
   pub waits : (k : ℕ) → bit_at left k ≡ 1 → at_place now k ≡ at_place rs k
   pub done : (k : ℕ) → bit_at left k ≡ 0 → at_place now k ≡ (moved_place before o (get_or ws k 0) (at_place rs k)).place
   pub quiet : (k : ℕ) → bit_at left k ≡ 1 → bit_at carry k ≡ 0
@@ -86,27 +97,51 @@ sound_at ws rs k h = elim (cases_lt k (length ws)) [
   | inr past ↦ let e = h.same_length in rw (at_place_past rs k (omega arith)) tt
 ]
 
+-- bits that tell of each counter whether the occurrence can move it
+abbrev pub AreAdmitted : Occ → List (Option Register) → ℕ → Type 0
+AreAdmitted o rs left = (k : ℕ) → k < 32 → bit_at left k ≡ bit_of (admits o (at_place rs k))
+
 bit_no : (b : Bool) → bit_of b ≡ 0 → b ≡ false
 bit_no true h = absurd (no_bit 1 refl h)
 bit_no false h = refl
 
-pub begins : (before : Option Occ) (o : Occ) (ws masks : List ℕ) (rs : List (Option Register)) → o.select < 256 → AreSound ws rs → AreSelects masks rs → Stepping before o ws rs (get_or masks o.select 0) rs 0
-begins before o ws masks rs small sound selects = record {
+bit_yes : (b : Bool) → bit_of b ≡ 1 → b ≡ true
+bit_yes true h = refl
+bit_yes false h = absurd (no_bit 0 h refl)
+
+pub begins : (before : Option Occ) (o : Occ) (ws : List ℕ) (rs : List (Option Register)) (left : ℕ) → length ws ≤ 32 → left < 2 ^ 32 → AreSound ws rs → AreAdmitted o rs left → Stepping before o ws rs left rs 0
+begins before o ws rs left few small sound admitted = record {
   same_length = sound.same_length;
   within = λ k is. elim (cases_lt k (length ws)) [
     | inl below ↦ below
-    | inr past ↦ absurd (no_bit (bit_at (get_or masks o.select 0) k) is (none_past k past))
+    | inr past ↦ absurd (no_bit (bit_at left k) is (none_past k past))
   ];
+  admitted = λ k is. bit_yes (admits o (at_place rs k)) (sym (admitted k (inside k is)) ∙ is);
   waits = λ k is. refl;
   done = λ k isnt. sym (ap (λ (a : After). a.place) (stays k isnt));
   quiet = λ k is. bit_at-zero k;
   carried = λ k isnt. bit_at-zero k ∙ sym (ap (λ (a : After). bit_of a.carried) (stays k isnt));
 } where
-  none_past : (k : ℕ) → length ws ≤ k → bit_at (get_or masks o.select 0) k ≡ 0
-  none_past k past = let e = sound.same_length in selects.each o.select k small ∙ ap (λ r. bit_of (has_select o.select r)) (at_place_past rs k (omega arith))
+  inside : (k : ℕ) → bit_at left k ≡ 1 → k < 32
+  inside k is = elim (cases_lt k 32) [
+    | inl below ↦ below
+    | inr above ↦ absurd (no_bit (bit_at left k) is (bit_at_above left 32 k small above))
+  ]
 
-  stays : (k : ℕ) → bit_at (get_or masks o.select 0) k ≡ 0 → moved_place before o (get_or ws k 0) (at_place rs k) ≡ unchanged (at_place rs k)
-  stays k isnt = unmoved before o (get_or ws k 0) (at_place rs k) (sound_at ws rs k sound) (bit_no (has_select o.select (at_place rs k)) (sym (selects.each o.select k small) ∙ isnt))
+  none_past : (k : ℕ) → length ws ≤ k → bit_at left k ≡ 0
+  none_past k past = let e = sound.same_length in elim (cases_lt k 32) [
+    | inl below ↦ admitted k below ∙ ap (λ r. bit_of (admits o r)) (at_place_past rs k (omega arith))
+    | inr above ↦ bit_at_above left 32 k small above
+  ]
+
+  refused : (k : ℕ) → bit_at left k ≡ 0 → admits o (at_place rs k) ≡ false
+  refused k isnt = let e = sound.same_length in elim (cases_lt k 32) [
+    | inl below ↦ bit_no (admits o (at_place rs k)) (sym (admitted k below) ∙ isnt)
+    | inr above ↦ ap (admits o) (at_place_past rs k (omega arith))
+  ]
+
+  stays : (k : ℕ) → bit_at left k ≡ 0 → moved_place before o (get_or ws k 0) (at_place rs k) ≡ unchanged (at_place rs k)
+  stays k isnt = unmoved before o (get_or ws k 0) (at_place rs k) (sound_at ws rs k sound) (refused k isnt)
 
 pub goes_on : (before : Option Occ) (o : Occ) (ws : List ℕ) (rs now : List (Option Register)) (left carry more : ℕ) (x : Option Register) → 0 < left → left < 2 ^ 32 → Stepping before o ws rs left now carry
     → x ≡ (moved_place before o (get_or ws (lowest left) 0) (at_place now (lowest left))).place
@@ -116,6 +151,7 @@ pub goes_on : (before : Option Occ) (o : Occ) (ws : List ℕ) (rs now : List (Op
 goes_on before o ws rs now left carry more x some small s place here there = record {
   same_length = length-set_place now (lowest left) x ∙ s.same_length;
   within = λ k is. s.within k (was k is);
+  admitted = λ k is. s.admitted k (was k is);
   waits = λ k is. at_place-set_other now (lowest left) k x (apart k is) ∙ s.waits k (was k is);
   done = λ k isnt. elim (cases_eq k (lowest left)) [
     | inl same ↦ rw same (at_place-set_same now (lowest left) x exists ∙ place ∙ ap (λ r. (moved_place before o (get_or ws (lowest left) 0) r).place) still)

@@ -1,24 +1,50 @@
--- The counters that are programmed with each select code, as bits: an occurrence of one select code counts on no other.
-use Rattle.std.specs.Prelude.{ℕ, ◌*◌, ◌%◌, ◌^◌, ◌≡◌, ◌<◌, Bool, false, if◌then◌else◌, ◌==◌, bit_or, bit_and, List, length, slice_index, slice_set, Option, Some, None}
-use Rattle.std.specs.Int.{bit_at, bit_not, w32}
+-- The counters that an occurrence can move, as bits: those that are programmed with its select code, count in its mode, and have
+-- no umask or one that shares a bit with its own.
+use Rattle.std.specs.Prelude.{ℕ, ◌≡◌, ◌<◌, Bool, ◌&&◌, ◌||◌, false, if◌then◌else◌, ◌==◌, List, length, slice_index, Option, Some, None}
+use Rattle.std.specs.Int.{bit_at}
+use Rattle.papi_base.specs.declared.occurrence.Occ.{Occ}
+use Rattle.papi_base.specs.Weight.{share}
 use Rattle.counter_unit.specs.declared.registers.Register.{Register}
+use Rattle.counter_unit.specs.declared.selects.Key.{Key}
+use Rattle.counter_unit.specs.declared.selects.Key.TheVariants as key
+use Rattle.counter_unit.specs.declared.selects.Selects.{Selects}
 use Rattle.counter_unit.specs.Counting.{at_place}
+use Rattle.counter_unit.specs.Setups.{counts_kernel, counts_user}
 
--- the counter is programmed with this select code
-abbrev pub has_select : ℕ → Option Register → Bool
-has_select select None = false
-has_select select (Some r) = r.native.select == select
+-- occurrences with this code can move the register
+abbrev pub has_code : Key → ℕ → Register → Bool
+has_code key.User code r = (r.native.select == code) && counts_user r.native r.domain
+has_code key.Kernel code r = (r.native.select == code) && counts_kernel r.native r.domain
+has_code key.Umask code r = (r.native.umask == 0) || share r.native.umask code
 
--- each bit tells whether its counter is programmed with the select code
-pub record AreSelects (masks : List ℕ) (registers : List (Option Register)) : Type 0 where
+abbrev pub has : Key → ℕ → Option Register → Bool
+has key code None = false
+has key code (Some r) = has_code key code r
+
+-- the key of an occurrence's select code
+abbrev pub mode_of : Occ → Key
+mode_of o = if o.kernel then key.Kernel else key.User
+
+-- the occurrence can move what is programmed on a counter
+abbrev pub admits : Occ → Option Register → Bool
+admits o place = has (mode_of o) o.select place && has key.Umask o.umask place
+
+-- a truth as a bit
+abbrev pub bit_of : Bool → ℕ
+bit_of b = if b then 1 else 0
+
+-- for each code a bit tells of each counter whether occurrences with this code can move it
+pub record AreMarked (key : Key) (masks : List ℕ) (registers : List (Option Register)) : Type 0 where
   pub codes : length masks ≡ 256
-  pub each : (select c : ℕ) → select < 256 → bit_at (slice_index masks select) c ≡ (if has_select select (at_place registers c) then 1 else 0)
+  pub each : (code c : ℕ) → code < 256 → c < 32 → bit_at (slice_index masks code) c ≡ bit_of (has key code (at_place registers c))
 
--- a counter more with the select code
-abbrev pub with_counter : List ℕ → ℕ → ℕ → List ℕ
-with_counter masks select c = slice_set masks select (bit_or (slice_index masks select) (1 * 2 ^ c % 2 ^ 32))
+pub record AreSelects (selects : Selects) (registers : List (Option Register)) : Type 0 where
+  pub user : AreMarked key.User selects.user registers
+  pub kernel : AreMarked key.Kernel selects.kernel registers
+  pub umasks : AreMarked key.Umask selects.umasks registers
 
--- without the counter, on which this was
-abbrev pub without : List ℕ → Option Register → ℕ → List ℕ
-without masks None c = masks
-without masks (Some r) c = slice_set masks r.native.select (bit_and (slice_index masks r.native.select) (bit_not w32 (1 * 2 ^ c % 2 ^ 32)))
+-- a table in which the bits of one counter are those of this place, and all others as before
+pub record IsRemarked (key : Key) (c : ℕ) (place : Option Register) (old new : List ℕ) : Type 0 where
+  pub codes : length new ≡ length old
+  pub here : (code : ℕ) → code < 256 → bit_at (slice_index new code) c ≡ bit_of (has key code place)
+  pub there : (code k : ℕ) → code < 256 → k < 32 → (k ≡ c → ⊥) → bit_at (slice_index new code) k ≡ bit_at (slice_index old code) k

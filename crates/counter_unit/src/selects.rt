@@ -1,46 +1,99 @@
-//! Which counters are programmed with each select code, so that an occurrence looks at these alone.
-ghost use Rattle.std.specs.Prelude.{◌≡◌, ◌<◌, ◌^◌, length, slice_index, replicate};
-ghost use Rattle.counter_unit.specs.Selects.{with_counter, without};
+//! Which counters an occurrence can move by its select code, its mode and its umask, so that it looks at these alone.
+ghost use Rattle.std.specs.Prelude.{◌≡◌, ℕ, ◌<◌, List, None, Option, length, slice_set, replicate};
+ghost use Rattle.std.specs.Int.{bit_at};
+ghost use Rattle.counter_unit.specs.declared.registers.Register.{Register};
+ghost use Rattle.counter_unit.specs.Counting.{at_place};
+ghost use Rattle.counter_unit.specs.Selects.{AreSelects, IsRemarked, admits, bit_of, has};
 
 use crate::registers::Register;
+use crate::setups::{counts_kernel, counts_user};
+use papi_base::Occ;
 
-/// For each of the 256 select codes the counters that are programmed with it, as bits.
+/// What the 256 codes of a table are: the select codes of occurrences in user mode, of those in kernel mode, or their umasks.
+#[derive(Clone, Copy)]
+pub(crate) enum Key {
+    User,
+    Kernel,
+    Umask,
+}
+
+/// For each code of each table the counters that an occurrence with this code can move, as bits.
 #[derive(Drop)]
 pub(crate) struct Selects {
-    pub(crate) masks: [u32; 256],
+    pub(crate) user: [u32; 256],
+    pub(crate) kernel: [u32; 256],
+    pub(crate) umasks: [u32; 256],
+}
+
+/// Whether occurrences with this code can move what is programmed on a counter.
+#[inline(always)]
+fn has(key: Key, code: u32, place: &Option<Register>) -> bool
+    ensures { result ≡ has key code place.now }
+{
+    match place {
+        None => false,
+        Some(register) => {
+            let n = &register.native;
+            match key {
+                Key::User => (u32::from(n.select) == code) & counts_user(n, register.domain),
+                Key::Kernel => (u32::from(n.select) == code) & counts_kernel(n, register.domain),
+                Key::Umask => (n.umask == 0) | (u32::from(n.umask) & code != 0),
+            }
+        }
+    }
+}
+
+/// The bits with that of this counter on or off.
+#[inline(always)]
+fn with_bit(mask: u32, c: u32, on: bool) -> u32
+    requires { c < 32 }
+    ensures here { bit_at result c ≡ bit_of on }
+    ensures there { (k : ℕ) → k < 32 → (k ≡ c → ⊥) → bit_at result k ≡ bit_at mask k }
+{
+    if on { mask | 1 << c } else { mask & !(1 << c) }
+}
+
+/// Sets the bits of a counter to those of what is programmed on it.
+fn mark(masks: &mut [u32; 256], key: Key, c: u32, place: &Option<Register>)
+    requires { c < 32 }
+    ensures { IsRemarked key c place.now masks.old masks.new }
+{
+    for code in 0..256u32 {
+        let mask = masks[code as usize];
+        masks[code as usize] = with_bit(mask, c, has(key, code, place));
+    }
 }
 
 impl Selects {
     /// No counter is programmed.
     pub(crate) fn none() -> Selects
-        ensures { result.masks ≡ replicate 256 (0) }
+        ensures { (len : ℕ) → AreSelects result (replicate len None) }
     {
-        Selects { masks: [0; 256] }
-    }
-
-    /// The counters that are programmed with a select code.
-    #[inline(always)]
-    pub(crate) fn at(&self, select: u8) -> u32
-        ensures { result ≡ slice_index self.now.masks select }
-    {
-        self.masks[select as usize]
-    }
-
-    /// The counter is programmed with the select code.
-    pub(crate) fn add(&mut self, select: u8, c: u32)
-        requires { c < 32 }
-        ensures { self.new.masks ≡ with_counter self.old.masks select c }
-    {
-        self.masks[select as usize] |= 1 << c;
-    }
-
-    /// The counter is no longer programmed with what was on it.
-    pub(crate) fn remove(&mut self, place: Option<Register>, c: u32)
-        requires { c < 32 }
-        ensures { self.new.masks ≡ without self.old.masks place c }
-    {
-        if let Some(register) = place {
-            self.masks[register.native.select as usize] &= !(1 << c);
+        Selects {
+            user: [0; 256],
+            kernel: [0; 256],
+            umasks: [0; 256],
         }
+    }
+
+    /// The counters that the occurrence can move.
+    #[inline(always)]
+    pub(crate) fn at(&self, o: &Occ) -> u32
+        ensures { (registers : List (Option Register)) (k : ℕ) → AreSelects self.now registers → k < 32 → bit_at result k ≡ bit_of (admits o.now (at_place registers k)) }
+    {
+        let user = self.user[o.select as usize];
+        let kernel = self.kernel[o.select as usize];
+        let coded = if o.kernel { kernel } else { user };
+        coded & self.umasks[o.umask as usize]
+    }
+
+    /// Another place, or none, is programmed on a counter.
+    pub(crate) fn put(&mut self, c: u32, place: &Option<Register>)
+        requires { c < 32 }
+        ensures { (registers : List (Option Register)) → c < length registers → AreSelects self.old registers → AreSelects self.new (slice_set registers c place.now) }
+    {
+        mark(&mut self.user, Key::User, c, place);
+        mark(&mut self.kernel, Key::Kernel, c, place);
+        mark(&mut self.umasks, Key::Umask, c, place);
     }
 }

@@ -1,9 +1,10 @@
 //! The unit: what is programmed, what an occurrence adds, and which counters carry (PAPI_overflow(3): after a carry a
 //! register is loaded again so that it carries after the threshold).
-ghost use Rattle.std.specs.Prelude.{◌≡◌, ℕ, ◌+◌, ◌^◌, ◌<◌, ◌≤◌, length, slice_get, slice_index, slice_set, replicate, None, Some};
+ghost use Rattle.std.specs.Prelude.{◌≡◌, ℕ, ◌+◌, ◌^◌, ◌<◌, ◌≤◌, length, slice_get, slice_index, slice_set, replicate, true, None, Some};
 ghost use Rattle.std.specs.Option.{option_copied, option_map};
 ghost use Rattle.papi_base.specs.Weight.{weight_of};
 ghost use Rattle.papi_base.specs.Widths.{AreWidths};
+ghost use Rattle.counter_unit.specs.Selects.{admits};
 ghost use Rattle.counter_unit.specs.Setups.{IsSetUp};
 ghost use Rattle.counter_unit.specs.Counting.{IsThreshold, IsSound, AreSound, beginning, period, at_place, begun, begun_again, moved, carries, moved_place, all_moved, all_carries, bits_of};
 
@@ -31,7 +32,7 @@ impl Model for Unit {
 
     ghost view = { λ u. record { widths = u.shape; registers = u.registers } };
 
-    ghost invariant = { λ u. IsUnit u.shape u.registers u.selects.masks u.setups.items };
+    ghost invariant = { λ u. IsUnit u.shape u.registers u.selects u.setups.items };
 }
 
 /// The values of a register of this width, and one more than the greatest.
@@ -69,7 +70,7 @@ pub fn beginning_of(width: u8, threshold: u64) -> u64
     room(width) - period_of(width, threshold)
 }
 
-/// Counts one occurrence at a place, and tells whether its register carried.
+/// Counts one occurrence, which can move it, at a place, and tells whether its register carried.
 #[inline(always)]
 pub(crate) fn count_place(
     place: &mut Option<Register>,
@@ -82,6 +83,7 @@ pub(crate) fn count_place(
     requires high { width ≤ 48 }
     requires sound { IsSound width place.old }
     requires set_up { IsSetUp width place.old setup }
+    requires admitted { admits o.now place.old ≡ true }
     ensures place { place.new ≡ (moved_place (option_copied before.entry) o.now width place.old).place }
     ensures carried { result ≡ (moved_place (option_copied before.entry) o.now width place.old).carried }
 {
@@ -134,18 +136,15 @@ impl Unit {
     {
         let width = self.shape.width(c);
         let value = beginning_of(width, threshold);
-        self.selects.remove(self.registers.at(c), c);
-        self.selects.add(n.select, c);
-        self.setups.put(c, Setup::of(&n, d, width, threshold));
-        self.registers.put(
-            c,
-            Some(Register {
-                native: n,
-                domain: d,
-                threshold,
-                value,
-            }),
-        );
+        let place = Some(Register {
+            native: n,
+            domain: d,
+            threshold,
+            value,
+        });
+        self.selects.put(c, &place);
+        self.setups.put(c, Setup::of(&n, width, threshold));
+        self.registers.put(c, place);
     }
 
     /// Adds to each programmed register what the occurrence counts for it, where `before` came just before it. The result
@@ -157,7 +156,7 @@ impl Unit {
     {
         let _amount = o.amount;
         let mut carry = 0;
-        let mut left = self.selects.at(o.select);
+        let mut left = self.selects.at(o);
         while left != 0 {
             let c = left.trailing_zeros();
             left &= !(1 << c);
@@ -216,7 +215,7 @@ impl Unit {
         requires exists { c < length self.old.widths }
         ensures { self.new ≡ record self.old { registers = slice_set self.old.registers c None } }
     {
-        self.selects.remove(self.registers.at(c), c);
+        self.selects.put(c, &None);
         self.registers.put(c, None);
     }
 }

@@ -3,10 +3,11 @@ use Rattle.std.specs.Option.{option_copied}
 use Rattle.std.specs.Int.{w32}
 use Rattle.std.proofs.lemmas.Nat.Bits.{bit_at_set_same, bit_at_set_other}
 use Rattle.counter_unit.specs.Counting.{After, at_place, moved_place}
+use Rattle.counter_unit.specs.Selects.{admits, bit_of}
 use Rattle.counter_unit.proofs.Places.{AreSound-moved}
 use Rattle.counter_unit.specs.declared.setups.Setups.{Setups}
 use Rattle.counter_unit.proofs.Setting.{AreSetUp-moved}
-use Rattle.counter_unit.proofs.Tables.{AreSelects-moved, bit_of}
+use Rattle.counter_unit.proofs.Tables.{AreSelects-moved}
 use Rattle.counter_unit.proofs.Steps.{all_carried, all_done, begins, goes_on, lowest, lowest_is, others-lt}
 use Rattle.counter_unit.proofs.unit.Unit.step.Goals as goal
 
@@ -15,7 +16,7 @@ loop-left-init c = record {
   shape = refl;
   selects = refl;
   setups = refl;
-  stepping = rw c.at-left.ensures (begins (option_copied c.args.before) c.args.o.now c.self.inside.shape c.self.inside.selects.masks c.self.inside.registers (omega arith) c.self.invariant.sound c.self.invariant.selects);
+  stepping = begins (option_copied c.args.before) c.args.o.now c.self.inside.shape c.self.inside.registers c.at-left.result c.self.invariant.few (omega arith) c.self.invariant.sound (λ k below. c.at-left.ensures c.self.inside.registers k c.self.invariant.selects below);
 }
 
 pub width-width-requires : goal.width-width-requires
@@ -37,6 +38,12 @@ count-requires-clause-set_up c =
     let width : c.width-width.result ≡ get_or c.self.inside.shape k 0 = c.width-width.ensures.width ∙ ap (λ (ws : List ℕ). get_or ws k 0) c.loop-left.invariant.shape in
     let setup : slice_get c.self.inside.setups.items k ≡ Some c.at-setup.result = ap (λ (s : Setups). slice_get s.items k) (sym c.loop-left.invariant.setups) ∙ c.at-setup.ensures in
     rw (c.loop-left.invariant.stepping.waits k is, width) (c.self.invariant.set_up k c.at-setup.result setup)
+
+pub count-requires-clause-admitted : goal.count-requires-clause-admitted
+count-requires-clause-admitted c =
+    let k = lowest c.loop-left.left in
+    let is = (lowest_is c.loop-left.left (omega arith) (omega arith)).1 in
+    ap (admits c.args.o.now) (c.loop-left.invariant.stepping.waits k is) ∙ c.loop-left.invariant.stepping.admitted k is
 
 pub loop-left-preserved-then-count : goal.loop-left-preserved-then-count
 loop-left-preserved-then-count c =
@@ -80,7 +87,7 @@ invariant_of-self c =
       few = c.self.invariant.few;
       are_widths = c.self.invariant.are_widths;
       sound = AreSound-moved before c.args.o.now ws rs c.self.invariant.are_widths (omega arith) c.self.invariant.sound;
-      selects = AreSelects-moved before c.args.o.now c.self.inside.selects.masks ws rs c.self.invariant.sound.same_length c.self.invariant.selects;
+      selects = AreSelects-moved before c.args.o.now c.self.inside.selects ws rs c.self.invariant.sound.same_length c.self.invariant.selects;
       places = c.self.invariant.places;
       set_up = AreSetUp-moved before c.args.o.now ws rs c.self.inside.setups.items c.self.invariant.sound.same_length c.self.invariant.set_up;
     }

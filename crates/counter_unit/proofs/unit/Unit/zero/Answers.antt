@@ -25,7 +25,7 @@ invariant_of-self c =
       few = c.self.invariant.few;
       are_widths = c.self.invariant.are_widths;
       sound = AreSound-put ws rs c.args.c _ exists (again-sound _ (at_place rs c.args.c) (c.self.invariant.are_widths.low c.args.c exists) (c.self.invariant.sound.each c.args.c exists)) c.self.invariant.sound;
-      selects = AreSelects-zeroed c.self.inside.selects.masks rs c.args.c _ (omega arith) c.self.invariant.selects;
+      selects = AreSelects-zeroed c.self.inside.selects rs c.args.c _ (omega arith) c.self.invariant.selects;
       places = c.self.invariant.places;
       set_up = AreSetUp-zeroed ws rs c.self.inside.setups.items c.args.c _ (omega arith) c.self.invariant.set_up;
     }

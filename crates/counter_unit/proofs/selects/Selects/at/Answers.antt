@@ -1,0 +1,25 @@
+use Rattle.std.proofs.Common.{◌≡◌, Bool, true, false, refl, ap, ap₂, sym, ◌∙◌, arith}
+use Rattle.std.specs.Prelude.{◌&&◌, if◌then◌else◌, min}
+use Rattle.std.specs.Int.{bit_at}
+use Rattle.std.proofs.lemmas.Nat.Bits.{bit_at_and}
+use Rattle.counter_unit.specs.declared.selects.Key.TheVariants as key
+use Rattle.counter_unit.specs.Counting.{at_place}
+use Rattle.counter_unit.specs.Selects.{bit_of, has, mode_of}
+use Rattle.counter_unit.proofs.selects.Selects.at.Goals as goal
+use Rattle.counter_unit.proofs.selects.Selects.at.Goals.{then-o, else-o}
+
+both : (a b : Bool) → min (bit_of a) (bit_of b) ≡ bit_of (a && b)
+both true true = refl
+both true false = refl
+both false true = refl
+both false false = refl
+
+pub returns : goal.returns
+returns c registers k h below =
+    let o = c.args.o.now in
+    let place = at_place registers k in
+    let coded : bit_at c.if-o.coded k ≡ bit_of (has (mode_of o) o.select place) = elim c.if-o.branch [
+      | then-o w ↦ ap (λ m. bit_at m k) w.coded-is ∙ h.kernel.each o.select k (omega arith) below ∙ sym (ap (λ b. bit_of (has (if b then key.Kernel else key.User) o.select place)) w.if-o.true)
+      | else-o w ↦ ap (λ m. bit_at m k) w.coded-is ∙ h.user.each o.select k (omega arith) below ∙ sym (ap (λ b. bit_of (has (if b then key.Kernel else key.User) o.select place)) w.if-o.false)
+    ] in
+    bit_at_and c.if-o.coded _ k ∙ ap₂ min coded (h.umasks.each o.umask k (omega arith) below) ∙ both (has (mode_of o) o.select place) (has key.Umask o.umask place)
