@@ -1,0 +1,122 @@
+"""The documents as `docs` reads them: their fenced blocks, their links, and the names of the code that their tables give."""
+
+from __future__ import annotations
+
+import re
+from dataclasses import dataclass, field
+from functools import lru_cache
+from pathlib import Path
+
+from running import ROOT
+
+
+@dataclass(frozen=True)
+class Shown:
+    """A command of a `console` block, and what it prints."""
+
+    command: str
+    output: str
+
+
+@dataclass
+class Block:
+    """A fenced block: the line where it begins, its marks (`file=NAME`, `part=NAME`), its text, and its commands."""
+
+    line: int
+    marks: dict[str, str]
+    text: str = ""
+    examples: list[Shown] = field(default_factory=list)
+
+
+def blocks_of(path: Path) -> list[Block]:
+    blocks: list[Block] = []
+    lines = path.read_text(encoding="utf-8").splitlines()
+    number = 0
+    while number < len(lines):
+        if not lines[number].startswith("```"):
+            number += 1
+            continue
+        kind, *marks = lines[number][3:].split() or [""]
+        end = lines.index("```", number + 1)
+        body = lines[number + 1 : end]
+        block = Block(number + 1, dict(mark.split("=", 1) for mark in marks), "".join(f"{line}\n" for line in body))
+        if kind == "console":
+            block.examples = commands_in(body)
+        blocks.append(block)
+        number = end + 1
+    return blocks
+
+
+def commands_in(body: list[str]) -> list[Shown]:
+    """The commands begin with `$ ` and go on with `> `. What follows is what they print."""
+    commands: list[tuple[list[str], list[str]]] = []
+    for line in body:
+        if line.startswith("$ "):
+            commands.append(([line[2:]], []))
+        elif line.startswith("> ") and not commands[-1][1]:
+            commands[-1][0].append(line[2:])
+        else:
+            commands[-1][1].append(line)
+    return [Shown("\n".join(command), "".join(f"{line}\n" for line in output)) for command, output in commands]
+
+
+def prose_of(path: Path) -> list[tuple[int, str]]:
+    """The numbered lines that stand in no fenced block."""
+    lines, fenced = [], False
+    for number, line in enumerate(path.read_text(encoding="utf-8").splitlines(), 1):
+        if line.startswith("```"):
+            fenced = not fenced
+        elif not fenced:
+            lines.append((number, line))
+    return lines
+
+
+def links_of(path: Path) -> list[tuple[int, str]]:
+    """The targets of links to files and headings of the repository."""
+    return [
+        (number, target)
+        for number, line in prose_of(path)
+        for target in re.findall(r"\]\(([^)\s]+)\)", line)
+        if not re.match(r"[a-z]+:", target)
+    ]
+
+
+@lru_cache(maxsize=None)
+def anchors_of(path: Path) -> frozenset[str]:
+    headings = [line.lstrip("#").strip() for _, line in prose_of(path) if line.startswith("#")]
+    return frozenset(re.sub(r"[^\w\- ]", "", heading.lower()).replace(" ", "-") for heading in headings)
+
+
+def lines_with_names(path: Path) -> list[tuple[int, list[Path], list[str]]]:
+    """The rows of tables that say where a thing stands: the files, and the names in the last cell that must occur there.
+
+    Where the last column is headed `Functions` the row has a link to its file, and where it is headed `Where` its first cell has its crates.
+    """
+    rows = []
+    head: list[str] = []
+    for number, line in prose_of(path):
+        if not line.startswith("|"):
+            head = []
+            continue
+        cells = [cell.strip() for cell in line.strip().strip("|").split("|")]
+        head = head or cells
+        links = [(path.parent / target).resolve() for target in re.findall(r"\]\(([^)#\s]+)\)", line)] if head[-1] == "Functions" else []
+        crates = re.findall(r"`(\w+)`", cells[0]) if head[-1] == "Where" else []
+        names = re.findall(r"`([A-Za-z_][\w:]*)`", re.sub(r"\[[^\]]*\]\([^)]*\)", "", cells[-1]))
+        files = [file for file in links if file.exists()] or [ROOT / "crates" / crate for crate in crates]
+        if files and names:
+            rows.append((number, files, [part for name in names for part in name.split("::")]))
+    return rows
+
+
+def names_in(files: list[Path]) -> set[str]:
+    """All words of these files, or of the sources and definitions of these crates."""
+    return set().union(*(_names(file) for file in files))
+
+
+@lru_cache(maxsize=None)
+def _names(file: Path) -> frozenset[str]:
+    if file.is_dir():
+        inside = [*file.glob("src/*.rt"), *file.glob("specs/*.antt")]
+        return frozenset().union(*(_names(path) for path in inside))
+    return frozenset(re.findall(r"\w+", file.read_text(encoding="utf-8"))) if file.exists() else frozenset()

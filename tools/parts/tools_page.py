@@ -1,0 +1,98 @@
+"""docs/TOOLS.md, made of the usage texts and of the examples."""
+
+from __future__ import annotations
+
+import re
+
+from parts.usage import Error, Usage, read_errors, read_usage, summaries, tools
+
+HEAD = """# Tools
+
+<!-- Made by tools/make_pages out of bin/usage and examples. Change those, and run it again. -->
+
+Each tool has a script in `bin/`. It prints its usage without words and with `--help`. The manual pages in `man/` say the same:
+`man -l man/papi_run.1`. [FORMATS.md](FORMATS.md) has the formats of all files and the rules of all calls.
+
+The commands on this page are run at the top of the repository.
+
+"""
+STATUSES = """## Statuses
+
+| Status | What it means | Output |
+|---|---|---|
+| 0 | done | whole |
+| 1 | the tool says no: a name is not known, or a given event is refused | whole |
+| 2 | the words, a file, or a line of a stream are refused | empty, or whole where it is a line of a stream |
+| 3 | an opening or a read failed | empty, or whole where it is a read of a stream |
+| 4 | out of memory | a prefix |
+| 5 | a write failed | a prefix |
+| 127 | a script in `bin/` found neither a built program nor `rt` | empty |
+
+Where several hold after the runs of a script, 5 takes precedence over 3, and 3 over 2. A refused call of a script is a reply like any other
+and leaves the status 0.
+
+"""
+ORIGINS = {
+    "words": "Words",
+    "files": "Any file",
+    "unit": "Unit file (`-U`)",
+    "presets": "Preset file (`-P`)",
+    "script": "Script",
+    "map": "Map file (`-M`)",
+    "regions": "Region script",
+    "stream": "Stream",
+    "memory": "Memory",
+    "output": "Output",
+    "bin": "The scripts in `bin/`",
+}
+ERRORS_HEAD = """## Errors
+
+The program writes at most one line on standard error, except for streams: one line for each thread whose runs met a fault. Row numbers count
+the rows of a table without blank lines and without lines that begin with `#`. `tools/preset_lines FILE` turns the row number of an error into the line of the file.
+The first fault in the order of work is named: the words, the unit file, the preset file, the script, the openings of the streams, and then the runs.
+"""
+
+
+def cell(text: str) -> str:
+    return text.replace("|", "\\|")
+
+
+def tools_page() -> str:
+    usages = [read_usage(tool) for tool in tools()]
+    lines = [HEAD.rstrip("\n"), "", "| Tool | |", "|---|---|"]
+    lines += [f"| [{tool}](#{tool}) | {cell(summary)} |" for tool, summary in summaries().items()]
+    lines += ["| | [Statuses](#statuses) |", "| | [Errors](#errors): each with its cause and its remedy |", ""]
+    for usage in usages:
+        lines += _section(usage)
+    lines += [STATUSES.rstrip("\n"), "", ERRORS_HEAD.rstrip("\n"), ""]
+    lines += _errors(read_errors())
+    return "\n".join(lines).rstrip("\n") + "\n"
+
+
+def _section(usage: Usage) -> list[str]:
+    lines = [f"## {usage.tool}", "", f"    {usage.tool} {usage.line}", "", usage.lead, "", "| Word | Meaning |", "|---|---|"]
+    lines += [f"| `{cell(option.word)}` | {cell(option.meaning)} |" for option in usage.options] + [""]
+    for note in usage.notes:
+        lines += [note, ""]
+    for example in usage.examples:
+        lines += [example.title, "", "```console", f"$ {example.command}", *example.output.splitlines(), "```", ""]
+    return lines
+
+
+def _errors(errors: list[Error]) -> list[str]:
+    lines = []
+    for origin, title in ORIGINS.items():
+        rows = [error for error in errors if error.origin == origin]
+        if not rows:
+            continue
+        lines += [f"### {title}", "", "| Line | Status | Cause | Remedy |", "|---|---|---|---|"]
+        for error in rows:
+            text = error.text if error.text.startswith("(") else f"`{error.text}`"
+            lines.append(f"| {cell(text)} | {error.status} | {cell(error.cause)} | {cell(error.remedy)} |")
+        lines.append("")
+    return lines
+
+
+def plain(text: str) -> str:
+    """A text of the tables without the marks of Markdown."""
+    return re.sub(r"`([^`]*)`", r"\1", text)

@@ -1,0 +1,48 @@
+"""tools/draw_crates: levels, lines and the picture."""
+
+from __future__ import annotations
+
+import unittest
+from xml.etree import ElementTree
+
+from parts.crate_graph import BOX_GAP, lay_out, levels, nearest, read_crates
+from parts.crate_picture import draw_crates
+from tests.support import ROOT, InFolder, run_tool
+
+SVG = "{http://www.w3.org/2000/svg}"
+CITED = {"app": ["base", "list", "text"], "base": [], "list": ["base"], "text": ["base", "list"]}
+
+
+class Crates(InFolder):
+    def test_reading(self) -> None:
+        path = self.write("crates.txt", "# all\nlist: base csv\nbase: \n\ntop: list base # the program\n")
+        self.assertEqual(read_crates(self.folder / "crates.txt"), {"base": [], "list": ["base"], "top": ["base", "list"]}, path)
+
+    def test_levels_and_nearest(self) -> None:
+        self.assertEqual(levels(CITED), {"base": 0, "list": 1, "text": 2, "app": 3})
+        self.assertEqual(nearest(CITED), {"app": ["text"], "base": [], "list": ["base"], "text": ["list"]})
+
+    def test_boxes_stand_apart(self) -> None:
+        layout = lay_out(read_crates(ROOT / "crates.txt"))
+        for row in layout.rows:
+            for left, right in zip(row, row[1:]):
+                self.assertGreaterEqual(right.x - left.x, (left.width + right.width) / 2 + BOX_GAP - 0.01)
+            self.assertGreaterEqual(row[0].x - row[0].width / 2, 0)
+            self.assertLessEqual(row[-1].x + row[-1].width / 2, layout.width)
+
+
+class Picture(unittest.TestCase):
+    def test_each_crate_once(self) -> None:
+        root = ElementTree.fromstring(draw_crates(CITED))
+        names = [element.text for element in root.iter(f"{SVG}text") if element.get("class") == "name"]
+        self.assertEqual(sorted(names), sorted(CITED))
+        self.assertEqual(len([element for element in root.iter(f"{SVG}path")]), 3)
+
+    def test_a_picture_that_is_out_of_date(self) -> None:
+        done = run_tool("draw_crates", "--check", str(ROOT / "crates.txt"))
+        self.assertEqual((done.returncode, done.stdout), (1, ""))
+        self.assertIn("is out of date", done.stderr)
+
+
+if __name__ == "__main__":
+    unittest.main()
