@@ -26,10 +26,10 @@ GROUPS = {
         "script_lines", "script_runner", "reply_text", "listing_text", "chooser_list", "soak_input", "profil_hist", "region_report", "tool_words",
     ),
     "program": ("papi_tools", "papi"),
-    "tests": ("table_tests", "counting_tests", "script_tests", "worked_rows"),
 }
-LIGHT = ("#e8eaed", "#d6e6f5", "#d9efd8", "#f6e3c5", "#e6dcf3", "#d3eeea", "#f6d7d4", "#ffffff")
-DARK = ("#3a3f47", "#1f3f5c", "#23482a", "#5a4420", "#413060", "#1d4a45", "#5e2c29", "#0d1117")
+TESTS = ("table_tests", "counting_tests", "script_tests", "worked_rows")  # these are not drawn
+LIGHT = ("#e8eaed", "#d6e6f5", "#d9efd8", "#f6e3c5", "#e6dcf3", "#d3eeea", "#f6d7d4")
+DARK = ("#3a3f47", "#1f3f5c", "#23482a", "#5a4420", "#413060", "#1d4a45", "#5e2c29")
 
 
 def _style() -> str:
@@ -50,7 +50,9 @@ def _kind(name: str) -> str:
     return next((f"g{place}" for place, names in enumerate(GROUPS.values()) if name in names), "plain")
 
 
-def draw_crates(cited: dict[str, list[str]]) -> str:
+def draw_crates(listed: dict[str, list[str]]) -> str:
+    cited = {name: uses for name, uses in listed.items() if name not in TESTS}
+    tests = [name for name in TESTS if name in listed]
     layout = lay_out(cited)
     width = round(layout.width + 2 * MARGIN)
     height = HEADING + LEVEL * len(layout.rows) - (LEVEL - BOX_HEIGHT) + MARGIN
@@ -61,7 +63,7 @@ def draw_crates(cited: dict[str, list[str]]) -> str:
         f'<rect class="page" width="{width}" height="{height}" rx="6"/>',
         f'<text class="title" x="{MARGIN}" y="{MARGIN + 12}">The crates, each above all that it stands on</text>',
         f'<text class="quiet" x="{MARGIN}" y="{MARGIN + 32}">A line goes down to a crate that is cited. '
-        "It is left out where another line leads there too.</text>",
+        f"It is left out where another line leads there too.{' Not drawn: ' + ', '.join(tests) + '.' if tests else ''}</text>",
     ]
     lines += _legend(cited, layout.width)
     lines += [_line(chain, layout) for chain in layout.chains]
