@@ -1,4 +1,4 @@
-// Presets that share native events, in a set.
+//! Presets that share native events, in a set.
 ghost use Rattle.std.specs.Prelude.{◌≡◌, [], ◌∷◌, All};
 ghost use Rattle.postfix_rules.specs.Rules.{IsDerived};
 ghost use Rattle.postfix_rules.specs.Fitting.{BookFits, Fits};

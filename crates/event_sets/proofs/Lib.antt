@@ -1,3 +1,5 @@
+pub mod Firsts
+pub mod Derived
 pub mod Steps
 pub mod Removing
 pub mod Agreeing

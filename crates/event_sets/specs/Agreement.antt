@@ -17,5 +17,6 @@ pub record Agrees (book : Book) (s : AtRest) : Type 0 where
   pub one_each : length s.thresholds ≡ length s.events
   pub distinct : (i j : ℕ) (e : EventRef) → slice_get s.events i ≡ Some e → slice_get s.events j ≡ Some e → i ≡ j
   pub plain : (i t : ℕ) (e : EventRef) → slice_get s.thresholds i ≡ Some (suc t) → slice_get s.events i ≡ Some e → is_plain (rule_of_event book e) ≡ true
-  pub apart : (i j t u : ℕ) (e f : EventRef) (n : Native) → slice_get s.thresholds i ≡ Some (suc t) → slice_get s.thresholds j ≡ Some (suc u) → slice_get s.events i ≡ Some e → slice_get s.events j ≡ Some f
+  pub apart : (i j t u : ℕ) (e f : EventRef) (n : Native)
+      → slice_get s.thresholds i ≡ Some (suc t) → slice_get s.thresholds j ≡ Some (suc u) → slice_get s.events i ≡ Some e → slice_get s.events j ≡ Some f
       → lead book e ≡ Some n → lead book f ≡ Some n → i ≡ j

@@ -14,7 +14,8 @@ NewIsSound = (book : Book) (shape : Widths) → IsSound (set_view book shape new
 
 -- a set with one more event
 abbrev pub AddedIsSound : Type 0
-AddedIsSound = (book : Book) (shape : Widths) (e : EventRef) (s : AtRest) → IsHeld book e → All (Fits shape) (natives_of_event book e) → All (λ widths. length widths ≤ 32) shape
+AddedIsSound = (book : Book) (shape : Widths) (e : EventRef) (s : AtRest)
+    → IsHeld book e → All (Fits shape) (natives_of_event book e) → All (λ widths. length widths ≤ 32) shape
     → add_refusal book e s ≡ None → IsSound (set_view book shape s) → IsSound (set_view book shape (with_event book e s))
 
 -- a set with all events gone
@@ -23,23 +24,32 @@ EmptiedIsSound = (book : Book) (shape : Widths) (s : AtRest) → IsSound (set_vi
 
 -- with an event gone
 abbrev pub RemovedIsSound : Type 0
-RemovedIsSound = (book : Book) (shape : Widths) (e : EventRef) (s : AtRest) → IsSound (set_view book shape s) → IsSound (set_view book shape (without_event e s))
+RemovedIsSound = (book : Book) (shape : Widths) (e : EventRef) (s : AtRest)
+    → IsSound (set_view book shape s) → IsSound (set_view book shape (without_event e s))
 
 -- with a component
 abbrev pub AssignedIsSound : Type 0
-AssignedIsSound = (book : Book) (shape : Widths) (comp : ℕ) (s : AtRest) → All (λ widths. length widths ≤ 32) shape → assign_refusal shape comp s ≡ None → IsSound (set_view book shape s) → IsSound (set_view book shape (record s { component = Some comp }))
+AssignedIsSound = (book : Book) (shape : Widths) (comp : ℕ) (s : AtRest)
+    → All (λ widths. length widths ≤ 32) shape → assign_refusal shape comp s ≡ None
+    → IsSound (set_view book shape s) → IsSound (set_view book shape (record s { component = Some comp }))
 
 -- with a domain
 abbrev pub WithDomainIsSound : Type 0
-WithDomainIsSound = (book : Book) (shape : Widths) (bits : ℕ) (s : AtRest) → is_bad_domain bits ≡ false → IsSound (set_view book shape s) → IsSound (set_view book shape (record s { domain = record { 0 = bits } }))
+WithDomainIsSound = (book : Book) (shape : Widths) (bits : ℕ) (s : AtRest)
+    → is_bad_domain bits ≡ false
+    → IsSound (set_view book shape s) → IsSound (set_view book shape (record s { domain = record { 0 = bits } }))
 
 -- with a slice
 abbrev pub WithSliceIsSound : Type 0
-WithSliceIsSound = (book : Book) (shape : Widths) (slice : ℕ) (s : AtRest) → multiplex_refusal slice s ≡ None → IsSound (set_view book shape s) → IsSound (set_view book shape (record s { slice = Some slice }))
+WithSliceIsSound = (book : Book) (shape : Widths) (slice : ℕ) (s : AtRest)
+    → multiplex_refusal slice s ≡ None
+    → IsSound (set_view book shape s) → IsSound (set_view book shape (record s { slice = Some slice }))
 
 -- with a threshold
 abbrev pub ArmedIsSound : Type 0
-ArmedIsSound = (book : Book) (shape : Widths) (e : EventRef) (t : ℕ) (s : AtRest) → threshold_refusal book shape e t s ≡ None → IsSound (set_view book shape s) → IsSound (set_view book shape (with_threshold e t s))
+ArmedIsSound = (book : Book) (shape : Widths) (e : EventRef) (t : ℕ) (s : AtRest)
+    → threshold_refusal book shape e t s ≡ None
+    → IsSound (set_view book shape s) → IsSound (set_view book shape (with_threshold e t s))
 
 -- the natives of an event fit where the event and the book do
 abbrev pub HeldFit : Type 0

@@ -1,4 +1,4 @@
-// What stands in the way of native events that are added to a set.
+//! What stands in the way of native events that are added to a set.
 ghost use Rattle.std.specs.Prelude.{◌≡◌, ℕ, ◌≤◌, ◌<◌, ◌^◌, ◌==◌, None, length, take, drop, find, All, IfErr, IsNone, OnErr, OnOk};
 ghost use Rattle.std.specs.Int.{bit_at};
 ghost use Rattle.counter_alloc.specs.Assignments.{Assignable};

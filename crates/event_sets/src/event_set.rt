@@ -1,4 +1,4 @@
-// Event sets that do not run.
+//! Event sets that do not run.
 ghost use Rattle.std.specs.Prelude.{◌≡◌, false, true, ◌<◌, ◌≤◌, ◌↔◌, if◌then◌else◌, [], All, IfErr, IfSome, IsNone, IsSome, OnErr, OnOk, None, Some, is_some, length, slice_index};
 ghost use Rattle.papi_base.specs.declared.code.Code.TheVariants.{Einval};
 ghost use Rattle.counter_alloc.specs.Listing.{least};
@@ -150,7 +150,8 @@ impl EventSet {
     /// EINVAL where the event is not in the set.
     pub fn remove(&mut self, book: &PresetBook, e: &EventRef) -> Result<(), Code>
         requires natives { self.old.natives ≡ set_natives book.now self.old.rest }
-        ensures removed { OnOk result (self.new ≡ record self.old { rest = without_event e.now self.old.rest; natives = set_natives book.now (without_event e.now self.old.rest) }) }
+        ensures removed { let rest = without_event e.now self.old.rest
+            in OnOk result (self.new ≡ record self.old { rest = rest; natives = set_natives book.now rest }) }
         ensures taken { OnOk result (has_event_in e.now self.old.rest ≡ true) }
         ensures refused { IfErr result (λ c. c ≡ Einval) }
         ensures absent { OnErr result (has_event_in e.now self.old.rest ≡ false) }
@@ -215,7 +216,8 @@ impl EventSet {
     /// ENOCMP where there is no such component, else EINVAL where another one is fixed.
     pub fn assign_component(&mut self, comp: u32, shape: &Shape) -> Result<(), Code>
         requires counters { self.old.counters ≡ length (widths_at shape.now self.old.rest.component) }
-        ensures set { OnOk result (self.new ≡ record self.old { rest = record self.old.rest { component = Some comp }; counters = length (widths_at shape.now (Some comp)) }) }
+        ensures set { let rest = record self.old.rest { component = Some comp }
+            in OnOk result (self.new ≡ record self.old { rest = rest; counters = length (widths_at shape.now (Some comp)) }) }
         ensures taken { OnOk result (assign_refusal shape.now comp self.old.rest ≡ None) }
         ensures refused { IfErr result (λ c. assign_refusal shape.now comp self.old.rest ≡ Some c) }
         ensures unchanged { OnErr result (self.new ≡ self.old) }

@@ -1,4 +1,4 @@
-// The native events of an event, and those of a set with them.
+//! The native events of an event, and those of a set with them.
 ghost use Rattle.std.specs.Prelude.{◌≡◌, ◌<◌, ◌≤◌, length, IfSome, IfNone};
 ghost use Rattle.postfix_rules.specs.Presets.{natives_of as natives_of_events, natives_of_event};
 ghost use Rattle.postfix_rules.specs.Sameness.{joined_by};

@@ -1,5 +1,5 @@
-// Laws of the definitions, each the contract of a function that does nothing.
-ghost use Rattle.event_sets.specs.Laws.{AddedAgrees, ArmedAgrees, AssignedAgrees, EmptiedAgrees, HeldHaveNatives, NativesAreOwned, RemovedAgrees};
+//! Laws of the definitions, each the contract of a function that does nothing.
+ghost use Rattle.event_sets.specs.Laws.{AddedAgrees, ArmedAgrees, AssignedAgrees, EmptiedAgrees, HeldHaveNatives, NativesAreFirsts, NativesAreOwned, RemovedAgrees};
 ghost use Rattle.event_sets.specs.Soundness.{AddedIsSound, ArmedIsSound, AssignedIsSound, EmptiedIsSound, HeldFit, NewIsSound, RemovedIsSound, WithDomainIsSound, WithSliceIsSound};
 
 /// The changes of a set keep its agreement with the book, where the tests of refusals fail.
@@ -12,9 +12,11 @@ pub fn agreement_laws()
 {}
 
 /// An event that the book holds has a first native event, and the native events of a set that agrees are of its component.
+/// The native events of several events are those of each, one after another, without later repeats.
 pub fn natives_laws()
     ensures held { HeldHaveNatives }
     ensures owned { NativesAreOwned }
+    ensures firsts { NativesAreFirsts }
 {}
 
 /// A new set keeps what each set keeps, and so does a set after each change that is not refused.

@@ -1,4 +1,4 @@
-// What is left of a set without one of its events: PAPI_remove_event(3).
+//! What is left of a set without one of its events: PAPI_remove_event(3).
 ghost use Rattle.std.specs.Prelude.{◌≡◌, ◌≤◌, ◌<◌, ◌^◌, All, None, remove};
 ghost use Rattle.counter_alloc.specs.Assignments.{Assignable};
 ghost use Rattle.counter_alloc.specs.Masks.{masks_of};

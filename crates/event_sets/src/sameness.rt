@@ -1,4 +1,4 @@
-// Equal events and native events.
+//! Equal events and native events.
 ghost use Rattle.std.specs.Prelude.{◌≡◌, ◌<◌, IfSome, is_some, length};
 ghost use Rattle.std.specs.List.{list_any, position_or_len};
 ghost use Rattle.postfix_rules.specs.Sameness.{among, same_event, same_native};
@@ -9,28 +9,14 @@ use papi_base::{EventRef, Events, Native, Natives};
 pub fn is_same(m: &Native, n: &Native) -> bool
     ensures { result ≡ same_native m.now n.now }
 {
-    m.comp == n.comp
-        && m.event == n.event
-        && m.select == n.select
-        && m.masks == n.masks
-        && m.umask == n.umask
-        && m.mods.user == n.mods.user
-        && m.mods.kernel == n.mods.kernel
-        && m.mods.edge == n.mods.edge
-        && m.mods.invert == n.mods.invert
-        && m.mods.cmask == n.mods.cmask
-        && m.allowed == n.allowed
+    m == n
 }
 
 /// Whether two events are equal.
 pub fn is_same_event(e: &EventRef, f: &EventRef) -> bool
     ensures { result ≡ same_event e.now f.now }
 {
-    match (e, f) {
-        (EventRef::Preset(i), EventRef::Preset(j)) => i == j,
-        (EventRef::Native(m), EventRef::Native(n)) => is_same(m, n),
-        _ => false,
-    }
+    e == f
 }
 
 /// Whether the native event is in the list.

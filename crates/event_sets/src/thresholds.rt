@@ -1,4 +1,4 @@
-// Thresholds of events: PAPI_overflow(3).
+//! Thresholds of events: PAPI_overflow(3).
 ghost use Rattle.std.specs.Prelude.{◌≡◌, ◌≤◌, ◌^◌, ◌&&◌, not, nat_lt};
 ghost use Rattle.std.specs.List.{list_any};
 ghost use Rattle.postfix_rules.specs.Presets.{rule_of_event};

@@ -4,7 +4,7 @@ ghost use Rattle.std.specs.Prelude.{◌≡◌, ◌+◌, ◌<◌, ◌≤◌, List
 use std::marker::Model;
 
 /// A list of at most 32 counts.
-#[derive(Drop)]
+#[derive(Debug, Drop)]
 pub struct Counts {
     items: [u64; 32],
     count: u32,

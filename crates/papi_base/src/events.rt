@@ -5,7 +5,7 @@ use crate::EventRef;
 use std::marker::Model;
 
 /// A list of at most 32 events.
-#[derive(Drop)]
+#[derive(Debug, Drop)]
 pub struct Events {
     items: [EventRef; 32],
     count: u32,

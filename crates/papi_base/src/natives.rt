@@ -5,7 +5,7 @@ use crate::{Mods, Native};
 use std::marker::Model;
 
 /// A list of at most 32 native events.
-#[derive(Drop)]
+#[derive(Debug, Drop)]
 pub struct Natives {
     items: [Native; 32],
     count: u32,

@@ -4,7 +4,7 @@ ghost use Rattle.std.specs.Prelude.{◌≡◌, ◌+◌, ◌<◌, ◌≤◌, List
 use std::marker::Model;
 
 /// A list of at most 32 counters, one for each place of a list of native events.
-#[derive(Drop)]
+#[derive(Debug, Drop)]
 pub struct Places {
     items: [u8; 32],
     count: u32,

@@ -4,7 +4,7 @@ ghost use Rattle.std.specs.Prelude.{◌≡◌, ◌+◌, ◌<◌, ◌≤◌, List
 use std::marker::Model;
 
 /// A list of at most 32 signed values, as PAPI_read(3) gives them.
-#[derive(Drop)]
+#[derive(Debug, Drop)]
 pub struct Values {
     items: [i64; 32],
     count: u32,

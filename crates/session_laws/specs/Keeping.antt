@@ -19,7 +19,9 @@ OpeningAgrees = (book : Book) (thread : ℕ) (rest : List Occ) (mark : Mark) →
 
 -- each good call keeps the agreement of the sets with the book
 abbrev pub AgreementStays : Type 0
-AgreementStays = (book : Book) (shape : Widths) (a : Account) (call : Call) → IsGood book shape call → AllAgree book (faces_of a.sets) → AllAgree book (faces_of (step book shape a call).account.sets)
+AgreementStays = (book : Book) (shape : Widths) (a : Account) (call : Call)
+    → IsGood book shape call → AllAgree book (faces_of a.sets)
+    → AllAgree book (faces_of (step book shape a call).account.sets)
 
 abbrev pub OpeningWithin : Type 0
 OpeningWithin = (thread : ℕ) (rest : List Occ) (mark : Mark) → AllWithin 0 (opening thread rest mark).sets
@@ -39,7 +41,8 @@ OpeningApart = (thread : ℕ) (rest : List Occ) (mark : Mark) → AreApart (face
 
 -- of each component at most one set runs
 abbrev pub ApartStays : Type 0
-ApartStays = (book : Book) (shape : Widths) (a : Account) (call : Call) → AreApart (faces_of a.sets) → AreApart (faces_of (step book shape a call).account.sets)
+ApartStays = (book : Book) (shape : Widths) (a : Account) (call : Call)
+    → AreApart (faces_of a.sets) → AreApart (faces_of (step book shape a call).account.sets)
 
 -- the places of a thread's sets
 abbrev pub PlacesStay : Type 0
@@ -57,4 +60,6 @@ OpeningFits = (book : Book) (shape : Widths) (thread : ℕ) (rest : List Occ) (m
 
 -- each set goes on to fit the book and the shape
 abbrev pub FitStays : Type 0
-FitStays = (book : Book) (shape : Widths) (a : Account) (call : Call) → IsShape shape → BookFits shape book → IsGood book shape call → AreFit book shape a.sets → AreFit book shape (step book shape a call).account.sets
+FitStays = (book : Book) (shape : Widths) (a : Account) (call : Call)
+    → IsShape shape → BookFits shape book → IsGood book shape call
+    → AreFit book shape a.sets → AreFit book shape (step book shape a call).account.sets

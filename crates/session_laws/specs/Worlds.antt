@@ -47,7 +47,8 @@ registered_after call.Unregister c on = on
 registered_after made c on = on
 
 abbrev pub RegisteredFollows : Type 0
-RegisteredFollows = (book : Book) (shape : Widths) (a : Account) (made : Call) → (step book shape a made).account.registered ≡ registered_after made (step book shape a made).reply.code a.registered
+RegisteredFollows = (book : Book) (shape : Widths) (a : Account) (made : Call)
+    → (step book shape a made).account.registered ≡ registered_after made (step book shape a made).reply.code a.registered
 
 -- the flags as bits, from this one on
 abbrev pub bits_from : ℕ → List Bool → ℕ
@@ -89,15 +90,19 @@ merged_reply at mentioned x t asked.Threads = answer_by at mentioned x.flags ask
 -- the replies in the script's order, each call's taken from those of its thread
 abbrev pub merged : Setting → List Native → Ahead → List Line → List Reply
 merged at mentioned x [] = []
-merged at mentioned x (l ∷ ls) = merged_reply at (mentioned_after mentioned l) x l.thread l.asked ∷ merged at (mentioned_after mentioned l) (ahead_after x l.thread l.asked) ls
+merged at mentioned x (l ∷ ls) =
+    merged_reply at (mentioned_after mentioned l) x l.thread l.asked
+    ∷ merged at (mentioned_after mentioned l) (ahead_after x l.thread l.asked) ls
 
 -- each thread's replies are those to its calls, and its flag is its account's
 pub record IsAhead (at : Setting) (accounts : List Account) (ls : List Line) (x : Ahead) : Type 0 where
   pub registered : x.flags ≡ map (λ a. a.registered) accounts
   pub same_length : length x.replies ≡ length accounts
-  pub replies_each : (t : ℕ) (a : Account) → slice_get accounts t ≡ Some a → slice_index_or x.replies t [] ≡ replies_to at.book at.shape a (calls_at t ls)
+  pub replies_each : (t : ℕ) (a : Account) → slice_get accounts t ≡ Some a
+      → slice_index_or x.replies t [] ≡ replies_to at.book at.shape a (calls_at t ls)
 
 -- replies that are merged so are those of the world
 abbrev pub MergesToWorld : Type 0
-MergesToWorld = (at : Setting) (w : World) (ls : List Line) (x : Ahead) → All (λ l. l.thread < length w.accounts) ls → IsAhead at w.accounts ls x
+MergesToWorld = (at : Setting) (w : World) (ls : List Line) (x : Ahead)
+    → All (λ l. l.thread < length w.accounts) ls → IsAhead at w.accounts ls x
     → merged at w.mentioned x ls ≡ map (λ y. y.reply) (told at w ls)

@@ -1,4 +1,4 @@
-// What calls keep.
+//! What calls keep.
 ghost use Rattle.session_laws.specs.Keeping.{AgreementStays, ApartStays, FitStays, OpeningAgrees, OpeningApart, OpeningFits, OpeningValued, OpeningWithin, PlacesStay, RiseStays, ValuesStay, WithinStays};
 
 /// The agreement of the sets with the book holds at the beginning and is kept by each good call.

@@ -1,4 +1,4 @@
-// Natives that take turns.
+//! Natives that take turns.
 ghost use Rattle.session_laws.specs.Turning.{CountsPerTick, OneGroupCounts};
 
 /// What is counted in turns is bounded by their ticks, and one group counts all.

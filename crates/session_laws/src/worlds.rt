@@ -1,4 +1,4 @@
-// The world, looked at on one thread.
+//! The world, looked at on one thread.
 ghost use Rattle.session_laws.specs.Worlds.{AccountByThread, MergesToWorld, NotesByThread, OpensByThread, RegisteredFollows, RepliesByThread};
 
 /// All threads' calls in one order, looked at on one thread, are that thread's calls alone.

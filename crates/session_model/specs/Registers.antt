@@ -22,7 +22,13 @@ threshold_among book n (e ∷ es) (t ∷ ts) = if (nat_lt 0 t && leads book n e)
 abbrev pub native_on : Book → ℕ → AtRest → Option Native
 native_on book c s = slice_get (set_natives book s) (position_or_len (λ k. k == c) (counters_for (set_natives book s)))
 
+-- the register of a native on a counter of a running set
+abbrev pub register_with : Book → Widths → List Occ → Kept → ℕ → Native → ℕ
+register_with book shape past s c n =
+    let width = slice_index (widths_at shape s.set.component) c in
+    let threshold = threshold_among book n s.set.events s.set.thresholds in
+    (register_at width n s.set.domain threshold (count past s n)).value
+
 -- the register of a counter of a running set
 abbrev pub register_of : Book → Widths → List Occ → Kept → ℕ → ℕ
-register_of book shape past s c =
-    option_map_or (λ n. (register_at (slice_index (widths_at shape s.set.component) c) n s.set.domain (threshold_among book n s.set.events s.set.thresholds) (count past s n)).value) (native_on book c s.set) 0
+register_of book shape past s c = option_map_or (register_with book shape past s c) (native_on book c s.set) 0

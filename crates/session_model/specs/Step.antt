@@ -59,8 +59,16 @@ ran book short k a = record {
 -- a call that is not refused
 abbrev pub performed : Book → Widths → Account → Call → Outcome
 performed book shape a (call.Run n) = ran book (nat_lt (length a.rest) n) (min n (length a.rest)) a
-performed book shape a call.Register = record { account = record a { registered = true }; reply = reply_over book (sight_of_kept book shape a.past) a.sets call.Register; notes = [] }
-performed book shape a call.Unregister = record { account = record a { registered = false }; reply = reply_over book (sight_of_kept book shape a.past) a.sets call.Unregister; notes = [] }
+performed book shape a call.Register = record {
+  account = record a { registered = true };
+  reply = reply_over book (sight_of_kept book shape a.past) a.sets call.Register;
+  notes = [];
+}
+performed book shape a call.Unregister = record {
+  account = record a { registered = false };
+  reply = reply_over book (sight_of_kept book shape a.past) a.sets call.Unregister;
+  notes = [];
+}
 performed book shape a call = record {
   account = record a { sets = sets_after new_kept (kept_after book a.past) call a.sets };
   reply = reply_over book (sight_of_kept book shape a.past) a.sets call;

@@ -1,4 +1,4 @@
-// The calls on one thread's session.
+//! The calls on one thread's session.
 use papi_base::{Code, EventRef};
 
 /// An event's text as it was looked up: the event, or the code with which the text was refused.

@@ -1,4 +1,4 @@
-// The lines of a script.
+//! The lines of a script.
 use crate::{Call, Named};
 
 /// What a line asks for: a call on its thread's session, the code of an event (PAPI_event_name_to_code(3)), the name of

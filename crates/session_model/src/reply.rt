@@ -1,9 +1,9 @@
-// What calls reply.
+//! What calls reply.
 use event_sets::Clash;
 use papi_base::{Code, EventRef, Events, LineCause, Natives, Places, Values};
 
 /// The native events of a set, and the counter of each.
-#[derive(Drop)]
+#[derive(Debug, Drop)]
 pub struct Assigned {
     pub natives: Natives,
     pub counters: Places,
@@ -26,7 +26,7 @@ pub struct Ran {
 }
 
 /// What stands beside the code of a reply.
-#[derive(Drop)]
+#[derive(Debug, Drop)]
 pub enum Body {
     Nothing,
     SetNumber(u32),
@@ -43,7 +43,7 @@ pub enum Body {
 }
 
 /// The reply to a call.
-#[derive(Drop)]
+#[derive(Debug, Drop)]
 pub struct Reply {
     pub code: Code,
     pub body: Body,

@@ -66,11 +66,18 @@ shape = (16 ∷ 16 ∷ 16 ∷ []) ∷ (48 ∷ []) ∷ []
 abbrev pub no_book : Book
 no_book = []
 
+-- mispredictions taken from all branches
+abbrev pub predicted : DerivedView
+predicted = record {
+  natives = br_inst ∷ br_misp ∷ [];
+  rule = rule.Postfix (record { tokens = token.Native 0 ∷ token.Native 1 ∷ token.Operator op.Minus ∷ []; natives = 2 });
+}
+
 abbrev pub book : Book
 book =
     None ∷ None ∷ None ∷ None ∷ None ∷ None ∷ None ∷ None ∷ None ∷ None ∷ None ∷ None ∷ None ∷ None ∷ None
     ∷ Some (record { natives = br_misp ∷ []; rule = rule.Plain })
-    ∷ Some (record { natives = br_inst ∷ br_misp ∷ []; rule = rule.Postfix (record { tokens = token.Native 0 ∷ token.Native 1 ∷ token.Operator op.Minus ∷ []; natives = 2 }) })
+    ∷ Some predicted
     ∷ Some (record { natives = inst ∷ []; rule = rule.Plain })
     ∷ None ∷ None
     ∷ Some (record { natives = br_inst ∷ []; rule = rule.Plain })
@@ -178,7 +185,10 @@ abbrev pub no_fixed : Native → Native
 no_fixed n = record n { allowed = bit_and n.allowed 3 }
 
 abbrev pub stall2 : DerivedView
-stall2 = record { natives = cycles ∷ inst ∷ []; rule = rule.Postfix (record { tokens = token.Native 0 ∷ token.Native 1 ∷ token.Operator op.Minus ∷ token.Constant 2 ∷ token.Operator op.Times ∷ []; natives = 2 }) }
+stall2 = record {
+  natives = cycles ∷ inst ∷ [];
+  rule = rule.Postfix (record { tokens = token.Native 0 ∷ token.Native 1 ∷ token.Operator op.Minus ∷ token.Constant 2 ∷ token.Operator op.Times ∷ []; natives = 2 });
+}
 
 abbrev pub kernel_occ : ℕ → ℕ → ℕ → Occ
 kernel_occ select amount stamp = record (occ select amount stamp) { kernel = true }

@@ -1,0 +1,6 @@
+use Rattle.std.proofs.Common.{◌∙◌}
+use Rattle.event_sets.proofs.Derived.{events_same}
+use Rattle.event_sets.proofs.sameness.is_same_event.Goals as goal
+
+pub returns : goal.returns
+returns c = c.eq.ensures ∙ events_same c.args.e.now c.args.f.now
