@@ -23,3 +23,4 @@ pub mod Accumulates
 pub mod RawRegisters
 pub mod Alterations
 pub mod Known
+pub mod ProgrammedNatives

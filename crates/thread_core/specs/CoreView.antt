@@ -6,7 +6,8 @@ use Rattle.event_sets.specs.AtRest.{Widths}
 use Rattle.thread_slots.specs.declared.slot.Slot.{Slot}
 use Rattle.thread_slots.specs.Units.{empty_unit}
 
--- The thread and whether it is registered; the unit's shape; under each number below 64 a set or none; the unit of each component; how many occurrences were taken, and the last of them.
+-- The thread and whether it is registered; the unit's shape; under each number below 64 a set or none; the unit of each
+-- component; how many occurrences were taken, and the last of them.
 pub record CoreView : Type 0 where
   pub thread : ℕ
   pub registered : Bool
@@ -18,4 +19,12 @@ pub record CoreView : Type 0 where
 
 -- a new core
 abbrev pub opening_core : ℕ → Widths → CoreView
-opening_core thread shape = record { thread = thread; registered = false; shape = shape; slots = replicate 64 None; units = map empty_unit shape; taken = 0; last = None }
+opening_core thread shape = record {
+  thread = thread;
+  registered = false;
+  shape = shape;
+  slots = replicate 64 None;
+  units = map empty_unit shape;
+  taken = 0;
+  last = None;
+}

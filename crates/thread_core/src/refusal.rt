@@ -1,18 +1,20 @@
-//! Which calls are refused.
-ghost use Rattle.std.specs.Prelude.{◌≡◌, ℕ, ◌==◌, length, map, is_none, is_some, not, true, None};
+//! Which calls are refused. For each call its checks stand in their order, each with its code; the first that holds refuses.
+ghost use Rattle.std.specs.Prelude.{◌≡◌, ℕ, ◌==◌, Bool, length, map, is_none, is_some, not, None};
 ghost use Rattle.std.specs.Option.{option_map};
 ghost use Rattle.std.specs.List.{list_all, list_any};
 ghost use Rattle.event_sets.specs.AtRest.{Widths};
 ghost use Rattle.event_sets.specs.declared.refusal.Refusal.TheVariants.{Plain};
 ghost use Rattle.postfix_rules.specs.Presets.{Book};
 ghost use Rattle.session_model.specs.Faces.{component_runs, has, is_absent, is_running, runs, runs_on};
-ghost use Rattle.session_model.specs.Refusals.{has_events, is_multiplexed, refusal_of};
-ghost use Rattle.thread_core.specs.Refusing.{asks_slots, slot_faces};
+ghost use Rattle.session_model.specs.Refusals.{first_of, has_events, is_multiplexed, refusal_of, row};
+ghost use Rattle.session_model.specs.declared.call.Call.TheVariants as call;
+ghost use Rattle.thread_core.specs.Refusing.{first_code, rest_code, slot_faces};
+ghost use Rattle.thread_slots.specs.Altering.{code_before};
 ghost use Rattle.thread_slots.specs.Slots.{face_of_slot};
 
+use crate::thread::Core;
 use papi_base::Code;
-use session_model::Call;
-use thread_slots::Slot;
+use thread_slots::{Change, Slot, lacks_component};
 
 /// Whether there is no set under the number.
 pub(crate) fn is_absent(slots: &[Option<Slot>], set: u32) -> bool
@@ -75,17 +77,15 @@ pub(crate) fn runs_on(component: Option<u32>, place: &Option<Slot>) -> bool
 }
 
 /// Whether some set runs on the component.
-fn some_place_runs(slots: &[Option<Slot>], component: Option<u32>) -> bool
-    ensures { result ≡ list_any (λ place. runs_on component (option_map face_of_slot place)) slots.now }
-{
-    slots.iter().any(|place| runs_on(component, place))
-}
-
-/// The same of what refusals look at.
 fn some_runs(slots: &[Option<Slot>], component: Option<u32>) -> bool
     ensures { result ≡ list_any (runs_on component) (slot_faces slots.now) }
 {
-    some_place_runs(slots, component)
+    for place in slots {
+        if runs_on(component, place) {
+            return true;
+        }
+    }
+    false
 }
 
 /// Whether some set runs on the component of the set under the number.
@@ -109,116 +109,130 @@ fn is_running(place: &Option<Slot>) -> bool
 }
 
 /// Whether some set runs.
-fn some_place_is_running(slots: &[Option<Slot>]) -> bool
-    ensures { result ≡ list_any (λ place. is_running (option_map face_of_slot place)) slots.now }
-{
-    slots.iter().any(|place| is_running(place))
-}
-
-/// The same of what refusals look at.
 fn some_is_running(slots: &[Option<Slot>]) -> bool
     ensures { result ≡ list_any is_running (slot_faces slots.now) }
 {
-    some_place_is_running(slots)
+    for place in slots {
+        if is_running(place) {
+            return true;
+        }
+    }
+    false
 }
 
 /// Whether there is a set in each place.
-fn all_places_taken(slots: &[Option<Slot>]) -> bool
-    ensures { result ≡ list_all (λ place. is_some place) slots.now }
-{
-    slots.iter().all(|place| place.is_some())
-}
-
-/// The same of what refusals look at.
 fn all_taken(slots: &[Option<Slot>]) -> bool
     ensures { result ≡ list_all (λ place. is_some place) (slot_faces slots.now) }
 {
-    all_places_taken(slots)
+    for place in slots {
+        if place.is_none() {
+            return false;
+        }
+    }
+    true
 }
 
-/// The code with which the call is refused, if it is.
-pub(crate) fn refusal(slots: &[Option<Slot>], registered: bool, call: &Call) -> Option<Code>
-    requires { asks_slots call.now ≡ true }
-    ensures { (book : Book) (shape : Widths) → option_map Plain result ≡ refusal_of book shape registered (slot_faces slots.now) call.now }
+/// The code of the first check that holds.
+#[inline]
+fn first_of(checks: &[(bool, Code)]) -> Option<Code>
+    ensures code { result ≡ first_code checks.now }
+    ensures refusal { option_map Plain result ≡ first_of (map (λ check. row check.0 check.1) checks.now) }
 {
-    match call {
-        Call::Unregister => {
-            if some_is_running(slots) {
-                return Some(Code::Eisrun);
-            }
-            if !registered {
-                return Some(Code::Einval);
-            }
+    for check in checks {
+        if check.0 {
+            return Some(check.1);
         }
-        Call::Create => {
-            if all_taken(slots) {
-                return Some(Code::Ecount);
-            }
-        }
-        Call::Destroy { set } => {
-            if is_absent(slots, *set) {
-                return Some(Code::Enoevst);
-            }
-            if runs(slots, *set) {
-                return Some(Code::Eisrun);
-            }
-            if has_events(slots, *set) {
-                return Some(Code::Einval);
-            }
-        }
-        Call::Cleanup { set } => {
-            if is_absent(slots, *set) {
-                return Some(Code::Enoevst);
-            }
-            if runs(slots, *set) {
-                return Some(Code::Eisrun);
-            }
-        }
-        Call::Start { set } => {
-            if is_absent(slots, *set) {
-                return Some(Code::Enoevst);
-            }
-            if runs(slots, *set) || component_runs(slots, *set) {
-                return Some(Code::Eisrun);
-            }
-            if lacks_events(slots, *set) {
-                return Some(Code::Einval);
-            }
-        }
-        Call::Stop { set } => {
-            if is_absent(slots, *set) {
-                return Some(Code::Enoevst);
-            }
-            if !runs(slots, *set) {
-                return Some(Code::Enotrun);
-            }
-        }
-        Call::Read { set }
-        | Call::Accum { set }
-        | Call::Reset { set }
-        | Call::State { set }
-        | Call::ListEvents { set } => {
-            if is_absent(slots, *set) {
-                return Some(Code::Enoevst);
-            }
-        }
-        Call::Assign { set } => {
-            if is_absent(slots, *set) {
-                return Some(Code::Enoevst);
-            }
-            if is_multiplexed(slots, *set) {
-                return Some(Code::Ecombo);
-            }
-        }
-        Call::Register
-        | Call::Add { .. }
-        | Call::Remove { .. }
-        | Call::AssignComponent { .. }
-        | Call::SetDomain { .. }
-        | Call::SetMultiplex { .. }
-        | Call::Overflow { .. }
-        | Call::Raw { .. }
-        | Call::Run { .. } => {}
     }
     None
+}
+
+impl Core {
+    /// `unregister`.
+    pub(crate) fn unregister_refusal(&self) -> Option<Code>
+        ensures { (book : Book) → option_map Plain result ≡ refusal_of book self.now.shape self.now.registered (slot_faces self.now.slots) call.Unregister }
+    {
+        first_of(&[
+            (some_is_running(&self.slots), Code::Eisrun),
+            (!self.registered, Code::Einval),
+        ])
+    }
+
+    /// `create`.
+    pub(crate) fn create_refusal(&self) -> Option<Code>
+        ensures { (book : Book) → option_map Plain result ≡ refusal_of book self.now.shape self.now.registered (slot_faces self.now.slots) call.Create }
+    {
+        first_of(&[(all_taken(&self.slots), Code::Ecount)])
+    }
+
+    /// `destroy`.
+    pub(crate) fn destroy_refusal(&self, set: u32) -> Option<Code>
+        ensures { (book : Book) → option_map Plain result ≡ refusal_of book self.now.shape self.now.registered (slot_faces self.now.slots) (call.Destroy set) }
+    {
+        first_of(&[
+            (is_absent(&self.slots, set), Code::Enoevst),
+            (runs(&self.slots, set), Code::Eisrun),
+            (has_events(&self.slots, set), Code::Einval),
+        ])
+    }
+
+    /// `add`, before the event and the set at rest are looked at.
+    pub(crate) fn add_refusal(&self, set: u32) -> Option<Code>
+        ensures { result ≡ rest_code (slot_faces self.now.slots) set }
+    {
+        first_of(&[
+            (is_absent(&self.slots, set), Code::Enoevst),
+            (runs(&self.slots, set), Code::Eisrun),
+        ])
+    }
+
+    /// The other changes of a set at rest, before the set is asked.
+    pub(crate) fn change_refusal(&self, set: u32, change: &Change) -> Option<Code>
+        ensures { result ≡ code_before self.now.shape (slot_faces self.now.slots) set change.now }
+    {
+        first_of(&[
+            (is_absent(&self.slots, set), Code::Enoevst),
+            (lacks_component(&self.shape, change), Code::Enocmp),
+            (runs(&self.slots, set), Code::Eisrun),
+        ])
+    }
+
+    /// `start`.
+    pub(crate) fn start_refusal(&self, set: u32) -> Option<Code>
+        ensures { (book : Book) → option_map Plain result ≡ refusal_of book self.now.shape self.now.registered (slot_faces self.now.slots) (call.Start set) }
+    {
+        first_of(&[
+            (is_absent(&self.slots, set), Code::Enoevst),
+            (runs(&self.slots, set), Code::Eisrun),
+            (component_runs(&self.slots, set), Code::Eisrun),
+            (lacks_events(&self.slots, set), Code::Einval),
+        ])
+    }
+
+    /// `stop`.
+    pub(crate) fn stop_refusal(&self, set: u32) -> Option<Code>
+        ensures { (book : Book) → option_map Plain result ≡ refusal_of book self.now.shape self.now.registered (slot_faces self.now.slots) (call.Stop set) }
+    {
+        first_of(&[
+            (is_absent(&self.slots, set), Code::Enoevst),
+            (!runs(&self.slots, set), Code::Enotrun),
+        ])
+    }
+
+    /// `read`, `accum`, `reset`, `state` and `list_events`.
+    #[inline]
+    pub(crate) fn read_refusal(&self, set: u32) -> Option<Code>
+        ensures { (book : Book) → option_map Plain result ≡ refusal_of book self.now.shape self.now.registered (slot_faces self.now.slots) (call.Read set) }
+    {
+        first_of(&[(is_absent(&self.slots, set), Code::Enoevst)])
+    }
+
+    /// `assign`.
+    pub(crate) fn assign_refusal(&self, set: u32) -> Option<Code>
+        ensures { (book : Book) → option_map Plain result ≡ refusal_of book self.now.shape self.now.registered (slot_faces self.now.slots) (call.Assign set) }
+    {
+        first_of(&[
+            (is_absent(&self.slots, set), Code::Enoevst),
+            (is_multiplexed(&self.slots, set), Code::Ecombo),
+        ])
+    }
 }

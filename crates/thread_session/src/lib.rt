@@ -9,3 +9,5 @@ pub mod session;
 mod several;
 
 pub use session::Session;
+pub use session_model::{Assigned, Body, Call, Ended, Named, Ran, Reply};
+pub use thread_core::{Core, Taken};

@@ -79,7 +79,8 @@ impl<S: Source> Session<S> {
 
     /// The source as the session left it, or `None` where the reader was made without one.
     pub fn into_source(self) -> Option<S>
-        ensures { option_map S.faults result ≡ fault_count self.reader }
+        ensures source { option_map (λ s. record { tape = S.tape s; faults = S.faults s }) result ≡ self.reader.source }
+        ensures faults { option_map S.faults result ≡ fault_count self.reader }
     {
         self.reader.into_source()
     }

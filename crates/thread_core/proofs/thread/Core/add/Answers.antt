@@ -17,7 +17,7 @@ pub returns-in-Some : goal.returns-in-Some
 returns-in-Some c =
     let core = c.args.self.now in
     let book = c.args.book.now in
-    let is = sym c.not_at_rest.ensures ∙ c.in-Some.is in
+    let is = sym c.add_refusal.ensures ∙ c.in-Some.is in
     refused_follows book core (call.Add c.args.set c.args.e.now) (Plain c.in-Some.code) (plain c.in-Some.code) c.requires.agrees (rest_refuses book core.shape core.registered _ c.args.set c.args.e.now c.in-Some.code is) refl
 
 pub add_under-requires-clause-view : goal.add_under-requires-clause-view
@@ -30,7 +30,7 @@ pub returns-in-Err : goal.returns-in-Err
 returns-in-Err c =
     let core = c.args.self.now in
     let book = c.args.book.now in
-    let none = sym c.not_at_rest.ensures ∙ c.in_default.is in
+    let none = sym c.add_refusal.ensures ∙ c.in_default.is in
     rw c.in-Err.is (refused_follows book core (call.Add c.args.set (Err c.in-Err.code)) (Plain c.in-Err.code) (plain c.in-Err.code) c.requires.agrees (name_refuses book core.shape core.registered _ c.args.set c.in-Err.code none) refl)
 
 pub invariant_of-self : goal.invariant_of-self
@@ -40,7 +40,7 @@ invariant_of-self c =
     let book = c.args.book.now in
     let agrees = subst (λ (v : CoreView). AgreesWith book v) (sym c.self.view_is) c.requires.agrees in
     let named : IsNamed book core.shape (Ok c.in-Ok.e) = subst (λ (v : CoreView). IsNamed book v.shape (Ok c.in-Ok.e)) (sym c.self.view_is) (subst (IsNamed book c.args.self.now.shape) c.in-Ok.is c.requires.named) in
-    let none = subst (λ (v : CoreView). rest_code (slot_faces v.slots) c.args.set ≡ None) (sym c.self.view_is) (sym c.not_at_rest.ensures ∙ c.in_default.is) in
+    let none = subst (λ (v : CoreView). rest_code (slot_faces v.slots) c.args.set ≡ None) (sym c.self.view_is) (sym c.add_refusal.ensures ∙ c.in_default.is) in
     let f = add_follows book core c.args.set c.in-Ok.e c.add_under.result c.add_under.new.slots.items agrees named none c.add_under.ensures.added c.add_under.ensures.taken c.add_under.ensures.refused c.add_under.ensures.unchanged in
     (record { book = book; agrees = f.agrees }, forgotten _ _ c.forget.ensures)
 
@@ -51,6 +51,6 @@ returns-in-Ok c =
     let book = c.args.book.now in
     let agrees = subst (λ (v : CoreView). AgreesWith book v) (sym c.self.view_is) c.requires.agrees in
     let named : IsNamed book core.shape (Ok c.in-Ok.e) = subst (λ (v : CoreView). IsNamed book v.shape (Ok c.in-Ok.e)) (sym c.self.view_is) (subst (IsNamed book c.args.self.now.shape) c.in-Ok.is c.requires.named) in
-    let none = subst (λ (v : CoreView). rest_code (slot_faces v.slots) c.args.set ≡ None) (sym c.self.view_is) (sym c.not_at_rest.ensures ∙ c.in_default.is) in
+    let none = subst (λ (v : CoreView). rest_code (slot_faces v.slots) c.args.set ≡ None) (sym c.self.view_is) (sym c.add_refusal.ensures ∙ c.in_default.is) in
     let f = add_follows book core c.args.set c.in-Ok.e c.add_under.result c.add_under.new.slots.items agrees named none c.add_under.ensures.added c.add_under.ensures.taken c.add_under.ensures.refused c.add_under.ensures.unchanged in
     rw c.in-Ok.is (subst (λ (v : CoreView). Follows book v (with_slots core c.add_under.new.slots.items) (call.Add c.args.set (Ok c.in-Ok.e)) (changed_reply c.add_under.result)) c.self.view_is f)

@@ -9,12 +9,12 @@ use Rattle.thread_core.proofs.Looking.{assign_follows}
 use Rattle.thread_core.proofs.thread.Core.assign.Goals as goal
 
 pub returns-in-Some : goal.returns-in-Some
-returns-in-Some c = code_follows c.args._book.now c.args.self.now (call.Assign c.args.set) c.refused.result c.in-Some.code c.requires (c.refused.ensures c.args._book.now) c.in-Some.is
+returns-in-Some c = code_follows c.args._book.now c.args.self.now (call.Assign c.args.set) c.assign_refusal.result c.in-Some.code c.requires (c.assign_refusal.ensures c.args._book.now) c.in-Some.is
 
 pub returns : goal.returns
 returns c =
     let book = c.args._book.now in
     let core = c.args.self.now in
-    let none = none_refuses book core (call.Assign c.args.set) c.refused.result (c.refused.ensures book) c.in_default.is in
+    let none = none_refuses book core (call.Assign c.args.set) c.assign_refusal.result (c.assign_refusal.ensures book) c.in_default.is in
     let slots = c.deref.ensures.value ∙ ap (λ (v : CoreView). v.slots) c.self.view_is in
     assign_follows book core c.args.set c.assigned_under.result c.requires none (subst (λ (xs : List (Option Slot)). (slot : Slot) → at xs c.args.set ≡ Some slot → slot.set.rest.slice ≡ None → c.assigned_under.result ≡ record { natives = slot.set.natives; counters = counters_for slot.set.natives }) slots c.assigned_under.ensures)

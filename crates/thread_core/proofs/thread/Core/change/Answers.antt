@@ -13,12 +13,12 @@ use Rattle.thread_core.proofs.thread.Core.change.Goals as goal
 use Rattle.thread_core.proofs.thread.Core.change.Goals.{in-Ok, in-Err}
 
 pub returns-in-Some : goal.returns-in-Some
-returns-in-Some c = before_follows c.args.book.now c.args.self.now c.args.set c.args.change.now c.in-Some.code c.requires.agrees (sym c.code_before.ensures ∙ c.in-Some.is)
+returns-in-Some c = before_follows c.args.book.now c.args.self.now c.args.set c.args.change.now c.in-Some.code c.requires.agrees (sym c.change_refusal.ensures ∙ c.in-Some.is)
 
 pub change_under-requires-clause-inside : goal.change_under-requires-clause-inside
 change_under-requires-clause-inside c =
     let core = c.args.self.now in
-    let none = sym c.code_before.ensures ∙ c.in_default.is in
+    let none = sym c.change_refusal.ensures ∙ c.in_default.is in
     subst (λ (v : CoreView). c.args.set < length v.slots) (sym c.self.view_is) (change_inside c.args.book.now core c.args.set c.args.change.now c.requires.agrees none)
 
 pub change_under-requires-clause-view : goal.change_under-requires-clause-view
@@ -34,7 +34,7 @@ invariant_of-self c =
     let book = c.args.book.now in
     let agrees = subst (λ (v : CoreView). AgreesWith book v) (sym c.self.view_is) c.requires.agrees in
     let named = subst (λ (v : CoreView). IsFor book v.shape c.args.change.now) (sym c.self.view_is) c.requires.named in
-    let none = subst (λ (v : CoreView). code_before v.shape (slot_faces v.slots) c.args.set c.args.change.now ≡ None) (sym c.self.view_is) (sym c.code_before.ensures ∙ c.in_default.is) in
+    let none = subst (λ (v : CoreView). code_before v.shape (slot_faces v.slots) c.args.set c.args.change.now ≡ None) (sym c.self.view_is) (sym c.change_refusal.ensures ∙ c.in_default.is) in
     let f = change_follows book core c.args.set c.args.change.now c.change_under.result c.change_under.new.slots.items agrees named none c.change_under.ensures.changed c.change_under.ensures.taken c.change_under.ensures.refused c.change_under.ensures.unchanged in
     (record { book = book; agrees = f.agrees }, forgotten _ _ c.forget.ensures)
 
@@ -45,7 +45,7 @@ returns c =
     let book = c.args.book.now in
     let agrees = subst (λ (v : CoreView). AgreesWith book v) (sym c.self.view_is) c.requires.agrees in
     let named = subst (λ (v : CoreView). IsFor book v.shape c.args.change.now) (sym c.self.view_is) c.requires.named in
-    let none = subst (λ (v : CoreView). code_before v.shape (slot_faces v.slots) c.args.set c.args.change.now ≡ None) (sym c.self.view_is) (sym c.code_before.ensures ∙ c.in_default.is) in
+    let none = subst (λ (v : CoreView). code_before v.shape (slot_faces v.slots) c.args.set c.args.change.now ≡ None) (sym c.self.view_is) (sym c.change_refusal.ensures ∙ c.in_default.is) in
     let f = change_follows book core c.args.set c.args.change.now c.change_under.result c.change_under.new.slots.items agrees named none c.change_under.ensures.changed c.change_under.ensures.taken c.change_under.ensures.refused c.change_under.ensures.unchanged in
     let said : code_after c.change_under.result ≡ c.match-change_under.result = elim c.match-change_under.branch [
       | in-Ok w ↦ ap code_after w.in-Ok.is ∙ sym w.result-is

@@ -12,13 +12,13 @@ use Rattle.thread_core.proofs.Shows.{tellable}
 use Rattle.thread_core.proofs.thread.Core.read.Goals as goal
 
 pub returns-in-Some-clause-follows : goal.returns-in-Some-clause-follows
-returns-in-Some-clause-follows c = read_refused c.args.book.now c.args.self.now c.args.set c.refused.result c.in-Some.code _ c.requires (c.refused.ensures c.args.book.now) c.in-Some.is
+returns-in-Some-clause-follows c = read_refused c.args.book.now c.args.self.now c.args.set c.read_refusal.result c.in-Some.code _ c.requires (c.read_refusal.ensures c.args.book.now) c.in-Some.is
 
 pub values_under-requires-clause-inside : goal.values_under-requires-clause-inside
 values_under-requires-clause-inside c =
     let book = c.args.book.now in
     let core = c.args.self.now in
-    let none = none_refuses book core (call.Read c.args.set) c.refused.result (c.refused.ensures book) c.in_default.is in
+    let none = none_refuses book core (call.Read c.args.set) c.read_refusal.result (c.read_refusal.ensures book) c.in_default.is in
     subst (λ (v : CoreView). c.args.set < length v.slots) (sym c.self.view_is) (read_inside book core c.args.set c.requires none)
 
 pub values_under-requires-clause-tellable : goal.values_under-requires-clause-tellable
@@ -34,6 +34,6 @@ pub returns-clause-follows : goal.returns-clause-follows
 returns-clause-follows c =
     let book = c.args.book.now in
     let core = c.args.self.now in
-    let none = none_refuses book core (call.Read c.args.set) c.refused.result (c.refused.ensures book) c.in_default.is in
+    let none = none_refuses book core (call.Read c.args.set) c.read_refusal.result (c.read_refusal.ensures book) c.in_default.is in
     let told = subst (λ (v : CoreView). (slot : Slot) → at v.slots c.args.set ≡ Some slot → c.values_under.result ≡ values_shown book v.units c.time-now.result slot) c.self.view_is c.values_under.ensures in
     read_follows book core c.args.set c.values_under.result c.requires none (λ slot here. told slot here ∙ ap (λ (t : ℕ). values_shown book core.units t slot) c.time-now.ensures)

@@ -16,12 +16,12 @@ use Rattle.thread_core.proofs.Zeroes.{on_unit, reset_follows}
 use Rattle.thread_core.proofs.thread.Core.reset.Goals as goal
 
 pub returns-in-Some : goal.returns-in-Some
-returns-in-Some c = code_follows c.args._book.now c.args.self.now (call.Reset c.args.set) c.refused.result c.in-Some.code c.requires (c.refused.ensures c.args._book.now) c.in-Some.is
+returns-in-Some c = code_follows c.args._book.now c.args.self.now (call.Reset c.args.set) c.read_refusal.result c.in-Some.code c.requires (c.read_refusal.ensures c.args._book.now) c.in-Some.is
 
 pub zero_under-requires-clause-inside : goal.zero_under-requires-clause-inside
 zero_under-requires-clause-inside c =
     let book = c.args._book.now in
-    let none = none_refuses book c.args.self.now (call.Reset c.args.set) c.refused.result (c.refused.ensures book) c.in_default.is in
+    let none = none_refuses book c.args.self.now (call.Reset c.args.set) c.read_refusal.result (c.read_refusal.ensures book) c.in_default.is in
     subst (λ (v : CoreView). c.args.set < length v.slots) (sym c.self.view_is) (read_inside book c.args.self.now c.args.set c.requires none)
 
 pub zero_under-requires-clause-on_unit : goal.zero_under-requires-clause-on_unit
@@ -36,7 +36,7 @@ invariant_of-self c =
     let core : CoreView = record { thread = q.thread; registered = q.registered; shape = q.shape; slots = q.slots.items; units = q.units.items; taken = q.taken; last = q.last } in
     let book = c.args._book.now in
     let agrees = subst (λ (v : CoreView). AgreesWith book v) (sym c.self.view_is) c.requires in
-    let none = subst (λ (v : CoreView). refusal_of book v.shape v.registered (slot_faces v.slots) (call.Reset c.args.set) ≡ None) (sym c.self.view_is) (none_refuses book c.args.self.now (call.Reset c.args.set) c.refused.result (c.refused.ensures book) c.in_default.is) in
+    let none = subst (λ (v : CoreView). refusal_of book v.shape v.registered (slot_faces v.slots) (call.Reset c.args.set) ≡ None) (sym c.self.view_is) (none_refuses book c.args.self.now (call.Reset c.args.set) c.read_refusal.result (c.read_refusal.ensures book) c.in_default.is) in
     let time = subst (λ (v : CoreView). c.time-now.result ≡ time_after v.last) (sym c.self.view_is) c.time-now.ensures in
     let f = reset_follows book core c.args.set c.time-now.result c.zero_under.new.units.items c.zero_under.new.slots.items agrees none time c.zero_under.ensures.units c.zero_under.ensures.slots in
     (record { book = book; agrees = f.agrees }, zeroed_known book core c.args.set c.time-now.result q.running c.zero_under.new.slots.items agrees none c.zero_under.ensures.slots c.self.invariant.1)
@@ -47,7 +47,7 @@ returns c =
     let core : CoreView = record { thread = q.thread; registered = q.registered; shape = q.shape; slots = q.slots.items; units = q.units.items; taken = q.taken; last = q.last } in
     let book = c.args._book.now in
     let agrees = subst (λ (v : CoreView). AgreesWith book v) (sym c.self.view_is) c.requires in
-    let none = subst (λ (v : CoreView). refusal_of book v.shape v.registered (slot_faces v.slots) (call.Reset c.args.set) ≡ None) (sym c.self.view_is) (none_refuses book c.args.self.now (call.Reset c.args.set) c.refused.result (c.refused.ensures book) c.in_default.is) in
+    let none = subst (λ (v : CoreView). refusal_of book v.shape v.registered (slot_faces v.slots) (call.Reset c.args.set) ≡ None) (sym c.self.view_is) (none_refuses book c.args.self.now (call.Reset c.args.set) c.read_refusal.result (c.read_refusal.ensures book) c.in_default.is) in
     let time = subst (λ (v : CoreView). c.time-now.result ≡ time_after v.last) (sym c.self.view_is) c.time-now.ensures in
     let f = reset_follows book core c.args.set c.time-now.result c.zero_under.new.units.items c.zero_under.new.slots.items agrees none time c.zero_under.ensures.units c.zero_under.ensures.slots in
     subst (λ (v : CoreView). Follows book v (with_both core c.zero_under.new.units.items c.zero_under.new.slots.items) (call.Reset c.args.set) (plain code.Ok)) c.self.view_is f

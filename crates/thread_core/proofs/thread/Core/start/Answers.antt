@@ -14,12 +14,12 @@ use Rattle.thread_core.proofs.Known.{forgotten}
 use Rattle.thread_core.proofs.thread.Core.start.Goals as goal
 
 pub returns-in-Some : goal.returns-in-Some
-returns-in-Some c = code_follows c.args.book.now c.args.self.now (call.Start c.args.set) c.refused.result c.in-Some.code c.requires (c.refused.ensures c.args.book.now) c.in-Some.is
+returns-in-Some c = code_follows c.args.book.now c.args.self.now (call.Start c.args.set) c.start_refusal.result c.in-Some.code c.requires (c.start_refusal.ensures c.args.book.now) c.in-Some.is
 
 pub begin_under-requires-clause-inside : goal.begin_under-requires-clause-inside
 begin_under-requires-clause-inside c =
     let book = c.args.book.now in
-    let none = none_refuses book c.args.self.now (call.Start c.args.set) c.refused.result (c.refused.ensures book) c.in_default.is in
+    let none = none_refuses book c.args.self.now (call.Start c.args.set) c.start_refusal.result (c.start_refusal.ensures book) c.in_default.is in
     subst (λ (v : CoreView). c.args.set < length v.slots) (sym c.self.view_is) (start_inside book c.args.self.now c.args.set c.requires none)
 
 pub begin_under-requires-clause-has_unit : goal.begin_under-requires-clause-has_unit
@@ -36,7 +36,7 @@ begin_under-requires-clause-startable c comp unit slot here is at_comp =
     let core : CoreView = record { thread = q.thread; registered = q.registered; shape = q.shape; slots = q.slots.items; units = q.units.items; taken = q.taken; last = q.last } in
     let book = c.args.book.now in
     let agrees = subst (λ (v : CoreView). AgreesWith book v) (sym c.self.view_is) c.requires in
-    let none = subst (λ (v : CoreView). refusal_of book v.shape v.registered (slot_faces v.slots) (call.Start c.args.set) ≡ None) (sym c.self.view_is) (none_refuses book c.args.self.now (call.Start c.args.set) c.refused.result (c.refused.ensures book) c.in_default.is) in
+    let none = subst (λ (v : CoreView). refusal_of book v.shape v.registered (slot_faces v.slots) (call.Start c.args.set) ≡ None) (sym c.self.view_is) (none_refuses book c.args.self.now (call.Start c.args.set) c.start_refusal.result (c.start_refusal.ensures book) c.in_default.is) in
     start_ready book core c.args.set agrees none comp unit slot here is at_comp
 
 pub invariant_of-self : goal.invariant_of-self
@@ -45,7 +45,7 @@ invariant_of-self c =
     let core : CoreView = record { thread = q.thread; registered = q.registered; shape = q.shape; slots = q.slots.items; units = q.units.items; taken = q.taken; last = q.last } in
     let book = c.args.book.now in
     let agrees = subst (λ (v : CoreView). AgreesWith book v) (sym c.self.view_is) c.requires in
-    let none = subst (λ (v : CoreView). refusal_of book v.shape v.registered (slot_faces v.slots) (call.Start c.args.set) ≡ None) (sym c.self.view_is) (none_refuses book c.args.self.now (call.Start c.args.set) c.refused.result (c.refused.ensures book) c.in_default.is) in
+    let none = subst (λ (v : CoreView). refusal_of book v.shape v.registered (slot_faces v.slots) (call.Start c.args.set) ≡ None) (sym c.self.view_is) (none_refuses book c.args.self.now (call.Start c.args.set) c.start_refusal.result (c.start_refusal.ensures book) c.in_default.is) in
     let time = subst (λ (v : CoreView). c.time-now.result ≡ time_after v.last) (sym c.self.view_is) c.time-now.ensures in
     let f = start_follows book core c.args.set c.time-now.result c.begin_under.new.units.items c.begin_under.new.slots.items agrees none time c.begin_under.ensures.units c.begin_under.ensures.slots in
     (record { book = book; agrees = f.agrees }, forgotten _ _ c.forget.ensures)
@@ -56,7 +56,7 @@ returns c =
     let core : CoreView = record { thread = q.thread; registered = q.registered; shape = q.shape; slots = q.slots.items; units = q.units.items; taken = q.taken; last = q.last } in
     let book = c.args.book.now in
     let agrees = subst (λ (v : CoreView). AgreesWith book v) (sym c.self.view_is) c.requires in
-    let none = subst (λ (v : CoreView). refusal_of book v.shape v.registered (slot_faces v.slots) (call.Start c.args.set) ≡ None) (sym c.self.view_is) (none_refuses book c.args.self.now (call.Start c.args.set) c.refused.result (c.refused.ensures book) c.in_default.is) in
+    let none = subst (λ (v : CoreView). refusal_of book v.shape v.registered (slot_faces v.slots) (call.Start c.args.set) ≡ None) (sym c.self.view_is) (none_refuses book c.args.self.now (call.Start c.args.set) c.start_refusal.result (c.start_refusal.ensures book) c.in_default.is) in
     let time = subst (λ (v : CoreView). c.time-now.result ≡ time_after v.last) (sym c.self.view_is) c.time-now.ensures in
     let f = start_follows book core c.args.set c.time-now.result c.begin_under.new.units.items c.begin_under.new.slots.items agrees none time c.begin_under.ensures.units c.begin_under.ensures.slots in
     subst (λ (v : CoreView). Follows book v (with_both core c.begin_under.new.units.items c.begin_under.new.slots.items) (call.Start c.args.set) (plain code.Ok)) c.self.view_is f

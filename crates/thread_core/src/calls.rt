@@ -1,0 +1,302 @@
+//! The calls on a thread's event sets, in the order of their manual pages' table: registering, making and filling sets,
+//! counting, and looking.
+ghost use Rattle.std.specs.Prelude.{◌≡◌, ◌≢◌};
+ghost use Rattle.papi_base.specs.declared.code.Code.TheVariants as code;
+ghost use Rattle.postfix_rules.specs.Fitting.{IsNamed};
+ghost use Rattle.session_model.specs.Faces.{free};
+ghost use Rattle.session_model.specs.Replies.{plain};
+ghost use Rattle.session_model.specs.declared.call.Call.TheVariants as call;
+ghost use Rattle.session_model.specs.declared.reply.Body.TheVariants as body;
+ghost use Rattle.thread_core.specs.Following.{Follows, changed_reply, reply_of, values_reply};
+ghost use Rattle.thread_core.specs.Stands.{AgreesWith};
+ghost use Rattle.thread_slots.specs.Altering.{IsFor, call_of};
+
+use crate::thread::Core;
+use event_sets::Refusal;
+use papi_base::{Code, Events, Values};
+use postfix_rules::PresetBook;
+use session_model::{Assigned, Named};
+use thread_slots::{
+    Change, accumulate_under, add_under, assigned_under, begin_under, bits_under, change_under,
+    events_under, free_number, new_slot, register_under, stop_under, values_under, zero_under,
+};
+
+impl Core {
+    /// Registers the thread, which may be registered already: PAPI_register_thread(3).
+    pub fn register(&mut self, _book: &PresetBook) -> Code
+        requires { AgreesWith _book.now self.old }
+        ensures { Follows _book.now self.old self.new call.Register (plain result) }
+    {
+        self.registered = true;
+        Code::Ok
+    }
+
+    /// The thread is registered no more: PAPI_unregister_thread(3). EISRUN where some set of it runs, EINVAL where it is
+    /// not registered.
+    pub fn unregister(&mut self, _book: &PresetBook) -> Code
+        requires { AgreesWith _book.now self.old }
+        ensures { Follows _book.now self.old self.new call.Unregister (plain result) }
+    {
+        if let Some(code) = self.unregister_refusal() {
+            return code;
+        }
+        self.registered = false;
+        Code::Ok
+    }
+
+    /// A new set under the least free number: PAPI_create_eventset(3). ECOUNT where there are 64 sets.
+    pub fn create(&mut self, _book: &PresetBook) -> Result<u32, Code>
+        requires { AgreesWith _book.now self.old }
+        ensures { Follows _book.now self.old self.new call.Create (reply_of (λ n. body.SetNumber n) result) }
+    {
+        if let Some(code) = self.create_refusal() {
+            return Err(code);
+        }
+        let number = self.free_number();
+        self.running.forget();
+        self.slots[number as usize] = Some(new_slot());
+        Ok(number)
+    }
+
+    /// Takes a set away, so that its number is free: PAPI_destroy_eventset(3). ENOEVST where there is no such set, EISRUN
+    /// where it runs, EINVAL where it has events.
+    pub fn destroy(&mut self, _book: &PresetBook, set: u32) -> Code
+        requires { AgreesWith _book.now self.old }
+        ensures { Follows _book.now self.old self.new (call.Destroy set) (plain result) }
+    {
+        if let Some(code) = self.destroy_refusal(set) {
+            return code;
+        }
+        self.running.forget();
+        self.slots[set as usize] = None;
+        Code::Ok
+    }
+
+    /// Takes away the events of a set, its component and its turns, and zeroes its counts; the domain stays:
+    /// PAPI_cleanup_eventset(3). ENOEVST where there is no such set, EISRUN where it runs.
+    pub fn cleanup(&mut self, book: &PresetBook, set: u32) -> Code
+        requires { AgreesWith book.now self.old }
+        ensures { Follows book.now self.old self.new (call.Cleanup set) (plain result) }
+    {
+        self.change(book, set, &Change::Cleanup)
+    }
+
+    /// Adds an event to a set, and zeroes its counts: PAPI_add_event(3).
+    ///
+    /// ENOEVST where there is no such set, EISRUN where it runs, the name's code where the event's text was refused, then
+    /// the refusals of the set at rest.
+    pub fn add(&mut self, book: &PresetBook, set: u32, e: &Named) -> Result<(), Refusal>
+        requires agrees { AgreesWith book.now self.old }
+        requires named { IsNamed book.now self.old.shape e.now }
+        ensures { Follows book.now self.old self.new (call.Add set e.now) (changed_reply result) }
+    {
+        if let Some(code) = self.add_refusal(set) {
+            return Err(Refusal::Plain(code));
+        }
+        match e {
+            Err(code) => Err(Refusal::Plain(*code)),
+            Ok(e) => {
+                self.running.forget();
+                add_under(&mut self.slots, book, &self.shape, set, e)
+            }
+        }
+    }
+
+    /// Takes an event away from a set, and zeroes its counts: PAPI_remove_event(3). ENOEVST where there is no such set,
+    /// EISRUN where it runs, the name's code where the event's text was refused, EINVAL where the event is not in the set.
+    pub fn remove(&mut self, book: &PresetBook, set: u32, e: &Named) -> Code
+        requires agrees { AgreesWith book.now self.old }
+        requires named { IsNamed book.now self.old.shape e.now }
+        ensures { Follows book.now self.old self.new (call.Remove set e.now) (plain result) }
+    {
+        self.change(book, set, &Change::Remove(*e))
+    }
+
+    /// Fixes the component of a set: PAPI_assign_eventset_component(3). ENOEVST where there is no such set, ENOCMP where
+    /// there is no such component, EISRUN where the set runs, EINVAL where it has another component.
+    pub fn assign_component(&mut self, book: &PresetBook, set: u32, comp: u32) -> Code
+        requires { AgreesWith book.now self.old }
+        ensures { Follows book.now self.old self.new (call.AssignComponent set comp) (plain result) }
+    {
+        self.change(book, set, &Change::Component(comp))
+    }
+
+    /// Gives a set another domain, by its bits, and zeroes its counts: PAPI_set_domain(3). ENOEVST where there is no such
+    /// set, EISRUN where it runs, EINVAL where the bits are 0 or have others than those of USER and KERNEL.
+    pub fn set_domain(&mut self, book: &PresetBook, set: u32, bits: u32) -> Code
+        requires { AgreesWith book.now self.old }
+        ensures { Follows book.now self.old self.new (call.SetDomain set bits) (plain result) }
+    {
+        self.change(book, set, &Change::Domain(bits))
+    }
+
+    /// Lets the native events of a set take turns of so many ticks, and zeroes its counts: PAPI_set_multiplex(3). ENOEVST
+    /// where there is no such set, EISRUN where it runs, EINVAL where the ticks are not from 1 to 1,000,000, ECOMBO where
+    /// an event has a threshold.
+    pub fn set_multiplex(&mut self, book: &PresetBook, set: u32, slice: u32) -> Code
+        requires { AgreesWith book.now self.old }
+        ensures { Follows book.now self.old self.new (call.SetMultiplex set slice) (plain result) }
+    {
+        self.change(book, set, &Change::Multiplex(slice))
+    }
+
+    /// Gives an event of a set a threshold, or with 0 takes its threshold away, and zeroes the set's counts:
+    /// PAPI_overflow(3).
+    ///
+    /// ENOEVST where there is no such set, EISRUN where it runs, and the name's code where the event's text was refused.
+    /// EINVAL where the event is not in the set or is derived, where the threshold is neither 0 nor from 256 to the last
+    /// value of each register of the component, and where another event has one on the same native event. Else ECOMBO
+    /// where the set is multiplexed.
+    pub fn overflow(&mut self, book: &PresetBook, set: u32, e: &Named, t: u64) -> Code
+        requires agrees { AgreesWith book.now self.old }
+        requires named { IsNamed book.now self.old.shape e.now }
+        ensures { Follows book.now self.old self.new (call.Overflow set e.now t) (plain result) }
+    {
+        self.change(book, set, &Change::Overflow { e: *e, t })
+    }
+
+    /// Starts a set: PAPI_start(3). ENOEVST where there is no such set, EISRUN where it runs or another one does on its
+    /// component, EINVAL where it has no events.
+    pub fn start(&mut self, book: &PresetBook, set: u32) -> Code
+        requires { AgreesWith book.now self.old }
+        ensures { Follows book.now self.old self.new (call.Start set) (plain result) }
+    {
+        if let Some(code) = self.start_refusal(set) {
+            return code;
+        }
+        let now = self.time();
+        self.running.forget();
+        begin_under(&mut self.units, &mut self.slots, book, set, now);
+        Code::Ok
+    }
+
+    /// Stops a set, and writes the value of each of its events: PAPI_stop(3). ENOEVST where there is no such set, ENOTRUN
+    /// where it does not run; `into` then stays as it is.
+    pub fn stop(&mut self, book: &PresetBook, set: u32, into: &mut Values) -> Code
+        requires { AgreesWith book.now self.old }
+        ensures follows { Follows book.now self.old self.new (call.Stop set) (values_reply result into.new) }
+        ensures kept { result ≢ code.Ok → into.new ≡ into.old }
+    {
+        if let Some(code) = self.stop_refusal(set) {
+            return code;
+        }
+        let now = self.time();
+        *into = values_under(&self.slots, &self.units, book, set, now);
+        self.running.forget();
+        stop_under(&mut self.units, &mut self.slots, &self.shape, set, now);
+        Code::Ok
+    }
+
+    /// Writes the value of each event of a set: PAPI_read(3). ENOEVST where there is no such set; `into`
+    /// then stays as it is.
+    pub fn read(&self, book: &PresetBook, set: u32, into: &mut Values) -> Code
+        requires { AgreesWith book.now self.now }
+        ensures follows { Follows book.now self.now self.now (call.Read set) (values_reply result into.new) }
+        ensures kept { result ≢ code.Ok → into.new ≡ into.old }
+    {
+        if let Some(code) = self.read_refusal(set) {
+            return code;
+        }
+        let now = self.time();
+        *into = values_under(&self.slots, &self.units, book, set, now);
+        Code::Ok
+    }
+
+    /// Adds the value of each event of a set to the caller's, writes the sums, and zeroes the counts of the set:
+    /// PAPI_accum(3). ENOEVST where there is no such set; `into` then stays as it is.
+    pub fn accum(&mut self, book: &PresetBook, set: u32, into: &mut Values) -> Code
+        requires { AgreesWith book.now self.old }
+        ensures follows { Follows book.now self.old self.new (call.Accum set) (values_reply result into.new) }
+        ensures kept { result ≢ code.Ok → into.new ≡ into.old }
+    {
+        if let Some(code) = self.read_refusal(set) {
+            return code;
+        }
+        let now = self.time();
+        let more = values_under(&self.slots, &self.units, book, set, now);
+        zero_under(&mut self.units, &mut self.slots, set, now);
+        *into = accumulate_under(&mut self.slots, set, &more);
+        Code::Ok
+    }
+
+    /// Zeroes the counts of a set, running or not: PAPI_reset(3). ENOEVST where there is no such set.
+    pub fn reset(&mut self, _book: &PresetBook, set: u32) -> Code
+        requires { AgreesWith _book.now self.old }
+        ensures { Follows _book.now self.old self.new (call.Reset set) (plain result) }
+    {
+        if let Some(code) = self.read_refusal(set) {
+            return code;
+        }
+        let now = self.time();
+        zero_under(&mut self.units, &mut self.slots, set, now);
+        Code::Ok
+    }
+
+    /// Whether a set runs, whether a threshold is set, and whether it is multiplexed, as bits: PAPI_state(3). ENOEVST where
+    /// there is no such set.
+    pub fn state(&self, _book: &PresetBook, set: u32) -> Result<u32, Code>
+        requires { AgreesWith _book.now self.now }
+        ensures { Follows _book.now self.now self.now (call.State set) (reply_of (λ bits. body.State bits) result) }
+    {
+        if let Some(code) = self.read_refusal(set) {
+            return Err(code);
+        }
+        Ok(bits_under(&self.slots, set))
+    }
+
+    /// The events of a set in the order in which they were added: PAPI_list_events(3). ENOEVST where there is no such set.
+    pub fn list_events(&self, _book: &PresetBook, set: u32) -> Result<Events, Code>
+        requires { AgreesWith _book.now self.now }
+        ensures { Follows _book.now self.now self.now (call.ListEvents set) (reply_of (λ events. body.Events events) result) }
+    {
+        if let Some(code) = self.read_refusal(set) {
+            return Err(code);
+        }
+        Ok(events_under(&self.slots, set))
+    }
+
+    /// The native events of a set, and the counter of each, as they are when the set starts. ENOEVST where there is no such
+    /// set, ECOMBO where it is multiplexed.
+    pub fn assign(&self, _book: &PresetBook, set: u32) -> Result<Assigned, Code>
+        requires { AgreesWith _book.now self.now }
+        ensures { Follows _book.now self.now self.now (call.Assign set) (reply_of (λ assigned. body.Assigned assigned) result) }
+    {
+        if let Some(code) = self.assign_refusal(set) {
+            return Err(code);
+        }
+        Ok(assigned_under(&self.slots, set))
+    }
+
+    /// The register of a counter of a running set, as the hardware holds it. ENOEVST where there is no such set, ENOTRUN
+    /// where it does not run, EINVAL where its component lacks the counter or none of its native events is on it, ECOMBO
+    /// where it is multiplexed.
+    pub fn raw(&self, _book: &PresetBook, set: u32, c: u32) -> Result<u64, Code>
+        requires { AgreesWith _book.now self.now }
+        ensures { Follows _book.now self.now self.now (call.Raw set c) (reply_of (λ value. body.Register value) result) }
+    {
+        register_under(&self.slots, &self.units, set, c)
+    }
+
+    /// Makes a change of a set that does not run.
+    fn change(&mut self, book: &PresetBook, set: u32, change: &Change) -> Code
+        requires agrees { AgreesWith book.now self.old }
+        requires named { IsFor book.now self.old.shape change.now }
+        ensures { Follows book.now self.old self.new (call_of set change.now) (plain result) }
+    {
+        if let Some(code) = self.change_refusal(set, change) {
+            return code;
+        }
+        self.running.forget();
+        match change_under(&mut self.slots, book, &self.shape, set, change) {
+            Ok(()) => Code::Ok,
+            Err(code) => code,
+        }
+    }
+
+    /// The least number with no set under it, or 64.
+    fn free_number(&self) -> u32
+        ensures { result ≡ free self.now.slots }
+    {
+        free_number(&self.slots)
+    }
+}
