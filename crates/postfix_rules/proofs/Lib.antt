@@ -14,3 +14,10 @@ mod Digits
 mod Pieces
 mod SoFar
 mod Components
+pub mod InfixParts
+pub mod InfixEnds
+pub mod InfixStates
+pub mod InfixSteps
+pub mod InfixNeeds
+pub mod InfixSound
+mod InfixAlone

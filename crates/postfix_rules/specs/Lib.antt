@@ -10,5 +10,10 @@ pub mod NativeCodes
 pub mod Tokens
 pub mod Judged
 pub mod Reading
+pub mod InfixTokens
+pub mod Infix
+pub mod InfixFaults
+pub mod InfixReading
+pub mod InfixJudged
 pub mod Laws
 pub use Rattle.table_rows.specs.Texts

@@ -5,7 +5,7 @@ ghost use Rattle.postfix_rules.specs.declared.fault.FormulaFault.TheVariants.{Me
 use std::alloc::{AllocError, AllocFailed};
 use thiserror::Error;
 
-/// Why a text is no formula at a token, in the order in which the causes are tried.
+/// Why a text is no formula at a token. Causes are tried in this order, but in infix order `TooDeep` is the last.
 #[derive(Clone, Copy, Debug, PartialEq, Eq, Error)]
 pub enum FormulaCause {
     /// It is no token.
@@ -17,15 +17,20 @@ pub enum FormulaCause {
     /// It is a native event that is not there.
     #[error("no such native event")]
     NativeRange,
-    /// It is an operator with fewer than two operands before it, or the end of a text without tokens.
+    /// In postfix order an operator with fewer than two operands before it, in infix order an operator, `)` or the end
+    /// where an operand must begin, and the end of a text without tokens.
     #[error("operand missing")]
     OperandMissing,
-    /// It is an operand behind a stack of 16.
+    /// In postfix order an operand after a stack of 16, in infix order a `(` inside 16 others, or the end of a formula
+    /// that needs a larger stack.
     #[error("too deep")]
     TooDeep,
-    /// It is the end, and several operands are left.
+    /// In postfix order the end, where several operands are left, in infix order an operand or `(` after an operand.
     #[error("operands left")]
     OperandsLeft,
+    /// In infix order a `)` that closes nothing, or the end inside an open `(`.
+    #[error("unbalanced parentheses")]
+    Unbalanced,
 }
 
 /// Why a text is no formula: its first fault, by the number of the token from 1, or want of memory.

@@ -8,7 +8,8 @@ ghost use Rattle.postfix_rules.specs.Tokens as Tokens;
 use crate::{FormulaCause, Operator, Token};
 use table_rows::{is_numeral, numeral_value};
 
-fn constant_of(digits: &[u8]) -> Result<Token, FormulaCause>
+/// The constant of some digits.
+pub(crate) fn constant_of(digits: &[u8]) -> Result<Token, FormulaCause>
     requires { Numerals.is_numeral digits.now ≡ true }
     ensures { ReadsToken result (Tokens.constant_part digits.now) }
 {
@@ -18,7 +19,8 @@ fn constant_of(digits: &[u8]) -> Result<Token, FormulaCause>
     }
 }
 
-fn native_of(digits: &[u8]) -> Result<Token, FormulaCause>
+/// The native event of what is behind `N`.
+pub(crate) fn native_of(digits: &[u8]) -> Result<Token, FormulaCause>
     ensures { ReadsToken result (Tokens.native_part digits.now) }
 {
     if !is_numeral(digits) {
@@ -30,7 +32,8 @@ fn native_of(digits: &[u8]) -> Result<Token, FormulaCause>
     }
 }
 
-fn operator_of(piece: &[u8]) -> Option<Operator>
+/// The operator that a piece is.
+pub(crate) fn operator_of(piece: &[u8]) -> Option<Operator>
     ensures { result ≡ Tokens.operator_of piece.now }
 {
     if piece == b"+".as_slice() {
@@ -90,9 +93,9 @@ fn operand_cause(height: usize) -> Option<FormulaCause>
     }
 }
 
-// The cause of a token behind so many operands.
+/// The cause of a token behind so many operands.
 #[tactic(auto, unfolding(crate::specs::Faults::token_cause))]
-fn token_cause(natives: u32, height: usize, token: Token) -> Option<FormulaCause>
+pub(crate) fn token_cause(natives: u32, height: usize, token: Token) -> Option<FormulaCause>
     ensures { result ≡ Faults.token_cause natives height (Some token) }
 {
     match token {

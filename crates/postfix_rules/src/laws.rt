@@ -1,4 +1,5 @@
 // Laws of the definitions, each the contract of a function that does nothing.
+ghost use Rattle.postfix_rules.specs.Infix.{OneTree};
 ghost use Rattle.postfix_rules.specs.Laws.{EachIsAmong, EarlierStay, FormulasSpell, NoneTwice, OneMoreJoins, SameEvents, SameNatives, TreesValued};
 ghost use Rattle.postfix_rules.specs.Reading.{FirstFaults, FromOne, SameTokens, WrittenBytes, WrittenRead};
 
@@ -34,4 +35,9 @@ pub fn reading_laws()
 pub fn writing_laws()
     ensures read { WrittenRead }
     ensures bytes { WrittenBytes }
+{}
+
+/// Tokens in infix order write one tree at most.
+pub fn infix_laws()
+    ensures one { OneTree }
 {}

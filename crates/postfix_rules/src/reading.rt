@@ -8,8 +8,8 @@ use crate::piece::next_piece;
 use crate::{Formula, FormulaCause, FormulaFault};
 use std::alloc::Global;
 
-// The fault of the token behind so many.
-fn fault_behind(tokens: usize, cause: FormulaCause) -> FormulaFault
+/// The fault of the token behind so many.
+pub(crate) fn fault_behind(tokens: usize, cause: FormulaCause) -> FormulaFault
     requires { tokens < 2 ^ 63 }
     ensures { result ≡ At (tokens + 1) cause }
 {

@@ -1,0 +1,14 @@
+use Rattle.std.proofs.Common.{◌∙◌, ◌≤◌, ℕ, length, drop, sym, ap, subst}
+use Rattle.std.specs.Prelude.{false}
+use Rattle.std.proofs.lemmas.List.Sums.{prefix_len-le-length}
+use Rattle.papi_base.specs.Numerals.{is_digit}
+use Rattle.postfix_rules.specs.InfixTokens.{infix_from}
+use Rattle.postfix_rules.proofs.InfixParts.{inside-digits}
+use Rattle.postfix_rules.proofs.infix_part.split_digits.Goals as goal
+
+pub split_at-requires : goal.split_at-requires
+split_at-requires c = subst (λ n. n ≤ length c.args.text.now) (sym c.digits_in-digits.ensures) (prefix_len-le-length is_digit c.args.text.now)
+
+pub returns-clause-behind : goal.returns-clause-behind
+returns-clause-behind c =
+    ap (infix_from false) (c.split_at.ensures.back ∙ ap (λ (n : ℕ). drop n c.args.text.now) c.digits_in-digits.ensures) ∙ inside-digits c.args.text.now

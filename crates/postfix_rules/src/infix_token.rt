@@ -1,0 +1,10 @@
+// The tokens of formulas in infix order.
+use crate::Token;
+
+/// A token of a formula in infix order: one that formulas in postfix order have too, or a parenthesis.
+#[derive(Clone, Copy, Debug, PartialEq, Eq)]
+pub enum InfixToken {
+    Token(Token),
+    Open,
+    Close,
+}
