@@ -28,7 +28,7 @@ rows_back (s ∷ rest) (entry.Missing ∷ entries) = rows_back rest entries
 rows_back (s ∷ rest) (entry.Uncomputed ∷ entries) = rest_row s ∷ rows_back rest entries
 rows_back (s ∷ rest) (entry.Def d ∷ entries) = def_row s d.kind d.formula d.natives ∷ rows_back rest entries
 
-rows-plain : (ss : List Text) (es : List Entry) → AllByRecursion IsGood ss → AllByRecursion IsEntry es → AllByRecursion IsPlainRow (rows_of_entries ss es)
+pub rows-plain : (ss : List Text) (es : List Entry) → AllByRecursion IsGood ss → AllByRecursion IsEntry es → AllByRecursion IsPlainRow (rows_of_entries ss es)
 unfolding rows_of_entries
 rows-plain [] es g h = tt
 rows-plain (s ∷ ss) [] g h = tt
@@ -36,7 +36,7 @@ rows-plain (s ∷ ss) (entry.Missing ∷ es) g h = rows-plain ss es g.1 h.1
 rows-plain (s ∷ ss) (entry.Uncomputed ∷ es) g h = (good-plain (rest_fields s) (rest-good s g.0) (refl, refl), rows-plain ss es g.1 h.1)
 rows-plain (s ∷ ss) (entry.Def d ∷ es) g h = (good-plain (row_fields s d.kind d.formula d.natives) (def-good s d g.0 h.0) (refl, refl), rows-plain ss es g.1 h.1)
 
-rows-lines : (ss : List Text) (es : List Entry) → AllByRecursion IsGood ss → AllByRecursion IsEntry es → map line_of (rows_of_entries ss es) ≡ map preset (rows_back ss es)
+pub rows-lines : (ss : List Text) (es : List Entry) → AllByRecursion IsGood ss → AllByRecursion IsEntry es → map line_of (rows_of_entries ss es) ≡ map preset (rows_back ss es)
 unfolding rows_of_entries rows_back
 rows-lines [] es g h = refl
 rows-lines (s ∷ ss) [] g h = refl
@@ -56,13 +56,13 @@ written-lines t g h =
 -- ---- the rows are read, and have no cause
 
 -- a row of the table's symbols that has an entry
-abbrev IsTaken : Derivation → Type 0
+abbrev pub IsTaken : Derivation → Type 0
 IsTaken r = (is_some (row_of r.symbol) ≡ true) × ((e : Entry) × (judged r ≡ Ok e))
 
-abbrev Stands : Text → List Line → Type 0
+abbrev pub Stands : Text → List Line → Type 0
 Stands name above = (group above ≡ name ∷ []) × (has_cpu above ≡ true)
 
-stands-more : (name : Text) (above : List Line) (r : Derivation) → Stands name above → Stands name (above ++ preset r ∷ [])
+pub stands-more : (name : Text) (above : List Line) (r : Derivation) → Stands name above → Stands name (above ++ preset r ∷ [])
 stands-more name above r s = (names-more above (preset r) ∙ s.0, has_cpu-more above (preset r) ∙ rw s.1 refl)
 
 reads : (name : Text) (above : List Line) (r : Derivation) → Stands name above → IsTaken r → is_read name above r ≡ true
@@ -84,11 +84,11 @@ no-fault name above (r ∷ rows) s h = rw (no-cause name above r s h.0) (no-faul
 abbrev InTable : Text → Type 0
 InTable s = is_some (row_of s) ≡ true
 
-symbols-in : AllByRecursion InTable symbols
+pub symbols-in : AllByRecursion InTable symbols
 unfolding symbols preset_rows row_of
 symbols-in = all-test (λ s. is_some (row_of s)) symbols refl
 
-all-taken : (ss : List Text) (es : List Entry) → AllByRecursion InTable ss → AllByRecursion IsEntry es → AllByRecursion IsTaken (rows_back ss es)
+pub all-taken : (ss : List Text) (es : List Entry) → AllByRecursion InTable ss → AllByRecursion IsEntry es → AllByRecursion IsTaken (rows_back ss es)
 unfolding rows_back
 all-taken [] es t h = tt
 all-taken (s ∷ ss) [] t h = tt
@@ -123,7 +123,7 @@ others-same s r rows ss is h =
 flip : (s : Text) (ss : List Text) → AllByRecursion (AreApart s) ss → AllByRecursion (λ t. bytes_eq t s ≡ false) ss
 flip s ss h = all-map (AreApart s) (λ t. bytes_eq t s ≡ false) ss (λ t k. k.1) h
 
-entries-back : (ss : List Text) (es : List Entry) → Apart ss → length es ≡ length ss → AllByRecursion IsEntry es → map (entry_of (rows_back ss es)) ss ≡ es
+pub entries-back : (ss : List Text) (es : List Entry) → Apart ss → length es ≡ length ss → AllByRecursion IsEntry es → map (entry_of (rows_back ss es)) ss ≡ es
 unfolding entry_of rows_back
 entries-back [] [] a n h = refl
 entries-back [] (e ∷ es) a n h = absurd (omega arith)
@@ -140,7 +140,7 @@ entries-back (s ∷ ss) (entry.Def d ∷ es) a n h =
 
 -- ---- the law for a cpu whose name can stand in a field
 
-first-stands : (name : Text) → Stands name (cpu name ∷ [])
+pub first-stands : (name : Text) → Stands name (cpu name ∷ [])
 unfolding group cuts_off has_cpu
 first-stands name = (refl, refl)
 

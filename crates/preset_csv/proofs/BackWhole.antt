@@ -26,7 +26,7 @@ use Rattle.preset_csv.proofs.TableKept.{IsLine, length-presets, lines-plain, no-
 
 -- a record is read that begins with this field
 record Begins (f : Text) (r : Option Read) : Type 0 where
-  more : List Text
+  pub more : List Text
   state : State
   rest : List ℕ
   is : r ≡ Some (f ∷ more, state, rest)
@@ -83,10 +83,10 @@ cpu-first : (xs : List ℕ) → next_record table_config st.StartRecord [] [] (c
 unfolding next_record
 cpu-first xs = refl
 
-record FirstRow (rows : List (List Text)) : Type 0 where
-  more : List Text
-  below : List (List Text)
-  is : rows ≡ (codes "CPU" ∷ more) ∷ below
+pub record FirstRow (rows : List (List Text)) : Type 0 where
+  pub more : List Text
+  pub below : List (List Text)
+  pub is : rows ≡ (codes "CPU" ∷ more) ∷ below
 
 strip-cpu : (xs : List ℕ) → strip_bom (cpu_text xs) ≡ cpu_text xs
 unfolding strip_bom
@@ -98,7 +98,7 @@ records-cpu n xs =
     let b = next-begins st.StartField (codes "CPU") [] [] xs tt in
     record { more = b.more; below = records_from table_config n b.state b.rest; is = ap (records_next (records_from table_config n)) (cpu-first xs ∙ b.is) }
 
-first-row : (xs : List ℕ) → FirstRow (rows_of (cpu_text xs))
+pub first-row : (xs : List ℕ) → FirstRow (rows_of (cpu_text xs))
 unfolding rows_of
 first-row xs =
     let n : length (cpu_text xs) + 1 ≡ suc (length (cpu_text xs)) = omega arith in
@@ -107,7 +107,7 @@ first-row xs =
 
 -- ---- a cpu whose name can stand in no field
 
-none-faulty : (name : Text) (above lines : List Line) → is_field name ≡ false → has_cpu above ≡ true → AllByRecursion IsLine above → AllByRecursion IsLine lines → fault_from name above lines ≡ None
+pub none-faulty : (name : Text) (above lines : List Line) → is_field name ≡ false → has_cpu above ≡ true → AllByRecursion IsLine above → AllByRecursion IsLine lines → fault_from name above lines ≡ None
 unfolding fault_from
 none-faulty name above [] e c a h = refl
 none-faulty name above (other ∷ rest) e c a h =

@@ -23,7 +23,7 @@ use Rattle.preset_csv.proofs.SymbolRows.{changed-at, set_at}
 abbrev group_of : Bool → Bool → Bool → Group
 group_of begun closed holds = record { begun = begun; closed = closed; holds = holds }
 
-holds-more : (name n : Text) (closed : Bool) (names : List Text)
+pub holds-more : (name n : Text) (closed : Bool) (names : List Text)
     → list_any (λ m. bytes_eq name m) (if closed then n ∷ [] else names ++ n ∷ []) ≡ (bytes_eq name n || (not closed && list_any (λ m. bytes_eq name m) names))
 holds-more name n true names = refl
 holds-more name n false names = list_any-append (λ m. bytes_eq name m) names (n ∷ []) ∙ swap (list_any (λ m. bytes_eq name m) names) (bytes_eq name n)

@@ -50,10 +50,10 @@ rest_fields s = codes "PRESET" ∷ s ∷ codes "DERIVED_CMPD" ∷ []
 small : (f : FormulaView) (natives : List Text) → length natives ≤ MOST_NATIVES → f.natives ≡ length natives → f.natives < 2 ^ 32
 small f natives few is = omega (arith, few, is)
 
-text-good : (f : FormulaView) (natives : List Text) → length natives ≤ MOST_NATIVES → Agrees kind.Postfix (Some f) natives → IsGood (formula_text f.tokens)
+pub text-good : (f : FormulaView) (natives : List Text) → length natives ≤ MOST_NATIVES → Agrees kind.Postfix (Some f) natives → IsGood (formula_text f.tokens)
 text-good f natives few agrees = ink-good (formula_text f.tokens) (formula-ink f (small f natives few agrees.0) agrees.1)
 
-formula-good : (k : Kind) (f : Option FormulaView) (natives : List Text) → AllByRecursion IsNativeText natives → length natives ≤ MOST_NATIVES → Agrees k f natives → AllByRecursion IsGood (formula_fields f ++ natives)
+pub formula-good : (k : Kind) (f : Option FormulaView) (natives : List Text) → AllByRecursion IsNativeText natives → length natives ≤ MOST_NATIVES → Agrees k f natives → AllByRecursion IsGood (formula_fields f ++ natives)
 formula-good k None natives each few agrees = natives-good natives each
 formula-good kind.NotDerived (Some f) natives each few agrees = absurd agrees
 formula-good kind.Add (Some f) natives each few agrees = absurd agrees
@@ -71,19 +71,19 @@ good-plain fields h b = (all-map IsGood IsPlainField fields (λ t g. g.0) h, b)
 
 -- ---- the row by itself
 
-first-good : (t : Text) (rest : List Text) → IsGood t → text_at (t ∷ rest) 0 ≡ t
+pub first-good : (t : Text) (rest : List Text) → IsGood t → text_at (t ∷ rest) 0 ≡ t
 unfolding text_at
 first-good t rest g = g.1
 
-second-good : (a t : Text) (rest : List Text) → IsGood t → text_at (a ∷ t ∷ rest) 1 ≡ t
+pub second-good : (a t : Text) (rest : List Text) → IsGood t → text_at (a ∷ t ∷ rest) 1 ≡ t
 unfolding text_at
 second-good a t rest g = g.1
 
-third-good : (a b t : Text) (rest : List Text) → IsGood t → text_at (a ∷ b ∷ t ∷ rest) 2 ≡ t
+pub third-good : (a b t : Text) (rest : List Text) → IsGood t → text_at (a ∷ b ∷ t ∷ rest) 2 ≡ t
 unfolding text_at
 third-good a b t rest g = g.1
 
-fourth-good : (a b c t : Text) (rest : List Text) → IsGood t → text_at (a ∷ b ∷ c ∷ t ∷ rest) 3 ≡ t
+pub fourth-good : (a b c t : Text) (rest : List Text) → IsGood t → text_at (a ∷ b ∷ c ∷ t ∷ rest) 3 ≡ t
 unfolding text_at
 fourth-good a b c t rest g = g.1
 
@@ -98,14 +98,14 @@ cpu-begins rest = rw (first-good (codes "CPU") rest (word-good (codes "CPU") ref
 pub cpu-line : (name : Text) → IsGood name → line_of (codes "CPU" ∷ name ∷ []) ≡ cpu name
 cpu-line name g = cpu-begins (name ∷ []) ∙ ap cpu (second-good (codes "CPU") name [] g)
 
-type-back : (k : Kind) → type_of (kind_text k) ≡ Some (kind_type k)
+pub type-back : (k : Kind) → type_of (kind_text k) ≡ Some (kind_type k)
 unfolding type_of
 type-back kind.NotDerived = refl
 type-back kind.Add = refl
 type-back kind.Sub = refl
 type-back kind.Postfix = refl
 
-natives-read : (natives : List Text) → AllByRecursion IsNativeText natives → natives_in (map trimmed natives) ≡ natives
+pub natives-read : (natives : List Text) → AllByRecursion IsNativeText natives → natives_in (map trimmed natives) ≡ natives
 natives-read natives each = ap natives_in (trims natives (natives-good natives each)) ∙ natives-back natives each
 
 typed-row : (s : Text) (k : Kind) (f : Option FormulaView) (natives : List Text) → IsGood s → AllByRecursion IsNativeText natives → length natives ≤ MOST_NATIVES → Agrees k f natives

@@ -32,7 +32,7 @@ IsKept r = AllByRecursion IsNative r.natives
 natives-cut : (fields : List Text) (first : ℕ) → IsReadRow fields → AllByRecursion IsNative (natives_in (map trimmed (drop first fields)))
 natives-cut fields first h = cut-natives _ (cut-trimmed (drop first fields) (read-drop first fields h))
 
-derivation-kept : (fields : List Text) → IsReadRow fields → IsKept (derivation_of fields)
+pub derivation-kept : (fields : List Text) → IsReadRow fields → IsKept (derivation_of fields)
 unfolding derivation_of
 derivation-kept fields h = go (has_formula (type_of (text_at fields 2)))
   where
@@ -55,7 +55,7 @@ field-bytes : (t : Text) → IsPlainField t → list_all is_field_byte t ≡ tru
 field-bytes [] h = refl
 field-bytes (b ∷ t) h = rw (h.0.0, h.0.1, h.0.2) (field-bytes t h.1)
 
-text-field : (fields : List Text) (i : ℕ) → IsReadRow fields → is_field (text_at fields i) ≡ true
+pub text-field : (fields : List Text) (i : ℕ) → IsReadRow fields → is_field (text_at fields i) ≡ true
 unfolding is_field text_at
 text-field fields i h =
     let t = unwrap_or (slice_get fields i) [] in
@@ -66,7 +66,7 @@ IsLine other = ⊤
 IsLine (cpu n) = is_field n ≡ true
 IsLine (preset r) = IsKept r
 
-line-kept : (fields : List Text) → IsReadRow fields → IsLine (line_of fields)
+pub line-kept : (fields : List Text) → IsReadRow fields → IsLine (line_of fields)
 unfolding line_of
 line-kept fields h = go (str_eq_ignore_ascii_case (text_at fields 0) (codes "CPU")) (str_eq_ignore_ascii_case (text_at fields 0) (codes "PRESET"))
   where
@@ -113,7 +113,7 @@ each-kept rows (s ∷ ss) h = (fold-kept s entry.Missing rows tt h, each-kept ro
 
 -- ---- a name that can stand in no field
 
-other-name : (name n : Text) → is_field name ≡ false → is_field n ≡ true → bytes_eq name n ≡ false
+pub other-name : (name n : Text) → is_field name ≡ false → is_field n ≡ true → bytes_eq name n ≡ false
 other-name name n e k = go (bytes_eq name n) (bytes_eq-Decides name n)
   where
     go : (b : Bool) → Decides b (name ≡ n) → b ≡ false

@@ -28,7 +28,7 @@ pub row-text : (x : Text) (rest : List Text) → rows_text ((x ∷ rest) ∷ [])
 unfolding rows_text
 row-text x rest = ap (λ (t : Text). t ++ (10 ∷ [])) (joined x rest)
 
-rows-append : (xs ys : List (List Text)) → rows_text (xs ++ ys) ≡ rows_text xs ++ rows_text ys
+pub rows-append : (xs ys : List (List Text)) → rows_text (xs ++ ys) ≡ rows_text xs ++ rows_text ys
 unfolding rows_text
 rows-append [] ys = refl
 rows-append (x ∷ xs) ys = ap (λ (t : Text). join_with_byte 44 x ++ (10 ∷ t)) (rows-append xs ys) ∙ sym (append_assoc (join_with_byte 44 x) (10 ∷ rows_text xs) (rows_text ys))
@@ -46,7 +46,7 @@ fields-more view xs i x first old new field lt at is before are =
 
 -- ---- the row of an entry
 
-put-row : (before word symbol fields end : Text) → (((before ++ word) ++ (44 ∷ symbol)) ++ fields) ++ end ≡ before ++ ((word ++ (44 ∷ (symbol ++ fields))) ++ end)
+pub put-row : (before word symbol fields end : Text) → (((before ++ word) ++ (44 ∷ symbol)) ++ fields) ++ end ≡ before ++ ((word ++ (44 ∷ (symbol ++ fields))) ++ end)
 put-row before word symbol fields end =
     ap (λ (t : Text). t ++ end) (append_assoc (before ++ word) (44 ∷ symbol) fields ∙ append_assoc before word ((44 ∷ symbol) ++ fields))
     ∙ append_assoc before (word ++ (44 ∷ (symbol ++ fields))) end

@@ -106,7 +106,7 @@ fn kept_entry(
 /// The entry that a row gives by its derived type, its formula and its natives, whatever its first two fields say, or its
 /// first cause.
 #[tactic(auto, unfolding(crate::specs::Entries::judged, crate::specs::Lines::derivation_of))]
-pub(crate) fn judge(alloc: Global, row: &ByteRecord) -> Result<Entry, Refusal>
+pub fn judge(alloc: Global, row: &ByteRecord) -> Result<Entry, Refusal>
     requires { IsReadRow (fields_of row.now) }
     ensures { Judges (Entries.judged (derivation_of (fields_of row.now))) result }
 {

@@ -18,10 +18,16 @@ mod writing;
 pub use crate::definition::Def;
 pub use crate::entry::Entry;
 pub use crate::fault::{PresetCause, PresetFault, cause_text};
-pub use crate::kind::{Kind, kind_text};
-pub use crate::reading::read_presets;
+pub use crate::group::Group;
+pub use crate::judging::judge;
+pub use crate::kind::{DerivedType, Kind, kind_text, type_of};
+pub use crate::natives::row_natives;
+pub use crate::reading::{all_missing, read_presets};
+pub use crate::refusal::{Refusal, fault_at};
+pub use crate::row::{Row, row_of};
+pub use crate::symbol::symbol_row;
 pub use crate::table::PresetTable;
-pub use crate::writing::write_presets;
+pub use crate::writing::{put_def, put_field, write_presets};
 pub use preset_table::{
     PRESETS, preset_code, preset_count, preset_row, preset_symbol, preset_text,
 };

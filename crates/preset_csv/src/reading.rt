@@ -20,8 +20,8 @@ use preset_table::PRESETS;
 use std::alloc::{AllocError, Global};
 use table_rows::{ByteRecord, RowReader, text_at};
 
-// A missing entry for each row of the preset table.
-fn all_missing(alloc: Global) -> Result<Vec<Entry>, AllocError>
+/// A missing entry for each row of the preset table.
+pub fn all_missing(alloc: Global) -> Result<Vec<Entry>, AllocError>
     ensures { IfOk result (λ v. v.items ≡ replicate PRESETS entry.Missing) }
 {
     let mut entries = Vec::new(alloc);

@@ -14,8 +14,8 @@ use postfix_rules::{Formula, write_formula};
 use preset_table::preset_symbol;
 use std::alloc::{AllocError, Global};
 
-// A field behind a comma.
-fn put_field(text: &mut Vec<u8>, field: &[u8]) -> Result<(), AllocError>
+/// Appends a field behind a comma.
+pub fn put_field(text: &mut Vec<u8>, field: &[u8]) -> Result<(), AllocError>
     ensures { OnOk result (text.new.items ≡ text.old.items ++ 44 ∷ field.now) }
 {
     text.push(b',')?;
@@ -50,8 +50,8 @@ fn put_formula(
     }
 }
 
-// The type, the formula where there is one, and the natives, each behind a comma.
-fn put_def(alloc: Global, text: &mut Vec<u8>, def: &Def) -> Result<(), AllocError>
+/// Appends the type, the formula where there is one, and the natives, each behind a comma.
+pub fn put_def(alloc: Global, text: &mut Vec<u8>, def: &Def) -> Result<(), AllocError>
     ensures { OnOk result (text.new.items ≡ text.old.items ++ behind_commas (def_fields def.now)) }
 {
     put_field(text, kind_text(def.kind()).as_bytes())?;

@@ -2,7 +2,8 @@
 
 use papi_base::{Mods, Native, Natives};
 use postfix_rules::{
-    Formula, FormulaCause, FormulaFault, Rule, eval, is_derived, read_postfix, write_formula,
+    Formula, FormulaCause, FormulaFault, Rule, eval, is_derived, read_infix, read_postfix,
+    write_formula,
 };
 use std::alloc::Global;
 
@@ -77,6 +78,81 @@ const WRITTEN: [(&str, &str); 3] = [
     ),
 ];
 
+// Texts in infix order over two native events, and the same in postfix order.
+const INFIX: [(&str, &str); 22] = [
+    ("N0*(N1+2)-N0/2", "N0|N1|2|+|*|N0|2|/|-|"),
+    ("8-3-2", "8|3|-|2|-|"),
+    ("8-(3-2)", "8|3|2|-|-|"),
+    ("N0", "N0|"),
+    (" \tN00 \t", "N0|"),
+    ("1+2*3", "1|2|3|*|+|"),
+    ("1*2+3", "1|2|*|3|+|"),
+    ("1*2*3/N1", "1|2|*|3|*|N1|/|"),
+    ("8/4/2", "8|4|/|2|/|"),
+    ("8/4*2", "8|4|/|2|*|"),
+    ("1-2+3", "1|2|-|3|+|"),
+    ("1-2*3-4", "1|2|3|*|-|4|-|"),
+    ("(1+2)*3", "1|2|+|3|*|"),
+    ("3*(1+2)", "3|1|2|+|*|"),
+    ("((N1))", "N1|"),
+    ("(N0-N1)*2", "N0|N1|-|2|*|"),
+    ("(1+2)*(3-4)/(N0)", "1|2|+|3|4|-|*|N0|/|"),
+    ("1+(2)", "1|2|+|"),
+    ("9223372036854775807", "9223372036854775807|"),
+    ("007 + N1", "7|N1|+|"),
+    ("((((((((((((((((N0))))))))))))))))", "N0|"),
+    (
+        "1+(1+(1+(1+(1+(1+(1+(1+(1+(1+(1+(1+(1+(1+(1+(1)))))))))))))))",
+        "1|1|1|1|1|1|1|1|1|1|1|1|1|1|1|1|+|+|+|+|+|+|+|+|+|+|+|+|+|+|+|",
+    ),
+];
+
+// Texts in infix order over two native events, and the place and cause of their first fault.
+const INFIX_REFUSED: [(&str, u64, FormulaCause); 34] = [
+    ("", 1, FormulaCause::OperandMissing),
+    ("  ", 1, FormulaCause::OperandMissing),
+    ("-N0", 1, FormulaCause::OperandMissing),
+    ("N0+*N1", 3, FormulaCause::OperandMissing),
+    ("N0 N1", 2, FormulaCause::OperandsLeft),
+    ("(N0", 3, FormulaCause::Unbalanced),
+    ("N0)", 2, FormulaCause::Unbalanced),
+    ("N0+", 3, FormulaCause::OperandMissing),
+    ("(", 2, FormulaCause::OperandMissing),
+    (")", 1, FormulaCause::OperandMissing),
+    ("()", 2, FormulaCause::OperandMissing),
+    ("(1+)", 4, FormulaCause::OperandMissing),
+    ("1(2)", 2, FormulaCause::OperandsLeft),
+    ("(1)(2)", 4, FormulaCause::OperandsLeft),
+    ("(1)2", 4, FormulaCause::OperandsLeft),
+    ("12N0", 2, FormulaCause::OperandsLeft),
+    ("N0N1", 2, FormulaCause::OperandsLeft),
+    ("((1)", 5, FormulaCause::Unbalanced),
+    ("(1))+N9", 4, FormulaCause::Unbalanced),
+    ("N2", 1, FormulaCause::NativeRange),
+    ("N4294967296", 1, FormulaCause::NativeRange),
+    ("1 N2", 2, FormulaCause::NativeRange),
+    ("9223372036854775808", 1, FormulaCause::ConstantTooLarge),
+    ("18446744073709551616", 1, FormulaCause::ConstantTooLarge),
+    ("1 9223372036854775808", 2, FormulaCause::ConstantTooLarge),
+    ("N", 1, FormulaCause::UnknownToken),
+    ("N 0", 1, FormulaCause::UnknownToken),
+    ("n0", 1, FormulaCause::UnknownToken),
+    ("1+x", 3, FormulaCause::UnknownToken),
+    ("1#2", 2, FormulaCause::UnknownToken),
+    ("N0|N1", 2, FormulaCause::UnknownToken),
+    (
+        "(((((((((((((((((N0)))))))))))))))))",
+        17,
+        FormulaCause::TooDeep,
+    ),
+    ("1 (", 2, FormulaCause::OperandsLeft),
+    (
+        "1+(1+(1+(1+(1+(1+(1+(1+(1+(1+(1+(1+(1+(1+(1+(1+(1))))))))))))))))",
+        66,
+        FormulaCause::TooDeep,
+    ),
+];
+
 #[test]
 fn values(rt: HostRuntime) {
     for (text, counts, value) in VALUES {
@@ -113,6 +189,22 @@ fn written_texts(rt: HostRuntime) {
         match read_postfix(rt.alloc(), text, 2) {
             Ok(f) => assert!(rt; rewritten(rt.alloc(), &f, written), "{text}"),
             Err(_) => assert!(rt; false, "{text}"),
+        }
+    }
+}
+
+#[test]
+fn infix_texts(rt: HostRuntime) {
+    for (text, written) in INFIX {
+        match read_infix(rt.alloc(), text, 2) {
+            Ok(f) => assert!(rt; rewritten(rt.alloc(), &f, written), "{text}"),
+            Err(_) => assert!(rt; false, "{text}"),
+        }
+    }
+    for (text, place, cause) in INFIX_REFUSED {
+        match read_infix(rt.alloc(), text, 2) {
+            Ok(_) => assert!(rt; false, "{text}"),
+            Err(fault) => assert!(rt; fault == FormulaFault::At { place, cause }, "{text}"),
         }
     }
 }
