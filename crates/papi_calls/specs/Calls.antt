@@ -1,0 +1,14 @@
+-- What a call on a library does.
+use Rattle.std.specs.Prelude.{◌≡◌}
+use Rattle.postfix_rules.specs.Sameness.{joined_by}
+use Rattle.session_model.specs.World.{mentions_of_call}
+use Rattle.session_model.specs.declared.call.Call.{Call}
+use Rattle.session_model.specs.declared.reply.Reply.{Reply}
+use Rattle.thread_session.specs.Follows.{Does}
+use Rattle.papi_calls.specs.Libraries.{LibraryView}
+
+-- The session does and replies what the model's step does; the call's native event is mentioned, and the catalog stays.
+pub record Made (old new : LibraryView) (made : Call) (answer : Reply) : Type 0 where
+  pub does : Does old.catalog.book old.session new.session made answer
+  pub catalog : new.catalog ≡ old.catalog
+  pub mentioned : new.mentioned ≡ joined_by old.mentioned (mentions_of_call made)
