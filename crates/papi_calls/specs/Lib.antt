@@ -1,6 +1,8 @@
 pub mod Libraries
+pub mod Codes
 pub mod Calls
 pub use Rattle.component_table.specs.Catalogs
+pub use Rattle.component_table.specs.EventNames
 pub use Rattle.session_model.specs.Step
 pub use Rattle.session_model.specs.World
 pub use Rattle.thread_session.specs.Follows

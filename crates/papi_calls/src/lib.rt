@@ -3,7 +3,9 @@
 #![tactic(auto)]
 
 mod calls;
+mod coded;
 pub mod library;
 mod named;
+mod running;
 
 pub use library::Library;

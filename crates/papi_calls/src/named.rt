@@ -1,8 +1,10 @@
 //! The calls that take an event by its name.
-ghost use Rattle.std.specs.Prelude.{◌≡◌, IfOk, OnErr, OnOk};
+ghost use Rattle.std.specs.Prelude.{◌≡◌, [], ◌∷◌, IfOk, OnErr, OnOk};
 ghost use Rattle.component_table.specs.Catalogs.{looked_up};
 ghost use Rattle.papi_calls.specs.Calls.{Made};
-ghost use Rattle.postfix_rules.specs.Fitting.{IsNamed};
+ghost use Rattle.event_tables.specs.Tables.{shape_of};
+ghost use Rattle.postfix_rules.specs.Fitting.{Fits, IsNamed};
+ghost use Rattle.postfix_rules.specs.NativeCodes.{native_code};
 ghost use Rattle.postfix_rules.specs.Sameness.{joined_by};
 ghost use Rattle.session_model.specs.Replies.{plain};
 ghost use Rattle.session_model.specs.World.{mentions_of};
@@ -13,11 +15,26 @@ ghost use Rattle.thread_core.specs.Following.{changed_reply};
 use crate::library::Library;
 use component_table::MOST_MENTIONED;
 use event_sets::Refusal;
-use papi_base::{Code, EventRef};
+use papi_base::{Code, EventRef, Native};
 use session_model::Named;
 use std::alloc::AllocError;
 
 impl Library {
+    // Mentions a native event, and gives its code. Where there are as many as there are codes, nothing changes.
+    pub(crate) fn mention(&mut self, native: Native) -> Result<u32, AllocError>
+        requires fits { Fits (shape_of self.old.catalog.tables) native }
+        ensures code { IfOk result (λ code. code ≡ native_code self.new.mentioned native) }
+        ensures mentioned { OnOk result (self.new.mentioned ≡ joined_by self.old.mentioned (native ∷ [])) }
+        ensures catalog { self.new.catalog ≡ self.old.catalog }
+        ensures session { self.new.session ≡ self.old.session }
+        ensures unchanged { OnErr result (self.new ≡ self.old) }
+    {
+        if self.codes.count() >= MOST_MENTIONED {
+            return Err(AllocError);
+        }
+        self.codes.mention(native)
+    }
+
     // The event that a text names, which is mentioned. Where it can't be, nothing changes.
     fn name(&mut self, text: &str) -> Result<Named, AllocError>
         ensures named { IfOk result (λ e. e ≡ looked_up self.old.catalog text.now) }
@@ -29,10 +46,7 @@ impl Library {
     {
         let named = self.catalog.lookup(text);
         if let Ok(EventRef::Native(native)) = named {
-            if self.codes.count() >= MOST_MENTIONED {
-                return Err(AllocError);
-            }
-            self.codes.mention(native)?;
+            self.mention(native)?;
         }
         Ok(named)
     }

@@ -1,0 +1,132 @@
+//! The codes of events, and the calls that take an event by its code.
+ghost use Rattle.std.specs.Prelude.{◌≡◌, ◌==◌, ◌<◌, IfOk, OnErr, OnOk, position, slice_get, string_bytes, unwrap_or};
+ghost use Rattle.component_table.specs.Catalogs.{looked_up};
+ghost use Rattle.component_table.specs.EventNames.{event_name};
+ghost use Rattle.papi_calls.specs.Calls.{Answered, Made};
+ghost use Rattle.papi_calls.specs.Codes.{IsKnown, coded, event_coded, map_ok, preset_codes};
+ghost use Rattle.postfix_rules.specs.Fitting.{EventFits, IsNamed};
+ghost use Rattle.event_tables.specs.Tables.{shape_of};
+ghost use Rattle.session_model.specs.Replies.{plain};
+ghost use Rattle.session_model.specs.World.{answer};
+ghost use Rattle.session_model.specs.declared.call.Call.TheVariants as call;
+ghost use Rattle.session_model.specs.declared.line.Asked.TheVariants as asked;
+ghost use Rattle.session_model.specs.declared.reply.Body.TheVariants as body;
+ghost use Rattle.thread_core.specs.Following.{changed_reply, reply_of};
+
+use crate::library::Library;
+use event_sets::Refusal;
+use papi_base::{Code, EventRef};
+use preset_table::{preset_code, preset_count};
+use session_model::Named;
+use std::alloc::{AllocError, Global};
+
+// The code in a row of the preset table, and 0 where there is no such row.
+fn code_of_preset(row: u32) -> u32
+    ensures { result ≡ unwrap_or (slice_get preset_codes row) 0 }
+{
+    if row < preset_count() {
+        preset_code(row)
+    } else {
+        0
+    }
+}
+
+// The row of the preset with a code.
+fn preset_of_code(code: u32) -> Option<u32>
+    ensures { result ≡ position (λ x. x == code) preset_codes }
+{
+    for row in 0..preset_count() {
+        if preset_code(row) == code {
+            return Some(row);
+        }
+    }
+    None
+}
+
+impl Library {
+    /// The code of the event that a text names: PAPI_event_name_to_code(3). A native event is mentioned, and has the code of its
+    /// first mention. ENOEVNT, EATTR and ECOMBO where the text names none.
+    ///
+    /// An `Err` comes as of a call by name; nothing is changed then.
+    pub fn code_of(&mut self, name: &str) -> Result<Result<u32, Code>, AllocError>
+        ensures answered { IfOk result (λ code. Answered self.old self.new (asked.CodeOf (looked_up self.old.catalog name.now)) (reply_of (λ n. body.EventCode n) code)) }
+        ensures unchanged { OnErr result (self.new ≡ self.old) }
+    {
+        match self.catalog.lookup(name) {
+            Ok(EventRef::Native(native)) => Ok(Ok(self.mention(native)?)),
+            Ok(EventRef::Preset(row)) => Ok(Ok(code_of_preset(row))),
+            Err(code) => Ok(Err(code)),
+        }
+    }
+
+    /// The event of a code: a row of the preset table, or a native event that was mentioned: PAPI_event_code_to_name(3). ENOEVNT
+    /// for any other code.
+    pub fn event_of(&self, code: u32) -> Result<EventRef, Code>
+        ensures answered { Answered self.now self.now (asked.NameOf code) (reply_of (λ e. body.EventName e) result) }
+        ensures event { result ≡ event_coded self.now.mentioned code }
+        ensures known { IfOk result (IsKnown self.now.mentioned) }
+        ensures fits { IfOk result (EventFits (shape_of self.now.catalog.tables)) }
+    {
+        if let Some(row) = preset_of_code(code) {
+            return Ok(EventRef::Preset(row));
+        }
+        match self.codes.native_of(code, self.codes.count()) {
+            Some(native) => Ok(EventRef::Native(native)),
+            None => Err(Code::Enoevnt),
+        }
+    }
+
+    /// The name of the event of a code, a symbol or a canonical name: PAPI_event_code_to_name(3). The `Err` is want of memory.
+    pub fn name_of(&self, alloc: Global, code: u32) -> Result<Result<String, Code>, AllocError>
+        ensures name { IfOk result (λ name. map_ok string_bytes name ≡ map_ok (event_name self.now.catalog) (event_coded self.now.mentioned code)) }
+    {
+        match self.event_of(code) {
+            Ok(event) => Ok(Ok(self.catalog.event_name(alloc, &event)?)),
+            Err(code) => Ok(Err(code)),
+        }
+    }
+
+    // The event of a code, where it can be added.
+    fn coded(&self, code: u32) -> Named
+        ensures known { IfOk result (IsKnown self.now.mentioned) }
+        ensures coded { result ≡ coded self.now.catalog self.now.mentioned code }
+        ensures good { IsNamed self.now.catalog.book self.now.session.core.shape result }
+    {
+        match self.event_of(code)? {
+            EventRef::Preset(row) => match self.catalog.book().get(row) {
+                Some(_) => Ok(EventRef::Preset(row)),
+                None => Err(Code::Enoevnt),
+            },
+            EventRef::Native(native) => Ok(EventRef::Native(native)),
+        }
+    }
+
+    /// Adds the event of a code to a set, and zeroes its counts: PAPI_add_event(3). The refusals are those of the session.
+    #[tactic(auto, using(crate::proofs::Known::known_added))]
+    pub fn add_coded(&mut self, set: u32, code: u32) -> Result<(), Refusal>
+        ensures made { Made self.old self.new (call.Add set (coded self.old.catalog self.old.mentioned code)) (changed_reply result) }
+    {
+        let e = self.coded(code);
+        self.session.add(self.catalog.book(), set, &e)
+    }
+
+    /// Takes the event of a code from a set, and zeroes its counts: PAPI_remove_event(3). The refusals are those of the session.
+    #[tactic(auto, using(crate::proofs::Known::known_removed))]
+    pub fn remove_coded(&mut self, set: u32, code: u32) -> Code
+        ensures made { Made self.old self.new (call.Remove set (coded self.old.catalog self.old.mentioned code)) (plain result) }
+    {
+        let e = self.coded(code);
+        self.session.remove(self.catalog.book(), set, &e)
+    }
+
+    /// Sets the threshold of the event of a code, where 0 clears it, and zeroes the set's counts: PAPI_overflow(3). The refusals are
+    /// those of the session.
+    #[tactic(auto, using(crate::proofs::Known::known_armed))]
+    pub fn overflow_coded(&mut self, set: u32, code: u32, threshold: u64) -> Code
+        ensures made { Made self.old self.new (call.Overflow set (coded self.old.catalog self.old.mentioned code) threshold) (plain result) }
+    {
+        let e = self.coded(code);
+        self.session
+            .overflow(self.catalog.book(), set, &e, threshold)
+    }
+}
