@@ -6,5 +6,6 @@ pub mod Steps
 pub mod Counts
 pub mod Places
 pub mod Histograms
+pub mod Profiles
 pub use Rattle.table_rows.specs.Rows
 pub use Rattle.table_rows.specs.Texts

@@ -3,7 +3,7 @@ use Rattle.std.proofs.Common.{◌≡◌, ℕ, zero, suc, Bool, true, false, List
 use Rattle.clap.specs.Words.{Text}
 use Rattle.clap.proofs.OnLiterals.{clap_on_literals}
 use Rattle.tool_words.specs.declared.command.Command.{Command}
-use Rattle.tool_words.specs.declared.command.Command.TheVariants.{Avail, Decode, Encode, EventChooser, NativeAvail, Run, Soak}
+use Rattle.tool_words.specs.declared.command.Command.TheVariants.{Avail, Decode, Encode, EventChooser, NativeAvail, Profil, Run, Soak}
 use Rattle.tool_words.specs.declared.chooser.EventKind.{EventKind}
 use Rattle.tool_words.specs.declared.chooser.EventKind.TheVariants.{Native, Preset}
 use Rattle.tool_words.specs.AvailForm.{avail_rules, avail_words_in}
@@ -13,16 +13,18 @@ use Rattle.tool_words.specs.Form.{form}
 use Rattle.tool_words.specs.declared.presets.PresetWords.{PresetWords}
 use Rattle.tool_words.specs.DecodeForm.{decode_rules, decode_words_in}
 use Rattle.tool_words.specs.NativeAvailForm.{excluded_rule, included_rule, native_avail_rules, native_avail_words_in, no_umasks_rule}
-use Rattle.tool_words.specs.Options.{available_rule, event_rule, unit_rule}
+use Rattle.tool_words.specs.Options.{available_rule, event_rule, script_rule, unit_rule}
+use Rattle.tool_words.specs.Numbers.{number_rule}
 use Rattle.tool_words.specs.Presets.{cpu_rule, is_cpu, needed_cpu_rule, needed_presets_rule, presets_rule}
-use Rattle.tool_words.specs.RunForm.{notes_rule, run_rules, run_words_in, script_rule}
+use Rattle.tool_words.specs.ProfilForm.{index_rule, map_rule, profil_rules, profil_words_in, set_rule, thread_rule}
+use Rattle.tool_words.specs.RunForm.{notes_rule, run_rules, run_words_in}
 use Rattle.tool_words.specs.SoakForm.{rounds_rule, soak_rules, soak_words_in}
 use Rattle.tool_words.specs.Streams.{streams_rule}
 use Rattle.tool_words.specs.Words.{read_by}
 use Rattle.tool_words.specs.Workers.{workers_rule}
 
 unfoldable on_words : Unit {0}
-unfolding clap_on_literals read_by unit_rule presets_rule cpu_rule is_cpu run_words_in run_rules workers_rule notes_rule script_rule streams_rule encode_words_in encode_rules names_rule decode_words_in decode_rules needed_presets_rule needed_cpu_rule available_rule avail_words_in avail_rules event_rule native_avail_words_in native_avail_rules included_rule excluded_rule no_umasks_rule chooser_words_in chooser_rules kind_rule events_rule soak_words_in soak_rules rounds_rule
+unfolding clap_on_literals read_by unit_rule presets_rule cpu_rule is_cpu run_words_in run_rules workers_rule notes_rule script_rule streams_rule encode_words_in encode_rules names_rule decode_words_in decode_rules needed_presets_rule needed_cpu_rule available_rule avail_words_in avail_rules event_rule native_avail_words_in native_avail_rules included_rule excluded_rule no_umasks_rule chooser_words_in chooser_rules kind_rule events_rule soak_words_in soak_rules rounds_rule profil_words_in profil_rules map_rule thread_rule set_rule index_rule number_rule
 on_words = tt
 
 abbrev lab_run : Text → List Text → Command
@@ -307,6 +309,44 @@ a_round_too_many = refl
 pub two_numbers : form (codes "papi_soak" ∷ codes "1" ∷ codes "2" ∷ []) ≡ None
 unfolding on_words
 two_numbers = refl
+
+-- ---- `papi_profil`
+
+abbrev lab_profil : ℕ → ℕ → ℕ → List Text → Option Command
+lab_profil thread set index streams = Some (Profil (record {
+  unit = codes "lab.unit";
+  map = codes "m";
+  presets = None;
+  thread = thread;
+  set = set;
+  index = index;
+  workers = 1;
+  script = codes "s";
+  streams = streams;
+}))
+
+abbrev profil_words_of : List Text → List Text
+profil_words_of words = codes "papi_profil" ∷ codes "-U" ∷ codes "lab.unit" ∷ words
+
+pub first_event : form (profil_words_of (codes "-M" ∷ codes "m" ∷ codes "s" ∷ codes "t0" ∷ [])) ≡ lab_profil 0 0 0 (codes "t0" ∷ [])
+unfolding on_words
+first_event = refl
+
+pub last_event : form (profil_words_of (codes "s" ∷ codes "--thread=63" ∷ codes "--set" ∷ codes "63" ∷ codes "-Mm" ∷ codes "--index" ∷ codes "31" ∷ [])) ≡ lab_profil 63 63 31 []
+unfolding on_words
+last_event = refl
+
+pub no_map : form (profil_words_of (codes "s" ∷ [])) ≡ None
+unfolding on_words
+no_map = refl
+
+pub a_thread_too_many : form (profil_words_of (codes "-Mm" ∷ codes "--thread=64" ∷ codes "s" ∷ [])) ≡ None
+unfolding on_words
+a_thread_too_many = refl
+
+pub an_index_too_many : form (profil_words_of (codes "-Mm" ∷ codes "--index=32" ∷ codes "s" ∷ [])) ≡ None
+unfolding on_words
+an_index_too_many = refl
 
 -- ---- no tool
 

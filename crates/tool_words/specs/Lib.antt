@@ -6,6 +6,7 @@ pub mod Workers
 pub mod Streams
 pub mod RunForm
 pub mod AvailForm
+pub mod ProfilForm
 pub mod NativeAvailForm
 pub mod ChooserForm
 pub mod SoakForm

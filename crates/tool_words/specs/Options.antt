@@ -8,6 +8,10 @@ use Rattle.clap.specs.declared.builder.ArgAction.TheVariants.{SetTrue}
 unfoldable pub unit_rule : Rule
 unit_rule = record (new_rule (codes "unit")) { short = Some 85; required = true }
 
+-- `SCRIPT`
+unfoldable pub script_rule : Rule
+script_rule = record (new_rule (codes "script")) { required = true }
+
 -- `-a`, the available presets alone
 unfoldable pub available_rule : Rule
 available_rule = record (new_rule (codes "available")) { short = Some 97; action = Some SetTrue }

@@ -6,7 +6,7 @@ use Rattle.clap.specs.declared.builder.ArgAction.TheVariants.{SetTrue}
 use Rattle.tool_words.specs.declared.presets.PresetWords.{PresetWords}
 use Rattle.tool_words.specs.declared.run.RunWords.{RunWords}
 use Rattle.tool_words.specs.Numbers.{number_of}
-use Rattle.tool_words.specs.Options.{is_set, unit_rule}
+use Rattle.tool_words.specs.Options.{is_set, script_rule, unit_rule}
 use Rattle.tool_words.specs.Presets.{cpu_rule, presets_asked, presets_rule}
 use Rattle.tool_words.specs.Streams.{streams_asked, streams_rule}
 use Rattle.tool_words.specs.Words.{app_with}
@@ -14,9 +14,6 @@ use Rattle.tool_words.specs.Workers.{workers_of, workers_rule}
 
 unfoldable pub notes_rule : Rule
 notes_rule = record (new_rule (codes "notes")) { long = Some (codes "notes"); action = Some SetTrue }
-
-unfoldable pub script_rule : Rule
-script_rule = record (new_rule (codes "script")) { required = true }
 
 -- the arguments, in order
 unfoldable pub run_rules : List Rule

@@ -5,6 +5,7 @@ use crate::chooser::ChooserWords;
 use crate::decode::DecodeWords;
 use crate::encode::EncodeWords;
 use crate::native_avail::NativeAvailWords;
+use crate::profil::ProfilWords;
 use crate::run::RunWords;
 use crate::soak::SoakWords;
 
@@ -25,4 +26,6 @@ pub enum Command {
     Encode(EncodeWords),
     /// `papi_soak`: counts a large input that it makes.
     Soak(SoakWords),
+    /// `papi_profil`: counts where in a program thresholds were passed.
+    Profil(ProfilWords),
 }

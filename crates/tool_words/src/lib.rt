@@ -15,6 +15,7 @@ mod matches;
 pub mod native_avail;
 mod options;
 pub mod presets;
+pub mod profil;
 pub mod run;
 pub mod soak;
 pub mod streams;
@@ -30,6 +31,7 @@ pub use encode::EncodeWords;
 pub use fault::WordsFault;
 pub use native_avail::NativeAvailWords;
 pub use presets::PresetWords;
+pub use profil::{LAST_INDEX, LAST_SET, LAST_THREAD, ProfilWords};
 pub use run::RunWords;
 pub use soak::{MOST_ROUNDS, Rounds, SoakWords};
 use std::alloc::Global;
@@ -53,6 +55,7 @@ pub fn read_words(alloc: Global, words: &[String]) -> Result<Command, WordsFault
         "papi_event_chooser" => Ok(Command::EventChooser(read_tool(alloc, words)?)),
         "papi_encode" => Ok(Command::Encode(read_tool(alloc, words)?)),
         "papi_soak" => Ok(Command::Soak(read_tool(alloc, words)?)),
+        "papi_profil" => Ok(Command::Profil(read_tool(alloc, words)?)),
         _ => Err(WordsFault::BadWords),
     }
 }

@@ -2,10 +2,11 @@
 
 ghost use Rattle.std.specs.Prelude.{◌≡◌, IfOk, option_map};
 ghost use Rattle.clap.specs.Words.{rule_of};
-ghost use Rattle.tool_words.specs.Options.{available_rule, event_rule, unit_rule};
+ghost use Rattle.tool_words.specs.Options.{available_rule, event_rule, script_rule, unit_rule};
+ghost use Rattle.tool_words.specs.Numbers.{number_rule};
 ghost use Rattle.tool_words.specs.Options as Options;
 
-use clap::{Arg, ArgAction};
+use clap::{Arg, ArgAction, value_parser};
 use papi_base::Text;
 use std::alloc::{AllocError, Global};
 
@@ -17,6 +18,25 @@ pub(crate) fn unit_argument<'a>(alloc: Global) -> Arg<'a>
     ensures { rule_of result ≡ unit_rule }
 {
     Arg::new(alloc, "unit").short('U').required(true)
+}
+
+// `SCRIPT`.
+#[tactic(auto, unfolding(crate::specs::Options::script_rule))]
+pub(crate) fn script_argument<'a>(alloc: Global) -> Arg<'a>
+    ensures { rule_of result ≡ script_rule }
+{
+    Arg::new(alloc, "script").required(true)
+}
+
+// `--NAME N`, from 0 to the greatest, by default 0.
+#[tactic(auto, unfolding(crate::specs::Numbers::number_rule))]
+pub(crate) fn number_argument<'a>(alloc: Global, name: &'a str, greatest: u32) -> Arg<'a>
+    ensures { rule_of result ≡ number_rule name.now greatest }
+{
+    Arg::new(alloc, name)
+        .long(name)
+        .value_parser(value_parser!(u32).range(0..=i64::from(greatest)))
+        .default_value("0")
 }
 
 // `-a`.

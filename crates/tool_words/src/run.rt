@@ -2,12 +2,12 @@
 
 ghost use Rattle.std.specs.Prelude.{◌≡◌, Some, map, option_map};
 ghost use Rattle.clap.specs.Words.{rule_of};
-ghost use Rattle.tool_words.specs.RunForm.{notes_rule, run_rules, run_rules-defined, run_words, run_words_in, script_rule};
+ghost use Rattle.tool_words.specs.RunForm.{notes_rule, run_rules, run_rules-defined, run_words, run_words_in};
 ghost use Rattle.tool_words.specs.Words.{Answers};
 
 use crate::fault::WordsFault;
 use crate::matches::{number_of, text_of, texts_of};
-use crate::options::{is_set, unit_argument};
+use crate::options::{is_set, script_argument, unit_argument};
 use crate::presets::{PresetWords, cpu_argument, presets_argument, presets_asked};
 use crate::streams::{StreamNames, streams_argument, streams_asked};
 use crate::tool::ToolWords;
@@ -37,13 +37,6 @@ fn notes_argument<'a>(alloc: Global) -> Arg<'a>
     Arg::new(alloc, "notes")
         .long("notes")
         .action(ArgAction::SetTrue)
-}
-
-#[tactic(auto, unfolding(crate::specs::RunForm::script_rule))]
-fn script_argument<'a>(alloc: Global) -> Arg<'a>
-    ensures { rule_of result ≡ script_rule }
-{
-    Arg::new(alloc, "script").required(true)
 }
 
 // ---- the values

@@ -1,0 +1,73 @@
+-- The text of a histogram, range by range and bucket by bucket.
+use Rattle.std.proofs.Common.{◌≡◌, ◌∙◌, ◌<◌, ◌+◌, ◌∷◌, ◌++◌, ℕ, zero, suc, List, [], Option, Some, None, Result, Ok, Err, IfOk, length, map, sym, ap, ap₂, refl, arith, option_map, count_by, lt-ltb, codes, decimal}
+use Rattle.std.proofs.lemmas.List.{flat_map_more}
+use Rattle.std.proofs.lemmas.List.FromFn.{map-range_with_len_more}
+use Rattle.std.specs.Prelude.{slice_get, unwrap_or}
+use Rattle.std.specs.List.{flat_map, range_with_len}
+use Rattle.table_rows.specs.Texts.{Text}
+use Rattle.profil_hist.specs.Histograms.{HistText, IsHistogram}
+use Rattle.profil_hist.specs.Profiles.{bucket_line, count_or_none, hist_lines, hits_or_none, last_lines, lines_at, profile_text, range_lines}
+use Rattle.profil_hist.specs.Ranges.{RangeText, in_bucket, in_range}
+
+map_same : (ns : List ℕ) → map (λ n. n) ns ≡ ns
+map_same [] = refl
+map_same (n ∷ ns) = ap (λ (ks : List ℕ). n ∷ ks) (map_same ns)
+
+range_more : (k : ℕ) → range_with_len 0 (k + 1) ≡ range_with_len 0 k ++ k ∷ []
+range_more k =
+    sym (map_same (range_with_len 0 (k + 1))) ∙ map-range_with_len_more (λ x. x) 0 k k (omega arith)
+    ∙ ap (λ (ks : List ℕ). ks ++ k ∷ []) (map_same (range_with_len 0 k))
+
+-- the lines of one place more
+pub lines_more : (lines : ℕ → Text) (start now after : Text) (i : ℕ) → now ≡ start ++ flat_map lines (range_with_len 0 i) → after ≡ now ++ lines i →
+    after ≡ start ++ flat_map lines (range_with_len 0 (i + 1))
+lines_more lines start now after i so_far more =
+    more ∙ ap (λ (t : Text). t ++ lines i) so_far ∙ flat_map_more lines start (range_with_len 0 i) i
+    ∙ ap (λ (ks : List ℕ). start ++ flat_map lines ks) (sym (range_more i))
+
+-- there is a range in each place below their number
+pub is_there : {X Y : Type 0} (view : Y → X) (found : Option Y) (xs : List X) (k : ℕ) → option_map view found ≡ slice_get xs k → ((y : Y) → found ≡ Some y → ⊥) → k < length xs → ⊥
+is_there view (Some y) xs k e none small = none y refl
+is_there view None [] k e none small = absurd (omega arith)
+is_there view None (x ∷ xs) zero e none small = absurd cc
+is_there view None (x ∷ xs) (suc k) e none small = is_there view None xs k e none (omega arith)
+
+-- ---- what is counted
+
+same_lines : (f g : ℕ → Text) (a n : ℕ) → ((i : ℕ) → i < a + n → f i ≡ g i) → flat_map f (range_with_len a n) ≡ flat_map g (range_with_len a n)
+same_lines f g a zero h = refl
+same_lines f g a (suc n) h = ap₂ (λ (t u : Text). t ++ u) (h a (omega arith)) (same_lines f g (a + 1) n (λ i small. h i (omega arith)))
+
+by_place : {X : Type 0} (xs : List X) (f : ℕ → Text) (g : X → Text) (a : ℕ) → ((k : ℕ) (x : X) → slice_get xs k ≡ Some x → f (a + k) ≡ g x) → flat_map f (range_with_len a (length xs)) ≡ flat_map g xs
+by_place [] f g a h = refl
+by_place (x ∷ xs) f g a h =
+    let first : f a ≡ g x = ap f (let e : a ≡ a + 0 = omega arith in e) ∙ h 0 x refl in
+    let rest = by_place xs f g (a + 1) (λ k y e. ap f (let s : a + 1 + k ≡ a + suc k = omega arith in s) ∙ h (suc k) y e) in
+    ap₂ (λ (t u : Text). t ++ u) first rest
+
+hits_are : (h : HistText) (pcs : List ℕ) (k : ℕ) (r : RangeText) → IsHistogram h pcs → slice_get h.map k ≡ Some r → hits_or_none h k ≡ count_by (in_range r) pcs
+hits_are h pcs k r is there = let e = is.hits k in let s = rw there at e in ap (λ o. unwrap_or o 0) s
+
+counts_are : (h : HistText) (pcs : List ℕ) (k : ℕ) (r : RangeText) (i : ℕ) → IsHistogram h pcs → slice_get h.map k ≡ Some r → i < r.buckets → count_or_none h k i ≡ count_by (in_bucket r i) pcs
+counts_are h pcs k r i is there small = let e = is.buckets k i in let s = rw (there, lt-ltb i r.buckets small) at e in ap (λ o. unwrap_or o 0) s
+
+lines_are : (h : HistText) (pcs : List ℕ) (k : ℕ) (r : RangeText) → IsHistogram h pcs → slice_get h.map k ≡ Some r →
+    lines_at h k ≡ range_lines r (count_by (in_range r) pcs) (λ i. count_by (in_bucket r i) pcs)
+lines_are h pcs k r is there =
+    rw there (
+    ap (λ n. range_lines r n (count_or_none h k)) (hits_are h pcs k r is there)
+    ∙ ap (λ (t : Text). codes "range " ++ (r.name ++ (codes " " ++ (decimal (count_by (in_range r) pcs) ++ (codes "\n" ++ t)))))
+    (same_lines (λ i. bucket_line r i (count_or_none h k i)) (λ i. bucket_line r i (count_by (in_bucket r i) pcs)) 0 r.buckets (λ i small. ap (bucket_line r i) (counts_are h pcs k r i is there (omega arith))))
+    )
+
+-- what a histogram has is the text of what it counts
+pub profiled : (h : HistText) (pcs : List ℕ) → IsHistogram h pcs → hist_lines h ≡ profile_text h.map pcs
+unfolding profile_text
+profiled h pcs is =
+    ap₂ (λ (t u : Text). t ++ u)
+    (by_place h.map (lines_at h) (λ r. range_lines r (count_by (in_range r) pcs) (λ i. count_by (in_bucket r i) pcs)) 0 (λ k r there. ap (lines_at h) (let e : 0 + k ≡ k = omega arith in e) ∙ lines_are h pcs k r is there))
+    (ap₂ last_lines is.outside is.total)
+
+pub profiled_text : {A : Type 0} (view : A → Text) {E : Type 0} (h : HistText) (pcs : List ℕ) (answer : Result A E) → IsHistogram h pcs → IfOk answer (λ a. view a ≡ hist_lines h) → IfOk answer (λ a. view a ≡ profile_text h.map pcs)
+profiled_text view h pcs (Ok a) is e = e ∙ profiled h pcs is
+profiled_text view h pcs (Err error) is e = tt

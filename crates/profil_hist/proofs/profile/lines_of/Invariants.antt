@@ -1,0 +1,7 @@
+use Rattle.std.proofs.Common.{◌≡◌, string_bytes}
+use Rattle.std.specs.List.{flat_map, range_with_len}
+use Rattle.profil_hist.specs.Profiles.{lines_at}
+use Rattle.profil_hist.proofs.profile.lines_of.Given as goal
+
+abbrev pub invariant-loop-k : goal.invariant-loop-k
+invariant-loop-k l = string_bytes l.text ≡ flat_map (lines_at l.hist) (range_with_len 0 l.k)
