@@ -2,11 +2,13 @@ pub mod CarriedLemmas
 pub mod CauseLemmas
 pub mod FaultLemmas
 pub mod OpeningLemmas
+pub mod ProfilLemmas
 pub mod QuietLemmas
 pub mod RunLemmas
 pub mod SayingLemmas
 pub mod SettlingLemmas
 pub mod SoakLemmas
+pub mod StepLemmas
 pub mod StreamLemmas
 pub mod TellingLemmas
 pub mod WritingLemmas

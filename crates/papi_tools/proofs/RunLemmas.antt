@@ -24,7 +24,7 @@ use Rattle.script_runner.specs.Resolving.{lines_of, reply_lines_of, setting_of}
 use Rattle.tool_words.specs.declared.run.RunWords.{RunWords}
 use Rattle.papi_tools.specs.Answers.{Answers, AnswersBy}
 use Rattle.papi_tools.specs.Causes.{MetCause}
-use Rattle.papi_tools.specs.Marks.{outcome_at}
+use Rattle.papi_tools.specs.Marks.{marked_said, outcome_at}
 use Rattle.papi_tools.specs.Run.{given_under, ran_verdict, run_said, run_verdict, shown_notes}
 use Rattle.papi_tools.specs.Running.{Given, IsGiven, note_counts, ran_notes, ran_replies, told_in}
 use Rattle.papi_tools.specs.Seen.{FilesSeen}
@@ -118,7 +118,7 @@ sources_kept (b ∷ bs) (a ∷ as') h =
 -- ---- what is said of it
 
 -- there is a list of notes for each of the 64 threads, as there are handlers
-as_many : {X : Type 0} (told : X → List Note) (handlers : Vec X Global) (given : Given) → vec_len handlers ≡ 64 → length (ran_notes given) ≡ length (map told handlers.items)
+pub as_many : {X : Type 0} (told : X → List Note) (handlers : Vec X Global) (given : Given) → vec_len handlers ≡ 64 → length (ran_notes given) ≡ length (map told handlers.items)
 unfolding ran_notes
 as_many told handlers given h =
     let all : length handlers.items ≡ 64 = omega (arith, h) in
@@ -162,19 +162,19 @@ unfolding ran_verdict
 begun_tells wanted given before after h = h
 
 -- what runs met is the cause of how a call ends
-met_of : (catalog : CatalogView) (lines : List ReplyLine) (marks : List (Option Ended)) (shown : List Note) (before after : FilesSeen) → marks ≡ marks_in lines →
-    (SomeFault lines → Rose before.faults after.faults) → (o : Outcome) → outcome_at marks ≡ o → MetCause o before after (run_said catalog lines marks shown)
-met_of catalog lines marks shown before after m h Whole e = tt
-met_of catalog lines marks shown before after m h No e = tt
-met_of catalog lines marks shown before after m h Refused e = (marks, e, refl)
-met_of catalog lines marks shown before after m h ReadFault e = h (fault_replied lines (rw m at e))
+met_of : (lines : List ReplyLine) (marks : List (Option Ended)) (text : List ℕ) (before after : FilesSeen) → marks ≡ marks_in lines →
+    (SomeFault lines → Rose before.faults after.faults) → (o : Outcome) → outcome_at marks ≡ o → MetCause o before after (marked_said marks text)
+met_of lines marks text before after m h Whole e = tt
+met_of lines marks text before after m h No e = tt
+met_of lines marks text before after m h Refused e = (marks, e, refl)
+met_of lines marks text before after m h ReadFault e = h (fault_replied lines (rw m at e))
 
-pub met_in_said : (catalog : CatalogView) (lines : List ReplyLine) (marks : List (Option Ended)) (shown : List Note) (before after : FilesSeen) (answer : Result Said Stop) → Answers answer (Ok (run_said catalog lines marks shown)) →
+pub met_in_said : (lines : List ReplyLine) (marks : List (Option Ended)) (text : List ℕ) (before after : FilesSeen) (answer : Result Said Stop) → Answers answer (Ok (marked_said marks text)) →
     marks ≡ marks_in lines → (SomeFault lines → Rose before.faults after.faults) → IfOk answer (λ said. MetCause said.outcome before after said)
-met_in_said catalog lines marks shown before after (Ok said) e m h =
-    let same : run_said catalog lines marks shown ≡ said = cc e in
-    rw (← same) (met_of catalog lines marks shown before after m h (outcome_at marks) refl)
-met_in_said catalog lines marks shown before after (Err s) e m h = tt
+met_in_said lines marks text before after (Ok said) e m h =
+    let same : marked_said marks text ≡ said = cc e in
+    rw (← same) (met_of lines marks text before after m h (outcome_at marks) refl)
+met_in_said lines marks text before after (Err s) e m h = tt
 
 -- ---- the whole of it
 

@@ -1,5 +1,5 @@
 -- A soak: what it runs, what is said of it, and what the handlers are told.
-use Rattle.std.proofs.Common.{◌≡◌, ◌<◌, ◌≤◌, ◌+◌, ◌-◌, ℕ, zero, suc, Bool, true, false, List, [], ◌∷◌, ◌++◌, length, map, replicate, Option, Some, None, IfSome, IsOkAnd, Result, Ok, Err, Vec, Global, vec_len, get_or, drop, refl, sym, ap, ap₂, ◌∙◌, arith, length-append}
+use Rattle.std.proofs.Common.{◌≡◌, ◌<◌, ◌+◌, ◌-◌, ℕ, zero, suc, Bool, true, false, List, [], ◌∷◌, ◌++◌, length, map, replicate, Option, Some, None, IfSome, IsOkAnd, Result, Ok, Err, Vec, Global, vec_len, get_or, drop, refl, sym, ap, ap₂, ◌∙◌, arith, length-append}
 use Rattle.std.proofs.lemmas.List.{drop_more, length-map, map-append}
 use Rattle.std.proofs.lemmas.List.FromFn.{map-range_with_len_more}
 use Rattle.std.specs.Prelude.{find, slice_index, slice_index_or}
@@ -16,7 +16,7 @@ use Rattle.soak_input.specs.declared.summary.ThreadTotal.{ThreadTotal}
 use Rattle.tool_words.specs.declared.soak.SoakWords.{SoakWords}
 use Rattle.papi_tools.specs.Answers.{Answers}
 use Rattle.papi_tools.specs.Running.{Given, IsGiven, note_counts, ran_notes, ran_replies}
-use Rattle.papi_tools.specs.Soaking.{soak_given, soak_tape, soak_tapes, soak_verdict, soaked, stop_values, summary_said, thread_total, thread_totals, total_between, totals_between, values_at}
+use Rattle.papi_tools.specs.Soaking.{soak_given, soak_tape, soak_tapes, soak_verdict, soaked, stop_values, summary_said, thread_total, thread_totals, total_between, totals_between}
 use Rattle.papi_tools.specs.Steps.{Verdict, and_then}
 use Rattle.papi_tools.specs.Streams.{empty_stream, stream_of, streams_of}
 use Rattle.papi_tools.specs.Verdict.{AnswersSaid, TellsBy, notes_in}

@@ -1,5 +1,5 @@
 -- What the words and the counts of the files show of what is said, where nothing is told.
-use Rattle.std.specs.Prelude.{◌≡◌, ◌⊎◌, ℕ, List, Option, None}
+use Rattle.std.specs.Prelude.{◌≡◌, ◌⊎◌, List, Option, None}
 use Rattle.papi_base.specs.Outside.{Rose}
 use Rattle.session_model.specs.declared.reply.Ended.{Ended}
 use Rattle.tool_words.specs.declared.command.Command.{Command}

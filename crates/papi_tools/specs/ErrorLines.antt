@@ -3,11 +3,12 @@ use Rattle.std.specs.Prelude.{ℕ, List, ◌++◌, codes}
 use Rattle.std.specs.Fmt.{decimal}
 use Rattle.event_tables.specs.Unit as Unit
 use Rattle.preset_csv.specs.Presets as Presets
+use Rattle.profil_hist.specs.Maps as Maps
 use Rattle.script_lines.specs.Causes as Causes
 use Rattle.papi_tools.specs.declared.status.Outcome.{Outcome}
 use Rattle.papi_tools.specs.declared.status.Outcome.TheVariants as outcome
 use Rattle.papi_tools.specs.declared.refusal.Refusal.{Refusal}
-use Rattle.papi_tools.specs.declared.refusal.Refusal.TheVariants.{BadWords, NoSuchFile, CannotRead, TooLarge, Row, PresetRow, Line}
+use Rattle.papi_tools.specs.declared.refusal.Refusal.TheVariants.{BadWords, NoSuchFile, CannotRead, TooLarge, Row, PresetRow, MapRow, Line}
 
 -- the line that names a place in a file and its cause
 abbrev pub numbered_line : List ℕ → List ℕ → ℕ → List ℕ → List ℕ
@@ -22,6 +23,7 @@ line_of (CannotRead name) = codes "papi: cannot read: " ++ (name ++ codes "\n")
 line_of (TooLarge name) = codes "papi: " ++ (name ++ codes ": too large\n")
 line_of (Row name row cause) = numbered_line name (codes "row") row (Unit.cause_text cause)
 line_of (PresetRow name row cause) = numbered_line name (codes "row") row (Presets.cause_text cause)
+line_of (MapRow name row cause) = numbered_line name (codes "row") row (Maps.cause_text cause)
 line_of (Line name line cause) = numbered_line name (codes "line") line (Causes.text_of cause)
 
 -- how a call ends that is refused so
@@ -32,4 +34,5 @@ outcome_of (NoSuchFile name) = outcome.Refused
 outcome_of (TooLarge name) = outcome.Refused
 outcome_of (Row name row cause) = outcome.Refused
 outcome_of (PresetRow name row cause) = outcome.Refused
+outcome_of (MapRow name row cause) = outcome.Refused
 outcome_of (Line name line cause) = outcome.Refused

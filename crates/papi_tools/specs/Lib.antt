@@ -6,6 +6,7 @@ pub mod Decoding
 pub mod Encoding
 pub mod ErrorLines
 pub mod Looking
+pub mod MapFile
 pub mod Marks
 pub mod NativeListing
 pub mod NoFiles
@@ -13,6 +14,7 @@ pub mod Opening
 pub mod Outputs
 pub mod PresetFile
 pub mod PresetListing
+pub mod Profiling
 pub mod Run
 pub mod Running
 pub mod Saying

@@ -6,6 +6,7 @@ use Rattle.papi_base.specs.declared.occurrence.LineCause.{LineCause}
 use Rattle.papi_base.specs.declared.occurrence.LineCause.TheVariants as cause
 use Rattle.session_model.specs.declared.reply.Ended.{Ended}
 use Rattle.session_model.specs.declared.reply.Ended.TheVariants.{Going, Bad, Fault}
+use Rattle.papi_tools.specs.declared.said.Said.{Said}
 use Rattle.papi_tools.specs.declared.status.Outcome.{Outcome}
 use Rattle.papi_tools.specs.declared.status.Outcome.TheVariants as outcome
 
@@ -44,3 +45,7 @@ mark_line t None = []
 abbrev pub mark_lines : ℕ → List (Option Ended) → List ℕ
 mark_lines t [] = []
 mark_lines t (m ∷ ms) = mark_line t m ++ mark_lines (t + 1) ms
+
+-- what is said of a run that met these marks: a text, and the lines of the marks
+abbrev pub marked_said : List (Option Ended) → List ℕ → Said
+marked_said marks text = record { outcome = outcome_at marks; out = text; err = mark_lines 0 marks }

@@ -10,7 +10,7 @@ use Rattle.plan_runner.specs.Marks.{marks_in}
 use Rattle.plan_runner.specs.declared.result.ReplyLine.{ReplyLine}
 use Rattle.script_runner.specs.Replies.{notes_text, reply_text}
 use Rattle.tool_words.specs.declared.run.RunWords.{RunWords}
-use Rattle.papi_tools.specs.Marks.{mark_lines, outcome_at}
+use Rattle.papi_tools.specs.Marks.{marked_said}
 use Rattle.papi_tools.specs.Running.{Given, ran_notes, ran_replies}
 use Rattle.papi_tools.specs.ScriptFile.{script_under}
 use Rattle.papi_tools.specs.Steps.{Verdict, and_then}
@@ -21,11 +21,7 @@ use Rattle.papi_tools.specs.declared.said.Said.{Said}
 
 -- what is said of a run: the text of its replies and of the notes that are shown, and the lines of the marks that it met
 abbrev pub run_said : CatalogView → List ReplyLine → List (Option Ended) → List Note → Said
-run_said catalog lines marks shown = record {
-  outcome = outcome_at marks;
-  out = reply_text catalog lines ++ notes_text shown;
-  err = mark_lines 0 marks;
-}
+run_said catalog lines marks shown = marked_said marks (reply_text catalog lines ++ notes_text shown)
 
 -- the notes that are shown: all of them thread by thread, where they are wanted
 abbrev pub shown_notes : Bool → List (List Note) → List Note

@@ -7,6 +7,7 @@ use crate::Outcome;
 use event_tables::{RowCause, cause_text as row_text};
 use papi_base::Text;
 use preset_csv::{PresetCause, cause_text as preset_text};
+use profil_hist::{MapCause, cause_text as map_text};
 use script_lines::{ScriptCause, cause_text as line_text};
 use std::alloc::{AllocError, AllocFailed, Global};
 
@@ -32,6 +33,12 @@ pub enum Refusal {
         name: Text,
         row: u64,
         cause: PresetCause,
+    },
+    /// A row of a map of program counters, counted from 1.
+    MapRow {
+        name: Text,
+        row: u64,
+        cause: MapCause,
     },
     /// A line of a script, counted from 1.
     Line {
@@ -75,6 +82,9 @@ impl Refusal {
                 *row,
                 preset_text(*cause),
             ),
+            Refusal::MapRow { name, row, cause } => {
+                numbered(alloc, name, "row", *row, map_text(*cause))
+            }
             Refusal::Line { name, line, cause } => numbered(
                 alloc,
                 name,

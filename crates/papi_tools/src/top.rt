@@ -13,6 +13,7 @@ use crate::decoding::decode_presets;
 use crate::encoding::encode_names;
 use crate::native_listing::list_natives;
 use crate::preset_listing::list_presets;
+use crate::profiling::profile;
 use crate::run::run;
 use crate::saying::say;
 use crate::settling::{refused, settled};
@@ -51,6 +52,7 @@ fn carried_out<R: Threads + Sync, F: Files>(
         Command::EventChooser(words) => choose_events(alloc, files, words),
         Command::Encode(words) => encode_names(alloc, files, words),
         Command::Soak(words) => soak(rt, alloc, words, handlers),
+        Command::Profil(words) => profile(rt, alloc, files, words, handlers),
     }
 }
 

@@ -1,6 +1,6 @@
 //! Maps and histograms, made with memory at hand.
 
-use profil_hist::{Hist, MapCause, MapFault, cause_text, read_map};
+use profil_hist::{Hist, MapCause, MapFault, cause_text, profile_text, read_map};
 use std::alloc::Global;
 use std::fmt::Write;
 use std::test::Fail;
@@ -86,6 +86,13 @@ fn counts_of_buckets(rt: HostRuntime) {
                 assert!(rt; hist.bucket(1, 0) == Some(1) && hist.bucket(2, 0) == Some(0));
                 assert!(rt; hist.hits(0) == Some(2) && hist.hits(2) == Some(0));
                 assert!(rt; hist.outside() == 1 && hist.total() == 4);
+                let text = profile_text(rt.alloc(), &hist).expect(&rt, "a text");
+                let loops = "range loop 2\n0x4 1\n0x6 1\nrange top 1\n0xffffffffffffffff 1\n";
+                assert!(rt; text.as_str().starts_with(loops));
+                assert!(rt;
+                    text.as_str()
+                        .ends_with("range init 0\noutside 1\ntotal 4\n")
+                );
             }
             Err(_) => assert!(rt; false),
         },

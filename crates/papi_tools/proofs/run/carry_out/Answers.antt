@@ -11,7 +11,7 @@ returns-in-Ok-clause-tells g c given is = added_tells _ given _ _ c.said_of.resu
 
 pub returns-in-Ok-clause-met : goal.returns-in-Ok-clause-met
 returns-in-Ok-clause-met g c =
-    met_in_said c.args.input.catalog _ _ _ _ _ c.said_of.result c.said_of.ensures.said c.in-Ok.ensures.marks (λ some. c.close_readers.ensures.faulty (c.in-Ok.ensures.faulty some))
+    met_in_said _ _ _ _ _ c.said_of.result c.said_of.ensures.said c.in-Ok.ensures.marks (λ some. c.close_readers.ensures.faulty (c.in-Ok.ensures.faulty some))
 
 pub returns-in-Err-clause-tells : goal.returns-in-Err-clause-tells
 returns-in-Err-clause-tells g c given is = begun_tells _ given _ _ (c.in-Err.ensures.begun given is)

@@ -1,4 +1,4 @@
-use Rattle.std.proofs.Common.{◌∙◌, Some, ap, arith, refl, rules}
+use Rattle.std.proofs.Common.{◌∙◌, Some, ap, arith, rules}
 use Rattle.std.proofs.lemmas.List.Elements.{All-push}
 use Rattle.papi_base.specs.declared.outside.Ending.TheVariants.{End}
 use Rattle.stream_reader.specs.Occurs.{occurs_of}

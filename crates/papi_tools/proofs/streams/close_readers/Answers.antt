@@ -1,5 +1,4 @@
-use Rattle.std.proofs.Common.{◌≡◌, ◌<◌, ◌⊎◌, ℕ, arith, inl, inr, rules}
-use Rattle.papi_base.specs.Outside.{Rose}
+use Rattle.std.proofs.Common.{arith, rules}
 use Rattle.papi_tools.proofs.StreamLemmas.{by_either, failed_more, sources_in-append}
 use Rattle.papi_tools.proofs.streams.close_readers.Goals as goal
 

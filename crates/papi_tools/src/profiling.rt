@@ -1,0 +1,252 @@
+//! `papi_profil`: counts where in a program the thresholds of an event were passed.
+ghost use Rattle.std.specs.Prelude.{◌≡◌, ◌≤◌, ◌<◌, ◌-◌, ◌+◌, ◌^◌, ◌∷◌, ◌++◌, All, IfOk, IfSome, IsOkAnd, OnOk, ℕ, [], List, drop, length, map, slice_get, slice_index_or, vec_len};
+ghost use Rattle.overflow_dispatch.specs.Notes.{EachGrown};
+ghost use Rattle.profil_hist.specs.Histograms.{IsHistogram};
+ghost use Rattle.thread_session.specs.SessionView.{IsFresh};
+ghost use Rattle.papi_tools.specs.Answers.{Answers, AnswersBy};
+ghost use Rattle.papi_tools.specs.Causes.{MetCause};
+ghost use Rattle.papi_tools.specs.Looking.{Looked, StopsByFile, out_with};
+ghost use Rattle.papi_tools.specs.Profiling.{IsProfiled, Profiled, counted_in, is_counted, profil_verdict, profile_said, profiled_under, profiled_verdict};
+ghost use Rattle.papi_tools.specs.Seen.{FilesSeen, files_seen};
+ghost use Rattle.papi_tools.specs.Streams.{sources_in};
+ghost use Rattle.papi_tools.specs.Verdict.{AnswersSaid, TellsBy, notes_in};
+
+use crate::map_file::read_map_file;
+use crate::marks::{lines_of, outcome_of};
+use crate::running::{Ran, run_script};
+use crate::script_file::read_script_file;
+use crate::streams::{close_readers, open_readers};
+use crate::tables::read_catalog;
+use crate::{Output, Said, Stop};
+use component_table::Catalog;
+use overflow_dispatch::{Handler, Note};
+use papi_base::{Bytes, Files, Source, THREADS};
+use profil_hist::{Hist, Map, profile_text};
+use script_lines::Script;
+use std::alloc::{AllocError, Global};
+use std::marker::{Send, Sync};
+use std::thread::Threads;
+use stream_reader::StreamReader;
+use tool_words::ProfilWords;
+
+// ---- the notes of an event
+
+// More notes than a histogram counts, which no memory holds.
+const TOO_MANY: u64 = 1 << 63;
+
+// How many notes the handler has taken.
+fn count_of(handler: &Box<dyn Handler + Send>) -> u64
+    ensures { result ≡ length (notes handler.now) }
+{
+    handler.noted()
+}
+
+// The note of the handler at this place from 0, if there are so many.
+fn note_of(handler: &Box<dyn Handler + Send>, i: u64) -> Option<Note>
+    ensures { result ≡ slice_get (notes handler.now) i }
+{
+    handler.note_at(i)
+}
+
+// Whether a note is of the event of this index in this set.
+fn is_counted(note: &Note, set: u32, index: u32) -> bool
+    ensures { result ≡ is_counted set index note.now }
+{
+    note.set == set && note.index == index
+}
+
+// Counts a note, where it is of the event.
+fn add_note(hist: &mut Hist, note: &Note, set: u32, index: u32)
+    requires { hist.old.total < 2 ^ 63 }
+    ensures map { hist.new.map ≡ hist.old.map }
+    ensures total { hist.new.total ≤ hist.old.total + 1 }
+    ensures counts { (pcs : List ℕ) → IsHistogram hist.old pcs → IsHistogram hist.new (pcs ++ counted_in set index (note.now ∷ [])) }
+{
+    if is_counted(note, set, index) {
+        hist.add(note.pc);
+    }
+}
+
+// Counts the notes of an event that the handler has after so many.
+fn add_notes(
+    hist: &mut Hist,
+    handler: &Box<dyn Handler + Send>,
+    from: u64,
+    set: u32,
+    index: u32,
+) -> Result<(), AllocError>
+    requires empty { IsHistogram hist.old [] }
+    ensures map { hist.new.map ≡ hist.old.map }
+    ensures counts { OnOk result (IsHistogram hist.new (counted_in set index (drop from (notes handler.now)))) }
+{
+    let after = count_of(handler);
+    if after.saturating_sub(from) >= TOO_MANY {
+        return Err(AllocError);
+    }
+    for i in from..after {
+        if let Some(note) = note_of(handler, i) {
+            add_note(hist, &note, set, index);
+        }
+    }
+    Ok(())
+}
+
+// The histogram of the asked event, out of the notes that the handler of the asked thread has after so many.
+fn hist_of(
+    alloc: Global,
+    ranges: Map,
+    words: &ProfilWords,
+    noted: &[u64],
+    handlers: &Vec<Box<dyn Handler + Send>>,
+) -> Result<Hist, AllocError>
+    requires { length noted.now ≡ vec_len handlers.now }
+    ensures map { IfOk result (λ hist. hist.map ≡ ranges) }
+    ensures counts { IfOk result (λ hist. IsHistogram hist (counted_in words.now.set words.now.index
+        (drop (slice_index_or noted.now words.now.thread 0) (slice_index_or (map (λ b. notes b) handlers.now.items) words.now.thread [])))) }
+{
+    let mut hist = Hist::new(alloc, ranges)?;
+    let thread = words.thread as usize;
+    if thread < handlers.len() {
+        add_notes(
+            &mut hist,
+            &handlers[thread],
+            noted[thread],
+            words.set,
+            words.index,
+        )?;
+    }
+    Ok(hist)
+}
+
+// What is said of a run.
+fn said_of(
+    alloc: Global,
+    ranges: Map,
+    ran: &Ran,
+    words: &ProfilWords,
+    handlers: &Vec<Box<dyn Handler + Send>>,
+) -> Result<Said, Stop>
+    requires { vec_len ran.now.noted ≡ vec_len handlers.now }
+    ensures said { Answers result (Ok (profile_said ranges ran.now.marks (counted_in words.now.set words.now.index
+        (drop (slice_index_or ran.now.noted.items words.now.thread 0) (slice_index_or (map (λ b. notes b) handlers.now.items) words.now.thread []))))) }
+    ensures cause { (before after : FilesSeen) → StopsByFile result before after }
+{
+    let hist = hist_of(alloc, ranges, words, ran.noted.as_slice(), handlers)?;
+    let text = profile_text(alloc, &hist)?;
+    let err = lines_of(alloc, &ran.marks)?;
+    Ok(Said {
+        outcome: outcome_of(&ran.marks),
+        out: Output::text(Bytes::new(text.into_bytes())),
+        err,
+    })
+}
+
+// ---- the tool
+
+// What a profile stands on: the map, the catalog, the script, and the readers of all threads.
+#[derive(Drop)]
+struct ProfilInput<S: Source> {
+    map: Map,
+    catalog: Catalog,
+    script: Script,
+    readers: Vec<StreamReader<S>>,
+}
+
+// Reads the tables, the map and the script, and opens the streams, or says why not.
+#[tactic(auto, unfolding(crate::specs::Profiling::profiled_under))]
+fn open_input<F: Files>(
+    alloc: Global,
+    files: &mut F,
+    words: &ProfilWords,
+) -> Result<ProfilInput<F::S>, Stop>
+    ensures told { IfSome (F.held files.old) (λ held.
+        AnswersBy (λ input given. IsOkAnd given (IsProfiled input.map input.catalog input.script input.readers.items)) result (profiled_under held words.now)) }
+    ensures len { IfOk result (λ input. vec_len input.readers ≡ THREADS) }
+    ensures fresh { IfOk result (λ input. All IsFresh input.readers.items) }
+    ensures looked { Looked result (out_with (λ input. sources_in input.readers.items) result)
+        (files_seen F.held F.misses F.faults F.lent files.old) (files_seen F.held F.misses F.faults F.lent files.new) }
+{
+    let catalog = read_catalog(alloc, files, &words.unit, &words.presets)?;
+    let map = read_map_file(alloc, files, words.map.as_str())?;
+    let script = read_script_file(alloc, files, words.script.as_str())?;
+    let readers = open_readers(alloc, files, words.streams.as_slice())?;
+    Ok(ProfilInput {
+        map,
+        catalog,
+        script,
+        readers,
+    })
+}
+
+// Runs the script over the readers, closes them, and says what came of it.
+fn carry_out<R: Threads + Sync, F: Files>(
+    rt: &R,
+    alloc: Global,
+    files: &mut F,
+    words: &ProfilWords,
+    input: ProfilInput<F::S>,
+    handlers: &mut Vec<Box<dyn Handler + Send>>,
+) -> Result<Said, Stop>
+    requires readers { vec_len input.readers ≡ THREADS }
+    requires fresh { All IsFresh input.readers.items }
+    requires handlers { vec_len handlers.old ≡ THREADS }
+    ensures len { vec_len handlers.new ≡ THREADS }
+    ensures told { (given : Profiled) → IsProfiled input.map input.catalog input.script input.readers.items given
+        → AnswersSaid result (Ok (profiled_verdict words.now given)) }
+    ensures tells { (given : Profiled) → IsProfiled input.map input.catalog input.script input.readers.items given
+        → TellsBy result (profiled_verdict words.now given).notes (map (λ b. notes b) handlers.old.items) (map (λ b. notes b) handlers.new.items) }
+    ensures grown { EachGrown (map (λ b. notes b) handlers.old.items) (map (λ b. notes b) handlers.new.items) }
+    ensures met { IfOk result (λ said. MetCause said.outcome
+        (files_seen F.held F.misses F.faults F.lent files.old) (files_seen F.held F.misses F.faults F.lent files.new) said) }
+    ensures cause { (before after : FilesSeen) → StopsByFile result before after }
+    ensures lent { F.lent files.new ≡ F.lent files.old - sources_in input.readers.items }
+    ensures misses_stay { F.misses files.old ≤ F.misses files.new }
+    ensures faults_stay { F.faults files.old ≤ F.faults files.new }
+{
+    let ProfilInput {
+        map,
+        catalog,
+        script,
+        mut readers,
+    } = input;
+    let answer = run_script(
+        rt,
+        alloc,
+        &script,
+        &catalog,
+        &mut readers,
+        handlers,
+        words.workers.get(),
+    );
+    close_readers(files, readers);
+    match answer {
+        Ok(ran) => said_of(alloc, map, &ran, words, handlers),
+        Err(_) => Err(Stop::Memory),
+    }
+}
+
+/// `papi_profil`: reads the unit, the presets, the map and the script, opens the streams, carries out the script as `papi_run` does,
+/// and gives the histogram of the program counters at which a threshold of the asked event was passed. The handlers, one a
+/// thread, are told the thresholds that were passed.
+pub fn profile<R: Threads + Sync, F: Files>(
+    rt: &R,
+    alloc: Global,
+    files: &mut F,
+    words: &ProfilWords,
+    handlers: &mut Vec<Box<dyn Handler + Send>>,
+) -> Result<Said, Stop>
+    requires handlers { vec_len handlers.old ≡ THREADS }
+    ensures len { vec_len handlers.new ≡ THREADS }
+    ensures told { IfSome (F.held files.old) (λ held. AnswersSaid result (profil_verdict held words.now)) }
+    ensures tells { IfSome (F.held files.old) (λ held. TellsBy result (notes_in (profil_verdict held words.now))
+        (map (λ b. notes b) handlers.old.items) (map (λ b. notes b) handlers.new.items)) }
+    ensures grown { EachGrown (map (λ b. notes b) handlers.old.items) (map (λ b. notes b) handlers.new.items) }
+    ensures met { IfOk result (λ said. MetCause said.outcome
+        (files_seen F.held F.misses F.faults F.lent files.old) (files_seen F.held F.misses F.faults F.lent files.new) said) }
+    ensures looked { Looked result 0 (files_seen F.held F.misses F.faults F.lent files.old) (files_seen F.held F.misses F.faults F.lent files.new) }
+{
+    match open_input(alloc, files, words) {
+        Ok(input) => carry_out(rt, alloc, files, words, input, handlers),
+        Err(stop) => Err(stop),
+    }
+}
