@@ -39,7 +39,11 @@ lacks_component shape made = false
 
 -- before the set at rest is asked
 abbrev pub code_before : Widths → List (Option Face) → ℕ → Change → Option Code
-code_before shape faces k made = if is_absent faces k then Some Enoevst else if lacks_component shape made then Some Enocmp else if runs faces k then Some Eisrun else None
+code_before shape faces k made =
+    if is_absent faces k then Some Enoevst
+    else if lacks_component shape made then Some Enocmp
+    else if runs faces k then Some Eisrun
+    else None
 
 -- what the set at rest says
 abbrev pub change_refusal : Book → Widths → Change → AtRest → Option Code

@@ -8,7 +8,11 @@ use Rattle.thread_slots.specs.declared.slot.Slot.{Slot}
 
 -- another set at rest, that has counted nothing, and for each event 0 as the caller's value
 abbrev pub renewed : Book → Widths → AtRest → Slot → Slot
-renewed book shape s slot = record slot { set = set_view book shape s; values = replicate (length s.events) (pos 0); kept = replicate (length (set_natives book s)) 0 }
+renewed book shape s slot = record slot {
+  set = set_view book shape s;
+  values = replicate (length s.events) (pos 0);
+  kept = replicate (length (set_natives book s)) 0;
+}
 
 -- one more event: PAPI_add_event(3)
 abbrev pub slot_with_event : Book → Widths → EventRef → Slot → Slot

@@ -63,7 +63,11 @@ pub record CountedPlace : Type 0 where
 
 abbrev pub counted_place : Option Occ → Occ → UnitView → Option Slot → CountedPlace
 counted_place before o unit None = record { unit = unit; place = None; passed = [] }
-counted_place before o unit (Some slot) = record { unit = (counted before o unit slot).unit; place = Some (counted before o unit slot).slot; passed = (counted before o unit slot).passed }
+counted_place before o unit (Some slot) = record {
+  unit = (counted before o unit slot).unit;
+  place = Some (counted before o unit slot).slot;
+  passed = (counted before o unit slot).passed;
+}
 
 -- all units and all sets, with the passed thresholds and the number of their set, 0 where there are none
 pub record CountedAll : Type 0 where
@@ -76,7 +80,12 @@ abbrev pub uncounted : List UnitView → List (Option Slot) → CountedAll
 uncounted units slots = record { units = units; slots = slots; set = 0; passed = [] }
 
 abbrev pub placed : ℕ → ℕ → List UnitView → List (Option Slot) → CountedPlace → CountedAll
-placed comp number units slots c = record { units = slice_set units comp c.unit; slots = slice_set slots number c.place; set = if length c.passed == 0 then 0 else number; passed = c.passed }
+placed comp number units slots c = record {
+  units = slice_set units comp c.unit;
+  slots = slice_set slots number c.place;
+  set = if length c.passed == 0 then 0 else number;
+  passed = c.passed;
+}
 
 abbrev pub counted_at : Option Occ → Occ → List UnitView → List (Option Slot) → ℕ → Option UnitView → CountedAll
 counted_at before o units slots number None = uncounted units slots

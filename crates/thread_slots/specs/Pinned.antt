@@ -45,7 +45,9 @@ armed_of book s = armed_from book (set_natives book s) (counters_for (set_native
 -- the register of each pin's count, put on its counter
 abbrev pub programs : List ℕ → Domain → (Native → ℕ) → List Pin → List (Option Register) → List (Option Register)
 programs widths d counts [] registers = registers
-programs widths d counts (p ∷ ps) registers = programs widths d counts ps (slice_set registers p.counter (Some (register_at (slice_index widths p.counter) p.native d p.threshold (counts p.native))))
+programs widths d counts (p ∷ ps) registers =
+    let register = register_at (slice_index widths p.counter) p.native d p.threshold (counts p.native) in
+    programs widths d counts ps (slice_set registers p.counter (Some register))
 
 -- what was carried away of a pin's count
 abbrev pub bank_of : List ℕ → (Native → ℕ) → Pin → ℕ
@@ -55,7 +57,9 @@ bank_of widths counts p = banked (slice_index widths p.counter) p.threshold (cou
 abbrev pub with_carries : List ℕ → ℕ → List Pin → List ℕ → List ℕ
 with_carries widths carry [] banks = []
 with_carries widths carry (p ∷ ps) [] = []
-with_carries widths carry (p ∷ ps) (b ∷ bs) = (if bit_at carry p.counter == 1 then b + period (slice_index widths p.counter) p.threshold else b) ∷ with_carries widths carry ps bs
+with_carries widths carry (p ∷ ps) (b ∷ bs) =
+    (if bit_at carry p.counter == 1 then b + period (slice_index widths p.counter) p.threshold else b)
+    ∷ with_carries widths carry ps bs
 
 -- each pin is on a counter that exists, with a threshold that fits, and no two are on the same
 pub record ArePinned (widths : List ℕ) (pins : List Pin) : Type 0 where

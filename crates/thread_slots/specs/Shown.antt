@@ -59,7 +59,8 @@ pub record IsInTurns (slot : Slot) (time : ℕ) (r : RotationView) : Type 0 wher
 -- the numbers of the set can be told
 pub record IsMeasurable (units : List UnitView) (slot : Slot) (time : ℕ) : Type 0 where
   pub has_unit : (comp : ℕ) → slot.running ≡ true → slot.set.rest.component ≡ Some comp → comp < length units
-  pub on_unit : (comp : ℕ) (unit : UnitView) → slot.running ≡ true → slot.set.rest.component ≡ Some comp → slice_get units comp ≡ Some unit → IsCountable unit slot
+  pub on_unit : (comp : ℕ) (unit : UnitView) → slot.running ≡ true → slot.set.rest.component ≡ Some comp
+      → slice_get units comp ≡ Some unit → IsCountable unit slot
   pub in_turns : (r : RotationView) → slot.running ≡ true → slot.rotation ≡ Some r → IsInTurns slot time r
 
 -- so can the values of its events

@@ -25,7 +25,12 @@ begun_by book now unit slot None = record {
 }
 begun_by book now unit slot (Some slice) = record {
   unit = unit;
-  slot = record slot { running = true; rotation = Some (rotation_of (groups (masks_of slot.set.natives)) slice); begun = now; kept = replicate (length slot.set.natives) 0 };
+  slot = record slot {
+    running = true;
+    rotation = Some (rotation_of (groups (masks_of slot.set.natives)) slice);
+    begun = now;
+    kept = replicate (length slot.set.natives) 0;
+  };
 }
 
 abbrev pub begun : Book → ℕ → UnitView → Slot → Begun
@@ -35,9 +40,12 @@ begun book now unit slot = begun_by book now unit slot slot.set.rest.slice
 pub record IsArmable (book : Book) (natives : List Native) (counters : List ℕ) (events : List EventRef) (thresholds : List ℕ) : Type 0 where
   pub few_events : length events ≤ 32
   pub one_each : length thresholds ≡ length events
-  pub exist : (k t : ℕ) (e : EventRef) → slice_get events k ≡ Some e → slice_get thresholds k ≡ Some (suc t) → place_of_lead book natives e < length counters
-  pub small : (k t : ℕ) (e : EventRef) → slice_get events k ≡ Some e → slice_get thresholds k ≡ Some (suc t) → slice_index counters (place_of_lead book natives e) < 32
-  pub apart : (j k t u : ℕ) (d e : EventRef) → slice_get events j ≡ Some d → slice_get events k ≡ Some e → slice_get thresholds j ≡ Some (suc t) → slice_get thresholds k ≡ Some (suc u)
+  pub exist : (k t : ℕ) (e : EventRef) → slice_get events k ≡ Some e → slice_get thresholds k ≡ Some (suc t)
+      → place_of_lead book natives e < length counters
+  pub small : (k t : ℕ) (e : EventRef) → slice_get events k ≡ Some e → slice_get thresholds k ≡ Some (suc t)
+      → slice_index counters (place_of_lead book natives e) < 32
+  pub apart : (j k t u : ℕ) (d e : EventRef) → slice_get events j ≡ Some d → slice_get events k ≡ Some e
+      → slice_get thresholds j ≡ Some (suc t) → slice_get thresholds k ≡ Some (suc u)
       → slice_index counters (place_of_lead book natives d) ≡ slice_index counters (place_of_lead book natives e) → j ≡ k
 
 -- the set can start on the unit
@@ -49,4 +57,5 @@ pub record IsStartable (book : Book) (unit : UnitView) (slot : Slot) : Type 0 wh
   pub widths : AreWidths unit.widths
   pub placed : slot.set.rest.slice ≡ None → length (counters_for (set_natives book slot.set.rest)) ≡ length (set_natives book slot.set.rest)
   pub pinned : slot.set.rest.slice ≡ None → ArePinned unit.widths (pins_of book slot.set.rest)
-  pub armable : slot.set.rest.slice ≡ None → IsArmable book (set_natives book slot.set.rest) (counters_for (set_natives book slot.set.rest)) slot.set.rest.events slot.set.rest.thresholds
+  pub armable : slot.set.rest.slice ≡ None
+      → IsArmable book (set_natives book slot.set.rest) (counters_for (set_natives book slot.set.rest)) slot.set.rest.events slot.set.rest.thresholds

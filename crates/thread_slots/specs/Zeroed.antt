@@ -35,4 +35,5 @@ zeroed_units slot units = zeroed_on slot units slot.set.rest.component
 pub record IsOnUnit (units : List UnitView) (slot : Slot) : Type 0 where
   pub has_unit : (comp : ℕ) → slot.set.rest.component ≡ Some comp → comp < length units
   pub widths : (comp : ℕ) (unit : UnitView) → slot.set.rest.component ≡ Some comp → slice_get units comp ≡ Some unit → AreWidths unit.widths
-  pub pinned : (comp : ℕ) (unit : UnitView) → slot.set.rest.component ≡ Some comp → slice_get units comp ≡ Some unit → ArePinned unit.widths slot.pins
+  pub pinned : (comp : ℕ) (unit : UnitView) → slot.set.rest.component ≡ Some comp → slice_get units comp ≡ Some unit
+      → ArePinned unit.widths slot.pins

@@ -81,7 +81,9 @@ pub fn add_under(
     requires fits { All (Fits shape.now) (natives_of_event book.now e.now) }
     requires inside { set < length slots.old.items }
     requires view { (slot : Slot) → at slots.old.items set ≡ Some slot → slot.set ≡ set_view book.now shape.now slot.set.rest }
-    ensures added { (slot : Slot) → at slots.old.items set ≡ Some slot → OnOk result (slots.new.items ≡ slice_set slots.old.items set (Some (slot_with_event book.now shape.now e.now slot))) }
+    ensures added { (slot : Slot)
+        → at slots.old.items set ≡ Some slot
+        → OnOk result (slots.new.items ≡ slice_set slots.old.items set (Some (slot_with_event book.now shape.now e.now slot))) }
     ensures taken { (slot : Slot) → at slots.old.items set ≡ Some slot → OnOk result (add_refusal book.now e.now slot.set.rest ≡ None) }
     ensures refused { (slot : Slot) → at slots.old.items set ≡ Some slot → IfErr result (λ r. add_refusal book.now e.now slot.set.rest ≡ Some r) }
     ensures unchanged { OnErr result (slots.new.items ≡ slots.old.items) }
@@ -222,9 +224,13 @@ pub fn change_under(
 ) -> Result<(), Code>
     requires inside { set < length slots.old.items }
     requires view { (slot : Slot) → at slots.old.items set ≡ Some slot → slot.set ≡ set_view book.now shape.now slot.set.rest }
-    ensures changed { (slot : Slot) → at slots.old.items set ≡ Some slot → OnOk result (slots.new.items ≡ slice_set slots.old.items set (Some (slot_after book.now shape.now change.now slot))) }
+    ensures changed { (slot : Slot)
+        → at slots.old.items set ≡ Some slot
+        → OnOk result (slots.new.items ≡ slice_set slots.old.items set (Some (slot_after book.now shape.now change.now slot))) }
     ensures taken { (slot : Slot) → at slots.old.items set ≡ Some slot → OnOk result (change_refusal book.now shape.now change.now slot.set.rest ≡ None) }
-    ensures refused { (slot : Slot) → at slots.old.items set ≡ Some slot → IfErr result (λ c. change_refusal book.now shape.now change.now slot.set.rest ≡ Some c) }
+    ensures refused { (slot : Slot)
+        → at slots.old.items set ≡ Some slot
+        → IfErr result (λ c. change_refusal book.now shape.now change.now slot.set.rest ≡ Some c) }
     ensures unchanged { OnErr result (slots.new.items ≡ slots.old.items) }
 {
     change_place(&mut slots[set as usize], book, shape, change)

@@ -74,7 +74,9 @@ fn assigned_of(slot: &Slot) -> Assigned
 
 /// The same of the set under a number.
 pub fn assigned_under(slots: &[Option<Slot>], set: u32) -> Assigned
-    ensures { (slot : Slot) → at slots.now set ≡ Some slot → slot.set.rest.slice ≡ None → result ≡ record { natives = slot.set.natives; counters = counters_for slot.set.natives } }
+    ensures { (slot : Slot)
+        → at slots.now set ≡ Some slot → slot.set.rest.slice ≡ None
+        → result ≡ record { natives = slot.set.natives; counters = counters_for slot.set.natives } }
 {
     match slots.get(set as usize) {
         Some(Some(slot)) => assigned_of(slot),

@@ -69,7 +69,8 @@ fn pins_on(book: &PresetBook, set: &EventSet, counters: &Places) -> Pins
 /// The events with thresholds, each with its counter.
 fn armed_on(book: &PresetBook, set: &EventSet, counters: &Places) -> Thresholds
     requires { IsArmable book.now set.now.natives counters.now set.now.rest.events set.now.rest.thresholds }
-    ensures { result ≡ armed_from book.now set.now.natives counters.now set.now.rest.events set.now.rest.thresholds ++ replicate (32 - length set.now.rest.events) None }
+    ensures { let armed = armed_from book.now set.now.natives counters.now set.now.rest.events set.now.rest.thresholds
+        in result ≡ armed ++ replicate (32 - length set.now.rest.events) None }
 {
     let mut armed = Thresholds::new();
     let events = set.events();
@@ -116,7 +117,12 @@ fn begin_in_turns(slot: &mut Slot, counters: u32, slice: u32, now: u64)
     requires some { 0 < length slot.old.set.natives }
     requires counters { slot.old.set.counters ≡ counters }
     requires slice { slot.old.set.rest.slice ≡ Some slice }
-    ensures { slot.new ≡ record slot.old { running = true; rotation = Some (rotation_of (groups (masks_of slot.old.set.natives)) slice); begun = now; kept = replicate (length slot.old.set.natives) 0 } }
+    ensures { slot.new ≡ record slot.old {
+      running = true;
+      rotation = Some (rotation_of (groups (masks_of slot.old.set.natives)) slice);
+      begun = now;
+      kept = replicate (length slot.old.set.natives) 0;
+    } }
 {
     let natives = slot.set.natives();
     let count = natives.len();
@@ -174,9 +180,17 @@ pub fn begin_under(
 )
     requires inside { set < length slots.old.items }
     requires has_unit { (comp : ℕ) (slot : Slot) → at slots.old.items set ≡ Some slot → slot.set.rest.component ≡ Some comp → comp < length units.old.items }
-    requires startable { (comp : ℕ) (unit : UnitView) (slot : Slot) → at slots.old.items set ≡ Some slot → slot.set.rest.component ≡ Some comp → slice_get units.old.items comp ≡ Some unit → IsStartable book.now unit slot }
-    ensures units { (comp : ℕ) (unit : UnitView) (slot : Slot) → at slots.old.items set ≡ Some slot → slot.set.rest.component ≡ Some comp → slice_get units.old.items comp ≡ Some unit → units.new.items ≡ slice_set units.old.items comp (begun book.now now unit slot).unit }
-    ensures slots { (comp : ℕ) (unit : UnitView) (slot : Slot) → at slots.old.items set ≡ Some slot → slot.set.rest.component ≡ Some comp → slice_get units.old.items comp ≡ Some unit → slots.new.items ≡ slice_set slots.old.items set (Some (begun book.now now unit slot).slot) }
+    requires startable { (comp : ℕ) (unit : UnitView) (slot : Slot)
+        → at slots.old.items set ≡ Some slot → slot.set.rest.component ≡ Some comp
+        → slice_get units.old.items comp ≡ Some unit → IsStartable book.now unit slot }
+    ensures units { (comp : ℕ) (unit : UnitView) (slot : Slot)
+        → at slots.old.items set ≡ Some slot → slot.set.rest.component ≡ Some comp
+        → slice_get units.old.items comp ≡ Some unit
+        → units.new.items ≡ slice_set units.old.items comp (begun book.now now unit slot).unit }
+    ensures slots { (comp : ℕ) (unit : UnitView) (slot : Slot)
+        → at slots.old.items set ≡ Some slot → slot.set.rest.component ≡ Some comp
+        → slice_get units.old.items comp ≡ Some unit
+        → slots.new.items ≡ slice_set slots.old.items set (Some (begun book.now now unit slot).slot) }
 {
     if let Some(comp) = component_under(slots, set) {
         begin_place(

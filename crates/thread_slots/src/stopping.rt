@@ -58,9 +58,14 @@ pub fn stop_under(
     requires has_unit { (comp : ℕ) (slot : Slot) → at slots.old.items set ≡ Some slot → slot.set.rest.component ≡ Some comp → comp < length units.old.items }
     requires has_widths { (comp : ℕ) (slot : Slot) → at slots.old.items set ≡ Some slot → slot.set.rest.component ≡ Some comp → comp < length shape.now }
     requires measurable { (slot : Slot) → at slots.old.items set ≡ Some slot → IsMeasurable units.old.items slot time }
-    ensures units { (comp : ℕ) (widths : List ℕ) (slot : Slot) → at slots.old.items set ≡ Some slot → slot.set.rest.component ≡ Some comp → slice_get shape.now comp ≡ Some widths → units.new.items ≡ slice_set units.old.items comp (empty_unit widths) }
+    ensures units { (comp : ℕ) (widths : List ℕ) (slot : Slot)
+        → at slots.old.items set ≡ Some slot → slot.set.rest.component ≡ Some comp
+        → slice_get shape.now comp ≡ Some widths
+        → units.new.items ≡ slice_set units.old.items comp (empty_unit widths) }
     ensures same_units { (slot : Slot) → at slots.old.items set ≡ Some slot → slot.set.rest.component ≡ None → units.new.items ≡ units.old.items }
-    ensures slots { (slot : Slot) → at slots.old.items set ≡ Some slot → slots.new.items ≡ slice_set slots.old.items set (Some (rested (numbers_shown units.old.items time slot) slot)) }
+    ensures slots { (slot : Slot)
+        → at slots.old.items set ≡ Some slot
+        → slots.new.items ≡ slice_set slots.old.items set (Some (rested (numbers_shown units.old.items time slot) slot)) }
 {
     let component = component_under(slots, set);
     stop_place(&mut slots[set as usize], units, time);
