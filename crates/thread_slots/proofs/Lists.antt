@@ -1,6 +1,6 @@
 -- Items of lists by their numbers.
 use Rattle.std.proofs.Common.{◌≡◌, ℕ, zero, suc, ◌+◌, ◌<◌, List, [], ◌∷◌, length, map, set, get_or, drop, refl, ap, ap₂, sym, subst, ◌∙◌, arith, Option, Some, None, option_map, slice_get}
-use Rattle.std.specs.Prelude.{All, OnOk, Result, Ok, Err, unwrap_or}
+use Rattle.std.specs.Prelude.{All, unwrap_or}
 use Rattle.std.proofs.lemmas.Option.{slice_get_within, slice_get-get_or, slice_get_read, get_or_from_slice_get}
 use Rattle.std.specs.Option.{option_and_then}
 use Rattle.session_model.specs.Faces.{at}
@@ -80,10 +80,6 @@ pub place_is : {X : Type 0} (places : List (Option X)) (k : ℕ) (place : Option
 place_is places k place x below reads e =
     let is : Some place ≡ Some (Some x) = sym (slice_get_read places (length places) k place refl below reads) ∙ at-some places k x e in
     cc
-
-pub on_ok : {X E P Q : Type 0} (r : Result X E) → (P → Q) → OnOk r P → OnOk r Q
-on_ok (Ok x) f p = f p
-on_ok (Err e) f p = tt
 
 -- a list with an item put where it stands
 pub set-same : {X : Type 0} (xs : List X) (k : ℕ) (x : X) → slice_get xs k ≡ Some x → set xs k x ≡ xs

@@ -39,24 +39,15 @@ fn accumulate(slot: &mut Slot, more: &Values) -> Values
     added
 }
 
-/// The same of what is in a place.
-fn accumulate_place(place: &mut Option<Slot>, more: &Values) -> Values
-    requires { (slot : Slot) → place.old ≡ Some slot → length more.now ≡ length slot.values }
-    ensures sums { (slot : Slot) → place.old ≡ Some slot → result ≡ sums slot.values more.now }
-    ensures place { (slot : Slot) → place.old ≡ Some slot → place.new ≡ Some (slot_with_sums more.now slot) }
-{
-    match place {
-        Some(slot) => accumulate(slot, more),
-        None => Values::new(),
-    }
-}
-
-/// The same of the set under a number.
+/// Adds these values to the caller's of the set under a number, and gives the sums.
 pub fn accumulate_under(slots: &mut Vec<Option<Slot>>, set: u32, more: &Values) -> Values
     requires inside { set < length slots.old.items }
     requires same_length { (slot : Slot) → at slots.old.items set ≡ Some slot → length more.now ≡ length slot.values }
     ensures sums { (slot : Slot) → at slots.old.items set ≡ Some slot → result ≡ sums slot.values more.now }
     ensures slots { (slot : Slot) → at slots.old.items set ≡ Some slot → slots.new.items ≡ slice_set slots.old.items set (Some (slot_with_sums more.now slot)) }
 {
-    accumulate_place(&mut slots[set as usize], more)
+    match &mut slots[set as usize] {
+        Some(slot) => accumulate(slot, more),
+        None => Values::new(),
+    }
 }

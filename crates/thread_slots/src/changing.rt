@@ -48,27 +48,6 @@ fn add_event(slot: &mut Slot, book: &PresetBook, shape: &Shape, e: &EventRef) ->
     Ok(())
 }
 
-/// Adds an event to what is under a number.
-fn add_place(
-    place: &mut Option<Slot>,
-    book: &PresetBook,
-    shape: &Shape,
-    e: &EventRef,
-) -> Result<(), Refusal>
-    requires held { IsHeld book.now e.now }
-    requires fits { All (Fits shape.now) (natives_of_event book.now e.now) }
-    requires view { (slot : Slot) → place.old ≡ Some slot → slot.set ≡ set_view book.now shape.now slot.set.rest }
-    ensures added { (slot : Slot) → place.old ≡ Some slot → OnOk result (place.new ≡ Some (slot_with_event book.now shape.now e.now slot)) }
-    ensures taken { (slot : Slot) → place.old ≡ Some slot → OnOk result (add_refusal book.now e.now slot.set.rest ≡ None) }
-    ensures refused { (slot : Slot) → place.old ≡ Some slot → IfErr result (λ r. add_refusal book.now e.now slot.set.rest ≡ Some r) }
-    ensures unchanged { OnErr result (place.new ≡ place.old) }
-{
-    match place {
-        Some(slot) => add_event(slot, book, shape, e),
-        None => Ok(()),
-    }
-}
-
 /// Adds an event to the set under a number.
 pub fn add_under(
     slots: &mut Vec<Option<Slot>>,
@@ -88,7 +67,10 @@ pub fn add_under(
     ensures refused { (slot : Slot) → at slots.old.items set ≡ Some slot → IfErr result (λ r. add_refusal book.now e.now slot.set.rest ≡ Some r) }
     ensures unchanged { OnErr result (slots.new.items ≡ slots.old.items) }
 {
-    add_place(&mut slots[set as usize], book, shape, e)
+    match &mut slots[set as usize] {
+        Some(slot) => add_event(slot, book, shape, e),
+        None => Ok(()),
+    }
 }
 
 /// A change of a set that does not run, other than by one event more.
@@ -195,25 +177,6 @@ fn change_slot(
     }
 }
 
-/// Changes what is under a number.
-fn change_place(
-    place: &mut Option<Slot>,
-    book: &PresetBook,
-    shape: &Shape,
-    change: &Change,
-) -> Result<(), Code>
-    requires view { (slot : Slot) → place.old ≡ Some slot → slot.set ≡ set_view book.now shape.now slot.set.rest }
-    ensures changed { (slot : Slot) → place.old ≡ Some slot → OnOk result (place.new ≡ Some (slot_after book.now shape.now change.now slot)) }
-    ensures taken { (slot : Slot) → place.old ≡ Some slot → OnOk result (change_refusal book.now shape.now change.now slot.set.rest ≡ None) }
-    ensures refused { (slot : Slot) → place.old ≡ Some slot → IfErr result (λ c. change_refusal book.now shape.now change.now slot.set.rest ≡ Some c) }
-    ensures unchanged { OnErr result (place.new ≡ place.old) }
-{
-    match place {
-        Some(slot) => change_slot(slot, book, shape, change),
-        None => Ok(()),
-    }
-}
-
 /// Changes the set under a number.
 pub fn change_under(
     slots: &mut Vec<Option<Slot>>,
@@ -233,5 +196,8 @@ pub fn change_under(
         → IfErr result (λ c. change_refusal book.now shape.now change.now slot.set.rest ≡ Some c) }
     ensures unchanged { OnErr result (slots.new.items ≡ slots.old.items) }
 {
-    change_place(&mut slots[set as usize], book, shape, change)
+    match &mut slots[set as usize] {
+        Some(slot) => change_slot(slot, book, shape, change),
+        None => Ok(()),
+    }
 }

@@ -26,17 +26,6 @@ fn rest(slot: &mut Slot, numbers: Counts)
     slot.kept = numbers;
 }
 
-/// What is in a place stops at this time, in ticks.
-fn stop_place(place: &mut Option<Slot>, units: &Vec<Unit>, time: u64)
-    requires { (slot : Slot) → place.old ≡ Some slot → IsMeasurable units.now.items slot time }
-    ensures { (slot : Slot) → place.old ≡ Some slot → place.new ≡ Some (rested (numbers_shown units.now.items time slot) slot) }
-{
-    if let Some(slot) = place {
-        let numbers = numbers_of(units, slot, time);
-        rest(slot, numbers);
-    }
-}
-
 /// Nothing is programmed on the unit of a component any more.
 fn empty_unit_of(units: &mut Vec<Unit>, shape: &Shape, comp: u32)
     requires unit { comp < length units.old.items }
@@ -68,7 +57,10 @@ pub fn stop_under(
         → slots.new.items ≡ slice_set slots.old.items set (Some (rested (numbers_shown units.old.items time slot) slot)) }
 {
     let component = component_under(slots, set);
-    stop_place(&mut slots[set as usize], units, time);
+    if let Some(slot) = &mut slots[set as usize] {
+        let numbers = numbers_of(units, slot, time);
+        rest(slot, numbers);
+    }
     if let Some(comp) = component {
         empty_unit_of(units, shape, comp);
     }

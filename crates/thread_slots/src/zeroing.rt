@@ -30,18 +30,6 @@ fn zero_counts(slot: &mut Slot, now: u64)
     }
 }
 
-/// The counts of what is in a place are zeroed at this time, in ticks.
-fn zero_place(units: &mut Vec<Unit>, place: &mut Option<Slot>, now: u64)
-    requires { (slot : Slot) → place.old ≡ Some slot → IsOnUnit units.old.items slot }
-    ensures units { (slot : Slot) → place.old ≡ Some slot → units.new.items ≡ zeroed_units slot units.old.items }
-    ensures place { (slot : Slot) → place.old ≡ Some slot → place.new ≡ Some (zeroed_slot now slot) }
-{
-    if let Some(slot) = place {
-        zero_registers(units, slot);
-        zero_counts(slot, now);
-    }
-}
-
 /// The counts of the set under a number are zeroed at this time, in ticks.
 pub fn zero_under(units: &mut Vec<Unit>, slots: &mut Vec<Option<Slot>>, set: u32, now: u64)
     requires inside { set < length slots.old.items }
@@ -49,5 +37,8 @@ pub fn zero_under(units: &mut Vec<Unit>, slots: &mut Vec<Option<Slot>>, set: u32
     ensures units { (slot : Slot) → at slots.old.items set ≡ Some slot → units.new.items ≡ zeroed_units slot units.old.items }
     ensures slots { (slot : Slot) → at slots.old.items set ≡ Some slot → slots.new.items ≡ slice_set slots.old.items set (Some (zeroed_slot now slot)) }
 {
-    zero_place(units, &mut slots[set as usize], now);
+    if let Some(slot) = &mut slots[set as usize] {
+        zero_registers(units, slot);
+        zero_counts(slot, now);
+    }
 }
