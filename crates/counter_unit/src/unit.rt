@@ -149,7 +149,7 @@ impl Unit {
 
     /// Adds to each programmed register what the occurrence counts for it, where `before` came just before it. The result
     /// is the counters that carried, as bits.
-    #[inline]
+    #[inline(always)]
     pub fn step(&mut self, before: Option<&Occ>, o: &Occ) -> u32
         ensures registers { self.new ≡ record self.old { registers = all_moved (option_copied before.entry) o.now self.old.widths self.old.registers } }
         ensures carries { result ≡ bits_of (all_carries (option_copied before.entry) o.now self.old.widths self.old.registers) }

@@ -1,23 +1,25 @@
 //! The events that passed their thresholds at one occurrence.
-ghost use Rattle.std.specs.Prelude.{◌≡◌, ◌<◌, ◌≤◌, [], ◌∷◌, ◌++◌, length, slice_get};
+ghost use Rattle.std.specs.Prelude.{◌≡◌, ◌<◌, ◌≤◌, All, [], ◌∷◌, ◌++◌, length, slice_get};
 
 use std::marker::Model;
 
-/// Indexes of events, at most 32. Contracts see the list of them.
+/// Indexes of events below 32, in increasing order. Contracts see the list of them; they are kept as bits, since there are none
+/// at most occurrences.
 #[derive(Drop)]
 pub struct Passed {
-    buf: [u8; 32],
+    bits: u32,
     len: u32,
 }
 
 impl Model for Passed {
-    ghost use Rattle.std.specs.Prelude.{List, ℕ, take, ◌≤◌};
+    ghost use Rattle.std.specs.Prelude.{List, ℕ};
+    ghost use Rattle.overflow_dispatch.specs.Passing.{AreIndexes, places_from};
 
     ghost Value = { List ℕ };
 
-    ghost view = { λ s. take s.len s.buf };
+    ghost view = { λ s. places_from s.bits 0 32 };
 
-    ghost invariant = { λ s. s.len ≤ 32 };
+    ghost invariant = { λ s. AreIndexes s.bits s.len };
 }
 
 impl Passed {
@@ -26,10 +28,7 @@ impl Passed {
     pub fn new() -> Passed
         ensures { result ≡ [] }
     {
-        Passed {
-            buf: [0; 32],
-            len: 0,
-        }
+        Passed { bits: 0, len: 0 }
     }
 
     /// How many passed.
@@ -46,20 +45,26 @@ impl Passed {
     pub fn get(&self, i: u32) -> Option<u32>
         ensures { result ≡ slice_get self.now i }
     {
-        if i < self.len {
-            Some(u32::from(self.buf[i as usize]))
-        } else {
-            None
+        let mut place = 0;
+        for index in 0..32u32 {
+            if (self.bits >> index) & 1 == 1 {
+                if place == i {
+                    return Some(index);
+                }
+                place += 1;
+            }
         }
+        None
     }
 
-    /// One index more.
+    /// One index more, above all others.
     #[inline(always)]
-    pub(crate) fn push(&mut self, index: u8)
-        requires { length self.old < 32 }
+    pub(crate) fn push(&mut self, index: u32)
+        requires below { index < 32 }
+        requires above { All (λ other. other < index) self.old }
         ensures { self.new ≡ self.old ++ index ∷ [] }
     {
-        self.buf[self.len as usize] = index;
+        self.bits |= 1 << index;
         self.len += 1;
     }
 }

@@ -45,12 +45,12 @@ impl Thresholds {
     }
 
     /// The indexes of the armed events whose counters are among the carries, in increasing order.
-    #[inline]
+    #[cold]
     pub fn passed(&self, carry: u32) -> Passed
         ensures { result ≡ passed_from 0 carry self.now }
     {
         let mut passed = Passed::new();
-        for index in 0..32u8 {
+        for index in 0..32u32 {
             if let Some(c) = self.counters[index as usize]
                 && (carry >> c) & 1 == 1
             {

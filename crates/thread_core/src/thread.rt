@@ -116,7 +116,7 @@ impl Core {
     }
 
     /// Consumes one occurrence, and gives the events whose thresholds it passes.
-    #[inline]
+    #[inline(always)]
     pub fn take(&mut self, o: &Occ) -> Taken
         requires few { self.old.taken < 5200000 }
         requires stamp { o.now.stamp ≤ 4294967294 }

@@ -9,6 +9,7 @@ use std::alloc::AllocError;
 use thread_core::Taken;
 
 /// Hands on a note for each threshold that the occurrence passed, in order. Where memory is refused, some are not taken.
+#[inline(always)]
 pub(crate) fn deliver(
     h: &mut dyn Handler,
     thread: u32,

@@ -26,6 +26,7 @@ pub struct Taken {
 }
 
 /// Adds a period to the bank of each pin whose counter carried.
+#[cold]
 fn bank_carries(banks: &mut Counts, pins: &Pins, unit: &Unit, carry: u32)
     requires same_length { length banks.old ≡ length pins.now }
     requires room { All (λ t. t < 2 ^ 32) banks.old }
@@ -44,6 +45,7 @@ fn bank_carries(banks: &mut Counts, pins: &Pins, unit: &Unit, carry: u32)
 }
 
 /// Counts one occurrence in the native events of this group.
+#[inline(always)]
 fn count_turn(
     counts: &mut Counts,
     natives: &Natives,
@@ -69,7 +71,7 @@ fn count_turn(
 
 /// Counts one occurrence for a running set, on the unit of its component, and gives the events whose thresholds it
 /// passes.
-#[inline]
+#[inline(always)]
 fn count_slot(unit: &mut Unit, slot: &mut Slot, before: Option<&Occ>, o: &Occ) -> Passed
     requires { IsCountable unit.old slot.old }
     ensures unit { unit.new ≡ (counted (option_copied before.entry) o.now unit.old slot.old).unit }
@@ -96,7 +98,7 @@ fn count_slot(unit: &mut Unit, slot: &mut Slot, before: Option<&Occ>, o: &Occ) -
 }
 
 /// Counts one occurrence for what is under a number.
-#[inline]
+#[inline(always)]
 fn count_place(unit: &mut Unit, place: &mut Option<Slot>, before: Option<&Occ>, o: &Occ) -> Passed
     requires { (slot : Slot) → place.old ≡ Some slot → IsCountable unit.old slot }
     ensures unit { unit.new ≡ (counted_place (option_copied before.entry) o.now unit.old place.old).unit }
@@ -110,7 +112,7 @@ fn count_place(unit: &mut Unit, place: &mut Option<Slot>, before: Option<&Occ>, 
 }
 
 /// The number of the set whose events passed their thresholds, and 0 where none did.
-#[inline]
+#[inline(always)]
 fn noting_set(passed: &Passed, number: u32) -> u32
     ensures { result ≡ (if length passed.now == 0 then 0 else number) }
 {
@@ -118,7 +120,7 @@ fn noting_set(passed: &Passed, number: u32) -> u32
 }
 
 /// Counts one occurrence for the set that runs on its component, the runner, if one does.
-#[inline]
+#[inline(always)]
 pub fn count_all(
     units: &mut Vec<Unit>,
     slots: &mut Vec<Option<Slot>>,
