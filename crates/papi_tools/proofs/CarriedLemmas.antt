@@ -4,7 +4,7 @@ use Rattle.papi_base.specs.Outside.{Held, Rose}
 use Rattle.tool_words.specs.Form.{form}
 use Rattle.papi_tools.specs.Carried.{CarriesOut}
 use Rattle.papi_tools.specs.Causes.{CauseFor, IsCaused}
-use Rattle.papi_tools.specs.Saying.{HasSinkCause, IsJudged, Says}
+use Rattle.papi_tools.specs.Saying.{HasSinkCause, IsJudged, Says, SaysAll}
 use Rattle.papi_tools.specs.Seen.{FilesSeen, SinkSeen}
 use Rattle.papi_tools.specs.Status.{status_of}
 use Rattle.papi_tools.specs.Verdict.{verdict}
@@ -71,6 +71,21 @@ judged status.Memory f f' out out' err err' r h no_f no_o no_e = tt
 judged status.ReadFault f f' out out' err err' r h no_f no_o no_e = absurd (no_f (r refl))
 judged status.WriteFault f f' out out' err err' r h no_f no_o no_e = absurd (neither no_o no_e h)
 
+all_said : (s : Status) (said : Said) (o o' e e' : Option (List ℕ)) (f f' g g' : ℕ) → Says s said o o' e e' → HasSinkCause s f f' g g' → ¬ (Rose f f') → ¬ (Rose g g') → SaysAll s said o o' e e'
+all_said status.Whole said o o' e e' f f' g g' h c no_o no_e = inl h
+all_said status.No said o o' e e' f f' g g' h c no_o no_e = inl h
+all_said status.Refused said o o' e e' f f' g g' h c no_o no_e = inl h
+all_said status.ReadFault said o o' e e' f f' g g' h c no_o no_e = inl h
+all_said status.Memory said o o' e e' f f' g g' h c no_o no_e = inr refl
+all_said status.WriteFault said o o' e e' f f' g g' h c no_o no_e = absurd (neither no_o no_e c)
+
+told_all : (words : List (List ℕ)) (held : Option Held) (s : Status) (said : Said) (o o' e e' : SinkSeen) → IfSome held (λ h. said ≡ (verdict words h).said) →
+    Says s said o.taken o'.taken e.taken e'.taken → HasSinkCause s o.faults o'.faults e.faults e'.faults →
+    IfSome held (λ h. ¬ (Rose o.faults o'.faults) → ¬ (Rose e.faults e'.faults) → SaysAll s (verdict words h).said o.taken o'.taken e.taken e'.taken)
+told_all words None s said o o' e e' is h c = tt
+told_all words (Some held) s said o o' e e' is h c =
+    λ no_o no_e. rw (← is) (all_said s said o.taken o'.taken e.taken e'.taken o.faults o'.faults e.faults e'.faults h c no_o no_e)
+
 told_says : (words : List (List ℕ)) (held : Option Held) (s : Status) (said : Said) (out out' err err' : Option (List ℕ)) → IfSome held (λ h. said ≡ (verdict words h).said) →
     Says s said out out' err err' → IfSome held (λ h. Says s (verdict words h).said out out' err err')
 told_says words None s said out out' err err' e h = tt
@@ -96,6 +111,7 @@ carried words s files files' out out' err err' said told says cause sinks return
       sinks = sinks;
       rises = rises_by s out.faults out'.faults err.faults err'.faults sinks;
       complete = judged s files.faults files'.faults out.faults out'.faults err.faults err'.faults read_fault sinks;
+      whole = told_all words files.held s said out out' err err' told says sinks;
       returned = returned;
     }
 
@@ -107,6 +123,11 @@ not_refused : (words : List (List ℕ)) (held : Option Held) → IfSome held (λ
 not_refused words None = tt
 not_refused words (Some held) = λ e. cc
 
+memory_ran_out : (words : List (List ℕ)) (held : Option Held) (out err : SinkSeen) →
+    IfSome held (λ h. ¬ (Rose out.faults out.faults) → ¬ (Rose err.faults err.faults) → SaysAll status.Memory (verdict words h).said out.taken out.taken err.taken err.taken)
+memory_ran_out words None out err = tt
+memory_ran_out words (Some held) out err = λ no_o no_e. inr refl
+
 -- nothing has been said, for memory ran out
 pub starved : (words : List (List ℕ)) (files files' : FilesSeen) (out err : SinkSeen) → files'.lent ≡ files.lent → CarriesOut words status.Memory files files' out out err err
 starved words files files' out err returned = record {
@@ -117,5 +138,6 @@ starved words files files' out err returned = record {
   sinks = tt;
   rises = λ r. inr refl;
   complete = λ no_f no_o no_e. tt;
+  whole = memory_ran_out words files.held out err;
   returned = returned;
 }

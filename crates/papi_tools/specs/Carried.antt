@@ -5,7 +5,7 @@ use Rattle.overflow_dispatch.specs.declared.handler.Note.{Note}
 use Rattle.overflow_dispatch.specs.Notes.{EachGrown}
 use Rattle.tool_words.specs.Form.{form}
 use Rattle.papi_tools.specs.Causes.{IsCaused}
-use Rattle.papi_tools.specs.Saying.{HasSinkCause, IsJudged, Says, Tells}
+use Rattle.papi_tools.specs.Saying.{HasSinkCause, IsJudged, Says, SaysAll, Tells}
 use Rattle.papi_tools.specs.Seen.{FilesSeen, SinkSeen}
 use Rattle.papi_tools.specs.Verdict.{verdict}
 use Rattle.papi_tools.specs.declared.said.Said.{Said}
@@ -24,6 +24,9 @@ pub record CarriesOut (words : List (List ℕ)) (s : Status) (files files' : Fil
   pub sinks : HasSinkCause s out.faults out'.faults err.faults err'.faults
   pub rises : (out.faults < out'.faults) ⊎ (err.faults < err'.faults) → (s ≡ status.WriteFault) ⊎ (s ≡ status.Memory)
   pub complete : ¬ (Rose files.faults files'.faults) → ¬ (Rose out.faults out'.faults) → ¬ (Rose err.faults err'.faults) → IsJudged s
+  -- where no sink failed, and the files tell what they hold, all that the words come to is said, or memory ran out
+  pub whole : IfSome files.held (λ held. ¬ (Rose out.faults out'.faults) → ¬ (Rose err.faults err'.faults)
+      → SaysAll s (verdict words held).said out.taken out'.taken err.taken err'.taken)
   -- every source that was opened is closed
   pub returned : files'.lent ≡ files.lent
 

@@ -24,6 +24,10 @@ Says status.Memory said out out' err err' = (k : ℕ) × Wrote said k out out' e
 Says status.WriteFault said out out' err err' = (k : ℕ) × Wrote said k out out' err err'
 Says s said out out' err err' = (s ≡ status_of said.outcome) × WroteAll said out out' err err'
 
+-- All of it has been said with its status, or memory ran out.
+abbrev pub SaysAll : Status → Said → Option (List ℕ) → Option (List ℕ) → Option (List ℕ) → Option (List ℕ) → Type 0
+SaysAll s said out out' err err' = ((s ≡ status_of said.outcome) × WroteAll said out out' err err') ⊎ (s ≡ status.Memory)
+
 -- A call with this status has told each handler the notes of its thread, where memory ran out, a prefix of them.
 abbrev pub Tells : Status → List (List Note) → List (List Note) → List (List Note) → Type 0
 Tells status.Memory given before after = EachBegun before given after

@@ -37,20 +37,3 @@ pub use said::Said;
 pub use status::{Outcome, Status, status_number};
 pub use tool::{avail, decode, encode_tool, event_chooser, native_avail, run_tool, soak};
 pub use top::papi_main;
-
-#[cfg(test)]
-mod counting_sink;
-#[cfg(test)]
-mod lab;
-#[cfg(test)]
-mod waiting_sources;
-#[cfg(test)]
-mod worked_lists;
-#[cfg(test)]
-mod worked_scripts;
-#[cfg(test)]
-mod worked_soaks;
-#[cfg(test)]
-mod worked_threads;
-#[cfg(test)]
-mod worked_tools;

@@ -1,0 +1,62 @@
+//! A unit, files in memory over it, and calls with handlers that nobody reads.
+use overflow_dispatch::{Handler, Recorder};
+use papi_base::{Ending, Files, MemFiles, Sink};
+use papi_tools::{papi_main, status_number};
+use std::alloc::{AllocError, Global};
+use std::marker::{Send, Sync};
+use std::thread::Threads;
+
+/// A unit of two counters, with two events.
+pub(crate) const UNIT: &str = "COMPONENT,cpu,lab\n\
+COUNTER,P0,16,P\n\
+COUNTER,P1,16,P\n\
+EVENT,INST_RETIRED,c0,P0 P1,Instructions retired\n\
+EVENT,CYCLES,3c,P0 P1,Core cycles\n";
+
+const PRESETS: &str = "CPU,lab1\n\
+PRESET,PAPI_TOT_CYC,NOT_DERIVED,lab::CYCLES\n";
+
+/// The words of a line.
+pub(crate) fn words_in(alloc: Global, line: &str) -> Result<Vec<String>, AllocError> {
+    let mut words = Vec::new(alloc);
+    for word in line.split(' ') {
+        words.push(String::from_str(alloc, word)?)?;
+    }
+    Ok(words)
+}
+
+/// The unit, the presets, the script `s` and the stream `t`.
+pub(crate) fn files_of(alloc: Global, script: &str, stream: &str) -> Result<MemFiles, AllocError> {
+    let mut tapes = Vec::new(alloc);
+    for (name, text) in [
+        ("lab.unit", UNIT),
+        ("lab.presets", PRESETS),
+        ("s", script),
+        ("t", stream),
+    ] {
+        tapes.push((
+            String::from_str(alloc, name)?,
+            text.as_bytes().to_vec(alloc)?,
+            Ending::End,
+        ))?;
+    }
+    Ok(MemFiles::new(alloc, tapes, 4096, Vec::new(alloc)))
+}
+
+/// How the words of a line end.
+pub(crate) fn ended<R: Threads + Sync, F: Files, K: Sink>(
+    rt: &R,
+    alloc: Global,
+    line: &str,
+    files: &mut F,
+    out: &mut K,
+    err: &mut K,
+) -> Result<u8, AllocError> {
+    let mut handlers: Vec<Box<dyn Handler + Send>> = Vec::new(alloc);
+    for _thread in 0..64usize {
+        handlers.push(Box::new(alloc, Recorder::new(alloc))?)?;
+    }
+    let words = words_in(alloc, line)?;
+    let status = papi_main(rt, alloc, &words, files, out, err, &mut handlers);
+    Ok(status_number(status))
+}

@@ -1,0 +1,290 @@
+//! Reads a row. A file of rows has an empty line between two rows. The lines of a row are these:
+//!
+//! - `row SENTENCE` says what it shows.
+//! - `words WORD ..` has the words, and `or WORD ..` further ones with which the same comes. More words may stand below.
+//! - `script`, with the lines of the file `s` below, each beside its reply: `0 run 3 -> PAPI_OK 2 0`. The line's number, the
+//!   thread and the call, with which a reply begins, are left out. Where the script is refused its lines have no replies.
+//! - `file NAME` (a stream too), with its lines below. Each row also has the files `lab.unit`, `lab.presets`, `full.unit` and
+//!   `several.unit` of the folder, if it has none of that name itself.
+//! - `opening N fails`, counted from 1; `NAME fails after N bytes`: its reads fail then (`all`: at its end); `reads give N bytes`
+//!   at most; `out takes N bytes`, `err takes N bytes`: writes fail then, and their first N bytes are what is expected.
+//! - `for workers N ..` carries the row out with each of these numbers of workers; `for k from N to M`, `for k below the length
+//!   of out` and `.. of err` carry it out for each k, which stands as `k` in the settings above.
+//! - `status N`, where it is not 0.
+//! - `out` and `err`, with the lines below: the output, behind the replies, and the lines on standard error.
+//! - `notes`, with a line `THREAD SET INDEX PC` below for each note of the handlers; with `--notes` they are expected behind the
+//!   replies too. `notes unread`: the notes are not compared.
+//!
+//! Lines that stand below begin with two blanks. `300 times: LINE` is that line so often, and one that ends in a backslash goes on
+//! without a newline. Of a reply, or a line of `out`, `err` or `notes`, that ends in three dots only what stands before them is
+//! compared. A line that begins with `#` is skipped.
+use crate::lines::{between, parted, push_content, times_of};
+use crate::row::{Amount, Fault, Row, RowFile, Runs};
+use std::alloc::{AllocError, Global};
+
+/// What a line of content, which begins with two blanks, belongs to.
+#[derive(Clone, Copy)]
+enum Section {
+    Nothing,
+    Words,
+    Script,
+    File,
+    OutText,
+    ErrText,
+    Notes,
+}
+
+/// A row while it is read.
+#[derive(Drop)]
+struct RowReader {
+    alloc: Global,
+    row: Row,
+    section: Section,
+    /// How many lines the script has so far.
+    calls: u64,
+}
+
+fn new_row(alloc: Global) -> Row {
+    Row {
+        title: String::new(alloc),
+        words: Vec::new(alloc),
+        files: Vec::new(alloc),
+        faults: Vec::new(alloc),
+        failing: Vec::new(alloc),
+        piece: Amount::Is(4096),
+        out_room: None,
+        err_room: None,
+        workers: Vec::new(alloc),
+        runs: Runs::Between(0, 1),
+        status: 0,
+        out: String::new(alloc),
+        err: String::new(alloc),
+        notes: String::new(alloc),
+        gives_notes: true,
+    }
+}
+
+fn amount(text: &str) -> Option<Amount> {
+    match text {
+        "k" => Some(Amount::OfRun),
+        "all" => Some(Amount::Is(u64::MAX)),
+        _ => match text.parse::<u64>() {
+            Ok(number) => Some(Amount::Is(number)),
+            Err(_) => None,
+        },
+    }
+}
+
+// The numbers of `for k ..`.
+fn runs_of(text: &str) -> Option<Runs> {
+    match text {
+        "below the length of out" => Some(Runs::BelowOut),
+        "below the length of err" => Some(Runs::BelowErr),
+        _ => {
+            let (first, last) = parted(between(text, "from ", "")?, " to ");
+            match (first.parse::<u64>(), last.parse::<u64>()) {
+                (Ok(first), Ok(last)) => Some(Runs::Between(first, last.saturating_add(1))),
+                _ => None,
+            }
+        }
+    }
+}
+
+impl RowReader {
+    // A further file without content, to which content lines go from now on.
+    fn begin_file(&mut self, name: &str, section: Section) -> Result<(), AllocError> {
+        let name = String::from_str(self.alloc, name)?;
+        let text = String::new(self.alloc);
+        self.row.files.push(RowFile { name, text })?;
+        self.section = section;
+        Ok(())
+    }
+
+    fn add_to_file(&mut self, line: &str) -> Result<(), AllocError> {
+        match self.row.files.last_mut() {
+            Some(file) => push_content(&mut file.text, line),
+            None => Ok(()),
+        }
+    }
+
+    // A call of the script, with its reply behind an arrow.
+    fn add_call(&mut self, line: &str) -> Result<(), AllocError> {
+        let (times, rest) = times_of(line);
+        let (call, reply) = parted(rest, " -> ");
+        let call = call.trim_end();
+        let (thread, word) = parted(call, " ");
+        let (word, _) = parted(word, " ");
+        for _ in 0..times {
+            self.calls = self.calls.saturating_add(1);
+            self.add_to_file(call)?;
+            if !reply.is_empty() {
+                let number = self.calls;
+                let text = format!(in self.alloc; "{number} {thread} {word} {reply}\n")?;
+                self.row.out.push_str(text.as_str())?;
+            }
+        }
+        Ok(())
+    }
+
+    // A note of the handlers. With `--notes` it is shown behind the replies.
+    fn add_note(&mut self, line: &str) -> Result<(), AllocError> {
+        push_content(&mut self.row.notes, line)?;
+        let shown = match self.row.words.last() {
+            Some(words) => words.as_str().contains("--notes"),
+            None => false,
+        };
+        if shown {
+            self.row.out.push_str("note ")?;
+            push_content(&mut self.row.out, line)?;
+        }
+        Ok(())
+    }
+
+    // A further list of words.
+    fn begin_words(&mut self, words: &str) -> Result<(), AllocError> {
+        let words = String::from_str(self.alloc, words)?;
+        self.row.words.push(words)?;
+        self.section = Section::Words;
+        Ok(())
+    }
+
+    fn add_words(&mut self, line: &str) -> Result<(), AllocError> {
+        let (times, more) = times_of(line);
+        if let Some(words) = self.row.words.last_mut() {
+            for _ in 0..times {
+                words.push_str(" ")?;
+                words.push_str(more)?;
+            }
+        }
+        Ok(())
+    }
+
+    // A line of content. Gives whether there is a place for it.
+    fn take_content(&mut self, line: &str) -> Result<bool, AllocError> {
+        match self.section {
+            Section::Nothing => return Ok(false),
+            Section::Words => self.add_words(line)?,
+            Section::Script => self.add_call(line)?,
+            Section::File => self.add_to_file(line)?,
+            Section::OutText => push_content(&mut self.row.out, line)?,
+            Section::ErrText => push_content(&mut self.row.err, line)?,
+            Section::Notes => self.add_note(line)?,
+        }
+        Ok(true)
+    }
+
+    // The numbers of workers of a line. Gives whether all are numbers.
+    fn take_workers(&mut self, text: &str) -> Result<bool, AllocError> {
+        for word in text.split(' ') {
+            match word.parse::<u64>() {
+                Ok(workers) => self.row.workers.push(workers)?,
+                Err(_) => return Ok(false),
+            }
+        }
+        Ok(true)
+    }
+
+    // `NAME fails after N bytes`. Gives whether the line is such a one.
+    fn take_fault(&mut self, line: &str) -> Result<bool, AllocError> {
+        let (name, rest) = parted(line, " fails after ");
+        match amount(parted(rest, " ").0) {
+            Some(after) => {
+                let name = String::from_str(self.alloc, name)?;
+                self.row.faults.push(Fault { name, after })?;
+                Ok(true)
+            }
+            None => Ok(false),
+        }
+    }
+
+    // A setting. Gives whether the line is one.
+    fn take_setting(&mut self, line: &str) -> Result<bool, AllocError> {
+        let (subject, rest) = parted(line, " ");
+        let (verb, rest) = parted(rest, " ");
+        let (third, _) = parted(rest, " ");
+        match subject {
+            "status" => match verb.parse::<u64>() {
+                Ok(status) => self.row.status = status,
+                Err(_) => return Ok(false),
+            },
+            "opening" => match verb.parse::<u64>() {
+                Ok(number) => self.row.failing.push(number)?,
+                Err(_) => return Ok(false),
+            },
+            "out" => self.row.out_room = amount(third),
+            "err" => self.row.err_room = amount(third),
+            "reads" => match amount(third) {
+                Some(piece) => self.row.piece = piece,
+                None => return Ok(false),
+            },
+            "for" if verb == "workers" => return self.take_workers(rest),
+            "for" => match runs_of(rest) {
+                Some(runs) => self.row.runs = runs,
+                None => return Ok(false),
+            },
+            "notes" => self.row.gives_notes = false,
+            _ => return self.take_fault(line),
+        }
+        Ok(true)
+    }
+
+    // A line that begins a section, or a setting. Gives whether it is one of both.
+    fn take_keyword(&mut self, line: &str) -> Result<bool, AllocError> {
+        let (keyword, rest) = parted(line, " ");
+        match keyword {
+            "row" => self.row.title.push_str(rest)?,
+            "words" | "or" => self.begin_words(rest)?,
+            "script" => self.begin_file("s", Section::Script)?,
+            "file" => self.begin_file(rest, Section::File)?,
+            "out" if rest.is_empty() => self.section = Section::OutText,
+            "err" if rest.is_empty() => self.section = Section::ErrText,
+            "notes" if rest.is_empty() => self.section = Section::Notes,
+            _ => return self.take_setting(line),
+        }
+        Ok(true)
+    }
+}
+
+/// Why a block of lines is no row.
+#[derive(Drop)]
+pub enum NoRow {
+    /// This line is none of a row.
+    Line(String),
+    Memory,
+}
+
+impl From<AllocError> for NoRow {
+    fn from(_: AllocError) -> Self {
+        NoRow::Memory
+    }
+}
+
+/// Reads a row out of its lines. A block without a title is none.
+pub fn read_row(alloc: Global, block: &str) -> Result<Option<Row>, NoRow> {
+    let mut reader = RowReader {
+        alloc,
+        row: new_row(alloc),
+        section: Section::Nothing,
+        calls: 0,
+    };
+    for line in block.lines() {
+        let taken = match line.strip_prefix("  ") {
+            Some(content) => reader.take_content(content)?,
+            None => line.is_empty() || line.starts_with("#") || reader.take_keyword(line)?,
+        };
+        if !taken {
+            return Err(NoRow::Line(String::from_str(alloc, line)?));
+        }
+    }
+    let RowReader {
+        alloc: _,
+        row,
+        section: _,
+        calls: _,
+    } = reader;
+    if row.title.is_empty() {
+        Ok(None)
+    } else {
+        Ok(Some(row))
+    }
+}
