@@ -3,7 +3,7 @@ ghost use Rattle.std.specs.Prelude.{◌≡◌, ◌<◌, IfOk, [], ◌∷◌};
 ghost use Rattle.thread_session.specs.Folds.{AreGood};
 ghost use Rattle.thread_session.specs.Stands.{IsReady};
 
-use overflow_dispatch::Recorder;
+use overflow_dispatch::{Handler, Note, Recorder};
 use papi_base::{Code, CompShape, Ending, EventRef, MemSource, Mods, Native, Shape};
 use postfix_rules::PresetBook;
 use session_model::{Body, Call, Reply};
@@ -384,5 +384,67 @@ fn calls_on_a_running_set(rt: HostRuntime) -> Result<(), Fail> {
         (Code::Einval, 0, 0),
     ];
     tells(&rt, rt.alloc(), b"", 4096, &calls, &expected)?;
+    Ok(())
+}
+
+// A handler that is refused memory at its second note.
+#[derive(Drop)]
+struct OneNote {
+    taken: Option<Note>,
+}
+
+impl Handler for OneNote {
+    ghost use Rattle.std.specs.Option.{option_map_or};
+
+    ghost notes = { λ h. option_map_or (λ note. note ∷ []) h.taken [] };
+
+    fn on_overflow(&mut self, note: Note) -> Result<(), AllocError> {
+        if self.taken.is_some() {
+            return Err(AllocError);
+        }
+        self.taken = Some(note);
+        Ok(())
+    }
+
+    fn noted(&self) -> u64 {
+        u64::from(self.taken.is_some())
+    }
+
+    fn note_at(&self, i: u64) -> Option<Note> {
+        if i == 0 { self.taken } else { None }
+    }
+}
+
+// What stands after memory was refused at the second note: all eight occurrences are consumed and counted.
+#[test]
+fn memory_is_refused_in_a_run(rt: HostRuntime) -> Result<(), Fail> {
+    let alloc = rt.alloc();
+    let before = [
+        Call::Create,
+        Call::Add {
+            set: 0,
+            e: Ok(EventRef::Native(INST)),
+        },
+        Call::Overflow {
+            set: 0,
+            e: Ok(EventRef::Native(INST)),
+            t: 1000,
+        },
+        Call::Start { set: 0 },
+    ];
+    let after = [Call::Read { set: 0 }, Call::Run { n: 1 }];
+    let book = PresetBook::new(Vec::new(alloc));
+    let mut handler = OneNote { taken: None };
+    let bytes = b"0 c0 00 u 255 1\n".as_slice().repeat(alloc, 8)?;
+    let mut session = session(alloc, bytes.as_slice(), 4096)?;
+    session.call_all(alloc, &book, &before, &mut handler)?;
+    assert!(rt; session.run(&book, 8, &mut handler).is_err());
+    assert_eq!(rt; handler.noted(), 1);
+    let replies = session.call_all(alloc, &book, &after, &mut handler)?;
+    let values: [Told; 2] = [(Code::Ok, 2040, 0), (Code::Ok, 0, 0)];
+    assert_eq!(rt; replies.len(), 2);
+    for (reply, want) in replies.iter().zip(&values) {
+        assert_eq!(rt; told(reply), *want);
+    }
     Ok(())
 }
