@@ -1,0 +1,212 @@
+-- The presets and user events of some rows and of one row more.
+use Rattle.std.proofs.Common.{◌≡◌, ◌∙◌, ◌∷◌, ◌++◌, ℕ, Bool, true, false, List, [], map, fold, refl, sym, ap, ap₂, subst, append_assoc, append-nil, Option, Some, None, Result, Ok, Err}
+use Rattle.std.specs.Prelude.{◌&&◌, ◌||◌, is_some, if◌then◌else◌}
+use Rattle.std.specs.Bool.{Decides}
+use Rattle.std.specs.List.{AllByRecursion}
+use Rattle.std.specs.Str.{bytes_eq}
+use Rattle.std.proofs.lemmas.List.Sums.{fold-append}
+use Rattle.std.proofs.lemmas.Slice.Eq.{bytes_eq-Decides}
+use Rattle.table_rows.specs.Texts.{Text}
+use Rattle.table_rows.proofs.Texts.{all-append}
+use Rattle.preset_table.specs.Table.{row_of}
+use Rattle.preset_csv.specs.Lines.{Derivation, Line, cpu, other, preset}
+use Rattle.preset_csv.specs.Presets.{entry_or}
+use Rattle.preset_csv.specs.Steps.{group_at, placed}
+use Rattle.preset_csv.specs.Tables.{symbols}
+use Rattle.preset_csv.specs.declared.entry.Entry.{Entry}
+use Rattle.preset_csv.specs.declared.fault.PresetCause.{PresetCause}
+use Rattle.preset_csv.specs.declared.fault.PresetCause.TheVariants as cause
+use Rattle.preset_csv.proofs.SymbolRows.{changed-at, same-text, set_at}
+use Rattle.user_events.specs.Entries.{event_judged}
+use Rattle.user_events.specs.Events.{Distinct, EventView, names_of}
+use Rattle.user_events.specs.Lines.{EventLine, event, in_groups, plain}
+use Rattle.user_events.specs.Names.{is_event_name}
+use Rattle.user_events.specs.Rows.{among, cause_if, entry_of, event_of, event_read, events_of, events_read, holds, is_too_many, limited, name_added, named_entry, names_in, preset_entries, preset_read, presets_read, read_from, rows_if}
+use Rattle.user_events.specs.Steps.{entries_more, events_more, put_event, put_judged}
+
+abbrev groups : List EventLine → List Line
+groups above = map in_groups above
+
+pub read-more : (adds : List EventLine → EventLine → List Derivation) (a xs : List EventLine) (line : EventLine) → read_from adds a (xs ++ line ∷ []) ≡ read_from adds a xs ++ adds (a ++ xs) line
+unfolding read_from
+read-more adds a [] line = append-nil (adds a line) ∙ ap (λ (b : List EventLine). adds b line) (sym (append-nil a))
+read-more adds a (x ∷ xs) line =
+    ap (λ (rs : List Derivation). adds a x ++ rs) (read-more adds (a ++ x ∷ []) xs line ∙ ap (λ (b : List EventLine). read_from adds (a ++ x ∷ []) xs ++ adds b line) (append_assoc a (x ∷ []) xs))
+    ∙ sym (append_assoc (adds a x) (read_from adds (a ++ x ∷ []) xs) (adds (a ++ x ∷ xs) line))
+
+map-same : {X : Type 0} (f g : Text → X) (ss : List Text) → ((s : Text) → f s ≡ g s) → map f ss ≡ map g ss
+map-same f g [] h = refl
+map-same f g (s ∷ ss) h = ap₂ (λ x xs. x ∷ xs) (h s) (map-same f g ss h)
+
+-- ---- the entries of the presets
+
+abbrev entry_more : (Text → Entry) → Derivation → Result Entry PresetCause → Text → Entry
+entry_more f r o s = if bytes_eq r.symbol s then entry_or (f s) o else f s
+
+entry-append : (rows : List Derivation) (r : Derivation) (s : Text) → entry_of (rows ++ r ∷ []) s ≡ entry_more (entry_of rows) r (event_judged r) s
+unfolding entry_of
+entry-append rows r s = fold-append _ _ rows (r ∷ [])
+
+kept-at : (b : Bool) (e : Entry) → (if b then e else e) ≡ e
+kept-at true e = refl
+kept-at false e = refl
+
+placed-more : (f : Text → Entry) (r : Derivation) (o : Result Entry PresetCause) → map (entry_more f r o) symbols ≡ placed (map f symbols) (row_of r.symbol) o
+placed-more f r (Ok e) = changed-at f r.symbol e ∙ go (row_of r.symbol)
+  where
+    go : (row : Option ℕ) → set_at (map f symbols) row e ≡ placed (map f symbols) row (Ok e)
+    go None = refl
+    go (Some row) = refl
+placed-more f r (Err why) = map-same (entry_more f r (Err why)) f symbols (λ s. kept-at (bytes_eq r.symbol s) (f s)) ∙ go (row_of r.symbol)
+  where
+    go : (row : Option ℕ) → map f symbols ≡ placed (map f symbols) row (Err why)
+    go None = refl
+    go (Some row) = refl
+
+unread : (rows : List Derivation) → map (entry_of (rows ++ [])) symbols ≡ map (entry_of rows) symbols
+unread rows = ap (λ (t : List Derivation). map (entry_of t) symbols) (append-nil rows)
+
+taken-more : (rows : List Derivation) (r : Derivation) (held : Bool)
+    → map (entry_of (rows ++ rows_if (held && is_some (row_of r.symbol)) r)) symbols ≡ (if held then placed (map (entry_of rows) symbols) (row_of r.symbol) (event_judged r) else map (entry_of rows) symbols)
+taken-more rows r false = unread rows
+taken-more rows r true =
+    go (row_of r.symbol) (map-same (entry_of (rows ++ r ∷ [])) (entry_more (entry_of rows) r (event_judged r)) symbols (entry-append rows r) ∙ placed-more (entry_of rows) r (event_judged r))
+  where
+    go : (row : Option ℕ) → map (entry_of (rows ++ r ∷ [])) symbols ≡ placed (map (entry_of rows) symbols) row (event_judged r)
+        → map (entry_of (rows ++ rows_if (is_some row) r)) symbols ≡ placed (map (entry_of rows) symbols) row (event_judged r)
+    go None h = unread rows
+    go (Some row) h = h
+
+abbrev entries_by : List Derivation → List Entry
+entries_by rows = map (entry_of rows) symbols
+
+pub presets-more : (name : Text) (above : List EventLine) (line : EventLine) → preset_entries name (above ++ line ∷ []) ≡ entries_more (group_at name (groups above)) (preset_entries name above) line
+presets-more name above (plain other) = ap entries_by (read-more (preset_read name) [] above (plain other)) ∙ unread (presets_read name above)
+presets-more name above (plain (cpu n)) = ap entries_by (read-more (preset_read name) [] above (plain (cpu n))) ∙ unread (presets_read name above)
+presets-more name above (plain (preset r)) = ap entries_by (read-more (preset_read name) [] above (plain (preset r))) ∙ taken-more (presets_read name above) r (holds name above)
+presets-more name above (event r) = ap entries_by (read-more (preset_read name) [] above (event r)) ∙ unread (presets_read name above)
+
+-- ---- the names of the user events differ
+
+same-order : (s t : Text) → bytes_eq s t ≡ false → bytes_eq t s ≡ false
+same-order s t e = go (bytes_eq t s) (bytes_eq-Decides t s) (bytes_eq-Decides s t)
+  where
+    go : (b : Bool) → Decides b (t ≡ s) → Decides (bytes_eq s t) (s ≡ t) → b ≡ false
+    go true d k = let yes : bytes_eq s t ≡ true = k.1 (sym (d.0 refl)) in cc (e, yes)
+    go false d k = refl
+
+or-parts : (a b : Bool) → (a || b) ≡ false → (a ≡ false) × (b ≡ false)
+or-parts true b e = cc e
+or-parts false b e = (refl, e)
+
+distinct-last : (ns : List Text) (s : Text) → among s ns ≡ false → Distinct ns → Distinct (ns ++ s ∷ [])
+distinct-last [] s e d = (tt, tt)
+distinct-last (n ∷ ns) s e d =
+    let p = or-parts (bytes_eq s n) (among s ns) e in
+    (all-append (λ (u : Text). bytes_eq n u ≡ false) ns (s ∷ []) d.0 (same-order s n p.0, tt), distinct-last ns s p.1 d.1)
+
+distinct-added : (ns : List Text) (r : Derivation) → Distinct ns → Distinct (name_added ns r)
+distinct-added ns r d = go (among r.symbol ns) refl
+  where
+    go : (b : Bool) → among r.symbol ns ≡ b → Distinct (if b then ns else ns ++ r.symbol ∷ [])
+    go true e = d
+    go false e = distinct-last ns r.symbol e d
+
+distinct-all : (ns : List Text) (rows : List Derivation) → Distinct ns → Distinct (fold name_added ns rows)
+distinct-all ns [] d = d
+distinct-all ns (r ∷ rows) d = distinct-all (name_added ns r) rows (distinct-added ns r d)
+
+pub names-distinct : (rows : List Derivation) → Distinct (names_in rows)
+unfolding names_in
+names-distinct rows = distinct-all [] rows tt
+
+pub names-are : (rows : List Derivation) → names_of (events_of rows) ≡ names_in rows
+names-are rows = go (names_in rows)
+  where
+    go : (ns : List Text) → map (λ (e : EventView). e.name) (map (event_of rows) ns) ≡ ns
+    go [] = refl
+    go (n ∷ ns) = ap (λ (ts : List Text). n ∷ ts) (go ns)
+
+-- ---- the user events
+
+abbrev view : Text → Entry → EventView
+view n e = record { name = n; entry = e }
+
+abbrev changed : (Text → Entry) → Text → Entry → Text → EventView
+changed f s x n = view n (if bytes_eq s n then x else f n)
+
+unchanged : (f : Text → Entry) (s : Text) (x : Entry) (ns : List Text) → AllByRecursion (λ u. bytes_eq s u ≡ false) ns → map (changed f s x) ns ≡ map (λ n. view n (f n)) ns
+unchanged f s x [] h = refl
+unchanged f s x (n ∷ ns) h = ap₂ (λ y ys. y ∷ ys) (ap (λ (b : Bool). view n (if b then x else f n)) h.0) (unchanged f s x ns h.1)
+
+put-names : (f : Text → Entry) (s : Text) (x : Entry) (ns : List Text) → Distinct ns → map (changed f s x) (if among s ns then ns else ns ++ s ∷ []) ≡ put_event (map (λ n. view n (f n)) ns) s x
+put-names f s x [] d = ap (λ (b : Bool). view s (if b then x else f s) ∷ []) (same-text s)
+put-names f s x (n ∷ ns) d = go (bytes_eq s n) (bytes_eq-Decides s n) refl (put-names f s x ns d.1)
+  where
+    later : (b c : Bool) → bytes_eq s n ≡ false → map (changed f s x) (if c then ns else ns ++ s ∷ []) ≡ put_event (map (λ n. view n (f n)) ns) s x
+        → map (changed f s x) (if c then n ∷ ns else n ∷ (ns ++ s ∷ [])) ≡ view n (f n) ∷ put_event (map (λ n. view n (f n)) ns) s x
+    later b true e h = ap₂ (λ y ys. y ∷ ys) (ap (λ (b : Bool). view n (if b then x else f n)) e) h
+    later b false e h = ap₂ (λ y ys. y ∷ ys) (ap (λ (b : Bool). view n (if b then x else f n)) e) h
+
+    go : (b : Bool) → Decides b (s ≡ n) → bytes_eq s n ≡ b → map (changed f s x) (if among s ns then ns else ns ++ s ∷ []) ≡ put_event (map (λ n. view n (f n)) ns) s x
+        → map (changed f s x) (if b || among s ns then n ∷ ns else n ∷ (ns ++ s ∷ [])) ≡ (if b then view n x ∷ map (λ n. view n (f n)) ns else view n (f n) ∷ put_event (map (λ n. view n (f n)) ns) s x)
+    go true k e h =
+        let others : AllByRecursion (λ u. bytes_eq s u ≡ false) ns = subst (λ (t : Text). AllByRecursion (λ u. bytes_eq t u ≡ false) ns) (sym (k.0 refl)) d.0 in
+        ap₂ (λ y ys. y ∷ ys) (ap (λ (b : Bool). view n (if b then x else f n)) e) (unchanged f s x ns others)
+    go false k e h = later false (among s ns) e h
+
+put-more : (rows : List Derivation) (r : Derivation) (x : Entry) → event_judged r ≡ Ok x → events_of (rows ++ r ∷ []) ≡ put_event (events_of rows) r.symbol x
+unfolding names_in
+put-more rows r x j =
+    let names : names_in (rows ++ r ∷ []) ≡ name_added (names_in rows) r = fold-append name_added [] rows (r ∷ []) in
+    ap (map (event_of (rows ++ r ∷ []))) names
+    ∙ map-same (event_of (rows ++ r ∷ [])) (changed (entry_of rows) r.symbol x) (name_added (names_in rows) r)
+    (λ n. ap (view n) (entry-append rows r n ∙ ap (λ (o : Result Entry PresetCause). if bytes_eq r.symbol n then entry_or (entry_of rows n) o else entry_of rows n) j))
+    ∙ put-names (entry_of rows) r.symbol x (names_in rows) (names-distinct rows)
+
+-- what a name's row is judged as
+pub record Named (names : List Text) (r : Derivation) (x : Entry) : Type 0 where
+  pub form : is_event_name r.symbol ≡ true
+  pub few : is_too_many names r.symbol ≡ false
+  pub entry : event_judged r ≡ Ok x
+
+pub named-ok : (names : List Text) (r : Derivation) (x : Entry) → named_entry names r ≡ Ok x → Named names r x
+named-ok names r x e = go (is_event_name r.symbol) (is_too_many names r.symbol) refl refl e
+  where
+    none : (j : Result Entry PresetCause) → limited true j ≡ Ok x → ⊥
+    none (Ok y) h = cc h
+    none (Err cause.NoCpu) h = cc h
+    none (Err cause.BadField) h = cc h
+    none (Err cause.OverLimit) h = cc h
+    none (Err (cause.BadFormula why)) h = cc h
+
+    go : (b c : Bool) → is_event_name r.symbol ≡ b → is_too_many names r.symbol ≡ c → (if b then limited c (event_judged r) else Err cause.BadField) ≡ Ok x → Named names r x
+    go true true p q h = absurd (none (event_judged r) h)
+    go true false p q h = record { form = p; few = q; entry = h }
+    go false c p q h = cc h
+
+pub no-cause : (j : Result Entry PresetCause) → cause_if true j ≡ None → (x : Entry) × (j ≡ Ok x)
+no-cause (Ok x) e = (x, refl)
+no-cause (Err why) e = cc e
+
+same-events : (rows : List Derivation) → events_of (rows ++ []) ≡ events_of rows
+same-events rows = ap events_of (append-nil rows)
+
+-- an EVENT row that is read has no cause
+abbrev pub events_more_cause : Text → List EventLine → EventLine → Type 0
+events_more_cause name above (plain line) = Unit {0}
+events_more_cause name above (event r) = cause_if (holds name above) (named_entry (names_in (events_read name above)) r) ≡ None
+
+pub events-more : (name : Text) (above : List EventLine) (line : EventLine) → events_more_cause name above line
+    → events_of (events_read name (above ++ line ∷ [])) ≡ events_more (group_at name (groups above)) (events_of (events_read name above)) line
+events-more name above (plain line) h = ap events_of (read-more (event_read name) [] above (plain line)) ∙ same-events (events_read name above)
+events-more name above (event r) h = ap events_of (read-more (event_read name) [] above (event r)) ∙ go (holds name above) h
+  where
+    go : (b : Bool) → cause_if b (named_entry (names_in (events_read name above)) r) ≡ None
+        → events_of (events_read name above ++ rows_if b r) ≡ (if b then put_judged (events_of (events_read name above)) r.symbol (named_entry (names_of (events_of (events_read name above))) r) else events_of (events_read name above))
+    go false e = same-events (events_read name above)
+    go true e =
+        let x = no-cause (named_entry (names_in (events_read name above)) r) e in
+        let n = named-ok (names_in (events_read name above)) r x.0 x.1 in
+        put-more (events_read name above) r x.0 n.entry
+        ∙ sym (ap (put_judged (events_of (events_read name above)) r.symbol) (ap (λ (ns : List Text). named_entry ns r) (names-are (events_read name above)) ∙ x.1))

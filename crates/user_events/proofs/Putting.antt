@@ -1,0 +1,83 @@
+-- The entry of a name is put at its place.
+use Rattle.std.proofs.Common.{◌≡◌, ◌∙◌, ◌+◌, ◌<◌, ◌≤◌, ◌∷◌, ◌++◌, ℕ, zero, suc, Bool, true, false, cond, List, [], Some, None, map, set, length, get_or, refl, sym, ap, arith}
+use Rattle.std.specs.Prelude.{◌||◌, not, nat_lt, position}
+use Rattle.std.specs.List.{position_or_len}
+use Rattle.std.specs.Str.{bytes_eq}
+use Rattle.std.proofs.lemmas.Bool.{ltb-false}
+use Rattle.std.proofs.lemmas.List.{length-map, map-append}
+use Rattle.std.proofs.lemmas.List.Quantifiers.{position-Some}
+use Rattle.table_rows.specs.Texts.{Text}
+use Rattle.preset_csv.specs.declared.entry.Entry.{Entry}
+use Rattle.preset_csv.specs.declared.entry.Entry.TheVariants as entry
+use Rattle.user_events.specs.Events.{EventView, event_view, names_of}
+use Rattle.user_events.specs.Rows.{among}
+use Rattle.user_events.specs.Steps.{put_event}
+use Rattle.user_events.specs.declared.event.UserEvent.{UserEvent}
+
+abbrev pub is_named : Text → EventView → Bool
+is_named name x = bytes_eq name x.name
+
+abbrev nothing : EventView
+nothing = record { name = []; entry = entry.Missing }
+
+put-at : (events : List UserEvent) (name : Text) (e : Entry) (p : ℕ) (x : UserEvent) → p < length events → x ≡ get_or events p x → is_named name (get_or (map event_view events) p nothing) ≡ true
+    → ((k : ℕ) → k < p → is_named name (get_or (map event_view events) k nothing) ≡ false) → map event_view (set events p (record { name = x.name; entry = e })) ≡ put_event (map event_view events) name e
+put-at [] name e p x lt is here first = absurd (omega arith)
+put-at (y ∷ events) name e zero x lt is here first = rw here (ap (λ (u : UserEvent). event_view (record { name = u.name; entry = e }) ∷ map event_view events) is)
+put-at (y ∷ events) name e (suc p) x lt is here first =
+    rw (first 0 (omega arith)) (ap (λ (xs : List EventView). event_view y ∷ xs) (put-at events name e p x (omega arith) is here (λ k h. first (suc k) (omega arith))))
+
+pub put-found : (events : List UserEvent) (name : Text) (e : Entry) (p : ℕ) (x : UserEvent) → position (is_named name) (map event_view events) ≡ Some p → x ≡ get_or events p x
+    → map event_view (set events p (record { name = x.name; entry = e })) ≡ put_event (map event_view events) name e
+put-found events name e p x found is =
+    let f = position-Some (is_named name) (map event_view events) p nothing found in
+    put-at events name e p x (omega (arith, f.0, length-map events event_view)) is f.1 f.2
+
+none-named : (xs : List EventView) (name : Text) → length xs ≤ position_or_len (is_named name) xs → among name (names_of xs) ≡ false
+none-named [] name le = refl
+none-named (x ∷ xs) name le = go (bytes_eq name x.name) refl (none-named xs name) le
+  where
+    go : (b : Bool) → bytes_eq name x.name ≡ b → (length xs ≤ position_or_len (is_named name) xs → among name (names_of xs) ≡ false)
+        → length (x ∷ xs) ≤ cond (not b) (1 + position_or_len (is_named name) xs) 0 → among name (names_of (x ∷ xs)) ≡ false
+    go true e more h = absurd (omega arith)
+    go false e more h = rw e (more (omega arith))
+
+pub not-among : (xs : List EventView) (name : Text) → position (is_named name) xs ≡ None → among name (names_of xs) ≡ false
+not-among xs name e = go (nat_lt (position_or_len (is_named name) xs) (length xs)) refl e
+  where
+    go : (b : Bool) → nat_lt (position_or_len (is_named name) xs) (length xs) ≡ b → cond b (Some (position_or_len (is_named name) xs)) None ≡ None → among name (names_of xs) ≡ false
+    go true p q = cc q
+    go false p q = none-named xs name (ltb-false _ _ p)
+
+pub is-among : (xs : List EventView) (name : Text) (p : ℕ) → position (is_named name) xs ≡ Some p → among name (names_of xs) ≡ true
+is-among xs name p e = let f = position-Some (is_named name) xs p nothing e in found xs p f.0 f.1
+  where
+    found : (ys : List EventView) (k : ℕ) → k < length ys → is_named name (get_or ys k nothing) ≡ true → among name (names_of ys) ≡ true
+    found [] k lt h = absurd (omega arith)
+    found (y ∷ ys) zero lt h = rw h refl
+    found (y ∷ ys) (suc k) lt h = go (bytes_eq name y.name) (found ys k (omega arith) h)
+      where
+        go : (b : Bool) → among name (names_of ys) ≡ true → (b || among name (names_of ys)) ≡ true
+        go true m = refl
+        go false m = m
+
+put-last : (xs : List EventView) (name : Text) (e : Entry) → among name (names_of xs) ≡ false → put_event xs name e ≡ xs ++ record { name = name; entry = e } ∷ []
+put-last [] name e h = refl
+put-last (x ∷ xs) name e h = go (bytes_eq name x.name) refl h (put-last xs name e)
+  where
+    go : (b : Bool) → bytes_eq name x.name ≡ b → (b || among name (names_of xs)) ≡ false → (among name (names_of xs) ≡ false → put_event xs name e ≡ xs ++ record { name = name; entry = e } ∷ [])
+        → put_event (x ∷ xs) name e ≡ x ∷ (xs ++ record { name = name; entry = e } ∷ [])
+    go true p q more = cc q
+    go false p q more = rw p (ap (λ (ys : List EventView). x ∷ ys) (more q))
+
+pub put-new : (events : List UserEvent) (name : Text) (e : Entry) (u : UserEvent) → position (is_named name) (map event_view events) ≡ None → event_view u ≡ record { name = name; entry = e }
+    → map event_view (events ++ u ∷ []) ≡ put_event (map event_view events) name e
+put-new events name e u none is =
+    map-append event_view events (u ∷ []) ∙ ap (λ (x : EventView). map event_view events ++ x ∷ []) is ∙ sym (put-last (map event_view events) name e (not-among (map event_view events) name none))
+
+pub position-map : (p : EventView → Bool) (xs : List UserEvent) → position (λ x. p (event_view x)) xs ≡ position p (map event_view xs)
+position-map p xs = rw (length-map xs event_view, len-map xs) refl
+  where
+    len-map : (ys : List UserEvent) → position_or_len p (map event_view ys) ≡ position_or_len (λ x. p (event_view x)) ys
+    len-map [] = refl
+    len-map (y ∷ ys) = ap (λ (n : ℕ). cond (not (p (event_view y))) (1 + n) 0) (len-map ys)

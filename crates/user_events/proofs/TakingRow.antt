@@ -1,0 +1,130 @@
+-- What one row gives is taken, or the row refused.
+use Rattle.std.proofs.Common.{◌≡◌, ◌∙◌, ◌∷◌, ℕ, Bool, true, false, not, List, [], Option, Some, None, map, set, length, refl, sym, ap, subst, arith, tests}
+use Rattle.std.specs.Prelude.{◌&&◌, is_some, if◌then◌else◌, position, Ok, Err, Result, nat_le}
+use Rattle.std.specs.List.{list_all}
+use Rattle.std.proofs.lemmas.Bool.{and_from, and_parts}
+use Rattle.std.proofs.lemmas.List.{length-map}
+use Rattle.table_rows.specs.Texts.{Text, is_printable, is_printable_byte, text_at}
+use Rattle.preset_table.specs.Table.{row_of}
+use Rattle.preset_csv.specs.Lines.{derivation_of}
+use Rattle.preset_csv.specs.Steps.{Judges, placed}
+use Rattle.preset_csv.specs.declared.entry.Entry.{Entry}
+use Rattle.preset_csv.specs.declared.fault.PresetCause.{PresetCause}
+use Rattle.preset_csv.specs.declared.fault.PresetCause.TheVariants as cause
+use Rattle.preset_csv.specs.declared.refusal.Refusal.{Refusal}
+use Rattle.preset_csv.specs.declared.refusal.Refusal.TheVariants as refusal
+use Rattle.preset_csv.proofs.NativesKept.{symbol-there}
+use Rattle.user_events.specs.Entries.{event_judged}
+use Rattle.user_events.specs.Events.{EventView, event_view, names_of}
+use Rattle.user_events.specs.Names.{is_event_byte, is_event_name}
+use Rattle.user_events.specs.Rows.{cause_if, is_too_many, limited, named_entry}
+use Rattle.user_events.specs.Steps.{IsOverLimit, TakesEvent, TakesPreset, put_event, put_judged}
+use Rattle.user_events.specs.declared.event.TheConstants.{MOST_EVENTS}
+use Rattle.user_events.specs.declared.event.UserEvent.{UserEvent}
+use Rattle.user_events.proofs.Putting.{is-among, is_named, not-among}
+
+-- ---- a PRESET row
+
+symbol-row : (fields : List Text) (o : Option ℕ) → row_of (text_at fields 1) ≡ o → row_of (derivation_of fields).symbol ≡ o
+symbol-row fields o e = ap row_of (symbol-there fields) ∙ e
+
+pub put-taken : (fields : List Text) (holds : Bool) (row : ℕ) (e : Entry) (old new : List Entry) → holds ≡ true → row_of (text_at fields 1) ≡ Some row → event_judged (derivation_of fields) ≡ Ok e → new ≡ set old row e
+    → (cause_if (holds && is_some (row_of (derivation_of fields).symbol)) (event_judged (derivation_of fields)) ≡ None) × (new ≡ (if holds then placed old (row_of (derivation_of fields).symbol) (event_judged (derivation_of fields)) else old))
+put-taken fields true row e old new h at j is = let s = symbol-row fields (Some row) at in (rw (s, j) refl, rw (s, j) is)
+put-taken fields false row e old new h at j is = cc h
+
+pub unknown-taken : (fields : List Text) (holds : Bool) (old : List Entry) → holds ≡ true → row_of (text_at fields 1) ≡ None
+    → (cause_if (holds && is_some (row_of (derivation_of fields).symbol)) (event_judged (derivation_of fields)) ≡ None) × (old ≡ (if holds then placed old (row_of (derivation_of fields).symbol) (event_judged (derivation_of fields)) else old))
+unknown-taken fields true old h at = let s = symbol-row fields None at in (rw s refl, rw s refl)
+unknown-taken fields false old h at = cc h
+
+pub not-taken : (fields : List Text) (holds : Bool) (row : ℕ) (f : Refusal) (old new : List Entry) → holds ≡ true → row_of (text_at fields 1) ≡ Some row → Judges (event_judged (derivation_of fields)) (Err f)
+    → TakesPreset holds (derivation_of fields) old new (Err f)
+not-taken fields true row (refusal.Cause why) old new h at j = let s = symbol-row fields (Some row) at in rw (s, j) refl
+not-taken fields true row refusal.Memory old new h at j = tt
+not-taken fields false row f old new h at j = cc h
+
+-- ---- the name of an EVENT row
+
+event-printable : (b : ℕ) → is_event_byte b ≡ true → is_printable_byte b ≡ true
+event-printable b h = grind (arith, tests, h)
+
+all-printable : (t : Text) → list_all is_event_byte t ≡ true → is_printable t ≡ true
+all-printable [] h = refl
+all-printable (b ∷ t) h = let p = and_parts (is_event_byte b) (list_all is_event_byte t) h in and_from (is_printable_byte b) (is_printable t) (event-printable b p.0) (all-printable t p.1)
+
+pub name-printable : (t : Text) → is_event_name t ≡ true → is_printable t ≡ true
+unfolding is_event_name
+name-printable t h =
+    let a = and_parts (nat_le 1 (length t)) _ h in
+    let b = and_parts (nat_le (length t) 32) _ a.1 in
+    let c = and_parts (list_all is_event_byte t) _ b.1 in
+    all-printable t c.0
+
+pub too-many : (events : List UserEvent) (name : Text) (o : Option ℕ) (b : Bool) → o ≡ position (is_named name) (map event_view events) → is_some o ≡ not b
+    → (b && nat_le MOST_EVENTS (length events)) ≡ is_too_many (names_of (map event_view events)) name
+too-many events name None true e h = rw (not-among (map event_view events) name (sym e), length-map (map event_view events) (λ (x : EventView). x.name), length-map events event_view) refl
+too-many events name None false e h = cc h
+too-many events name (Some p) true e h = cc h
+too-many events name (Some p) false e h = rw (is-among (map event_view events) name p (sym e)) refl
+
+abbrev row_name : List Text → Text
+row_name fields = (derivation_of fields).symbol
+
+pub bad-name : (fields : List Text) (holds : Bool) (names : List Text) → holds ≡ true → is_event_name (text_at fields 1) ≡ false → cause_if holds (named_entry names (derivation_of fields)) ≡ Some cause.BadField
+bad-name fields true names h e = let s : is_event_name (row_name fields) ≡ false = ap is_event_name (symbol-there fields) ∙ e in rw s refl
+bad-name fields false names h e = cc h
+
+-- what the row is judged as
+judged-by : (fields : List Text) (names : List Text) (b : Bool) → is_event_name (text_at fields 1) ≡ true → is_too_many names (text_at fields 1) ≡ b → named_entry names (derivation_of fields) ≡ limited b (event_judged (derivation_of fields))
+judged-by fields names b e m =
+    let s : is_event_name (row_name fields) ≡ true = ap is_event_name (symbol-there fields) ∙ e in
+    let t : is_too_many names (row_name fields) ≡ b = ap (is_too_many names) (symbol-there fields) ∙ m in
+    rw (s, t) refl
+
+-- the refusal of one name too many
+abbrev Refuses : Result Entry PresetCause → Refusal → Type 0
+Refuses j (refusal.Cause why) = j ≡ Err why
+Refuses j refusal.Memory = Unit {0}
+
+over : (j : Result Entry PresetCause) (judged : Result Entry Refusal) (refused : Refusal) → Judges j judged → IsOverLimit judged refused → Refuses (limited true j) refused
+over j (Ok e) refused h o = subst (Refuses (limited true j)) (sym o) (ap (limited true) h)
+over j (Err (refusal.Cause cause.NoCpu)) refused h o = subst (Refuses (limited true j)) (sym o) (ap (limited true) h)
+over j (Err (refusal.Cause cause.BadField)) refused h o = subst (Refuses (limited true j)) (sym o) (ap (limited true) h)
+over j (Err (refusal.Cause cause.OverLimit)) refused h o = subst (Refuses (limited true j)) (sym o) (ap (limited true) h)
+over j (Err (refusal.Cause (cause.BadFormula why))) refused h o = subst (Refuses (limited true j)) (sym o) (ap (limited true) h)
+over j (Err refusal.Memory) refused h o = subst (Refuses (limited true j)) (sym o) tt
+
+refuses : (holds : Bool) (j : Result Entry PresetCause) (refused : Refusal) (fields : List Text) (old new : List EventView) → holds ≡ true → named_entry (names_of old) (derivation_of fields) ≡ j → Refuses j refused
+    → TakesEvent holds (derivation_of fields) old new (Err refused)
+refuses true j (refusal.Cause why) fields old new h is r = rw (is, r) refl
+refuses true j refusal.Memory fields old new h is r = tt
+refuses false j refused fields old new h is r = cc h
+
+pub over-taken : (fields : List Text) (holds : Bool) (old new : List EventView) (judged : Result Entry Refusal) (refused : Refusal) → holds ≡ true → is_event_name (text_at fields 1) ≡ true → is_too_many (names_of old) (text_at fields 1) ≡ true
+    → Judges (event_judged (derivation_of fields)) judged → IsOverLimit judged refused → TakesEvent holds (derivation_of fields) old new (Err refused)
+over-taken fields holds old new judged refused h e m j o =
+    refuses holds (limited true (event_judged (derivation_of fields))) refused fields old new h (judged-by fields (names_of old) true e m) (over (event_judged (derivation_of fields)) judged refused j o)
+
+pub event-refused : (fields : List Text) (holds : Bool) (old new : List EventView) (refused : Refusal) → holds ≡ true → is_event_name (text_at fields 1) ≡ true → is_too_many (names_of old) (text_at fields 1) ≡ false
+    → Judges (event_judged (derivation_of fields)) (Err refused) → TakesEvent holds (derivation_of fields) old new (Err refused)
+event-refused fields holds old new (refusal.Cause why) h e m j = refuses holds (event_judged (derivation_of fields)) (refusal.Cause why) fields old new h (judged-by fields (names_of old) false e m) j
+event-refused fields holds old new refusal.Memory h e m j = tt
+
+pub event-taken : (fields : List Text) (holds : Bool) (old new : List EventView) (x : Entry) → holds ≡ true → is_event_name (text_at fields 1) ≡ true → is_too_many (names_of old) (text_at fields 1) ≡ false
+    → event_judged (derivation_of fields) ≡ Ok x → new ≡ put_event old (text_at fields 1) x
+    → (cause_if holds (named_entry (names_of old) (derivation_of fields)) ≡ None) × (new ≡ (if holds then put_judged old (derivation_of fields).symbol (named_entry (names_of old) (derivation_of fields)) else old))
+event-taken fields true old new x h e m j is =
+    let n : named_entry (names_of old) (derivation_of fields) ≡ Ok x = judged-by fields (names_of old) false e m ∙ j in
+    (ap (cause_if true) n, is ∙ ap (λ (t : Text). put_event old t x) (sym (symbol-there fields)) ∙ sym (ap (put_judged old (row_name fields)) n))
+event-taken fields false old new x h e m j is = cc h
+
+pub not-printed : (t : Text) → ◌≡◌ {A = Option Text} None (if is_printable t then Some t else None) → is_printable t ≡ true → ⊥
+not-printed t e p = let bad : ◌≡◌ {A = Option Text} None (Some t) = e ∙ ap (λ (b : Bool). if b then Some t else None) p in cc bad
+
+pub printed-some : (a t : Text) → Some a ≡ (if is_printable t then Some t else None) → a ≡ t
+printed-some a t e = go (is_printable t) e
+  where
+    go : (b : Bool) → Some a ≡ (if b then Some t else None) → a ≡ t
+    go true p = cc p
+    go false p = cc p

@@ -1,0 +1,6 @@
+pub mod Names
+pub mod Lines
+pub mod Entries
+pub mod Events
+pub mod Rows
+pub mod Steps

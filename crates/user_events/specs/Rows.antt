@@ -1,0 +1,135 @@
+-- The presets and user events of a file for one cpu, and its first fault: papi_events.csv.
+use Rattle.std.specs.Prelude.{◌≡◌, ◌+◌, ◌&&◌, ℕ, Bool, true, false, not, List, [], ◌∷◌, ◌++◌, length, map, fold, Option, Some, None, Result, Ok, Err, is_some, if◌then◌else◌, nat_le}
+use Rattle.std.specs.List.{list_any}
+use Rattle.std.specs.Option.{option_map_or}
+use Rattle.std.specs.Str.{bytes_eq}
+use Rattle.table_rows.specs.Texts.{Text}
+use Rattle.preset_table.specs.Table.{row_of}
+use Rattle.preset_csv.specs.Lines.{Derivation, cpu, other, preset}
+use Rattle.preset_csv.specs.Presets.{entry_or, group, has_cpu, judged_cause}
+use Rattle.preset_csv.specs.Tables.{symbols}
+use Rattle.preset_csv.specs.declared.entry.Entry.{Entry}
+use Rattle.preset_csv.specs.declared.entry.Entry.TheVariants as entry
+use Rattle.preset_csv.specs.declared.fault.PresetCause.{PresetCause}
+use Rattle.preset_csv.specs.declared.fault.PresetCause.TheVariants as cause
+use Rattle.preset_csv.specs.declared.fault.PresetFault.{PresetFault}
+use Rattle.preset_csv.specs.declared.fault.PresetFault.TheVariants as fault
+use Rattle.user_events.specs.Entries.{event_judged}
+use Rattle.user_events.specs.Events.{EventView, ExtendedView}
+use Rattle.user_events.specs.Lines.{EventLine, event, in_groups, lines_of, plain}
+use Rattle.user_events.specs.Names.{is_event_name}
+use Rattle.user_events.specs.declared.event.TheConstants.{MOST_EVENTS}
+use Rattle.user_events.specs.declared.extended.Extended.{Extended}
+
+-- ---- the rows that are read
+
+-- the group of CPU rows at the end of these rows holds the cpu
+abbrev pub holds : Text → List EventLine → Bool
+holds name above = list_any (λ n. bytes_eq name n) (group (map in_groups above))
+
+abbrev pub rows_if : Bool → Derivation → List Derivation
+rows_if read r = if read then r ∷ [] else []
+
+-- what one row below these adds to the PRESET rows that are read: those whose symbol is in the table
+abbrev pub preset_read : Text → List EventLine → EventLine → List Derivation
+preset_read name above (plain other) = []
+preset_read name above (plain (cpu n)) = []
+preset_read name above (plain (preset r)) = rows_if (holds name above && is_some (row_of r.symbol)) r
+preset_read name above (event r) = []
+
+-- and to the EVENT rows that are read
+abbrev pub event_read : Text → List EventLine → EventLine → List Derivation
+event_read name above (plain line) = []
+event_read name above (event r) = rows_if (holds name above) r
+
+-- the rows that are read of some rows below `above`, where one row adds these
+unfoldable pub read_from : (List EventLine → EventLine → List Derivation) → List EventLine → List EventLine → List Derivation
+read_from adds above [] = []
+read_from adds above (line ∷ rest) = adds above line ++ read_from adds (above ++ line ∷ []) rest
+
+abbrev pub presets_read : Text → List EventLine → List Derivation
+presets_read name lines = read_from (preset_read name) [] lines
+
+abbrev pub events_read : Text → List EventLine → List Derivation
+events_read name lines = read_from (event_read name) [] lines
+
+-- ---- the entries
+
+-- the entry of a symbol or a name: that of its last row
+unfoldable pub entry_of : List Derivation → Text → Entry
+entry_of rows name = fold (λ e r. if bytes_eq r.symbol name then entry_or e (event_judged r) else e) entry.Missing rows
+
+abbrev pub among : Text → List Text → Bool
+among name names = list_any (λ n. bytes_eq name n) names
+
+abbrev pub name_added : List Text → Derivation → List Text
+name_added names r = if among r.symbol names then names else names ++ r.symbol ∷ []
+
+-- the names of EVENT rows, in the order of their first rows
+unfoldable pub names_in : List Derivation → List Text
+names_in rows = fold name_added [] rows
+
+abbrev pub event_of : List Derivation → Text → EventView
+event_of rows name = record { name = name; entry = entry_of rows name }
+
+-- the entries of the preset table's symbols, and the user events
+abbrev pub preset_entries : Text → List EventLine → List Entry
+preset_entries name lines = map (entry_of (presets_read name lines)) symbols
+
+abbrev pub events_of : List Derivation → List EventView
+events_of rows = map (event_of rows) (names_in rows)
+
+-- ---- the first fault
+
+-- one name too many goes before a broken formula, and behind a bad field
+abbrev pub limited : Bool → Result Entry PresetCause → Result Entry PresetCause
+limited false judgement = judgement
+limited true (Ok e) = Err cause.OverLimit
+limited true (Err cause.NoCpu) = Err cause.NoCpu
+limited true (Err cause.BadField) = Err cause.BadField
+limited true (Err cause.OverLimit) = Err cause.OverLimit
+limited true (Err (cause.BadFormula why)) = Err cause.OverLimit
+
+-- the name is new, and there are as many as there may be
+abbrev pub is_too_many : List Text → Text → Bool
+is_too_many names name = not (among name names) && nat_le MOST_EVENTS (length names)
+
+-- the entry of an EVENT row below others with these names, or its first cause
+abbrev pub named_entry : List Text → Derivation → Result Entry PresetCause
+named_entry names r = if is_event_name r.symbol then limited (is_too_many names r.symbol) (event_judged r) else Err cause.BadField
+
+abbrev pub cause_if : Bool → Result Entry PresetCause → Option PresetCause
+cause_if read judgement = if read then judged_cause judgement else None
+
+-- the cause of a row below these rows
+abbrev pub line_cause : Text → List EventLine → EventLine → Option PresetCause
+line_cause name above (plain other) = None
+line_cause name above (plain (cpu n)) = None
+line_cause name above (plain (preset r)) =
+    if not (has_cpu (map in_groups above)) then Some cause.NoCpu
+    else cause_if (holds name above && is_some (row_of r.symbol)) (event_judged r)
+line_cause name above (event r) =
+    if not (has_cpu (map in_groups above)) then Some cause.NoCpu
+    else cause_if (holds name above) (named_entry (names_in (events_read name above)) r)
+
+-- the first row below `above` that has a cause, and its cause
+unfoldable pub fault_from : Text → List EventLine → List EventLine → Option (ℕ × PresetCause)
+fault_from name above [] = None
+fault_from name above (line ∷ rest) =
+    option_map_or (λ why. Some (length above + 1, why)) (line_cause name above line) (fault_from name (above ++ line ∷ []) rest)
+
+-- ---- what a caller gets
+
+-- the first faulty row of a preset file, from 1, and its first cause
+unfoldable pub extended_fault : Text → List ℕ → Option (ℕ × PresetCause)
+extended_fault name bytes = fault_from name [] (lines_of bytes)
+
+-- the presets and user events for a cpu in a file that has no faulty row
+unfoldable pub extended_in : Text → List ℕ → ExtendedView
+extended_in name bytes = record { presets = record { cpu = name; rows = preset_entries name (lines_of bytes) }; events = events_of (events_read name (lines_of bytes)) }
+
+-- these where no row is faulty, or the first fault, or out of memory
+abbrev pub ReadsExtended : Result Extended PresetFault → List ℕ → Text → Type 0
+ReadsExtended (Ok x) bytes name = (extended_fault name bytes ≡ None) × (x ≡ extended_in name bytes)
+ReadsExtended (Err (fault.Row row why)) bytes name = extended_fault name bytes ≡ Some (row, why)
+ReadsExtended (Err fault.Memory) bytes name = Unit {0}

@@ -1,0 +1,13 @@
+//! Preset files with user events: events of a user's own beside the presets, and formulas in infix order. Source: PAPI's
+//! papi_events.csv.
+#![tactic(auto)]
+
+mod event;
+mod extended;
+mod judging;
+mod reading;
+mod row;
+
+pub use crate::event::{MOST_EVENTS, UserEvent};
+pub use crate::extended::Extended;
+pub use crate::reading::read_extended;
