@@ -1,16 +1,16 @@
 -- An occurrence goes over the counters that it can move, lowest first: those that are left are as they were, and all others are
 -- done. A counter that it cannot move is done from the beginning.
-use Rattle.std.proofs.Common.{◌≡◌, ℕ, zero, suc, ◌+◌, ◌*◌, ◌%◌, ◌^◌, ◌<◌, ◌≤◌, inl, inr, Bool, true, false, List, [], ◌∷◌, length, set, get_or, refl, ap, sym, ◌∙◌, arith, Option, Some, None, bit_and}
-use Rattle.std.specs.Prelude.{◌==◌, ◌&&◌, ◌||◌, if◌then◌else◌}
+use Rattle.std.proofs.Common.{◌≡◌, ℕ, zero, suc, ◌+◌, ◌*◌, ◌%◌, ◌^◌, ◌<◌, ◌≤◌, ◌⊎◌, inl, inr, Bool, true, false, List, [], ◌∷◌, length, set, get_or, refl, ap, sym, ◌∙◌, arith, Option, Some, None, bit_and}
+use Rattle.std.specs.Prelude.{◌==◌, ◌&&◌, ◌||◌, if◌then◌else◌, not}
 use Rattle.std.specs.Int.{bit_at, bit_not, trailing_zeros, w32}
-use Rattle.std.proofs.lemmas.Bool.{cases_eq, cases_lt, cond-false, lt-leb}
+use Rattle.std.proofs.lemmas.Bool.{cases_eq, cases_lt, cond-false, eq-eqb, lt-leb, ne_eqb}
 use Rattle.std.proofs.lemmas.Nat.{and_le_l}
-use Rattle.std.proofs.lemmas.Nat.Bits.{bit_at-zero, bit_at_above, bit_at_clear_same, bit_at_clear_other, bit_at-trailing_zeros, same_from_bits}
+use Rattle.std.proofs.lemmas.Nat.Bits.{bit_at-suc, bit_at-zero, bit_at_above, bit_at_clear_same, bit_at_clear_other, bit_at-trailing_zeros, same_from_bits}
 use Rattle.papi_base.specs.Weight.{weight_of, holds, share}
 use Rattle.papi_base.specs.declared.occurrence.Occ.{Occ}
 use Rattle.counter_unit.specs.declared.registers.Register.{Register}
 use Rattle.counter_unit.specs.declared.selects.Key.TheVariants as key
-use Rattle.counter_unit.specs.Counting.{After, IsSound, AreSound, at_place, all_carries, all_moved, bits_of, carries, moved, moved_place}
+use Rattle.counter_unit.specs.Counting.{After, IsSound, AreSound, at_place, all_carries, all_moved, bits_of, carries, moved, moved_place, moved_where}
 use Rattle.counter_unit.specs.Selects.{admits, bit_of, has_code}
 use Rattle.counter_unit.proofs.Bits.{bit_at-bits_of}
 use Rattle.counter_unit.proofs.Places.{at_place-all_moved, at_place-set_same, at_place-set_other, length-all_moved, length-set_place}
@@ -82,10 +82,11 @@ unmoved before o w (Some r) sound other = ap (after w r) (weight_of_other r befo
       rw no (ap (λ v. unchanged (Some (record r { value = v }))) same)
 
 -- the loop with these counters left, these places, and these carries
-pub record Stepping (before : Option Occ) (o : Occ) (ws : List ℕ) (rs : List (Option Register)) (left : ℕ) (now : List (Option Register)) (carry : ℕ) : Type 0 where
+pub record Stepping (before : Option Occ) (o : Occ) (ws : List ℕ) (rs : List (Option Register)) (moves : Bool) (left : ℕ) (now : List (Option Register)) (carry : ℕ) : Type 0 where
   pub same_length : length now ≡ length ws
   pub within : (k : ℕ) → bit_at left k ≡ 1 → k < length ws
-  pub admitted : (k : ℕ) → bit_at left k ≡ 1 → admits o (at_place rs k) ≡ true
+  pub admitted : (k : ℕ) → bit_at left k ≡ 1 → moves ≡ true → admits o (at_place rs k) ≡ true
+  pub refused : moves ≡ false → (k : ℕ) → admits o (at_place rs k) ≡ false
   pub waits : (k : ℕ) → bit_at left k ≡ 1 → at_place now k ≡ at_place rs k
   pub done : (k : ℕ) → bit_at left k ≡ 0 → at_place now k ≡ (moved_place before o (get_or ws k 0) (at_place rs k)).place
   pub quiet : (k : ℕ) → bit_at left k ≡ 1 → bit_at carry k ≡ 0
@@ -109,49 +110,64 @@ bit_yes : (b : Bool) → bit_of b ≡ 1 → b ≡ true
 bit_yes true h = refl
 bit_yes false h = absurd (no_bit 0 h refl)
 
-pub begins : (before : Option Occ) (o : Occ) (ws : List ℕ) (rs : List (Option Register)) (left : ℕ) → length ws ≤ 32 → left < 2 ^ 32 → AreSound ws rs → AreAdmitted o rs left → Stepping before o ws rs left rs 0
-begins before o ws rs left few small sound admitted = record {
-  same_length = sound.same_length;
-  within = λ k is. elim (cases_lt k (length ws)) [
-    | inl below ↦ below
-    | inr past ↦ absurd (no_bit (bit_at left k) is (none_past k past))
-  ];
-  admitted = λ k is. bit_yes (admits o (at_place rs k)) (sym (admitted k (inside k is)) ∙ is);
-  waits = λ k is. refl;
-  done = λ k isnt. sym (ap (λ (a : After). a.place) (stays k isnt));
-  quiet = λ k is. bit_at-zero k;
-  carried = λ k isnt. bit_at-zero k ∙ sym (ap (λ (a : After). bit_of a.carried) (stays k isnt));
-} where
-  inside : (k : ℕ) → bit_at left k ≡ 1 → k < 32
+-- what is looked at where the occurrence can move these counters
+pub begins : (before : Option Occ) (o : Occ) (ws : List ℕ) (rs : List (Option Register)) (all : ℕ) → 0 < length ws → length ws ≤ 32 → all < 2 ^ 32 → AreSound ws rs → AreAdmitted o rs all
+    → Stepping before o ws rs (not (all == 0)) (if all == 0 then 1 else all) rs 0
+begins before o ws rs all some few small sound admitted = go (cases_eq all 0) where
+  inside : (k : ℕ) → bit_at all k ≡ 1 → k < 32
   inside k is = elim (cases_lt k 32) [
     | inl below ↦ below
-    | inr above ↦ absurd (no_bit (bit_at left k) is (bit_at_above left 32 k small above))
+    | inr above ↦ absurd (no_bit (bit_at all k) is (bit_at_above all 32 k small above))
   ]
 
-  none_past : (k : ℕ) → length ws ≤ k → bit_at left k ≡ 0
+  none_past : (k : ℕ) → length ws ≤ k → bit_at all k ≡ 0
   none_past k past = let e = sound.same_length in elim (cases_lt k 32) [
     | inl below ↦ admitted k below ∙ ap (λ r. bit_of (admits o r)) (at_place_past rs k (omega arith))
-    | inr above ↦ bit_at_above left 32 k small above
+    | inr above ↦ bit_at_above all 32 k small above
   ]
 
-  refused : (k : ℕ) → bit_at left k ≡ 0 → admits o (at_place rs k) ≡ false
+  refused : (k : ℕ) → bit_at all k ≡ 0 → admits o (at_place rs k) ≡ false
   refused k isnt = let e = sound.same_length in elim (cases_lt k 32) [
     | inl below ↦ bit_no (admits o (at_place rs k)) (sym (admitted k below) ∙ isnt)
     | inr above ↦ ap (admits o) (at_place_past rs k (omega arith))
   ]
 
-  stays : (k : ℕ) → bit_at left k ≡ 0 → moved_place before o (get_or ws k 0) (at_place rs k) ≡ unchanged (at_place rs k)
-  stays k isnt = unmoved before o (get_or ws k 0) (at_place rs k) (sound_at ws rs k sound) (refused k isnt)
+  beginning_with : (moves : Bool) (left : ℕ) → ((k : ℕ) → bit_at left k ≡ 1 → k < length ws) → ((k : ℕ) → bit_at left k ≡ 0 → bit_at all k ≡ 0) → ((k : ℕ) → bit_at left k ≡ 1 → moves ≡ true → bit_at all k ≡ 1)
+      → (moves ≡ false → all ≡ 0) → Stepping before o ws rs moves left rs 0
+  beginning_with moves left within none some none_moves = record {
+    same_length = sound.same_length;
+    within = within;
+    admitted = λ k is m. bit_yes (admits o (at_place rs k)) (sym (admitted k (inside k (some k is m))) ∙ some k is m);
+    refused = λ m k. refused k (ap (λ n. bit_at n k) (none_moves m) ∙ bit_at-zero k);
+    waits = λ k is. refl;
+    done = λ k isnt. sym (ap (λ (a : After). a.place) (stays k isnt));
+    quiet = λ k is. bit_at-zero k;
+    carried = λ k isnt. bit_at-zero k ∙ sym (ap (λ (a : After). bit_of a.carried) (stays k isnt));
+  } where
+    stays : (k : ℕ) → bit_at left k ≡ 0 → moved_place before o (get_or ws k 0) (at_place rs k) ≡ unchanged (at_place rs k)
+    stays k isnt = unmoved before o (get_or ws k 0) (at_place rs k) (sound_at ws rs k sound) (refused k (none k isnt))
 
-pub goes_on : (before : Option Occ) (o : Occ) (ws : List ℕ) (rs now : List (Option Register)) (left carry more : ℕ) (x : Option Register) → 0 < left → left < 2 ^ 32 → Stepping before o ws rs left now carry
+  lowest_only : (k : ℕ) → bit_at 1 k ≡ 1 → k ≡ 0
+  lowest_only zero is = refl
+  lowest_only (suc k) is = absurd (no_bit (bit_at 1 (suc k)) is (bit_at-suc 1 k ∙ bit_at-zero k))
+
+  go : (all ≡ 0) ⊎ (all ≡ 0 → ⊥) → Stepping before o ws rs (not (all == 0)) (if all == 0 then 1 else all) rs 0
+  go (inl none) = rw (eq-eqb all 0 none) (beginning_with false 1 (λ k is. let e = lowest_only k is in omega arith) (λ k isnt. ap (λ n. bit_at n k) none ∙ bit_at-zero k) (λ k is m. absurd cc) (λ m. none))
+  go (inr apart) = rw (ne_eqb all 0 apart) (beginning_with true all (λ k is. elim (cases_lt k (length ws)) [
+    | inl below ↦ below
+    | inr past ↦ absurd (no_bit (bit_at all k) is (none_past k past))
+  ]) (λ k isnt. isnt) (λ k is m. is) (λ m. absurd cc))
+
+pub goes_on : (before : Option Occ) (o : Occ) (ws : List ℕ) (rs now : List (Option Register)) (moves : Bool) (left carry more : ℕ) (x : Option Register) → 0 < left → left < 2 ^ 32 → Stepping before o ws rs moves left now carry
     → x ≡ (moved_place before o (get_or ws (lowest left) 0) (at_place now (lowest left))).place
     → bit_at more (lowest left) ≡ bit_of (moved_place before o (get_or ws (lowest left) 0) (at_place now (lowest left))).carried
     → ((k : ℕ) → (k ≡ lowest left → ⊥) → bit_at more k ≡ bit_at carry k)
-    → Stepping before o ws rs (others left) (set now (lowest left) x) more
-goes_on before o ws rs now left carry more x some small s place here there = record {
+    → Stepping before o ws rs moves (others left) (set now (lowest left) x) more
+goes_on before o ws rs now moves left carry more x some small s place here there = record {
   same_length = length-set_place now (lowest left) x ∙ s.same_length;
   within = λ k is. s.within k (was k is);
   admitted = λ k is. s.admitted k (was k is);
+  refused = s.refused;
   waits = λ k is. at_place-set_other now (lowest left) k x (apart k is) ∙ s.waits k (was k is);
   done = λ k isnt. elim (cases_eq k (lowest left)) [
     | inl same ↦ rw same (at_place-set_same now (lowest left) x exists ∙ place ∙ ap (λ r. (moved_place before o (get_or ws (lowest left) 0) r).place) still)
@@ -189,10 +205,25 @@ carries_at before o (w ∷ ws) (r ∷ rs) zero e = refl
 carries_at before o (w ∷ ws) (r ∷ rs) (suc k) e = carries_at before o ws rs k (omega arith)
 
 -- at the end all are done
-pub all_done : (before : Option Occ) (o : Occ) (ws : List ℕ) (rs now : List (Option Register)) (left carry : ℕ) → length rs ≡ length ws → left ≡ 0 → Stepping before o ws rs left now carry → now ≡ all_moved before o ws rs
-all_done before o ws rs now left carry e none s =
+pub all_done : (before : Option Occ) (o : Occ) (ws : List ℕ) (rs now : List (Option Register)) (moves : Bool) (left carry : ℕ) → length rs ≡ length ws → left ≡ 0 → Stepping before o ws rs moves left now carry → now ≡ all_moved before o ws rs
+all_done before o ws rs now moves left carry e none s =
     same_places now (all_moved before o ws rs) (s.same_length ∙ sym (length-all_moved before o ws rs e ∙ e)) (λ k. s.done k (ap (λ n. bit_at n k) none ∙ bit_at-zero k) ∙ sym (at_place-all_moved before o ws rs k e))
 
-pub all_carried : (before : Option Occ) (o : Occ) (ws : List ℕ) (rs now : List (Option Register)) (left carry : ℕ) → length rs ≡ length ws → left ≡ 0 → Stepping before o ws rs left now carry → carry ≡ bits_of (all_carries before o ws rs)
-all_carried before o ws rs now left carry e none s =
+pub all_carried : (before : Option Occ) (o : Occ) (ws : List ℕ) (rs now : List (Option Register)) (moves : Bool) (left carry : ℕ) → length rs ≡ length ws → left ≡ 0 → Stepping before o ws rs moves left now carry → carry ≡ bits_of (all_carries before o ws rs)
+all_carried before o ws rs now moves left carry e none s =
     same_from_bits carry (bits_of (all_carries before o ws rs)) (λ k. s.carried k (ap (λ n. bit_at n k) none ∙ bit_at-zero k) ∙ sym (bit_at-bits_of (all_carries before o ws rs) k ∙ ap bit_of (carries_at before o ws rs k e)))
+
+-- where the occurrence cannot move a place, it is as if it had
+pub moved_anyhow : (before : Option Occ) (o : Occ) (w : ℕ) (moves : Bool) (place : Option Register) → IsSound w place → (moves ≡ false → admits o place ≡ false) → moved_where moves before o w place ≡ moved_place before o w place
+moved_anyhow before o w true place sound refused = refl
+moved_anyhow before o w false place sound refused = sym (unmoved before o w place sound (refused refl))
+
+-- without counters nothing moves
+pub none_moved : (before : Option Occ) (o : Occ) (ws : List ℕ) (rs : List (Option Register)) → length ws ≡ 0 → length rs ≡ length ws → rs ≡ all_moved before o ws rs
+none_moved before o [] [] e f = refl
+none_moved before o [] (r ∷ rs) e f = absurd (omega arith)
+none_moved before o (w ∷ ws) rs e f = absurd (omega arith)
+
+pub none_carried : (before : Option Occ) (o : Occ) (ws : List ℕ) (rs : List (Option Register)) → length ws ≡ 0 → 0 ≡ bits_of (all_carries before o ws rs)
+none_carried before o [] rs e = refl
+none_carried before o (w ∷ ws) rs e = absurd (omega arith)

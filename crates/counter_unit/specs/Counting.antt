@@ -54,6 +54,10 @@ moved_place before o width (Some r) = record {
   carried = carries width (weight_of r.native r.domain before o) r;
 }
 
+-- a place after an occurrence that moves it or not
+abbrev pub moved_where : Bool → Option Occ → Occ → ℕ → Option Register → After
+moved_where moves before o width place = if moves then moved_place before o width place else record { place = place; carried = false }
+
 -- all places after an occurrence
 abbrev pub all_moved : Option Occ → Occ → List ℕ → List (Option Register) → List (Option Register)
 all_moved before o [] registers = []

@@ -1,7 +1,7 @@
 //! A list of at most 32 places for registers.
 ghost use Rattle.std.specs.Prelude.{◌≡◌, ◌<◌, ◌≤◌, length, slice_get, slice_set, replicate, true, None};
 ghost use Rattle.std.specs.Option.{option_copied};
-ghost use Rattle.counter_unit.specs.Counting.{IsSound, at_place, moved_place};
+ghost use Rattle.counter_unit.specs.Counting.{IsSound, at_place, moved_where};
 ghost use Rattle.counter_unit.specs.Selects.{admits};
 ghost use Rattle.counter_unit.specs.Setups.{IsSetUp};
 
@@ -74,13 +74,14 @@ impl Registers {
         self.buf[i as usize] = x;
     }
 
-    /// Counts one occurrence, which can move it, at a place with this width, and tells whether its register carried.
+    /// Counts one occurrence at a place with this width, unless it does not move it, and tells whether its register carried.
     #[inline(always)]
     pub(crate) fn count(
         &mut self,
         i: u32,
         width: u8,
         setup: Setup,
+        moves: bool,
         before: Option<&Occ>,
         o: &Occ,
     ) -> bool
@@ -89,10 +90,10 @@ impl Registers {
         requires high { width ≤ 48 }
         requires sound { IsSound width (at_place self.old i) }
         requires set_up { IsSetUp width (at_place self.old i) setup }
-        requires admitted { admits o.now (at_place self.old i) ≡ true }
-        ensures registers { self.new ≡ slice_set self.old i (moved_place (option_copied before.entry) o.now width (at_place self.old i)).place }
-        ensures carried { result ≡ (moved_place (option_copied before.entry) o.now width (at_place self.old i)).carried }
+        requires admitted { moves ≡ true → admits o.now (at_place self.old i) ≡ true }
+        ensures registers { self.new ≡ slice_set self.old i (moved_where moves (option_copied before.entry) o.now width (at_place self.old i)).place }
+        ensures carried { result ≡ (moved_where moves (option_copied before.entry) o.now width (at_place self.old i)).carried }
     {
-        count_place(&mut self.buf[i as usize], width, setup, before, o)
+        count_place(&mut self.buf[i as usize], width, setup, moves, before, o)
     }
 }

@@ -1,6 +1,5 @@
 //! What is worked out of a counter when it is programmed, so that an occurrence only tests, adds and compares.
-ghost use Rattle.std.specs.Prelude.{◌≡◌, ◌<◌, ◌≤◌, length, slice_get, slice_set, Some};
-ghost use Rattle.std.specs.Prelude.{true};
+ghost use Rattle.std.specs.Prelude.{◌≡◌, ◌<◌, ◌≤◌, length, slice_get, slice_set, true, if◌then◌else◌, Some};
 ghost use Rattle.std.specs.Option.{option_copied};
 ghost use Rattle.papi_base.specs.Weight.{weight_of};
 ghost use Rattle.counter_unit.specs.Selects.{admits};
@@ -57,17 +56,27 @@ impl Setup {
         }
     }
 
-    /// What an occurrence that can move the register adds to it, where `before` came just before it.
+    /// What an occurrence adds to the register, where `before` came just before it: nothing unless it can move the register.
     #[inline(always)]
-    pub(crate) fn weight(&self, register: &Register, before: Option<&Occ>, o: &Occ) -> u8
+    pub(crate) fn weight(
+        &self,
+        register: &Register,
+        moves: bool,
+        before: Option<&Occ>,
+        o: &Occ,
+    ) -> u8
         requires plain { self.now.plain ≡ is_plain register.now.native }
-        requires admitted { admits o.now (Some register.now) ≡ true }
-        ensures { result ≡ weight_of register.now.native register.now.domain (option_copied before.entry) o.now }
+        requires admitted { moves ≡ true → admits o.now (Some register.now) ≡ true }
+        ensures { result ≡ (if moves then weight_of register.now.native register.now.domain (option_copied before.entry) o.now else 0) }
     {
         if !self.plain {
-            return weight(&register.native, register.domain, before, o);
+            return if moves {
+                weight(&register.native, register.domain, before, o)
+            } else {
+                0
+            };
         }
-        if register.native.comp == o.comp as u32 {
+        if moves & (register.native.comp == o.comp as u32) {
             o.amount
         } else {
             0

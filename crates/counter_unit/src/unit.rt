@@ -1,12 +1,12 @@
 //! The unit: what is programmed, what an occurrence adds, and which counters carry (PAPI_overflow(3): after a carry a
 //! register is loaded again so that it carries after the threshold).
-ghost use Rattle.std.specs.Prelude.{◌≡◌, ℕ, ◌+◌, ◌^◌, ◌<◌, ◌≤◌, length, slice_get, slice_index, slice_set, replicate, true, None, Some};
+ghost use Rattle.std.specs.Prelude.{◌≡◌, ℕ, ◌+◌, ◌^◌, ◌<◌, ◌≤◌, ◌==◌, if◌then◌else◌, length, slice_get, slice_index, slice_set, replicate, true, None, Some};
 ghost use Rattle.std.specs.Option.{option_copied, option_map};
 ghost use Rattle.papi_base.specs.Weight.{weight_of};
 ghost use Rattle.papi_base.specs.Widths.{AreWidths};
 ghost use Rattle.counter_unit.specs.Selects.{admits};
 ghost use Rattle.counter_unit.specs.Setups.{IsSetUp};
-ghost use Rattle.counter_unit.specs.Counting.{IsThreshold, IsSound, AreSound, beginning, period, at_place, begun, begun_again, moved, carries, moved_place, all_moved, all_carries, bits_of};
+ghost use Rattle.counter_unit.specs.Counting.{IsThreshold, IsSound, AreSound, beginning, period, at_place, begun, begun_again, moved, carries, moved_where, all_moved, all_carries, bits_of};
 
 use crate::registers::{Register, Registers};
 use crate::selects::Selects;
@@ -70,12 +70,13 @@ pub fn beginning_of(width: u8, threshold: u64) -> u64
     room(width) - period_of(width, threshold)
 }
 
-/// Counts one occurrence, which can move it, at a place, and tells whether its register carried.
+/// Counts one occurrence at a place, unless it does not move it, and tells whether its register carried.
 #[inline(always)]
 pub(crate) fn count_place(
     place: &mut Option<Register>,
     width: u8,
     setup: Setup,
+    moves: bool,
     before: Option<&Occ>,
     o: &Occ,
 ) -> bool
@@ -83,20 +84,29 @@ pub(crate) fn count_place(
     requires high { width ≤ 48 }
     requires sound { IsSound width place.old }
     requires set_up { IsSetUp width place.old setup }
-    requires admitted { admits o.now place.old ≡ true }
-    ensures place { place.new ≡ (moved_place (option_copied before.entry) o.now width place.old).place }
-    ensures carried { result ≡ (moved_place (option_copied before.entry) o.now width place.old).carried }
+    requires admitted { moves ≡ true → admits o.now place.old ≡ true }
+    ensures place { place.new ≡ (moved_where moves (option_copied before.entry) o.now width place.old).place }
+    ensures carried { result ≡ (moved_where moves (option_copied before.entry) o.now width place.old).carried }
 {
     match place {
         None => false,
         Some(register) => {
-            let more = u64::from(setup.weight(register, before, o));
+            let more = u64::from(setup.weight(register, moves, before, o));
             let sum = register.value + more;
             let carried = setup.room <= sum;
             register.value = if carried { sum - setup.period } else { sum };
             carried
         }
     }
+}
+
+/// The counters to look at where an occurrence can move these: the first one where it can move none.
+// So there is mostly one turn, whether or not the occurrence counts, which a processor cannot foresee.
+#[inline(always)]
+fn one_at_least(counters: u32) -> u32
+    ensures { result ≡ (if counters == 0 then 1 else counters) }
+{
+    if counters == 0 { 1 } else { counters }
 }
 
 /// The register at its beginning again, if the counter is programmed.
@@ -155,14 +165,19 @@ impl Unit {
         ensures carries { result ≡ bits_of (all_carries (option_copied before.entry) o.now self.old.widths self.old.registers) }
     {
         let _amount = o.amount;
+        if self.shape.counters() == 0 {
+            return 0;
+        }
+        let all = self.selects.at(o);
+        let moves = all != 0;
         let mut carry = 0;
-        let mut left = self.selects.at(o);
+        let mut left = one_at_least(all);
         while left != 0 {
             let c = left.trailing_zeros();
             left &= !(1 << c);
             let width = self.shape.width(c);
             let setup = self.setups.at(c);
-            if self.registers.count(c, width, setup, before, o) {
+            if self.registers.count(c, width, setup, moves, before, o) {
                 carry |= 1 << c;
             }
         }
