@@ -1,0 +1,19 @@
+-- The library is put back as it was.
+use Rattle.std.proofs.Common.{rules, ◌≡◌, ℤ, Option, Some, sym, subst, to_z, of_z, w32}
+use Rattle.papi_c.specs.Libraries.{LibraryView}
+use Rattle.papi_c.specs.Called.{Gave, Gives}
+use Rattle.session_model.specs.declared.call.Call.TheVariants as call
+use Rattle.papi_c.proofs.values.kistalub_read.Goals as goal
+
+pub returns : goal.returns
+returns c =
+    let v : LibraryView = c.in-Some.library.value in
+    let n = to_z w32 (of_z w32 c.read-number.result) in
+    let same : n ≡ c.read-number.result = search rules in
+    let made = call.Read c.args.set in
+    let count = c.read-number.new.count in
+    let out = c.read-number.new.out in
+    let at_v : Gave v v made c.read-number.result count out = subst (λ (l : LibraryView). Gave l l made c.read-number.result count out) c.deref.ensures c.read-number.ensures.gave in
+    let at_n : Gave v v made n count out = subst (λ (m : ℤ). Gave v v made m count out) (sym same) at_v in
+    let to_new = subst (λ (b : Option LibraryView). Gives (Some v) b made n count out) (sym c.of.ensures) at_n in
+    record { gives = subst (λ (a : Option LibraryView). Gives a c.of.result.library made n count out) c.in-Some.ensures.taken to_new }

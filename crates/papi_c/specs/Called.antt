@@ -1,0 +1,69 @@
+-- What the calls from C do.
+use Rattle.std.specs.Prelude.{ℕ, ℤ, ◌≡◌, ◌<◌, ◌⊎◌, length, slice_index_or, pos, List, Option, Some, None, Result, Ok, Err, negsuc}
+use Rattle.papi_base.specs.declared.code.Code.{Code}
+use Rattle.papi_base.specs.declared.native.EventRef.{EventRef}
+use Rattle.papi_base.specs.Codes.{number_of}
+use Rattle.component_table.specs.Catalogs.{looked_up}
+use Rattle.session_model.specs.declared.call.Call.{Call}
+use Rattle.session_model.specs.declared.line.Asked.{Asked}
+use Rattle.session_model.specs.declared.line.Asked.TheVariants as asked
+use Rattle.session_model.specs.declared.reply.Body.TheVariants as body
+use Rattle.session_model.specs.declared.reply.Reply.{Reply}
+use Rattle.thread_core.specs.Following.{reply_of, values_reply}
+use Rattle.papi_calls.specs.Calls as Calls
+use Rattle.papi_calls.specs.Calls.{Made}
+use Rattle.papi_calls.specs.Codes.{coded}
+use Rattle.papi_calls.specs.Libraries.{LibraryView}
+
+-- the call is made as the model's step has it, and its number is that of the step's code
+pub record Answered (old new : LibraryView) (made : Call) (number : ℤ) : Type 0 where
+  pub answer : Reply
+  pub step : Made old new made answer
+  pub code : number ≡ number_of answer.code
+
+-- the same through a handle, where a shut one stays as it is: PAPI_ENOINIT
+abbrev pub Called : Option LibraryView → Option LibraryView → (LibraryView → Call) → ℤ → Type 0
+Called None None made number = number ≡ negsuc 15
+Called (Some old) (Some new) made number = Answered old new (made old) number
+Called old new made number = ⊥
+
+-- the name is no text, PAPI_EINVAL, or memory was refused, PAPI_ENOMEM
+abbrev pub IsUnmade : ℤ → Type 0
+IsUnmade number = (number ≡ negsuc 0) ⊎ (number ≡ negsuc 1)
+
+-- the same of a call on the event that a text names, unless it is not made
+abbrev pub CalledByName : List ℕ → Option LibraryView → Option LibraryView → (Result EventRef Code → Call) → ℤ → Type 0
+CalledByName name old new made number = Called old new (λ l. made (looked_up l.catalog name)) number ⊎ ((new ≡ old) × IsUnmade number)
+
+-- the same of a call on the event of a code
+abbrev pub CalledByCode : ℕ → Option LibraryView → Option LibraryView → (Result EventRef Code → Call) → ℤ → Type 0
+CalledByCode event old new made number = Called old new (λ l. made (coded l.catalog l.mentioned event)) number
+
+-- the values stand at the first places, as far as there is room
+abbrev pub AreGiven : List ℤ → List ℤ → Type 0
+AreGiven values out = (i : ℕ) → i < length values → i < length out → slice_index_or out i (pos 0) ≡ slice_index_or values i (pos 0)
+
+-- the call is made as the model's step has it: the number is that of its code, and its values are given
+pub record Gave (old new : LibraryView) (made : Call) (n : ℤ) (count : ℕ) (out : List ℤ) : Type 0 where
+  pub code : Code
+  pub values : List ℤ
+  pub step : Made old new made (values_reply code values)
+  pub number : n ≡ number_of code
+  pub counted : count ≡ length values
+  pub given : AreGiven values out
+
+-- the same through a handle
+abbrev pub Gives : Option LibraryView → Option LibraryView → Call → ℤ → ℕ → List ℤ → Type 0
+Gives None None made number count out = number ≡ negsuc 15
+Gives (Some old) (Some new) made number count out = Gave old new made number count out
+Gives old new made number count out = ⊥
+
+-- a run leaves the catalog and the native events that were mentioned
+pub record Went (old new : LibraryView) : Type 0 where
+  pub catalog : new.catalog ≡ old.catalog
+  pub mentioned : new.mentioned ≡ old.mentioned
+
+abbrev pub Ran : Option LibraryView → Option LibraryView → ℤ → Type 0
+Ran None None number = number ≡ negsuc 15
+Ran (Some old) (Some new) number = Went old new
+Ran old new number = ⊥

@@ -1,0 +1,97 @@
+//! Handles: what C holds of a library.
+ghost use Rattle.std.specs.Prelude.{◌≡◌, Option, Some, None};
+ghost use Rattle.std.specs.Option.{option_map};
+ghost use Rattle.papi_c.specs.Held.{held};
+ghost use Rattle.papi_calls.specs.Libraries.{LibraryView};
+
+use crate::parts::Parts;
+use papi_calls::Library;
+use std::alloc::Global;
+use std::marker::Model;
+use std::ptr::null_mut;
+
+/// Memory was refused.
+pub(crate) const ENOMEM: i32 = -2;
+
+/// A text or a file is faulty.
+pub(crate) const EINVAL: i32 = -1;
+
+/// The handle has no library.
+pub(crate) const ENOINIT: i32 = -16;
+
+/// What C holds of a library: null where none is open.
+#[repr(C)]
+pub struct Handle {
+    at: *mut u8,
+    alloc: Global,
+    ghost library: { Option LibraryView },
+}
+
+impl Model for Handle {
+    ghost also_owns = { λ h. held h.alloc h.at h.library };
+}
+
+impl Handle {
+    pub(crate) fn shut(alloc: Global) -> Handle
+        ensures { result.library ≡ None }
+    {
+        Handle {
+            at: null_mut(),
+            alloc,
+        }
+    }
+
+    fn of_parts(parts: Parts<Library, Global>) -> Handle
+        ensures { result.library ≡ Some parts.value }
+    {
+        let Parts { ptr, alloc } = parts;
+        Handle {
+            at: ptr as *mut u8,
+            alloc,
+        }
+    }
+
+    fn into_parts(self) -> Option<Parts<Library, Global>>
+        ensures { option_map (λ p. p.value) result ≡ self.library }
+    {
+        let Handle { at, alloc } = self;
+        if at.is_null() {
+            return None;
+        }
+        Some(Parts {
+            ptr: at as *mut Library,
+            alloc,
+        })
+    }
+
+    pub(crate) fn of(library: Box<Library>) -> Handle
+        ensures { result.library ≡ Some library.value }
+    {
+        Handle::of_parts(Parts::of(library))
+    }
+
+    // Takes the library out of a handle.
+    pub(crate) fn take(&mut self, alloc: Global) -> Option<Box<Library>>
+        ensures taken { option_map (λ b. b.value) result ≡ self.old.library }
+        ensures left { self.new.library ≡ None }
+    {
+        std::mem::replace(self, Handle::shut(alloc)).into_box()
+    }
+
+    pub(crate) fn into_box(self) -> Option<Box<Library>>
+        ensures { option_map (λ p. p.value) result ≡ self.library }
+    {
+        match self.into_parts() {
+            Some(parts) => Some(parts.into_box()),
+            None => None,
+        }
+    }
+}
+
+impl Drop for Handle {
+    fn drop(self) {
+        if let Some(library) = self.into_box() {
+            drop(library);
+        }
+    }
+}

@@ -1,0 +1,11 @@
+//! PAPI's low-level calls for C: `papi_calls` behind a handle. `include/kistalub.h` declares what C calls.
+#![tactic(auto)]
+
+mod handle;
+mod named;
+mod numbers;
+mod opened;
+mod opening;
+mod parts;
+mod refusals;
+mod values;

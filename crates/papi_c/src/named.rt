@@ -1,0 +1,72 @@
+//! The calls that take an event by its name.
+ghost use Rattle.papi_c.specs.Called.{CalledByName};
+ghost use Rattle.session_model.specs.declared.call.Call.TheVariants as call;
+
+use crate::handle::{EINVAL, ENOINIT, ENOMEM, Handle};
+use crate::refusals::refusal_code;
+use papi_base::code_number;
+use std::alloc::Global;
+
+/// PAPI_add_named_event(3). PAPI_EINVAL where the name is no UTF-8, and PAPI_ENOMEM; nothing is changed then.
+#[unsafe(no_mangle)]
+pub extern "C" fn kistalub_add_named(alloc: Global, h: &mut Handle, set: u32, name: &[u8]) -> i32
+    ensures { CalledByName name.now h.old.library h.new.library (λ e. call.Add set e) result }
+{
+    let Ok(name) = std::str::from_utf8(name) else {
+        return EINVAL;
+    };
+    let Some(mut library) = h.take(alloc) else {
+        return ENOINIT;
+    };
+    let answer = library.add_named(set, name);
+    *h = Handle::of(library);
+    match answer {
+        Ok(Ok(())) => 0,
+        Ok(Err(refusal)) => code_number(refusal_code(refusal)),
+        Err(_) => ENOMEM,
+    }
+}
+
+/// PAPI_remove_named_event(3). PAPI_EINVAL where the name is no UTF-8, and PAPI_ENOMEM; nothing is changed then.
+#[unsafe(no_mangle)]
+pub extern "C" fn kistalub_remove_named(alloc: Global, h: &mut Handle, set: u32, name: &[u8]) -> i32
+    ensures { CalledByName name.now h.old.library h.new.library (λ e. call.Remove set e) result }
+{
+    let Ok(name) = std::str::from_utf8(name) else {
+        return EINVAL;
+    };
+    let Some(mut library) = h.take(alloc) else {
+        return ENOINIT;
+    };
+    let answer = library.remove_named(set, name);
+    *h = Handle::of(library);
+    match answer {
+        Ok(code) => code_number(code),
+        Err(_) => ENOMEM,
+    }
+}
+
+/// PAPI_overflow(3) of an event by its name, where a threshold of 0 clears it. PAPI_EINVAL where the name is no UTF-8, and PAPI_ENOMEM; nothing is changed then.
+#[unsafe(no_mangle)]
+pub extern "C" fn kistalub_overflow_named(
+    alloc: Global,
+    h: &mut Handle,
+    set: u32,
+    name: &[u8],
+    threshold: u64,
+) -> i32
+    ensures { CalledByName name.now h.old.library h.new.library (λ e. call.Overflow set e threshold) result }
+{
+    let Ok(name) = std::str::from_utf8(name) else {
+        return EINVAL;
+    };
+    let Some(mut library) = h.take(alloc) else {
+        return ENOINIT;
+    };
+    let answer = library.overflow_named(set, name, threshold);
+    *h = Handle::of(library);
+    match answer {
+        Ok(code) => code_number(code),
+        Err(_) => ENOMEM,
+    }
+}

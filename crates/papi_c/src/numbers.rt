@@ -1,0 +1,216 @@
+//! The calls that take numbers and answer a code.
+ghost use Rattle.papi_c.specs.Called.{Called, CalledByCode};
+ghost use Rattle.session_model.specs.declared.call.Call.TheVariants as call;
+
+use crate::handle::{ENOINIT, Handle};
+use crate::refusals::refusal_code;
+use papi_base::code_number;
+use std::alloc::Global;
+
+/// PAPI_register_thread(3).
+#[unsafe(no_mangle)]
+pub extern "C" fn kistalub_register(alloc: Global, h: &mut Handle) -> i32
+    ensures { Called h.old.library h.new.library (λ l. call.Register) result }
+{
+    let Some(mut library) = h.take(alloc) else {
+        return ENOINIT;
+    };
+    let code = library.register();
+    *h = Handle::of(library);
+    code_number(code)
+}
+
+/// PAPI_unregister_thread(3).
+#[unsafe(no_mangle)]
+pub extern "C" fn kistalub_unregister(alloc: Global, h: &mut Handle) -> i32
+    ensures { Called h.old.library h.new.library (λ l. call.Unregister) result }
+{
+    let Some(mut library) = h.take(alloc) else {
+        return ENOINIT;
+    };
+    let code = library.unregister();
+    *h = Handle::of(library);
+    code_number(code)
+}
+
+/// PAPI_destroy_eventset(3).
+#[unsafe(no_mangle)]
+pub extern "C" fn kistalub_destroy(alloc: Global, h: &mut Handle, set: u32) -> i32
+    ensures { Called h.old.library h.new.library (λ l. call.Destroy set) result }
+{
+    let Some(mut library) = h.take(alloc) else {
+        return ENOINIT;
+    };
+    let code = library.destroy(set);
+    *h = Handle::of(library);
+    code_number(code)
+}
+
+/// PAPI_cleanup_eventset(3).
+#[unsafe(no_mangle)]
+pub extern "C" fn kistalub_cleanup(alloc: Global, h: &mut Handle, set: u32) -> i32
+    ensures { Called h.old.library h.new.library (λ l. call.Cleanup set) result }
+{
+    let Some(mut library) = h.take(alloc) else {
+        return ENOINIT;
+    };
+    let code = library.cleanup(set);
+    *h = Handle::of(library);
+    code_number(code)
+}
+
+/// PAPI_assign_eventset_component(3).
+#[unsafe(no_mangle)]
+pub extern "C" fn kistalub_assign_component(
+    alloc: Global,
+    h: &mut Handle,
+    set: u32,
+    comp: u32,
+) -> i32
+    ensures { Called h.old.library h.new.library (λ l. call.AssignComponent set comp) result }
+{
+    let Some(mut library) = h.take(alloc) else {
+        return ENOINIT;
+    };
+    let code = library.assign_component(set, comp);
+    *h = Handle::of(library);
+    code_number(code)
+}
+
+/// PAPI_set_domain(3).
+#[unsafe(no_mangle)]
+pub extern "C" fn kistalub_set_domain(alloc: Global, h: &mut Handle, set: u32, bits: u32) -> i32
+    ensures { Called h.old.library h.new.library (λ l. call.SetDomain set bits) result }
+{
+    let Some(mut library) = h.take(alloc) else {
+        return ENOINIT;
+    };
+    let code = library.set_domain(set, bits);
+    *h = Handle::of(library);
+    code_number(code)
+}
+
+/// PAPI_set_multiplex(3), by slices of so many ticks.
+#[unsafe(no_mangle)]
+pub extern "C" fn kistalub_set_multiplex(alloc: Global, h: &mut Handle, set: u32, slice: u32) -> i32
+    ensures { Called h.old.library h.new.library (λ l. call.SetMultiplex set slice) result }
+{
+    let Some(mut library) = h.take(alloc) else {
+        return ENOINIT;
+    };
+    let code = library.set_multiplex(set, slice);
+    *h = Handle::of(library);
+    code_number(code)
+}
+
+/// PAPI_start(3).
+#[unsafe(no_mangle)]
+pub extern "C" fn kistalub_start(alloc: Global, h: &mut Handle, set: u32) -> i32
+    ensures { Called h.old.library h.new.library (λ l. call.Start set) result }
+{
+    let Some(mut library) = h.take(alloc) else {
+        return ENOINIT;
+    };
+    let code = library.start(set);
+    *h = Handle::of(library);
+    code_number(code)
+}
+
+/// PAPI_reset(3).
+#[unsafe(no_mangle)]
+pub extern "C" fn kistalub_reset(alloc: Global, h: &mut Handle, set: u32) -> i32
+    ensures { Called h.old.library h.new.library (λ l. call.Reset set) result }
+{
+    let Some(mut library) = h.take(alloc) else {
+        return ENOINIT;
+    };
+    let code = library.reset(set);
+    *h = Handle::of(library);
+    code_number(code)
+}
+
+/// PAPI_create_eventset(3). `set` is written where the code is PAPI_OK.
+#[unsafe(no_mangle)]
+pub extern "C" fn kistalub_create(alloc: Global, h: &mut Handle, set: &mut u32) -> i32
+    ensures { Called h.old.library h.new.library (λ l. call.Create) result }
+{
+    let Some(mut library) = h.take(alloc) else {
+        return ENOINIT;
+    };
+    let answer = library.create();
+    *h = Handle::of(library);
+    match answer {
+        Ok(number) => {
+            *set = number;
+            0
+        }
+        Err(code) => code_number(code),
+    }
+}
+
+/// PAPI_state(3). `bits` is written where the code is PAPI_OK.
+#[unsafe(no_mangle)]
+pub extern "C" fn kistalub_state(alloc: Global, h: &mut Handle, set: u32, bits: &mut u32) -> i32
+    ensures { Called h.old.library h.new.library (λ l. call.State set) result }
+{
+    let Some(library) = h.take(alloc) else {
+        return ENOINIT;
+    };
+    let answer = library.state(set);
+    *h = Handle::of(library);
+    match answer {
+        Ok(now) => {
+            *bits = now;
+            0
+        }
+        Err(code) => code_number(code),
+    }
+}
+
+/// PAPI_add_event(3).
+#[unsafe(no_mangle)]
+pub extern "C" fn kistalub_add(alloc: Global, h: &mut Handle, set: u32, event: u32) -> i32
+    ensures { CalledByCode event h.old.library h.new.library (λ e. call.Add set e) result }
+{
+    let Some(mut library) = h.take(alloc) else {
+        return ENOINIT;
+    };
+    let answer = library.add_coded(set, event);
+    *h = Handle::of(library);
+    match answer {
+        Ok(()) => 0,
+        Err(refusal) => code_number(refusal_code(refusal)),
+    }
+}
+
+/// PAPI_remove_event(3).
+#[unsafe(no_mangle)]
+pub extern "C" fn kistalub_remove(alloc: Global, h: &mut Handle, set: u32, event: u32) -> i32
+    ensures { CalledByCode event h.old.library h.new.library (λ e. call.Remove set e) result }
+{
+    let Some(mut library) = h.take(alloc) else {
+        return ENOINIT;
+    };
+    let code = library.remove_coded(set, event);
+    *h = Handle::of(library);
+    code_number(code)
+}
+
+/// PAPI_overflow(3), where a threshold of 0 clears it.
+#[unsafe(no_mangle)]
+pub extern "C" fn kistalub_overflow(
+    alloc: Global,
+    h: &mut Handle,
+    set: u32,
+    event: u32,
+    threshold: u64,
+) -> i32
+    ensures { CalledByCode event h.old.library h.new.library (λ e. call.Overflow set e threshold) result }
+{
+    let Some(mut library) = h.take(alloc) else {
+        return ENOINIT;
+    };
+    let code = library.overflow_coded(set, event, threshold);
+    *h = Handle::of(library);
+    code_number(code)
+}

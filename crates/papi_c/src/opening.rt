@@ -1,0 +1,81 @@
+//! The catalog of a unit, with the presets for a cpu or without any, from the bytes of their files.
+ghost use Rattle.std.specs.Prelude.{◌≡◌, IfOk, OnOk, None};
+ghost use Rattle.component_table.specs.Catalogs as Catalogs;
+ghost use Rattle.event_tables.specs.Unit.{unit_fault, unit_tables};
+ghost use Rattle.papi_c.specs.Opened.{IsOpenedBy, table_of};
+
+use component_table::Catalog;
+use event_tables::{TableFault, Tables, read_unit};
+use papi_calls::Library;
+use preset_csv::{PresetFault, PresetTable, read_presets};
+use std::alloc::{AllocError, Global};
+
+/// Why a library is not opened: a file is faulty, or memory is refused.
+#[derive(Clone, Copy, Debug, PartialEq, Eq)]
+pub(crate) enum OpenFault {
+    Faulty,
+    Memory,
+}
+
+fn tables_of(alloc: Global, unit: &[u8]) -> Result<Tables, OpenFault>
+    ensures faultless { OnOk result (unit_fault unit.now ≡ None) }
+    ensures tables { IfOk result (λ t. t ≡ unit_tables unit.now) }
+{
+    match read_unit(alloc, unit) {
+        Ok(tables) => Ok(tables),
+        Err(TableFault::Memory) => Err(OpenFault::Memory),
+        Err(TableFault::Row { .. }) => Err(OpenFault::Faulty),
+    }
+}
+
+// The presets for a cpu, and none where there is no text of them.
+fn presets_of(alloc: Global, presets: &[u8], cpu: &str) -> Result<Option<PresetTable>, OpenFault>
+    ensures presets { IfOk result (λ t. t ≡ table_of presets.now cpu.now) }
+{
+    if presets.is_empty() {
+        return Ok(None);
+    }
+    match read_presets(alloc, presets, cpu) {
+        Ok(table) => Ok(Some(table)),
+        Err(PresetFault::Memory) => Err(OpenFault::Memory),
+        Err(PresetFault::Row { .. }) => Err(OpenFault::Faulty),
+    }
+}
+
+fn catalog_of(alloc: Global, unit: &[u8], presets: &[u8], cpu: &str) -> Result<Catalog, OpenFault>
+    ensures faultless { OnOk result (unit_fault unit.now ≡ None) }
+    ensures catalog { IfOk result (λ c. c ≡ Catalogs.catalog_of (unit_tables unit.now) (table_of presets.now cpu.now)) }
+{
+    let tables = tables_of(alloc, unit)?;
+    let presets = presets_of(alloc, presets, cpu)?;
+    Catalog::build(alloc, tables, presets).map_err(|_error| OpenFault::Memory)
+}
+
+fn copied(alloc: Global, stream: &[u8]) -> Result<Vec<u8>, AllocError>
+    ensures same { IfOk result (λ bytes. bytes.items ≡ stream.now) }
+{
+    let mut bytes = Vec::new(alloc);
+    bytes.extend_from_slice(stream)?;
+    Ok(bytes)
+}
+
+/// The library of a thread, before any call.
+pub(crate) fn open(
+    alloc: Global,
+    unit: &[u8],
+    presets: &[u8],
+    cpu: &str,
+    thread: u32,
+    stream: &[u8],
+) -> Result<Library, OpenFault>
+    ensures { IfOk result (IsOpenedBy unit.now presets.now cpu.now thread stream.now) }
+{
+    let catalog = catalog_of(alloc, unit, presets, cpu)?;
+    let Ok(stream) = copied(alloc, stream) else {
+        return Err(OpenFault::Memory);
+    };
+    match Library::open(alloc, catalog, thread, stream) {
+        Ok(library) => Ok(library),
+        Err(_) => Err(OpenFault::Memory),
+    }
+}
