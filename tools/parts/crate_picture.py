@@ -7,7 +7,7 @@ from xml.sax.saxutils import escape
 from parts.crate_graph import BOX_WIDTH, Layout, Node, lay_out
 
 MARGIN = 24
-HEADING = 112
+HEADING = 130
 BOX_HEIGHT = 28
 LEVEL = 62  # from one level to the next
 
@@ -21,6 +21,7 @@ GROUPS = {
     "meaning of calls": ("session_model", "session_laws", "session_rows"),
     "threads and workers": (
         "stream_reader", "thread_slots", "thread_core", "thread_session", "parallel_tasks", "thread_registry", "plan_runner",
+        "papi_calls",
     ),
     "scripts, texts, reports": (
         "script_lines", "script_runner", "reply_text", "listing_text", "chooser_list", "soak_input", "profil_hist", "region_report", "tool_words",
@@ -63,7 +64,8 @@ def draw_crates(listed: dict[str, list[str]]) -> str:
         f'<rect class="page" width="{width}" height="{height}" rx="6"/>',
         f'<text class="title" x="{MARGIN}" y="{MARGIN + 12}">The crates, each above all that it stands on</text>',
         f'<text class="quiet" x="{MARGIN}" y="{MARGIN + 32}">A line goes down to a crate that is cited. '
-        f"It is left out where another line leads there too.{' Not drawn: ' + ', '.join(tests) + '.' if tests else ''}</text>",
+        "It is left out where another line leads there too.</text>",
+        f'<text class="quiet" x="{MARGIN}" y="{MARGIN + 50}">{"Not drawn are the tests: " + ", ".join(tests) + "." if tests else ""}</text>',
     ]
     lines += _legend(cited, layout.width)
     lines += [_line(chain, layout) for chain in layout.chains]
@@ -74,7 +76,7 @@ def draw_crates(listed: dict[str, list[str]]) -> str:
 
 def _legend(cited: dict[str, list[str]], width: float) -> list[str]:
     """The groups that are there, in two lines at most."""
-    lines, left, top = [], float(MARGIN), MARGIN + 44
+    lines, left, top = [], float(MARGIN), MARGIN + 62
     for place, (group, names) in enumerate(GROUPS.items()):
         if not set(names) & set(cited):
             continue

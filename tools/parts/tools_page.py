@@ -49,7 +49,7 @@ ERRORS_HEAD = """## Errors
 
 The program writes at most one line on standard error, except for streams: one line for each thread whose runs met a fault. Row numbers count
 the rows of a table without blank lines and without lines that begin with `#`. `tools/preset_lines FILE` turns the row number of an error into the line of the file.
-The first fault in the order of work is named: the words, the unit file, the preset file, the script, the openings of the streams, and then the runs.
+The first fault in the order of work is named: the words, the unit file, the preset file, the map, the script, the openings of the streams, and then the runs.
 """
 
 
