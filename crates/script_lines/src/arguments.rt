@@ -52,8 +52,8 @@ pub(crate) fn nothing(arguments: &[&[u8]]) -> Result<(), ScriptCause>
     }
 }
 
-// One number.
-pub(crate) fn one_number(arguments: &[&[u8]]) -> Result<u32, ScriptCause>
+/// One number of 32 bits.
+pub fn one_number(arguments: &[&[u8]]) -> Result<u32, ScriptCause>
     ensures { result ≡ Arguments.one_number (map (λ w. w.now) arguments.now) }
 {
     match arguments {

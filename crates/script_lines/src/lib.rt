@@ -8,6 +8,9 @@ mod line;
 pub mod script;
 mod words;
 
+pub use arguments::one_number;
 pub use call::ScriptCall;
 pub use fault::{ScriptCause, ScriptFault, cause_text};
+pub use line::{cut_line, is_skipped, thread_in};
 pub use script::{MOST_CALLS, Script, ScriptLine, read_script};
+pub use words::split_words;

@@ -35,8 +35,8 @@ fn newline_in(bytes: &[u8]) -> Option<usize>
     bytes.iter().position(|b| *b == b'\n')
 }
 
-// The first line, and the bytes after its newline.
-pub(crate) fn cut_line(bytes: &[u8]) -> (&[u8], &[u8])
+/// The first line of some bytes, and the bytes after its newline.
+pub fn cut_line(bytes: &[u8]) -> (&[u8], &[u8])
     requires { 0 < length bytes.now }
     ensures line { lines bytes.now ≡ result.0.now ∷ lines result.1.now }
     ensures shorter { length result.1.now < length bytes.now }
@@ -47,15 +47,15 @@ pub(crate) fn cut_line(bytes: &[u8]) -> (&[u8], &[u8])
     }
 }
 
-// Whether a line is passed over: it is empty, or begins with `#`.
-pub(crate) fn is_skipped(line: &[u8]) -> bool
+/// Whether a line is passed over: it is empty, or begins with `#`.
+pub fn is_skipped(line: &[u8]) -> bool
     ensures { result ≡ Lines.is_skipped line.now }
 {
     line.len() == 0 || line[0] == b'#'
 }
 
-// The thread that a word names.
-fn thread_in(word: &[u8]) -> Result<u32, ScriptCause>
+/// The thread that a word names.
+pub fn thread_in(word: &[u8]) -> Result<u32, ScriptCause>
     ensures thread { result ≡ Lines.thread_in word.now }
     ensures below { IfOk result (λ thread. thread < THREADS) }
 {

@@ -7,11 +7,8 @@ use smallvec::SmallVec;
 use std::alloc::{AllocError, Global};
 use table_rows::is_blank;
 
-// The words of a line, of which the first eight take no memory.
-pub(crate) fn split_words<'a>(
-    alloc: Global,
-    line: &'a [u8],
-) -> Result<SmallVec<&'a [u8], 8>, AllocError>
+/// The words of a line, of which the first eight take no memory.
+pub fn split_words<'a>(alloc: Global, line: &'a [u8]) -> Result<SmallVec<&'a [u8], 8>, AllocError>
     ensures { IfOk result (λ v. map (λ w. w.now) v.items ≡ words_of line.entry.now) }
 {
     let mut words = SmallVec::new(alloc);

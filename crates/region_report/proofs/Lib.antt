@@ -1,0 +1,4 @@
+pub mod Counted
+pub mod LinesRead
+pub mod Pieces
+pub mod Stacks

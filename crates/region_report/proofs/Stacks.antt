@@ -1,0 +1,52 @@
+-- The open regions as they are kept.
+use Rattle.std.proofs.Common.{OnOk, Result, Ok, Err, true, false, drop, eq-eqb, slice_set, ◌≡◌, ◌∙◌, ◌<◌, ◌≤◌, ◌+◌, ◌-◌, ◌∷◌, ◌++◌, ℕ, zero, suc, List, [], length, take, map, replicate, sym, ap, refl, arith, get_or, Vec, Global}
+use Rattle.std.proofs.lemmas.List.{drop_all, drop_more, length-map, map-append, map-set, replicate_more}
+use Rattle.std.proofs.lemmas.Bool.{ne_eqb}
+use Rattle.region_report.specs.Lines.{Open, after_call, after_line}
+use Rattle.region_report.specs.Opens.{open_text, stack_text, stacks_text}
+use Rattle.region_report.specs.Scripts.{all_ended}
+use Rattle.region_report.specs.declared.regions.RegionLine.{RegionLine}
+use Rattle.region_report.proofs.Pieces.{at_place}
+use Rattle.region_report.specs.declared.opened.OpenRegion.{OpenRegion}
+
+map-take : {X Y : Type 0} (f : X → Y) (n : ℕ) (xs : List X) → map f (take n xs) ≡ take n (map f xs)
+map-take f zero xs = refl
+map-take f (suc n) [] = refl
+map-take f (suc n) (x ∷ xs) = ap (λ ys. f x ∷ ys) (map-take f n xs)
+
+-- without the innermost
+pub ended : (opens : List OpenRegion) (n : ℕ) → n ≡ length opens → stack_text (take (n - 1) opens) ≡ take (length (stack_text opens) - 1) (stack_text opens)
+ended opens n e = map-take open_text (n - 1) opens ∙ ap (λ k. take (k - 1) (stack_text opens)) (e ∙ sym (length-map opens open_text))
+
+-- no regions of one thread more
+pub none_more : (threads : List (Vec OpenRegion Global)) (t : ℕ) (none : Vec OpenRegion Global) → none.items ≡ [] → stacks_text threads ≡ replicate t [] → stacks_text (threads ++ none ∷ []) ≡ replicate (t + 1) []
+none_more threads t none e so_far =
+    map-append (λ (opens : Vec OpenRegion Global). stack_text opens.items) threads (none ∷ [])
+    ∙ ap (λ (opens : List OpenRegion). stacks_text threads ++ stack_text opens ∷ []) e
+    ∙ ap (λ (all : List (List Open)). all ++ [] ∷ []) so_far ∙ replicate_more t []
+
+here : (threads : List (Vec OpenRegion Global)) (i : ℕ) (x : Vec OpenRegion Global) → i < length threads → x ≡ get_or threads i x → drop i threads ≡ x ∷ drop (i + 1) threads
+here threads i x small is = drop_more threads i x small ∙ ap (λ y. y ∷ drop (i + 1) threads) (sym is)
+
+-- the regions of one thread more
+pub ended_on : (threads : List (Vec OpenRegion Global)) (i : ℕ) (x : Vec OpenRegion Global) → i < length threads → x ≡ get_or threads i x → length x.items ≡ 0 →
+    all_ended (stacks_text (drop i threads)) ≡ all_ended (stacks_text (drop (i + 1) threads))
+ended_on threads i x small is none =
+    ap (λ ts. all_ended (stacks_text ts)) (here threads i x small is) ∙ rw (eq-eqb (length (stack_text x.items)) 0 (length-map x.items open_text ∙ none)) refl
+
+pub not_ended : (threads : List (Vec OpenRegion Global)) (i : ℕ) (x : Vec OpenRegion Global) → i < length threads → x ≡ get_or threads i x → 0 < length x.items → all_ended (stacks_text (drop i threads)) ≡ false
+not_ended threads i x small is some =
+    ap (λ ts. all_ended (stacks_text ts)) (here threads i x small is)
+    ∙ rw (ne_eqb (length (stack_text x.items)) 0 (λ (q : length (stack_text x.items) ≡ 0). omega (arith, q, length-map x.items open_text))) refl
+
+pub all_done : (threads : List (Vec OpenRegion Global)) (i : ℕ) → length threads ≤ i → all_ended (stacks_text (drop i threads)) ≡ true
+all_done threads i past = ap (λ ts. all_ended (stacks_text ts)) (drop_all i threads past)
+
+-- the regions of one thread after a line
+pub set_one : {T E : Type 0} (answer : Result T E) (threads : List (Vec OpenRegion Global)) (line : RegionLine) (old new : Vec OpenRegion Global) → line.thread < length threads → old ≡ get_or threads line.thread old →
+    OnOk answer (stack_text new.items ≡ after_call (stack_text old.items) line line.call) → OnOk answer (stacks_text (slice_set threads line.thread new) ≡ after_line (stacks_text threads) line)
+set_one (Ok value) threads line old new small is e =
+    map-set (λ (v : Vec OpenRegion Global). stack_text v.items) threads line.thread new
+    ∙ ap (λ s. slice_set (stacks_text threads) line.thread s)
+    (e ∙ ap (λ o. after_call o line line.call) (sym (at_place (λ (v : Vec OpenRegion Global). stack_text v.items) threads line.thread old [] small is)))
+set_one (Err error) threads line old new small is e = tt

@@ -1,0 +1,8 @@
+use Rattle.std.proofs.Common.{◌≡◌, ◌++◌, map, string_bytes}
+use Rattle.std.specs.List.{flat_map, range_with_len}
+use Rattle.region_report.specs.Reports.{thread_text}
+use Rattle.region_report.specs.Spans.{span_text}
+use Rattle.region_report.proofs.reports.push_threads.Given as goal
+
+abbrev pub invariant-loop-thread : goal.invariant-loop-thread
+invariant-loop-thread l = string_bytes l.text ≡ string_bytes l.initial.text ++ flat_map (thread_text l.events (map span_text l.spans)) (range_with_len 0 l.thread)

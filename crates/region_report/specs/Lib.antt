@@ -1,0 +1,9 @@
+pub mod Causes
+pub mod Kept
+pub mod Lines
+pub mod Opens
+pub mod Scripts
+pub mod Spans
+pub mod Reports
+pub mod Calls
+pub use Rattle.table_rows.specs.Texts

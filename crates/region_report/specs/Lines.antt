@@ -1,0 +1,123 @@
+-- One line of a region script: this project's own format, docs/FORMATS.md.
+use Rattle.std.specs.Prelude.{◌≡◌, ◌+◌, ◌-◌, ℕ, Bool, true, false, List, [], ◌∷◌, ◌++◌, length, take, Option, Some, None, Result, Ok, Err, codes, if◌then◌else◌, nat_le, slice_get, slice_index_or, slice_set}
+use Rattle.std.specs.Str.{bytes_eq}
+use Rattle.table_rows.specs.Texts.{Text, is_name}
+use Rattle.script_lines.specs.Arguments.{one_number}
+use Rattle.script_lines.specs.Lines.{thread_in}
+use Rattle.script_lines.specs.Words.{words_of}
+use Rattle.script_lines.specs.declared.fault.ScriptCause.{ScriptCause}
+use Rattle.region_report.specs.Causes.{cause_of}
+use Rattle.region_report.specs.declared.fault.LineFault.{LineFault}
+use Rattle.region_report.specs.declared.fault.LineFault.TheVariants as fault
+use Rattle.region_report.specs.declared.fault.RegionCause.{RegionCause}
+use Rattle.region_report.specs.declared.fault.RegionCause.TheVariants.{BadArguments, BadThread, OverLimit, UnknownCall, WrongRegion}
+use Rattle.region_report.specs.declared.regions.RegionCall.{RegionCall}
+use Rattle.region_report.specs.declared.regions.RegionCall.TheVariants as call
+use Rattle.region_report.specs.declared.regions.RegionLine.{RegionLine}
+use Rattle.region_report.specs.declared.regions.TheConstants.{MOST_LINES, MOST_OPEN}
+
+-- ---- the regions that are opens
+
+-- an open region: its name, and which reading is that of its begin, from 0
+pub record Open : Type 0 where
+  pub name : Text
+  pub begun : ℕ
+
+-- the open regions of a thread, the innermost last
+abbrev pub open_of : List (List Open) → ℕ → List Open
+open_of opens thread = slice_index_or opens thread []
+
+abbrev pub innermost : List Open → Option Open
+innermost opens = slice_get opens (length opens - 1)
+
+-- those of a thread after a call of it
+abbrev pub after_call : List Open → RegionLine → RegionCall → List Open
+after_call opens line (call.Begin name) = opens ++ record { name = name; begun = line.begun } ∷ []
+after_call opens line (call.Read name) = opens
+after_call opens line (call.End name) = take (length opens - 1) opens
+after_call opens line (call.Run count) = opens
+
+-- those of all threads after a line
+abbrev pub after_line : List (List Open) → RegionLine → List (List Open)
+after_line opens line = slice_set opens line.thread (after_call (open_of opens line.thread) line line.call)
+
+-- a line at which the counters are read
+abbrev pub reads_call : RegionCall → Bool
+reads_call (call.Begin name) = true
+reads_call (call.Read name) = true
+reads_call (call.End name) = true
+reads_call (call.Run count) = false
+
+abbrev pub is_reading : RegionLine → Bool
+is_reading line = reads_call line.call
+
+abbrev pub after_reading : ℕ → RegionLine → ℕ
+after_reading readings line = if is_reading line then readings + 1 else readings
+
+-- ---- the parts of a line
+
+-- what is read from what was read before
+abbrev pub and_then : {A B : Type 0} → Result A RegionCause → (A → Result B RegionCause) → Result B RegionCause
+and_then (Ok value) next = next value
+and_then (Err cause) next = Err cause
+
+abbrev pub by_script : {A : Type 0} → Result A ScriptCause → Result A RegionCause
+by_script (Ok value) = Ok value
+by_script (Err cause) = Err (cause_of cause)
+
+-- one name
+abbrev pub one_name : List Text → Result Text RegionCause
+one_name (name ∷ []) = if is_name name then Ok name else Err BadArguments
+one_name _ = Err BadArguments
+
+-- the reading at which the innermost open region began, which must have this name
+abbrev pub begun_of : Option Open → Text → Result ℕ RegionCause
+begun_of None name = Err WrongRegion
+begun_of (Some opens) name = if bytes_eq opens.name name then Ok opens.begun else Err WrongRegion
+
+-- ---- the calls of a thread with these open regions, each with the reading at which its region begins or began
+
+abbrev pub begin_call : ℕ → List Open → List Text → Result (RegionCall × ℕ) RegionCause
+begin_call readings opens arguments =
+    if nat_le MOST_OPEN (length opens) then Err OverLimit else and_then (one_name arguments) (λ name. Ok (call.Begin name, readings))
+
+-- a call of the innermost open region
+abbrev pub innermost_call : (Text → RegionCall) → List Open → List Text → Result (RegionCall × ℕ) RegionCause
+innermost_call make opens arguments = and_then (one_name arguments) (λ name. and_then (begun_of (innermost opens) name) (λ begun. Ok (make name, begun)))
+
+abbrev pub run_call : ℕ → List Text → Result (RegionCall × ℕ) RegionCause
+run_call readings arguments = and_then (by_script (one_number arguments)) (λ count. Ok (call.Run count, readings))
+
+abbrev pub call_of : ℕ → List Open → Text → List Text → Result (RegionCall × ℕ) RegionCause
+call_of readings opens word arguments =
+    if bytes_eq word (codes "begin") then begin_call readings opens arguments
+    else if bytes_eq word (codes "read") then innermost_call (λ name. call.Read name) opens arguments
+    else if bytes_eq word (codes "end") then innermost_call (λ name. call.End name) opens arguments
+    else if bytes_eq word (codes "run") then run_call readings arguments
+    else Err UnknownCall
+
+-- ---- a line
+
+abbrev pub line_with : ℕ → ℕ → RegionCall × ℕ → RegionLine
+line_with number thread called = record { line = number; thread = thread; call = called.0; begun = called.1 }
+
+abbrev pub line_of_thread : ℕ → ℕ → List (List Open) → ℕ → List Text → Result RegionLine RegionCause
+line_of_thread number readings opens thread [] = Err UnknownCall
+line_of_thread number readings opens thread (word ∷ arguments) =
+    and_then (call_of readings (open_of opens thread) word arguments) (λ called. Ok (line_with number thread called))
+
+abbrev pub line_of_words : ℕ → ℕ → List (List Open) → List Text → Result RegionLine RegionCause
+line_of_words number readings opens [] = Err BadThread
+line_of_words number readings opens (thread ∷ words) =
+    and_then (by_script (thread_in thread)) (λ thread. line_of_thread number readings opens thread words)
+
+-- the line of a number, after so many lines and readings, where these regions are opens
+unfoldable pub region_line : ℕ → ℕ → ℕ → List (List Open) → Text → Result RegionLine RegionCause
+region_line number above readings opens line =
+    if nat_le MOST_LINES above then Err OverLimit else line_of_words number readings opens (words_of line)
+
+-- The answer where this is read, or refused for its cause. Memory may run out at any line.
+abbrev pub Answers : {A : Type 0} → Result A LineFault → Result A RegionCause → Type 0
+Answers (Ok value) read = read ≡ Ok value
+Answers (Err (fault.Cause cause)) read = read ≡ Err cause
+Answers (Err fault.Memory) read = Unit {0}

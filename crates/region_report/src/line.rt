@@ -1,0 +1,121 @@
+//! One line of a region script.
+
+ghost use Rattle.std.specs.Prelude.{◌≡◌, ◌<◌, IfOk, map, option_map};
+ghost use Rattle.papi_base.specs.declared.limits.TheConstants.{THREADS};
+ghost use Rattle.region_report.specs.Lines as Lines;
+ghost use Rattle.region_report.specs.Lines.{Answers, open_of};
+ghost use Rattle.region_report.specs.Opens.{open_text};
+
+use crate::fault::{LineFault, RegionCause};
+use crate::opened::{OpenRegion, OpenRegions};
+use crate::regions::{MOST_LINES, MOST_OPEN, RegionCall, RegionLine};
+use papi_base::Text;
+use script_lines::{one_number, split_words, thread_in};
+use std::alloc::Global;
+use table_rows::name_text;
+
+// The one name of these arguments.
+fn one_name(alloc: Global, arguments: &[&[u8]]) -> Result<Text, LineFault>
+    ensures { Answers result (Lines.one_name (map (λ w. w.now) arguments.now)) }
+{
+    let [name] = arguments else {
+        return Err(LineFault::Cause(RegionCause::BadArguments));
+    };
+    match name_text(*name) {
+        Some(name) => Ok(Text::copy_of(alloc, name)?),
+        None => Err(LineFault::Cause(RegionCause::BadArguments)),
+    }
+}
+
+// The reading at which the innermost open region began, which must have this name.
+fn begun_of(opens: Option<&OpenRegion>, name: &Text) -> Result<usize, LineFault>
+    ensures { Answers result (Lines.begun_of (option_map (λ o. open_text o.now) opens.entry) name.now) }
+{
+    match opens {
+        Some(opens) if opens.name.as_str() == name.as_str() => Ok(opens.begun),
+        _ => Err(LineFault::Cause(RegionCause::WrongRegion)),
+    }
+}
+
+// The call of a word and its arguments, and the reading at which its region begins or began.
+fn call_of(
+    alloc: Global,
+    readings: usize,
+    opens: &OpenRegions,
+    thread: u32,
+    word: &[u8],
+    arguments: &[&[u8]],
+) -> Result<(RegionCall, usize), LineFault>
+    requires { thread < THREADS }
+    ensures { Answers result (Lines.call_of readings (open_of opens.now thread) word.now (map (λ w. w.now) arguments.now)) }
+{
+    if word == b"begin".as_slice() {
+        if opens.count(thread) >= MOST_OPEN {
+            return Err(LineFault::Cause(RegionCause::OverLimit));
+        }
+        let name = one_name(alloc, arguments)?;
+        return Ok((RegionCall::Begin { name }, readings));
+    }
+    if word == b"read".as_slice() {
+        let name = one_name(alloc, arguments)?;
+        let begun = begun_of(opens.innermost(thread), &name)?;
+        return Ok((RegionCall::Read { name }, begun));
+    }
+    if word == b"end".as_slice() {
+        let name = one_name(alloc, arguments)?;
+        let begun = begun_of(opens.innermost(thread), &name)?;
+        return Ok((RegionCall::End { name }, begun));
+    }
+    if word == b"run".as_slice() {
+        let count = one_number(arguments)?;
+        return Ok((RegionCall::Run { count }, readings));
+    }
+    Err(LineFault::Cause(RegionCause::UnknownCall))
+}
+
+// The line of some words.
+fn line_of_words(
+    alloc: Global,
+    number: u64,
+    readings: usize,
+    opens: &OpenRegions,
+    words: &[&[u8]],
+) -> Result<RegionLine, LineFault>
+    ensures line { Answers result (Lines.line_of_words number readings opens.now (map (λ w. w.now) words.now)) }
+    ensures thread { IfOk result (λ line. line.thread < THREADS) }
+{
+    let [thread, words @ ..] = words else {
+        return Err(LineFault::Cause(RegionCause::BadThread));
+    };
+    let thread = thread_in(*thread)?;
+    let [word, arguments @ ..] = words else {
+        return Err(LineFault::Cause(RegionCause::UnknownCall));
+    };
+    let (call, begun) = call_of(alloc, readings, opens, thread, *word, arguments)?;
+    Ok(RegionLine {
+        line: number,
+        thread,
+        call,
+        begun,
+    })
+}
+
+// The line of this number, after so many lines and readings, where these regions are open.
+#[tactic(auto, unfolding(crate::specs::Lines::region_line))]
+pub(crate) fn region_line(
+    alloc: Global,
+    number: u64,
+    above: usize,
+    readings: usize,
+    opens: &OpenRegions,
+    line: &[u8],
+) -> Result<RegionLine, LineFault>
+    ensures line { Answers result (Lines.region_line number above readings opens.now line.now) }
+    ensures few { IfOk result (λ line. (above < MOST_LINES) × (line.thread < THREADS)) }
+{
+    if above >= MOST_LINES {
+        return Err(LineFault::Cause(RegionCause::OverLimit));
+    }
+    let words = split_words(alloc, line)?;
+    line_of_words(alloc, number, readings, opens, words.as_slice())
+}

@@ -1,0 +1,104 @@
+//! The script of calls that a region script stands for.
+
+ghost use Rattle.std.specs.Prelude.{◌≡◌, ◌++◌, IfOk, OnOk, string_bytes};
+ghost use Rattle.std.specs.List.{flat_map, range_with_len};
+ghost use Rattle.papi_base.specs.declared.limits.TheConstants.{THREADS};
+ghost use Rattle.region_report.specs.Calls as Calls;
+ghost use Rattle.region_report.specs.Calls.{add_text, call_text, has_lines, line_text, opening, thread_opening};
+
+use crate::regions::{RegionCall, RegionLine, Regions};
+use papi_base::{THREADS, Text};
+use std::alloc::{AllocError, Global};
+use std::fmt::Write;
+
+fn push_call(text: &mut String, thread: u32, words: &str) -> Result<(), AllocError>
+    ensures { OnOk result (string_bytes text.new ≡ string_bytes text.old ++ call_text thread words.now) }
+{
+    writeln!(text, "{thread} {words}")
+}
+
+// Appends the adds of the events.
+fn push_adds(text: &mut String, thread: u32, events: &[Text]) -> Result<(), AllocError>
+    ensures { OnOk result (string_bytes text.new ≡ string_bytes text.old ++ flat_map (add_text thread) events.now) }
+{
+    for event in events {
+        writeln!(text, "{thread} add 0 {event}")?;
+    }
+    Ok(())
+}
+
+// Appends the calls that make a set of the events and start it.
+fn push_opening(text: &mut String, thread: u32, events: &[Text]) -> Result<(), AllocError>
+    ensures { OnOk result (string_bytes text.new ≡ string_bytes text.old ++ opening events.now thread) }
+{
+    push_call(text, thread, "create")?;
+    push_adds(text, thread, events)?;
+    push_call(text, thread, "start 0")
+}
+
+// Whether a thread has lines.
+fn has_lines(lines: &[RegionLine], thread: u32) -> bool
+    ensures { result ≡ has_lines lines.now thread }
+{
+    lines.iter().any(|l| l.thread == thread)
+}
+
+// Appends the opening of a thread, where it has lines.
+fn push_thread(
+    text: &mut String,
+    lines: &[RegionLine],
+    events: &[Text],
+    thread: u32,
+) -> Result<(), AllocError>
+    ensures { OnOk result (string_bytes text.new ≡ string_bytes text.old ++ thread_opening lines.now events.now thread) }
+{
+    if has_lines(lines, thread) {
+        push_opening(text, thread, events)
+    } else {
+        Ok(())
+    }
+}
+
+// Appends the openings of the threads that have lines.
+fn push_openings(text: &mut String, lines: &[RegionLine], events: &[Text]) -> Result<(), AllocError>
+    ensures { OnOk result (string_bytes text.new ≡ string_bytes text.old ++ flat_map (thread_opening lines.now events.now) (range_with_len 0 THREADS)) }
+{
+    for thread in 0..THREADS {
+        push_thread(text, lines, events, thread)?;
+    }
+    Ok(())
+}
+
+// Appends the call of a line.
+fn push_line(text: &mut String, line: &RegionLine) -> Result<(), AllocError>
+    ensures { OnOk result (string_bytes text.new ≡ string_bytes text.old ++ line_text line.now) }
+{
+    let thread = line.thread;
+    match &line.call {
+        RegionCall::Run { count } => writeln!(text, "{thread} run {count}"),
+        _ => push_call(text, thread, "read 0"),
+    }
+}
+
+// Appends the calls of all lines.
+fn push_lines(text: &mut String, lines: &[RegionLine]) -> Result<(), AllocError>
+    ensures { OnOk result (string_bytes text.new ≡ string_bytes text.old ++ flat_map line_text lines.now) }
+{
+    for line in lines {
+        push_line(text, line)?;
+    }
+    Ok(())
+}
+
+/// The script of calls that a region script stands for: each thread that has lines makes a set of the events and starts it, each line that
+/// begins, reads or ends a region reads it, and the other lines run.
+#[tactic(auto, unfolding(crate::specs::Calls::script_text))]
+pub fn script_of(alloc: Global, regions: &Regions, events: &[Text]) -> Result<String, AllocError>
+    ensures { IfOk result (λ text. string_bytes text ≡ Calls.script_text regions.now events.now) }
+{
+    let mut text = String::new(alloc);
+    let lines = regions.lines();
+    push_openings(&mut text, lines, events)?;
+    push_lines(&mut text, lines)?;
+    Ok(text)
+}
