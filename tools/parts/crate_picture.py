@@ -26,7 +26,7 @@ GROUPS = {
     "scripts, texts, reports": (
         "script_lines", "script_runner", "reply_text", "listing_text", "chooser_list", "soak_input", "profil_hist", "region_report", "tool_words",
     ),
-    "program": ("papi_tools", "papi"),
+    "program": ("papi_tools", "papi", "papi_c"),
 }
 TESTS = ("table_tests", "counting_tests", "script_tests", "tool_tests", "worked_rows")  # these are not drawn
 LIGHT = ("#e8eaed", "#d6e6f5", "#d9efd8", "#f6e3c5", "#e6dcf3", "#d3eeea", "#f6d7d4")
