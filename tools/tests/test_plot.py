@@ -8,7 +8,7 @@ from xml.etree import ElementTree
 from parts.chart import MOST_BARS
 from parts.command import Fault
 from parts.profile import Bucket, read_profile
-from tests.support import run_tool
+from tests.support import ROOT, run_tool
 
 # The first worked example of papi_profil, and one with more in it.
 SMALL = "range init 0\nrange loop 1\n0x4 1\noutside 1\ntotal 2\n"
@@ -77,3 +77,8 @@ class Picture(unittest.TestCase):
         self.assertEqual(done.stderr, "plot: standard input: line 1: not a line of papi_profil's output\n")
         self.assertEqual(run_tool("plot", "file").returncode, 2)
         self.assertEqual(run_tool("plot", "--help").returncode, 0)
+
+    def test_the_picture_of_the_readme(self) -> None:
+        folder = ROOT / "examples/profile"
+        title = "Cache misses of product.c, one overflow every 256"
+        self.assertEqual(self.draw((folder / "product.profile").read_text(), "--title", title), (folder / "product.svg").read_text())
