@@ -30,6 +30,7 @@ impl<S: Source> Session<S> {
         ensures faults { FaultsKept (fault_count self.old.reader) (fault_count self.new.reader) }
         ensures faulty { IfOk result (λ ran. ran.ended ≡ ended.Fault → FaultsRose (fault_count self.old.reader) (fault_count self.new.reader)) }
     {
+        // The book is read by contracts alone.
         let _book = book;
         let thread = self.core.thread();
         let mut consumed = 0;

@@ -40,7 +40,8 @@ fn register_of(units: &[Unit], slot: &Slot, c: u32) -> Result<u64, Code>
     }
 }
 
-/// The same for the set under a number.
+/// The register of a counter, for the set under a number: ENOEVST where there is none, ENOTRUN where it does not run, EINVAL
+/// where its component lacks the counter or none of its native events is on it, ECOMBO where they take turns.
 pub fn register_under(slots: &[Option<Slot>], units: &[Unit], set: u32, c: u32) -> Result<u64, Code>
     ensures { result ≡ register_under units.now (at slots.now set) c }
 {

@@ -22,7 +22,7 @@ fn values_at(slot: &Slot, units: &Vec<Unit>, book: &PresetBook, time: u64) -> Va
     values_of(book, &slot.set, &numbers)
 }
 
-/// The same of what is in a place.
+/// The values of the set in a place, and none where there is no set.
 fn values_in(place: &Option<Slot>, units: &Vec<Unit>, book: &PresetBook, time: u64) -> Values
     requires { (slot : Slot) → place.now ≡ Some slot → IsTellable book.now units.now.items time slot }
     ensures { (slot : Slot) → place.now ≡ Some slot → result ≡ values_shown book.now units.now.items time slot }
@@ -72,7 +72,7 @@ fn assigned_of(slot: &Slot) -> Assigned
     }
 }
 
-/// The same of the set under a number.
+/// The native events, each with its counter, of the set under a number, and none where there is no set.
 pub fn assigned_under(slots: &[Option<Slot>], set: u32) -> Assigned
     ensures { (slot : Slot)
         → at slots.now set ≡ Some slot → slot.set.rest.slice ≡ None

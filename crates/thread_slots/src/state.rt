@@ -19,7 +19,7 @@ fn bits_of(slot: &Slot) -> u32
     u32::from(state.0)
 }
 
-/// The same of the set under a number.
+/// The bits of the state of the set under a number, and 0 where there is none.
 pub fn bits_under(slots: &[Option<Slot>], set: u32) -> u32
     ensures { (slot : Slot) → at slots.now set ≡ Some slot → result ≡ state_bits slot.running slot.set.rest }
 {
