@@ -6,7 +6,6 @@ use Rattle.std.proofs.lemmas.Bool.Decides.{nat_tests}
 use Rattle.std.specs.Option.{option_and_then}
 use Rattle.std.proofs.lemmas.List.{length-replicate}
 use Rattle.std.proofs.lemmas.Option.{get_or_from_slice_get}
-use Rattle.papi_base.specs.declared.native.Native.{Native}
 use Rattle.counter_unit.specs.declared.registers.Register.{Register}
 use Rattle.counter_unit.specs.Counting.{UnitView, at_place, banked, beginning, period, register_at}
 use Rattle.counter_unit.proofs.Counts.{bank_and_register}
@@ -19,7 +18,6 @@ use Rattle.session_model.specs.Counts.{count}
 use Rattle.session_model.specs.Faces.{faces_of}
 use Rattle.session_model.specs.Registers.{threshold_among}
 use Rattle.thread_slots.specs.declared.pins.Pin.{Pin}
-use Rattle.thread_slots.specs.declared.slot.Slot.{Slot}
 use Rattle.thread_slots.specs.Pinned.{ArePinned, bank_of, pins_of}
 use Rattle.thread_slots.specs.Slots.{running_slot, slot_of}
 use Rattle.thread_slots.specs.Units.{owner_from, registers_by, running_registers, unit_at}
@@ -27,7 +25,7 @@ use Rattle.thread_slots.proofs.Lists.{get-map_some, get_at, some-at}
 use Rattle.thread_slots.proofs.Placing.{get-pins_from, pin_made, pinned}
 use Rattle.thread_slots.proofs.Programs.{programs-at, programs-other}
 use Rattle.thread_core.specs.CoreView.{CoreView}
-use Rattle.thread_core.specs.Registers.{CountsOn, EachIsCounted, IsCounted, IsOn, NoOtherIsProgrammed, NothingIsProgrammed, programmed, reg, start}
+use Rattle.thread_core.specs.Registers.{CountsOn, EachIsCounted, NoOtherIsProgrammed, NothingIsProgrammed, programmed, reg, start}
 use Rattle.thread_core.specs.Stands.{CoreStands}
 use Rattle.thread_core.proofs.Extending.{slot_at}
 use Rattle.thread_core.proofs.Occurring.{get-units}

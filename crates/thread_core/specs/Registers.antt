@@ -1,6 +1,6 @@
 -- What the registers of a thread's units and the banks beside them are, for each account that the core stands for: the
 -- counters of Intel's manual, PAPI_overflow(3).
-use Rattle.std.specs.Prelude.{ℕ, zero, suc, ◌+◌, ◌-◌, ◌^◌, ◌%◌, ◌≡◌, true, List, slice_get, slice_index, Option, Some, None}
+use Rattle.std.specs.Prelude.{ℕ, zero, suc, ◌+◌, ◌-◌, ◌^◌, ◌%◌, ◌≡◌, true, slice_get, slice_index, Option, Some, None}
 use Rattle.std.specs.Option.{option_and_then}
 use Rattle.papi_base.specs.declared.native.Native.{Native}
 use Rattle.counter_unit.specs.declared.registers.Register.{Register}
