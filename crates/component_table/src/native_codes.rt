@@ -77,7 +77,7 @@ impl NativeCodes {
         }
     }
 
-    /// The native event of a code, among the first so many that were mentioned, and `None` where it is none of them.
+    /// The native event of a code, among the first so many that were mentioned, and `None` where it is not one of them.
     ///
     /// Source: PAPI_event_code_to_name(3).
     pub fn native_of(&self, code: u32, first: u32) -> Option<Native>

@@ -9,7 +9,7 @@ use Rattle.papi_base.specs.declared.native.Mods.{Mods}
 use Rattle.papi_base.specs.declared.native.Native.{Native}
 use Rattle.name_encoder.specs.Names.{names}
 
--- the names of the umasks whose bits are set, each behind a colon
+-- the names of the umasks whose bits are set, each after a colon
 unfoldable pub masks_text : ℕ → List MaskText → Text
 masks_text bits [] = []
 masks_text bits (m ∷ rest) = (if bits % 2 == 1 then 58 ∷ m.name else []) ++ masks_text (bits / 2) rest

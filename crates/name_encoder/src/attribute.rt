@@ -245,7 +245,7 @@ impl Given {
     }
 }
 
-// What stands before the first `=`, and what behind it.
+// What stands before the first `=`, and what after it.
 #[tactic(auto, unfolding(crate::specs::Split::attribute_of))]
 fn name_and_value(attribute: &[u8]) -> (&[u8], Option<&[u8]>)
     ensures { Split.attribute result.0.now (text_of result.1) ≡ Split.attribute_of attribute.now }

@@ -19,7 +19,7 @@ fn push_if(name: &mut String, on: bool, text: &str) -> Result<(), AllocError>
     Ok(())
 }
 
-// A umask behind a colon, where its bit is set.
+// A umask after a colon, where its bit is set.
 fn push_mask(name: &mut String, on: bool, mask: &str) -> Result<(), AllocError>
     ensures { OnOk result (string_bytes name.new ≡ string_bytes name.old ++ (if on then 58 ∷ mask.now else [])) }
 {

@@ -14,7 +14,7 @@ pub struct Parts<'t> {
     pub attributes: Option<&'t [u8]>,
 }
 
-/// What stands before the first place of the mark, and behind it.
+/// What stands before the first place of the mark, and after it.
 pub fn cut_at<'t>(text: &'t [u8], mark: &[u8]) -> Option<(&'t [u8], &'t [u8])>
     ensures { option_map (λ p. (p.0.now, p.1.now)) result ≡ Split.cut_at mark.now text.now }
 {

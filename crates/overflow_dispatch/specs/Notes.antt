@@ -30,7 +30,7 @@ pub record EachGrown (before after : List (List Note)) : Type 0 where
   pub same_length : length after ≡ length before
   pub grown : (t : ℕ) → t < length before → Grown (slice_index_or before t []) (slice_index_or after t [])
 
--- the notes of several lists behind so many of each, list by list
+-- the notes of several lists after so many of each, list by list
 abbrev pub told_since : List ℕ → List (List Note) → List Note
 told_since [] lists = []
 told_since (k ∷ ks) [] = []

@@ -50,7 +50,7 @@ fn add_from(
     Ok(())
 }
 
-/// The notes that the handlers have taken behind so many each, handler by handler.
+/// The notes that the handlers have taken after so many each, handler by handler.
 pub fn notes_since(
     alloc: Global,
     handlers: &Vec<Box<dyn Handler + Send>>,

@@ -18,7 +18,7 @@ use std::marker::Sync;
 use std::process::ExitCode;
 use std::thread::Threads;
 
-// The words after the program's name. Words that are no text are none.
+// The words after the program's name. Words that are not UTF-8 count as no words at all.
 fn words(rt: &HostRuntime) -> Result<Vec<String>, AllocError> {
     let mut words = Vec::new(rt.alloc());
     match env::args(rt) {

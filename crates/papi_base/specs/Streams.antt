@@ -9,7 +9,7 @@ pub data Mark : Type 0 where
   Bad : ℕ → LineCause → Mark
   Fault : Mark
 
--- the occurrences to come, and how the stream ends behind them
+-- the occurrences to come, and how the stream ends after them
 pub record Coming : Type 0 where
   pub rest : List Occ
   pub mark : Mark

@@ -5,7 +5,7 @@ ghost use Rattle.papi_base.specs.Outside.{Tape, Gives, Rose, tape_after, appende
 
 use thiserror::Error;
 
-/// How a tape ends behind its last byte.
+/// How a tape ends after its last byte.
 #[derive(Clone, Copy, Debug, PartialEq, Eq)]
 pub enum Ending {
     /// The end of the file.

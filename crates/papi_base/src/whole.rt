@@ -56,7 +56,7 @@ pub fn read_whole<S: Source>(
     Err(WholeFault::TooLarge)
 }
 
-/// Writes all the bytes in order. After an error the first part of them is written.
+/// Writes all the bytes in order. After an error a prefix of them is written.
 pub fn write_whole<K: Sink>(sink: &mut K, bytes: &[u8]) -> Result<(), WriteFail>
     ensures ok { OnOk result (K.taken sink.new ≡ appended (K.taken sink.old) bytes.now) }
     ensures part { OnErr result ((k : ℕ) × (k ≤ length bytes.now) × (K.taken sink.new ≡ appended (K.taken sink.old) (take k bytes.now))) }

@@ -1,4 +1,4 @@
-//! PAPI's low-level calls for C: `papi_calls` behind a handle. `include/kistalub.h` declares what C calls.
+//! PAPI's low-level calls for C: `papi_calls` through a handle. `include/kistalub.h` declares what C calls.
 #![tactic(auto)]
 
 mod handle;

@@ -76,7 +76,7 @@ impl Library {
         }
     }
 
-    /// The name of the event of a code, a symbol or a canonical name: PAPI_event_code_to_name(3). The `Err` is want of memory.
+    /// The name of the event of a code, a symbol or a canonical name: PAPI_event_code_to_name(3). The `Err` is that memory ran out.
     pub fn name_of(&self, alloc: Global, code: u32) -> Result<Result<String, Code>, AllocError>
         ensures name { IfOk result (λ name. map_ok string_bytes name ≡ map_ok (event_name self.now.catalog) (event_coded self.now.mentioned code)) }
     {

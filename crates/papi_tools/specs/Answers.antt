@@ -18,5 +18,6 @@ IsExpected value expected = expected ≡ Ok value
 abbrev pub IsTold : {A B : Type 0} → (A → Option B) → A → Result B Refusal → Type 0
 IsTold told value expected = IsOkAnd expected (λ e. told value ≡ Some e)
 
+-- the answer is the expected value or refusal, or memory ran out
 abbrev pub Answers : {A : Type 0} → Result A Stop → Result A Refusal → Type 0
 Answers answer expected = AnswersBy IsExpected answer expected

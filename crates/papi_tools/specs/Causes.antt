@@ -46,5 +46,6 @@ CauseFor outcome.No command before after said = Unit {0}
 CauseFor outcome.Refused command before after said = IsRefusal command before after said ⊎ MetBad said
 CauseFor outcome.ReadFault command before after said = Rose before.faults after.faults
 
+-- what is said has its cause in the words or in the counts of the files
 abbrev pub IsCaused : Option Command → FilesSeen → FilesSeen → Said → Type 0
 IsCaused command before after said = CauseFor said.outcome command before after said

@@ -24,6 +24,7 @@ shown_of true tables presets = available_only (book_of tables presets.rows) pres
 unfoldable pub shown_in : DecodeWords → List ComponentText → List ℕ → Result TableView Refusal
 shown_in words tables bytes = and_then (presets_of words.presets bytes) (λ presets. Ok (shown_of words.available tables presets))
 
+-- the presets as a preset file, and yes
 abbrev pub decoded_said : TableView → Said
 decoded_said presets = text_said true (table_text presets)
 

@@ -10,10 +10,12 @@ use Rattle.papi_tools.specs.declared.said.Said.{Said}
 use Rattle.papi_tools.specs.declared.status.Outcome.{Outcome}
 use Rattle.papi_tools.specs.declared.status.Outcome.TheVariants as outcome
 
+-- the mark is a read that failed
 abbrev pub is_fault : Option Ended → Bool
 is_fault (Some Fault) = true
 is_fault m = false
 
+-- the mark is a bad line
 abbrev pub is_bad : Option Ended → Bool
 is_bad (Some (Bad line cause)) = true
 is_bad m = false

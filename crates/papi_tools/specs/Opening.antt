@@ -7,6 +7,7 @@ use Rattle.papi_tools.specs.Steps.{and_then}
 use Rattle.papi_tools.specs.declared.refusal.Refusal.{Refusal}
 use Rattle.papi_tools.specs.declared.refusal.Refusal.TheVariants.{NoSuchFile, CannotRead, TooLarge}
 
+-- the tape that was found under a name, or the refusal of a name that has none
 abbrev pub found : List ℕ → Option Tape → Result Tape Refusal
 found name None = Err (NoSuchFile name)
 found name (Some tape) = Ok tape
@@ -15,6 +16,7 @@ found name (Some tape) = Ok tape
 abbrev pub tape_under : Held → List ℕ → Result Tape Refusal
 tape_under held name = if fails_next held then Err (CannotRead name) else found name (tape_of held.tapes name)
 
+-- the bytes of a tape that ended well, or the refusal of a read that failed
 abbrev pub bytes_until : List ℕ → List ℕ → Ending → Result (List ℕ) Refusal
 bytes_until name bytes End = Ok bytes
 bytes_until name bytes Fault = Err (CannotRead name)

@@ -4,6 +4,7 @@ use Rattle.script_runner.specs.Replies.{notes_text, reply_text}
 use Rattle.papi_tools.specs.declared.output.Content.{Content}
 use Rattle.papi_tools.specs.declared.output.Content.TheVariants.{Text, Replies}
 
+-- a text, or the replies and the notes after them as text
 abbrev pub content_bytes : Content → List ℕ
 content_bytes (Text text) = text
 content_bytes (Replies lines catalog shown) = reply_text catalog lines.items ++ notes_text shown.items

@@ -24,6 +24,7 @@ presets_of words bytes = presets_unless words.file (preset_fault words.cpu bytes
 unfoldable pub presets_under : Held → PresetWords → Result TableView Refusal
 presets_under held words = and_then (file_bytes TABLE_BYTES held words.file) (presets_of words)
 
+-- presets that were asked for
 abbrev pub some_presets : TableView → Result (Option TableView) Refusal
 some_presets presets = Ok (Some presets)
 

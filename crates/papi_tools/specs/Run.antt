@@ -28,6 +28,7 @@ abbrev pub shown_notes : Bool → List (List Note) → List Note
 shown_notes false notes = []
 shown_notes true notes = flat_map (λ ns. ns) notes
 
+-- what a run comes to, with the notes shown where they are wanted
 unfoldable pub ran_verdict : Bool → Given → Verdict
 ran_verdict wanted given = record {
   said = run_said given.catalog (ran_replies given) (marks_in (ran_replies given)) (shown_notes wanted (ran_notes given));

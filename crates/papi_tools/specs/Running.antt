@@ -27,9 +27,11 @@ pub record IsGiven (catalog : CatalogView) (script : List ScriptLine) (readers :
 abbrev pub told_in : Given → List Told
 told_in given = world_told (setting_of given.catalog) (lines_of given.catalog given.script) given.streams
 
+-- the reply to each line of the script, in its order
 unfoldable pub ran_replies : Given → List ReplyLine
 ran_replies given = reply_lines_of given.script (told_in given)
 
+-- the notes of each thread, in order
 unfoldable pub ran_notes : Given → List (List Note)
 ran_notes given = notes_by_thread (told_in given)
 

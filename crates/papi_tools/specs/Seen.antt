@@ -9,6 +9,7 @@ pub record FilesSeen : Type 0 where
   pub faults : ℕ
   pub lent : ℕ
 
+-- by what a type of files says of a value
 abbrev pub files_seen : {F : Type 0} → (F → Option Held) → (F → ℕ) → (F → ℕ) → (F → ℕ) → F → FilesSeen
 files_seen held misses faults lent files = record { held = held files; misses = misses files; faults = faults files; lent = lent files }
 
@@ -17,5 +18,6 @@ pub record SinkSeen : Type 0 where
   pub taken : Option (List ℕ)
   pub faults : ℕ
 
+-- by what a type of sink says of a value
 abbrev pub sink_seen : {K : Type 0} → (K → Option (List ℕ)) → (K → ℕ) → K → SinkSeen
 sink_seen taken faults sink = record { taken = taken sink; faults = faults sink }

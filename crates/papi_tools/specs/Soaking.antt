@@ -30,6 +30,7 @@ use Rattle.papi_tools.specs.declared.said.Said.{Said}
 
 -- ---- what is run
 
+-- the stream of a thread, which ends without a fault
 abbrev pub soak_tape : ℕ → ℕ → Tape
 soak_tape rounds thread = record { bytes = stream_text rounds thread; ending = End }
 
@@ -46,10 +47,12 @@ soak_given rounds =
 
 -- ---- what is said of it
 
+-- the values that a reply has, and none where it has other results
 abbrev pub values_of : Body → List ℤ
 values_of (Values values) = values
 values_of _ = []
 
+-- the call is `stop`
 abbrev pub is_stop : CallName → Bool
 is_stop Stop = true
 is_stop _ = false
@@ -58,6 +61,7 @@ is_stop _ = false
 abbrev pub stops : ℕ → ReplyLine → Bool
 stops thread line = (line.thread == thread) && is_stop line.word
 
+-- the values of a reply line, where there is one
 abbrev pub values_at : Option ReplyLine → List ℤ
 values_at None = []
 values_at (Some line) = values_of line.reply.body
@@ -66,9 +70,11 @@ values_at (Some line) = values_of line.reply.body
 abbrev pub stop_values : List ReplyLine → ℕ → List ℤ
 stop_values lines thread = values_at (find (stops thread) lines)
 
+-- the values of a thread's `stop`, and how many notes it has
 abbrev pub thread_total : List ReplyLine → List (List Note) → ℕ → ThreadTotal
 thread_total lines notes thread = record { values = stop_values lines thread; notes = length (slice_index_or notes thread []) }
 
+-- the same of each thread of a soak
 abbrev pub thread_totals : List ReplyLine → List (List Note) → List ThreadTotal
 thread_totals lines notes = map (thread_total lines notes) (range_with_len 0 SOAK_THREADS)
 
@@ -76,6 +82,7 @@ thread_totals lines notes = map (thread_total lines notes) (range_with_len 0 SOA
 abbrev pub summary_said : List ThreadTotal → ℕ → Said
 summary_said totals replies = text_said true (summary_text totals replies)
 
+-- what a soak comes to
 unfoldable pub soaked : Given → Verdict
 soaked given = record { said = summary_said (thread_totals (ran_replies given) (ran_notes given)) (length (ran_replies given)); notes = ran_notes given }
 
@@ -89,5 +96,6 @@ soak_verdict words = and_then (soak_given words.rounds) (λ given. Ok (soaked gi
 abbrev pub total_between : List ReplyLine → List ℕ → List ℕ → ℕ → ThreadTotal
 total_between lines before after thread = record { values = stop_values lines thread; notes = slice_index after thread - slice_index before thread }
 
+-- the same of each thread of a soak, by the numbers of notes
 abbrev pub totals_between : List ReplyLine → List ℕ → List ℕ → List ThreadTotal
 totals_between lines before after = map (total_between lines before after) (range_with_len 0 SOAK_THREADS)

@@ -5,6 +5,7 @@ use Rattle.papi_tools.specs.declared.status.Status.TheVariants.{Whole, No, Refus
 use Rattle.papi_tools.specs.declared.status.Outcome.{Outcome}
 use Rattle.papi_tools.specs.declared.status.Outcome.TheVariants as outcome
 
+-- the number with which the program ends
 abbrev pub number_of : Status → ℕ
 number_of Whole = 0
 number_of No = 1

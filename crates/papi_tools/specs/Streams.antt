@@ -14,6 +14,7 @@ use Rattle.papi_tools.specs.declared.refusal.Refusal.{Refusal}
 abbrev pub stream_of : Tape → Coming
 stream_of tape = occurs_of tape.ending tape.bytes
 
+-- a stream with nothing in it
 abbrev pub empty_stream : Coming
 empty_stream = record { rest = []; mark = Dry }
 

@@ -43,10 +43,12 @@ verdict_for held (Some command) = command_verdict held command
 abbrev pub refused_said : Refusal → Said
 refused_said refusal = record { outcome = outcome_of refusal; out = []; err = line_of refusal }
 
+-- a refusal is said, and what else a command comes to stands as it is
 abbrev pub ended : Result Verdict Refusal → Verdict
 ended (Ok verdict) = verdict
 ended (Err refusal) = record { said = refused_said refusal; notes = [] }
 
+-- What a call of the program comes to: both outputs, the outcome, and the notes of each thread, by its words and by what the files hold.
 abbrev pub verdict : List (List ℕ) → Held → Verdict
 verdict words held = ended (verdict_for held (form words))
 
@@ -59,6 +61,7 @@ notes_in (Err refusal) = []
 abbrev pub IsSaid : Said → Result Verdict Refusal → Type 0
 IsSaid said expected = IsOkAnd expected (λ verdict. verdict.said ≡ said)
 
+-- the tool's answer is what its verdict says, or its refusal, or memory ran out
 abbrev pub AnswersSaid : Result Said Stop → Result Verdict Refusal → Type 0
 AnswersSaid answer expected = AnswersBy IsSaid answer expected
 

@@ -87,7 +87,7 @@ fn said_of<R: Threads + Sync, F: Files>(
 
 /// Carries out what the words ask for, which are those after the program's name: the first names a tool.
 ///
-/// The words are read, then the files in their order, each to its end before it is judged, then the streams are opened
+/// The words are read, then the files in their order, each to its end before its content is checked, then the streams are opened
 /// and the runs made, and then the output is written. The first fault in this order ends the call with its status and
 /// one line on `err`. The handlers are those of the threads 0 to 63.
 pub fn papi_main<R: Threads + Sync, F: Files, K: Sink>(

@@ -79,7 +79,7 @@ filled (None ∷ places) [] = []
 abbrev pub filled_back : {X : Type 0} → List (Option X) → List X → List X
 filled_back places ys = filled (reverse places) (reverse ys)
 
--- One place more is put behind those that are there, filled from those that come where it is empty: whatever places follow, the whole stays the same.
+-- One place more is put after those that are there, filled from those that come where it is empty: whatever places follow, the whole stays the same.
 abbrev pub PutsBack : {X : Type 0} → Option X → List X → List X → List X → List X → Type 0
 PutsBack {X} place coming coming_then put put_then =
     (places : List (Option X)) → put_then ++ filled places (reverse coming_then) ≡ put ++ filled (place ∷ places) (reverse coming)

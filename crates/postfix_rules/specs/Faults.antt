@@ -18,7 +18,7 @@ Pile parts trees = parts ≡ map Some (pile_text trees)
 abbrev pub operand_cause : ℕ → Option FormulaCause
 operand_cause height = if nat_le 16 height then Some cause.TooDeep else None
 
--- the cause of a part behind a pile of so many trees, in a formula over so many natives
+-- the cause of a part after a pile of so many trees, in a formula over so many natives
 unfoldable pub token_cause : ℕ → ℕ → Part → Option FormulaCause
 token_cause natives height None = Some cause.UnknownToken
 token_cause natives height (Some (token.Constant n)) = if nat_lt n (2 ^ 63) then operand_cause height else Some cause.ConstantTooLarge
@@ -43,14 +43,14 @@ pub record IsFault (natives : ℕ) (parts : List Part) (k : ℕ) (why : FormulaC
   pub here : place_cause natives (length pile) (slice_get parts k) ≡ Some why
   pub first : (j : ℕ) (trees : List Tree) → j < k → Pile (take j parts) trees → length trees ≤ 16 → place_cause natives (length trees) (slice_get parts j) ≡ None
 
--- the height of the pile behind a part
+-- the height of the pile after a part
 abbrev pub height_after : ℕ → Part → ℕ
 height_after height None = height
 height_after height (Some (token.Constant n)) = height + 1
 height_after height (Some (token.Native i)) = height + 1
 height_after height (Some (token.Operator o)) = height - 1
 
--- the first fault of the parts behind a pile of so many trees, of which the first is the part at this place from 0
+-- the first fault of the parts after a pile of so many trees, of which the first is the part at this place from 0
 unfoldable pub fault_from : ℕ → ℕ → ℕ → List Part → Option (ℕ × FormulaCause)
 fault_from natives place height [] = option_map_or (λ why. Some (place, why)) (end_cause height) None
 fault_from natives place height (part ∷ rest) =

@@ -12,7 +12,7 @@ use Rattle.postfix_rules.specs.InfixTokens.{InfixPart, infix_parts}
 use Rattle.postfix_rules.specs.Trees.{Tree, spelling}
 use Rattle.table_rows.specs.Texts.{Text}
 
--- a factor must begin behind this part: it is an operator or a `(`
+-- a factor must begin after this part: it is an operator or a `(`
 abbrev pub begins_factor : InfixPart → Bool
 begins_factor None = false
 begins_factor (Some (sign.Token (token.Constant n))) = false
@@ -21,7 +21,7 @@ begins_factor (Some (sign.Token (token.Operator o))) = true
 begins_factor (Some sign.Open) = true
 begins_factor (Some sign.Close) = false
 
--- a factor must begin behind these parts: they are none, or it must behind their last
+-- a factor must begin after these parts: they are none, or it must after their last
 abbrev pub must_begin : List InfixPart → Bool
 must_begin parts = fold (λ must part. begins_factor part) true parts
 
@@ -32,7 +32,7 @@ open_after depth (Some (sign.Token t)) = depth
 open_after depth (Some sign.Open) = depth + 1
 open_after depth (Some sign.Close) = depth - 1
 
--- how many parentheses are open behind these parts
+-- how many parentheses are open after these parts
 abbrev pub open_behind : List InfixPart → ℕ
 open_behind parts = fold open_after 0 parts
 
@@ -44,7 +44,7 @@ place_of_operand must = if must then None else Some cause.OperandsLeft
 abbrev pub open_cause : Bool → ℕ → Option FormulaCause
 open_cause must depth = if must then (if nat_le 16 depth then Some cause.TooDeep else None) else Some cause.OperandsLeft
 
--- `)` stands behind an operand, and closes a `(`
+-- `)` stands after an operand, and closes a `(`
 abbrev pub close_cause : Bool → ℕ → Option FormulaCause
 close_cause must depth = if must then Some cause.OperandMissing else if depth == 0 then Some cause.Unbalanced else None
 

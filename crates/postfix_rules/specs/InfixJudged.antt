@@ -11,7 +11,7 @@ abbrev pub ReadsPart : Result InfixToken FormulaCause → InfixPart → Type 0
 ReadsPart (Ok t) part = part ≡ Some t
 ReadsPart (Err why) part = (natives : ℕ) (must : Bool) (depth : ℕ) → natives < 2 ^ 32 → infix_cause natives must depth part ≡ Some why
 
--- what a text begins with: no part, or one with the text behind it
+-- what a text begins with: no part, or one with the text after it
 abbrev pub Begins : List InfixPart → Option (Result InfixToken FormulaCause × Bor (List ℕ)) → Type 0
 Begins parts None = parts ≡ []
 Begins parts (Some p) = (part : InfixPart) × (parts ≡ part ∷ infix_parts p.1.now) × ReadsPart p.0 part

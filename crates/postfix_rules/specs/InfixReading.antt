@@ -101,7 +101,7 @@ refused_at place why = Err (record { place = place + 1; cause = why })
 abbrev pub order_cause : ℕ → OrderView → InfixPart → Option FormulaCause
 order_cause natives order part = infix_cause natives order.must (length order.outer) part
 
--- the formula of further parts behind such an order, or the first fault, of which the first is the part at this place from 0
+-- the formula of further parts after such an order, or the first fault, of which the first is the part at this place from 0
 unfoldable pub infix_ended : ℕ → ℕ → OrderView → List InfixPart → Result FormulaView Refused
 infix_ended natives place order [] = option_map_or (refused_at place) (infix_end natives order) (Ok (record { tokens = ended_tokens order; natives = natives }))
 infix_ended natives place order (part ∷ rest) =

@@ -6,7 +6,7 @@ use Rattle.postfix_rules.specs.declared.token.Token.{Token}
 use Rattle.postfix_rules.specs.Faults.{Part, token_cause}
 use Rattle.postfix_rules.specs.Tokens.{part_of, parts_of}
 
--- the parts of a text whose first piece, and what is behind it, are these
+-- the parts of a text whose first piece, and what follows it, are these
 abbrev pub parts_after : Option (Bor (List ℕ) × Bor (List ℕ)) → List Part
 parts_after None = []
 parts_after (Some p) = part_of p.0.now ∷ parts_of p.1.now

@@ -1,4 +1,4 @@
-// Why a text is no formula.
+// Why a text is not a formula.
 ghost use Rattle.std.specs.Prelude.{◌≡◌};
 ghost use Rattle.postfix_rules.specs.declared.fault.FormulaFault.TheVariants.{Memory};
 
@@ -8,7 +8,7 @@ use thiserror::Error;
 /// Why a text is no formula at a token. Causes are tried in this order, but in infix order `TooDeep` is the last.
 #[derive(Clone, Copy, Debug, PartialEq, Eq, Error)]
 pub enum FormulaCause {
-    /// It is no token.
+    /// It is not a token.
     #[error("unknown token")]
     UnknownToken,
     /// It is a constant above 2^63 - 1.
@@ -33,7 +33,7 @@ pub enum FormulaCause {
     Unbalanced,
 }
 
-/// Why a text is no formula: its first fault, by the number of the token from 1, or want of memory.
+/// Why a text is not a formula: its first fault, by the number of the token from 1; or memory ran out.
 ///
 /// A fault at the end of the text has the place one past the last token.
 #[derive(Clone, Copy, Debug, PartialEq, Eq, Error)]

@@ -57,7 +57,7 @@ fn sign_of(sign: &[u8]) -> Result<InfixToken, FormulaCause>
     }
 }
 
-// The digits in front of a text, and the text behind them.
+// The digits in front of a text, and the text after them.
 fn split_digits(text: &[u8]) -> (&[u8], &[u8])
     ensures digits { result.0.now ≡ take_while Numerals.is_digit text.now }
     ensures behind { infix_from false result.1.now ≡ infix_from true text.now }
@@ -67,7 +67,7 @@ fn split_digits(text: &[u8]) -> (&[u8], &[u8])
     text.split_at(digits)
 }
 
-// The part in front of a text that begins with no blank, and the text behind it.
+// The part in front of a text that begins with no blank, and the text after it.
 fn first_part(text: &[u8]) -> (Result<InfixToken, FormulaCause>, &[u8])
     requires some { 0 < length text.now }
     requires begins { Texts.is_blank (slice_index text.now 0) ≡ false }
@@ -86,7 +86,7 @@ fn first_part(text: &[u8]) -> (Result<InfixToken, FormulaCause>, &[u8])
     (sign_of(sign), behind)
 }
 
-/// The first part of a text and the text behind it, and `None` where the text has no part.
+/// The first part of a text and the text after it, and `None` where the text has no part.
 pub(crate) fn next_part(text: &[u8]) -> Option<(Result<InfixToken, FormulaCause>, &[u8])>
     ensures begins { Begins (infix_parts text.now) result }
     ensures shorter { IfSome result (λ p. length p.1.now < length text.now) }

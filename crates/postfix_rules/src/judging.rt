@@ -19,7 +19,7 @@ pub(crate) fn constant_of(digits: &[u8]) -> Result<Token, FormulaCause>
     }
 }
 
-/// The native event of what is behind `N`.
+/// The native event of what is after `N`.
 pub(crate) fn native_of(digits: &[u8]) -> Result<Token, FormulaCause>
     ensures { ReadsToken result (Tokens.native_part digits.now) }
 {
@@ -49,7 +49,7 @@ pub(crate) fn operator_of(piece: &[u8]) -> Option<Operator>
     }
 }
 
-// The token of a letter and what is behind it.
+// The token of a letter and what follows it.
 fn behind_letter(letter: u8, digits: &[u8]) -> Result<Token, FormulaCause>
     ensures { ReadsToken result (Tokens.lettered_part (letter ∷ digits.now)) }
 {
@@ -60,7 +60,7 @@ fn behind_letter(letter: u8, digits: &[u8]) -> Result<Token, FormulaCause>
     }
 }
 
-// The token of a piece that is no operator.
+// The token of a piece that is not an operator.
 fn operand_of(piece: &[u8]) -> Result<Token, FormulaCause>
     ensures { ReadsToken result (Tokens.operand_part piece.now) }
 {
@@ -93,7 +93,7 @@ fn operand_cause(height: usize) -> Option<FormulaCause>
     }
 }
 
-/// The cause of a token behind so many operands.
+/// The cause of a token after so many operands.
 #[tactic(auto, unfolding(crate::specs::Faults::token_cause))]
 pub(crate) fn token_cause(natives: u32, height: usize, token: Token) -> Option<FormulaCause>
     ensures { result ≡ Faults.token_cause natives height (Some token) }
@@ -108,7 +108,7 @@ pub(crate) fn token_cause(natives: u32, height: usize, token: Token) -> Option<F
     }
 }
 
-/// The token that a piece is behind so many operands of a formula over so many native events, or its cause.
+/// The token that a piece is after so many operands of a formula over so many native events, or its cause.
 pub(crate) fn judge(natives: u32, height: usize, piece: &[u8]) -> Result<Token, FormulaCause>
     ensures { JudgesToken result natives height (Tokens.part_of piece.now) }
 {
@@ -119,7 +119,7 @@ pub(crate) fn judge(natives: u32, height: usize, piece: &[u8]) -> Result<Token, 
     }
 }
 
-/// The number of operands behind a token.
+/// The number of operands after a token.
 pub(crate) fn height_after(height: usize, token: Token) -> usize
     requires { height ≤ 16 }
     ensures { result ≡ Faults.height_after height (Some token) }
@@ -131,7 +131,7 @@ pub(crate) fn height_after(height: usize, token: Token) -> usize
     }
 }
 
-/// The cause at the end of the text, behind so many operands.
+/// The cause at the end of the text, after so many operands.
 #[tactic(auto, unfolding(crate::specs::Faults::end_cause))]
 pub(crate) fn end_cause(height: usize) -> Option<FormulaCause>
     ensures { result ≡ Faults.end_cause height }

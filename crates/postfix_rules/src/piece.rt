@@ -12,8 +12,8 @@ fn bar_in(text: &[u8]) -> Option<usize>
     text.iter().position(|b| *b == b'|')
 }
 
-/// The first piece, without the blanks round it, and the text behind its `|`. A last piece without `|` is none if it is
-/// empty or has blanks alone.
+/// The first piece, without the blanks round it, and the text after its `|`. A last piece without `|` does not count if it is
+/// empty or has only blanks.
 pub(crate) fn next_piece(text: &[u8]) -> Option<(&[u8], &[u8])>
     ensures parts { parts_of text.now ≡ parts_after result }
     ensures shorter { IfSome result (λ p. length p.1.now < length text.now) }

@@ -8,7 +8,7 @@ use crate::piece::next_piece;
 use crate::{Formula, FormulaCause, FormulaFault};
 use std::alloc::Global;
 
-/// The fault of the token behind so many.
+/// The fault of the token after so many others.
 pub(crate) fn fault_behind(tokens: usize, cause: FormulaCause) -> FormulaFault
     requires { tokens < 2 ^ 63 }
     ensures { result ≡ At (tokens + 1) cause }

@@ -38,14 +38,14 @@ typed_entry derived.Ps formula natives = Ok entry.Uncomputed
 typed_entry derived.AddPs formula natives = Ok entry.Uncomputed
 typed_entry derived.Cmpd formula natives = Ok entry.Uncomputed
 
--- the natives of a row, where each is printable and there are not too many; a field that is refused goes before the limit
+-- the natives of a row, where each is printable and there are not too many; a field that is refused takes precedence over the limit
 abbrev pub kept_natives : List Text → Result (List Text) PresetCause
 kept_natives natives =
     if not (list_all is_printable natives) then Err cause.BadField
     else if nat_lt MOST_NATIVES (length natives) then Err cause.OverLimit
     else Ok natives
 
--- what is not computed goes before a broken formula
+-- what is not computed takes precedence over a broken formula
 abbrev pub kept_entry : DerivedType → Text → Result (List Text) PresetCause → Result Entry PresetCause
 kept_entry t formula (Ok natives) = if is_empty natives then Ok entry.Uncomputed else typed_entry t formula natives
 kept_entry t formula (Err why) = Err why

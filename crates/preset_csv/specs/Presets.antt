@@ -96,7 +96,7 @@ preset_fault name bytes = fault_from name [] (lines_of bytes)
 unfoldable pub presets_in : Text → List ℕ → TableView
 presets_in name bytes = record { cpu = name; rows = presets name (lines_of bytes) }
 
--- the presets where no row is faulty, or the first fault, or want of memory
+-- the presets where no row is faulty, or the first fault, or that memory ran out
 abbrev pub ReadsPresets : Result PresetTable PresetFault → List ℕ → Text → Type 0
 ReadsPresets (Ok table) bytes name = (preset_fault name bytes ≡ None) × (table ≡ presets_in name bytes)
 ReadsPresets (Err (fault.Row row why)) bytes name = preset_fault name bytes ≡ Some (row, why)

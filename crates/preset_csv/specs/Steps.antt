@@ -104,7 +104,7 @@ abbrev pub fault_at : ℕ → Refusal → PresetFault
 fault_at place (refusal.Cause why) = fault.Row (place + 1) why
 fault_at place refusal.Memory = fault.Memory
 
--- fields, each behind a comma
+-- fields, each after a comma
 abbrev pub behind_commas : List Text → Text
 behind_commas [] = []
 behind_commas (field ∷ rest) = 44 ∷ (field ++ behind_commas rest)

@@ -25,7 +25,7 @@ pub enum PresetCause {
     BadFormula(FormulaCause),
 }
 
-/// Why a preset file is refused: its first faulty row, numbered from 1, with the row's first cause, or want of memory.
+/// Why a preset file is refused: its first faulty row, numbered from 1, with the row's first cause; or memory ran out.
 #[derive(Clone, Copy, Debug, PartialEq, Eq, Error)]
 pub enum PresetFault {
     #[error("row {row}: {cause}")]

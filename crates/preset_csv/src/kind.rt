@@ -13,7 +13,7 @@ pub enum Kind {
     Postfix,
 }
 
-/// The derived types of a preset file. Those behind `Postfix` are not computed. Source: papi_events.csv.
+/// The derived types of a preset file. Those after `Postfix` are not computed. Source: papi_events.csv.
 #[derive(Clone, Copy, Debug, PartialEq, Eq)]
 pub enum DerivedType {
     NotDerived,

@@ -49,8 +49,8 @@ fn within_limit(natives: Vec<String>, count: usize) -> Result<Vec<String>, Refus
     }
 }
 
-/// The natives of a row from a field on, or why the row is refused: a native that is not printable goes before more than
-/// [`MOST_NATIVES`]. No more than so many are ever held.
+/// The natives of a row from a field on, or why the row is refused: a native that is not printable takes precedence over more
+/// than [`MOST_NATIVES`]. No more than so many are ever held.
 pub fn row_natives(alloc: Global, row: &ByteRecord, first: usize) -> Result<Vec<String>, Refusal>
     ensures natives { IfOk result (λ v. kept_natives (natives_from (fields_of row.now) first) ≡ Ok (map string_bytes v.items)) }
     ensures refused { IfErr result (λ refused. IsRefusal (kept_natives (natives_from (fields_of row.now) first)) refused) }

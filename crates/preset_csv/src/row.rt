@@ -7,7 +7,7 @@ ghost use Rattle.preset_csv.specs.Steps.{IsPlainRow, IsReadRow};
 
 use table_rows::{ByteRecord, text_at};
 
-/// A row by its kind; one that is passed over is `Other`. A CPU row has the cpu's name.
+/// A row by its kind; one that is skipped is `Other`. A CPU row has the cpu's name.
 #[derive(Clone, Copy)]
 pub enum Row<'r> {
     Other,

@@ -14,7 +14,7 @@ use postfix_rules::{Formula, write_formula};
 use preset_table::preset_symbol;
 use std::alloc::{AllocError, Global};
 
-/// Appends a field behind a comma.
+/// Appends a field after a comma.
 pub fn put_field(text: &mut Vec<u8>, field: &[u8]) -> Result<(), AllocError>
     ensures { OnOk result (text.new.items ≡ text.old.items ++ 44 ∷ field.now) }
 {
@@ -23,7 +23,7 @@ pub fn put_field(text: &mut Vec<u8>, field: &[u8]) -> Result<(), AllocError>
     Ok(())
 }
 
-// The natives, each behind a comma.
+// The natives, each after a comma.
 fn put_natives(text: &mut Vec<u8>, natives: &[String]) -> Result<(), AllocError>
     ensures { OnOk result (text.new.items ≡ text.old.items ++ behind_commas (map string_bytes natives.now)) }
 {
@@ -33,7 +33,7 @@ fn put_natives(text: &mut Vec<u8>, natives: &[String]) -> Result<(), AllocError>
     Ok(())
 }
 
-// A formula, where there is one, behind a comma.
+// A formula, where there is one, after a comma.
 fn put_formula(
     alloc: Global,
     text: &mut Vec<u8>,
@@ -50,7 +50,7 @@ fn put_formula(
     }
 }
 
-/// Appends the type, the formula where there is one, and the natives, each behind a comma.
+/// Appends the type, the formula where there is one, and the natives, each after a comma.
 pub fn put_def(alloc: Global, text: &mut Vec<u8>, def: &Def) -> Result<(), AllocError>
     ensures { OnOk result (text.new.items ≡ text.old.items ++ behind_commas (def_fields def.now)) }
 {

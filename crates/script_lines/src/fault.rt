@@ -14,7 +14,7 @@ pub enum ScriptCause {
     /// It is one call line more than a script may have.
     #[error("over a limit")]
     OverLimit,
-    /// Its first word is no thread.
+    /// Its first word is not a thread.
     #[error("bad thread")]
     BadThread,
     /// Its second word is missing, or no call.

@@ -47,7 +47,7 @@ pub fn cut_line(bytes: &[u8]) -> (&[u8], &[u8])
     }
 }
 
-/// Whether a line is passed over: it is empty, or begins with `#`.
+/// Whether a line is skipped: it is empty, or begins with `#`.
 pub fn is_skipped(line: &[u8]) -> bool
     ensures { result ≡ Lines.is_skipped line.now }
 {

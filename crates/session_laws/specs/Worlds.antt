@@ -62,7 +62,7 @@ answer_by at mentioned flags (asked.CodeOf e) = answer at [] mentioned (asked.Co
 answer_by at mentioned flags (asked.NameOf c) = answer at [] mentioned (asked.NameOf c)
 answer_by at mentioned flags (asked.Call c) = plain code.Ok
 
--- the first of a thread's further replies, and those behind it
+-- the first of a thread's further replies, and those after it
 abbrev pub next_reply : List Reply → Reply
 next_reply [] = plain code.Ok
 next_reply (r ∷ rs) = r

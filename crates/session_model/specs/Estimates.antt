@@ -20,6 +20,7 @@ turns_of slice groups past s = record { slice = slice; count = group_count group
 abbrev pub total : List Occ → Kept → ℕ
 total past s = clock past (end (length past) s) - clock past s.from
 
+-- the estimate of a native of this group: its count in the group's turns, scaled by the whole time over their time
 abbrev pub estimated_in : List Occ → Kept → Turns → ℕ → Native → ℕ
 estimated_in past s turns group n = estimate (weighed (weight_in_turn turns group n s.set.domain) past s) (total past s) (active turns group (total past s))
 

@@ -10,9 +10,11 @@ pub record Face : Type 0 where
   pub set : AtRest
   pub running : Bool
 
+-- what a refusal looks at of a kept set
 abbrev pub face_of : Kept → Face
 face_of s = record { set = s.set; running = s.running }
 
+-- the same of all sets under their numbers
 abbrev pub faces_of : List (Option Kept) → List (Option Face)
 faces_of sets = map (option_map face_of) sets
 
@@ -30,6 +32,7 @@ free [] = 0
 free (None ∷ places) = 0
 free (Some x ∷ places) = 1 + free places
 
+-- no set has this number
 abbrev pub is_absent : List (Option Face) → ℕ → Bool
 is_absent faces k = is_none (at faces k)
 
@@ -37,9 +40,11 @@ is_absent faces k = is_none (at faces k)
 abbrev pub has : (AtRest → Bool) → List (Option Face) → ℕ → Bool
 has test faces k = option_map_or (λ f. test f.set) (at faces k) false
 
+-- a set has this number, and it runs
 abbrev pub runs : List (Option Face) → ℕ → Bool
 runs faces k = option_map_or (λ f. f.running) (at faces k) false
 
+-- there is a set in this place, and it runs
 abbrev pub is_running : Option Face → Bool
 is_running place = option_map_or (λ f. f.running) place false
 

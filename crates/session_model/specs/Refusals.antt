@@ -24,16 +24,20 @@ row comes code = (comes, Plain code)
 abbrev pub clash_at : Book → EventRef → List (Option Face) → ℕ → Option Clash
 clash_at book e faces k = option_and_then (λ f. clash_with book e f.set) (at faces k)
 
+-- PAPI_ECNFLCT with the clash that is to blame, where one is found
 abbrev pub conflict_of : Option Clash → Refusal
 conflict_of None = Plain Ecnflct
 conflict_of (Some clash) = Conflict clash
 
+-- the refusal by a clash, where there is one
 abbrev pub conflict_row : Option Clash → Bool × Refusal
 conflict_row clash = (is_some clash, conflict_of clash)
 
+-- the set has an event
 abbrev pub has_events : AtRest → Bool
 has_events s = not (length s.events == 0)
 
+-- the set's natives take turns
 abbrev pub is_multiplexed : AtRest → Bool
 is_multiplexed s = is_some s.slice
 
@@ -46,6 +50,7 @@ abbrev pub leaves_free_by : Option ℕ → Book → ℕ → AtRest → Bool
 leaves_free_by None book c s = not (list_any (λ k. k == c) (counters_for (set_natives book s)))
 leaves_free_by (Some slice) book c s = false
 
+-- the same, by the set's own slice
 abbrev pub leaves_free : Book → ℕ → AtRest → Bool
 leaves_free book c s = leaves_free_by s.slice book c s
 
@@ -151,5 +156,6 @@ abbrev pub first_of : List (Bool × Refusal) → Option Refusal
 first_of [] = None
 first_of (r ∷ rest) = if r.0 then Some r.1 else first_of rest
 
+-- how a call is refused, where it is: by the first row that comes
 abbrev pub refusal_of : Book → Widths → Bool → List (Option Face) → Call → Option Refusal
 refusal_of book shape registered faces call = first_of (rows book shape registered faces call)

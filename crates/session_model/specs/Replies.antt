@@ -20,12 +20,15 @@ use Rattle.session_model.specs.Values.{values_of, accumulated}
 use Rattle.session_model.specs.Registers.{register_of}
 use Rattle.session_model.specs.Faces.{at, free}
 
+-- a reply with a code alone
 abbrev pub plain : Code → Reply
 plain c = record { code = c; body = body.Nothing }
 
+-- PAPI_OK with results
 abbrev pub done : Body → Reply
 done b = record { code = code.Ok; body = b }
 
+-- a refusal; a conflict shows its clash
 abbrev pub refused : Refusal → Reply
 refused (Plain c) = plain c
 refused (Conflict clash) = record { code = code.Ecnflct; body = body.Clash clash }
@@ -46,6 +49,7 @@ pub record Sight (X : Type 0) : Type 0 where
   pub accumulated : X → List ℤ
   pub register : X → ℕ → ℕ
 
+-- what replies show of a set that is kept by its window
 abbrev pub sight_of_kept : Book → Widths → List Occ → Sight Kept
 sight_of_kept book shape past = record {
   set = λ s. s.set;

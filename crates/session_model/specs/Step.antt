@@ -32,6 +32,7 @@ ended_at Dry = ended.Going
 ended_at (Bad line cause) = ended.Bad line cause
 ended_at Fault = ended.Fault
 
+-- a run that met a bad line or a fault replies with PAPI_ESYS
 abbrev pub code_of : Ended → Code
 code_of ended.Going = code.Ok
 code_of (ended.Bad line cause) = code.Esys
@@ -49,6 +50,7 @@ advanced short k a = record a { past = a.past ++ take k a.rest; rest = drop k a.
 abbrev pub coming_notes : Book → ℕ → Account → List Note
 coming_notes book k a = notes_over book a.thread a.sets a.past (take k a.rest)
 
+-- a run that takes the next k occurrences; it is short where it asked for more
 abbrev pub ran : Book → Bool → ℕ → Account → Outcome
 ran book short k a = record {
   account = advanced short k a;
@@ -80,9 +82,11 @@ abbrev pub unless : Option Refusal → Account → Outcome → Outcome
 unless (Some r) a outcome = record { account = a; reply = refused r; notes = [] }
 unless None a outcome = outcome
 
+-- how the call is refused in this account, where it is
 abbrev pub account_refusal : Book → Widths → Account → Call → Option Refusal
 account_refusal book shape a call = refusal_of book shape a.registered (faces_of a.sets) call
 
+-- What one call does: a refused call changes nothing and replies with its refusal, any other one is performed.
 abbrev pub step : Book → Widths → Account → Call → Outcome
 step book shape a call = unless (account_refusal book shape a call) a (performed book shape a call)
 
@@ -91,10 +95,12 @@ abbrev pub account_after : Book → Widths → Account → List Call → Account
 account_after book shape a [] = a
 account_after book shape a (call ∷ calls) = account_after book shape (step book shape a call).account calls
 
+-- the reply to each of some calls, one after another
 abbrev pub replies_to : Book → Widths → Account → List Call → List Reply
 replies_to book shape a [] = []
 replies_to book shape a (call ∷ calls) = (step book shape a call).reply ∷ replies_to book shape (step book shape a call).account calls
 
+-- the notes of some calls, one after another
 abbrev pub notes_to : Book → Widths → Account → List Call → List Note
 notes_to book shape a [] = []
 notes_to book shape a (call ∷ calls) = (step book shape a call).notes ++ notes_to book shape (step book shape a call).account calls

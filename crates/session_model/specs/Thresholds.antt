@@ -26,6 +26,7 @@ abbrev pub passed_in : Bool → Book → List Occ → Kept → Occ → List ℕ
 passed_in true book past s o = passed_from book past s o 0 s.set.events s.set.thresholds
 passed_in false book past s o = []
 
+-- the note of one event of a set at an occurrence
 abbrev pub note : ℕ → ℕ → Occ → ℕ → Note
 note thread number o index = record { thread = thread; set = number; index = index; pc = o.pc }
 

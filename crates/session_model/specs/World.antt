@@ -41,9 +41,11 @@ opening_accounts zero t streams = []
 opening_accounts (suc n) t [] = opening t [] Dry ∷ opening_accounts n (t + 1) []
 opening_accounts (suc n) t (s ∷ ss) = opening t s.rest s.mark ∷ opening_accounts n (t + 1) ss
 
+-- the world before the first line, over these streams
 abbrev pub opening_world : List Coming → World
 opening_world streams = record { accounts = opening_accounts 64 0 streams; mentioned = [] }
 
+-- a thread's account
 abbrev pub account_at : List Account → ℕ → Account
 account_at accounts t = unwrap_or (slice_get accounts t) (opening t [] Dry)
 
@@ -54,6 +56,7 @@ mentions_of_call (call.Remove k (Ok (event.Native n))) = n ∷ []
 mentions_of_call (call.Overflow k (Ok (event.Native n)) t) = n ∷ []
 mentions_of_call call = []
 
+-- the natives that a line mentions, whatever it asks for
 abbrev pub mentions_of : Asked → List Native
 mentions_of (asked.Call c) = mentions_of_call c
 mentions_of (asked.CodeOf (Ok (event.Native n))) = n ∷ []
@@ -93,19 +96,24 @@ pub record Turn : Type 0 where
   pub reply : Reply
   pub notes : List Note
 
+-- the thread's account after its call, and what the call gives
 abbrev pub turn_by : List Account → ℕ → Outcome → Turn
 turn_by accounts t outcome = record { accounts = slice_set accounts t outcome.account; reply = outcome.reply; notes = outcome.notes }
 
+-- what a line of a thread does, where these natives are mentioned
 abbrev pub turn : Setting → List Account → List Native → ℕ → Asked → Turn
 turn at accounts mentioned t (asked.Call c) = turn_by accounts t (step at.book at.shape (account_at accounts t) c)
 turn at accounts mentioned t a = record { accounts = accounts; reply = answer at accounts mentioned a; notes = [] }
 
+-- the natives mentioned up to and with a line
 abbrev pub mentioned_after : List Native → Line → List Native
 mentioned_after mentioned l = joined_by mentioned (mentions_of l.asked)
 
+-- what a line does to a world: its own mention counts
 abbrev pub turn_of : Setting → World → Line → Turn
 turn_of at w l = turn at w.accounts (mentioned_after w.mentioned l) l.thread l.asked
 
+-- the world after one line
 abbrev pub world_after_line : Setting → World → Line → World
 world_after_line at w l = record { accounts = (turn_of at w l).accounts; mentioned = mentioned_after w.mentioned l }
 
@@ -114,10 +122,12 @@ abbrev pub told : Setting → World → List Line → List Told
 told at w [] = []
 told at w (l ∷ ls) = record { line = l; reply = (turn_of at w l).reply; notes = (turn_of at w l).notes } ∷ told at (world_after_line at w l) ls
 
+-- the world after some lines
 abbrev pub world_after : Setting → World → List Line → World
 world_after at w [] = w
 world_after at w (l ∷ ls) = world_after at (world_after_line at w l) ls
 
+-- the line asks for a call on a session
 abbrev pub is_call : Asked → Bool
 is_call (asked.Call c) = true
 is_call (asked.CodeOf e) = false
@@ -128,6 +138,7 @@ is_call asked.Threads = false
 abbrev pub calls_on : ℕ → Line → Bool
 calls_on t l = (l.thread == t) && is_call l.asked
 
+-- the call that a line asks for, as a list of one or none
 abbrev pub call_of : Asked → List Call
 call_of (asked.Call c) = c ∷ []
 call_of (asked.CodeOf e) = []
@@ -144,6 +155,7 @@ abbrev pub replies_at : ℕ → List Told → List Reply
 replies_at t [] = []
 replies_at t (x ∷ xs) = (if calls_on t x.line then x.reply ∷ [] else []) ++ replies_at t xs
 
+-- the notes of a thread, in order
 abbrev pub notes_of_thread : ℕ → List Told → List Note
 notes_of_thread t [] = []
 notes_of_thread t (x ∷ xs) = (if x.line.thread == t then x.notes else []) ++ notes_of_thread t xs
@@ -154,6 +166,7 @@ met_by ended.Going = None
 met_by (ended.Bad line cause) = Some (ended.Bad line cause)
 met_by ended.Fault = Some ended.Fault
 
+-- the mark that a reply shows, where it is one of a run that met one
 abbrev pub met_in : Body → Option Ended
 met_in (body.Ran r) = met_by r.ended
 met_in b = None
@@ -163,6 +176,7 @@ abbrev pub first_met : Option Ended → Option Ended → Option Ended
 first_met None later = later
 first_met (Some e) later = Some e
 
+-- the first mark that these replies show
 abbrev pub met_mark : List Reply → Option Ended
 met_mark [] = None
 met_mark (r ∷ rs) = first_met (met_in r.body) (met_mark rs)

@@ -13,7 +13,7 @@ pub fn is_blank(b: u8) -> bool
     b == b' ' || b == b'\t'
 }
 
-// The bytes behind the spaces and tabs.
+// The bytes after the spaces and tabs.
 fn without_front(bytes: &[u8]) -> &[u8]
     ensures { result.now ≡ Texts.without_front bytes.now }
 {
@@ -58,7 +58,7 @@ pub fn text_at(row: &ByteRecord, i: usize) -> &[u8]
     }
 }
 
-/// Whether a row with this trimmed first field is passed over: it is empty, or begins with `#`.
+/// Whether a row with this trimmed first field is skipped: it is empty, or begins with `#`.
 pub fn is_skipped(first: &[u8]) -> bool
     ensures { result ≡ Texts.is_skipped first.now }
 {

@@ -8,7 +8,7 @@ use crate::row_reader::RowReader;
 use csv::ByteRecord;
 use std::alloc::{AllocError, Global};
 
-/// All rows of a table, in order, those that are to be passed over too; the first is row 1.
+/// All rows of a table, in order, those that are to be skipped too; the first is row 1.
 pub fn read_rows(alloc: Global, bytes: &[u8]) -> Result<Vec<ByteRecord>, AllocError>
     ensures { IfOk result (λ v. map fields_of v.items ≡ rows_of bytes.now) }
 {

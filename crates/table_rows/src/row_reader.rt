@@ -9,7 +9,7 @@ use csv::{ByteRecord, Reader, ReaderBuilder};
 use std::alloc::{AllocError, Global};
 use std::marker::Model;
 
-/// Reads the rows of a table in order, those that are to be passed over too; the first is row 1.
+/// Reads the rows of a table in order, those that are to be skipped too; the first is row 1.
 ///
 /// Rows are the records of RFC 4180 as the crate `csv` reads them, with no quotes and with `#` as the mark of a
 /// comment. Contracts see the list of the rows that are left.

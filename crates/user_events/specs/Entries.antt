@@ -20,7 +20,7 @@ has_rate formula = list_any (λ b. b == 35) formula
 abbrev pub infix_entry : Text → List Text → Result Entry PresetCause
 infix_entry formula natives = if has_rate formula then Ok entry.Uncomputed else formula_entry natives (infix_of (length natives) formula)
 
--- what is not computed goes before a broken formula
+-- what is not computed takes precedence over a broken formula
 abbrev pub infix_kept : Text → Result (List Text) PresetCause → Result Entry PresetCause
 infix_kept formula (Ok natives) = if is_empty natives then Ok entry.Uncomputed else infix_entry formula natives
 infix_kept formula (Err why) = Err why

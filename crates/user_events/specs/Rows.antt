@@ -81,7 +81,7 @@ events_of rows = map (event_of rows) (names_in rows)
 
 -- ---- the first fault
 
--- one name too many goes before a broken formula, and behind a bad field
+-- one name too many takes precedence over a broken formula, and a bad field over both
 abbrev pub limited : Bool → Result Entry PresetCause → Result Entry PresetCause
 limited false judgement = judgement
 limited true (Ok e) = Err cause.OverLimit

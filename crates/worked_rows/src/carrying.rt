@@ -25,7 +25,7 @@ pub struct Came {
     pub notes: String,
 }
 
-// The words of a run, with the number of workers behind the tool's name.
+// The words of a run, with the number of workers after the tool's name.
 fn words_of(alloc: Global, run: RowRun) -> Result<Vec<String>, AllocError> {
     let mut words = Vec::new(alloc);
     for word in run.words.split_whitespace() {

@@ -11,8 +11,8 @@
 //! - `for workers N ..` carries the row out with each of these numbers of workers; `for k from N to M`, `for k below the length
 //!   of out` and `.. of err` carry it out for each k, which stands as `k` in the settings above.
 //! - `status N`, where it is not 0.
-//! - `out` and `err`, with the lines below: the output, behind the replies, and the lines on standard error.
-//! - `notes`, with a line `THREAD SET INDEX PC` below for each note of the handlers; with `--notes` they are expected behind the
+//! - `out` and `err`, with the lines below: the output, after the replies, and the lines on standard error.
+//! - `notes`, with a line `THREAD SET INDEX PC` below for each note of the handlers; with `--notes` they are expected after the
 //!   replies too. `notes unread`: the notes are not compared.
 //!
 //! Lines that stand below begin with two blanks. `300 times: LINE` is that line so often, and one that ends in a backslash goes on
@@ -107,7 +107,7 @@ impl RowReader {
         }
     }
 
-    // A call of the script, with its reply behind an arrow.
+    // A call of the script, with its reply after an arrow.
     fn add_call(&mut self, line: &str) -> Result<(), AllocError> {
         let (times, rest) = times_of(line);
         let (call, reply) = parted(rest, " -> ");
@@ -126,7 +126,7 @@ impl RowReader {
         Ok(())
     }
 
-    // A note of the handlers. With `--notes` it is shown behind the replies.
+    // A note of the handlers. With `--notes` it is shown after the replies.
     fn add_note(&mut self, line: &str) -> Result<(), AllocError> {
         push_content(&mut self.row.notes, line)?;
         let shown = match self.row.words.last() {
@@ -248,7 +248,7 @@ impl RowReader {
 /// Why a block of lines is no row.
 #[derive(Drop)]
 pub enum NoRow {
-    /// This line is none of a row.
+    /// This line is not one of a row.
     Line(String),
     Memory,
 }
@@ -259,7 +259,7 @@ impl From<AllocError> for NoRow {
     }
 }
 
-/// Reads a row out of its lines. A block without a title is none.
+/// Reads a row out of its lines. A block without a title is not one.
 pub fn read_row(alloc: Global, block: &str) -> Result<Option<Row>, NoRow> {
     let mut reader = RowReader {
         alloc,
