@@ -194,6 +194,23 @@ def argument(rng: Random, kind: str, drawn: Drawn, fault: bool) -> str:
     return rng.choice(["0", "1", "2", "3", "15", "16", "1000", "1000000", "1000001", "4294967295"])
 
 
+def address_map(rng: Random) -> str:
+    """A map file of papi_profil."""
+    if rarely(rng, 4):
+        text = example("profil.map")
+        return changed(rng, text) if rarely(rng, 2) else text
+    rows, start, fault = [], 0, rarely(rng, 20)
+    for number in range(rng.choice([0, 1024, 1025]) if rarely(rng, 40) else rng.randint(1, 6)):
+        width, buckets = rng.choice([1, 2, 4, 16, 1_048_576]), rng.choice([1, 1, 2, 10, 64])
+        matter = [f"r{number}", f"{start:#x}", str(width), str(buckets)]
+        if fault and rarely(rng, 3):
+            matter[rng.randrange(4)] = rng.choice(NUMBERS + NAMES)
+        rows.append(",".join(["RANGE", *matter]))
+        start = start + width * buckets + rng.choice([0, 0, 1, 100]) - (1 if rarely(rng, 60) else 0)
+    text = "\n".join(rows) + rng.choice(ENDS)
+    return changed(rng, text) if rarely(rng, 10) else text
+
+
 def stream(rng: Random, drawn: Drawn) -> str:
     kind = rng.randrange(10)
     if kind == 0:
@@ -273,7 +290,7 @@ def words_of(rng: Random, tool: str, drawn: Drawn) -> list[str]:
     options = [["-U", file(rng, "unit")]]
     table = [["-P", file(rng, "presets")], ["-C", rng.choice(["lab1", "lab1", "lab2", "other", "none"])]]
     others: list[str] = []
-    if tool in ("papi_decode", "papi_avail") or tool in ("papi_run", "papi_event_chooser") and rng.randrange(2):
+    if tool in ("papi_decode", "papi_avail") or tool in ("papi_run", "papi_profil", "papi_event_chooser") and rng.randrange(2):
         options += table
     if tool in ("papi_decode", "papi_avail") and rng.randrange(2):
         options.append(["-a"])
@@ -282,8 +299,13 @@ def words_of(rng: Random, tool: str, drawn: Drawn) -> list[str]:
     if tool == "papi_native_avail":
         options += [[option, rng.choice(["E", "lab", "::", "", "X", "BR"])] for option in ("-i", "-x") if rarely(rng, 2)]
         options += [["--noumasks"]] * rng.randrange(2)
+    if tool == "papi_profil":
+        options += [["-M", file(rng, "map")]]
+        options += [[option, rng.choice(["0", "0", "1", "31", "63", "64"])] for option in ("--thread", "--set", "--index") if rarely(rng, 3)]
     if tool == "papi_run":
-        options += [["--notes"]] * rng.randrange(2) + [["--workers", rng.choice(["1", "2", "3", "64", "0", "65", "02"])]] * rarely(rng, 3)
+        options += [["--notes"]] * rng.randrange(2)
+    if tool in ("papi_run", "papi_profil"):
+        options += [["--workers", rng.choice(["1", "2", "3", "64", "0", "65", "02"])]] * rarely(rng, 3)
         others = [file(rng, "script")] + [file(rng, f"stream{index}") for index in range(rng.randint(0, 3))]
         others += ["stream0"] * (rng.choice([60, 61, 62]) if rarely(rng, 20) else 0)
     elif tool == "papi_event_chooser":

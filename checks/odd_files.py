@@ -20,14 +20,24 @@ TABLE_LIMIT = 1_048_576
 SCRIPT_LIMIT = 8_388_608
 STREAM_LIMIT = 67_108_864
 
-# What `presets.script` gives over a stream that breaks off before its first occurrence, as FORMATS says of `run`.
-BROKEN_OFF = b"""1 0 create PAPI_OK 0
+# What the examples of the tools that run a script give over a stream that breaks off before its first occurrence, as FORMATS says of `run`.
+BROKEN_OFF = {
+    "papi_run": b"""1 0 create PAPI_OK 0
 2 0 add PAPI_OK
 3 0 add PAPI_OK
 4 0 start PAPI_OK
 5 0 run PAPI_ESYS 0 0
 6 0 read PAPI_OK 0 0
-"""
+""",
+    "papi_profil": b"""range init 0
+range loop 0
+outside 0
+total 0
+""",
+}
+
+# The files that follow an option.
+OPTIONS = {"-U": "unit file", "-P": "preset file", "-M": "map file"}
 
 
 @dataclass(frozen=True)
@@ -51,8 +61,8 @@ class Place:
 def places(example: Example) -> Iterator[Place]:
     for index, word in enumerate(example.words):
         before = example.words[index - 1] if index else ""
-        if before in ("-U", "-P"):
-            yield Place(example, index, "unit file" if before == "-U" else "preset file")
+        if before in OPTIONS:
+            yield Place(example, index, OPTIONS[before])
         elif word.endswith((".script", ".stream")):
             yield Place(example, index, word.rsplit(".", 1)[1])
 
@@ -113,13 +123,13 @@ def not_opened(program: Program, folder: Path, place: Place, name: str) -> Run:
 
 def not_read(program: Program, folder: Path, place: Place, name: str) -> Run:
     if place.role == "stream":
-        return Run(READ_FAULT, BROKEN_OFF, b"papi: stream 0: read failed\n")
+        return Run(READ_FAULT, BROKEN_OFF[place.example.words[0]], b"papi: stream 0: read failed\n")
     return not_opened(program, folder, place, name)
 
 
 def endless(program: Program, folder: Path, place: Place, name: str) -> Run:
     if place.role == "stream":
-        return Run(REFUSED, BROKEN_OFF, b"papi: stream 0: line 1: line too long\n")
+        return Run(REFUSED, BROKEN_OFF[place.example.words[0]], b"papi: stream 0: line 1: line too long\n")
     return Run(REFUSED, b"", f"papi: {name}: too large\n".encode())
 
 
@@ -233,7 +243,7 @@ KINDS = [
 def copy_examples(folder: Path) -> None:
     """The files of the examples in a new folder, for everyone to read."""
     for file in EXAMPLES.iterdir():
-        if file.suffix in (".unit", ".presets", ".script", ".stream"):
+        if file.suffix in (".unit", ".presets", ".map", ".script", ".stream"):
             shutil.copy(file, folder)
     folder.chmod(0o755)
 

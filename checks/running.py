@@ -28,6 +28,7 @@ EXAMPLE_OF = {
     "papi_native_avail": "native_avail_all",
     "papi_event_chooser": "event_chooser_presets",
     "papi_soak": "soak",
+    "papi_profil": "profil",
 }
 TOOLS = tuple(EXAMPLE_OF)
 
@@ -158,6 +159,7 @@ def differs(run: Run, wanted: Run) -> str:
 
 UNIT_CAUSES = ["bad row", "over a limit", "repeated name", "width out of range", "unknown counter"]
 PRESET_CAUSES = ["preset before cpu", "bad field", "over a limit", "broken formula"]
+MAP_CAUSES = ["bad row", "over a limit", "repeated name", "ranges overlap"]
 SCRIPT_CAUSES = ["over a limit", "bad thread", "unknown call", "wrong arguments", "bad number"]
 STREAM_CAUSES = ["line too long", "stream too long", "wrong number of fields", "bad field", "stamp does not rise"]
 
@@ -172,7 +174,7 @@ ENDINGS = [
     (rf"papi: no such file: (?P<name>.*)\n", REFUSED),
     (rf"papi: cannot read: (?P<name>.*)\n", READ_FAULT),
     (rf"papi: (?P<name>.*): too large\n", REFUSED),
-    (rf"papi: (?P<name>.*): row [1-9][0-9]*: {_any(UNIT_CAUSES + PRESET_CAUSES)}\n", REFUSED),
+    (rf"papi: (?P<name>.*): row [1-9][0-9]*: {_any(UNIT_CAUSES + PRESET_CAUSES + MAP_CAUSES)}\n", REFUSED),
     (rf"papi: (?P<name>.*): line [1-9][0-9]*: {_any(SCRIPT_CAUSES)}\n", REFUSED),
 ]
 STREAM_LINE = rf"papi: stream ([0-9]|[1-5][0-9]|6[0-3]): (?:line [1-9][0-9]*: {_any(STREAM_CAUSES)}|(read failed))\n"
