@@ -4,3 +4,4 @@ pub mod TakingRow
 pub mod InfixKept
 pub mod MoreRows
 pub mod Taking
+pub mod SamePresets

@@ -4,3 +4,4 @@ pub mod Entries
 pub mod Events
 pub mod Rows
 pub mod Steps
+pub mod Alike

@@ -5,6 +5,7 @@
 mod event;
 mod extended;
 mod judging;
+pub mod laws;
 mod reading;
 mod row;
 
