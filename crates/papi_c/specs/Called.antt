@@ -1,5 +1,5 @@
 -- What the calls from C do.
-use Rattle.std.specs.Prelude.{ℕ, ℤ, ◌≡◌, ◌<◌, ◌⊎◌, length, slice_index_or, pos, List, Option, Some, None, Result, Ok, Err, negsuc}
+use Rattle.std.specs.Prelude.{ℕ, ℤ, ◌≡◌, ◌<◌, ◌⊎◌, length, slice_index_or, pos, List, Option, Some, None, Result, IfOk, negsuc}
 use Rattle.papi_base.specs.declared.code.Code.{Code}
 use Rattle.papi_base.specs.declared.native.EventRef.{EventRef}
 use Rattle.papi_base.specs.Codes.{number_of}
@@ -67,3 +67,20 @@ abbrev pub Ran : Option LibraryView → Option LibraryView → ℤ → Type 0
 Ran None None number = number ≡ negsuc 15
 Ran (Some old) (Some new) number = Went old new
 Ran old new number = ⊥
+
+-- the code of an event is asked as the model has it: the number is that of the reply's code, and the event's code is given
+pub record Coded (old new : LibraryView) (made : Asked) (number : ℤ) (out : ℕ) : Type 0 where
+  pub answer : Result ℕ Code
+  pub does : Calls.Answered old new made (reply_of (λ n. body.EventCode n) answer)
+  pub code : number ≡ number_of (reply_of (λ n. body.EventCode n) answer).code
+  pub given : IfOk answer (λ n. n ≡ out)
+
+-- the same through a handle
+abbrev pub Codes : Option LibraryView → Option LibraryView → (LibraryView → Asked) → ℤ → ℕ → Type 0
+Codes None None made number out = number ≡ negsuc 15
+Codes (Some old) (Some new) made number out = Coded old new (made old) number out
+Codes old new made number out = ⊥
+
+-- the same of the event that a text names, unless it is not asked
+abbrev pub CodesName : List ℕ → Option LibraryView → Option LibraryView → ℤ → ℕ → Type 0
+CodesName name old new number out = Codes old new (λ l. asked.CodeOf (looked_up l.catalog name)) number out ⊎ ((new ≡ old) × IsUnmade number)

@@ -1,6 +1,7 @@
 //! PAPI's low-level calls for C: `papi_calls` through a handle. `include/kistalub.h` declares what C calls.
 #![tactic(auto)]
 
+mod codes;
 mod handle;
 mod named;
 mod numbers;

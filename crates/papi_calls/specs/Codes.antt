@@ -1,10 +1,11 @@
 -- Events by their codes: PAPI_event_code_to_name(3), PAPI_add_event(3).
-use Rattle.std.specs.Prelude.{ℕ, ◌==◌, List, map, Option, Some, None, Result, Ok, Err, position, true, ◌≡◌, ⊤}
+use Rattle.std.specs.Prelude.{ℕ, ◌==◌, List, map, Option, Some, None, Result, Ok, Err, position, slice_get, unwrap_or, true, ◌≡◌, ⊤}
 use Rattle.papi_base.specs.declared.code.Code.{Code}
 use Rattle.papi_base.specs.declared.code.Code.TheVariants.{Enoevnt}
 use Rattle.papi_base.specs.declared.native.EventRef.{EventRef}
 use Rattle.papi_base.specs.declared.native.EventRef.TheVariants as event
 use Rattle.papi_base.specs.declared.native.Native.{Native}
+use Rattle.component_table.specs.Codes.{code_in}
 use Rattle.component_table.specs.Catalogs.{CatalogView, preset_looked_up, shape_of}
 use Rattle.postfix_rules.specs.NativeCodes.{native_named}
 use Rattle.postfix_rules.specs.Presets.{Book}
@@ -29,6 +30,11 @@ event_at None None = Err Enoevnt
 -- the event of a code: a preset, or a native that was mentioned
 abbrev pub event_coded : List Native → ℕ → Result EventRef Code
 event_coded mentioned code = event_at (position (λ x. x == code) preset_codes) (native_named mentioned code)
+
+-- the code of an event: a preset's is that of its row, and a native event has one where it was mentioned
+abbrev pub event_code : List Native → EventRef → Option ℕ
+event_code mentioned (event.Preset row) = Some (unwrap_or (slice_get preset_codes row) 0)
+event_code mentioned (event.Native n) = code_in mentioned n
 
 -- a preset only where it is available
 abbrev pub where_held : Book → Result EventRef Code → Result EventRef Code

@@ -3,7 +3,7 @@ ghost use Rattle.std.specs.Prelude.{◌≡◌, ◌==◌, ◌<◌, IfOk, OnErr, O
 ghost use Rattle.component_table.specs.Catalogs.{looked_up};
 ghost use Rattle.component_table.specs.EventNames.{event_name};
 ghost use Rattle.papi_calls.specs.Calls.{Answered, Made};
-ghost use Rattle.papi_calls.specs.Codes.{IsKnown, coded, event_coded, map_ok, preset_codes};
+ghost use Rattle.papi_calls.specs.Codes.{IsKnown, coded, event_code, event_coded, map_ok, preset_codes};
 ghost use Rattle.postfix_rules.specs.Fitting.{EventFits, IsNamed};
 ghost use Rattle.event_tables.specs.Tables.{shape_of};
 ghost use Rattle.session_model.specs.Replies.{plain};
@@ -73,6 +73,16 @@ impl Library {
         match self.codes.native_of(code, self.codes.count()) {
             Some(native) => Ok(EventRef::Native(native)),
             None => Err(Code::Enoevnt),
+        }
+    }
+
+    /// The code of an event, as `code_of` gives it, and `None` for a native event that was not mentioned.
+    pub fn code_of_event(&self, event: &EventRef) -> Option<u32>
+        ensures code { result ≡ event_code self.now.mentioned event.now }
+    {
+        match event {
+            EventRef::Preset(row) => Some(code_of_preset(*row)),
+            EventRef::Native(native) => self.codes.code_of(native),
         }
     }
 

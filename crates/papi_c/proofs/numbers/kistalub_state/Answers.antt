@@ -14,9 +14,9 @@ returns-in-Err c =
     let same : n ≡ c.code_number.result = search rules in
     let made = call.State c.args.set in
     let at_v : Answered v v made n = record {
-        answer = plain c.in-Err.code;
-        step = subst (λ (l : LibraryView). Made l l made (plain c.in-Err.code)) c.deref.ensures c.in-Err.ensures.made;
-        code = same ∙ c.code_number.ensures.number;
-      } in
+      answer = plain c.in-Err.code;
+      step = subst (λ (l : LibraryView). Made l l made (plain c.in-Err.code)) c.deref.ensures c.in-Err.ensures.made;
+      code = same ∙ c.code_number.ensures.number;
+    } in
     let to_new = subst (λ (b : Option LibraryView). Called (Some v) b (λ l. made) n) (sym c.of.ensures) at_v in
     subst (λ (a : Option LibraryView). Called a c.of.result.library (λ l. made) n) c.in-Some.ensures.taken to_new
