@@ -2,20 +2,20 @@
 #![tactic(auto)]
 
 #[cfg(test)]
-mod counter_alloc;
+mod counter_alloc_tests;
 #[cfg(test)]
-mod event_sets;
+mod event_sets_tests;
 #[cfg(test)]
 mod event_sets_with_presets;
 #[cfg(test)]
-mod overflow_dispatch;
+mod overflow_dispatch_tests;
 #[cfg(test)]
-mod parallel_tasks;
+mod parallel_tasks_tests;
 #[cfg(test)]
-mod plan_runner;
+mod plan_runner_tests;
 #[cfg(test)]
-mod stream_reader;
+mod stream_reader_tests;
 #[cfg(test)]
-mod thread_registry;
+mod thread_registry_tests;
 #[cfg(test)]
-mod thread_session;
+mod thread_session_tests;

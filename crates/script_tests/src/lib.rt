@@ -2,12 +2,12 @@
 #![tactic(auto)]
 
 #[cfg(test)]
-mod papi_base;
+mod papi_base_tests;
 #[cfg(test)]
-mod script_lines;
+mod script_lines_tests;
 #[cfg(test)]
-mod script_runner;
+mod script_runner_tests;
 #[cfg(test)]
-mod soak_input;
+mod soak_input_tests;
 #[cfg(test)]
-mod tool_words;
+mod tool_words_tests;

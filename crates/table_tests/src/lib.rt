@@ -2,24 +2,24 @@
 #![tactic(auto)]
 
 #[cfg(test)]
-mod chooser_list;
+mod chooser_list_tests;
 #[cfg(test)]
-mod component_table;
+mod component_table_tests;
 #[cfg(test)]
-mod event_tables;
+mod event_tables_tests;
 #[cfg(test)]
 mod lab;
 #[cfg(test)]
-mod listing_text;
+mod listing_text_tests;
 #[cfg(test)]
-mod name_encoder;
+mod name_encoder_tests;
 #[cfg(test)]
-mod postfix_rules;
+mod postfix_rules_tests;
 #[cfg(test)]
-mod preset_csv;
+mod preset_csv_tests;
 #[cfg(test)]
-mod profil_hist;
+mod profil_hist_tests;
 #[cfg(test)]
-mod reply_text;
+mod reply_text_tests;
 #[cfg(test)]
-mod table_rows;
+mod table_rows_tests;
