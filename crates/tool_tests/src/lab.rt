@@ -25,21 +25,26 @@ pub(crate) fn words_in(alloc: Global, line: &str) -> Result<Vec<String>, AllocEr
     Ok(words)
 }
 
+// A further file, which ends well.
+fn add_file(
+    alloc: Global,
+    tapes: &mut Vec<(String, Vec<u8>, Ending)>,
+    name: &str,
+    text: &str,
+) -> Result<(), AllocError> {
+    let name = String::from_str(alloc, name)?;
+    let bytes = text.as_bytes().to_vec(alloc)?;
+    tapes.push((name, bytes, Ending::End))?;
+    Ok(())
+}
+
 /// The unit, the presets, the script `s` and the stream `t`.
 pub(crate) fn files_of(alloc: Global, script: &str, stream: &str) -> Result<MemFiles, AllocError> {
     let mut tapes = Vec::new(alloc);
-    for (name, text) in [
-        ("lab.unit", UNIT),
-        ("lab.presets", PRESETS),
-        ("s", script),
-        ("t", stream),
-    ] {
-        tapes.push((
-            String::from_str(alloc, name)?,
-            text.as_bytes().to_vec(alloc)?,
-            Ending::End,
-        ))?;
-    }
+    add_file(alloc, &mut tapes, "lab.unit", UNIT)?;
+    add_file(alloc, &mut tapes, "lab.presets", PRESETS)?;
+    add_file(alloc, &mut tapes, "s", script)?;
+    add_file(alloc, &mut tapes, "t", stream)?;
     Ok(MemFiles::new(alloc, tapes, 4096, Vec::new(alloc)))
 }
 
