@@ -2,6 +2,11 @@ pub mod Judged
 pub mod Putting
 pub mod TakingRow
 pub mod InfixKept
+pub mod Giving
 pub mod MoreRows
 pub mod Taking
 pub mod SamePresets
+pub mod WrittenRows
+pub mod EventLines
+pub mod EventsBack
+pub mod ExtendedBack

@@ -88,14 +88,14 @@ presets-more name above (event r) = ap entries_by (read-more (preset_read name) 
 
 -- ---- the names of the user events differ
 
-same-order : (s t : Text) → bytes_eq s t ≡ false → bytes_eq t s ≡ false
+pub same-order : (s t : Text) → bytes_eq s t ≡ false → bytes_eq t s ≡ false
 same-order s t e = go (bytes_eq t s) (bytes_eq-Decides t s) (bytes_eq-Decides s t)
   where
     go : (b : Bool) → Decides b (t ≡ s) → Decides (bytes_eq s t) (s ≡ t) → b ≡ false
     go true d k = let yes : bytes_eq s t ≡ true = k.1 (sym (d.0 refl)) in cc (e, yes)
     go false d k = refl
 
-or-parts : (a b : Bool) → (a || b) ≡ false → (a ≡ false) × (b ≡ false)
+pub or-parts : (a b : Bool) → (a || b) ≡ false → (a ≡ false) × (b ≡ false)
 or-parts true b e = cc e
 or-parts false b e = (refl, e)
 
@@ -155,7 +155,7 @@ put-names f s x (n ∷ ns) d = go (bytes_eq s n) (bytes_eq-Decides s n) refl (pu
         ap₂ (λ y ys. y ∷ ys) (ap (λ (b : Bool). view n (if b then x else f n)) e) (unchanged f s x ns others)
     go false k e h = later false (among s ns) e h
 
-put-more : (rows : List Derivation) (r : Derivation) (x : Entry) → event_judged r ≡ Ok x → events_of (rows ++ r ∷ []) ≡ put_event (events_of rows) r.symbol x
+pub put-more : (rows : List Derivation) (r : Derivation) (x : Entry) → event_judged r ≡ Ok x → events_of (rows ++ r ∷ []) ≡ put_event (events_of rows) r.symbol x
 unfolding names_in
 put-more rows r x j =
     let names : names_in (rows ++ r ∷ []) ≡ name_added (names_in rows) r = fold-append name_added [] rows (r ∷ []) in

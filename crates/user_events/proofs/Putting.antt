@@ -61,7 +61,7 @@ is-among xs name p e = let f = position-Some (is_named name) xs p nothing e in f
         go true m = refl
         go false m = m
 
-put-last : (xs : List EventView) (name : Text) (e : Entry) → among name (names_of xs) ≡ false → put_event xs name e ≡ xs ++ record { name = name; entry = e } ∷ []
+pub put-last : (xs : List EventView) (name : Text) (e : Entry) → among name (names_of xs) ≡ false → put_event xs name e ≡ xs ++ record { name = name; entry = e } ∷ []
 put-last [] name e h = refl
 put-last (x ∷ xs) name e h = go (bytes_eq name x.name) refl h (put-last xs name e)
   where

@@ -26,7 +26,7 @@ use Rattle.user_events.specs.Rows.{cause_if, entry_of, event_read, events_of, ex
 abbrev groups : List EventLine → List Line
 groups above = map in_groups above
 
-same-judged : (r : Derivation) → is_infix r.derived_type ≡ false → event_judged r ≡ judged r
+pub same-judged : (r : Derivation) → is_infix r.derived_type ≡ false → event_judged r ≡ judged r
 unfolding event_judged
 same-judged r e = rw e refl
 
@@ -62,7 +62,7 @@ same-fault name above (x ∷ lines) h =
 
 -- ---- the rows that are read
 
-abbrev IsOrdinary : Derivation → Type 0
+abbrev pub IsOrdinary : Derivation → Type 0
 IsOrdinary r = is_infix r.derived_type ≡ false
 
 same-read : (name : Text) (above lines : List EventLine) → AllByRecursion IsOfPresets lines
@@ -101,7 +101,7 @@ same-fold s e (r ∷ rows) h =
     ap (λ (j : Result Entry PresetCause). fold (λ e q. if bytes_eq q.symbol s then entry_or e (event_judged q) else e) (if bytes_eq r.symbol s then entry_or e j else e) rows) (same-judged r h.0)
     ∙ same-fold s (if bytes_eq r.symbol s then entry_or e (judged r) else e) rows h.1
 
-same-entries : (rows : List Derivation) (ss : List Text) → AllByRecursion IsOrdinary rows → map (entry_of rows) ss ≡ map (Of.entry_of rows) ss
+pub same-entries : (rows : List Derivation) (ss : List Text) → AllByRecursion IsOrdinary rows → map (entry_of rows) ss ≡ map (Of.entry_of rows) ss
 unfolding entry_of Of.entry_of
 same-entries rows [] h = refl
 same-entries rows (s ∷ ss) h = ap₂ (λ (x : Entry) (xs : List Entry). x ∷ xs) (same-fold s entry.Missing rows h) (same-entries rows ss h)

@@ -23,12 +23,13 @@ use Rattle.preset_csv.proofs.Judged.{Keeps}
 use Rattle.preset_csv.proofs.OneMore.{group-one-more}
 use Rattle.preset_csv.proofs.TableKept.{IsKept, IsLine, derivation-kept, line-kept, other-name}
 use Rattle.user_events.specs.Entries.{event_judged}
-use Rattle.user_events.specs.Events.{Distinct, EventView, ExtendedView, IsEvent, IsExtended, names_of}
+use Rattle.user_events.specs.Events.{Distinct, EventView, ExtendedView, IsEvent, IsExtended, IsGiven, names_of}
 use Rattle.user_events.specs.Lines.{EventLine, event, in_groups, line_of, lines_of, plain}
 use Rattle.user_events.specs.Names.{is_event_name}
 use Rattle.user_events.specs.Rows.{ReadsExtended, among, cause_if, entry_of, events_of, events_read, extended_fault, extended_in, fault_from, holds, is_too_many, line_cause, named_entry, names_in, preset_entries, read_from}
 use Rattle.user_events.specs.Steps.{Taking, TakesRow, cause_more, entries_more, events_more, put_event, put_judged}
 use Rattle.user_events.specs.declared.event.TheConstants.{MOST_EVENTS}
+use Rattle.user_events.proofs.Giving.{Gives, event-gives}
 use Rattle.user_events.proofs.InfixKept.{event-kept}
 use Rattle.user_events.proofs.MoreRows.{events-more, events_more_cause, named-ok, names-are, names-distinct, no-cause, presets-more}
 
@@ -75,12 +76,12 @@ missing-if : (b : Bool) (es : List Entry) (row : Option ℕ) (j : Result Entry P
 missing-if true es row j e h = cc e
 missing-if false es row j e h = h
 
-all-put : (xs : List EventView) (name : Text) (e : Entry) → AllByRecursion IsEvent xs → is_event_name name ≡ true → IsEntry e → AllByRecursion IsEvent (put_event xs name e)
-all-put [] name e h n k = ((n, k), tt)
+all-put : (xs : List EventView) (name : Text) (e : Entry) → AllByRecursion IsEvent xs → is_event_name name ≡ true → IsEntry e × IsGiven e → AllByRecursion IsEvent (put_event xs name e)
+all-put [] name e h n k = ((n, k.0, k.1), tt)
 all-put (x ∷ xs) name e h n k = go (bytes_eq name x.name) (all-put xs name e h.1 n k)
   where
     go : (b : Bool) → AllByRecursion IsEvent (put_event xs name e) → AllByRecursion IsEvent (if b then record { name = x.name; entry = e } ∷ xs else x ∷ put_event xs name e)
-    go true r = ((h.0.0, k), h.1)
+    go true r = ((h.0.0, k.0, k.1), h.1)
     go false r = (h.0, r)
 
 put-known : (xs : List EventView) (name : Text) (e : Entry) → among name (names_of xs) ≡ true → length (put_event xs name e) ≡ length xs
@@ -122,7 +123,7 @@ event-put false xs r k le h e = record { few = le; events = h; none = λ f n. n 
 event-put true xs r k le h e =
     let x = no-cause (named_entry (names_of xs) r) e in
     let n = named-ok (names_of xs) r x.0 x.1 in
-    let kept : IsEntry x.0 = subst Keeps n.entry (event-kept r k) in
+    let kept : IsEntry x.0 × IsGiven x.0 = (subst Keeps n.entry (event-kept r k), subst Gives n.entry (event-gives r)) in
     let is : put_judged xs r.symbol (named_entry (names_of xs) r) ≡ put_event xs r.symbol x.0 = ap (put_judged xs r.symbol) x.1 in
     record {
       few = subst (λ (v : List EventView). length v ≤ MOST_EVENTS) (sym is) (put-few xs r.symbol x.0 le n.few);

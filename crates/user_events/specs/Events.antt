@@ -5,6 +5,7 @@ use Rattle.std.specs.Str.{bytes_eq}
 use Rattle.table_rows.specs.Texts.{Text}
 use Rattle.preset_csv.specs.Tables.{IsEntry, IsTable, TableView, is_field}
 use Rattle.preset_csv.specs.declared.entry.Entry.{Entry}
+use Rattle.preset_csv.specs.declared.entry.Entry.TheVariants as entry
 use Rattle.user_events.specs.Names.{is_event_name}
 use Rattle.user_events.specs.declared.event.TheConstants.{MOST_EVENTS}
 use Rattle.user_events.specs.declared.event.UserEvent.{UserEvent}
@@ -22,8 +23,14 @@ pub record ExtendedView : Type 0 where
   pub presets : TableView
   pub events : List EventView
 
+-- an entry that a row gives; none gives a missing one
+abbrev pub IsGiven : Entry → Type 0
+IsGiven entry.Missing = ⊥
+IsGiven entry.Uncomputed = ⊤
+IsGiven (entry.Def d) = ⊤
+
 abbrev pub IsEvent : EventView → Type 0
-IsEvent e = (is_event_name e.name ≡ true) × IsEntry e.entry
+IsEvent e = (is_event_name e.name ≡ true) × IsEntry e.entry × IsGiven e.entry
 
 abbrev pub names_of : List EventView → List Text
 names_of events = map (λ e. e.name) events
@@ -33,7 +40,7 @@ abbrev pub Distinct : List Text → Type 0
 Distinct [] = ⊤
 Distinct (t ∷ rest) = AllByRecursion (λ u. bytes_eq t u ≡ false) rest × Distinct rest
 
--- At most so many user events, of names that have their form and differ pairwise. None is read for a cpu whose name can
+-- At most so many user events, none of them missing, of names that have their form and differ pairwise. None is read for a cpu whose name can
 -- stand in no field.
 pub record IsExtended (x : ExtendedView) : Type 0 where
   pub table : IsTable x.presets

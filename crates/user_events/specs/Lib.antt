@@ -5,3 +5,4 @@ pub mod Events
 pub mod Rows
 pub mod Steps
 pub mod Alike
+pub mod Written

@@ -8,7 +8,9 @@ mod judging;
 pub mod laws;
 mod reading;
 mod row;
+mod writing;
 
 pub use crate::event::{MOST_EVENTS, UserEvent};
 pub use crate::extended::Extended;
 pub use crate::reading::read_extended;
+pub use crate::writing::write_extended;

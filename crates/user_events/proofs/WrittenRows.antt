@@ -1,0 +1,78 @@
+-- The text of user events, row by row.
+use Rattle.std.proofs.Common.{◌≡◌, ◌∙◌, ◌+◌, ◌<◌, ◌≤◌, ◌∷◌, ◌++◌, ℕ, List, [], length, map, get_or, take, refl, sym, ap, append_assoc, append-nil, codes}
+use Rattle.std.proofs.lemmas.List.{map-append, take_all, take_more}
+use Rattle.table_rows.specs.Rows.{rows_text}
+use Rattle.table_rows.specs.Texts.{Text}
+use Rattle.preset_csv.specs.Defs.{DefView}
+use Rattle.preset_csv.specs.Steps.{behind_commas}
+use Rattle.preset_csv.specs.Tables.{TableView}
+use Rattle.preset_csv.specs.Written.{def_fields, table_text}
+use Rattle.preset_csv.specs.declared.entry.Entry.{Entry}
+use Rattle.preset_csv.specs.declared.entry.Entry.TheVariants as entry
+use Rattle.preset_csv.proofs.WrittenParts.{put-row, row-text, rows-append}
+use Rattle.user_events.specs.Events.{EventView, ExtendedView, event_view}
+use Rattle.user_events.specs.Written.{event_rows, extended_text, named_rows}
+use Rattle.user_events.specs.declared.event.UserEvent.{UserEvent}
+
+-- ---- the row of a name
+
+pub missing-put : (s : Text) (e : Entry) (text : Text) → e ≡ entry.Missing → text ≡ text ++ rows_text (named_rows s e)
+unfolding rows_text
+missing-put s e text is = rw is (sym (append-nil text))
+
+put-fields : (s fields t0 t1 t2 t3 t4 : Text) (row : List Text) → fields ≡ behind_commas row → t1 ≡ t0 ++ codes "EVENT" → t2 ≡ t1 ++ (44 ∷ s) → t3 ≡ t2 ++ fields → t4 ≡ t3 ++ (10 ∷ [])
+    → t4 ≡ t0 ++ rows_text ((codes "EVENT" ∷ s ∷ row) ∷ [])
+put-fields s fields t0 t1 t2 t3 t4 row is first second third fourth =
+    fourth ∙ ap (λ (t : Text). t ++ (10 ∷ [])) (third ∙ ap (λ (t : Text). t ++ fields) (second ∙ ap (λ (t : Text). t ++ (44 ∷ s)) first))
+    ∙ put-row t0 (codes "EVENT") s fields (10 ∷ []) ∙ ap (λ (t : Text). t0 ++ ((codes "EVENT" ++ (44 ∷ (s ++ t))) ++ (10 ∷ []))) is
+    ∙ ap (λ (t : Text). t0 ++ t) (sym (row-text (codes "EVENT") (s ∷ row)))
+
+pub uncomputed-put : (s : Text) (e : Entry) (t0 t1 t2 t3 : Text) → e ≡ entry.Uncomputed → t1 ≡ t0 ++ codes "EVENT" → t2 ≡ t1 ++ (44 ∷ s) → t3 ≡ t2 ++ codes ",DERIVED_CMPD\n" → t3 ≡ t0 ++ rows_text (named_rows s e)
+uncomputed-put s e t0 t1 t2 t3 is first second third =
+    rw is (put-fields s (codes ",DERIVED_CMPD") t0 t1 t2 (t2 ++ codes ",DERIVED_CMPD") t3 (codes "DERIVED_CMPD" ∷ []) refl first second refl
+    (third ∙ sym (append_assoc t2 (codes ",DERIVED_CMPD") (10 ∷ []))))
+
+pub def-put : (s : Text) (e : Entry) (d : DefView) (t0 t1 t2 t3 t4 : Text) → e ≡ entry.Def d → t1 ≡ t0 ++ codes "EVENT" → t2 ≡ t1 ++ (44 ∷ s) → t3 ≡ t2 ++ behind_commas (def_fields d) → t4 ≡ t3 ++ (10 ∷ [])
+    → t4 ≡ t0 ++ rows_text (named_rows s e)
+def-put s e d t0 t1 t2 t3 t4 is first second third fourth = rw is (put-fields s (behind_commas (def_fields d)) t0 t1 t2 t3 t4 (def_fields d) refl first second third fourth)
+
+-- ---- the rows of some user events
+
+events-append : (xs ys : List EventView) → event_rows (xs ++ ys) ≡ event_rows xs ++ event_rows ys
+unfolding event_rows
+events-append [] ys = refl
+events-append (x ∷ xs) ys =
+    ap (λ (rows : List (List Text)). named_rows x.name x.entry ++ rows) (events-append xs ys) ∙ sym (append_assoc (named_rows x.name x.entry) (event_rows xs) (event_rows ys))
+
+one-event : (x : EventView) → event_rows (x ∷ []) ≡ named_rows x.name x.entry
+unfolding event_rows
+one-event x = append-nil (named_rows x.name x.entry)
+
+-- the text of a table's presets and of its first user events
+abbrev pub text_to : TableView → List UserEvent → ℕ → Text
+text_to t events i = table_text t ++ rows_text (event_rows (map event_view (take i events)))
+
+pub begun : (t : TableView) (events : List UserEvent) (text : Text) → text ≡ table_text t → text ≡ text_to t events 0
+unfolding event_rows rows_text
+begun t events text is = is ∙ sym (append-nil (table_text t))
+
+pub one-more : (t : TableView) (events : List UserEvent) (i : ℕ) (e : UserEvent) (old new name : Text) → i < length events → e ≡ get_or events i e → name ≡ (event_view e).name
+    → new ≡ old ++ rows_text (named_rows name e.entry) → old ≡ text_to t events i → new ≡ text_to t events (i + 1)
+one-more t events i e old new name lt at named are before =
+    let x = event_view e in
+    let rows : event_rows (map event_view (take (i + 1) events)) ≡ event_rows (map event_view (take i events)) ++ named_rows x.name x.entry =
+    ap (λ ys. event_rows (map event_view ys)) (take_more events i e lt ∙ ap (λ y. take i events ++ (y ∷ [])) (sym at))
+    ∙ ap event_rows (map-append event_view (take i events) (e ∷ []))
+    ∙ events-append (map event_view (take i events)) (x ∷ [])
+    ∙ ap (λ (r : List (List Text)). event_rows (map event_view (take i events)) ++ r) (one-event x) in
+    are ∙ ap (λ (n : Text). old ++ rows_text (named_rows n e.entry)) named
+    ∙ ap (λ (t : Text). t ++ rows_text (named_rows x.name x.entry)) before
+    ∙ append_assoc (table_text t) (rows_text (event_rows (map event_view (take i events)))) (rows_text (named_rows x.name x.entry))
+    ∙ ap (λ (u : Text). table_text t ++ u) (sym (ap rows_text rows ∙ rows-append (event_rows (map event_view (take i events))) (named_rows x.name x.entry)))
+
+pub ended : (x : ExtendedView) (t : TableView) (events : List UserEvent) (i : ℕ) (text : Text) → t ≡ x.presets → map event_view events ≡ x.events → length events ≤ i → text ≡ text_to t events i → text ≡ extended_text x
+unfolding extended_text
+ended x t events i text is are le h =
+    h ∙ ap (λ (es : List UserEvent). table_text t ++ rows_text (event_rows (map event_view es))) (take_all i events le)
+    ∙ ap (λ (es : List EventView). table_text t ++ rows_text (event_rows es)) are
+    ∙ ap (λ (v : TableView). table_text v ++ rows_text (event_rows x.events)) is
