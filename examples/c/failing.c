@@ -1,0 +1,106 @@
+/* Each allocation of a library's life is refused in turn: the calls answer PAPI_ENOMEM, the handle can be used on, and nothing
+ * leaks. Linked with --wrap=malloc, --wrap=realloc and --wrap=free. */
+#include "kistalub.h"
+#include "wanted.h"
+#include <string.h>
+
+void *__real_malloc(size_t n);
+void *__real_realloc(void *p, size_t n);
+void __real_free(void *p);
+
+static long left = -1, live;
+
+static int refused(void) {
+    if (left < 0) return 0;
+    return left-- == 0;
+}
+
+void *__wrap_malloc(size_t n) {
+    void *p = refused() ? NULL : __real_malloc(n);
+    if (p) live++;
+    return p;
+}
+
+void *__wrap_realloc(void *p, size_t n) {
+    if (!p) return __wrap_malloc(n);
+    return refused() ? NULL : __real_realloc(p, n);
+}
+
+void __wrap_free(void *p) {
+    if (p) live--;
+    __real_free(p);
+}
+
+static unsigned char unit[65536], presets[65536];
+static size_t unit_length, presets_length;
+static const char stream[] = "0 c0 00 u 255 1\n0 c0 00 u 255 2\n0 c0 00 u 255 3\n0 c0 00 u 255 4\n";
+
+static size_t file(const char *path, unsigned char *into) {
+    FILE *f = fopen(path, "rb");
+    if (!f) exit(2);
+    size_t n = fread(into, 1, 65536, f);
+    fclose(f);
+    return n;
+}
+
+/* Makes the calls, and says how many were refused memory. Where the first is refused there is no library. */
+static int live_once(void) {
+    kistalub h = KISTALUB_SHUT;
+    uint32_t set = 7, code = 0, length, consumed = 0, told = 0;
+    unsigned char name[64];
+    kistalub_passing passings[32];
+    const unsigned char *inst = (const unsigned char *)"INST_RETIRED";
+    int refusals = 0, answer;
+    answer = kistalub_open(&h, unit, unit_length, presets, presets_length, (const unsigned char *)"lab2", 4, 0, (const unsigned char *)stream, sizeof stream - 1);
+    if (answer != 0) {
+        WANT(answer, -2);
+        WANT(kistalub_create(&h, &set), -16);
+        kistalub_close(&h);
+        return 1;
+    }
+    WANT(kistalub_create(&h, &set), 0);
+    answer = kistalub_add_named(&h, set, inst, 12);
+    if (answer != 0) {
+        WANT(answer, -2);
+        refusals++;
+        WANT(kistalub_add_named(&h, set, inst, 12), 0);
+    }
+    answer = kistalub_name_to_code(&h, inst, 12, &code);
+    WANT(answer, 0);
+    answer = kistalub_code_to_name(&h, code, name, sizeof name, &length);
+    if (answer != 0) {
+        WANT(answer, -2);
+        refusals++;
+    }
+    WANT(kistalub_overflow(&h, set, code, 1000), 0);
+    WANT(kistalub_start(&h, set), 0);
+    answer = kistalub_run(&h, 4, &consumed, passings, 32, &told);
+    if (answer != 0) {
+        WANT(answer, -2);
+        refusals++;
+    }
+    int64_t value;
+    WANT(kistalub_stop(&h, set, &value, 1, &told), 0);
+    WANT(value, 1020);
+    kistalub_close(&h);
+    return refusals;
+}
+
+int main(int argc, char **argv) {
+    if (argc != 3) return 2;
+    unit_length = file(argv[1], unit);
+    presets_length = file(argv[2], presets);
+    long refusals = 0, k;
+    for (k = 0;; k++) {
+        long before = live;
+        left = k;
+        int n = live_once(), whole = left >= 0;
+        left = -1;
+        if (live != before) { printf("leak at allocation %ld: %ld\n", k, live - before); return 1; }
+        refusals += n;
+        if (whole) break;
+        WANT(n, 1);
+    }
+    printf("each allocation refused once, none leaks: %s\n", refusals == k ? "yes" : "no");
+    return refusals != k;
+}

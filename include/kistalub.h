@@ -1,0 +1,87 @@
+/* PAPI's low-level calls over modelled counters, for C and C++.
+ *
+ * A handle stands for what one thread's calls go to. It is a struct of one pointer that the caller keeps, begun as
+ * KISTALUB_SHUT; nothing but these functions reads or writes it. A handle is used by one call at a time. Threads have a
+ * handle each, and share nothing: sets and codes of events are the handle's.
+ *
+ * The functions answer PAPI's codes: 0, or a number below 0 (papi.h names them). A handle without a library answers -16,
+ * PAPI_ENOINIT. Texts and arrays are a pointer and a length; the pointer is never null, and what is given back goes into
+ * an array as far as there is room, with its whole length beside it. These functions are proved up to here; this header
+ * itself is not. */
+#ifndef KISTALUB_H
+#define KISTALUB_H
+
+#include <stddef.h>
+#include <stdint.h>
+
+#ifdef __cplusplus
+extern "C" {
+#endif
+
+typedef struct { void *at; } kistalub;
+#define KISTALUB_SHUT { NULL }
+
+/* A threshold that was passed: the set, the place of the event in it from 0, and the address of the occurrence. */
+typedef struct { uint32_t set, index; uint64_t address; } kistalub_passing;
+
+/* Opens the library of a thread over the text of a unit file, of a preset file (of length 0: no presets) for a cpu, and of a
+ * stream. The texts are not needed afterwards. -1 where a file is faulty, -2 where memory is refused: the handle is then as it
+ * was. A library that was open in the handle is closed. */
+int kistalub_open(kistalub *h, const unsigned char *unit, size_t unit_len, const unsigned char *presets, size_t presets_len,
+                  const unsigned char *cpu, size_t cpu_len, uint32_t thread, const unsigned char *stream, size_t stream_len);
+void kistalub_close(kistalub *h);
+
+int kistalub_register(kistalub *h);
+int kistalub_unregister(kistalub *h);
+
+int kistalub_create(kistalub *h, uint32_t *set);
+int kistalub_destroy(kistalub *h, uint32_t set);
+int kistalub_cleanup(kistalub *h, uint32_t set);
+int kistalub_assign_component(kistalub *h, uint32_t set, uint32_t component);
+int kistalub_set_domain(kistalub *h, uint32_t set, uint32_t bits);
+int kistalub_set_multiplex(kistalub *h, uint32_t set, uint32_t slice);
+
+/* Events by name: -1 where the name is no UTF-8. */
+int kistalub_add_named(kistalub *h, uint32_t set, const unsigned char *name, size_t name_len);
+int kistalub_remove_named(kistalub *h, uint32_t set, const unsigned char *name, size_t name_len);
+int kistalub_overflow_named(kistalub *h, uint32_t set, const unsigned char *name, size_t name_len, uint64_t threshold);
+
+/* Events by code: that of a preset, or of a native event that was named before. A threshold of 0 clears it. */
+int kistalub_add(kistalub *h, uint32_t set, uint32_t code);
+int kistalub_remove(kistalub *h, uint32_t set, uint32_t code);
+int kistalub_overflow(kistalub *h, uint32_t set, uint32_t code, uint64_t threshold);
+int kistalub_name_to_code(kistalub *h, const unsigned char *name, size_t name_len, uint32_t *code);
+int kistalub_code_to_name(kistalub *h, uint32_t code, unsigned char *name, size_t room, uint32_t *length);
+int kistalub_list_events(kistalub *h, uint32_t set, uint32_t *codes, size_t room, uint32_t *count);
+
+int kistalub_start(kistalub *h, uint32_t set);
+int kistalub_stop(kistalub *h, uint32_t set, int64_t *values, size_t room, uint32_t *count);
+int kistalub_read(kistalub *h, uint32_t set, int64_t *values, size_t room, uint32_t *count);
+/* The model's accumulating call: the sums are kept in the set. PAPI_accum of papi.h adds to the caller's array. */
+int kistalub_accum(kistalub *h, uint32_t set, int64_t *values, size_t room, uint32_t *count);
+int kistalub_reset(kistalub *h, uint32_t set);
+int kistalub_state(kistalub *h, uint32_t set, uint32_t *bits);
+
+/* How many counters a component has, -17 where there is no such component. */
+int kistalub_counters(kistalub *h, uint32_t component);
+
+/* Consumes up to n occurrences of the stream. At one occurrence at most 32 thresholds are passed, so that with n = 1 an array of 32
+ * passings has room for all. -3 where the stream is faulty, -2 where memory is refused at a passing. */
+int kistalub_run(kistalub *h, uint32_t n, uint32_t *consumed, kistalub_passing *passings, size_t room, uint32_t *told);
+
+/* What follows is C over the functions above (papi.c), and is not proved. */
+
+/* What PAPI_library_init takes, in place of the environment: the paths of a unit file, of a preset file or NULL, the cpu or NULL,
+ * and of the streams, where %t stands for the number of the thread from 0. Without it they come from KISTALUB_UNIT,
+ * KISTALUB_PRESETS, KISTALUB_CPU and KISTALUB_STREAM. A thread whose stream there is not has an empty one. Before PAPI_library_init. */
+int kistalub_init(const char *unit, const char *presets, const char *cpu, const char *stream);
+
+/* The calling thread goes on: up to n occurrences happen, `went` says how many, and the handlers of PAPI_overflow are called at
+ * each occurrence that passes a threshold, before the next one. Each PAPI_read, PAPI_accum and PAPI_stop first goes on by
+ * KISTALUB_STEP of the environment, 0 if there is none. */
+int kistalub_go(uint32_t n, uint32_t *went);
+
+#ifdef __cplusplus
+}
+#endif
+#endif
