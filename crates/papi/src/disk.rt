@@ -1,10 +1,33 @@
 // The files of the disk.
 ghost use Rattle.std.specs.Prelude.{None};
 
-use papi_base::{Files, OpenFail, ReadSource};
+use papi_base::{Failed, Files, OpenFail, Source};
 use std::fs;
 use std::fs::File;
-use std::io::ErrorKind;
+use std::io::{ErrorKind, Read};
+
+/// A file of the disk that is read. It tells nothing of its bytes, and each error of a read is a fault.
+#[derive(Drop)]
+pub struct DiskSource {
+    file: File,
+    faults: u64,
+}
+
+impl Source for DiskSource {
+    ghost faults = { λ s. s.faults };
+
+    ghost tape = { λ _. None };
+
+    fn read(&mut self, buf: &mut [u8]) -> Result<usize, Failed> {
+        match self.file.read(buf) {
+            Ok(n) => Ok(n),
+            Err(_) => {
+                self.faults = self.faults.saturating_add(1);
+                Err(Failed)
+            }
+        }
+    }
+}
 
 /// The files of the disk, by their paths. They tell nothing of what they hold.
 #[derive(Drop)]
@@ -28,7 +51,7 @@ impl<'a> DiskFiles<'a> {
 }
 
 impl<'a> Files for DiskFiles<'a> {
-    type S = ReadSource<File>;
+    type S = DiskSource;
 
     ghost misses = { λ f. f.misses };
 
@@ -38,12 +61,12 @@ impl<'a> Files for DiskFiles<'a> {
 
     ghost held = { λ _. None };
 
-    fn open_source(&mut self, name: &str) -> Result<ReadSource<File>, OpenFail> {
+    fn open_source(&mut self, name: &str) -> Result<DiskSource, OpenFail> {
         match fs::open(self.rt, name) {
             Ok(file) => match self.lent.checked_add(1) {
                 Some(lent) => {
                     self.lent = lent;
-                    Ok(ReadSource::new(file))
+                    Ok(DiskSource { file, faults: 0 })
                 }
                 None => Err(OpenFail::Memory),
             },
@@ -59,9 +82,9 @@ impl<'a> Files for DiskFiles<'a> {
         }
     }
 
-    fn close_source(&mut self, source: ReadSource<File>) {
+    fn close_source(&mut self, source: DiskSource) {
         self.lent = self.lent.saturating_sub(1);
-        if source.has_failed() {
+        if source.faults != 0 {
             self.faults = self.faults.saturating_add(1);
         }
     }
