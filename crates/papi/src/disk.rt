@@ -1,31 +1,26 @@
 // The files of the disk.
 ghost use Rattle.std.specs.Prelude.{None};
 
-use papi_base::{Failed, Files, OpenFail, Source};
+use papi_base::{Failed, Files, OpenFail, ReadSource, Source};
 use std::fs;
 use std::fs::File;
-use std::io::{ErrorKind, Read};
+use std::io::ErrorKind;
 
-/// A file of the disk that is read. It tells nothing of its bytes, and each error of a read is a fault.
+/// A file of the disk that is read.
 #[derive(Drop)]
 pub struct DiskSource {
-    file: File,
-    faults: u64,
+    reader: ReadSource<File>,
 }
 
 impl Source for DiskSource {
-    ghost faults = { λ s. s.faults };
+    ghost use Rattle.papi_base.specs.Adapter.{reader_faults};
+
+    ghost faults = { λ s. reader_faults s.reader };
 
     ghost tape = { λ _. None };
 
     fn read(&mut self, buf: &mut [u8]) -> Result<usize, Failed> {
-        match self.file.read(buf) {
-            Ok(n) => Ok(n),
-            Err(_) => {
-                self.faults = self.faults.saturating_add(1);
-                Err(Failed)
-            }
-        }
+        self.reader.read(buf)
     }
 }
 
@@ -66,7 +61,9 @@ impl<'a> Files for DiskFiles<'a> {
             Ok(file) => match self.lent.checked_add(1) {
                 Some(lent) => {
                     self.lent = lent;
-                    Ok(DiskSource { file, faults: 0 })
+                    Ok(DiskSource {
+                        reader: ReadSource::new(file),
+                    })
                 }
                 None => Err(OpenFail::Memory),
             },
@@ -84,7 +81,7 @@ impl<'a> Files for DiskFiles<'a> {
 
     fn close_source(&mut self, source: DiskSource) {
         self.lent = self.lent.saturating_sub(1);
-        if source.faults != 0 {
+        if source.reader.has_failed() {
             self.faults = self.faults.saturating_add(1);
         }
     }
