@@ -23,3 +23,5 @@ mod profil_hist_tests;
 mod reply_text_tests;
 #[cfg(test)]
 mod table_rows_tests;
+#[cfg(test)]
+mod user_events_tests;
