@@ -3,5 +3,4 @@ pub mod Places
 pub mod Bits
 pub mod Counts
 pub mod Tables
-pub mod Setting
 pub mod Steps

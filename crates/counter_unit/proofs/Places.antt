@@ -1,11 +1,12 @@
 -- Places of registers, one by one and all together.
-use Rattle.std.proofs.Common.{◌≡◌, ℕ, zero, suc, ◌+◌, ◌-◌, ◌^◌, ◌<◌, ◌≤◌, inl, inr, List, [], ◌∷◌, length, set, get_or, take, replicate, refl, ap, ◌∙◌, arith, Option, Some, None, slice_get}
-use Rattle.std.specs.Prelude.{unwrap_or, ◌==◌}
+use Rattle.std.proofs.Common.{◌≡◌, ℕ, zero, suc, ◌+◌, ◌-◌, ◌^◌, ◌<◌, ◌≤◌, inl, inr, List, [], ◌∷◌, length, set, get_or, replicate, refl, ap, ◌∙◌, arith, Option, Some, None}
+use Rattle.std.specs.Prelude.{◌==◌}
 use Rattle.std.specs.Option.{option_map}
 use Rattle.std.proofs.lemmas.Bool.{cases_eq, cond_both, cond-true, cond-false, eq-eqb, ne_eqb, leb-true, leb-false}
 use Rattle.papi_base.proofs.Weights.{weight_of-le}
 use Rattle.papi_base.specs.Weight.{weight_of}
 use Rattle.papi_base.specs.Widths.{AreWidths}
+use Rattle.std.proofs.lemmas.List.{length-set, length-replicate, get_or-set_same, get_or-set_other}
 use Rattle.std.proofs.lemmas.Nat.{pow_pos}
 use Rattle.std.proofs.Math.Pow.{pow_mono}
 use Rattle.papi_base.specs.declared.occurrence.Occ.{Occ}
@@ -14,23 +15,6 @@ use Rattle.papi_base.specs.declared.bits.Domain.{Domain}
 use Rattle.counter_unit.specs.declared.registers.Register.{Register}
 use Rattle.counter_unit.specs.Counting.{IsThreshold, period, beginning, begun, begun_again, at_place, IsSound, AreSound, moved, carries, moved_place, all_moved}
 
-pub at_place-set_same : (rs : List (Option Register)) (c : ℕ) (x : Option Register) → c < length rs → at_place (set rs c x) c ≡ x
-at_place-set_same [] c x h = absurd (omega arith)
-at_place-set_same (r ∷ rs) zero x h = refl
-at_place-set_same (r ∷ rs) (suc c) x h = at_place-set_same rs c x (omega arith)
-
-pub at_place-set_other : (rs : List (Option Register)) (c k : ℕ) (x : Option Register) → (k ≡ c → ⊥) → at_place (set rs c x) k ≡ at_place rs k
-at_place-set_other [] c k x h = refl
-at_place-set_other (r ∷ rs) zero zero x h = absurd (h refl)
-at_place-set_other (r ∷ rs) zero (suc k) x h = refl
-at_place-set_other (r ∷ rs) (suc c) zero x h = refl
-at_place-set_other (r ∷ rs) (suc c) (suc k) x h = at_place-set_other rs c k x (λ e. h (ap suc e))
-
-pub length-set_place : (rs : List (Option Register)) (c : ℕ) (x : Option Register) → length (set rs c x) ≡ length rs
-length-set_place [] c x = refl
-length-set_place (r ∷ rs) zero x = refl
-length-set_place (r ∷ rs) (suc c) x = ap suc (length-set_place rs c x)
-
 pub at_place-replicate : (n c : ℕ) → at_place (replicate n None) c ≡ None
 at_place-replicate zero c = refl
 at_place-replicate (suc n) zero = refl
@@ -38,21 +22,18 @@ at_place-replicate (suc n) (suc c) = at_place-replicate n c
 
 pub AreSound-put : (ws : List ℕ) (rs : List (Option Register)) (c : ℕ) (x : Option Register) → c < length ws → IsSound (get_or ws c 0) x → AreSound ws rs → AreSound ws (set rs c x)
 AreSound-put ws rs c x below sound h = record {
-  same_length = length-set_place rs c x ∙ h.same_length;
+  same_length = length-set rs c x ∙ h.same_length;
   each = λ k lt. elim (cases_eq k c) [
-    | inl same ↦ rw (same, at_place-set_same rs c x (omega (arith, h.same_length))) sound
-    | inr apart ↦ rw (at_place-set_other rs c k x apart) (h.each k lt)
+    | inl same ↦ rw (same, get_or-set_same rs c x None (omega (arith, h.same_length))) sound
+    | inr apart ↦ rw (get_or-set_other rs c k x None apart) (h.each k lt)
   ];
 }
 
 pub AreSound-empty : (ws : List ℕ) → AreSound ws (replicate (length ws) None)
 AreSound-empty ws = record {
-  same_length = length-empty (length ws);
+  same_length = length-replicate (length ws) (let none : Option Register = None in none);
   each = λ k lt. rw (at_place-replicate (length ws) k) tt;
-} where
-  length-empty : (n : ℕ) → length (replicate {A = Option Register} n None) ≡ n
-  length-empty zero = refl
-  length-empty (suc n) = ap suc (length-empty n)
+}
 
 pub length-all_moved : (before : Option Occ) (o : Occ) (ws : List ℕ) (rs : List (Option Register)) → length rs ≡ length ws → length (all_moved before o ws rs) ≡ length rs
 length-all_moved before o [] [] e = refl
@@ -103,14 +84,3 @@ AreSound-moved before o ws rs widths small h = record {
   same_length = length-all_moved before o ws rs h.same_length ∙ h.same_length;
   each = λ c lt. rw (at_place-all_moved before o ws rs c h.same_length) (moved_place-sound before o (get_or ws c 0) (at_place rs c) (widths.low c lt) small (h.each c lt));
 }
-
--- the first places of a longer list
-pub at_place-take : (n : ℕ) (rs : List (Option Register)) (c : ℕ) → c < n → at_place (take n rs) c ≡ get_or rs c None
-at_place-take zero rs c h = absurd (omega arith)
-at_place-take (suc n) [] c h = refl
-at_place-take (suc n) (r ∷ rs) zero h = refl
-at_place-take (suc n) (r ∷ rs) (suc c) h = at_place-take n rs c (omega arith)
-
--- a place that is read is sound
-pub place-sound : (ws : List ℕ) (rs : List (Option Register)) (c : ℕ) (r : Option Register) → AreSound ws rs → c < length ws → slice_get rs c ≡ Some r → IsSound (get_or ws c 0) r
-place-sound ws rs c r h lt e = let is : at_place rs c ≡ r = ap (λ x. unwrap_or x None) e in rw (← is) (h.each c lt)

@@ -1,6 +1,5 @@
 -- The counters that occurrences with each code can move, as the registers change.
-use Rattle.std.proofs.Common.{◌≡◌, ℕ, zero, suc, ◌+◌, ◌<◌, ◌≤◌, inl, inr, List, [], ◌∷◌, length, set, get_or, replicate, refl, ap, sym, ◌∙◌, arith, Option, Some, None}
-use Rattle.std.specs.Option.{option_map}
+use Rattle.std.proofs.Common.{◌≡◌, ℕ, ◌+◌, ◌<◌, inl, inr, List, length, set, get_or, replicate, refl, ap, sym, ◌∙◌, arith, Option, Some, None}
 use Rattle.std.specs.Int.{bit_at}
 use Rattle.std.proofs.lemmas.Bool.{cases_eq}
 use Rattle.std.proofs.lemmas.List.{length-set, length-replicate, get_or-replicate, get_or-set_same, get_or-set_other}
@@ -10,17 +9,12 @@ use Rattle.counter_unit.specs.declared.registers.Register.{Register}
 use Rattle.counter_unit.specs.declared.selects.Key.{Key}
 use Rattle.counter_unit.specs.declared.selects.Key.TheVariants as key
 use Rattle.counter_unit.specs.declared.selects.Selects.{Selects}
-use Rattle.counter_unit.specs.Counting.{all_moved, at_place, begun_again, moved_place}
+use Rattle.counter_unit.specs.Counting.{all_moved, at_place, moved_place}
 use Rattle.counter_unit.specs.Selects.{AreMarked, AreSelects, IsRemarked, bit_of, has}
-use Rattle.counter_unit.proofs.Places.{at_place-all_moved, at_place-replicate, at_place-set_same, at_place-set_other}
+use Rattle.counter_unit.proofs.Places.{at_place-all_moved, at_place-replicate}
 
 pub no_bit : (n : ℕ) → n ≡ 1 → n ≡ 0 → ⊥
 no_bit n one none = absurd (omega arith)
-
-pub at_place_past : (rs : List (Option Register)) (c : ℕ) → length rs ≤ c → at_place rs c ≡ None
-at_place_past [] c h = refl
-at_place_past (r ∷ rs) zero h = absurd (omega arith)
-at_place_past (r ∷ rs) (suc c) h = at_place_past rs c (omega arith)
 
 pub AreMarked-none : (k : Key) (n : ℕ) → AreMarked k (replicate 256 0) (replicate n None)
 AreMarked-none k n = record {
@@ -32,45 +26,25 @@ pub AreMarked-put : (k : Key) (old new : List ℕ) (rs : List (Option Register))
 AreMarked-put k old new rs c place exists r h = record {
   codes = r.codes ∙ h.codes;
   each = λ code i small below. elim (cases_eq i c) [
-    | inl here ↦ rw (here, at_place-set_same rs c place exists) (r.here code small)
-    | inr apart ↦ r.there code i small below apart ∙ h.each code i small below ∙ sym (ap (λ p. bit_of (has k code p)) (at_place-set_other rs c i place apart))
+    | inl here ↦ rw (here, get_or-set_same rs c place None exists) (r.here code small)
+    | inr apart ↦ r.there code i small below apart ∙ h.each code i small below ∙ sym (ap (λ p. bit_of (has k code p)) (get_or-set_other rs c i place None apart))
   ];
 }
 
--- where each counter keeps its codes the tables serve
-AreMarked-same : (k : Key) (masks : List ℕ) (rs now : List (Option Register)) → ((code c : ℕ) → has k code (at_place now c) ≡ has k code (at_place rs c)) → AreMarked k masks rs → AreMarked k masks now
-AreMarked-same k masks rs now same h = record { codes = h.codes; each = λ code c small below. h.each code c small below ∙ sym (ap bit_of (same code c)) }
-
-AreSelects-same : (selects : Selects) (rs now : List (Option Register)) → ((k : Key) (code c : ℕ) → has k code (at_place now c) ≡ has k code (at_place rs c)) → AreSelects selects rs → AreSelects selects now
-AreSelects-same selects rs now same h = record {
-  user = AreMarked-same key.User selects.user rs now (same key.User) h.user;
-  kernel = AreMarked-same key.Kernel selects.kernel rs now (same key.Kernel) h.kernel;
-  umasks = AreMarked-same key.Umask selects.umasks rs now (same key.Umask) h.umasks;
-}
-
--- a register that begins again keeps its codes
-pub AreSelects-zeroed : (selects : Selects) (rs : List (Option Register)) (c w : ℕ) → c < length rs → AreSelects selects rs → AreSelects selects (set rs c (option_map (begun_again w) (at_place rs c)))
-AreSelects-zeroed selects rs c w exists h = AreSelects-same selects rs _ same h where
-  again : (k : Key) (code : ℕ) (place : Option Register) → has k code (option_map (begun_again w) place) ≡ has k code place
-  again k code None = refl
-  again key.User code (Some r) = refl
-  again key.Kernel code (Some r) = refl
-  again key.Umask code (Some r) = refl
-
-  same : (k : Key) (code i : ℕ) → has k code (at_place (set rs c (option_map (begun_again w) (at_place rs c))) i) ≡ has k code (at_place rs i)
-  same k code i = elim (cases_eq i c) [
-    | inl here ↦ rw here (ap (has k code) (at_place-set_same rs c (option_map (begun_again w) (at_place rs c)) exists) ∙ again k code (at_place rs c))
-    | inr apart ↦ ap (has k code) (at_place-set_other rs c i _ apart)
-  ]
-
--- and so does one that moves
+-- a register that moves keeps its codes
 pub AreSelects-moved : (before : Option Occ) (o : Occ) (selects : Selects) (ws : List ℕ) (rs : List (Option Register)) → length rs ≡ length ws → AreSelects selects rs → AreSelects selects (all_moved before o ws rs)
-AreSelects-moved before o selects ws rs e h = AreSelects-same selects rs (all_moved before o ws rs) (λ k code i. ap (has k code) (at_place-all_moved before o ws rs i e) ∙ moves k code (get_or ws i 0) (at_place rs i)) h where
+AreSelects-moved before o selects ws rs e h = record { user = marked key.User selects.user h.user; kernel = marked key.Kernel selects.kernel h.kernel; umasks = marked key.Umask selects.umasks h.umasks } where
   moves : (k : Key) (code w : ℕ) (place : Option Register) → has k code (moved_place before o w place).place ≡ has k code place
   moves k code w None = refl
   moves key.User code w (Some r) = refl
   moves key.Kernel code w (Some r) = refl
   moves key.Umask code w (Some r) = refl
+
+  marked : (k : Key) (masks : List ℕ) → AreMarked k masks rs → AreMarked k masks (all_moved before o ws rs)
+  marked k masks m = record {
+    codes = m.codes;
+    each = λ code c small below. m.each code c small below ∙ sym (ap bit_of (ap (has k code) (at_place-all_moved before o ws rs c e) ∙ moves k code (get_or ws c 0) (at_place rs c)));
+  }
 
 -- the table while the codes below this one are done
 pub record Marking (k : Key) (c : ℕ) (place : Option Register) (old now : List ℕ) (done : ℕ) : Type 0 where

@@ -1,5 +1,7 @@
 -- Registers, what is added to them, and when they carry.
-use Rattle.std.specs.Prelude.{ℕ, ◌+◌, ◌-◌, ◌*◌, ◌/◌, ◌%◌, ◌^◌, ◌≡◌, ◌<◌, ◌≤◌, ◌⊎◌, Bool, false, if◌then◌else◌, ◌==◌, nat_le, List, [], ◌∷◌, length, slice_get, slice_index, Option, Some, None, unwrap_or}
+use Rattle.std.specs.Prelude.{ℕ, ◌+◌, ◌-◌, ◌*◌, ◌/◌, ◌%◌, ◌^◌, ◌≡◌, ◌<◌, ◌≤◌, ◌⊎◌, Bool, false, if◌then◌else◌, ◌==◌, nat_le}
+use Rattle.std.specs.Prelude.{List, [], ◌∷◌, length, slice_index, slice_index_or, Option, Some, None}
+use Rattle.std.specs.Option.{option_map_or}
 use Rattle.papi_base.specs.declared.occurrence.Occ.{Occ}
 use Rattle.papi_base.specs.declared.native.Native.{Native}
 use Rattle.papi_base.specs.declared.bits.Domain.{Domain}
@@ -25,38 +27,47 @@ beginning width threshold = 2 ^ width - period width threshold
 
 -- the register at its beginning
 abbrev pub begun : ℕ → Native → Domain → ℕ → Register
-begun width n d threshold = record { native = n; domain = d; threshold = threshold; value = beginning width threshold }
+begun width n d threshold = record { native = n; domain = d; threshold = threshold; value = beginning width threshold; bank = 0 }
 
+-- the same register once more at its beginning
 abbrev pub begun_again : ℕ → Register → Register
-begun_again width r = record r { value = beginning width r.threshold }
+begun_again width r = record r { value = beginning width r.threshold; bank = 0 }
 
 -- the register carries when so much is added
 abbrev pub carries : ℕ → ℕ → Register → Bool
 carries width more r = nat_le (2 ^ width) (r.value + more)
 
--- the register after so much is added: what is over after a carry is counted from the beginning
+-- what a word of 64 bits keeps of a sum
+abbrev pub wrapped : ℕ → ℕ
+wrapped n = n % 2 ^ 64
+
+-- the register after so much is added: a carry takes a period away into the bank, and what is over is counted from the beginning
 abbrev pub moved : ℕ → ℕ → Register → Register
-moved width more r = record r { value = if carries width more r then beginning width r.threshold + (r.value + more - 2 ^ width) else r.value + more }
+moved width more r = record r {
+  value = if carries width more r then beginning width r.threshold + (r.value + more - 2 ^ width) else r.value + more;
+  bank = if carries width more r then wrapped (r.bank + period width r.threshold) else r.bank;
+}
+
+-- what was counted since the register began, in 64 bits: what was carried away, and what the register is above its beginning
+abbrev pub whole : ℕ → Register → ℕ
+whole width r = wrapped (r.bank + (r.value - beginning width r.threshold))
 
 -- what is programmed on the counter, if it exists
 abbrev pub at_place : List (Option Register) → ℕ → Option Register
-at_place registers c = unwrap_or (slice_get registers c) None
+at_place registers c = slice_index_or registers c None
 
 -- a place after an occurrence, and whether its register carried
 pub record After : Type 0 where
   pub place : Option Register
   pub carried : Bool
 
+-- nothing counts where nothing is programmed
 abbrev pub moved_place : Option Occ → Occ → ℕ → Option Register → After
 moved_place before o width None = record { place = None; carried = false }
 moved_place before o width (Some r) = record {
   place = Some (moved width (weight_of r.native r.domain before o) r);
   carried = carries width (weight_of r.native r.domain before o) r;
 }
-
--- a place after an occurrence that moves it or not
-abbrev pub moved_where : Bool → Option Occ → Occ → ℕ → Option Register → After
-moved_where moves before o width place = if moves then moved_place before o width place else record { place = place; carried = false }
 
 -- all places after an occurrence
 abbrev pub all_moved : Option Occ → Occ → List ℕ → List (Option Register) → List (Option Register)
@@ -85,10 +96,16 @@ pub record AreSound (widths : List ℕ) (registers : List (Option Register)) : T
   pub same_length : length registers ≡ length widths
   pub each : (c : ℕ) → c < length widths → IsSound (slice_index widths c) (at_place registers c)
 
--- the register of a count
+-- the register of a count: each multiple of the period was carried away
 abbrev pub register_at : ℕ → Native → Domain → ℕ → ℕ → Register
-register_at width n d threshold count = record { native = n; domain = d; threshold = threshold; value = beginning width threshold + count % period width threshold }
+register_at width n d threshold count = record {
+  native = n;
+  domain = d;
+  threshold = threshold;
+  value = beginning width threshold + count % period width threshold;
+  bank = wrapped (count / period width threshold * period width threshold);
+}
 
--- how much of a count was carried away
-abbrev pub banked : ℕ → ℕ → ℕ → ℕ
-banked width threshold count = count / period width threshold * period width threshold
+-- the count on a counter, 0 where nothing is programmed
+abbrev pub count_on : UnitView → ℕ → ℕ
+count_on unit c = option_map_or (whole (slice_index unit.widths c)) (at_place unit.registers c) 0

@@ -9,7 +9,7 @@ use Rattle.counter_unit.specs.declared.selects.Key.{Key}
 use Rattle.counter_unit.specs.declared.selects.Key.TheVariants as key
 use Rattle.counter_unit.specs.declared.selects.Selects.{Selects}
 use Rattle.counter_unit.specs.Counting.{at_place}
-use Rattle.counter_unit.specs.Setups.{counts_kernel, counts_user}
+use Rattle.counter_unit.specs.Modes.{counts_kernel, counts_user}
 
 -- occurrences with this code can move the register
 abbrev pub has_code : Key → ℕ → Register → Bool
@@ -17,6 +17,7 @@ has_code key.User code r = (r.native.select == code) && counts_user r.native r.d
 has_code key.Kernel code r = (r.native.select == code) && counts_kernel r.native r.domain
 has_code key.Umask code r = (r.native.umask == 0) || share r.native.umask code
 
+-- none can where nothing is programmed
 abbrev pub has : Key → ℕ → Option Register → Bool
 has key code None = false
 has key code (Some r) = has_code key code r
@@ -38,6 +39,7 @@ pub record AreMarked (key : Key) (masks : List ℕ) (registers : List (Option Re
   pub codes : length masks ≡ 256
   pub each : (code c : ℕ) → code < 256 → c < 32 → bit_at (slice_index masks code) c ≡ bit_of (has key code (at_place registers c))
 
+-- the three tables of a unit
 pub record AreSelects (selects : Selects) (registers : List (Option Register)) : Type 0 where
   pub user : AreMarked key.User selects.user registers
   pub kernel : AreMarked key.Kernel selects.kernel registers

@@ -6,7 +6,7 @@ pub use registers::Register;
 pub use unit::Unit;
 
 pub mod laws;
+mod modes;
 pub mod registers;
 mod selects;
-mod setups;
 pub mod unit;

@@ -5,8 +5,8 @@ ghost use Rattle.counter_unit.specs.declared.registers.Register.{Register};
 ghost use Rattle.counter_unit.specs.Counting.{at_place};
 ghost use Rattle.counter_unit.specs.Selects.{AreSelects, IsRemarked, admits, bit_of, has};
 
+use crate::modes::{counts_kernel, counts_user};
 use crate::registers::Register;
-use crate::setups::{counts_kernel, counts_user};
 use papi_base::Occ;
 
 /// What the 256 codes of a table are: the select codes of occurrences in user mode, of those in kernel mode, or their umasks.
@@ -43,9 +43,18 @@ fn has(key: Key, code: u32, place: &Option<Register>) -> bool
     }
 }
 
+/// Whether the bit of this counter is on.
+#[inline(always)]
+pub(crate) fn has_bit(mask: u32, c: u32) -> bool
+    requires { c < 32 }
+    ensures { bit_of result ≡ bit_at mask c }
+{
+    mask >> c & 1 == 1
+}
+
 /// The bits with that of this counter on or off.
 #[inline(always)]
-fn with_bit(mask: u32, c: u32, on: bool) -> u32
+pub(crate) fn with_bit(mask: u32, c: u32, on: bool) -> u32
     requires { c < 32 }
     ensures here { bit_at result c ≡ bit_of on }
     ensures there { (k : ℕ) → k < 32 → (k ≡ c → ⊥) → bit_at result k ≡ bit_at mask k }
@@ -79,7 +88,9 @@ impl Selects {
     /// The counters that the occurrence can move.
     #[inline(always)]
     pub(crate) fn at(&self, o: &Occ) -> u32
-        ensures { (registers : List (Option Register)) (k : ℕ) → AreSelects self.now registers → k < 32 → bit_at result k ≡ bit_of (admits o.now (at_place registers k)) }
+        ensures { (registers : List (Option Register)) (k : ℕ)
+            → AreSelects self.now registers → k < 32
+            → bit_at result k ≡ bit_of (admits o.now (at_place registers k)) }
     {
         let user = self.user[o.select as usize];
         let kernel = self.kernel[o.select as usize];
@@ -90,7 +101,9 @@ impl Selects {
     /// Another place, or none, is programmed on a counter.
     pub(crate) fn put(&mut self, c: u32, place: &Option<Register>)
         requires { c < 32 }
-        ensures { (registers : List (Option Register)) → c < length registers → AreSelects self.old registers → AreSelects self.new (slice_set registers c place.now) }
+        ensures { (registers : List (Option Register))
+            → c < length registers → AreSelects self.old registers
+            → AreSelects self.new (slice_set registers c place.now) }
     {
         mark(&mut self.user, Key::User, c, place);
         mark(&mut self.kernel, Key::Kernel, c, place);

@@ -1,16 +1,15 @@
 //! The unit: what is programmed, what an occurrence adds, and which counters carry (PAPI_overflow(3): after a carry a
 //! register is loaded again so that it carries after the threshold).
-ghost use Rattle.std.specs.Prelude.{◌≡◌, ℕ, ◌+◌, ◌^◌, ◌<◌, ◌≤◌, ◌==◌, if◌then◌else◌, length, slice_get, slice_index, slice_set, replicate, true, None, Some};
+ghost use Rattle.std.specs.Prelude.{◌≡◌, ◌+◌, ◌^◌, ◌<◌, ◌≤◌, ◌==◌, if◌then◌else◌, length, min, slice_index, slice_set, replicate, None, Some};
 ghost use Rattle.std.specs.Option.{option_copied, option_map};
-ghost use Rattle.papi_base.specs.Weight.{weight_of};
 ghost use Rattle.papi_base.specs.Widths.{AreWidths};
 ghost use Rattle.counter_unit.specs.Selects.{admits};
-ghost use Rattle.counter_unit.specs.Setups.{IsSetUp};
-ghost use Rattle.counter_unit.specs.Counting.{IsThreshold, IsSound, AreSound, beginning, period, at_place, begun, begun_again, moved, carries, moved_where, all_moved, all_carries, bits_of};
+ghost use Rattle.counter_unit.specs.Counting.{IsThreshold, IsSound, beginning, period, at_place, begun, begun_again};
+ghost use Rattle.counter_unit.specs.Counting.{moved_place, all_moved, all_carries, bits_of, count_on};
 
-use crate::registers::{Register, Registers};
-use crate::selects::Selects;
-use crate::setups::{Setup, Setups};
+use crate::modes::weight_on;
+use crate::registers::Register;
+use crate::selects::{Selects, has_bit, with_bit};
 use papi_base::{CompShape, Domain, Native, Occ};
 use std::marker::Model;
 
@@ -18,29 +17,28 @@ use std::marker::Model;
 #[derive(Drop)]
 pub struct Unit {
     shape: CompShape,
-    registers: Registers,
+    /// A place for each counter, and none beyond them.
+    registers: [Option<Register>; 32],
     selects: Selects,
-    setups: Setups,
 }
 
 impl Model for Unit {
-    ghost use Rattle.std.specs.Prelude.{◌≡◌, length};
+    ghost use Rattle.std.specs.Prelude.{length, take};
     ghost use Rattle.counter_unit.specs.Counting.{UnitView};
     ghost use Rattle.counter_unit.specs.Units.{IsUnit};
 
     ghost Value = { UnitView };
 
-    ghost view = { λ u. record { widths = u.shape; registers = u.registers } };
+    ghost view = { λ u. record { widths = u.shape; registers = take (length u.shape) u.registers } };
 
-    ghost invariant = { λ u. IsUnit u.shape u.registers u.selects u.setups.items };
+    ghost invariant = { λ u. IsUnit u.shape u.registers u.selects };
 }
 
 /// The values of a register of this width, and one more than the greatest.
 #[inline(always)]
-pub(crate) fn room(width: u8) -> u64
+fn room(width: u8) -> u64
     requires { width ≤ 48 }
     ensures value { result ≡ 2 ^ width }
-    ensures bound { result ≤ 2 ^ 48 }
     ensures least { 16 ≤ width → 65536 ≤ result }
 {
     1 << width
@@ -48,10 +46,9 @@ pub(crate) fn room(width: u8) -> u64
 
 /// How much is counted from one carry to the next.
 #[inline(always)]
-pub fn period_of(width: u8, threshold: u64) -> u64
+fn period_of(width: u8, threshold: u64) -> u64
     requires { width ≤ 48 }
     ensures value { result ≡ period width threshold }
-    ensures small { threshold ≤ 2 ^ 48 → result ≤ 2 ^ 48 }
 {
     if threshold == 0 {
         room(width)
@@ -62,7 +59,7 @@ pub fn period_of(width: u8, threshold: u64) -> u64
 
 /// Where a register of this width begins.
 #[inline(always)]
-pub fn beginning_of(width: u8, threshold: u64) -> u64
+fn beginning_of(width: u8, threshold: u64) -> u64
     requires width { width ≤ 48 }
     requires threshold { IsThreshold width threshold }
     ensures { result ≡ beginning width threshold }
@@ -70,12 +67,11 @@ pub fn beginning_of(width: u8, threshold: u64) -> u64
     room(width) - period_of(width, threshold)
 }
 
-/// Counts one occurrence at a place, unless it does not move it, and tells whether its register carried.
+/// Counts one occurrence at a place, where it is told whether it moves it, and tells whether its register carried.
 #[inline(always)]
-pub(crate) fn count_place(
+fn count_place(
     place: &mut Option<Register>,
     width: u8,
-    setup: Setup,
     moves: bool,
     before: Option<&Occ>,
     o: &Occ,
@@ -83,30 +79,34 @@ pub(crate) fn count_place(
     requires low { 16 ≤ width }
     requires high { width ≤ 48 }
     requires sound { IsSound width place.old }
-    requires set_up { IsSetUp width place.old setup }
-    requires admitted { moves ≡ true → admits o.now place.old ≡ true }
-    ensures place { place.new ≡ (moved_where moves (option_copied before.entry) o.now width place.old).place }
-    ensures carried { result ≡ (moved_where moves (option_copied before.entry) o.now width place.old).carried }
+    requires admitted { moves ≡ admits o.now place.old }
+    ensures place { place.new ≡ (moved_place (option_copied before.entry) o.now width place.old).place }
+    ensures carried { result ≡ (moved_place (option_copied before.entry) o.now width place.old).carried }
 {
     match place {
         None => false,
         Some(register) => {
-            let more = u64::from(setup.weight(register, moves, before, o));
-            let sum = register.value + more;
-            let carried = setup.room <= sum;
-            register.value = if carried { sum - setup.period } else { sum };
+            let sum = register.value + u64::from(weight_on(register, moves, before, o));
+            let carried = room(width) <= sum;
+            if carried {
+                let period = period_of(width, register.threshold);
+                register.value = sum - period;
+                register.bank = register.bank.wrapping_add(period);
+            } else {
+                register.value = sum;
+            }
             carried
         }
     }
 }
 
-/// The counters to look at where an occurrence can move these: the first one where it can move none.
+/// The counters to look at where an occurrence can move these of so many: the first one where it can move none.
 // So there is mostly one turn, whether or not the occurrence counts, which a processor cannot foresee.
 #[inline(always)]
-fn one_at_least(counters: u32) -> u32
-    ensures { result ≡ (if counters == 0 then 1 else counters) }
+fn one_at_least(moved: u32, counters: u32) -> u32
+    ensures { result ≡ (if moved == 0 then min counters 1 else moved) }
 {
-    if counters == 0 { 1 } else { counters }
+    if moved == 0 { counters.min(1) } else { moved }
 }
 
 /// The register at its beginning again, if the counter is programmed.
@@ -117,11 +117,12 @@ fn again(place: Option<Register>, width: u8) -> Option<Register>
 {
     let mut register = place?;
     register.value = beginning_of(width, register.threshold);
+    register.bank = 0;
     Some(register)
 }
 
 impl Unit {
-    ghost use Rattle.std.specs.Prelude.{unwrap_or, is_some, IfSome};
+    ghost use Rattle.std.specs.Prelude.{IfSome};
 
     /// Nothing is programmed.
     pub fn new(shape: &CompShape) -> Unit
@@ -129,11 +130,11 @@ impl Unit {
         ensures widths { AreWidths shape.now }
         ensures few { length shape.now ≤ 32 }
     {
+        let _counters = shape.counters();
         Unit {
             shape: shape.copy(),
-            registers: Registers::empty(shape.counters()),
+            registers: [None; 32],
             selects: Selects::none(),
-            setups: Setups::none(),
         }
     }
 
@@ -142,7 +143,8 @@ impl Unit {
     pub fn program(&mut self, c: u32, n: Native, d: Domain, threshold: u64)
         requires exists { c < length self.old.widths }
         requires threshold { IsThreshold (slice_index self.old.widths c) threshold }
-        ensures { self.new ≡ record self.old { registers = slice_set self.old.registers c (Some (begun (slice_index self.old.widths c) n d threshold)) } }
+        ensures { let place = Some (begun (slice_index self.old.widths c) n d threshold)
+            in self.new ≡ record self.old { registers = slice_set self.old.registers c place } }
     {
         let width = self.shape.width(c);
         let value = beginning_of(width, threshold);
@@ -151,10 +153,29 @@ impl Unit {
             domain: d,
             threshold,
             value,
+            bank: 0,
         });
+        self.put(c, place);
+    }
+
+    /// Another register, or none, is on the counter.
+    fn put(&mut self, c: u32, place: Option<Register>)
+        requires exists { c < length self.old.widths }
+        requires sound { IsSound (slice_index self.old.widths c) place }
+        ensures { self.new ≡ record self.old { registers = slice_set self.old.registers c place } }
+    {
         self.selects.put(c, &place);
-        self.setups.put(c, Setup::of(&n, width, threshold));
-        self.registers.put(c, place);
+        self.registers[c as usize] = place;
+    }
+
+    /// What is programmed on a counter, if anything.
+    #[inline(always)]
+    fn place(&self, c: u32) -> Option<Register>
+        requires { c < length self.now.widths }
+        ensures value { result ≡ at_place self.now.registers c }
+        ensures sound { IsSound (slice_index self.now.widths c) result }
+    {
+        self.registers[c as usize]
     }
 
     /// Adds to each programmed register what the occurrence counts for it, where `before` came just before it. The result
@@ -164,22 +185,18 @@ impl Unit {
         ensures registers { self.new ≡ record self.old { registers = all_moved (option_copied before.entry) o.now self.old.widths self.old.registers } }
         ensures carries { result ≡ bits_of (all_carries (option_copied before.entry) o.now self.old.widths self.old.registers) }
     {
+        // The contract speaks of the amount, which fits 8 bits.
         let _amount = o.amount;
-        if self.shape.counters() == 0 {
-            return 0;
-        }
         let all = self.selects.at(o);
-        let moves = all != 0;
         let mut carry = 0;
-        let mut left = one_at_least(all);
+        let mut left = one_at_least(all, self.shape.counters());
         while left != 0 {
             let c = left.trailing_zeros();
             left &= !(1 << c);
             let width = self.shape.width(c);
-            let setup = self.setups.at(c);
-            if self.registers.count(c, width, setup, moves, before, o) {
-                carry |= 1 << c;
-            }
+            let place = &mut self.registers[c as usize];
+            let carried = count_place(place, width, has_bit(all, c), before, o);
+            carry = with_bit(carry, c, carried);
         }
         carry
     }
@@ -191,31 +208,36 @@ impl Unit {
         ensures small { IfSome result (λ v. v < 2 ^ 48) }
     {
         let _width = self.shape.width(c);
-        match self.registers.at(c) {
+        match self.place(c) {
             Some(register) => Some(register.value),
             None => None,
+        }
+    }
+
+    /// What the native event on the counter counted since it was programmed or zeroed, modulo 2^64, and 0 where none is.
+    pub fn count(&self, c: u32) -> u64
+        requires exists { c < length self.now.widths }
+        ensures { result ≡ count_on self.now c }
+    {
+        let width = self.shape.width(c);
+        match self.place(c) {
+            Some(register) => {
+                let above = register.value - beginning_of(width, register.threshold);
+                register.bank.wrapping_add(above)
+            }
+            None => 0,
         }
     }
 
     /// The counter's register begins again, if it is programmed.
     pub fn zero(&mut self, c: u32)
         requires exists { c < length self.old.widths }
-        ensures { self.new ≡ record self.old { registers = slice_set self.old.registers c (option_map (begun_again (slice_index self.old.widths c)) (at_place self.old.registers c)) } }
+        ensures { let again = option_map (begun_again (slice_index self.old.widths c)) (at_place self.old.registers c)
+            in self.new ≡ record self.old { registers = slice_set self.old.registers c again } }
     {
         let width = self.shape.width(c);
-        let place = again(self.registers.at(c), width);
-        self.registers.put(c, place);
-    }
-
-    /// The width of a counter, in bits.
-    #[inline(always)]
-    pub fn width(&self, c: u32) -> u8
-        requires exists { c < length self.now.widths }
-        ensures width { result ≡ slice_index self.now.widths c }
-        ensures low { 16 ≤ result }
-        ensures high { result ≤ 48 }
-    {
-        self.shape.width(c)
+        let place = again(self.place(c), width);
+        self.put(c, place);
     }
 
     /// The widths of the counters.
@@ -230,7 +252,6 @@ impl Unit {
         requires exists { c < length self.old.widths }
         ensures { self.new ≡ record self.old { registers = slice_set self.old.registers c None } }
     {
-        self.selects.put(c, &None);
-        self.registers.put(c, None);
+        self.put(c, None);
     }
 }

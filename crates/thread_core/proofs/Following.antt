@@ -1,34 +1,57 @@
 -- A core that did what its refusals and its sets say follows each account that it stands for.
-use Rattle.std.proofs.Common.{◌≡◌, ◌≤◌, true, [], length, refl, ap, ap₂, sym, subst, ◌∙◌, Option, Some, None, option_map}
-use Rattle.papi_base.specs.declared.code.Code.{Code}
-use Rattle.postfix_rules.specs.Presets.{Book}
-use Rattle.event_sets.specs.declared.refusal.Refusal.{Refusal}
-use Rattle.event_sets.specs.declared.refusal.Refusal.TheVariants.{Plain}
-use Rattle.postfix_rules.specs.Fitting.{BookFits}
-use Rattle.event_sets.specs.AtRest.{Widths}
-use Rattle.session_model.specs.declared.call.Call.{Call}
+use Rattle.thread_core.proofs.Words.{Bool, List, map, ◌≡◌, [], refl, ◌∷◌, ap, Option, list_all, is_some, option_map, None, Some, ◌&&◌, Code, Plain, first_code}
+use Rattle.thread_core.proofs.Words.{first_of, row, true, false, ℕ, option_map_or, slice_get, zero, suc, Refusal, if◌then◌else◌, ℤ, Enoevst, Enotrun}
+use Rattle.thread_core.proofs.Words.{values_reply, plain, subst, Book, CoreView, Account, CoreStands, slot_faces, faces_of, ◌∙◌, Call, refusal_of}
+use Rattle.thread_core.proofs.Words.{account_refusal, ap₂, Reply, AgreesWith, refused, Follows, sym, Outcome, step, unless, performed, Widths, is_on_sets}
+use Rattle.thread_core.proofs.Words.{sets_after, new_kept, kept_after, reply_over, sight_of_kept, UnitView, Slot, Kept, slots_of, units_of, AreApart, IsGood}
+use Rattle.thread_core.proofs.Words.{length, AllWithin, AreFit, time_after, IsRefusedWith, within_stays, apart_stays, fit_stays}
+use Rattle.papi_base.specs.declared.code.Code.TheVariants as code
 use Rattle.session_model.specs.declared.call.Call.TheVariants as call
-use Rattle.session_model.specs.declared.reply.Reply.{Reply}
-use Rattle.session_model.specs.Account.{Account, time_after}
-use Rattle.session_model.specs.Bounds.{AllWithin, AreApart}
-use Rattle.session_model.specs.Fitness.{AreFit}
-use Rattle.session_model.specs.Changes.{kept_after, new_kept, sets_after}
-use Rattle.session_model.specs.Conditions.{IsGood}
-use Rattle.session_model.specs.Faces.{faces_of}
-use Rattle.session_model.specs.Refusals.{refusal_of}
-use Rattle.session_model.specs.Replies.{plain, refused, reply_over, sight_of_kept}
-use Rattle.session_model.specs.Step.{Outcome, account_refusal, performed, step, unless}
-use Rattle.session_laws.proofs.Apart.{apart_stays}
-use Rattle.session_laws.proofs.Counted.{places_stay}
-use Rattle.session_laws.proofs.FitStays.{fit_stays}
-use Rattle.session_laws.proofs.Within.{within_stays}
-use Rattle.thread_core.specs.CoreView.{CoreView}
-use Rattle.thread_core.specs.Following.{Follows, is_on_sets}
-use Rattle.thread_core.specs.Refusing.{slot_faces}
-use Rattle.thread_slots.specs.Slots.{slots_of}
-use Rattle.thread_core.specs.Stands.{AgreesWith, CoreStands}
-use Rattle.thread_slots.specs.Units.{units_of}
 use Rattle.thread_core.proofs.Owners.{faces_same}
+use Rattle.session_laws.proofs.Counted.{places_stay}
+
+-- ---- tables of refusals: the first check that holds, and what is known where none does
+
+pub all_some_of_map : {X Y : Type 0} (f : X → Y) (xs : List (Option X)) → list_all (λ (p : Option Y). is_some p) (map (option_map f) xs) ≡ list_all (λ (p : Option X). is_some p) xs
+all_some_of_map f [] = refl
+all_some_of_map f (None ∷ xs) = refl
+all_some_of_map f (Some x ∷ xs) = ap (λ b. is_some (Some x) && b) (all_some_of_map f xs)
+
+-- the first check that holds is the first row that comes
+pub codes_refuse : (checks : List (Bool × Code)) → option_map Plain (first_code checks) ≡ first_of (map (λ check. row check.0 check.1) checks)
+codes_refuse [] = refl
+codes_refuse ((true, code) ∷ checks) = refl
+codes_refuse ((false, code) ∷ checks) = codes_refuse checks
+
+-- where none holds, each of them fails
+pub check_fails : (checks : List (Bool × Code)) (i : ℕ) → first_code checks ≡ None → option_map_or (λ check. check.0) (slice_get checks i) false ≡ false
+check_fails [] i h = refl
+check_fails ((true, code) ∷ checks) i h = cc
+check_fails ((false, code) ∷ checks) zero h = refl
+check_fails ((false, code) ∷ checks) (suc i) h = check_fails checks i h
+
+-- a table that begins with some checks
+abbrev before : List (Bool × Code) → Option Refusal → Option Refusal
+before [] more = more
+before (check ∷ checks) more = if check.0 then Some (Plain check.1) else before checks more
+
+pub check_comes : (checks : List (Bool × Code)) (more : Option Refusal) (c : Code) → first_code checks ≡ Some c → before checks more ≡ Some (Plain c)
+check_comes [] more c h = cc
+check_comes ((true, code) ∷ checks) more c h = ap (option_map Plain) h
+check_comes ((false, code) ∷ checks) more c h = check_comes checks more c h
+
+pub none_comes : (checks : List (Bool × Code)) (more : Option Refusal) → first_code checks ≡ None → before checks more ≡ more
+none_comes [] more h = refl
+none_comes ((true, code) ∷ checks) more h = cc
+none_comes ((false, code) ∷ checks) more h = none_comes checks more h
+
+-- a code that refuses shows no values
+pub shows_none : (a b : Bool) (c : Code) (values : List ℤ) → (if a then Some (Plain Enoevst) else if b then Some (Plain Enotrun) else None) ≡ Some (Plain c) → values_reply c values ≡ plain c
+shows_none true b c values h = let same : Enoevst ≡ c = cc in subst (λ (x : Code). values_reply x values ≡ plain x) same refl
+shows_none false true c values h = let same : Enotrun ≡ c = cc in subst (λ (x : Code). values_reply x values ≡ plain x) same refl
+shows_none false false c values h = cc
+
+-- ---- calls
 
 -- refusals look at the same in the core and in the account
 pub faces_stand : (book : Book) (core : CoreView) (a : Account) → CoreStands book core a → slot_faces core.slots ≡ faces_of a.sets
@@ -50,96 +73,138 @@ refused_follows book core call r reply agrees is says = record {
   out : (a : Account) → CoreStands book core a → step book core.shape a call ≡ record { account = a; reply = refused r; notes = [] }
   out a h = ap (λ x. unless x a (performed book core.shape a call)) (sym (refusal_stands book core a call h) ∙ is)
 
+-- the call is not refused
+abbrev pub Allowed : Book → CoreView → Call → Type 0
+Allowed book core made = refusal_of book core.shape core.registered (slot_faces core.slots) made ≡ None
+
 -- what a call on the sets does that is not refused
 performed_is : (book : Book) (shape : Widths) (a : Account) (made : Call) → is_on_sets made ≡ true
     → performed book shape a made ≡ record { account = record a { sets = sets_after new_kept (kept_after book a.past) made a.sets }; reply = reply_over book (sight_of_kept book shape a.past) a.sets made; notes = [] }
 performed_is book shape a call.Register e = cc
 performed_is book shape a call.Unregister e = cc
 performed_is book shape a (call.Run n) e = cc
-performed_is book shape a call.Create e = refl
-performed_is book shape a (call.Destroy k) e = refl
-performed_is book shape a (call.Cleanup k) e = refl
-performed_is book shape a (call.Add k x) e = refl
-performed_is book shape a (call.Remove k x) e = refl
-performed_is book shape a (call.AssignComponent k x) e = refl
-performed_is book shape a (call.SetDomain k x) e = refl
-performed_is book shape a (call.SetMultiplex k x) e = refl
-performed_is book shape a (call.Overflow k x t) e = refl
-performed_is book shape a (call.Start k) e = refl
-performed_is book shape a (call.Stop k) e = refl
-performed_is book shape a (call.Read k) e = refl
-performed_is book shape a (call.Accum k) e = refl
-performed_is book shape a (call.Reset k) e = refl
-performed_is book shape a (call.State k) e = refl
-performed_is book shape a (call.ListEvents k) e = refl
-performed_is book shape a (call.Assign k) e = refl
-performed_is book shape a (call.Raw k c) e = refl
+performed_is book shape a made e = refl
 
--- what the call leaves in the core, for one account
-pub record Does (book : Book) (old new : CoreView) (call : Call) (given : Reply) (a : Account) : Type 0 where
-  pub slots : new.slots ≡ slots_of book old.shape a.past (sets_after new_kept (kept_after book a.past) call a.sets)
-  pub units : new.units ≡ units_of book old.shape a.past (sets_after new_kept (kept_after book a.past) call a.sets)
-  pub reply : given ≡ reply_over book (sight_of_kept book old.shape a.past) a.sets call
+abbrev pub with_both : CoreView → List UnitView → List (Option Slot) → CoreView
+with_both core units slots = record core { units = units; slots = slots }
 
--- and what it does not touch
-pub record Leaves (old new : CoreView) : Type 0 where
-  pub thread : new.thread ≡ old.thread
-  pub registered : new.registered ≡ old.registered
-  pub shape : new.shape ≡ old.shape
-  pub taken : new.taken ≡ old.taken
-  pub last : new.last ≡ old.last
+-- what the call leaves in the core and replies, for one account: the sets after it, and the units and places for these
+pub record Does (book : Book) (core : CoreView) (new_units : List UnitView) (new_slots : List (Option Slot)) (call : Call) (given : Reply) (a : Account) : Type 0 where
+  pub sets : List (Option Kept)
+  pub after : sets_after new_kept (kept_after book a.past) call a.sets ≡ sets
+  pub slots : new_slots ≡ slots_of book core.shape a.past sets
+  pub units : new_units ≡ units_of book core.shape a.past sets
+  pub reply : given ≡ reply_over book (sight_of_kept book core.shape a.past) a.sets call
 
-pub leaves_all : (core : CoreView) → Leaves core core
-leaves_all core = record { thread = refl; registered = refl; shape = refl; taken = refl; last = refl }
+pub step_is : (book : Book) (core : CoreView) (a : Account) (call : Call) → is_on_sets call ≡ true → Allowed book core call → CoreStands book core a
+    → step book core.shape a call ≡ record {
+      account = record a { sets = sets_after new_kept (kept_after book a.past) call a.sets };
+      reply = reply_over book (sight_of_kept book core.shape a.past) a.sets call;
+      notes = [];
+    }
+step_is book core a call on none h =
+    ap (λ x. unless x a (performed book core.shape a call)) (sym (refusal_stands book core a call h) ∙ none) ∙ performed_is book core.shape a call on
 
-abbrev after_sets : Book → Account → Call → Account
-after_sets book a call = record a { sets = sets_after new_kept (kept_after book a.past) call a.sets }
+-- what is left for one account, whatever the call: whether its thread is registered, its sets, and the units and places for these
+record Leaves (book : Book) (core : CoreView) (registered : Bool) (new_units : List UnitView) (new_slots : List (Option Slot)) (call : Call) (given : Reply)
+    (a : Account) : Type 0 where
+  pub sets : List (Option Kept)
+  pub out : step book core.shape a call ≡ record { account = record a { registered = registered; sets = sets }; reply = given; notes = [] }
+  pub slots : new_slots ≡ slots_of book core.shape a.past sets
+  pub units : new_units ≡ units_of book core.shape a.past sets
 
-step_is : (book : Book) (core : CoreView) (a : Account) (call : Call) → is_on_sets call ≡ true → refusal_of book core.shape core.registered (slot_faces core.slots) call ≡ None → CoreStands book core a
-    → step book core.shape a call ≡ record { account = after_sets book a call; reply = reply_over book (sight_of_kept book core.shape a.past) a.sets call; notes = [] }
-step_is book core a call on none h = ap (λ x. unless x a (performed book core.shape a call)) (sym (refusal_stands book core a call h) ∙ none) ∙ performed_is book core.shape a call on
+abbrev with_all : CoreView → Bool → List UnitView → List (Option Slot) → CoreView
+with_all core registered units slots = record core { registered = registered; units = units; slots = slots }
 
-stands_after : (book : Book) (old new : CoreView) (call : Call) (reply : Reply) (a : Account) → BookFits old.shape book → IsGood book old.shape call → is_on_sets call ≡ true → refusal_of book old.shape old.registered (slot_faces old.slots) call ≡ None
-    → Leaves old new → Does book old new call reply a → CoreStands book old a → CoreStands book new (step book old.shape a call).account
-stands_after book old new call reply a fits good on none same does h =
-    let out = step_is book old a call on none h in
-    let is : (step book old.shape a call).account ≡ after_sets book a call = ap (λ (x : Outcome). x.account) out in
-    subst (λ b. CoreStands book new b) (sym is) (record {
-      thread = same.thread ∙ h.thread;
-      registered = same.registered ∙ h.registered;
-      slots = does.slots ∙ ap (λ (w : Widths). slots_of book w a.past (after_sets book a call).sets) (sym same.shape);
-      units = does.units ∙ ap (λ (w : Widths). units_of book w a.past (after_sets book a call).sets) (sym same.shape);
-      taken = same.taken ∙ h.taken;
-      last = same.last ∙ h.last;
-      places = sym (ap (λ (b : Account). length b.sets) is) ∙ places_stay book old.shape a call ∙ h.places;
-      rises = h.rises;
-      within = subst (λ (b : Account). AllWithin (length b.past) b.sets) is (within_stays book old.shape a call h.within);
-      apart = subst (λ (b : Account). AreApart (faces_of b.sets)) is (apart_stays book old.shape a call h.apart);
-      fit = subst (λ (w : Widths). AreFit book w (after_sets book a call).sets) (sym same.shape) (subst (λ (b : Account). AreFit book old.shape b.sets) is (fit_stays book old.shape a call h.shape fits good h.fit));
-      shape = rw same.shape h.shape;
-    })
+left_follows : (book : Book) (core : CoreView) (registered : Bool) (units : List UnitView) (slots : List (Option Slot)) (call : Call) (reply : Reply)
+    → AgreesWith book core → IsGood book core.shape call → ((a : Account) → CoreStands book core a → Leaves book core registered units slots call reply a)
+    → Follows book core (with_all core registered units slots) call reply
+left_follows book core registered units slots call reply agrees good leaves = record {
+  account = stands;
+  reply = λ a h. sym (ap (λ (x : Outcome). x.reply) (leaves a h).out);
+  agrees = record {
+    account = (step book core.shape agrees.account call).account;
+    fits = agrees.fits;
+    stands = stands agrees.account agrees.stands;
+    in_time = agrees.in_time;
+  };
+  shape = refl;
+  taken = refl;
+  last = refl;
+} where
+  stands : (a : Account) → CoreStands book core a → CoreStands book (with_all core registered units slots) (step book core.shape a call).account
+  stands a h =
+      let does = leaves a h in
+      let is = ap (λ (x : Outcome). x.account) does.out in
+      subst (CoreStands book (with_all core registered units slots)) (sym is) (record {
+        thread = h.thread;
+        registered = refl;
+        slots = does.slots;
+        units = does.units;
+        taken = h.taken;
+        last = h.last;
+        places = sym (ap (λ (b : Account). length b.sets) is) ∙ places_stay book core.shape a call ∙ h.places;
+        rises = h.rises;
+        within = subst (λ (b : Account). AllWithin (length b.past) b.sets) is (within_stays book core.shape a call h.within);
+        apart = subst (λ (b : Account). AreApart (faces_of b.sets)) is (apart_stays book core.shape a call h.apart);
+        fit = subst (λ (b : Account). AreFit book core.shape b.sets) is (fit_stays book core.shape a call h.shape agrees.fits good h.fit);
+        shape = h.shape;
+        in_limits = h.in_limits;
+      })
 
 -- a call on the sets that is not refused
-pub done_follows : (book : Book) (old new : CoreView) (call : Call) (reply : Reply) → AgreesWith book old → IsGood book old.shape call → is_on_sets call ≡ true → refusal_of book old.shape old.registered (slot_faces old.slots) call ≡ None
-    → Leaves old new → ((a : Account) → CoreStands book old a → Does book old new call reply a) → Follows book old new call reply
-done_follows book old new call reply agrees good on none same does = record {
-  account = λ a h. stands_after book old new call reply a agrees.fits good on none same (does a h) h;
-  reply = λ a h. (does a h).reply ∙ sym (ap (λ (x : Outcome). x.reply) (step_is book old a call on none h));
-  agrees = record {
-    account = (step book old.shape agrees.account call).account;
-    fits = rw same.shape agrees.fits;
-    stands = stands_after book old new call reply agrees.account agrees.fits good on none same (does agrees.account agrees.stands) agrees.stands;
-    in_limits = rw same.taken agrees.in_limits;
-    in_time = subst (λ o. time_after o ≤ 4294967295) (sym same.last) agrees.in_time;
-  };
-  shape = same.shape;
-  taken = same.taken;
-  last = same.last;
-}
+pub done_follows : (book : Book) (core : CoreView) (units : List UnitView) (slots : List (Option Slot)) (call : Call) (reply : Reply)
+    → AgreesWith book core → IsGood book core.shape call → is_on_sets call ≡ true → Allowed book core call
+    → ((a : Account) → CoreStands book core a → AreApart (faces_of (sets_after new_kept (kept_after book a.past) call a.sets))
+    → Does book core units slots call reply a)
+    → Follows book core (with_both core units slots) call reply
+done_follows book core units slots call reply agrees good on none does = left_follows book core core.registered units slots call reply agrees good (λ a h.
+    let is = step_is book core a call on none h in
+    let d = does a h (subst (λ (x : Outcome). AreApart (faces_of x.account.sets)) is (apart_stays book core.shape a call h.apart)) in
+    record {
+      sets = d.sets;
+      out = is ∙ (λ i. record { account = record a { registered = (sym h.registered) i; sets = d.after i }; reply = (sym d.reply) i; notes = [] });
+      slots = d.slots;
+      units = d.units;
+    })
 
--- the same of the code with which the core refuses
-pub code_follows : (book : Book) (core : CoreView) (call : Call) (result : Option Code) (c : Code) → AgreesWith book core → option_map Plain result ≡ refusal_of book core.shape core.registered (slot_faces core.slots) call → result ≡ Some c → Follows book core core call (plain c)
-code_follows book core call result c agrees e is = refused_follows book core call (Plain c) (plain c) agrees (sym e ∙ ap (option_map Plain) is) refl
+-- the code with which the core refuses
+pub code_follows : {book : Book} {core : CoreView} {call : Call} {result : Option Code} {c : Code} → AgreesWith book core → IsRefusedWith core call result
+    → result ≡ Some c → Follows book core core call (plain c)
+code_follows {book} {core} {call} {result} {c} agrees e is =
+    refused_follows book core call (Plain c) (plain c) agrees (sym (e book) ∙ ap (option_map Plain) is) refl
 
-pub none_refuses : (book : Book) (core : CoreView) (call : Call) (result : Option Code) → option_map Plain result ≡ refusal_of book core.shape core.registered (slot_faces core.slots) call → result ≡ None → refusal_of book core.shape core.registered (slot_faces core.slots) call ≡ None
-none_refuses book core call result e is = sym e ∙ ap (option_map Plain) is
+-- the same of a call that shows values
+pub values_refused : {book : Book} {core : CoreView} {call : Call} {result : Option Code} {c : Code} (a b : Bool) (values : List ℤ)
+    → AgreesWith book core → IsRefusedWith core call result → refusal_of book core.shape core.registered (slot_faces core.slots) call
+    ≡ (if a then Some (Plain Enoevst) else if b then Some (Plain Enotrun) else None) → result ≡ Some c → Follows book core core call (values_reply c values)
+values_refused {book} {core} {call} {result} {c} a b values agrees e table is =
+    subst (Follows book core core call) (sym (shows_none a b c values (sym table ∙ sym (e book) ∙ ap (option_map Plain) is))) (code_follows agrees e is)
+
+-- a call that goes on: the core agrees, and the call is not refused
+pub record Goes (book : Book) (core : CoreView) (made : Call) : Type 0 where
+  pub agrees : AgreesWith book core
+  pub allowed : Allowed book core made
+
+pub goes : {book : Book} {core now : CoreView} {made : Call} {result : Option Code} → core ≡ now → AgreesWith book now → IsRefusedWith now made result
+    → result ≡ None → Goes book core made
+goes {book} {core} {now} {made} same agrees e is =
+    subst (λ (v : CoreView). Goes book v made) (sym same) (record { agrees = agrees; allowed = sym (e book) ∙ ap (option_map Plain) is })
+
+-- the same by what the core holds
+pub agrees_now : {book : Book} {core now : CoreView} → core ≡ now → AgreesWith book now → AgreesWith book core
+agrees_now {book} same agrees = subst (AgreesWith book) (sym same) agrees
+
+pub time_is : {core now : CoreView} {t : ℕ} → core ≡ now → t ≡ time_after now.last → t ≡ time_after core.last
+time_is same is = is ∙ ap (λ (v : CoreView). time_after v.last) (sym same)
+
+-- a call that sets whether the thread is registered, and is not refused
+pub registration : (book : Book) (core : CoreView) (made : Call) (b : Bool) → Goes book core made → IsGood book core.shape made
+    → ((a : Account) → performed book core.shape a made ≡ record { account = record a { registered = b }; reply = plain code.Ok; notes = [] })
+    → Follows book core (record core { registered = b }) made (plain code.Ok)
+registration book core made b g good does = left_follows book core b core.units core.slots made (plain code.Ok) g.agrees good (λ a h. record {
+  sets = a.sets;
+  out = ap (λ x. unless x a (performed book core.shape a made)) (sym (refusal_stands book core a made h) ∙ g.allowed) ∙ does a;
+  slots = h.slots;
+  units = h.units;
+})

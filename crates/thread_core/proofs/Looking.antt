@@ -1,102 +1,148 @@
--- A core that shows something of a set.
-use Rattle.std.proofs.Common.{◌≡◌, ℕ, Bool, true, false, List, refl, ap, sym, ◌∙◌, Option, Some, None, option_map}
-use Rattle.std.specs.Prelude.{is_none, is_some, if◌then◌else◌}
-use Rattle.std.specs.Option.{option_map_or}
-use Rattle.papi_base.specs.declared.native.Native.{Native}
-use Rattle.papi_base.specs.declared.native.EventRef.{EventRef}
-use Rattle.papi_base.specs.declared.code.Code.TheVariants.{Ecombo, Enoevst}
-use Rattle.postfix_rules.specs.Presets.{Book}
-use Rattle.event_sets.specs.declared.refusal.Refusal.TheVariants.{Plain}
-use Rattle.event_sets.specs.Assigning.{counters_for}
-use Rattle.event_sets.specs.AtRest.{AtRest}
-use Rattle.event_sets.specs.Sets.{SetView}
-use Rattle.session_model.specs.declared.call.Call.{Call}
-use Rattle.session_model.specs.declared.call.Call.TheVariants as call
-use Rattle.session_model.specs.declared.reply.Assigned.{Assigned}
+-- The set under a number, in the core and in the account, and calls that show something of it or put it anew.
+use Rattle.thread_core.proofs.Words.{Book, CoreView, Account, ℕ, CoreStands, at, ◌≡◌, option_map, slot_of, ap, ◌∙◌, at_map, Kept, Some, IsFit, at-some}
+use Rattle.thread_core.proofs.Words.{Call, option_map_or, slice_get, slot_faces, false, face_of, ◌<◌, length, is_absent, refl, Option, None, true, sym}
+use Rattle.thread_core.proofs.Words.{Face, is_none, here, slice_get_within, runs, Slot, same_some, AgreesWith, arith, Widths, AtRest, List, widths_at}
+use Rattle.thread_core.proofs.Words.{get_at, unwrap_or, [], unit_at, UnitView, registers_by, Reply, IsGood, is_on_sets, sets_after, new_kept, kept_after}
+use Rattle.thread_core.proofs.Words.{reply_over, sight_of_kept, Follows, done, slice_set, AreApart, faces_of, units_of, change, map_put, subst, runner, ap₂}
+use Rattle.thread_core.proofs.Words.{time_after, clock}
 use Rattle.session_model.specs.declared.reply.Body.TheVariants as body
-use Rattle.session_model.specs.declared.reply.Reply.{Reply}
-use Rattle.session_model.specs.Account.{Account, Kept}
-use Rattle.session_model.specs.Changes.{kept_after, new_kept, sets_after}
-use Rattle.session_model.specs.Conditions.{IsGood}
-use Rattle.session_model.specs.Faces.{Face, at, face_of, faces_of, has, is_absent}
-use Rattle.session_model.specs.Refusals.{is_multiplexed, refusal_of}
-use Rattle.session_model.specs.Replies.{assigned, done, reply_over, sight_of_kept}
-use Rattle.session_laws.proofs.Sets.{at_map}
-use Rattle.thread_slots.specs.declared.slot.Slot.{Slot}
-use Rattle.thread_core.specs.CoreView.{CoreView}
-use Rattle.thread_core.specs.Following.{Follows, is_on_sets}
-use Rattle.thread_core.specs.Refusing.{slot_faces}
-use Rattle.thread_slots.specs.Slots.{slot_of, slots_of}
-use Rattle.thread_core.specs.Stands.{AgreesWith, CoreStands}
-use Rattle.thread_slots.specs.Units.{units_of}
-use Rattle.thread_core.proofs.Extending.{rest_same, set_same, slot_at}
-use Rattle.thread_core.proofs.Following.{done_follows, faces_stand, leaves_all}
+use Rattle.thread_core.proofs.Following.{Allowed, faces_stand, done_follows, Goes, with_both}
+use Rattle.session_model.specs.Refusals.{rows}
+use Rattle.session_laws.proofs.Sets.{row_fails}
+use Rattle.thread_core.proofs.Owners.{length-units, get-units, unit_by-runner, units_same, unit_stays, units_put, runner_is, runs_there, IsQuiet, quiet_other}
+use Rattle.session_model.specs.declared.reply.Body.{Body}
+use Rattle.session_model.specs.Replies.{shown}
+use Rattle.session_laws.proofs.Pushing.{clock_now}
 
--- a call that changes nothing
-pub looks_follows : (book : Book) (core : CoreView) (made : Call) (reply : Reply) → AgreesWith book core → IsGood book core.shape made → is_on_sets made ≡ true → refusal_of book core.shape core.registered (slot_faces core.slots) made ≡ None
-    → ((a : Account) → sets_after new_kept (kept_after book a.past) made a.sets ≡ a.sets) → ((a : Account) → CoreStands book core a → reply ≡ reply_over book (sight_of_kept book core.shape a.past) a.sets made) → Follows book core core made reply
-looks_follows book core made reply agrees good on none stay says = done_follows book core core made reply agrees good on none (leaves_all core) (λ a h. record {
-  slots = h.slots ∙ sym (ap (slots_of book core.shape a.past) (stay a));
-  units = h.units ∙ sym (ap (units_of book core.shape a.past) (stay a));
-  reply = says a h;
-})
+pub slot_at : (book : Book) (core : CoreView) (a : Account) (k : ℕ) → CoreStands book core a → at core.slots k ≡ option_map (slot_of book core.shape a.past) (at a.sets k)
+slot_at book core a k h = ap (λ xs. at xs k) h.slots ∙ at_map (slot_of book core.shape a.past) a.sets k
+
+pub fit_of : (book : Book) (core : CoreView) (a : Account) (k : ℕ) (s : Kept) → CoreStands book core a → at a.sets k ≡ Some s → IsFit book core.shape s.set
+fit_of book core a k s h e = h.fit.fit k s (at-some a.sets k s e)
+
+-- a row of a call's table that does not come
+pub row_off : (book : Book) (core : CoreView) (made : Call) (i : ℕ) → Allowed book core made → option_map_or (λ r. r.0) (slice_get (rows book core.shape core.registered (slot_faces core.slots) made) i) false ≡ false
+row_off book core made i none = row_fails (rows book core.shape core.registered (slot_faces core.slots) made) i none
 
 -- the set that a call names
 pub record Present (book : Book) (core : CoreView) (a : Account) (k : ℕ) : Type 0 where
   pub set : Kept
   pub at_set : at a.sets k ≡ Some set
+  pub place : slice_get a.sets k ≡ Some (Some set)
   pub at_slot : at core.slots k ≡ Some (slot_of book core.shape a.past set)
-  pub at_face : at (faces_of a.sets) k ≡ Some (face_of set)
+  pub at_face : at (slot_faces core.slots) k ≡ Some (face_of set)
+  pub inside : k < length core.slots
 
-pub present : (book : Book) (core : CoreView) (a : Account) (k : ℕ) → CoreStands book core a → is_absent (faces_of a.sets) k ≡ false → Present book core a k
+pub present : (book : Book) (core : CoreView) (a : Account) (k : ℕ) → CoreStands book core a → is_absent (slot_faces core.slots) k ≡ false → Present book core a k
 present book core a k h there = go (at a.sets k) refl where
+  face : (o : Option Kept) → at a.sets k ≡ o → at (slot_faces core.slots) k ≡ option_map face_of o
+  face o e = ap (λ fs. at fs k) (faces_stand book core a h) ∙ at_map face_of a.sets k ∙ ap (option_map face_of) e
+
   go : (o : Option Kept) → at a.sets k ≡ o → Present book core a k
-  go None e =
-      let face : at (faces_of a.sets) k ≡ None = at_map face_of a.sets k ∙ ap (option_map face_of) e in
-      let gone : true ≡ false = sym (ap (λ (o : Option Face). is_none o) face) ∙ there in
-      cc
-  go (Some s) e = record {
-    set = s;
-    at_set = e;
-    at_slot = slot_at book core a k h ∙ ap (option_map (slot_of book core.shape a.past)) e;
-    at_face = at_map face_of a.sets k ∙ ap (option_map face_of) e;
-  }
+  go None e = let gone : true ≡ false = sym (ap (λ (o : Option Face). is_none o) (face None e)) ∙ there in cc
+  go (Some s) e =
+      let here = slot_at book core a k h ∙ ap (option_map (slot_of book core.shape a.past)) e in
+      record { set = s; at_set = e; place = at-some a.sets k s e; at_slot = here; at_face = face (Some s) e; inside = slice_get_within core.slots k _ (at-some core.slots k _ here) }
 
-pub one_row : (absent : Bool) → (if absent then Some (Plain Enoevst) else None) ≡ None → absent ≡ false
-one_row true h = cc
-one_row false h = refl
+-- one that does not run
+pub record Rests (book : Book) (core : CoreView) (a : Account) (k : ℕ) : Type 0 where
+  pub present : Present book core a k
+  pub stopped : present.set.running ≡ false
 
-two_rows : (absent shared : Bool) → (if absent then Some (Plain Enoevst) else if shared then Some (Plain Ecombo) else None) ≡ None → (absent ≡ false) × (shared ≡ false)
-two_rows true b h = cc
-two_rows false true h = cc
-two_rows false false h = (refl, refl)
+pub rests : (book : Book) (core : CoreView) (a : Account) (k : ℕ) → CoreStands book core a → is_absent (slot_faces core.slots) k ≡ false → runs (slot_faces core.slots) k ≡ false → Rests book core a k
+rests book core a k h there still =
+    let p = present book core a k h there in
+    record { present = p; stopped = sym (ap (λ (o : Option Face). option_map_or (λ f. f.running) o false) p.at_face) ∙ still }
 
--- what the refusals say, of the account
-pub table_of : (book : Book) (core : CoreView) (a : Account) (made : Call) → CoreStands book core a → refusal_of book core.shape core.registered (slot_faces core.slots) made ≡ None → refusal_of book core.shape core.registered (faces_of a.sets) made ≡ None
-table_of book core a made h none = sym (ap (λ (f : List (Option Face)). refusal_of book core.shape core.registered f made) (faces_stand book core a h)) ∙ none
+-- the set of a slot
+pub record Under (book : Book) (core : CoreView) (a : Account) (k : ℕ) (slot : Slot) : Type 0 where
+  pub set : Kept
+  pub at_set : at a.sets k ≡ Some set
+  pub is : slot_of book core.shape a.past set ≡ slot
 
-pub list_follows : (book : Book) (core : CoreView) (k : ℕ) (events : List EventRef) → AgreesWith book core → refusal_of book core.shape core.registered (slot_faces core.slots) (call.ListEvents k) ≡ None
-    → ((slot : Slot) → at core.slots k ≡ Some slot → events ≡ slot.set.rest.events) → Follows book core core (call.ListEvents k) (done (body.Events events))
-list_follows book core k events agrees none is = looks_follows book core (call.ListEvents k) (done (body.Events events)) agrees tt refl none (λ a. refl) (λ a h.
-    let p = present book core a k h (one_row (is_absent (faces_of a.sets) k) (table_of book core a (call.ListEvents k) h none)) in
-    let same : events ≡ p.set.set.events = is _ p.at_slot ∙ ap (λ (r : AtRest). r.events) (rest_same book core.shape a.past p.set) in
-    ap (λ (es : List EventRef). done (body.Events es)) same ∙ sym (ap (λ (o : Option Kept). done (option_map_or (λ s. body.Events s.set.events) o body.Nothing)) p.at_set))
+pub under : (book : Book) (core : CoreView) (a : Account) (k : ℕ) (slot : Slot) → CoreStands book core a → at core.slots k ≡ Some slot → Under book core a k slot
+under book core a k slot h here = go (at a.sets k) refl where
+  go : (o : Option Kept) → at a.sets k ≡ o → Under book core a k slot
+  go None e = let none : Some slot ≡ None = sym here ∙ slot_at book core a k h ∙ ap (option_map (slot_of book core.shape a.past)) e in cc
+  go (Some s) e = record { set = s; at_set = e; is = same_some (slot_of book core.shape a.past s) slot (sym (slot_at book core a k h ∙ ap (option_map (slot_of book core.shape a.past)) e) ∙ here) }
 
-none_some : (o : Option ℕ) → is_some o ≡ false → o ≡ None
-none_some None h = refl
-none_some (Some x) h = cc
+-- the component of a set under a number is one of the shape's
+pub comp_below : (book : Book) (core : CoreView) (k comp : ℕ) (slot : Slot) → AgreesWith book core → at core.slots k ≡ Some slot → slot.set.rest.component ≡ Some comp → (comp < length core.shape) × (comp < length core.units)
+comp_below book core k comp slot agrees here is =
+    let u = under book core agrees.account k slot agrees.stands here in
+    let below = (fit_of book core agrees.account k u.set agrees.stands u.at_set).has_component comp (ap (λ (x : Slot). x.set.rest.component) u.is ∙ is) in
+    (below, omega (arith, ap length agrees.stands.units, length-units book agrees.account.past agrees.account.sets 0 core.shape))
 
-pub assign_follows : (book : Book) (core : CoreView) (k : ℕ) (given : Assigned) → AgreesWith book core → refusal_of book core.shape core.registered (slot_faces core.slots) (call.Assign k) ≡ None
-    → ((slot : Slot) → at core.slots k ≡ Some slot → slot.set.rest.slice ≡ None → given ≡ record { natives = slot.set.natives; counters = counters_for slot.set.natives }) → Follows book core core (call.Assign k) (done (body.Assigned given))
-assign_follows book core k given agrees none is = looks_follows book core (call.Assign k) (done (body.Assigned given)) agrees tt refl none (λ a. refl) (λ a h.
-    let rows = two_rows (is_absent (faces_of a.sets) k) (has is_multiplexed (faces_of a.sets) k) (table_of book core a (call.Assign k) h none) in
-    let p = present book core a k h rows.0 in
-    let plain : p.set.set.slice ≡ None = none_some p.set.set.slice (sym (ap (λ (o : Option Face). option_map_or (λ f. is_multiplexed f.set) o false) p.at_face) ∙ rows.1) in
-    let rest = rest_same book core.shape a.past p.set in
-    let view = set_same book core.shape a.past p.set in
-    let same : given ≡ assigned book p.set.set =
-    is _ p.at_slot (ap (λ (r : AtRest). r.slice) rest ∙ plain) ∙ ap (λ (v : SetView). the_assigned v.natives) view in
-    ap (λ (x : Assigned). done (body.Assigned x)) same ∙ sym (ap (λ (o : Option Kept). done (option_map_or (λ s. body.Assigned (assigned book s.set)) o body.Nothing)) p.at_set))
-  where
-    the_assigned : List Native → Assigned
-    the_assigned ns = record { natives = ns; counters = counters_for ns }
+-- the widths of a component of a fit set
+pub widths_on : (book : Book) (shape : Widths) (s : AtRest) (comp : ℕ) → IsFit book shape s → s.component ≡ Some comp → (ws : List ℕ) × (slice_get shape comp ≡ Some ws) × (ws ≡ widths_at shape s.component)
+widths_on book shape s comp fit is =
+    let ws = get_at shape comp (fit.has_component comp is) in
+    (ws.0, ws.1, sym (ap (widths_at shape) is ∙ ap (λ (x : Option (List ℕ)). unwrap_or x []) ws.1))
+
+-- the unit of a component, by the set that runs on it
+pub unit_of : (book : Book) (core : CoreView) (a : Account) (comp : ℕ) (ws : List ℕ) → CoreStands book core a → slice_get core.shape comp ≡ Some ws → slice_get core.units comp ≡ Some (unit_at book a.past a.sets comp ws)
+unit_of book core a comp ws h at_comp = ap (λ (us : List UnitView). slice_get us comp) h.units ∙ get-units book core.shape a.past a.sets comp ∙ ap (option_map (unit_at book a.past a.sets comp)) at_comp
+
+pub unit_on : (book : Book) (core : CoreView) (a : Account) (k comp : ℕ) (s : Kept) (ws : List ℕ) → CoreStands book core a → at a.sets k ≡ Some s → s.running ≡ true → s.set.component ≡ Some comp → slice_get core.shape comp ≡ Some ws
+    → slice_get core.units comp ≡ Some (record { widths = ws; registers = registers_by book ws a.past (Some s) })
+unit_on book core a k comp s ws h e run is at_comp =
+    unit_of book core a comp ws h at_comp ∙ ap Some (unit_by-runner book a.past a.sets comp ws (Some s) (runner_is a.sets k comp s h.apart (at-some a.sets k s e) (runs_there s comp run is)))
+
+-- ---- calls
+
+-- a call that changes nothing
+pub looks_follows : (book : Book) (core : CoreView) (made : Call) (reply : Reply) → AgreesWith book core → IsGood book core.shape made → is_on_sets made ≡ true → Allowed book core made
+    → ((a : Account) → sets_after new_kept (kept_after book a.past) made a.sets ≡ a.sets) → ((a : Account) → CoreStands book core a → reply ≡ reply_over book (sight_of_kept book core.shape a.past) a.sets made) → Follows book core core made reply
+looks_follows book core made reply agrees good on none stay says = done_follows book core core.units core.slots made reply agrees good on none (λ a h apart. record { sets = a.sets; after = stay a; slots = h.slots; units = h.units; reply = says a h })
+
+-- one that shows something of the set under a number
+pub shows_follows : (book : Book) (core : CoreView) (made : Call) (k : ℕ) (f : Account → Kept → Body) (given : Body) → Goes book core made → IsGood book core.shape made → is_on_sets made ≡ true → is_absent (slot_faces core.slots) k ≡ false
+    → ((a : Account) → sets_after new_kept (kept_after book a.past) made a.sets ≡ a.sets) → ((a : Account) → reply_over book (sight_of_kept book core.shape a.past) a.sets made ≡ shown (f a) a.sets k)
+    → ((a : Account) → CoreStands book core a → (p : Present book core a k) → given ≡ f a p.set) → Follows book core core made (done given)
+shows_follows book core made k f given g good on there stay reply same = looks_follows book core made (done given) g.agrees good on g.allowed stay (λ a h.
+    let p = present book core a k h there in
+    ap done (same a h p) ∙ sym (ap (λ (o : Option Kept). done (option_map_or (f a) o body.Nothing)) p.at_set) ∙ sym (reply a))
+
+-- what a call does that puts one set anew, for one account
+pub record Puts (book : Book) (core : CoreView) (new_units : List UnitView) (new_slots : List (Option Slot)) (made : Call) (given : Reply) (a : Account) (k : ℕ) : Type 0 where
+  pub set : Kept
+  pub at_set : at a.sets k ≡ Some set
+  pub slots : new_slots ≡ slice_set core.slots k (Some (slot_of book core.shape a.past (kept_after book a.past made set)))
+  pub units : AreApart (faces_of (slice_set a.sets k (Some (kept_after book a.past made set)))) → new_units ≡ units_of book core.shape a.past (slice_set a.sets k (Some (kept_after book a.past made set)))
+  pub reply : given ≡ reply_over book (sight_of_kept book core.shape a.past) a.sets made
+
+pub put_follows : (book : Book) (core : CoreView) (units : List UnitView) (slots : List (Option Slot)) (made : Call) (reply : Reply) (k : ℕ) → Goes book core made → IsGood book core.shape made → is_on_sets made ≡ true
+    → ((a : Account) → sets_after new_kept (kept_after book a.past) made a.sets ≡ change (kept_after book a.past made) a.sets k) → ((a : Account) → CoreStands book core a → Puts book core units slots made reply a k)
+    → Follows book core (with_both core units slots) made reply
+put_follows book core units slots made reply k g good on one puts = done_follows book core units slots made reply g.agrees good on g.allowed (λ a h apart.
+    let p = puts a h in
+    let t : Kept = kept_after book a.past made p.set in
+    let after : sets_after new_kept (kept_after book a.past) made a.sets ≡ slice_set a.sets k (Some t) = one a ∙ ap (λ x. slice_set a.sets k (option_map (kept_after book a.past made) x)) p.at_set in
+    record {
+      sets = slice_set a.sets k (Some t);
+      after = after;
+      slots = p.slots ∙ ap (λ (xs : List (Option Slot)). slice_set xs k (Some (slot_of book core.shape a.past t))) h.slots ∙ map_put (option_map (slot_of book core.shape a.past)) a.sets k (Some t);
+      units = p.units (subst (λ xs. AreApart (faces_of xs)) after apart);
+      reply = p.reply;
+    })
+
+-- where neither the set that was in a place nor what comes there runs, the units stay
+pub units_rest : (book : Book) (core : CoreView) (a : Account) (k : ℕ) (t place : Option Kept) → CoreStands book core a → AreApart (faces_of (slice_set a.sets k t)) → slice_get a.sets k ≡ Some place → ((c : ℕ) → IsQuiet c place) → ((c : ℕ) → IsQuiet c t)
+    → core.units ≡ units_of book core.shape a.past (slice_set a.sets k t)
+units_rest book core a k t place h apart e quiet new = h.units ∙ units_same book core.shape a.past a.past a.sets (slice_set a.sets k t) (λ c. unit_stays book a.past a.sets k c t place apart e (quiet c) (new c))
+
+-- a set is quiet on each component but its own
+pub quiet_but : (s : Kept) (comp c : ℕ) → s.set.component ≡ Some comp → (c ≡ comp → ⊥) → IsQuiet c (Some s)
+quiet_but s comp c is other = quiet_other s c (λ on. other (same_some c comp (sym on ∙ is)))
+
+-- where a set is put that runs on no other component, and the one before it did not, the unit of this component alone changes
+pub units_one : (book : Book) (core : CoreView) (a : Account) (k comp : ℕ) (ws : List ℕ) (s t : Kept) (unit : UnitView) (found : Option Kept) → CoreStands book core a → AreApart (faces_of (slice_set a.sets k (Some t))) → slice_get a.sets k ≡ Some (Some s)
+    → slice_get core.shape comp ≡ Some ws → s.set.component ≡ Some comp → t.set.component ≡ Some comp → runner comp (slice_set a.sets k (Some t)) ≡ found → unit ≡ record { widths = ws; registers = registers_by book ws a.past found }
+    → slice_set core.units comp unit ≡ units_of book core.shape a.past (slice_set a.sets k (Some t))
+units_one book core a k comp ws s t unit found h apart place at_comp on still runs is =
+    ap₂ (λ (us : List UnitView) (u : UnitView). slice_set us comp u) h.units (is ∙ sym (unit_by-runner book a.past (slice_set a.sets k (Some t)) comp ws found runs))
+    ∙ units_put book core.shape a.past a.past a.sets (slice_set a.sets k (Some t)) comp ws at_comp (λ c other. unit_stays book a.past a.sets k c (Some t) (Some s) apart place (quiet_but s comp c on other) (quiet_but t comp c still other))
+
+-- the time is the clock after all occurrences
+pub now_is : (book : Book) (core : CoreView) (a : Account) → CoreStands book core a → time_after core.last ≡ clock a.past (length a.past)
+now_is book core a h = ap time_after h.last ∙ sym (clock_now a.past)

@@ -1,28 +1,19 @@
 -- What an occurrence does to all units and all sets is what is kept after one occurrence more.
-use Rattle.std.proofs.Common.{◌≡◌, ℕ, zero, suc, ◌+◌, ◌≤◌, ◌⊎◌, inl, inr, Bool, true, false, ◌&&◌, List, [], ◌∷◌, ◌++◌, length, map, refl, ap, sym, subst, ◌∙◌, arith, Option, Some, None, option_map, slice_get, slice_set}
-use Rattle.std.specs.Prelude.{◌==◌, if◌then◌else◌, unwrap_or}
-use Rattle.std.specs.Option.{option_map_or}
-use Rattle.std.proofs.lemmas.Bool.{cases_Bool, cases_eq, ne_eqb}
-use Rattle.std.proofs.lemmas.Option.{slice_get_within}
-use Rattle.papi_base.specs.declared.occurrence.Occ.{Occ}
-use Rattle.counter_unit.specs.declared.registers.Register.{Register}
-use Rattle.overflow_dispatch.specs.declared.handler.Note.{Note}
-use Rattle.postfix_rules.specs.Presets.{Book}
-use Rattle.event_sets.specs.AtRest.{Widths, widths_at}
-use Rattle.session_model.specs.Account.{Kept, last_after}
-use Rattle.session_model.specs.Bounds.{AllWithin, AreApart, IsWithin}
-use Rattle.session_model.specs.Faces.{face_of, faces_of, runs_on}
-use Rattle.session_model.specs.Thresholds.{passed_in, passed_from as passing_from, note, notes_at}
-use Rattle.thread_slots.specs.declared.slot.Slot.{Slot}
-use Rattle.thread_slots.specs.Counted.{Counted, CountedAll, CountedPlace, counted_all, counted_at, counted_over, counted_place, placed, uncounted}
-use Rattle.thread_slots.specs.Slots.{slot_of, slots_of}
-use Rattle.session_model.specs.Fitness.{AreFit, IsFit, IsShape}
-use Rattle.thread_slots.specs.Units.{owner_from, runner, registers_by, running_registers, unit_at, units_from, units_of}
-use Rattle.thread_slots.proofs.Lists.{get-map, get-map_some, get-set_same, get-set_other, get_at, map_same_on, same_items, some-at}
-use Rattle.thread_core.proofs.Others.{elsewhere, registers_elsewhere, slot_elsewhere, passing_elsewhere}
-use Rattle.thread_core.proofs.Owners.{faces_same, owner_none, Runs, runs_by, other_runs, runner-some, runner-none}
-use Rattle.thread_core.proofs.Squares.{after, counted_follows, stopped_stays, unit_by}
+use Rattle.thread_core.proofs.Words.{Book, Widths, List, Occ, Kept, slot_of, ◌++◌, ◌∷◌, [], ◌≡◌, ℕ, true, running_registers, IsFit, IsWithin, length}
+use Rattle.thread_core.proofs.Words.{runs_on, Some, face_of, false, cases_Bool, ◌≤◌, arith, ◌⊎◌, inl, runs, ap, ◌∙◌, inr, Option, AreFit, AllWithin}
+use Rattle.thread_core.proofs.Words.{Register, sym, owner_from, faces_of, refl, registers_by, runner, None, same_some, CountedAll, units_of, slots_of}
+use Rattle.thread_core.proofs.Words.{notes_at, map, note, slice_get, ◌+◌, suc, zero, map_same_on, option_map, cases_eq, unit_at, widths_at, unwrap_or}
+use Rattle.thread_core.proofs.Words.{IsShape, AreApart, counted_over, last_after, subst, get_at, get-map_some, Counted, counted_at, Slot, counted_place}
+use Rattle.thread_core.proofs.Words.{some-at, here, slice_set, slice_get_within, if◌then◌else◌, ◌==◌, ne_eqb, Bool, passing_from, counted_all}
+use Rattle.session_model.specs.Thresholds.{passed_in}
+use Rattle.thread_core.proofs.Squares.{elsewhere, slot_elsewhere, passing_elsewhere, registers_elsewhere, stopped_stays, unit_by, after, counted_follows}
+use Rattle.thread_core.proofs.Owners.{IsSameUnit, units_same, get-units, units_put, put_as, runner-none, runs_by, quiet_other, runner-some, quiet_none, Runs}
+use Rattle.thread_core.proofs.Owners.{other_runs, faces_same}
 use Rattle.thread_core.proofs.Weighing.{within_at}
+use Rattle.overflow_dispatch.specs.declared.handler.Note.{Note}
+use Rattle.thread_slots.specs.Counted.{uncounted, CountedPlace, placed}
+use Rattle.thread_slots.proofs.Lists.{get-map}
+use Rattle.std.proofs.lemmas.List.{append-nil}
 
 -- a set that does not run on the component of the occurrence is kept as it is, and passes no threshold
 pub record Stays (book : Book) (shape : Widths) (past : List Occ) (o : Occ) (s : Kept) : Type 0 where
@@ -49,38 +40,16 @@ stays book shape past o s fit w not_here = go (cases_Bool s.running) where
     registers = λ widths r. absurd (cc);
   }
 
--- the unit of a component
-get-units_from : (book : Book) (past : List Occ) (sets : List (Option Kept)) (comp : ℕ) (shape : Widths) (c : ℕ) → slice_get (units_from book past sets comp shape) c ≡ option_map (unit_at book past sets (comp + c)) (slice_get shape c)
-get-units_from book past sets comp [] c = refl
-get-units_from book past sets comp (ws ∷ shape) zero = let e : comp ≡ comp + 0 = omega arith in ap (λ (k : ℕ). Some (unit_at book past sets k ws)) e
-get-units_from book past sets comp (ws ∷ shape) (suc c) =
-    let e : comp + 1 + c ≡ comp + suc c = omega arith in
-    get-units_from book past sets (comp + 1) shape c ∙ ap (λ (k : ℕ). option_map (unit_at book past sets k) (slice_get shape c)) e
-
-pub get-units : (book : Book) (shape : Widths) (past : List Occ) (sets : List (Option Kept)) (c : ℕ) → slice_get (units_of book shape past sets) c ≡ option_map (unit_at book past sets c) (slice_get shape c)
-get-units book shape past sets c = let e : 0 + c ≡ c = omega arith in get-units_from book past sets 0 shape c ∙ ap (λ (k : ℕ). option_map (unit_at book past sets k) (slice_get shape c)) e
-
-pub length-units : (book : Book) (past : List Occ) (sets : List (Option Kept)) (comp : ℕ) (shape : Widths) → length (units_from book past sets comp shape) ≡ length shape
-length-units book past sets comp [] = refl
-length-units book past sets comp (ws ∷ shape) = ap suc (length-units book past sets (comp + 1) shape)
-
-not_there : (o : Occ) (s : Kept) (comp : ℕ) → s.set.component ≡ Some comp → (comp ≡ o.comp → ⊥) → runs_on (Some o.comp) (Some (face_of s)) ≡ false
-not_there o s comp e apart = ap (λ (x : Option ℕ). s.running && option_map_or (λ c. c == o.comp) x false) e ∙ ap (λ b. s.running && b) (ne_eqb comp o.comp apart) ∙ off s.running where
-  off : (b : Bool) → (b && false) ≡ false
-  off true = refl
-  off false = refl
-
--- the registers of another component stay
-other_unit : (book : Book) (shape : Widths) (past : List Occ) (o : Occ) (sets : List (Option Kept)) (c : ℕ) (ws : List ℕ) → AreFit book shape sets → AllWithin (length past) sets → (c ≡ o.comp → ⊥)
-    → unit_at book (past ++ o ∷ []) sets c ws ≡ unit_at book past sets c ws
-other_unit book shape past o sets c ws fit within apart = ap (λ (rs : List (Option Register)). record { widths = ws; registers = rs }) (go (owner_from c 0 (faces_of sets)) refl) where
+-- the unit of another component stays
+other_unit : (book : Book) (shape : Widths) (past : List Occ) (o : Occ) (sets : List (Option Kept)) (c : ℕ) → AreFit book shape sets → AllWithin (length past) sets → (c ≡ o.comp → ⊥) → IsSameUnit book past (past ++ o ∷ []) sets sets c
+other_unit book shape past o sets c fit within apart ws = ap (λ (rs : List (Option Register)). record { widths = ws; registers = rs }) (sym (go (owner_from c 0 (faces_of sets)) refl)) where
   go : (m : Option ℕ) → owner_from c 0 (faces_of sets) ≡ m → registers_by book ws (past ++ o ∷ []) (runner c sets) ≡ registers_by book ws past (runner c sets)
-  go None e = let none = runner-none sets c e in ap (registers_by book ws (past ++ o ∷ [])) none ∙ sym (ap (registers_by book ws past) none)
+  go None e = rw (runner-none sets c e) refl
   go (Some k) e =
       let r = runs_by sets c k e in
-      let is = runner-some sets c k r.set e r.at in
-      let h = stays book shape past o r.set (fit.fit k r.set r.at) (within_at (length past) sets k r.set within r.at) (not_there o r.set c r.component apart) in
-      ap (registers_by book ws (past ++ o ∷ [])) is ∙ h.registers ws r.running ∙ sym (ap (registers_by book ws past) is)
+      let elsewhere = quiet_other r.set o.comp (λ is. apart (same_some c o.comp (sym r.component ∙ is))) in
+      let h = stays book shape past o r.set (fit.fit k r.set r.at) (within_at (length past) sets k r.set within r.at) elsewhere in
+      rw (runner-some sets c k r.set e r.at) (h.registers ws r.running)
 
 -- where no set runs on the occurrence's component, all stays
 pub record AllFollow (book : Book) (shape : Widths) (past : List Occ) (o : Occ) (sets : List (Option Kept)) (c : CountedAll) : Type 0 where
@@ -94,10 +63,6 @@ notes_none book thread past o number (None ∷ sets) h = notes_none book thread 
 notes_none book thread past o number (Some s ∷ sets) h =
     ap (λ (xs : List ℕ). map (note thread number o) xs ++ notes_at book thread past o (number + 1) sets) (h 0 s refl) ∙ notes_none book thread past o (number + 1) sets (λ i t e. h (suc i) t e)
 
-append_none : {X : Type 0} (xs : List X) → xs ++ [] ≡ xs
-append_none [] = refl
-append_none (x ∷ xs) = ap (λ ys. x ∷ ys) (append_none xs)
-
 notes_one : (book : Book) (thread : ℕ) (past : List Occ) (o : Occ) (number : ℕ) (sets : List (Option Kept)) (k : ℕ) (s : Kept) → slice_get sets k ≡ Some (Some s)
     → ((i : ℕ) (t : Kept) → (i ≡ k → ⊥) → slice_get sets i ≡ Some (Some t) → passed_in t.running book past t o ≡ []) → notes_at book thread past o number sets ≡ map (note thread (number + k) o) (passed_in s.running book past s o)
 notes_one book thread past o number [] k s e h = cc
@@ -107,7 +72,7 @@ notes_one book thread past o number (place ∷ sets) zero s e h =
     let rest = notes_none book thread past o (number + 1) sets (λ i t f. h (suc i) t (λ z. absurd (omega arith)) f) in
     ap (λ p. notes_at book thread past o number (p ∷ sets)) same
     ∙ ap (λ (xs : List Note). map (note thread number o) (passed_in s.running book past s o) ++ xs) rest
-    ∙ append_none (map (note thread number o) (passed_in s.running book past s o))
+    ∙ append-nil (map (note thread number o) (passed_in s.running book past s o))
     ∙ ap (λ (n : ℕ). map (note thread n o) (passed_in s.running book past s o)) at_number
 notes_one book thread past o number (None ∷ sets) (suc k) s e h =
     let at_number : number + 1 + k ≡ number + suc k = omega arith in
@@ -120,24 +85,21 @@ notes_one book thread past o number (Some t ∷ sets) (suc k) s e h =
 none_follows : (book : Book) (shape : Widths) (past : List Occ) (o : Occ) (sets : List (Option Kept)) → AreFit book shape sets → AllWithin (length past) sets → owner_from o.comp 0 (faces_of sets) ≡ None
     → AllFollow book shape past o sets (uncounted (units_of book shape past sets) (slots_of book shape past sets))
 none_follows book shape past o sets fit within none = record {
-  units = same_items (units_of book shape past sets) (units_of book shape (past ++ o ∷ []) sets) (λ c. get-units book shape past sets c ∙ unit c (slice_get shape c) ∙ sym (get-units book shape (past ++ o ∷ []) sets c));
+  units = units_same book shape past (past ++ o ∷ []) sets sets unit;
   slots = map_same_on (option_map (slot_of book shape past)) (option_map (slot_of book shape (past ++ o ∷ []))) sets place;
   notes = λ thread. notes_none book thread past o 0 sets (λ i s e. (stay i s e).silent);
 } where
   stay : (i : ℕ) (s : Kept) → slice_get sets i ≡ Some (Some s) → Stays book shape past o s
-  stay i s e = stays book shape past o s (fit.fit i s e) (within_at (length past) sets i s within e) (owner_none o.comp 0 (faces_of sets) i (Some (face_of s)) none (get-map_some (option_map face_of) sets i (Some s) e))
+  stay i s e = stays book shape past o s (fit.fit i s e) (within_at (length past) sets i s within e) (quiet_none sets o.comp i (Some s) none e)
 
   place : (i : ℕ) (p : Option Kept) → slice_get sets i ≡ Some p → option_map (slot_of book shape past) p ≡ option_map (slot_of book shape (past ++ o ∷ [])) p
   place i None e = refl
   place i (Some s) e = ap Some (sym (stay i s e).slot)
 
-  unit : (c : ℕ) (ws : Option (List ℕ)) → option_map (unit_at book past sets c) ws ≡ option_map (unit_at book (past ++ o ∷ []) sets c) ws
-  unit c None = refl
-  unit c (Some ws) = elim (cases_eq c o.comp) [
-    | inl same ↦
-        let r = runner-none sets c (ap (λ (k : ℕ). owner_from k 0 (faces_of sets)) same ∙ none) in
-        ap Some (ap (λ (x : Option Kept). record { widths = ws; registers = registers_by book ws past x }) r ∙ sym (ap (λ (x : Option Kept). record { widths = ws; registers = registers_by book ws (past ++ o ∷ []) x }) r))
-    | inr apart ↦ ap Some (sym (other_unit book shape past o sets c ws fit within apart))
+  unit : (c : ℕ) → IsSameUnit book past (past ++ o ∷ []) sets sets c
+  unit c = elim (cases_eq c o.comp) [
+    | inl same ↦ (λ ws. rw (runner-none sets c (ap (λ (k : ℕ). owner_from k 0 (faces_of sets)) same ∙ none)) refl)
+    | inr apart ↦ other_unit book shape past o sets c fit within apart
   ]
 
 -- the unit of the set that runs on the component
@@ -169,8 +131,11 @@ some_follows book shape past o sets k shapely fit within apart small e = subst (
   widths : (ws : List ℕ) × (slice_get shape o.comp ≡ Some ws)
   widths = get_at shape o.comp (fit_s.has_component o.comp r.component)
 
+  unit_is : (p : List Occ) → unit_at book p sets o.comp widths.0 ≡ unit_by book shape p r.set
+  unit_is p = unit_at-by book shape p o sets k widths.0 r.set e r.at r.component widths.1
+
   unit_now : (p : List Occ) → slice_get (units_of book shape p sets) o.comp ≡ Some (unit_by book shape p r.set)
-  unit_now p = get-units book shape p sets o.comp ∙ ap (option_map (unit_at book p sets o.comp)) widths.1 ∙ ap Some (unit_at-by book shape p o sets k widths.0 r.set e r.at r.component widths.1)
+  unit_now p = get-units book shape p sets o.comp ∙ ap (option_map (unit_at book p sets o.comp)) widths.1 ∙ ap Some (unit_is p)
 
   slot_now : (p : List Occ) → slice_get (slots_of book shape p sets) k ≡ Some (Some (slot_of book shape p r.set))
   slot_now p = get-map_some (option_map (slot_of book shape p)) sets k (Some r.set) r.at
@@ -196,40 +161,19 @@ some_follows book shape past o sets k shapely fit within apart small e = subst (
     go (inl here) = absurd (other (other_runs sets o.comp i k t r.set apart f r.at here r.here))
     go (inr none) = none
 
-  unit_item : (c : ℕ) → slice_get (slice_set (units_of book shape past sets) o.comp (unit_by book shape (past ++ o ∷ []) r.set)) c ≡ slice_get (units_of book shape (past ++ o ∷ []) sets) c
-  unit_item c = elim (cases_eq c o.comp) [
-    | inl same ↦
-        ap (slice_get (slice_set (units_of book shape past sets) o.comp (unit_by book shape (past ++ o ∷ []) r.set))) same
-        ∙ get-set_same (units_of book shape past sets) o.comp (unit_by book shape (past ++ o ∷ []) r.set) (slice_get_within (units_of book shape past sets) o.comp (unit_by book shape past r.set) (unit_now past))
-        ∙ sym (ap (slice_get (units_of book shape (past ++ o ∷ []) sets)) same ∙ unit_now (past ++ o ∷ []))
-    | inr other ↦
-        get-set_other (units_of book shape past sets) o.comp c (unit_by book shape (past ++ o ∷ []) r.set) other
-        ∙ get-units book shape past sets c ∙ go (slice_get shape c) other ∙ sym (get-units book shape (past ++ o ∷ []) sets c)
-  ] where
-    go : (ws : Option (List ℕ)) → (c ≡ o.comp → ⊥) → option_map (unit_at book past sets c) ws ≡ option_map (unit_at book (past ++ o ∷ []) sets c) ws
-    go None other = refl
-    go (Some ws) other = ap Some (sym (other_unit book shape past o sets c ws fit within other))
+  slot : (i : ℕ) (p : Option (Option Kept)) → slice_get sets i ≡ p → (i ≡ k → ⊥) → option_map (option_map (slot_of book shape past)) p ≡ option_map (option_map (slot_of book shape (past ++ o ∷ []))) p
+  slot i None f other = refl
+  slot i (Some None) f other = refl
+  slot i (Some (Some t)) f other = ap (λ (x : Slot). Some (Some x)) (sym (stay i t other f).slot)
 
   units : slice_set (units_of book shape past sets) o.comp (unit_by book shape (past ++ o ∷ []) r.set) ≡ units_of book shape (past ++ o ∷ []) sets
-  units = same_items _ _ unit_item
-
-  slot_item : (i : ℕ) → slice_get (slice_set (slots_of book shape past sets) k (Some (slot_of book shape (past ++ o ∷ []) r.set))) i ≡ slice_get (slots_of book shape (past ++ o ∷ []) sets) i
-  slot_item i = elim (cases_eq i k) [
-    | inl same ↦
-        ap (slice_get (slice_set (slots_of book shape past sets) k (Some (slot_of book shape (past ++ o ∷ []) r.set)))) same
-        ∙ get-set_same (slots_of book shape past sets) k (Some (slot_of book shape (past ++ o ∷ []) r.set)) (slice_get_within (slots_of book shape past sets) k (Some (slot_of book shape past r.set)) (slot_now past))
-        ∙ sym (ap (slice_get (slots_of book shape (past ++ o ∷ []) sets)) same ∙ slot_now (past ++ o ∷ []))
-    | inr other ↦
-        get-set_other (slots_of book shape past sets) k i (Some (slot_of book shape (past ++ o ∷ []) r.set)) other
-        ∙ get-map (option_map (slot_of book shape past)) sets i ∙ go (slice_get sets i) refl other ∙ sym (get-map (option_map (slot_of book shape (past ++ o ∷ []))) sets i)
-  ] where
-    go : (p : Option (Option Kept)) → slice_get sets i ≡ p → (i ≡ k → ⊥) → option_map (option_map (slot_of book shape past)) (slice_get sets i) ≡ option_map (option_map (slot_of book shape (past ++ o ∷ []))) (slice_get sets i)
-    go None f other = rw f refl
-    go (Some None) f other = rw f refl
-    go (Some (Some t)) f other = rw f (ap (λ (x : Slot). Some (Some x)) (sym (stay i t other f).slot))
+  units =
+      ap (slice_set (units_of book shape past sets) o.comp) (sym (unit_is (past ++ o ∷ [])))
+      ∙ units_put book shape past (past ++ o ∷ []) sets sets o.comp widths.0 widths.1 (λ c other. other_unit book shape past o sets c fit within other)
 
   slots : slice_set (slots_of book shape past sets) k (Some (slot_of book shape (past ++ o ∷ []) r.set)) ≡ slots_of book shape (past ++ o ∷ []) sets
-  slots = same_items _ _ slot_item
+  slots = put_as (slots_of book shape past sets) (slots_of book shape (past ++ o ∷ []) sets) k _ (slice_get_within _ k _ (slot_now past)) (slot_now (past ++ o ∷ []))
+      (λ i other. get-map (option_map (slot_of book shape past)) sets i ∙ slot i (slice_get sets i) refl other ∙ sym (get-map (option_map (slot_of book shape (past ++ o ∷ []))) sets i))
 
   the_set : (passed : List ℕ) (thread : ℕ) → map (note thread k o) passed ≡ map (note thread (if length passed == 0 then 0 else k) o) passed
   the_set [] thread = refl

@@ -1,54 +1,25 @@
 -- A core that shows the register of a counter.
-use Rattle.std.proofs.Common.{◌≡◌, ℕ, zero, suc, ◌+◌, ◌⊎◌, inl, inr, Bool, true, false, not, List, [], ◌∷◌, length, get_or, replicate, refl, ap, ap₂, sym, subst, ◌∙◌, arith, Option, Some, None, option_map, slice_get}
-use Rattle.std.specs.Prelude.{◌==◌, ◌||◌, if◌then◌else◌, is_none, nat_le, unwrap_or, Result, Ok, Err}
-use Rattle.std.specs.Option.{option_and_then, option_map_or}
-use Rattle.std.specs.List.{list_any, position_or_len}
-use Rattle.std.proofs.lemmas.Bool.{cases_Bool, cond-true, cond-false, eq-eqb, eqb-true, le-leb}
-use Rattle.std.proofs.lemmas.List.{length-replicate}
-use Rattle.std.proofs.lemmas.Option.{slice_get_within}
-use Rattle.papi_base.specs.declared.code.Code.{Code}
-use Rattle.papi_base.specs.declared.code.Code.TheVariants.{Ecombo, Einval, Enoevst, Enotrun}
-use Rattle.papi_base.specs.declared.native.Native.{Native}
-use Rattle.papi_base.specs.declared.occurrence.Occ.{Occ}
-use Rattle.counter_unit.specs.declared.registers.Register.{Register}
-use Rattle.counter_unit.specs.Counting.{UnitView, at_place, register_at}
-use Rattle.counter_unit.proofs.Places.{at_place-replicate}
-use Rattle.postfix_rules.specs.Presets.{Book}
-use Rattle.event_sets.specs.declared.refusal.Refusal.{Refusal}
-use Rattle.event_sets.specs.declared.refusal.Refusal.TheVariants.{Plain}
-use Rattle.event_sets.specs.Assigning.{counters_for}
-use Rattle.event_sets.specs.AtRest.{Widths, set_natives, widths_at}
-use Rattle.session_model.specs.declared.call.Call.TheVariants as call
+use Rattle.thread_core.proofs.Words.{ℕ, List, list_any, ◌==◌, ◌≡◌, true, slice_get, position_or_len, Some, [], ◌∷◌, refl, Bool, ap, eqb-true, false, ◌+◌}
+use Rattle.thread_core.proofs.Words.{suc, arith, ◌||◌, subst, sym, eq-eqb, ◌∙◌, Option, Refusal, Reply, Result, Code, Ok, None, done, Err, Plain}
+use Rattle.thread_core.proofs.Words.{free, if◌then◌else◌, not, Enotrun, Einval, Ecombo, Book, Widths, Face, is_none, Enoevst, option_map_or, is_multiplexed}
+use Rattle.thread_core.proofs.Words.{Occ, Kept, Native, IsFit, widths_at, set_natives, counters_for, at_place, running_registers, register_at, get_or}
+use Rattle.thread_core.proofs.Words.{threshold_among, count, plain, Pin, ArePinned, pins_of, pinned, Register, programs-at, replicate, length}
+use Rattle.thread_core.proofs.Words.{length-replicate, get-pins_from, slice_get_within, get_at, placed, pin_made, at_place-replicate, CoreView, Account}
+use Rattle.thread_core.proofs.Words.{CoreStands, at, face_of, cases_Bool, option_and_then, ap₂, ◌⊎◌, inl, inr, nat_le, UnitView, cond-true}
+use Rattle.thread_core.proofs.Words.{cond-false, account_refusal, reply_over, sight_of_kept, register_under, Slot, option_map, at_map, slot_of, subst₂}
+use Rattle.thread_core.proofs.Words.{AgreesWith, Follows, refusal_of, slot_faces, refused}
 use Rattle.session_model.specs.declared.reply.Body.TheVariants as body
-use Rattle.session_model.specs.declared.reply.Reply.{Reply}
-use Rattle.session_model.specs.Account.{Account, Kept}
-use Rattle.session_model.specs.Counts.{count}
-use Rattle.session_model.specs.Faces.{Face, at, face_of}
-use Rattle.session_model.specs.Fitness.{IsFit}
-use Rattle.session_model.specs.Refusals.{has_counter, is_multiplexed, leaves_free, leaves_free_by, refusal_of}
-use Rattle.session_model.specs.Registers.{register_of, threshold_among}
-use Rattle.session_model.specs.Replies.{done, refused, reply_over, sight_of_kept}
-use Rattle.session_model.specs.Step.{account_refusal}
-use Rattle.session_laws.proofs.Sets.{at_map}
-use Rattle.thread_slots.specs.declared.pins.Pin.{Pin}
-use Rattle.thread_slots.specs.declared.slot.Slot.{Slot}
-use Rattle.thread_core.specs.CoreView.{CoreView}
-use Rattle.thread_core.specs.Following.{Follows, reply_of}
-use Rattle.thread_slots.specs.Pinned.{ArePinned, pins_of}
-use Rattle.thread_core.specs.Refusing.{slot_faces}
-use Rattle.thread_slots.specs.RawRegister.{register_by, register_on, register_shown, register_under, register_value}
-use Rattle.thread_slots.specs.Slots.{slot_of}
-use Rattle.thread_core.specs.Stands.{AgreesWith, CoreStands}
-use Rattle.thread_slots.specs.Units.{running_registers}
-use Rattle.thread_core.proofs.Extending.{slot_at}
+use Rattle.session_model.specs.declared.call.Call.TheVariants as call
+use Rattle.thread_core.proofs.Starting.{none_any}
+use Rattle.session_model.specs.Refusals.{has_counter, leaves_free, leaves_free_by}
+use Rattle.thread_slots.specs.RawRegister.{register_value, register_shown, register_on, register_by}
+use Rattle.session_model.specs.Registers.{register_of}
+use Rattle.thread_slots.proofs.Programs.{programs-other}
+use Rattle.thread_core.proofs.Looking.{fit_of, widths_on, unit_on, slot_at, looks_follows}
+use Rattle.session_model.specs.Faces.{has}
+use Rattle.std.proofs.lemmas.Bool.{le-leb}
+use Rattle.thread_core.specs.Following.{reply_of}
 use Rattle.thread_core.proofs.Following.{refusal_stands, refused_follows}
-use Rattle.thread_slots.proofs.Lists.{get_at}
-use Rattle.thread_core.proofs.Looking.{looks_follows}
-use Rattle.thread_core.proofs.Owners.{face_same}
-use Rattle.thread_slots.proofs.Placing.{get-pins_from, pin_made, pinned, placed}
-use Rattle.thread_slots.proofs.Programs.{programs-at, programs-other}
-use Rattle.thread_core.proofs.Shows.{unit_on}
-use Rattle.thread_core.proofs.Starts.{fit_of}
 
 -- the counter is in the list, or it is not
 any_found : (c : ℕ) (cs : List ℕ) → list_any (λ k. k == c) cs ≡ true → slice_get cs (position_or_len (λ k. k == c) cs) ≡ Some c
@@ -61,12 +32,7 @@ any_found c (x ∷ cs) h = go (any_found c cs) (x == c) refl h where
       rw (q, next) (rest (let P : Bool → Type 0 = λ b. (b || list_any (λ k. k == c) cs) ≡ true in subst P q k))
 
 any_none : (c : ℕ) (cs : List ℕ) (i x : ℕ) → list_any (λ k. k == c) cs ≡ false → slice_get cs i ≡ Some x → c ≡ x → ⊥
-any_none c [] i x h e is = cc
-any_none c (y ∷ cs) i x h e is = go (any_none c cs) (y == c) refl i e where
-  go : ((j z : ℕ) → list_any (λ k. k == c) cs ≡ false → slice_get cs j ≡ Some z → c ≡ z → ⊥) → (b : Bool) → (y == c) ≡ b → (i : ℕ) → slice_get (y ∷ cs) i ≡ Some x → ⊥
-  go rest true q i e = let found : list_any (λ k. k == c) (y ∷ cs) ≡ true = rw q refl in cc
-  go rest false q zero e = let same : y ≡ x = cc in let found : (y == c) ≡ true = eq-eqb y c (same ∙ sym is) in cc
-  go rest false q (suc j) e = rest j x (let later : list_any (λ k. k == c) (y ∷ cs) ≡ list_any (λ k. k == c) cs = rw q refl in sym later ∙ h) e is
+any_none c cs i x h e is = let both : true ≡ false = sym (eq-eqb x c (sym is)) ∙ none_any (λ k. k == c) cs i x h e in cc
 
 -- what the code answers is what the table and the replies say
 abbrev Tells : Option Refusal → Reply → Result ℕ Code → Type 0
@@ -83,6 +49,17 @@ table_by book shape c o = if is_none o then Some (Plain Enoevst) else if not (op
     if option_map_or (λ f. is_multiplexed f.set) o false then Some (Plain Ecombo) else None
 
 -- the register of a counter on which a native is, and that of another
+pub register_on-counter : (book : Book) (shape : Widths) (past : List Occ) (s : Kept) (ws : List ℕ) (i c : ℕ) (n : Native) → IsFit book shape s.set → s.set.slice ≡ None → ws ≡ widths_at shape s.set.component
+    → slice_get (set_natives book s.set) i ≡ Some n → slice_get (counters_for (set_natives book s.set)) i ≡ Some c
+    → at_place (running_registers book ws past s None) c ≡ Some (register_at (get_or (widths_at shape s.set.component) c 0) n s.set.domain (threshold_among book n s.set.events s.set.thresholds) (count past s n))
+register_on-counter book shape past s ws i c n fit plain same native counter =
+    let t = threshold_among book n s.set.events s.set.thresholds in
+    let p : Pin = record { native = n; counter = c; threshold = t } in
+    let at_pins = subst (λ (w : List ℕ). ArePinned w (pins_of book s.set)) (sym same) (pinned book shape s.set fit plain) in
+    let none : Option Register = None in
+    programs-at ws s.set.domain (count past s) (pins_of book s.set) (replicate (length ws) none) i p at_pins (length-replicate (length ws) none) (get-pins_from book s.set (set_natives book s.set) (counters_for (set_natives book s.set)) i n c native counter)
+    ∙ ap (λ (w : List ℕ). Some (register_at (get_or w c 0) n s.set.domain t (count past s n))) same
+
 register_there : (book : Book) (shape : Widths) (past : List Occ) (s : Kept) (ws : List ℕ) (c : ℕ) → IsFit book shape s.set → s.set.slice ≡ None → ws ≡ widths_at shape s.set.component → list_any (λ k. k == c) (counters_for (set_natives book s.set)) ≡ true
     → register_value (at_place (running_registers book ws past s None) c) ≡ Ok (register_of book shape past s c)
 register_there book shape past s ws c fit plain same found =
@@ -92,19 +69,16 @@ register_there book shape past s ws c fit plain same found =
     let counter = any_found c cs found in
     let below = slice_get_within cs i c counter in
     let n = get_at ns i (let one = (placed book shape s.set fit plain).one_each in omega arith) in
-    let t = threshold_among book n.0 s.set.events s.set.thresholds in
-    let p : Pin = record { native = n.0; counter = c; threshold = t } in
-    let at_pins = subst (λ (w : List ℕ). ArePinned w (pins_of book s.set)) (sym same) (pinned book shape s.set fit plain) in
-    let r : Option Register = None in
-    ap register_value (programs-at ws s.set.domain (count past s) (pins_of book s.set) (replicate (length ws) None) i p at_pins (length-replicate (length ws) r) (get-pins_from book s.set ns cs i n.0 c n.1 counter))
-    ∙ ap (λ (w : List ℕ). Ok (register_at (get_or w c 0) n.0 s.set.domain t (count past s n.0)).value) same
+    ap register_value (register_on-counter book shape past s ws i c n.0 fit plain same n.1 counter)
     ∙ sym (ap (λ (o : Option Native). Ok (option_map_or (λ m. (register_at (get_or (widths_at shape s.set.component) c 0) m s.set.domain (threshold_among book m s.set.events s.set.thresholds) (count past s m)).value) o 0)) n.1)
 
+pub no_register-on : (book : Book) (past : List Occ) (s : Kept) (ws : List ℕ) (c : ℕ) → ((i : ℕ) → slice_get (counters_for (set_natives book s.set)) i ≡ Some c → ⊥) → at_place (running_registers book ws past s None) c ≡ None
+no_register-on book past s ws c other =
+    programs-other ws s.set.domain (count past s) c (pins_of book s.set) (replicate (length ws) None) (λ k q e is. other k ((pin_made book s.set (set_natives book s.set) (counters_for (set_natives book s.set)) k q e).counter ∙ ap Some (sym is)))
+    ∙ at_place-replicate (length ws) c
+
 register_free : (book : Book) (past : List Occ) (s : Kept) (ws : List ℕ) (c : ℕ) → list_any (λ k. k == c) (counters_for (set_natives book s.set)) ≡ false → register_value (at_place (running_registers book ws past s None) c) ≡ Err Einval
-register_free book past s ws c none =
-    let ns = set_natives book s.set in
-    let cs = counters_for ns in
-    ap register_value (programs-other ws s.set.domain (count past s) c (pins_of book s.set) (replicate (length ws) None) (λ k q e is. any_none c cs k q.counter none (pin_made book s.set ns cs k q e).counter is) ∙ at_place-replicate (length ws) c)
+register_free book past s ws c none = ap register_value (no_register-on book past s ws c (λ i e. any_none c (counters_for (set_natives book s.set)) i c none e refl))
 
 tells_set : (book : Book) (core : CoreView) (a : Account) (k c : ℕ) (s : Kept) → CoreStands book core a → at a.sets k ≡ Some s
     → Tells (table_by book core.shape c (Some (face_of s))) (done (body.Register (register_of book core.shape a.past s c))) (register_shown core.units (face_of s) c)
@@ -148,11 +122,8 @@ tells_set book core a k c s h e = go (cases_Bool s.running) s.set.component refl
       (ap (λ (m : Option ℕ). not (nat_le (length (widths_at core.shape m)) c)) is ∙ ap not (le-leb 0 c (omega arith)))
       )
   go (inl run) (Some comp) is = by (cases_Bool (nat_le (length ws.0) c)) where
-    ws : (w : List ℕ) × (slice_get core.shape comp ≡ Some w)
-    ws = get_at core.shape comp (fit.has_component comp is)
-
-    same : ws.0 ≡ widths_at core.shape s.set.component
-    same = sym (ap (widths_at core.shape) is ∙ ap (λ (x : Option (List ℕ)). unwrap_or x []) ws.1)
+    ws : (w : List ℕ) × (slice_get core.shape comp ≡ Some w) × (w ≡ widths_at core.shape s.set.component)
+    ws = widths_on book core.shape s.set comp fit is
 
     unit : UnitView
     unit = record { widths = ws.0; registers = running_registers book ws.0 a.past s s.set.slice }
@@ -163,31 +134,29 @@ tells_set book core a k c s h e = go (cases_Bool s.running) s.set.component refl
     by : (nat_le (length ws.0) c ≡ true) ⊎ (nat_le (length ws.0) c ≡ false) → Tells T R (here s.running s.set.component)
     by (inl lacks) = subst (Tells T R) (sym (found ∙ cond-true (nat_le (length ws.0) c) (Err Einval) (register_by s.set.slice unit c) lacks)) (
         ap₂ (λ (x y : Bool). codes x y (leaves_free book c s.set) (is_multiplexed s.set)) run
-        (ap (λ (w : List ℕ). not (nat_le (length w) c)) (sym same) ∙ ap not lacks)
+        (ap (λ (w : List ℕ). not (nat_le (length w) c)) (sym ws.2) ∙ ap not lacks)
         )
     by (inr has) = subst (Tells T R) (sym (found ∙ cond-false (nat_le (length ws.0) c) (Err Einval) (register_by s.set.slice unit c) has))
-        (counted ws.0 s.set.slice run refl same (ap (λ (w : List ℕ). not (nat_le (length w) c)) (sym same) ∙ ap not has))
+        (counted ws.0 s.set.slice run refl ws.2 (ap (λ (w : List ℕ). not (nat_le (length w) c)) (sym ws.2) ∙ ap not has))
 
 tells : (book : Book) (core : CoreView) (a : Account) (k c : ℕ) → CoreStands book core a
     → Tells (account_refusal book core.shape a (call.Raw k c)) (reply_over book (sight_of_kept book core.shape a.past) a.sets (call.Raw k c)) (register_under core.units (at core.slots k) c)
-tells book core a k c h = go (at a.sets k) refl where
+tells book core a k c h = subst (λ (x : Option Slot). Tells T R (register_under core.units x c)) (sym (slot_at book core a k h)) (go (at a.sets k) refl) where
   T : Option Refusal
   T = account_refusal book core.shape a (call.Raw k c)
 
   R : Reply
   R = reply_over book (sight_of_kept book core.shape a.past) a.sets (call.Raw k c)
 
-  go : (o : Option Kept) → at a.sets k ≡ o → Tells T R (register_under core.units (at core.slots k) c)
-  go None e =
-      subst (λ (x : Option Slot). Tells T R (register_under core.units x c)) (sym (slot_at book core a k h ∙ ap (option_map (slot_of book core.shape a.past)) e))
-      (ap (table_by book core.shape c) (at_map face_of a.sets k ∙ ap (option_map face_of) e))
+  table : (o : Option Kept) → at a.sets k ≡ o → T ≡ table_by book core.shape c (option_map face_of o)
+  table o e = ap (table_by book core.shape c) (at_map face_of a.sets k ∙ ap (option_map face_of) e)
+
+  go : (o : Option Kept) → at a.sets k ≡ o → Tells T R (register_under core.units (option_map (slot_of book core.shape a.past) (at a.sets k)) c)
+  go None e = subst (λ (x : Option Kept). Tells T R (register_under core.units (option_map (slot_of book core.shape a.past) x) c)) (sym e) (table None e)
   go (Some s) e =
-      let table : T ≡ table_by book core.shape c (Some (face_of s)) = ap (table_by book core.shape c) (at_map face_of a.sets k ∙ ap (option_map face_of) e) in
       let reply : R ≡ done (body.Register (register_of book core.shape a.past s c)) = ap (λ (o : Option Kept). done (option_map_or (λ x. body.Register (register_of book core.shape a.past x c)) o body.Nothing)) e in
-      subst (λ (x : Option Slot). Tells T R (register_under core.units x c)) (sym (slot_at book core a k h ∙ ap (option_map (slot_of book core.shape a.past)) e))
-      (subst (λ (f : Face). Tells T R (register_shown core.units f c)) (sym (face_same book core.shape a.past s))
-      (subst (λ (t : Option Refusal). Tells t R (register_shown core.units (face_of s) c)) (sym table)
-      (subst (λ (r : Reply). Tells (table_by book core.shape c (Some (face_of s))) r (register_shown core.units (face_of s) c)) (sym reply) (tells_set book core a k c s h e))))
+      subst (λ (x : Option Kept). Tells T R (register_under core.units (option_map (slot_of book core.shape a.past) x) c)) (sym e)
+      (subst₂ (λ (t : Option Refusal) (r : Reply). Tells t r (register_shown core.units (face_of s) c)) (sym (table (Some s) e)) (sym reply) (tells_set book core a k c s h e))
 
 pub raw_follows : (book : Book) (core : CoreView) (k c : ℕ) (result : Result ℕ Code) → AgreesWith book core → result ≡ register_under core.units (at core.slots k) c
     → Follows book core core (call.Raw k c) (reply_of (λ v. body.Register v) result)

@@ -1,49 +1,19 @@
--- What an occurrence does to what is kept of a running set, on the unit of its component, is what is kept after one occurrence more.
-use Rattle.std.proofs.Common.{◌≡◌, ℕ, zero, suc, ◌+◌, ◌-◌, ◌/◌, ◌≤◌, Bool, true, false, List, [], ◌∷◌, ◌++◌, length, get_or, map, replicate, refl, ap, ap₂, sym, ◌∙◌, arith, Option, Some, None, slice_get}
-use Rattle.std.specs.Prelude.{◌==◌, if◌then◌else◌, nat_lt, unwrap_or}
-use Rattle.std.specs.Option.{option_map_or}
-use Rattle.std.specs.List.{position_or_len}
-use Rattle.std.specs.Int.{bit_at}
-use Rattle.std.proofs.lemmas.Bool.{cond-true, cond-false, ne_eqb}
-use Rattle.std.proofs.lemmas.List.{length-map, length-replicate}
-use Rattle.std.proofs.lemmas.Option.{get_or_from_slice_get, slice_get_within}
-use Rattle.papi_base.specs.declared.occurrence.Occ.{Occ}
-use Rattle.papi_base.specs.declared.native.Native.{Native}
-use Rattle.papi_base.specs.declared.native.EventRef.{EventRef}
-use Rattle.papi_base.specs.Weight.{weight_of}
-use Rattle.papi_base.specs.Widths.{AreWidths}
-use Rattle.counter_alloc.specs.Masks.{masks_of}
-use Rattle.counter_unit.specs.declared.registers.Register.{Register}
-use Rattle.counter_unit.specs.Counting.{UnitView, all_moved, period, banked}
-use Rattle.counter_unit.proofs.Places.{period_some}
-use Rattle.multiplex.specs.Turns.{Turns, group_at, weight_in_turn}
-use Rattle.multiplex.proofs.Grouping.{each_has_group}
+-- What an occurrence does to what is kept of a set is what is kept after one occurrence more.
+use Rattle.thread_core.proofs.Words.{Widths, Option, ℕ, IsShape, AreWidths, widths_at, None, arith, Some, slice_get, refl, List, ◌≡◌, unwrap_or, [], replicate}
+use Rattle.thread_core.proofs.Words.{zero, suc, ◌+◌, Book, Native, Occ, Kept, EventRef, get_or, ◌==◌, passes, lead, ◌++◌, passing_from, ◌∷◌, cond-false, ne_eqb}
+use Rattle.thread_core.proofs.Words.{ap, ◌∙◌, if◌then◌else◌, Bool, true, false, ◌≤◌, length, IsFit, last_after, count, pins_of, runs, plain, ◌-◌, set_natives}
+use Rattle.thread_core.proofs.Words.{counters_for, held_have_natives, all_at, IsHeld, position_or_len, same_native, get_position, lead_among, slice_get_within}
+use Rattle.thread_core.proofs.Words.{placed, get_at, option_map_or, get_or_from_slice_get, get-pins_from, Pin, period, weight_of, pinned, nat_lt, ◌/◌, sym}
+use Rattle.thread_core.proofs.Words.{UnitView, running_registers, Counted, slot_of, Slot, slot_with, held_by, ap₂, Register, Turns, turned, weighed_running}
+use Rattle.thread_core.proofs.Words.{weight_in_turn, weighed, AtRest, numbers_of, masks_of, length-map, counted, length-replicate, programs, programs-same}
+use Rattle.thread_core.proofs.Words.{clock, clock_stays, turns_of, IsWithin, map_same, measured, runs_on, face_of, ◌&&◌, eq-eqb, Domain, set, register_at}
+use Rattle.thread_core.proofs.Words.{pin_made, place_of_lead, armed_from, armed_event, armed_of, threshold_is, period_some, with_turn, carry_of, group_at}
+use Rattle.thread_core.proofs.Words.{all_moved, all_moved-programs, all_moved-none, le-ltb}
 use Rattle.overflow_dispatch.specs.Passing.{passed_from}
-use Rattle.postfix_rules.specs.Presets.{Book, lead}
-use Rattle.postfix_rules.specs.Sameness.{same_native}
-use Rattle.postfix_rules.specs.Fitting.{IsHeld}
-use Rattle.event_sets.specs.Assigning.{counters_for}
-use Rattle.event_sets.specs.AtRest.{AtRest, Widths, set_natives, widths_at}
-use Rattle.event_sets.proofs.Agreeing.{held_have_natives}
-use Rattle.session_model.specs.Account.{Kept, clock, last_after}
-use Rattle.session_model.specs.Bounds.{IsWithin}
-use Rattle.session_model.specs.Counts.{count, weighed}
-use Rattle.session_model.specs.Estimates.{turns_of}
-use Rattle.session_model.specs.Thresholds.{passes, passed_from as passing_from}
-use Rattle.session_model.specs.Values.{measured}
-use Rattle.session_laws.proofs.Pushing.{clock_stays, weighed_running}
-use Rattle.thread_slots.specs.declared.pins.Pin.{Pin}
-use Rattle.thread_slots.specs.declared.slot.Slot.{Slot}
-use Rattle.thread_slots.specs.Counted.{Counted, counted, carry_of, with_turn}
-use Rattle.thread_slots.specs.Pinned.{pins_of, place_of_lead, armed_event, armed_from, armed_of, programs, bank_of, with_carries}
-use Rattle.thread_slots.specs.Slots.{slot_of, running_slot, stopped_slot, turned, numbers_of}
-use Rattle.session_model.specs.Fitness.{IsFit, IsShape}
-use Rattle.thread_slots.specs.Units.{running_registers}
-use Rattle.thread_slots.proofs.Carries.{pin_carries, AreTold, banks_follow, pin_passes}
-use Rattle.thread_slots.proofs.Lists.{all_at, get_at, map_same}
-use Rattle.thread_slots.proofs.Placing.{pinned, placed, get-pins_from, get_position, lead_among, threshold_is}
-use Rattle.thread_slots.proofs.Programs.{all_moved-programs, all_moved-none, programs-same}
-use Rattle.thread_core.proofs.Weighing.{count_more, measured_stopped}
+use Rattle.std.specs.Int.{bit_at}
+use Rattle.thread_slots.proofs.Carries.{AreTold, pin_passes, pin_carries}
+use Rattle.thread_core.proofs.Weighing.{count_more, measured_stopped, weight_none, turn_none}
+use Rattle.multiplex.proofs.Grouping.{each_has_group}
 
 pub widths_are : (shape : Widths) (component : Option ℕ) → IsShape shape → AreWidths (widths_at shape component)
 widths_are shape None h = record { low = λ k below. absurd (omega arith); high = λ k below. absurd (omega arith) }
@@ -76,42 +46,40 @@ passed_is book ns counters carry past s o n index (e ∷ es) (suc t ∷ ts) h =
       joined false xs = refl
 
 -- the passings of the events of a set that runs
-events_passed : (book : Book) (shape : Widths) (past : List Occ) (o : Occ) (s : Kept) (carry : ℕ) → s.running ≡ true → s.from ≤ length past → IsShape shape → IsFit book shape s.set → s.set.slice ≡ None → o.amount ≤ 255
+events_passed : (book : Book) (shape : Widths) (past : List Occ) (o : Occ) (s : Kept) (carry : ℕ) → s.running ≡ true → s.from ≤ length past
+    → IsShape shape → IsFit book shape s.set → s.set.slice ≡ None → o.amount ≤ 255
     → AreTold (last_after None past) o (widths_at shape s.set.component) s.set.domain (count past s) carry (pins_of book s.set)
     → passed_from 0 carry (armed_of book s.set) ≡ passing_from book past s o 0 s.set.events s.set.thresholds
-events_passed book shape past o s carry runs inside shapely fit plain small told = passed_is book ns cs carry past s o (32 - length s.set.events) 0 s.set.events s.set.thresholds each where
-  ns : List Native
-  ns = set_natives book s.set
-
-  cs : List ℕ
-  cs = counters_for (set_natives book s.set)
-
-  each : (k t : ℕ) (e : EventRef) → slice_get s.set.events k ≡ Some e → slice_get s.set.thresholds k ≡ Some (suc t) → (bit_at carry (get_or (counters_for (set_natives book s.set)) (place_of_lead book (set_natives book s.set) e) 0) == 1) ≡ passes past s o (lead book e) (suc t)
-  each k t e is at =
-      let ws = widths_at shape s.set.component in
-      let natives = set_natives book s.set in
-      let counters = counters_for natives in
-      let led = held_have_natives book e (all_at (IsHeld book) s.set.events k e fit.agrees.held is) in
-      let n = led.0 in
-      let place = position_or_len (same_native n) natives in
-      let native : slice_get natives place ≡ Some n = get_position n natives (lead_among book s.set k e n is led.1) in
-      let below = slice_get_within natives place n native in
-      let set = placed book shape s.set fit plain in
-      let counter = get_at counters place (let same = set.one_each in omega arith) in
-      let c : get_or counters (place_of_lead book natives e) 0 ≡ counter.0 = ap (λ (x : Option Native). get_or counters (option_map_or (λ m. position_or_len (same_native m) natives) x (length natives)) 0) led.1 ∙ get_or_from_slice_get counters place counter.0 0 counter.1 in
-      let w = get_or ws counter.0 0 in
-      let pin = get-pins_from book s.set natives counters place n counter.0 native counter.1 in
-      let t_is = threshold_is book shape s.set k e t n fit is at led.1 in
-      let p : Pin = record { native = n; counter = counter.0; threshold = _ } in
-      let period_is : period w p.threshold ≡ suc t = ap (period w) t_is ∙ period_some w (suc t) (omega arith) in
-      let d = s.set.domain in
-      let weight = weight_of n d (last_after None past) o in
-      let passing = pin_passes (last_after None past) o ws d (count past s) carry (pins_of book s.set) place p (widths_are shape s.set.component shapely) (pinned book shape s.set fit plain) small told pin in
-      ap (λ (x : ℕ). bit_at carry x == 1) c
-      ∙ passing
-      ∙ ap (λ (x : ℕ). nat_lt (count past s n / x) ((count past s n + weight) / x)) period_is
-      ∙ ap (λ (x : ℕ). nat_lt (count past s n / suc t) (x / suc t)) (sym (count_more past o s n runs inside))
-      ∙ sym (ap (λ (x : Option Native). passes past s o x (suc t)) led.1)
+events_passed book shape past o s carry runs inside shapely fit plain small told =
+    passed_is book (set_natives book s.set) (counters_for (set_natives book s.set)) carry past s o (32 - length s.set.events) 0
+    s.set.events s.set.thresholds (λ k t e is at.
+    let ws = widths_at shape s.set.component in
+    let natives = set_natives book s.set in
+    let counters = counters_for natives in
+    let led = held_have_natives book e (all_at (IsHeld book) s.set.events k e fit.agrees.held is) in
+    let n = led.0 in
+    let place = position_or_len (same_native n) natives in
+    let native : slice_get natives place ≡ Some n = get_position n natives (lead_among book s.set k e n is led.1) in
+    let below = slice_get_within natives place n native in
+    let set = placed book shape s.set fit plain in
+    let counter = get_at counters place (let same = set.one_each in omega arith) in
+    let c : get_or counters (place_of_lead book natives e) 0 ≡ counter.0 =
+    ap (λ (x : Option Native). get_or counters (option_map_or (λ m. position_or_len (same_native m) natives) x (length natives)) 0) led.1
+    ∙ get_or_from_slice_get counters place counter.0 0 counter.1 in
+    let w = get_or ws counter.0 0 in
+    let pin = get-pins_from book s.set natives counters place n counter.0 native counter.1 in
+    let t_is = threshold_is book shape s.set k e t n fit is at led.1 in
+    let p : Pin = record { native = n; counter = counter.0; threshold = _ } in
+    let period_is : period w p.threshold ≡ suc t = ap (period w) t_is ∙ period_some w (suc t) (omega arith) in
+    let d = s.set.domain in
+    let weight = weight_of n d (last_after None past) o in
+    let passing = pin_passes (last_after None past) o ws d (count past s) carry (pins_of book s.set) place p
+    (widths_are shape s.set.component shapely) (pinned book shape s.set fit plain) small told pin in
+    ap (λ (x : ℕ). bit_at carry x == 1) c
+    ∙ passing
+    ∙ ap (λ (x : ℕ). nat_lt (count past s n / x) ((count past s n + weight) / x)) period_is
+    ∙ ap (λ (x : ℕ). nat_lt (count past s n / suc t) (x / suc t)) (sym (count_more past o s n runs inside))
+    ∙ sym (ap (λ (x : Option Native). passes past s o x (suc t)) led.1))
 
 -- the unit of a running set
 abbrev pub unit_by : Book → Widths → List Occ → Kept → UnitView
@@ -121,20 +89,30 @@ unit_by book shape past s = record { widths = widths_at shape s.set.component; r
 abbrev pub after : Book → Widths → List Occ → Occ → Kept → Counted
 after book shape past o s = record { unit = unit_by book shape (past ++ o ∷ []) s; slot = slot_of book shape (past ++ o ∷ []) s; passed = passing_from book past s o 0 s.set.events s.set.thresholds }
 
-abbrev the_counted : UnitView → Slot → List ℕ → Counted
-the_counted u k p = record { unit = u; slot = k; passed = p }
+-- what is held of a running set, and of a stopped one
+abbrev pub running_slot : Book → Widths → List Occ → Kept → Option ℕ → Slot
+running_slot book shape past s m = slot_with book shape s (held_by book shape past s true m)
 
-same_counted : (u v : UnitView) (k l : Slot) (p q : List ℕ) → u ≡ v → k ≡ l → p ≡ q → the_counted u k p ≡ the_counted v l q
-same_counted u v k l p q e f g = ap (λ x. the_counted x k p) e ∙ ap (λ x. the_counted v x p) f ∙ ap (λ x. the_counted v l x) g
+abbrev pub stopped_slot : Book → Widths → List Occ → Kept → Slot
+stopped_slot book shape past s = slot_with book shape s (held_by book shape past s false s.set.slice)
 
 pub slot_of-running : (book : Book) (shape : Widths) (past : List Occ) (s : Kept) (m : Option ℕ) → s.running ≡ true → s.set.slice ≡ m → slot_of book shape past s ≡ running_slot book shape past s m
-slot_of-running book shape past s m runs is = cond-true s.running (running_slot book shape past s s.set.slice) (stopped_slot book shape past s) runs ∙ ap (running_slot book shape past s) is
+slot_of-running book shape past s m runs is = ap₂ (λ (b : Bool) (x : Option ℕ). slot_with book shape s (held_by book shape past s b x)) runs is
 
 pub slot_of-stopped : (book : Book) (shape : Widths) (past : List Occ) (s : Kept) → s.running ≡ false → slot_of book shape past s ≡ stopped_slot book shape past s
-slot_of-stopped book shape past s stopped = cond-false s.running (running_slot book shape past s s.set.slice) (stopped_slot book shape past s) stopped
+slot_of-stopped book shape past s stopped = ap (λ (b : Bool). slot_with book shape s (held_by book shape past s b s.set.slice)) stopped
 
-pub unit_by-is : (book : Book) (shape : Widths) (past : List Occ) (s : Kept) (m : Option ℕ) → s.set.slice ≡ m → unit_by book shape past s ≡ record { widths = widths_at shape s.set.component; registers = running_registers book (widths_at shape s.set.component) past s m }
-unit_by-is book shape past s m is = ap (λ (rs : List (Option Register)). record { widths = widths_at shape s.set.component; registers = rs }) (ap (running_registers book (widths_at shape s.set.component) past s) is)
+-- what holds of each stopped set, of each that runs on its unit, and of each whose natives take turns, holds of all
+abbrev pub kept_as : Kept → Bool → Option ℕ → Kept
+kept_as s running slice = record s { running = running; set = record (s.set) { slice = slice } }
+
+pub kept_cases : (P : Kept → Type 0) → ((s : Kept) → P (record s { running = false })) → ((s : Kept) → P (kept_as s true None))
+    → ((s : Kept) (slice : ℕ) → P (kept_as s true (Some slice))) → (s : Kept) → P s
+kept_cases P stopped plain turns s = go s.running s.set.slice where
+  go : (b : Bool) (m : Option ℕ) → P (kept_as s b m)
+  go false m = stopped (kept_as s true m)
+  go true None = plain s
+  go true (Some slice) = turns s slice
 
 -- each native's count in turns, one occurrence later
 pub turned_more : (past : List Occ) (o : Occ) (s : Kept) (t u : Turns) (ns : List Native) (gs : List ℕ) → t ≡ u → s.running ≡ true → s.from ≤ length past
@@ -148,60 +126,60 @@ turned_more past o s t u (n ∷ ns) (g ∷ gs) same runs inside =
 pub numbers-length : (book : Book) (s : AtRest) → length (numbers_of book s) ≡ length (set_natives book s)
 numbers-length book s = each_has_group (masks_of (set_natives book s)) ∙ length-map (set_natives book s) (λ (n : Native). n.allowed)
 
--- without thresholds nothing is passed
-none_passing : (book : Book) (past : List Occ) (s : Kept) (o : Occ) (index : ℕ) (events : List EventRef) (thresholds : List ℕ) → ((k t : ℕ) → slice_get thresholds k ≡ Some t → t ≡ 0) → passing_from book past s o index events thresholds ≡ []
+-- where none of them passes its threshold
+pub none_passing : (book : Book) (past : List Occ) (s : Kept) (o : Occ) (index : ℕ) (events : List EventRef) (thresholds : List ℕ)
+    → ((k t : ℕ) (e : EventRef) → slice_get events k ≡ Some e → slice_get thresholds k ≡ Some t → passes past s o (lead book e) t ≡ false)
+    → passing_from book past s o index events thresholds ≡ []
 none_passing book past s o index [] ts h = refl
 none_passing book past s o index (e ∷ es) [] h = refl
 none_passing book past s o index (e ∷ es) (t ∷ ts) h =
-    let none : t ≡ 0 = h 0 t refl in
-    ap (λ (x : ℕ). (if passes past s o (lead book e) x then index ∷ [] else []) ++ passing_from book past s o (index + 1) es ts) none ∙ none_passing book past s o (index + 1) es ts (λ k u at. h (suc k) u at)
+    ap (λ (b : Bool). (if b then index ∷ [] else []) ++ passing_from book past s o (index + 1) es ts) (h 0 t e refl refl)
+    ∙ none_passing book past s o (index + 1) es ts (λ k u f is at. h (suc k) u f is at)
 
-pub counted_follows : (book : Book) (shape : Widths) (past : List Occ) (o : Occ) (s : Kept) → IsShape shape → IsFit book shape s.set → s.running ≡ true → s.from ≤ length past → o.amount ≤ 255
+pub counted_follows : (book : Book) (shape : Widths) (past : List Occ) (o : Occ) (s : Kept) → IsShape shape → IsFit book shape s.set → s.running ≡ true
+    → s.from ≤ length past → o.amount ≤ 255
     → counted (last_after None past) o (unit_by book shape past s) (slot_of book shape past s) ≡ after book shape past o s
-counted_follows book shape past o s shapely fit runs inside small = go s.set.slice refl where
-  go : (m : Option ℕ) → s.set.slice ≡ m → counted (last_after None past) o (unit_by book shape past s) (slot_of book shape past s) ≡ after book shape past o s
-  go None plain =
-      let b = last_after None past in
-      let more = past ++ o ∷ [] in
-      let ws = widths_at shape s.set.component in
-      let d = s.set.domain in
-      let pins = pins_of book s.set in
-      let none : List (Option Register) = replicate (length ws) None in
-      let cnt : Native → ℕ = count past s in
-      let widths = widths_are shape s.set.component shapely in
-      let are = pinned book shape s.set fit plain in
-      let none_length : length none ≡ length ws = length-replicate (length ws) None in
-      let u : UnitView = record { widths = ws; registers = programs ws d cnt pins none } in
-      let carry = carry_of b o u in
-      let told : AreTold b o ws d cnt carry pins = record { each = λ k p e. pin_carries b o ws d cnt pins none k p are none_length e } in
-      let counts : (n : Native) → cnt n + weight_of n d b o ≡ count more s n = λ n. sym (count_more past o s n runs inside) in
-      let registers : all_moved b o ws (programs ws d cnt pins none) ≡ programs ws d (count more s) pins none =
-      all_moved-programs b o ws d cnt pins none widths are small none_length ∙ ap (programs ws d (λ n. cnt n + weight_of n d b o) pins) (all_moved-none b o ws) ∙ programs-same ws d (λ n. cnt n + weight_of n d b o) (count more s) counts pins none in
-      let banks : with_carries ws carry pins (map (bank_of ws cnt) pins) ≡ map (bank_of ws (count more s)) pins =
-      banks_follow b o ws d cnt carry pins widths are small told ∙ map_same (bank_of ws (λ n. cnt n + weight_of n d b o)) (bank_of ws (count more s)) (λ p. ap (λ (k : ℕ). banked (get_or ws p.counter 0) p.threshold k) (counts p.native)) pins in
-      let passed = events_passed book shape past o s carry runs inside shapely fit plain small told in
-      ap₂ (counted b o) (unit_by-is book shape past s None plain) (slot_of-running book shape past s None runs plain)
-      ∙ same_counted _ _ _ _ _ _
-      (ap (λ (rs : List (Option Register)). record { widths = ws; registers = rs }) registers ∙ sym (unit_by-is book shape more s None plain))
-      (ap (λ (bs : List ℕ). record (running_slot book shape past s None) { kept = bs }) banks ∙ sym (slot_of-running book shape more s None runs plain))
-      passed
-  go (Some slice) turns =
-      let b = last_after None past in
-      let more = past ++ o ∷ [] in
-      let ws = widths_at shape s.set.component in
-      let u : UnitView = record { widths = ws; registers = replicate (length ws) None } in
-      let k = running_slot book shape past s (Some slice) in
-      let numbers = numbers_of book s.set in
-      let begun : clock past s.from ≡ clock more s.from = sym (clock_stays past o s.from inside) in
-      let t = turns_of slice numbers past s in
-      let later : t ≡ turns_of slice numbers more s = ap (λ (c : ℕ). record t { start = c }) begun in
-      let kept = turned_more past o s t (turns_of slice numbers more s) (set_natives book s.set) numbers later runs inside in
-      let silent = none_passing book past s o 0 s.set.events s.set.thresholds (λ j x e. all_at (λ y. y ≡ 0) s.set.thresholds j x (fit.sound.shared slice turns).no_thresholds e) in
-      ap₂ (counted b o) (unit_by-is book shape past s (Some slice) turns) (slot_of-running book shape past s (Some slice) runs turns)
-      ∙ same_counted _ _ _ _ _ _
-      (sym (unit_by-is book shape more s (Some slice) turns))
-      (ap₂ (λ (bs : List ℕ) (c : ℕ). record k { kept = bs; begun = c }) kept begun ∙ sym (slot_of-running book shape more s (Some slice) runs turns))
-      (sym silent)
+counted_follows book shape past o s shapely = kept_cases (λ s. IsFit book shape s.set → s.running ≡ true → s.from ≤ length past → o.amount ≤ 255
+    → counted (last_after None past) o (unit_by book shape past s) (slot_of book shape past s) ≡ after book shape past o s)
+    (λ s fit runs inside small. cc)
+    (λ s fit runs inside small.
+    let t = kept_as s true None in
+    let b = last_after None past in
+    let more = past ++ o ∷ [] in
+    let ws = widths_at shape t.set.component in
+    let d = t.set.domain in
+    let pins = pins_of book t.set in
+    let none : List (Option Register) = replicate (length ws) None in
+    let cnt : Native → ℕ = count past t in
+    let widths = widths_are shape t.set.component shapely in
+    let none_length : length none ≡ length ws = length-replicate (length ws) None in
+    let carry = carry_of b o (unit_by book shape past t) in
+    let are = pinned book shape t.set fit refl in
+    let told : AreTold b o ws d cnt carry pins = record { each = λ k p e. pin_carries b o ws d cnt pins none k p are none_length e } in
+    let counts : (n : Native) → cnt n + weight_of n d b o ≡ count more t n = λ n. sym (count_more past o t n runs inside) in
+    let registers : all_moved b o ws (programs ws d cnt pins none) ≡ programs ws d (count more t) pins none =
+    all_moved-programs b o ws d cnt pins none widths are small none_length
+    ∙ ap (programs ws d (λ n. cnt n + weight_of n d b o) pins) (all_moved-none b o ws)
+    ∙ programs-same ws d (λ n. cnt n + weight_of n d b o) (count more t) counts pins none in
+    let passed = events_passed book shape past o t carry runs inside shapely fit refl small told in
+    λ i. record { unit = record { widths = ws; registers = registers i }; slot = running_slot book shape past t None; passed = passed i })
+    (λ s slice fit runs inside small.
+    let t = kept_as s true (Some slice) in
+    let more = past ++ o ∷ [] in
+    let numbers = numbers_of book t.set in
+    let begun : clock past t.from ≡ clock more t.from = sym (clock_stays past o t.from inside) in
+    let turns = turns_of slice numbers past t in
+    let later : turns ≡ turns_of slice numbers more t = ap (λ (c : ℕ). record turns { start = c }) begun in
+    let kept = turned_more past o t turns (turns_of slice numbers more t) (set_natives book t.set) numbers later runs inside in
+    let zeros = (fit.sound.shared slice refl).no_thresholds in
+    let silent = none_passing book past t o 0 t.set.events t.set.thresholds (λ k x e is at.
+    ap (passes past t o (lead book e)) (all_at (λ y. y ≡ 0) t.set.thresholds k x zeros at)) in
+    λ i. record {
+      unit = unit_by book shape past t;
+      slot = record (running_slot book shape past t (Some slice)) { kept = kept i; begun = begun i };
+      passed = (sym silent) i;
+    })
+    s
 
 -- a stopped set is kept as it is
 pub stopped_stays : (book : Book) (shape : Widths) (past : List Occ) (o : Occ) (s : Kept) → s.running ≡ false → IsWithin (length past) s → slot_of book shape (past ++ o ∷ []) s ≡ slot_of book shape past s
@@ -209,3 +187,67 @@ stopped_stays book shape past o s stopped w =
     slot_of-stopped book shape (past ++ o ∷ []) s stopped
     ∙ ap (λ (ks : List ℕ). record (stopped_slot book shape past s) { kept = ks }) (map_same (measured s.set.slice book (past ++ o ∷ []) s) (measured s.set.slice book past s) (λ n. measured_stopped book past o s s.set.slice n stopped w) (set_natives book s.set))
     ∙ sym (slot_of-stopped book shape past s stopped)
+
+-- ---- a set that runs on another component is kept as it is, and notes nothing
+
+-- the set runs, but not on the occurrence's component
+pub record IsElsewhere (book : Book) (o : Occ) (s : Kept) : Type 0 where
+  pub running : s.running ≡ true
+  pub natives : (i : ℕ) (n : Native) → slice_get (set_natives book s.set) i ≡ Some n → n.comp ≡ o.comp → ⊥
+
+pub elsewhere : (book : Book) (shape : Widths) (o : Occ) (s : Kept) → IsFit book shape s.set → s.running ≡ true → runs_on (Some o.comp) (Some (face_of s)) ≡ false → IsElsewhere book o s
+elsewhere book shape o s fit runs not_here = record {
+  running = runs;
+  natives = λ i n e same.
+      let own = all_at (λ (x : Native). s.set.component ≡ Some x.comp) (set_natives book s.set) i n fit.sound.owned e in
+      let here : runs_on (Some o.comp) (Some (face_of s)) ≡ true = ap (λ b. b && option_map_or (λ c. c == o.comp) s.set.component false) runs ∙ ap (λ (x : Option ℕ). option_map_or (λ c. c == o.comp) x false) own ∙ eq-eqb n.comp o.comp same in
+      cc;
+}
+
+pub count_elsewhere : (book : Book) (past : List Occ) (o : Occ) (s : Kept) (i : ℕ) (n : Native) → IsElsewhere book o s → s.from ≤ length past → slice_get (set_natives book s.set) i ≡ Some n → count (past ++ o ∷ []) s n ≡ count past s n
+count_elsewhere book past o s i n h inside e = let none = weight_none n s.set.domain (last_after None past) o (h.natives i n e) in count_more past o s n h.running inside ∙ (let w = none in omega arith)
+
+turned_elsewhere : (past : List Occ) (o : Occ) (s : Kept) (t u : Turns) (ns : List Native) (gs : List ℕ) → t ≡ u → s.running ≡ true → s.from ≤ length past → ((i : ℕ) (n : Native) → slice_get ns i ≡ Some n → n.comp ≡ o.comp → ⊥)
+    → turned u (past ++ o ∷ []) s ns gs ≡ turned t past s ns gs
+turned_elsewhere past o s t u [] gs same runs inside h = refl
+turned_elsewhere past o s t u (n ∷ ns) [] same runs inside h = refl
+turned_elsewhere past o s t u (n ∷ ns) (g ∷ gs) same runs inside h =
+    let none = turn_none t g n s.set.domain (last_after None past) o (weight_none n s.set.domain (last_after None past) o (h 0 n refl)) in
+    let first : weighed (weight_in_turn t g n s.set.domain) (past ++ o ∷ []) s ≡ weighed (weight_in_turn t g n s.set.domain) past s = weighed_running (weight_in_turn t g n s.set.domain) past o s runs inside ∙ (let w = none in omega arith) in
+    ap₂ ◌∷◌ (ap (λ (x : Turns). weighed (weight_in_turn x g n s.set.domain) (past ++ o ∷ []) s) (sym same) ∙ first) (turned_elsewhere past o s t u ns gs same runs inside (λ i m e. h (suc i) m e))
+
+programs-same_on : (ws : List ℕ) (d : Domain) (f g : Native → ℕ) (pins : List Pin) (rs : List (Option Register)) → ((k : ℕ) (p : Pin) → slice_get pins k ≡ Some p → f p.native ≡ g p.native) → programs ws d f pins rs ≡ programs ws d g pins rs
+programs-same_on ws d f g [] rs h = refl
+programs-same_on ws d f g (p ∷ ps) rs h =
+    programs-same_on ws d f g ps (set rs p.counter (Some (register_at (get_or ws p.counter 0) p.native d p.threshold (f p.native)))) (λ k q e. h (suc k) q e)
+    ∙ ap (λ k. programs ws d g ps (set rs p.counter (Some (register_at (get_or ws p.counter 0) p.native d p.threshold k)))) (h 0 p refl)
+
+count_of_pin : (book : Book) (past : List Occ) (o : Occ) (s : Kept) → IsElsewhere book o s → s.from ≤ length past → (k : ℕ) (p : Pin) → slice_get (pins_of book s.set) k ≡ Some p → count (past ++ o ∷ []) s p.native ≡ count past s p.native
+count_of_pin book past o s h inside k p e = count_elsewhere book past o s k p.native h inside (pin_made book s.set (set_natives book s.set) (counters_for (set_natives book s.set)) k p e).native
+
+pub registers_elsewhere : (book : Book) (ws : List ℕ) (past : List Occ) (o : Occ) (s : Kept) (m : Option ℕ) → IsElsewhere book o s → s.from ≤ length past → running_registers book ws (past ++ o ∷ []) s m ≡ running_registers book ws past s m
+registers_elsewhere book ws past o s None h inside = programs-same_on ws s.set.domain (count (past ++ o ∷ []) s) (count past s) (pins_of book s.set) (replicate (length ws) None) (count_of_pin book past o s h inside)
+registers_elsewhere book ws past o s (Some slice) h inside = refl
+
+pub slot_elsewhere : (book : Book) (shape : Widths) (past : List Occ) (o : Occ) (s : Kept) → IsElsewhere book o s → s.from ≤ length past
+    → slot_of book shape (past ++ o ∷ []) s ≡ slot_of book shape past s
+slot_elsewhere book shape past o = kept_cases _
+    (λ s h inside. let runs = h.running in cc)
+    (λ s h inside. refl)
+    (λ s slice h inside.
+    let t = kept_as s true (Some slice) in
+    let numbers = numbers_of book t.set in
+    let begun : clock (past ++ o ∷ []) t.from ≡ clock past t.from = clock_stays past o t.from inside in
+    let turns = turns_of slice numbers past t in
+    let same : turns ≡ turns_of slice numbers (past ++ o ∷ []) t = ap (λ (c : ℕ). record turns { start = c }) (sym begun) in
+    let kept = turned_elsewhere past o t turns (turns_of slice numbers (past ++ o ∷ []) t) (set_natives book t.set) numbers same h.running inside h.natives in
+    λ i. record (running_slot book shape past t (Some slice)) { kept = kept i; begun = begun i })
+
+-- it passes no threshold
+pub passing_elsewhere : (book : Book) (shape : Widths) (past : List Occ) (o : Occ) (s : Kept) → IsElsewhere book o s → s.from ≤ length past → passing_from book past s o 0 s.set.events s.set.thresholds ≡ []
+passing_elsewhere book shape past o s h inside = none_passing book past s o 0 s.set.events s.set.thresholds (λ k t e is at. none (lead book e) t (λ n led.
+    count_elsewhere book past o s _ n h inside (get_position n (set_natives book s.set) (lead_among book s.set k e n is led)))) where
+      none : (x : Option Native) (t : ℕ) → ((n : Native) → x ≡ Some n → count (past ++ o ∷ []) s n ≡ count past s n) → passes past s o x t ≡ false
+      none x zero g = refl
+      none None (suc t) g = refl
+      none (Some n) (suc t) g = ap (λ (c : ℕ). nat_lt (count past s n / suc t) (c / suc t)) (g n refl) ∙ le-ltb (count past s n / suc t) (count past s n / suc t) (omega arith)

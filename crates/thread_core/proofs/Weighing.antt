@@ -1,27 +1,14 @@
 -- What one occurrence more does to the counts of a set.
-use Rattle.std.proofs.Common.{◌≡◌, ℕ, zero, suc, ◌+◌, ◌-◌, ◌*◌, ◌≤◌, Bool, true, false, List, [], ◌∷◌, ◌++◌, length, take, drop, refl, ap, ap₂, sym, ◌∙◌, arith, Option, Some, None, slice_get}
-use Rattle.std.specs.Prelude.{sum, if◌then◌else◌, slice_index}
-use Rattle.std.specs.List.{position_or_len}
-use Rattle.std.proofs.lemmas.Bool.{cond-false, ne_eqb}
-use Rattle.std.proofs.lemmas.List.Sums.{sum_by-append}
-use Rattle.papi_base.specs.declared.occurrence.Occ.{Occ}
-use Rattle.papi_base.specs.declared.native.Native.{Native}
-use Rattle.papi_base.specs.declared.bits.Domain.{Domain}
-use Rattle.papi_base.specs.Weight.{weight_of, holds}
+use Rattle.thread_core.proofs.Words.{ℕ, List, Option, Kept, AllWithin, slice_get, ◌≡◌, Some, IsWithin, all_at, refl, Native, Domain, Occ, weight_of, holds}
+use Rattle.thread_core.proofs.Words.{false, ne_eqb, cond-false, Turns, weight_in_turn, ◌-◌, Bool, if◌then◌else◌, true, ◌≤◌, length, count, ◌++◌, ◌∷◌, []}
+use Rattle.thread_core.proofs.Words.{◌+◌, last_after, None, runs, weighed_running, total, end, ap₂, ap, clock, ◌∙◌, clock_stays, sym, arith, turns_of}
+use Rattle.thread_core.proofs.Words.{estimated_in, estimate, active, Book, measured, groups, masks_of, set_natives, slice_index, position_or_len}
+use Rattle.thread_core.proofs.Words.{same_native, sum, sum_by-append, drop, take, Rises, along, ◌*◌, weighed}
+use Rattle.multiplex.specs.Turns.{has_turn}
+use Rattle.session_laws.proofs.Pushing.{weighed_stopped}
 use Rattle.papi_base.proofs.Weights.{weight_of-le}
-use Rattle.counter_alloc.specs.Masks.{masks_of}
-use Rattle.multiplex.specs.Groups.{groups}
-use Rattle.multiplex.specs.Turns.{Turns, has_turn, active, weight_in_turn, estimate}
-use Rattle.postfix_rules.specs.Presets.{Book}
-use Rattle.postfix_rules.specs.Sameness.{same_native}
-use Rattle.event_sets.specs.AtRest.{set_natives}
-use Rattle.session_model.specs.Account.{Kept, last_after, time_after, clock, end}
-use Rattle.session_model.specs.Bounds.{AllWithin, IsWithin, Rises}
-use Rattle.session_model.specs.Counts.{along, count, weighed}
-use Rattle.session_model.specs.Estimates.{estimated_in, total, turns_of}
-use Rattle.session_model.specs.Values.{measured}
-use Rattle.session_laws.proofs.Pushing.{weighed_running, weighed_stopped, clock_stays}
-use Rattle.thread_slots.proofs.Lists.{all_at}
+use Rattle.std.proofs.lemmas.List.Sums.{sum_by-take-drop}
+use Rattle.thread_core.proofs.Words.{CoreView, Account, CoreStands, ◌<◌, ◌^◌}
 
 pub within_at : (now : ℕ) (sets : List (Option Kept)) (k : ℕ) (s : Kept) → AllWithin now sets → slice_get sets k ≡ Some (Some s) → IsWithin now s
 within_at now sets k s h e = all_at (λ place. (x : Kept) → place ≡ Some x → IsWithin now x) sets k (Some s) h.each e s refl
@@ -66,15 +53,8 @@ measured_stopped book past o s (Some slice) n stopped w =
 sum_cons : (x : ℕ) (xs : List ℕ) → sum (x ∷ xs) ≡ x + sum xs
 sum_cons x xs = sum_by-append (λ y. y) (x ∷ []) xs ∙ omega arith
 
-sum-drop : (k : ℕ) (xs : List ℕ) → sum (drop k xs) ≤ sum xs
-sum-drop zero xs = omega arith
-sum-drop (suc k) [] = omega arith
-sum-drop (suc k) (x ∷ xs) = let rest = sum-drop k xs in omega (arith, sum_cons x xs)
-
-sum-take : (k : ℕ) (xs : List ℕ) → sum (take k xs) ≤ sum xs
-sum-take zero xs = omega arith
-sum-take (suc k) [] = omega arith
-sum-take (suc k) (x ∷ xs) = let rest = sum-take k xs in omega (arith, sum_cons x xs, sum_cons x (take k xs))
+parts : (k : ℕ) (xs : List ℕ) → sum (take k xs) + sum (drop k xs) ≡ sum xs
+parts k xs = sum_by-take-drop (λ y. y) xs k
 
 -- what each occurrence adds is at most 255
 pub record IsSmall (weigh : Option Occ → Occ → ℕ) : Type 0 where
@@ -105,16 +85,9 @@ weighed-le weigh past s h r = go s.running refl where
   all = sum-along weigh None 0 past h r
 
   go : (b : Bool) → s.running ≡ b → weighed weigh past s ≤ 255 * length past
-  go true runs = rw runs (omega (arith, sum-drop s.from (along weigh None past), all))
-  go false stopped = rw stopped (omega (arith, sum-take (s.to - s.from) (drop s.from (along weigh None past)), sum-drop s.from (along weigh None past), all))
+  go true runs = rw runs (omega (arith, parts s.from (along weigh None past), all))
+  go false stopped = rw stopped (omega (arith, parts (s.to - s.from) (drop s.from (along weigh None past)), parts s.from (along weigh None past), all))
 
-pub rises-push : (time : ℕ) (past : List Occ) (o : Occ) → Rises time past → o.amount ≤ 255 → time ≤ o.stamp → time_after (last_after None past) ≤ o.stamp → Rises time (past ++ o ∷ [])
-rises-push time [] o r small after last = (after, small, tt)
-rises-push time (p ∷ past) o r small after last = (r.0, r.1, rises-push (p.stamp + 1) past o r.2 small (let low = grows p past r.2 in omega arith) (last_first p past last)) where
-  grows : (p : Occ) (past : List Occ) → Rises (p.stamp + 1) past → p.stamp + 1 ≤ time_after (last_after (Some p) past)
-  grows p [] r = omega arith
-  grows p (q ∷ past) r = let rest = grows q past r.2 in let first = r.0 in omega arith
-
-  last_first : (p : Occ) (past : List Occ) → time_after (last_after (Some p) past) ≤ o.stamp → time_after (last_after None past) ≤ o.stamp
-  last_first p [] l = omega arith
-  last_first p (q ∷ past) l = l
+-- a thread takes so few occurrences that each count fits 64 bits
+pub count_fits : (book : Book) (core : CoreView) (a : Account) (s : Kept) → CoreStands book core a → (n : Native) → count a.past s n < 2 ^ 64
+count_fits book core a s h n = let most = weighed-le (weight_of n s.set.domain) a.past s (weight_small n s.set.domain) h.rises in let taken = h.taken in let few = h.in_limits in omega arith

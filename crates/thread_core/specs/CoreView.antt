@@ -17,6 +17,18 @@ pub record CoreView : Type 0 where
   pub taken : ℕ
   pub last : Option Occ
 
+-- the same, part by part
+abbrev pub core_of : ℕ → Bool → Widths → List (Option Slot) → List UnitView → ℕ → Option Occ → CoreView
+core_of thread registered shape slots units taken last = record {
+  thread = thread;
+  registered = registered;
+  shape = shape;
+  slots = slots;
+  units = units;
+  taken = taken;
+  last = last;
+}
+
 -- a new core
 abbrev pub opening_core : ℕ → Widths → CoreView
 opening_core thread shape = record {

@@ -15,7 +15,8 @@ use Rattle.session_model.specs.Step.{step}
 use Rattle.thread_core.specs.CoreView.{CoreView}
 use Rattle.thread_core.specs.Stands.{AgreesWith, CoreStands}
 
--- For each account that the core stood for, it stands for the account after the call, and the reply is the account's. The number of occurrences and the last one stay.
+-- For each account that the core stood for, it stands for the account after the call, and the reply is the account's. The number of
+-- occurrences and the last one stay.
 pub record Follows (book : Book) (old new : CoreView) (call : Call) (given : Reply) : Type 0 where
   pub account : (a : Account) → CoreStands book old a → CoreStands book new (step book old.shape a call).account
   pub reply : (a : Account) → CoreStands book old a → given ≡ (step book old.shape a call).reply

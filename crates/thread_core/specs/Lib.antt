@@ -1,4 +1,5 @@
 pub mod CoreView
+pub mod Holding
 pub mod Stands
 pub mod Refusing
 pub mod Running

@@ -1,4 +1,4 @@
--- What the registers of a thread's units and the banks beside them are, for each account that the core stands for: the
+-- What the registers of a thread's units and their banks are, for each account that the core stands for: the
 -- counters of Intel's manual, PAPI_overflow(3).
 use Rattle.std.specs.Prelude.{ℕ, zero, suc, ◌+◌, ◌-◌, ◌^◌, ◌%◌, ◌≡◌, true, slice_get, slice_index, Option, Some, None}
 use Rattle.std.specs.Option.{option_and_then}
@@ -12,7 +12,6 @@ use Rattle.session_model.specs.Account.{Account, Kept}
 use Rattle.session_model.specs.Counts.{count}
 use Rattle.session_model.specs.Faces.{at}
 use Rattle.session_model.specs.Registers.{threshold_among}
-use Rattle.thread_slots.specs.declared.slot.Slot.{Slot}
 use Rattle.thread_core.specs.CoreView.{CoreView}
 use Rattle.thread_core.specs.Stands.{CoreStands}
 
@@ -44,21 +43,19 @@ reg w (suc t) count = 2 ^ w - suc t + count % suc t
 
 -- The native is programmed on the counter, its register is `reg` of its count, and its bank and what the register is above
 -- its start are its count: no wrap and no passing is lost.
-pub record IsCounted (book : Book) (core : CoreView) (a : Account) (number comp : ℕ) (s : Kept) (i : ℕ) (n : Native) (c w t : ℕ) : Type 0 where
+pub record IsCounted (core : CoreView) (a : Account) (comp : ℕ) (s : Kept) (n : Native) (c w t : ℕ) : Type 0 where
   pub register : Register
-  pub slot : Slot
   pub on_counter : programmed core comp c ≡ Some register
-  pub under : at core.slots number ≡ Some slot
   pub native : register.native ≡ n
   pub threshold : register.threshold ≡ t
   pub value : register.value ≡ reg w t (count a.past s n)
-  pub whole : slice_index slot.kept i + (register.value - start w t) ≡ count a.past s n
+  pub whole : register.bank + (register.value - start w t) ≡ count a.past s n
 
 -- each native of a running set
 abbrev pub EachIsCounted : Type 0
 EachIsCounted = (book : Book) (core : CoreView) (a : Account) (number comp : ℕ) (s : Kept) (i : ℕ) (n : Native) (c : ℕ)
     → CoreStands book core a → CountsOn a number comp s → IsOn book s i n c
-    → IsCounted book core a number comp s i n c (slice_index (widths_at core.shape s.set.component) c) (threshold_among book n s.set.events s.set.thresholds)
+    → IsCounted core a comp s n c (slice_index (widths_at core.shape s.set.component) c) (threshold_among book n s.set.events s.set.thresholds)
 
 -- and nothing else is programmed on its component
 abbrev pub NoOtherIsProgrammed : Type 0

@@ -8,10 +8,10 @@ use Rattle.session_model.specs.Bounds.{AllWithin, AreApart, Rises}
 use Rattle.session_model.specs.Fitness.{AreFit, IsShape}
 use Rattle.session_model.specs.Faces.{faces_of}
 use Rattle.thread_core.specs.CoreView.{CoreView}
-use Rattle.thread_slots.specs.Slots.{slots_of}
+use Rattle.thread_core.specs.Holding.{slots_of}
 use Rattle.thread_slots.specs.Units.{units_of}
 
--- the core keeps what the account says
+-- the core keeps what the account says, and took no more occurrences than a thread may
 pub record CoreStands (book : Book) (core : CoreView) (a : Account) : Type 0 where
   pub thread : core.thread ≡ a.thread
   pub registered : core.registered ≡ a.registered
@@ -25,13 +25,13 @@ pub record CoreStands (book : Book) (core : CoreView) (a : Account) : Type 0 whe
   pub apart : AreApart (faces_of a.sets)
   pub fit : AreFit book core.shape a.sets
   pub shape : IsShape core.shape
+  pub in_limits : core.taken ≤ 5200000
 
 -- The book fits the core's shape, and under it there is an account for which the core stands: its sets agree with this book.
 pub record AgreesWith (book : Book) (core : CoreView) : Type 0 where
   pub fits : BookFits core.shape book
   pub account : Account
   pub stands : CoreStands book core account
-  pub in_limits : core.taken ≤ 5200000
   pub in_time : time_after core.last ≤ 4294967295
 
 -- so there is under some book

@@ -3,7 +3,6 @@
 ghost use Rattle.std.specs.Prelude.{◌≡◌, ◌≢◌};
 ghost use Rattle.papi_base.specs.declared.code.Code.TheVariants as code;
 ghost use Rattle.postfix_rules.specs.Fitting.{IsNamed};
-ghost use Rattle.session_model.specs.Faces.{free};
 ghost use Rattle.session_model.specs.Replies.{plain};
 ghost use Rattle.session_model.specs.declared.call.Call.TheVariants as call;
 ghost use Rattle.session_model.specs.declared.reply.Body.TheVariants as body;
@@ -52,7 +51,7 @@ impl Core {
         if let Some(code) = self.create_refusal() {
             return Err(code);
         }
-        let number = self.free_number();
+        let number = free_number(&self.slots);
         self.running.forget();
         self.slots[number as usize] = Some(new_slot());
         Ok(number)
@@ -227,8 +226,8 @@ impl Core {
         if let Some(code) = self.read_refusal(set) {
             return code;
         }
-        let now = self.time();
-        zero_under(&mut self.units, &mut self.slots, set, now);
+        let ticks = self.time();
+        zero_under(&mut self.units, &mut self.slots, set, ticks);
         Code::Ok
     }
 
@@ -291,12 +290,5 @@ impl Core {
             Ok(()) => Code::Ok,
             Err(code) => code,
         }
-    }
-
-    /// The least number with no set under it, or 64.
-    fn free_number(&self) -> u32
-        ensures { result ≡ free self.now.slots }
-    {
-        free_number(&self.slots)
     }
 }

@@ -4,11 +4,10 @@ ghost use Rattle.std.specs.Option.{option_map};
 ghost use Rattle.std.specs.List.{list_all, list_any};
 ghost use Rattle.event_sets.specs.AtRest.{Widths};
 ghost use Rattle.event_sets.specs.declared.refusal.Refusal.TheVariants.{Plain};
-ghost use Rattle.postfix_rules.specs.Presets.{Book};
 ghost use Rattle.session_model.specs.Faces.{component_runs, has, is_absent, is_running, runs, runs_on};
-ghost use Rattle.session_model.specs.Refusals.{first_of, has_events, is_multiplexed, refusal_of, row};
+ghost use Rattle.session_model.specs.Refusals.{first_of, has_events, is_multiplexed, row};
 ghost use Rattle.session_model.specs.declared.call.Call.TheVariants as call;
-ghost use Rattle.thread_core.specs.Refusing.{first_code, rest_code, slot_faces};
+ghost use Rattle.thread_core.specs.Refusing.{IsRefusedWith, first_code, rest_code, slot_faces};
 ghost use Rattle.thread_slots.specs.Altering.{code_before};
 ghost use Rattle.thread_slots.specs.Slots.{face_of_slot};
 
@@ -20,50 +19,35 @@ use thread_slots::{Change, Slot, lacks_component};
 pub(crate) fn is_absent(slots: &[Option<Slot>], set: u32) -> bool
     ensures { result ≡ is_absent (slot_faces slots.now) set }
 {
-    match slots.get(set as usize) {
-        Some(Some(_)) => false,
-        _ => true,
-    }
+    !matches!(slots.get(set as usize), Some(Some(_)))
 }
 
 /// Whether the set under the number runs.
 pub(crate) fn runs(slots: &[Option<Slot>], set: u32) -> bool
     ensures { result ≡ runs (slot_faces slots.now) set }
 {
-    match slots.get(set as usize) {
-        Some(Some(slot)) => slot.running,
-        _ => false,
-    }
+    matches!(slots.get(set as usize), Some(Some(slot)) if slot.running)
 }
 
 /// Whether the set under the number has events.
 fn has_events(slots: &[Option<Slot>], set: u32) -> bool
     ensures { result ≡ has has_events (slot_faces slots.now) set }
 {
-    match slots.get(set as usize) {
-        Some(Some(slot)) => slot.set.events().len() != 0,
-        _ => false,
-    }
+    matches!(slots.get(set as usize), Some(Some(slot)) if slot.set.events().len() != 0)
 }
 
 /// Whether there is a set under the number, and it has no events.
 fn lacks_events(slots: &[Option<Slot>], set: u32) -> bool
     ensures { result ≡ has (λ s. not (has_events s)) (slot_faces slots.now) set }
 {
-    match slots.get(set as usize) {
-        Some(Some(slot)) => slot.set.events().len() == 0,
-        _ => false,
-    }
+    matches!(slots.get(set as usize), Some(Some(slot)) if slot.set.events().len() == 0)
 }
 
 /// Whether the set under the number is multiplexed.
 fn is_multiplexed(slots: &[Option<Slot>], set: u32) -> bool
     ensures { result ≡ has is_multiplexed (slot_faces slots.now) set }
 {
-    match slots.get(set as usize) {
-        Some(Some(slot)) => slot.set.slice().is_some(),
-        _ => false,
-    }
+    matches!(slots.get(set as usize), Some(Some(slot)) if slot.set.slice().is_some())
 }
 
 /// Whether what is in a place is a set that runs on the component.
@@ -92,20 +76,7 @@ fn some_runs(slots: &[Option<Slot>], component: Option<u32>) -> bool
 fn component_runs(slots: &[Option<Slot>], set: u32) -> bool
     ensures { result ≡ component_runs (slot_faces slots.now) set }
 {
-    match slots.get(set as usize) {
-        Some(Some(slot)) => some_runs(slots, slot.set.component()),
-        _ => false,
-    }
-}
-
-/// Whether what is in a place is a set that runs.
-fn is_running(place: &Option<Slot>) -> bool
-    ensures { result ≡ is_running (option_map face_of_slot place.now) }
-{
-    match place {
-        Some(slot) => slot.running,
-        None => false,
-    }
+    matches!(slots.get(set as usize), Some(Some(slot)) if some_runs(slots, slot.set.component()))
 }
 
 /// Whether some set runs.
@@ -113,7 +84,7 @@ fn some_is_running(slots: &[Option<Slot>]) -> bool
     ensures { result ≡ list_any is_running (slot_faces slots.now) }
 {
     for place in slots {
-        if is_running(place) {
+        if matches!(place, Some(slot) if slot.running) {
             return true;
         }
     }
@@ -149,7 +120,7 @@ fn first_of(checks: &[(bool, Code)]) -> Option<Code>
 impl Core {
     /// `unregister`.
     pub(crate) fn unregister_refusal(&self) -> Option<Code>
-        ensures { (book : Book) → option_map Plain result ≡ refusal_of book self.now.shape self.now.registered (slot_faces self.now.slots) call.Unregister }
+        ensures { IsRefusedWith self.now call.Unregister result }
     {
         first_of(&[
             (some_is_running(&self.slots), Code::Eisrun),
@@ -159,14 +130,14 @@ impl Core {
 
     /// `create`.
     pub(crate) fn create_refusal(&self) -> Option<Code>
-        ensures { (book : Book) → option_map Plain result ≡ refusal_of book self.now.shape self.now.registered (slot_faces self.now.slots) call.Create }
+        ensures { IsRefusedWith self.now call.Create result }
     {
         first_of(&[(all_taken(&self.slots), Code::Ecount)])
     }
 
     /// `destroy`.
     pub(crate) fn destroy_refusal(&self, set: u32) -> Option<Code>
-        ensures { (book : Book) → option_map Plain result ≡ refusal_of book self.now.shape self.now.registered (slot_faces self.now.slots) (call.Destroy set) }
+        ensures { IsRefusedWith self.now (call.Destroy set) result }
     {
         first_of(&[
             (is_absent(&self.slots, set), Code::Enoevst),
@@ -198,7 +169,7 @@ impl Core {
 
     /// `start`.
     pub(crate) fn start_refusal(&self, set: u32) -> Option<Code>
-        ensures { (book : Book) → option_map Plain result ≡ refusal_of book self.now.shape self.now.registered (slot_faces self.now.slots) (call.Start set) }
+        ensures { IsRefusedWith self.now (call.Start set) result }
     {
         first_of(&[
             (is_absent(&self.slots, set), Code::Enoevst),
@@ -210,7 +181,7 @@ impl Core {
 
     /// `stop`.
     pub(crate) fn stop_refusal(&self, set: u32) -> Option<Code>
-        ensures { (book : Book) → option_map Plain result ≡ refusal_of book self.now.shape self.now.registered (slot_faces self.now.slots) (call.Stop set) }
+        ensures { IsRefusedWith self.now (call.Stop set) result }
     {
         first_of(&[
             (is_absent(&self.slots, set), Code::Enoevst),
@@ -221,14 +192,14 @@ impl Core {
     /// `read`, `accum`, `reset`, `state` and `list_events`.
     #[inline]
     pub(crate) fn read_refusal(&self, set: u32) -> Option<Code>
-        ensures { (book : Book) → option_map Plain result ≡ refusal_of book self.now.shape self.now.registered (slot_faces self.now.slots) (call.Read set) }
+        ensures { IsRefusedWith self.now (call.Read set) result }
     {
         first_of(&[(is_absent(&self.slots, set), Code::Enoevst)])
     }
 
     /// `assign`.
     pub(crate) fn assign_refusal(&self, set: u32) -> Option<Code>
-        ensures { (book : Book) → option_map Plain result ≡ refusal_of book self.now.shape self.now.registered (slot_faces self.now.slots) (call.Assign set) }
+        ensures { IsRefusedWith self.now (call.Assign set) result }
     {
         first_of(&[
             (is_absent(&self.slots, set), Code::Enoevst),

@@ -32,31 +32,15 @@ pub struct Core {
 }
 
 impl Model for Core {
-    ghost use Rattle.thread_core.specs.CoreView.{CoreView};
+    ghost use Rattle.thread_core.specs.CoreView.{CoreView, core_of};
     ghost use Rattle.thread_core.specs.Running.{AreKnown};
     ghost use Rattle.thread_core.specs.Stands.{IsBacked};
 
     ghost Value = { CoreView };
 
-    ghost view = { λ c. record {
-      thread = c.thread;
-      registered = c.registered;
-      shape = c.shape;
-      slots = c.slots.items;
-      units = c.units.items;
-      taken = c.taken;
-      last = c.last;
-    } };
+    ghost view = { λ c. core_of c.thread c.registered c.shape c.slots.items c.units.items c.taken c.last };
 
-    ghost invariant = { λ c. let view : CoreView = record {
-      thread = c.thread;
-      registered = c.registered;
-      shape = c.shape;
-      slots = c.slots.items;
-      units = c.units.items;
-      taken = c.taken;
-      last = c.last;
-    } in IsBacked view × AreKnown c.running c.slots.items };
+    ghost invariant = { λ c. IsBacked (core_of c.thread c.registered c.shape c.slots.items c.units.items c.taken c.last) × AreKnown c.running c.slots.items };
 }
 
 /// A unit for each component, on which nothing is programmed.
@@ -66,8 +50,7 @@ fn empty_units(alloc: Global, shape: &Shape) -> Result<Vec<Unit>, AllocError>
 {
     let mut units = Vec::with_capacity(alloc, 16)?;
     for comp in 0..shape.comps() {
-        let unit = Unit::new(shape.comp(comp));
-        units.push(unit)?;
+        units.push(Unit::new(shape.comp(comp)))?;
     }
     Ok(units)
 }

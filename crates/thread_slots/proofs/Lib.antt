@@ -1,10 +1,9 @@
+pub mod Words
 pub mod Lists
 pub mod Programs
 pub mod Carries
 pub mod Placing
 pub mod Turning
-pub mod Chosen
 pub mod Telling
 pub mod Searching
 pub mod Beginning
-pub mod Summing

@@ -1,29 +1,20 @@
 -- Items of lists by their numbers.
-use Rattle.std.proofs.Common.{◌≡◌, ℕ, zero, suc, ◌+◌, ◌<◌, List, [], ◌∷◌, length, map, set, get_or, drop, refl, ap, ap₂, sym, subst, ◌∙◌, arith, Option, Some, None, option_map, slice_get}
-use Rattle.std.specs.Prelude.{All, unwrap_or}
-use Rattle.std.proofs.lemmas.Option.{slice_get_within, slice_get-get_or, slice_get_read, get_or_from_slice_get}
-use Rattle.std.specs.Option.{option_and_then}
+use Rattle.std.proofs.Common.{◌≡◌, ℕ, zero, suc, ◌<◌, List, [], ◌∷◌, length, map, set, get_or, refl, ap, ap₂, sym, ◌∙◌, arith, Option, Some, None, option_map, slice_get}
+use Rattle.std.specs.Prelude.{unwrap_or}
+use Rattle.std.proofs.lemmas.Option.{get_or_from_slice_get, slice_get-get_or, slice_get-map, slice_get_read}
+use Rattle.std.proofs.lemmas.List.{length-set, get_or-set_same, set-get_or}
 use Rattle.session_model.specs.Faces.{at}
-
--- a fact that holds of all items
-pub all_at : {X : Type 0} (P : X → Type 0) (xs : List X) (i : ℕ) (x : X) → All P xs → slice_get xs i ≡ Some x → P x
-all_at P xs i x h e = subst P (get_or_from_slice_get xs i x x e) (h i x (slice_get_within xs i x e))
-
-pub all_by : {X : Type 0} (P : X → Type 0) (xs : List X) → ((i : ℕ) (x : X) → slice_get xs i ≡ Some x → P x) → All P xs
-all_by P xs h = λ k d below. h k (get_or xs k d) (slice_get-get_or xs k d below)
+pub use Rattle.std.proofs.lemmas.Option.{slice_get-map as get-map}
+pub use Rattle.multiplex.proofs.Grouping.{all_at}
+pub use Rattle.event_sets.proofs.Steps.{drop_at}
 
 pub get_at : {X : Type 0} (xs : List X) (i : ℕ) → i < length xs → (x : X) × (slice_get xs i ≡ Some x)
 get_at [] i h = absurd (omega arith)
 get_at (x ∷ xs) zero h = (x, refl)
 get_at (x ∷ xs) (suc i) h = get_at xs i (omega arith)
 
-pub get-map : {X Y : Type 0} (f : X → Y) (xs : List X) (i : ℕ) → slice_get (map f xs) i ≡ option_map f (slice_get xs i)
-get-map f [] i = refl
-get-map f (x ∷ xs) zero = refl
-get-map f (x ∷ xs) (suc i) = get-map f xs i
-
 pub get-map_some : {X Y : Type 0} (f : X → Y) (xs : List X) (i : ℕ) (x : X) → slice_get xs i ≡ Some x → slice_get (map f xs) i ≡ Some (f x)
-get-map_some f xs i x e = get-map f xs i ∙ ap (option_map f) e
+get-map_some f xs i x e = slice_get-map f xs i ∙ ap (option_map f) e
 
 -- lists with the same items are the same
 pub same_items : {X : Type 0} (xs ys : List X) → ((i : ℕ) → slice_get xs i ≡ slice_get ys i) → xs ≡ ys
@@ -33,9 +24,7 @@ same_items (x ∷ xs) [] h = let e = h 0 in cc
 same_items (x ∷ xs) (y ∷ ys) h = let e = h 0 in ap₂ ◌∷◌ (let same : x ≡ y = cc in same) (same_items xs ys (λ i. h (suc i)))
 
 pub get-set_same : {X : Type 0} (xs : List X) (i : ℕ) (x : X) → i < length xs → slice_get (set xs i x) i ≡ Some x
-get-set_same [] i x h = absurd (omega arith)
-get-set_same (y ∷ xs) zero x h = refl
-get-set_same (y ∷ xs) (suc i) x h = get-set_same xs i x (omega arith)
+get-set_same xs i x h = slice_get-get_or (set xs i x) i x (omega (arith, length-set xs i x)) ∙ ap Some (get_or-set_same xs i x x h)
 
 pub get-set_other : {X : Type 0} (xs : List X) (i k : ℕ) (x : X) → (k ≡ i → ⊥) → slice_get (set xs i x) k ≡ slice_get xs k
 get-set_other [] i k x h = refl
@@ -44,26 +33,13 @@ get-set_other (y ∷ xs) zero (suc k) x h = refl
 get-set_other (y ∷ xs) (suc i) zero x h = refl
 get-set_other (y ∷ xs) (suc i) (suc k) x h = get-set_other xs i k x (λ e. h (ap suc e))
 
-pub length-set_at : {X : Type 0} (xs : List X) (i : ℕ) (x : X) → length (set xs i x) ≡ length xs
-length-set_at [] i x = refl
-length-set_at (y ∷ xs) zero x = refl
-length-set_at (y ∷ xs) (suc i) x = ap suc (length-set_at xs i x)
-
-pub drop_at : {X : Type 0} (xs : List X) (i : ℕ) (x : X) → slice_get xs i ≡ Some x → drop i xs ≡ x ∷ drop (i + 1) xs
-drop_at xs i x e = let one : suc i ≡ i + 1 = omega arith in let P : ℕ → Type 0 = λ k. drop i xs ≡ x ∷ drop k xs in subst P one (go xs i x e) where
-  go : {Y : Type 0} (xs : List Y) (i : ℕ) (x : Y) → slice_get xs i ≡ Some x → drop i xs ≡ x ∷ drop (suc i) xs
-  go [] i x e = cc
-  go (y ∷ xs) zero x e = let same : y ≡ x = cc in ap (λ z. z ∷ xs) same
-  go (y ∷ xs) (suc i) x e = go xs i x e
-
-pub map_same : {X Y : Type 0} (f g : X → Y) → ((x : X) → f x ≡ g x) → (xs : List X) → map f xs ≡ map g xs
-map_same f g h [] = refl
-map_same f g h (x ∷ xs) = ap₂ ◌∷◌ (h x) (map_same f g h xs)
-
--- the same, where the two agree on the items alone
+-- two functions that agree on the items
 pub map_same_on : {X Y : Type 0} (f g : X → Y) (xs : List X) → ((i : ℕ) (x : X) → slice_get xs i ≡ Some x → f x ≡ g x) → map f xs ≡ map g xs
 map_same_on f g [] h = refl
 map_same_on f g (x ∷ xs) h = ap₂ ◌∷◌ (h 0 x refl) (map_same_on f g xs (λ i y e. h (suc i) y e))
+
+pub map_same : {X Y : Type 0} (f g : X → Y) → ((x : X) → f x ≡ g x) → (xs : List X) → map f xs ≡ map g xs
+map_same f g h xs = map_same_on f g xs (λ i x e. h x)
 
 -- what is under a number
 pub at-some : {X : Type 0} (places : List (Option X)) (k : ℕ) (x : X) → at places k ≡ Some x → slice_get places k ≡ Some (Some x)
@@ -83,13 +59,7 @@ place_is places k place x below reads e =
 
 -- a list with an item put where it stands
 pub set-same : {X : Type 0} (xs : List X) (k : ℕ) (x : X) → slice_get xs k ≡ Some x → set xs k x ≡ xs
-set-same [] k x e = refl
-set-same (y ∷ xs) zero x e = let same : y ≡ x = cc in ap (λ z. z ∷ xs) (sym same)
-set-same (y ∷ xs) (suc k) x e = ap (λ zs. y ∷ zs) (set-same xs k x e)
-
-pub and_then_some : {X Y : Type 0} (f : X → Option Y) (o : Option X) (y : Y) → option_and_then f o ≡ Some y → (x : X) × (o ≡ Some x) × (f x ≡ Some y)
-and_then_some f None y e = cc
-and_then_some f (Some x) y e = (x, refl, e)
+set-same xs k x e = ap (set xs k) (sym (get_or_from_slice_get xs k x x e)) ∙ set-get_or xs k x
 
 -- what is under a number, as the code reads it
 pub at_read : {X : Type 0} (places : List (Option X)) (k : ℕ) (place : Option X) (x : X) → k < length places → place ≡ get_or places k place → place ≡ Some x → at places k ≡ Some x

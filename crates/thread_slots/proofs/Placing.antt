@@ -1,30 +1,24 @@
 -- The natives of a fit set have counters of their own, and its thresholds fit them.
-use Rattle.std.proofs.Common.{◌≡◌, ℕ, zero, suc, ◌+◌, ◌<◌, ◌≤◌, ◌^◌, ◌⊎◌, inl, inr, Bool, true, false, ◌&&◌, ◌||◌, List, [], ◌∷◌, length, get_or, refl, ap, sym, subst, ◌∙◌, arith, Option, Some, None, slice_get}
-use Rattle.std.specs.Prelude.{nat_lt, unwrap_or, is_some}
-use Rattle.std.specs.Option.{option_map_or}
-use Rattle.std.specs.List.{position_or_len}
-use Rattle.std.proofs.lemmas.Bool.{cond-true, cond-false, cases_Bool, lt-ltb, ltb-true}
+use Rattle.thread_slots.proofs.Words.{◌≡◌, ℕ, zero, suc, ◌+◌, ◌≤◌, ◌⊎◌, inl, inr, Bool, false, ◌&&◌, List, [], ◌∷◌, length, get_or, refl, ap, sym, subst, ◌∙◌}
+use Rattle.thread_slots.proofs.Words.{arith, Option, Some, None, slice_get, nat_lt, unwrap_or, option_map_or, position_or_len, cond-true, cond-false, lt-ltb}
+use Rattle.thread_slots.proofs.Words.{slice_get_within, get_or_from_slice_get, Native, EventRef, IsThreshold, Book, lead, same_native, counters_for, AtRest}
+use Rattle.thread_slots.proofs.Words.{Widths, set_natives, widths_at, leads, threshold_among, Pin, pins_from, ArePinned, IsFit}
+use Rattle.std.proofs.Common.{◌<◌, ◌^◌, true, ◌||◌}
+use Rattle.std.specs.Prelude.{is_some}
+use Rattle.std.proofs.lemmas.Bool.{cases_Bool, ltb-true}
 use Rattle.std.proofs.lemmas.List.{length-map}
-use Rattle.std.proofs.lemmas.Option.{slice_get_within, get_or_from_slice_get}
 use Rattle.std.proofs.Math.Pow.{pow_mono}
-use Rattle.papi_base.specs.declared.native.Native.{Native}
-use Rattle.papi_base.specs.declared.native.EventRef.{EventRef}
 use Rattle.counter_alloc.specs.Assignments.{IsAssignment, Has}
 use Rattle.counter_alloc.specs.Listing.{assigns, least, is_assignable}
 use Rattle.counter_alloc.specs.Masks.{AreMasks, masks_of}
 use Rattle.counter_alloc.proofs.Listed.{lists_each, lists_some}
 use Rattle.counter_alloc.proofs.Sets.{has_below}
-use Rattle.counter_unit.specs.Counting.{IsThreshold}
-use Rattle.postfix_rules.specs.Presets.{Book, lead, natives_of_event}
-use Rattle.postfix_rules.specs.Sameness.{same_native, among}
+use Rattle.postfix_rules.specs.Presets.{natives_of_event}
+use Rattle.postfix_rules.specs.Sameness.{among}
 use Rattle.postfix_rules.proofs.Equal.{native_is, native_self, both}
 use Rattle.postfix_rules.proofs.Joined.{each_is_among, is_among, none_twice}
-use Rattle.event_sets.specs.Assigning.{counters_for}
-use Rattle.event_sets.specs.AtRest.{AtRest, Widths, set_natives, widths_at, least_width, leads}
-use Rattle.session_model.specs.Registers.{threshold_among}
-use Rattle.thread_slots.specs.declared.pins.Pin.{Pin}
-use Rattle.thread_slots.specs.Pinned.{pins_from, pins_of, ArePinned}
-use Rattle.session_model.specs.Fitness.{IsFit}
+use Rattle.event_sets.specs.AtRest.{least_width}
+use Rattle.thread_slots.specs.Pinned.{pins_of}
 use Rattle.thread_slots.proofs.Lists.{all_at, get_at, get-map_some}
 
 -- each of the natives is on a counter of its own that exists
@@ -103,11 +97,6 @@ pin_made book s (n ∷ ns) (c ∷ cs) zero p e =
     subst (λ (x : Pin). Made book s (n ∷ ns) (c ∷ cs) 0 x) same (record { native = refl; counter = refl; threshold = refl })
 pin_made book s (n ∷ ns) (c ∷ cs) (suc k) p e = let h = pin_made book s ns cs k p e in record { native = h.native; counter = h.counter; threshold = h.threshold }
 
-pub length-pins_from : (book : Book) (s : AtRest) (ns : List Native) (cs : List ℕ) → length cs ≡ length ns → length (pins_from book s ns cs) ≡ length ns
-length-pins_from book s [] cs e = refl
-length-pins_from book s (n ∷ ns) [] e = absurd (omega arith)
-length-pins_from book s (n ∷ ns) (c ∷ cs) e = ap suc (length-pins_from book s ns cs (omega arith))
-
 -- the event whose threshold a native has
 pub record Found (book : Book) (n : Native) (events : List EventRef) (thresholds : List ℕ) : Type 0 where
   pub index : ℕ
@@ -127,7 +116,7 @@ leads_is book n e h = go (lead book e) refl where
 is_leads : (book : Book) (n : Native) (e : EventRef) → lead book e ≡ Some n → leads book n e ≡ true
 is_leads book n e h = ap (λ o. option_map_or (same_native n) o false) h ∙ native_self n
 
-above : (n : ℕ) → 0 < n → (m : ℕ) × (n ≡ suc m)
+pub above : (n : ℕ) → 0 < n → (m : ℕ) × (n ≡ suc m)
 above zero h = absurd (omega arith)
 above (suc m) h = (m, refl)
 

@@ -1,17 +1,9 @@
 -- What is programmed, pin by pin.
-use Rattle.std.proofs.Common.{◌≡◌, ℕ, zero, suc, ◌+◌, ◌≤◌, List, [], ◌∷◌, length, get_or, set, replicate, refl, ap, subst, ◌∙◌, arith, Option, Some, None, slice_get}
-use Rattle.papi_base.specs.declared.occurrence.Occ.{Occ}
-use Rattle.papi_base.specs.declared.native.Native.{Native}
-use Rattle.papi_base.specs.declared.bits.Domain.{Domain}
-use Rattle.papi_base.specs.Weight.{weight_of}
-use Rattle.papi_base.specs.Widths.{AreWidths}
-use Rattle.papi_base.proofs.Weights.{weight_of-le}
-use Rattle.counter_unit.specs.declared.registers.Register.{Register}
-use Rattle.counter_unit.specs.Counting.{at_place, moved_place, all_moved, register_at}
-use Rattle.counter_unit.proofs.Counts.{added}
-use Rattle.counter_unit.proofs.Places.{at_place-set_same, at_place-set_other, length-set_place}
-use Rattle.thread_slots.specs.declared.pins.Pin.{Pin}
-use Rattle.thread_slots.specs.Pinned.{programs, ArePinned}
+use Rattle.thread_slots.proofs.Words.{◌≡◌, ℕ, zero, suc, ◌+◌, ◌≤◌, List, [], ◌∷◌, length, get_or, set, replicate, refl, ap, subst, ◌∙◌, arith, Option, Some}
+use Rattle.thread_slots.proofs.Words.{None, slice_get, get_or-set_same, Occ, Native, Domain, weight_of, AreWidths, weight_of-le, Register, at_place}
+use Rattle.thread_slots.proofs.Words.{moved_place, register_at, added, Pin, programs, ArePinned}
+use Rattle.std.proofs.lemmas.List.{get_or-set_other, length-set}
+use Rattle.counter_unit.specs.Counting.{all_moved}
 
 pub pinned-tail : (widths : List ℕ) (p : Pin) (ps : List Pin) → ArePinned widths (p ∷ ps) → ArePinned widths ps
 pinned-tail widths p ps h = record {
@@ -41,7 +33,7 @@ all_moved-programs before o ws d counts (p ∷ ps) rs widths h small e =
     let w = get_or ws p.counter 0 in
     let more = weight_of p.native d before o in
     let a = added w p.native d p.threshold (counts p.native) more (widths.low p.counter (h.exist 0 p refl)) (h.fit 0 p refl) (weight_of-le p.native d before o small) in
-    all_moved-programs before o ws d counts ps (set rs p.counter (Some (register_at w p.native d p.threshold (counts p.native)))) widths (pinned-tail ws p ps h) small (length-set_place rs p.counter (Some (register_at w p.native d p.threshold (counts p.native))) ∙ e)
+    all_moved-programs before o ws d counts ps (set rs p.counter (Some (register_at w p.native d p.threshold (counts p.native)))) widths (pinned-tail ws p ps h) small (length-set rs p.counter (Some (register_at w p.native d p.threshold (counts p.native))) ∙ e)
     ∙ ap (programs ws d (λ n. counts n + weight_of n d before o) ps) (all_moved-set before o ws rs p.counter (Some (register_at w p.native d p.threshold (counts p.native))) e ∙ ap (λ (r : Register). set (all_moved before o ws rs) p.counter (Some r)) a.register)
 
 pub programs-same : (ws : List ℕ) (d : Domain) (f g : Native → ℕ) → ((n : Native) → f n ≡ g n) → (pins : List Pin) (rs : List (Option Register)) → programs ws d f pins rs ≡ programs ws d g pins rs
@@ -52,14 +44,14 @@ programs-same ws d f g h (p ∷ ps) rs =
 
 pub length-programs : (ws : List ℕ) (d : Domain) (counts : Native → ℕ) (pins : List Pin) (rs : List (Option Register)) → length (programs ws d counts pins rs) ≡ length rs
 length-programs ws d counts [] rs = refl
-length-programs ws d counts (p ∷ ps) rs = let r = Some (register_at (get_or ws p.counter 0) p.native d p.threshold (counts p.native)) in length-programs ws d counts ps (set rs p.counter r) ∙ length-set_place rs p.counter r
+length-programs ws d counts (p ∷ ps) rs = let r = Some (register_at (get_or ws p.counter 0) p.native d p.threshold (counts p.native)) in length-programs ws d counts ps (set rs p.counter r) ∙ length-set rs p.counter r
 
 -- a counter that no pin is on keeps what it has
 pub programs-other : (ws : List ℕ) (d : Domain) (counts : Native → ℕ) (c : ℕ) (pins : List Pin) (rs : List (Option Register)) → ((k : ℕ) (q : Pin) → slice_get pins k ≡ Some q → c ≡ q.counter → ⊥) → at_place (programs ws d counts pins rs) c ≡ at_place rs c
 programs-other ws d counts c [] rs h = refl
 programs-other ws d counts c (p ∷ ps) rs h =
     let r = Some (register_at (get_or ws p.counter 0) p.native d p.threshold (counts p.native)) in
-    programs-other ws d counts c ps (set rs p.counter r) (λ k q e. h (suc k) q e) ∙ at_place-set_other rs p.counter c r (h 0 p refl)
+    programs-other ws d counts c ps (set rs p.counter r) (λ k q e. h (suc k) q e) ∙ get_or-set_other rs p.counter c r None (h 0 p refl)
 
 -- each pin's register is on its counter
 pub programs-at : (ws : List ℕ) (d : Domain) (counts : Native → ℕ) (pins : List Pin) (rs : List (Option Register)) (k : ℕ) (p : Pin) → ArePinned ws pins → length rs ≡ length ws → slice_get pins k ≡ Some p
@@ -69,7 +61,7 @@ programs-at ws d counts (q ∷ ps) rs zero p h e g =
     let same : q ≡ p = cc in
     let r = Some (register_at (get_or ws q.counter 0) q.native d q.threshold (counts q.native)) in
     let P : Pin → Type 0 = λ x. at_place (programs ws d counts (q ∷ ps) rs) x.counter ≡ Some (register_at (get_or ws x.counter 0) x.native d x.threshold (counts x.native)) in
-    subst P same (programs-other ws d counts q.counter ps (set rs q.counter r) (λ j x f is. let none = h.apart 0 (suc j) q x refl f is in absurd (omega arith)) ∙ at_place-set_same rs q.counter r (let below = h.exist 0 q refl in omega arith))
+    subst P same (programs-other ws d counts q.counter ps (set rs q.counter r) (λ j x f is. let none = h.apart 0 (suc j) q x refl f is in absurd (omega arith)) ∙ get_or-set_same rs q.counter r None (let below = h.exist 0 q refl in omega arith))
 programs-at ws d counts (q ∷ ps) rs (suc k) p h e g =
     let r = Some (register_at (get_or ws q.counter 0) q.native d q.threshold (counts q.native)) in
-    programs-at ws d counts ps (set rs q.counter r) k p (pinned-tail ws q ps h) (length-set_place rs q.counter r ∙ e) g
+    programs-at ws d counts ps (set rs q.counter r) k p (pinned-tail ws q ps h) (length-set rs q.counter r ∙ e) g

@@ -1,13 +1,8 @@
 -- One turn of the loop that counts the natives of the group that runs.
-use Rattle.std.proofs.Common.{◌≡◌, ℕ, zero, suc, ◌+◌, ◌<◌, List, [], ◌∷◌, ◌++◌, length, get_or, set, take, drop, refl, ap, sym, ◌∙◌, arith, Option, Some, slice_get}
-use Rattle.std.specs.Prelude.{◌==◌, if◌then◌else◌}
-use Rattle.std.proofs.lemmas.Bool.{cond-true, cond-false, eq-eqb, ne_eqb}
-use Rattle.papi_base.proofs.InPlace.{in_place_put, in_place_skip, in_place_number, number_at}
-use Rattle.papi_base.specs.declared.occurrence.Occ.{Occ}
-use Rattle.papi_base.specs.declared.native.Native.{Native}
-use Rattle.papi_base.specs.declared.bits.Domain.{Domain}
-use Rattle.papi_base.specs.Weight.{weight_of}
-use Rattle.thread_slots.specs.Counted.{with_turn}
+use Rattle.thread_slots.proofs.Words.{◌≡◌, ℕ, zero, suc, ◌+◌, List, [], ◌∷◌, ◌++◌, length, get_or, set, take, drop, refl, ap, sym, ◌∙◌, arith, Option, Some}
+use Rattle.thread_slots.proofs.Words.{slice_get, ◌==◌, if◌then◌else◌, cond-true, cond-false, eq-eqb, ne_eqb, in_place_put, in_place_skip, in_place_number}
+use Rattle.thread_slots.proofs.Words.{number_at, Occ, Native, Domain, weight_of, with_turn}
+use Rattle.std.proofs.Common.{◌<◌}
 
 pub length-with_turn : (d : Domain) (before : Option Occ) (o : Occ) (g : ℕ) (ns : List Native) (gs ks : List ℕ) → length gs ≡ length ns → length ks ≡ length ns → length (with_turn d before o g ns gs ks) ≡ length ks
 length-with_turn d before o g [] gs [] e f = refl

@@ -1,20 +1,19 @@
--- When a running set can be counted on a unit: every number has room, and there is one for each native.
-use Rattle.std.specs.Prelude.{ℕ, ◌^◌, ◌≡◌, ◌<◌, ◌≤◌, All, length, List, Option, Some, None, slice_get}
+-- When a running set can be counted on a unit.
+use Rattle.std.specs.Prelude.{ℕ, ◌^◌, ◌≡◌, ◌<◌, All, length, List, Option, Some, None, slice_get}
 use Rattle.counter_unit.specs.Counting.{UnitView}
 use Rattle.multiplex.specs.Rotations.{RotationView}
 use Rattle.session_model.specs.Faces.{at}
 use Rattle.thread_slots.specs.declared.slot.Slot.{Slot}
 use Rattle.thread_slots.specs.Pinned.{ArePinned}
 
--- a set whose natives take turns
+-- a set whose natives take turns: every count has room for one weight more
 pub record IsTurn (slot : Slot) (r : RotationView) : Type 0 where
+  pub room : All (λ t. t < 2 ^ 32) slot.kept
   pub same_length : length slot.kept ≡ length slot.set.natives
   pub grouped : length r.numbers ≡ length slot.set.natives
 
+-- on its unit, or in turns
 pub record IsCountable (unit : UnitView) (slot : Slot) : Type 0 where
-  pub few : length unit.widths ≤ 32
-  pub room : All (λ t. t < 2 ^ 32) slot.kept
-  pub same_length : slot.rotation ≡ None → length slot.kept ≡ length slot.pins
   pub pinned : slot.rotation ≡ None → ArePinned unit.widths slot.pins
   pub turning : (r : RotationView) → slot.rotation ≡ Some r → IsTurn slot r
 

@@ -11,10 +11,10 @@ use Rattle.counter_unit.specs.Counting.{UnitView, all_moved, all_carries, bits_o
 use Rattle.overflow_dispatch.specs.Passing.{passed_from}
 use Rattle.session_model.specs.Faces.{at}
 use Rattle.thread_slots.specs.declared.slot.Slot.{Slot}
-use Rattle.thread_slots.specs.Pinned.{with_carries}
 use Rattle.thread_slots.specs.Slots.{face_of_slot}
 use Rattle.thread_slots.specs.Units.{owner_from}
 
+-- what is left of a unit and of a set, and the events whose thresholds were passed
 pub record Counted : Type 0 where
   pub unit : UnitView
   pub slot : Slot
@@ -28,7 +28,7 @@ carry_of before o unit = bits_of (all_carries before o unit.widths unit.register
 abbrev pub on_unit : Option Occ → Occ → UnitView → Slot → Counted
 on_unit before o unit slot = record {
   unit = record unit { registers = all_moved before o unit.widths unit.registers };
-  slot = record slot { kept = with_carries unit.widths (carry_of before o unit) slot.pins slot.kept };
+  slot = slot;
   passed = passed_from 0 (carry_of before o unit) slot.armed;
 }
 
@@ -47,6 +47,7 @@ in_rotation before o unit slot r = record {
   passed = [];
 }
 
+-- on the unit, or in turns
 abbrev pub counted_by : Option Occ → Occ → UnitView → Slot → Option RotationView → Counted
 counted_by before o unit slot None = on_unit before o unit slot
 counted_by before o unit slot (Some r) = in_rotation before o unit slot r
@@ -61,6 +62,7 @@ pub record CountedPlace : Type 0 where
   pub place : Option Slot
   pub passed : List ℕ
 
+-- nothing counts where there is no set
 abbrev pub counted_place : Option Occ → Occ → UnitView → Option Slot → CountedPlace
 counted_place before o unit None = record { unit = unit; place = None; passed = [] }
 counted_place before o unit (Some slot) = record {
@@ -76,9 +78,11 @@ pub record CountedAll : Type 0 where
   pub set : ℕ
   pub passed : List ℕ
 
+-- nothing counted
 abbrev pub uncounted : List UnitView → List (Option Slot) → CountedAll
 uncounted units slots = record { units = units; slots = slots; set = 0; passed = [] }
 
+-- what is under one number counted, on the unit of one component
 abbrev pub placed : ℕ → ℕ → List UnitView → List (Option Slot) → CountedPlace → CountedAll
 placed comp number units slots c = record {
   units = slice_set units comp c.unit;
@@ -87,10 +91,12 @@ placed comp number units slots c = record {
   passed = c.passed;
 }
 
+-- where the component has a unit
 abbrev pub counted_at : Option Occ → Occ → List UnitView → List (Option Slot) → ℕ → Option UnitView → CountedAll
 counted_at before o units slots number None = uncounted units slots
 counted_at before o units slots number (Some unit) = placed o.comp number units slots (counted_place before o unit (at slots number))
 
+-- where a set runs on the component
 abbrev pub counted_over : Option Occ → Occ → List UnitView → List (Option Slot) → Option ℕ → CountedAll
 counted_over before o units slots None = uncounted units slots
 counted_over before o units slots (Some number) = counted_at before o units slots number (slice_get units o.comp)

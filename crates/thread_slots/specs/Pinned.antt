@@ -1,13 +1,13 @@
 -- The native events of a running set on their counters, with the thresholds of their events: PAPI_start(3), PAPI_overflow(3).
-use Rattle.std.specs.Prelude.{ℕ, ◌+◌, ◌-◌, ◌≡◌, ◌<◌, ◌==◌, if◌then◌else◌, List, [], ◌∷◌, ◌++◌, length, replicate, slice_get, slice_index, slice_set, Option, Some, None}
+use Rattle.std.specs.Prelude.{ℕ, ◌-◌, ◌≡◌, ◌<◌, ◌==◌, if◌then◌else◌}
+use Rattle.std.specs.Prelude.{List, [], ◌∷◌, ◌++◌, length, replicate, slice_get, slice_index, slice_set, Option, Some, None}
 use Rattle.std.specs.Option.{option_map_or}
 use Rattle.std.specs.List.{position_or_len}
-use Rattle.std.specs.Int.{bit_at}
 use Rattle.papi_base.specs.declared.native.Native.{Native}
 use Rattle.papi_base.specs.declared.native.EventRef.{EventRef}
 use Rattle.papi_base.specs.declared.bits.Domain.{Domain}
 use Rattle.counter_unit.specs.declared.registers.Register.{Register}
-use Rattle.counter_unit.specs.Counting.{IsThreshold, period, register_at, banked}
+use Rattle.counter_unit.specs.Counting.{IsThreshold, register_at}
 use Rattle.postfix_rules.specs.Presets.{Book, lead}
 use Rattle.postfix_rules.specs.Sameness.{same_native}
 use Rattle.event_sets.specs.Assigning.{counters_for}
@@ -33,6 +33,7 @@ place_of_lead book natives e = option_map_or (λ n. position_or_len (same_native
 abbrev pub armed_event : Book → List Native → List ℕ → EventRef → ℕ → Option ℕ
 armed_event book natives counters e threshold = if threshold == 0 then None else Some (slice_index counters (place_of_lead book natives e))
 
+-- for each event the counter that is watched, if one is
 abbrev pub armed_from : Book → List Native → List ℕ → List EventRef → List ℕ → List (Option ℕ)
 armed_from book natives counters [] thresholds = []
 armed_from book natives counters (e ∷ es) [] = []
@@ -48,18 +49,6 @@ programs widths d counts [] registers = registers
 programs widths d counts (p ∷ ps) registers =
     let register = register_at (slice_index widths p.counter) p.native d p.threshold (counts p.native) in
     programs widths d counts ps (slice_set registers p.counter (Some register))
-
--- what was carried away of a pin's count
-abbrev pub bank_of : List ℕ → (Native → ℕ) → Pin → ℕ
-bank_of widths counts p = banked (slice_index widths p.counter) p.threshold (counts p.native)
-
--- the banks after some counters carried
-abbrev pub with_carries : List ℕ → ℕ → List Pin → List ℕ → List ℕ
-with_carries widths carry [] banks = []
-with_carries widths carry (p ∷ ps) [] = []
-with_carries widths carry (p ∷ ps) (b ∷ bs) =
-    (if bit_at carry p.counter == 1 then b + period (slice_index widths p.counter) p.threshold else b)
-    ∷ with_carries widths carry ps bs
 
 -- each pin is on a counter that exists, with a threshold that fits, and no two are on the same
 pub record ArePinned (widths : List ℕ) (pins : List Pin) : Type 0 where

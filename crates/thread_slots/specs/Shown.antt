@@ -1,9 +1,10 @@
 -- The numbers and the values that are shown of what is kept: PAPI_read(3).
-use Rattle.std.specs.Prelude.{All, ℕ, ℤ, ◌+◌, ◌-◌, ◌*◌, ◌^◌, ◌≡◌, ◌<◌, ◌≤◌, true, if◌then◌else◌, List, [], ◌∷◌, length, map, slice_get, slice_index, Option, Some, None}
-use Rattle.std.specs.Option.{option_and_then, option_map_or}
+use Rattle.std.specs.Prelude.{All, ℕ, ℤ, ◌-◌, ◌*◌, ◌^◌, ◌≡◌, ◌<◌, ◌≤◌, true, if◌then◌else◌}
+use Rattle.std.specs.Prelude.{List, [], ◌∷◌, length, map, slice_get, slice_index, Option, Some, None}
+use Rattle.std.specs.Option.{option_and_then}
 use Rattle.std.specs.List.{position_or_len}
 use Rattle.papi_base.specs.declared.native.Native.{Native}
-use Rattle.counter_unit.specs.Counting.{UnitView, at_place, beginning}
+use Rattle.counter_unit.specs.Counting.{UnitView, count_on}
 use Rattle.multiplex.specs.Rotations.{RotationView}
 use Rattle.multiplex.specs.Turns.{Turns, active, estimate}
 use Rattle.postfix_rules.specs.Presets.{Book, event_value}
@@ -13,15 +14,9 @@ use Rattle.thread_slots.specs.declared.pins.Pin.{Pin}
 use Rattle.thread_slots.specs.declared.slot.Slot.{Slot}
 use Rattle.thread_slots.specs.Countable.{IsCountable}
 
--- what the pin's register is above its beginning
-abbrev pub above : UnitView → Pin → ℕ
-above unit p = option_map_or (λ r. r.value - beginning (slice_index unit.widths p.counter) p.threshold) (at_place unit.registers p.counter) 0
-
--- each pin's bank, and what its register is above its beginning
-abbrev pub pin_numbers : UnitView → List Pin → List ℕ → List ℕ
-pin_numbers unit [] banks = []
-pin_numbers unit (p ∷ ps) [] = []
-pin_numbers unit (p ∷ ps) (b ∷ bs) = (b + above unit p) ∷ pin_numbers unit ps bs
+-- the count on each pin's counter
+abbrev pub pin_numbers : UnitView → List Pin → List ℕ
+pin_numbers unit pins = map (λ p. count_on unit p.counter) pins
 
 -- the estimate of each count in turns
 abbrev pub turn_numbers : Turns → ℕ → List ℕ → List ℕ → List ℕ
@@ -29,10 +24,12 @@ turn_numbers turns total [] counts = []
 turn_numbers turns total (g ∷ gs) [] = []
 turn_numbers turns total (g ∷ gs) (k ∷ ks) = estimate k total (active turns g total) ∷ turn_numbers turns total gs ks
 
+-- of a set on its unit; one without a component has no natives
 abbrev pub unit_numbers : Option UnitView → Slot → List ℕ
 unit_numbers None slot = slot.kept
-unit_numbers (Some unit) slot = pin_numbers unit slot.pins slot.kept
+unit_numbers (Some unit) slot = pin_numbers unit slot.pins
 
+-- of a running set: the counts on its unit, or the estimates
 abbrev pub running_numbers : List UnitView → ℕ → Slot → Option RotationView → List ℕ
 running_numbers units time slot None = unit_numbers (option_and_then (slice_get units) slot.set.rest.component) slot
 running_numbers units time slot (Some r) = turn_numbers r.turns (time - slot.begun) r.numbers slot.kept

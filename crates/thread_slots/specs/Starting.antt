@@ -13,6 +13,7 @@ use Rattle.event_sets.specs.AtRest.{set_natives}
 use Rattle.thread_slots.specs.Pinned.{ArePinned, armed_of, pins_of, place_of_lead, programs}
 use Rattle.thread_slots.specs.Slots.{rotation_of}
 
+-- a unit and a set that started on it
 pub record Begun : Type 0 where
   pub unit : UnitView
   pub slot : Slot
@@ -33,10 +34,11 @@ begun_by book now unit slot (Some slice) = record {
   };
 }
 
+-- by whether its natives take turns
 abbrev pub begun : Book → ℕ → UnitView → Slot → Begun
 begun book now unit slot = begun_by book now unit slot slot.set.rest.slice
 
--- each event with a threshold can have a place of its own among the counters that are watched
+-- each event with a threshold has a counter that can be watched
 pub record IsArmable (book : Book) (natives : List Native) (counters : List ℕ) (events : List EventRef) (thresholds : List ℕ) : Type 0 where
   pub few_events : length events ≤ 32
   pub one_each : length thresholds ≡ length events
@@ -44,9 +46,6 @@ pub record IsArmable (book : Book) (natives : List Native) (counters : List ℕ)
       → place_of_lead book natives e < length counters
   pub small : (k t : ℕ) (e : EventRef) → slice_get events k ≡ Some e → slice_get thresholds k ≡ Some (suc t)
       → slice_index counters (place_of_lead book natives e) < 32
-  pub apart : (j k t u : ℕ) (d e : EventRef) → slice_get events j ≡ Some d → slice_get events k ≡ Some e
-      → slice_get thresholds j ≡ Some (suc t) → slice_get thresholds k ≡ Some (suc u)
-      → slice_index counters (place_of_lead book natives d) ≡ slice_index counters (place_of_lead book natives e) → j ≡ k
 
 -- the set can start on the unit
 pub record IsStartable (book : Book) (unit : UnitView) (slot : Slot) : Type 0 where

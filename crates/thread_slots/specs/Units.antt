@@ -29,10 +29,12 @@ abbrev pub running_registers : Book → List ℕ → List Occ → Kept → Optio
 running_registers book widths past s None = programs widths s.set.domain (count past s) (pins_of book s.set) (replicate (length widths) None)
 running_registers book widths past s (Some slice) = replicate (length widths) None
 
+-- where no set runs, nothing is programmed
 abbrev pub registers_by : Book → List ℕ → List Occ → Option Kept → List (Option Register)
 registers_by book widths past None = replicate (length widths) None
 registers_by book widths past (Some s) = running_registers book widths past s s.set.slice
 
+-- the unit of a component
 abbrev pub unit_at : Book → List Occ → List (Option Kept) → ℕ → List ℕ → UnitView
 unit_at book past sets comp widths = record { widths = widths; registers = registers_by book widths past (runner comp sets) }
 
@@ -41,5 +43,6 @@ abbrev pub units_from : Book → List Occ → List (Option Kept) → ℕ → Wid
 units_from book past sets comp [] = []
 units_from book past sets comp (widths ∷ rest) = unit_at book past sets comp widths ∷ units_from book past sets (comp + 1) rest
 
+-- the units of all components
 abbrev pub units_of : Book → Widths → List Occ → List (Option Kept) → List UnitView
 units_of book shape past sets = units_from book past sets 0 shape

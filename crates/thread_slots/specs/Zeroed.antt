@@ -19,10 +19,12 @@ zeroed_slot now slot = record slot { begun = begun_again now slot.begun slot.rot
 abbrev pub zeroed_unit : Slot → UnitView → UnitView
 zeroed_unit slot unit = record unit { registers = programs unit.widths slot.set.rest.domain (λ n. 0) slot.pins unit.registers }
 
+-- where the component has a unit
 abbrev pub zeroed_at : Slot → List UnitView → ℕ → Option UnitView → List UnitView
 zeroed_at slot units comp None = units
 zeroed_at slot units comp (Some unit) = slice_set units comp (zeroed_unit slot unit)
 
+-- where the set has a component
 abbrev pub zeroed_on : Slot → List UnitView → Option ℕ → List UnitView
 zeroed_on slot units None = units
 zeroed_on slot units (Some comp) = zeroed_at slot units comp (slice_get units comp)

@@ -28,18 +28,8 @@ fn sums(values: &Values, more: &Values) -> Values
     added
 }
 
-/// Adds these values to the caller's of a set, and gives the sums.
-fn accumulate(slot: &mut Slot, more: &Values) -> Values
-    requires { length more.now ≡ length slot.old.values }
-    ensures sums { result ≡ sums slot.old.values more.now }
-    ensures slot { slot.new ≡ slot_with_sums more.now slot.old }
-{
-    let added = sums(&slot.values, more);
-    slot.values = added.copy();
-    added
-}
-
 /// Adds these values to the caller's of the set under a number, and gives the sums.
+#[tactic(auto, using(crate::proofs::Lists::at_read, crate::proofs::Lists::place_is))]
 pub fn accumulate_under(slots: &mut Vec<Option<Slot>>, set: u32, more: &Values) -> Values
     requires inside { set < length slots.old.items }
     requires same_length { (slot : Slot) → at slots.old.items set ≡ Some slot → length more.now ≡ length slot.values }
@@ -47,7 +37,11 @@ pub fn accumulate_under(slots: &mut Vec<Option<Slot>>, set: u32, more: &Values) 
     ensures slots { (slot : Slot) → at slots.old.items set ≡ Some slot → slots.new.items ≡ slice_set slots.old.items set (Some (slot_with_sums more.now slot)) }
 {
     match &mut slots[set as usize] {
-        Some(slot) => accumulate(slot, more),
+        Some(slot) => {
+            let added = sums(&slot.values, more);
+            slot.values = added.copy();
+            added
+        }
         None => Values::new(),
     }
 }

@@ -33,22 +33,8 @@ fn renew(slot: &mut Slot)
     recount(slot);
 }
 
-/// Adds an event to a set.
-fn add_event(slot: &mut Slot, book: &PresetBook, shape: &Shape, e: &EventRef) -> Result<(), Refusal>
-    requires held { IsHeld book.now e.now }
-    requires fits { All (Fits shape.now) (natives_of_event book.now e.now) }
-    requires view { slot.old.set ≡ set_view book.now shape.now slot.old.set.rest }
-    ensures added { OnOk result (slot.new ≡ slot_with_event book.now shape.now e.now slot.old) }
-    ensures taken { OnOk result (add_refusal book.now e.now slot.old.set.rest ≡ None) }
-    ensures refused { IfErr result (λ r. add_refusal book.now e.now slot.old.set.rest ≡ Some r) }
-    ensures unchanged { OnErr result (slot.new ≡ slot.old) }
-{
-    slot.set.add(book, shape, e)?;
-    renew(slot);
-    Ok(())
-}
-
 /// Adds an event to the set under a number.
+#[tactic(auto, using(crate::proofs::Lists::at_read, crate::proofs::Lists::place_is))]
 pub fn add_under(
     slots: &mut Vec<Option<Slot>>,
     book: &PresetBook,
@@ -68,7 +54,11 @@ pub fn add_under(
     ensures unchanged { OnErr result (slots.new.items ≡ slots.old.items) }
 {
     match &mut slots[set as usize] {
-        Some(slot) => add_event(slot, book, shape, e),
+        Some(slot) => {
+            slot.set.add(book, shape, e)?;
+            renew(slot);
+            Ok(())
+        }
         None => Ok(()),
     }
 }
@@ -100,48 +90,6 @@ pub fn lacks_component(shape: &Shape, change: &Change) -> bool
     }
 }
 
-/// Takes an event away from a set.
-fn remove_event(slot: &mut Slot, book: &PresetBook, _shape: &Shape, e: &Named) -> Result<(), Code>
-    requires view { slot.old.set ≡ set_view book.now _shape.now slot.old.set.rest }
-    ensures changed { OnOk result (slot.new ≡ slot_after book.now _shape.now (change.Remove e.now) slot.old) }
-    ensures taken { OnOk result (change_refusal book.now _shape.now (change.Remove e.now) slot.old.set.rest ≡ None) }
-    ensures refused { IfErr result (λ c. change_refusal book.now _shape.now (change.Remove e.now) slot.old.set.rest ≡ Some c) }
-    ensures unchanged { OnErr result (slot.new ≡ slot.old) }
-{
-    match e {
-        Err(code) => Err(*code),
-        Ok(e) => {
-            slot.set.remove(book, e)?;
-            renew(slot);
-            Ok(())
-        }
-    }
-}
-
-/// Gives an event of a set another threshold.
-fn arm_event(
-    slot: &mut Slot,
-    book: &PresetBook,
-    shape: &Shape,
-    e: &Named,
-    t: u64,
-) -> Result<(), Code>
-    requires view { slot.old.set ≡ set_view book.now shape.now slot.old.set.rest }
-    ensures changed { OnOk result (slot.new ≡ slot_after book.now shape.now (change.Overflow e.now t) slot.old) }
-    ensures taken { OnOk result (change_refusal book.now shape.now (change.Overflow e.now t) slot.old.set.rest ≡ None) }
-    ensures refused { IfErr result (λ c. change_refusal book.now shape.now (change.Overflow e.now t) slot.old.set.rest ≡ Some c) }
-    ensures unchanged { OnErr result (slot.new ≡ slot.old) }
-{
-    match e {
-        Err(code) => Err(*code),
-        Ok(e) => {
-            slot.set.set_threshold(book, shape, e, t)?;
-            recount(slot);
-            Ok(())
-        }
-    }
-}
-
 /// Changes a set.
 fn change_slot(
     slot: &mut Slot,
@@ -161,7 +109,12 @@ fn change_slot(
             renew(slot);
             Ok(())
         }
-        Change::Remove(e) => remove_event(slot, book, shape, e),
+        Change::Remove(Ok(e)) => {
+            slot.set.remove(book, e)?;
+            renew(slot);
+            Ok(())
+        }
+        Change::Remove(Err(code)) | Change::Overflow { e: Err(code), .. } => Err(*code),
         Change::Component(comp) => slot.set.assign_component(*comp, shape),
         Change::Domain(bits) => {
             slot.set.set_domain(*bits)?;
@@ -173,7 +126,11 @@ fn change_slot(
             recount(slot);
             Ok(())
         }
-        Change::Overflow { e, t } => arm_event(slot, book, shape, e, *t),
+        Change::Overflow { e: Ok(e), t } => {
+            slot.set.set_threshold(book, shape, e, *t)?;
+            recount(slot);
+            Ok(())
+        }
     }
 }
 

@@ -1,18 +1,14 @@
 //! What one occurrence does to the sets and the units.
-ghost use Rattle.std.specs.Prelude.{◌≡◌, ℕ, ◌^◌, ◌<◌, ◌≤◌, ◌==◌, if◌then◌else◌, map, length, All, None, Some, slice_get};
+ghost use Rattle.std.specs.Prelude.{◌≡◌, ℕ, ◌^◌, ◌<◌, ◌==◌, if◌then◌else◌, map, length, All, None, Some};
 ghost use Rattle.std.specs.Option.{option_copied, option_map};
-ghost use Rattle.counter_unit.specs.Counting.{UnitView};
 ghost use Rattle.thread_slots.specs.declared.slot.Slot.{Slot};
 ghost use Rattle.thread_slots.specs.Countable.{AreCountable, IsCountable};
-ghost use Rattle.thread_slots.specs.Counted.{counted, counted_all, counted_place, with_turn};
-ghost use Rattle.thread_slots.specs.Pinned.{ArePinned, with_carries};
+ghost use Rattle.thread_slots.specs.Counted.{counted_all, counted_place, with_turn};
 ghost use Rattle.thread_slots.specs.Slots.{face_of_slot};
 ghost use Rattle.thread_slots.specs.Units.{owner_from};
 
-use crate::pins::Pins;
 use crate::slot::Slot;
 use counter_unit::Unit;
-use counter_unit::unit::period_of;
 use multiplex::Rotation;
 use overflow_dispatch::Passed;
 use papi_base::{Counts, Domain, Natives, Occ, weight};
@@ -23,25 +19,6 @@ use papi_base::{Counts, Domain, Natives, Occ, weight};
 pub struct Taken {
     pub set: u32,
     pub passed: Passed,
-}
-
-/// Adds a period to the bank of each pin whose counter carried.
-#[cold]
-fn bank_carries(banks: &mut Counts, pins: &Pins, unit: &Unit, carry: u32)
-    requires same_length { length banks.old ≡ length pins.now }
-    requires room { All (λ t. t < 2 ^ 32) banks.old }
-    requires pinned { ArePinned unit.now.widths pins.now }
-    requires few { length unit.now.widths ≤ 32 }
-    ensures { banks.new ≡ with_carries unit.now.widths carry pins.now banks.old }
-{
-    for i in 0..pins.len() {
-        let pin = pins.at(i);
-        if (carry >> pin.counter) & 1 == 1 {
-            let more = period_of(unit.width(pin.counter), pin.threshold);
-            let bank = banks.at(i);
-            banks.put(i, bank + more);
-        }
-    }
 }
 
 /// Counts one occurrence in the native events of this group.
@@ -69,15 +46,19 @@ fn count_turn(
     }
 }
 
-/// Counts one occurrence for a running set, on the unit of its component, and gives the events whose thresholds it
-/// passes.
+/// Counts one occurrence for what is under a number, a running set on the unit of its component, and gives the events
+/// whose thresholds it passes.
 #[inline(always)]
-fn count_slot(unit: &mut Unit, slot: &mut Slot, before: Option<&Occ>, o: &Occ) -> Passed
-    requires { IsCountable unit.old slot.old }
-    ensures unit { unit.new ≡ (counted (option_copied before.entry) o.now unit.old slot.old).unit }
-    ensures slot { slot.new ≡ (counted (option_copied before.entry) o.now unit.old slot.old).slot }
-    ensures passed { result ≡ (counted (option_copied before.entry) o.now unit.old slot.old).passed }
+#[tactic(auto, using(crate::proofs::Carries::passed_none))]
+fn count_place(unit: &mut Unit, place: &mut Option<Slot>, before: Option<&Occ>, o: &Occ) -> Passed
+    requires { (slot : Slot) → place.old ≡ Some slot → IsCountable unit.old slot }
+    ensures unit { unit.new ≡ (counted_place (option_copied before.entry) o.now unit.old place.old).unit }
+    ensures place { place.new ≡ (counted_place (option_copied before.entry) o.now unit.old place.old).place }
+    ensures passed { result ≡ (counted_place (option_copied before.entry) o.now unit.old place.old).passed }
 {
+    let Some(slot) = place else {
+        return Passed::new();
+    };
     match &mut slot.rotation {
         Some(rotation) => {
             let group = rotation.running_group(o.stamp.saturating_sub(slot.begun));
@@ -91,23 +72,8 @@ fn count_slot(unit: &mut Unit, slot: &mut Slot, before: Option<&Occ>, o: &Occ) -
             if carry == 0 {
                 return Passed::new();
             }
-            bank_carries(&mut slot.kept, &slot.pins, unit, carry);
             slot.armed.passed(carry)
         }
-    }
-}
-
-/// Counts one occurrence for what is under a number.
-#[inline(always)]
-fn count_place(unit: &mut Unit, place: &mut Option<Slot>, before: Option<&Occ>, o: &Occ) -> Passed
-    requires { (slot : Slot) → place.old ≡ Some slot → IsCountable unit.old slot }
-    ensures unit { unit.new ≡ (counted_place (option_copied before.entry) o.now unit.old place.old).unit }
-    ensures place { place.new ≡ (counted_place (option_copied before.entry) o.now unit.old place.old).place }
-    ensures passed { result ≡ (counted_place (option_copied before.entry) o.now unit.old place.old).passed }
-{
-    match place {
-        Some(slot) => count_slot(unit, slot, before, o),
-        None => Passed::new(),
     }
 }
 
@@ -130,7 +96,9 @@ pub fn count_all(
 ) -> Taken
     requires places { length slots.old.items ≡ 64 }
     requires runner { runner ≡ owner_from o.now.comp 0 (map (option_map face_of_slot) slots.old.items) }
-    requires countable { (k : ℕ) → owner_from o.now.comp 0 (map (option_map face_of_slot) slots.old.items) ≡ Some k → AreCountable units.old.items slots.old.items o.now.comp k }
+    requires countable { (k : ℕ)
+        → owner_from o.now.comp 0 (map (option_map face_of_slot) slots.old.items) ≡ Some k
+        → AreCountable units.old.items slots.old.items o.now.comp k }
     ensures units { units.new.items ≡ (counted_all (option_copied before.entry) o.now units.old.items slots.old.items).units }
     ensures slots { slots.new.items ≡ (counted_all (option_copied before.entry) o.now units.old.items slots.old.items).slots }
     ensures set { result.set ≡ (counted_all (option_copied before.entry) o.now units.old.items slots.old.items).set }

@@ -1,5 +1,5 @@
 //! What each native event of a set counted, or is estimated to have.
-ghost use Rattle.std.specs.Prelude.{◌≡◌, ℕ, ◌+◌, ◌*◌, ◌^◌, ◌<◌, ◌≤◌, All, length, slice_index};
+ghost use Rattle.std.specs.Prelude.{◌≡◌, ℕ, ◌*◌, ◌^◌, ◌<◌, ◌≤◌, length, slice_index};
 ghost use Rattle.multiplex.specs.Turns.{active};
 ghost use Rattle.thread_slots.specs.Pinned.{ArePinned};
 ghost use Rattle.thread_slots.specs.Shown.{IsMeasurable, numbers_shown, pin_numbers, turn_numbers};
@@ -7,28 +7,17 @@ ghost use Rattle.thread_slots.specs.Shown.{IsMeasurable, numbers_shown, pin_numb
 use crate::pins::Pins;
 use crate::slot::Slot;
 use counter_unit::Unit;
-use counter_unit::unit::beginning_of;
 use multiplex::{Rotation, estimate};
 use papi_base::Counts;
 
-/// What each pin has counted: its bank, and what its register is above its beginning.
-fn numbers_on_unit(unit: &Unit, pins: &Pins, banks: &Counts) -> Counts
-    requires same_length { length banks.now ≡ length pins.now }
-    requires room { All (λ t. t < 2 ^ 32) banks.now }
-    requires pinned { ArePinned unit.now.widths pins.now }
-    requires few { length unit.now.widths ≤ 32 }
-    ensures { result ≡ pin_numbers unit.now pins.now banks.now }
+/// What the native event of each pin has counted.
+fn numbers_on_unit(unit: &Unit, pins: &Pins) -> Counts
+    requires { ArePinned unit.now.widths pins.now }
+    ensures { result ≡ pin_numbers unit.now pins.now }
 {
     let mut numbers = Counts::new();
     for i in 0..pins.len() {
-        let pin = pins.at(i);
-        let bank = banks.at(i);
-        let beginning = beginning_of(unit.width(pin.counter), pin.threshold);
-        let rest = match unit.register(pin.counter) {
-            Some(value) => value.saturating_sub(beginning),
-            None => 0,
-        };
-        numbers.push(bank + rest);
+        numbers.push(unit.count(pins.at(i).counter));
     }
     numbers
 }
@@ -60,7 +49,7 @@ pub fn numbers_of(units: &Vec<Unit>, slot: &Slot, time: u64) -> Counts
     match &slot.rotation {
         Some(rotation) => numbers_in_turns(rotation, time - slot.begun, &slot.kept),
         None => match slot.set.component() {
-            Some(comp) => numbers_on_unit(&units[comp as usize], &slot.pins, &slot.kept),
+            Some(comp) => numbers_on_unit(&units[comp as usize], &slot.pins),
             None => slot.kept.copy(),
         },
     }

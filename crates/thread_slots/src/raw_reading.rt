@@ -1,8 +1,7 @@
 //! The register of a counter of a running set.
 ghost use Rattle.std.specs.Prelude.{◌≡◌, Some};
 ghost use Rattle.session_model.specs.Faces.{at};
-ghost use Rattle.thread_slots.specs.RawRegister.{register_on, register_shown, register_under};
-ghost use Rattle.thread_slots.specs.Slots.{face_of_slot};
+ghost use Rattle.thread_slots.specs.RawRegister.{register_on, register_under};
 
 use crate::slot::Slot;
 use counter_unit::Unit;
@@ -24,10 +23,14 @@ fn register_on(unit: &Unit, slice: Option<u32>, c: u32) -> Result<u64, Code>
     }
 }
 
-/// The register of a counter on the unit of the set's component.
-fn register_of(units: &[Unit], slot: &Slot, c: u32) -> Result<u64, Code>
-    ensures { result ≡ register_shown units.now (face_of_slot slot.now) c }
+/// The register of a counter, for the set under a number: ENOEVST where there is none, ENOTRUN where it does not run, EINVAL
+/// where its component lacks the counter or none of its native events is on it, ECOMBO where they take turns.
+pub fn register_under(slots: &[Option<Slot>], units: &[Unit], set: u32, c: u32) -> Result<u64, Code>
+    ensures { result ≡ register_under units.now (at slots.now set) c }
 {
+    let Some(Some(slot)) = slots.get(set as usize) else {
+        return Err(Code::Enoevst);
+    };
     if !slot.running {
         return Err(Code::Enotrun);
     }
@@ -37,16 +40,5 @@ fn register_of(units: &[Unit], slot: &Slot, c: u32) -> Result<u64, Code>
             None => Err(Code::Einval),
         },
         None => Err(Code::Einval),
-    }
-}
-
-/// The register of a counter, for the set under a number: ENOEVST where there is none, ENOTRUN where it does not run, EINVAL
-/// where its component lacks the counter or none of its native events is on it, ECOMBO where they take turns.
-pub fn register_under(slots: &[Option<Slot>], units: &[Unit], set: u32, c: u32) -> Result<u64, Code>
-    ensures { result ≡ register_under units.now (at slots.now set) c }
-{
-    match slots.get(set as usize) {
-        Some(Some(slot)) => register_of(units, slot, c),
-        _ => Err(Code::Enoevst),
     }
 }

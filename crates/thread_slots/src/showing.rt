@@ -1,7 +1,8 @@
-//! What calls show of a set (PAPI_read(3), PAPI_list_events(3)).
+//! What calls show of a set (PAPI_read(3), PAPI_list_events(3), PAPI_state(3)).
 ghost use Rattle.std.specs.Prelude.{◌≡◌, ◌<◌, None, Some, length};
 ghost use Rattle.event_sets.specs.Assigning.{counters_for};
 ghost use Rattle.session_model.specs.Faces.{at};
+ghost use Rattle.session_model.specs.Replies.{state_bits};
 ghost use Rattle.thread_slots.specs.Shown.{IsTellable, values_shown};
 ghost use Rattle.thread_slots.specs.declared.slot.Slot.{Slot};
 
@@ -9,6 +10,7 @@ use crate::measuring::numbers_of;
 use crate::slot::Slot;
 use crate::values::values_of;
 use counter_unit::Unit;
+use papi_base::bits::state_of;
 use papi_base::{Events, Natives, Places, Values};
 use postfix_rules::PresetBook;
 use session_model::Assigned;
@@ -22,18 +24,8 @@ fn values_at(slot: &Slot, units: &Vec<Unit>, book: &PresetBook, time: u64) -> Va
     values_of(book, &slot.set, &numbers)
 }
 
-/// The values of the set in a place, and none where there is no set.
-fn values_in(place: &Option<Slot>, units: &Vec<Unit>, book: &PresetBook, time: u64) -> Values
-    requires { (slot : Slot) → place.now ≡ Some slot → IsTellable book.now units.now.items time slot }
-    ensures { (slot : Slot) → place.now ≡ Some slot → result ≡ values_shown book.now units.now.items time slot }
-{
-    match place {
-        Some(slot) => values_at(slot, units, book, time),
-        None => Values::new(),
-    }
-}
-
 /// The values of the events of the set under a number.
+#[tactic(auto, using(crate::proofs::Lists::at_read, crate::proofs::Lists::place_is))]
 pub fn values_under(
     slots: &Vec<Option<Slot>>,
     units: &Vec<Unit>,
@@ -45,7 +37,10 @@ pub fn values_under(
     requires tellable { (slot : Slot) → at slots.now.items set ≡ Some slot → IsTellable book.now units.now.items time slot }
     ensures { (slot : Slot) → at slots.now.items set ≡ Some slot → result ≡ values_shown book.now units.now.items time slot }
 {
-    values_in(&slots[set as usize], units, book, time)
+    match &slots[set as usize] {
+        Some(slot) => values_at(slot, units, book, time),
+        None => Values::new(),
+    }
 }
 
 /// The events of the set under a number.
@@ -58,17 +53,16 @@ pub fn events_under(slots: &[Option<Slot>], set: u32) -> Events
     }
 }
 
-/// The native events of a set that is not multiplexed, and the counter of each.
-fn assigned_of(slot: &Slot) -> Assigned
-    ensures { slot.now.set.rest.slice ≡ None → result ≡ record { natives = slot.now.set.natives; counters = counters_for slot.now.set.natives } }
+/// The bits of the state of the set under a number, and 0 where there is none.
+pub fn bits_under(slots: &[Option<Slot>], set: u32) -> u32
+    ensures { (slot : Slot) → at slots.now set ≡ Some slot → result ≡ state_bits slot.running slot.set.rest }
 {
-    let counters = match slot.set.assignment() {
-        Some(counters) => counters,
-        None => Places::new(),
-    };
-    Assigned {
-        natives: slot.set.natives().copy(),
-        counters,
+    match slots.get(set as usize) {
+        Some(Some(slot)) => {
+            let multiplexed = slot.set.slice().is_some();
+            u32::from(state_of(slot.running, slot.set.is_armed(), multiplexed).0)
+        }
+        _ => 0,
     }
 }
 
@@ -79,7 +73,10 @@ pub fn assigned_under(slots: &[Option<Slot>], set: u32) -> Assigned
         → result ≡ record { natives = slot.set.natives; counters = counters_for slot.set.natives } }
 {
     match slots.get(set as usize) {
-        Some(Some(slot)) => assigned_of(slot),
+        Some(Some(slot)) => Assigned {
+            natives: slot.set.natives().copy(),
+            counters: slot.set.assignment().unwrap_or(Places::new()),
+        },
         _ => Assigned {
             natives: Natives::new(),
             counters: Places::new(),

@@ -10,8 +10,8 @@ use overflow_dispatch::Thresholds;
 use papi_base::{Counts, Values};
 use std::alloc::{AllocError, Global};
 
-/// An event set, and what is kept of it. A running set keeps for each native event what was carried away out of its
-/// register, or, where the native events take turns, what it counted; a stopped set keeps what each counted.
+/// An event set, and what is kept of it: what each native event counted before a set stopped, and in the turns of its group
+/// where they take turns. While a set is on its unit, the unit has the counts.
 #[derive(Drop)]
 pub struct Slot {
     pub set: EventSet,

@@ -84,6 +84,7 @@ fn armed_on(book: &PresetBook, set: &EventSet, counters: &Places) -> Thresholds
 }
 
 /// Programs each pin on its counter.
+#[tactic(auto, using(crate::proofs::Beginning::programs_more))]
 pub fn program_all(unit: &mut Unit, pins: &Pins, domain: Domain)
     requires pinned { ArePinned unit.old.widths pins.now }
     requires widths { AreWidths unit.old.widths }
@@ -149,17 +150,6 @@ fn begin_slot(unit: &mut Unit, slot: &mut Slot, book: &PresetBook, now: u64)
     }
 }
 
-/// What is in a place begins.
-fn begin_place(unit: &mut Unit, place: &mut Option<Slot>, book: &PresetBook, now: u64)
-    requires { (slot : Slot) → place.old ≡ Some slot → IsStartable book.now unit.old slot }
-    ensures unit { (slot : Slot) → place.old ≡ Some slot → unit.new ≡ (begun book.now now unit.old slot).unit }
-    ensures place { (slot : Slot) → place.old ≡ Some slot → place.new ≡ Some (begun book.now now unit.old slot).slot }
-{
-    if let Some(slot) = place {
-        begin_slot(unit, slot, book, now);
-    }
-}
-
 /// The component of the set under a number.
 pub fn component_under(slots: &[Option<Slot>], set: u32) -> Option<u32>
     ensures { result ≡ option_and_then (λ k. k.set.rest.component) (at slots.now set) }
@@ -171,6 +161,7 @@ pub fn component_under(slots: &[Option<Slot>], set: u32) -> Option<u32>
 }
 
 /// The set under a number begins at this time, on the unit of its component.
+#[tactic(auto, using(crate::proofs::Lists::at_read, crate::proofs::Lists::place_is, crate::proofs::Lists::item_read))]
 pub fn begin_under(
     units: &mut Vec<Unit>,
     slots: &mut Vec<Option<Slot>>,
@@ -192,12 +183,9 @@ pub fn begin_under(
         → slice_get units.old.items comp ≡ Some unit
         → slots.new.items ≡ slice_set slots.old.items set (Some (begun book.now now unit slot).slot) }
 {
-    if let Some(comp) = component_under(slots, set) {
-        begin_place(
-            &mut units[comp as usize],
-            &mut slots[set as usize],
-            book,
-            now,
-        );
+    if let Some(slot) = &mut slots[set as usize] {
+        if let Some(comp) = slot.set.component() {
+            begin_slot(&mut units[comp as usize], slot, book, now);
+        }
     }
 }

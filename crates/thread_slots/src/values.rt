@@ -1,5 +1,5 @@
 //! The values of a set's events (PAPI_read(3)).
-ghost use Rattle.std.specs.Prelude.{◌≡◌, ℕ, ◌^◌, ◌<◌, ◌≤◌, All, length, map, pos, take};
+ghost use Rattle.std.specs.Prelude.{◌≡◌, ◌^◌, ◌<◌, ◌≤◌, All, length, map, pos, take};
 ghost use Rattle.postfix_rules.specs.Fitting.{IsHeld};
 ghost use Rattle.postfix_rules.specs.Presets.{event_value};
 ghost use Rattle.thread_slots.specs.Shown.{number_in};

@@ -1,8 +1,5 @@
 -- those that are left are all taken where all are
-use Rattle.std.proofs.Common.{◌≡◌, drop}
-use Rattle.std.specs.Prelude.{is_some}
-use Rattle.std.specs.List.{list_all}
-use Rattle.thread_core.specs.Refusing.{slot_faces}
+use Rattle.thread_core.proofs.Words.{list_all, is_some, slot_faces, drop, ◌≡◌}
 use Rattle.thread_core.proofs.refusal.all_taken.Given as goal
 
 abbrev pub invariant-loop-place : goal.invariant-loop-place

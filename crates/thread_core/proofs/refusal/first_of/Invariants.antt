@@ -1,7 +1,5 @@
 -- none of the checks before this one holds
-use Rattle.std.proofs.Common.{◌≡◌, drop, map}
-use Rattle.session_model.specs.Refusals.{first_of, row}
-use Rattle.thread_core.specs.Refusing.{first_code}
+use Rattle.thread_core.proofs.Words.{first_code, drop, ◌≡◌, first_of, map, row}
 use Rattle.thread_core.proofs.refusal.first_of.Given as goal
 
 abbrev pub invariant-loop-check : goal.invariant-loop-check

@@ -1,8 +1,6 @@
 -- those that are left have one that runs where all do
-use Rattle.std.proofs.Common.{◌≡◌, drop}
-use Rattle.std.specs.List.{list_any}
+use Rattle.thread_core.proofs.Words.{list_any, slot_faces, drop, ◌≡◌}
 use Rattle.session_model.specs.Faces.{is_running}
-use Rattle.thread_core.specs.Refusing.{slot_faces}
 use Rattle.thread_core.proofs.refusal.some_is_running.Given as goal
 
 abbrev pub invariant-loop-place : goal.invariant-loop-place

@@ -1,7 +1,4 @@
-use Rattle.std.proofs.Common.{◌≡◌, map, drop}
-use Rattle.std.specs.Option.{option_map}
-use Rattle.thread_slots.specs.Slots.{face_of_slot}
-use Rattle.thread_slots.specs.Units.{owner_from}
+use Rattle.thread_core.proofs.Words.{owner_from, map, option_map, face_of_slot, drop, ◌≡◌}
 use Rattle.thread_core.proofs.running.running_on.Given as goal
 
 abbrev pub invariant-loop-number : goal.invariant-loop-number

@@ -1,7 +1,5 @@
-use Rattle.std.proofs.Common.{◌≤◌, ◌+◌, ℕ, length, arith, ap, ◌∙◌}
-use Rattle.std.proofs.lemmas.Option.{slice_get_within}
-use Rattle.papi_base.specs.Widths.{AreWidths}
-use Rattle.thread_core.proofs.Opening.{one_more, unit_more}
+use Rattle.thread_core.proofs.Words.{◌∙◌, ap, ℕ, ◌+◌, length, ◌≤◌, AreWidths, arith, slice_get_within}
+use Rattle.thread_core.proofs.Opening.{unit_more, one_more}
 use Rattle.thread_core.proofs.thread.empty_units.Goals as goal
 
 pub loop-comp-preserved : goal.loop-comp-preserved
@@ -11,10 +9,10 @@ loop-comp-preserved c =
     let shape = c.args.shape.now in
     let at = c.comp.ensures.counters in
     record {
-      done = rw (c.in_ok-push.ensures.items, c.new-unit.ensures.unit) (unit_more shape c.loop-comp.units.items _ i c.comp.result.now at inv.done);
+      done = rw (c.in_ok-push.ensures.items, c.new.ensures.unit) (unit_more shape c.loop-comp.units.items _ i c.comp.result.now at inv.done);
       len = c.in_ok-push.ensures.len ∙ ap (λ (n : ℕ). n + 1) inv.len;
-      few = one_more (λ ws. length ws ≤ 32) shape i c.comp.result.now at c.new-unit.ensures.few inv.few;
-      widths = one_more AreWidths shape i c.comp.result.now at c.new-unit.ensures.widths inv.widths;
+      few = one_more (λ ws. length ws ≤ 32) shape i c.comp.result.now at c.new.ensures.few inv.few;
+      widths = one_more AreWidths shape i c.comp.result.now at c.new.ensures.widths inv.widths;
     }
 
 pub returns-clause-shape : goal.returns-clause-shape

@@ -1,6 +1,5 @@
-use Rattle.std.proofs.Common.{◌≡◌, ℕ, ◌++◌, ◌<◌, ◌≤◌, List, map, drop, length, vec_len, slice_get, Some}
-use Rattle.papi_base.specs.Widths.{AreWidths}
-use Rattle.thread_slots.specs.Units.{empty_unit}
+use Rattle.thread_core.proofs.Words.{◌++◌, map, empty_unit, drop, ◌≡◌, ℕ, List, ◌<◌, slice_get, Some, length, ◌≤◌, AreWidths}
+use Rattle.std.proofs.Common.{vec_len}
 use Rattle.thread_core.proofs.thread.empty_units.Given as goal
 
 abbrev pub invariant-loop-comp : goal.invariant-loop-comp

@@ -1,5 +1,4 @@
-use Rattle.std.proofs.Common.{◌≡◌, ◌++◌, drop, length}
-use Rattle.session_model.specs.Values.{sums}
+use Rattle.thread_slots.proofs.Words.{◌≡◌, ◌++◌, drop, length, sums}
 use Rattle.thread_slots.proofs.accumulating.sums.Given as goal
 
 abbrev pub invariant-loop-i : goal.invariant-loop-i

@@ -1,8 +1,5 @@
-use Rattle.std.proofs.Common.{◌≡◌, set, ap, sym, refl, ◌∙◌, Some, slice_get, arith}
-use Rattle.std.specs.Option.{option_copied}
-use Rattle.std.proofs.lemmas.Option.{slice_get_read}
-use Rattle.thread_slots.specs.Counted.{CountedAll, counted_all}
-use Rattle.thread_slots.proofs.Chosen.{chosen, the_all}
+use Rattle.thread_slots.proofs.Words.{◌≡◌, ap, sym, refl, ◌∙◌, Option, Some, None, slice_get, arith, unwrap_or, option_copied, slice_get_read, Slot}
+use Rattle.thread_slots.specs.Counted.{counted_all, counted_at, counted_over, counted_place, placed}
 use Rattle.thread_slots.proofs.Lists.{some-at}
 use Rattle.thread_slots.proofs.counting.count_all.Goals as goal
 use Rattle.thread_slots.proofs.counting.count_all.Goals.{After-noting_set}
@@ -20,21 +17,31 @@ count_place-passed-requires c slot is =
     (ap (slice_get c.args.units.now.items) (sym c.from-comp.ensures) ∙ slice_get_read c.args.units.now.items _ c.from-comp.result c.index_mut.result.now refl (let lt = h.has_unit in let e = c.from-comp.ensures in omega arith) c.index_mut.ensures.value)
     (some-at c.args.slots.now.items c.in-Some.number slot (slice_get_read c.args.slots.now.items _ c.in-Some.number c.index_mut-in-Some.result.now refl h.has_place c.index_mut-in-Some.ensures.value ∙ ap Some is))
 
-all : (c : After-noting_set) → the_all (set c.args.units.now.items c.from-comp.result c.count_place-passed.new.unit) (set c.args.slots.now.items c.in-Some.number c.count_place-passed.new.place) c.noting_set.result c.count_place-passed.result ≡ counted_all (option_copied c.args.before) c.args.o.now c.args.units.now.items c.args.slots.now.items
+-- the set that runs on the occurrence's component is counted on its unit
+all : (c : After-noting_set)
+    → counted_all (option_copied c.args.before) c.args.o.now c.args.units.now.items c.args.slots.now.items
+    ≡ placed c.args.o.now.comp c.in-Some.number c.args.units.now.items c.args.slots.now.items (counted_place (option_copied c.args.before) c.args.o.now c.index_mut.result.now c.index_mut-in-Some.result.now)
 all c =
-    let h = c.requires.countable c.in-Some.number (sym c.requires.runner ∙ c.in-Some.is) in
-    chosen (option_copied c.args.before) c.args.o.now c.args.units.now.items c.args.slots.now.items c.from-comp.result c.in-Some.number c.index_mut.result.now c.count_place-passed.new.unit c.index_mut-in-Some.result.now c.count_place-passed.new.place c.noting_set.result c.count_place-passed.result
-    c.from-comp.ensures (sym c.requires.runner ∙ c.in-Some.is) (let lt = h.has_unit in let e = c.from-comp.ensures in omega arith) h.has_place c.index_mut.ensures.value c.index_mut-in-Some.ensures.value
-    c.count_place-passed.ensures.unit c.count_place-passed.ensures.place c.count_place-passed.ensures.passed c.noting_set.ensures
+    let b = option_copied c.args.before in
+    let o = c.args.o.now in
+    let us = c.args.units.now.items in
+    let ss = c.args.slots.now.items in
+    let k = c.in-Some.number in
+    let h = c.requires.countable k (sym c.requires.runner ∙ c.in-Some.is) in
+    let unit = ap (slice_get us) (sym c.from-comp.ensures) ∙ slice_get_read us _ c.from-comp.result c.index_mut.result.now refl (let lt = h.has_unit in let e = c.from-comp.ensures in omega arith) c.index_mut.ensures.value in
+    let place = slice_get_read ss _ k c.index_mut-in-Some.result.now refl h.has_place c.index_mut-in-Some.ensures.value in
+    ap (counted_over b o us ss) (sym c.requires.runner ∙ c.in-Some.is)
+    ∙ ap (counted_at b o us ss k) unit
+    ∙ ap (λ (p : Option (Option Slot)). placed o.comp k us ss (counted_place b o c.index_mut.result.now (unwrap_or p None))) place
 
 pub returns-in-Some-clause-units : goal.returns-in-Some-clause-units
-returns-in-Some-clause-units c = ap (λ (x : CountedAll). x.units) (all c)
+returns-in-Some-clause-units c = rw (all c, c.from-comp.ensures, c.count_place-passed.ensures.unit) refl
 
 pub returns-in-Some-clause-slots : goal.returns-in-Some-clause-slots
-returns-in-Some-clause-slots c = ap (λ (x : CountedAll). x.slots) (all c)
+returns-in-Some-clause-slots c = rw (all c, c.count_place-passed.ensures.place) refl
 
 pub returns-in-Some-clause-set : goal.returns-in-Some-clause-set
-returns-in-Some-clause-set c = ap (λ (x : CountedAll). x.set) (all c)
+returns-in-Some-clause-set c = rw (all c, c.noting_set.ensures, c.count_place-passed.ensures.passed) refl
 
 pub returns-in-Some-clause-passed : goal.returns-in-Some-clause-passed
-returns-in-Some-clause-passed c = ap (λ (x : CountedAll). x.passed) (all c)
+returns-in-Some-clause-passed c = rw (all c, c.count_place-passed.ensures.passed) refl

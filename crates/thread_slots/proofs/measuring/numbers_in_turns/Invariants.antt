@@ -1,5 +1,4 @@
-use Rattle.std.proofs.Common.{◌≡◌, ◌++◌, drop, length}
-use Rattle.thread_slots.specs.Shown.{turn_numbers}
+use Rattle.thread_slots.proofs.Words.{◌≡◌, ◌++◌, drop, length, turn_numbers}
 use Rattle.thread_slots.proofs.measuring.numbers_in_turns.Given as goal
 
 abbrev pub invariant-loop-i : goal.invariant-loop-i

@@ -8,17 +8,8 @@ overflow_sub-time c = let h = c.requires.in_turns c.in-Some.rotation c.if-not-sl
 pub numbers_in_turns-requires-clause-total : goal.numbers_in_turns-requires-clause-total
 numbers_in_turns-requires-clause-total c = let h = c.requires.in_turns c.in-Some.rotation c.if-not-slot.false c.in-Some.is in let a = h.short in omega arith
 
-pub numbers_on_unit-requires-clause-same_length : goal.numbers_on_unit-requires-clause-same_length
-numbers_on_unit-requires-clause-same_length c = let h = counts_on c.args.units.now.items c.args.slot.now c.args.time c.in-Some-component.comp c.component.result c.index.result.now c.requires c.if-not-slot.false c.in-Some-component.is c.component.ensures c.index.ensures in h.2.same_length c.in-None.is
-
-pub numbers_on_unit-requires-clause-room : goal.numbers_on_unit-requires-clause-room
-numbers_on_unit-requires-clause-room c = let h = counts_on c.args.units.now.items c.args.slot.now c.args.time c.in-Some-component.comp c.component.result c.index.result.now c.requires c.if-not-slot.false c.in-Some-component.is c.component.ensures c.index.ensures in h.2.room
-
-pub numbers_on_unit-requires-clause-pinned : goal.numbers_on_unit-requires-clause-pinned
-numbers_on_unit-requires-clause-pinned c = let h = counts_on c.args.units.now.items c.args.slot.now c.args.time c.in-Some-component.comp c.component.result c.index.result.now c.requires c.if-not-slot.false c.in-Some-component.is c.component.ensures c.index.ensures in h.2.pinned c.in-None.is
-
-pub numbers_on_unit-requires-clause-few : goal.numbers_on_unit-requires-clause-few
-numbers_on_unit-requires-clause-few c = let h = counts_on c.args.units.now.items c.args.slot.now c.args.time c.in-Some-component.comp c.component.result c.index.result.now c.requires c.if-not-slot.false c.in-Some-component.is c.component.ensures c.index.ensures in h.2.few
+pub numbers_on_unit-requires : goal.numbers_on_unit-requires
+numbers_on_unit-requires c = let h = counts_on c.args.units.now.items c.args.slot.now c.args.time c.in-Some-component.comp c.component.result c.index.result.now c.requires c.if-not-slot.false c.in-Some-component.is c.component.ensures c.index.ensures in h.2.pinned c.in-None.is
 
 pub returns-in-Some-component : goal.returns-in-Some-component
 returns-in-Some-component c =

@@ -1,9 +1,8 @@
-use Rattle.std.proofs.Common.{◌≡◌, ◌++◌, drop, length}
-use Rattle.thread_slots.specs.Shown.{pin_numbers}
+use Rattle.thread_slots.proofs.Words.{◌≡◌, ◌++◌, drop, length, pin_numbers}
 use Rattle.thread_slots.proofs.measuring.numbers_on_unit.Given as goal
 
 abbrev pub invariant-loop-i : goal.invariant-loop-i
 invariant-loop-i l = record {
   so_far : length l.numbers ≡ l.i;
-  done : l.numbers ++ pin_numbers l.unit (drop l.i l.pins) (drop l.i l.banks) ≡ pin_numbers l.unit l.pins l.banks;
+  done : l.numbers ++ pin_numbers l.unit (drop l.i l.pins) ≡ pin_numbers l.unit l.pins;
 }

@@ -1,6 +1,4 @@
-use Rattle.std.proofs.Common.{◌≡◌, ◌+◌, drop}
-use Rattle.std.specs.List.{position_or_len}
-use Rattle.postfix_rules.specs.Sameness.{same_native}
+use Rattle.thread_slots.proofs.Words.{◌≡◌, ◌+◌, drop, position_or_len, same_native}
 use Rattle.thread_slots.proofs.places.place_of.Given as goal
 
 abbrev pub invariant-loop-i : goal.invariant-loop-i

@@ -1,8 +1,5 @@
-use Rattle.thread_slots.proofs.Lists.{at_read, place_is}
+use Rattle.thread_slots.proofs.Lists.{at_read}
 use Rattle.thread_slots.proofs.showing.values_under.Goals as goal
 
-pub values_in-requires : goal.values_in-requires
-values_in-requires c slot is = c.requires.tellable slot (at_read c.args.slots.now.items c.args.set c.index.result.now slot c.requires.inside c.index.ensures is)
-
-pub returns : goal.returns
-returns c slot e = c.values_in.ensures slot (place_is c.args.slots.now.items c.args.set c.index.result.now slot c.requires.inside c.index.ensures e)
+pub values_at-requires : goal.values_at-requires
+values_at-requires c = c.requires.tellable c.in-Some.slot (at_read c.args.slots.now.items c.args.set c.index.result.now c.in-Some.slot c.requires.inside c.index.ensures c.in-Some.is)

@@ -1,6 +1,5 @@
-use Rattle.std.proofs.Common.{◌<◌, List, sym, subst}
-use Rattle.std.specs.Prelude.{All}
-use Rattle.papi_base.specs.declared.native.Native.{Native}
+use Rattle.thread_slots.proofs.Words.{List, sym, subst, All, Native}
+use Rattle.std.proofs.Common.{◌<◌}
 use Rattle.thread_slots.proofs.Beginning.{slice_some}
 use Rattle.thread_slots.proofs.starting.begin_in_turns.Goals as goal
 

@@ -1,5 +1,4 @@
-use Rattle.std.proofs.Common.{◌≡◌, ◌++◌, drop, length}
-use Rattle.thread_slots.specs.Pinned.{pins_from}
+use Rattle.thread_slots.proofs.Words.{◌≡◌, ◌++◌, drop, length, pins_from}
 use Rattle.thread_slots.proofs.starting.pins_on.Given as goal
 
 abbrev pub invariant-loop-i : goal.invariant-loop-i

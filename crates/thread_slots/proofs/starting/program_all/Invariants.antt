@@ -1,5 +1,4 @@
-use Rattle.std.proofs.Common.{◌≡◌, drop}
-use Rattle.thread_slots.specs.Pinned.{programs}
+use Rattle.thread_slots.proofs.Words.{◌≡◌, drop, programs}
 use Rattle.thread_slots.proofs.starting.program_all.Given as goal
 
 abbrev pub invariant-loop-i : goal.invariant-loop-i

@@ -1,5 +1,4 @@
-use Rattle.std.proofs.Common.{◌≡◌, ap, sym, ◌∙◌, arith, inl, inr, Some, slice_get, length}
-use Rattle.papi_base.proofs.InPlace.{number_at}
+use Rattle.thread_slots.proofs.Words.{◌≡◌, ap, sym, ◌∙◌, arith, inl, inr, Some, slice_get, length, number_at}
 use Rattle.thread_slots.proofs.Beginning.{threshold_hit, threshold_miss}
 use Rattle.thread_slots.proofs.Lists.{get_at}
 use Rattle.thread_slots.proofs.starting.threshold_on.Goals as goal

@@ -1,5 +1,4 @@
-use Rattle.std.proofs.Common.{◌≡◌, drop}
-use Rattle.session_model.specs.Registers.{threshold_among}
+use Rattle.thread_slots.proofs.Words.{◌≡◌, drop, threshold_among}
 use Rattle.thread_slots.proofs.starting.threshold_on.Given as goal
 
 abbrev pub invariant-loop-i : goal.invariant-loop-i

@@ -1,7 +1,6 @@
-use Rattle.std.proofs.Common.{pos, ap, ◌∙◌, arith, w64}
+use Rattle.thread_slots.proofs.Words.{pos, ap, ◌∙◌, arith, w64, number_in}
 use Rattle.std.proofs.Math.ListN.{length-set}
 use Rattle.std.proofs.lemmas.Int.{to_z_pos}
-use Rattle.thread_slots.specs.Shown.{number_in}
 use Rattle.thread_slots.proofs.Searching.{number_small, own_more}
 use Rattle.thread_slots.proofs.values.own_numbers.Goals as goal
 

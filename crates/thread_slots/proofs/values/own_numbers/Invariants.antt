@@ -1,5 +1,4 @@
-use Rattle.std.proofs.Common.{◌≡◌, map, take, pos, length}
-use Rattle.thread_slots.specs.Shown.{number_in}
+use Rattle.thread_slots.proofs.Words.{◌≡◌, map, take, pos, length, number_in}
 use Rattle.thread_slots.proofs.values.own_numbers.Given as goal
 
 abbrev pub invariant-loop-i : goal.invariant-loop-i

@@ -1,8 +1,4 @@
-use Rattle.std.specs.Prelude.{FitsSigned}
-use Rattle.std.proofs.Common.{rules, ◌∷◌, [], arith, w64, length-append}
-use Rattle.std.proofs.lemmas.Int.{to_z-of_z}
-use Rattle.postfix_rules.specs.Presets.{event_value}
-use Rattle.thread_slots.specs.Shown.{number_in}
+use Rattle.thread_slots.proofs.Words.{FitsSigned, rules, ◌∷◌, [], arith, w64, length-append, to_z-of_z, event_value, number_in}
 use Rattle.thread_slots.proofs.Searching.{map_more}
 use Rattle.thread_slots.proofs.values.values_of.Goals as goal
 

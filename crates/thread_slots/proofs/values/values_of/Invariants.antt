@@ -1,6 +1,4 @@
-use Rattle.std.proofs.Common.{◌≡◌, ◌++◌, length, map, drop}
-use Rattle.postfix_rules.specs.Presets.{event_value}
-use Rattle.thread_slots.specs.Shown.{number_in}
+use Rattle.thread_slots.proofs.Words.{◌≡◌, ◌++◌, length, map, drop, event_value, number_in}
 use Rattle.thread_slots.proofs.values.values_of.Given as goal
 
 abbrev pub invariant-loop-i : goal.invariant-loop-i

@@ -1,14 +1,20 @@
-use Rattle.std.proofs.Common.{length}
+use Rattle.std.proofs.Common.{length, refl, Option, None}
+use Rattle.std.proofs.lemmas.List.{take-replicate, length-replicate}
+use Rattle.counter_unit.specs.declared.registers.Register.{Register}
 use Rattle.counter_unit.proofs.Places.{AreSound-empty}
-use Rattle.counter_unit.proofs.Setting.{AreSetUp-none}
 use Rattle.counter_unit.proofs.unit.Unit.new.Goals as goal
 
 pub invariant_of-result : goal.invariant_of-result
-invariant_of-result c = rw (c.empty.ensures, c.copy.ensures.same, c.counters.ensures.length) record {
-  few = c.counters.ensures.short;
-  are_widths = c.counters.ensures.widths;
-  sound = AreSound-empty c.args.shape.now;
-  selects = c.none.ensures (length c.args.shape.now);
-  places = c.none-2.ensures;
-  set_up = AreSetUp-none c.args.shape.now _ (length c.args.shape.now);
-}
+invariant_of-result c =
+    let none : Option Register = None in
+    let empty = take-replicate (length c.args.shape.now) 32 none c.counters-counters.ensures.short in
+    rw c.copy.ensures.same record {
+      few = c.counters-counters.ensures.short;
+      are_widths = c.counters-counters.ensures.widths;
+      long = length-replicate 32 none;
+      sound = rw empty (AreSound-empty c.args.shape.now);
+      selects = rw empty (c.none.ensures (length c.args.shape.now));
+    }
+
+pub returns-clause-unit : goal.returns-clause-unit
+returns-clause-unit c = rw (c.copy.ensures.same, take-replicate (length c.args.shape.now) 32 (let none : Option Register = None in none) c.counters-counters.ensures.short) refl

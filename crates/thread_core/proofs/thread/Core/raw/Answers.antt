@@ -1,9 +1,4 @@
-use Rattle.std.proofs.Common.{List, Option, ap, ap₂, ◌∙◌}
-use Rattle.counter_unit.specs.Counting.{UnitView}
-use Rattle.session_model.specs.Faces.{at}
-use Rattle.thread_slots.specs.declared.slot.Slot.{Slot}
-use Rattle.thread_core.specs.CoreView.{CoreView}
-use Rattle.thread_slots.specs.RawRegister.{register_under}
+use Rattle.thread_core.proofs.Answering.{◌∙◌, ap₂, List, UnitView, Option, Slot, register_under, at, ap, CoreView}
 use Rattle.thread_core.proofs.RawRegisters.{raw_follows}
 use Rattle.thread_core.proofs.thread.Core.raw.Goals as goal
 

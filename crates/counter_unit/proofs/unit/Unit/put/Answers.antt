@@ -1,0 +1,33 @@
+use Rattle.std.proofs.Common.{◌≡◌, ◌<◌, ap, arith, length, take, set, ◌∙◌}
+use Rattle.std.proofs.Math.Seq.{take-set-lt}
+use Rattle.std.proofs.lemmas.List.{length-set}
+use Rattle.counter_unit.specs.Counting.{UnitView}
+use Rattle.counter_unit.proofs.Places.{AreSound-put}
+use Rattle.counter_unit.proofs.unit.Unit.put.Goals as goal
+
+pub put-requires : goal.put-requires
+put-requires c = let few = c.self.invariant.few in let shape : c.self.inside.shape ≡ c.args.self.now.widths = ap (λ (v : UnitView). v.widths) c.self.view_is in let exists : c.args.c < length c.self.inside.shape = rw shape c.requires.exists in omega arith
+
+pub invariant_of-self : goal.invariant_of-self
+invariant_of-self c =
+    let ws = c.self.inside.shape in
+    let rs = take (length ws) c.self.inside.registers in
+    let shape : ws ≡ c.args.self.now.widths = ap (λ (v : UnitView). v.widths) c.self.view_is in
+    let exists : c.args.c < length ws = rw shape c.requires.exists in
+    let long = c.self.invariant.sound.same_length in
+    let put = take-set-lt (length ws) c.self.inside.registers c.args.c c.args.place exists in
+    record {
+      few = c.self.invariant.few;
+      are_widths = c.self.invariant.are_widths;
+      long = length-set c.self.inside.registers c.args.c c.args.place ∙ c.self.invariant.long;
+      sound = rw put (AreSound-put ws rs c.args.c c.args.place exists (rw shape c.requires.sound) c.self.invariant.sound);
+      selects = rw put (c.put.ensures rs (omega arith) c.self.invariant.selects);
+    }
+
+pub returns : goal.returns
+returns c =
+    let ws = c.self.inside.shape in
+    let shape : ws ≡ c.args.self.now.widths = ap (λ (v : UnitView). v.widths) c.self.view_is in
+    let exists : c.args.c < length ws = rw shape c.requires.exists in
+    ap (λ rs. record { widths = ws; registers = rs }) (take-set-lt (length ws) c.self.inside.registers c.args.c c.args.place exists)
+    ∙ ap (λ (v : UnitView). record v { registers = set v.registers c.args.c c.args.place }) c.self.view_is
