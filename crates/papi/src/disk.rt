@@ -1,4 +1,4 @@
-// The files of the disk.
+//! The files of the disk.
 ghost use Rattle.std.specs.Prelude.{None};
 
 use papi_base::{Failed, Files, OpenFail, ReadSource, Source};

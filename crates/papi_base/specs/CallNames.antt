@@ -3,6 +3,7 @@ use Rattle.std.specs.Prelude.{ℕ, List, codes}
 use Rattle.papi_base.specs.declared.call_name.CallName.{CallName}
 use Rattle.papi_base.specs.declared.call_name.CallName.TheVariants as name
 
+-- the word of a call
 abbrev pub word_of : CallName → List ℕ
 word_of name.Register = codes "register"
 word_of name.Unregister = codes "unregister"

@@ -3,6 +3,7 @@ use Rattle.std.specs.Prelude.{ℤ, ℕ, List, codes, pos, negsuc}
 use Rattle.papi_base.specs.declared.code.Code.{Code}
 use Rattle.papi_base.specs.declared.code.Code.TheVariants as code
 
+-- the number of a code, papi.h
 abbrev pub number_of : Code → ℤ
 number_of code.Ok = pos 0
 number_of code.Einval = negsuc 0
@@ -17,6 +18,7 @@ number_of code.Eattr = negsuc 21
 number_of code.Ecount = negsuc 22
 number_of code.Ecombo = negsuc 23
 
+-- the name of a code, papi.h
 abbrev pub name_of : Code → List ℕ
 name_of code.Ok = codes "PAPI_OK"
 name_of code.Einval = codes "PAPI_EINVAL"

@@ -5,10 +5,12 @@ use Rattle.std.specs.List.{list_all}
 use Rattle.std.specs.Char.{digit_value}
 use Rattle.std.specs.Str.Parse.{digits_value}
 
+-- the list has no item
 abbrev pub is_empty : {X : Type 0} → List X → Bool
 is_empty [] = true
 is_empty (x ∷ xs) = false
 
+-- the byte is a decimal digit
 abbrev pub is_digit : ℕ → Bool
 is_digit b = nat_le 48 b && nat_le b 57
 
@@ -24,6 +26,7 @@ is_decimal t = is_numeral t && ((length t == 1) || not (slice_index t 0 == 48))
 unfoldable pub decimal_in : ℕ → ℕ → List ℕ → Option ℕ
 decimal_in low high t = if is_decimal t && (nat_le low (digits_value 10 t) && nat_le (digits_value 10 t) high) then Some (digits_value 10 t) else None
 
+-- the byte is a hexadecimal digit
 abbrev pub is_hex_digit : ℕ → Bool
 is_hex_digit b = nat_lt (digit_value b) 16
 
@@ -31,6 +34,7 @@ is_hex_digit b = nat_lt (digit_value b) 16
 unfoldable pub hex_in : ℕ → ℕ → List ℕ → Option ℕ
 hex_in few many t = if list_all is_hex_digit t && (nat_le few (length t) && nat_le (length t) many) then Some (digits_value 16 t) else None
 
+-- the bit of a flag
 abbrev pub flag_bit : Bool → ℕ
 flag_bit true = 1
 flag_bit false = 0

@@ -19,7 +19,9 @@ in_mode n d o = if (n.mods.user || n.mods.kernel) then (if o.kernel then n.mods.
 
 -- the native's condition holds at the occurrence
 abbrev pub holds : Native → Domain → Occ → Bool
-holds n d o = (n.comp == o.comp) && (n.select == o.select) && ((n.umask == 0) || share n.umask o.umask) && in_mode n d o && ((n.mods.cmask == 0) || differ (nat_le n.mods.cmask o.amount) n.mods.invert)
+holds n d o =
+    (n.comp == o.comp) && (n.select == o.select) && ((n.umask == 0) || share n.umask o.umask) && in_mode n d o
+    && ((n.mods.cmask == 0) || differ (nat_le n.mods.cmask o.amount) n.mods.invert)
 
 -- it held at the occurrence before, if there was one
 abbrev pub held : Native → Domain → Option Occ → Bool
