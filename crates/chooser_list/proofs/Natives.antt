@@ -43,7 +43,8 @@ pub component_events : (tables : List ComponentText) (comp : ℕ) (c : Component
 component_events tables comp c t here = let kept = all_at IsComponent tables comp c t.each here in kept.few_events
 
 -- a native of the event fits
-pub native_fits : (tables : List ComponentText) (comp row : ℕ) (e : EventText) (n : Native) → IsTables tables → event_at tables comp row ≡ Some e → n.comp ≡ comp → n.allowed ≡ e.allowed → Fits (shape_of tables) n
+pub native_fits : (tables : List ComponentText) (comp row : ℕ) (e : EventText) (n : Native) → IsTables tables → event_at tables comp row ≡ Some e
+    → n.comp ≡ comp → n.allowed ≡ e.allowed → Fits (shape_of tables) n
 native_fits tables comp row e n t at own allowed =
     let kept = event_kept tables comp row e t at in
     let inside = slice_get_within tables comp kept.component kept.here in

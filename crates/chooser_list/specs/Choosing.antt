@@ -21,12 +21,15 @@ pub record RefusedText : Type 0 where
   pub text : Text
   pub refusal : Refusal
 
+-- the set that holds the given events, or the first of their texts that was refused
 abbrev pub Given : Type 0
 Given = Result AtRest RefusedText
 
+-- the event of a text is refused: nothing more is added
 abbrev pub refused_by : Text → Refusal → Given
 refused_by text refusal = Err (record { text = text; refusal = refusal })
 
+-- the set after PAPI_add_event(3), or the text with the refusal of that call
 abbrev pub taken_unless : Option Refusal → Text → AtRest → Given
 taken_unless None text s = Ok s
 taken_unless (Some refusal) text s = refused_by text refusal
@@ -41,6 +44,7 @@ abbrev pub with_text : CatalogView → Given → Text → Given
 with_text catalog (Err refused) text = Err refused
 with_text catalog (Ok s) text = with_named catalog text s (looked_up catalog text)
 
+-- all texts in their order, up to the first that is refused
 unfoldable pub with_texts : CatalogView → Given → List Text → Given
 with_texts catalog given [] = given
 with_texts catalog given (text ∷ texts) = with_texts catalog (with_text catalog given text) texts
@@ -55,6 +59,7 @@ given_set catalog texts = with_texts catalog (Ok new_set) texts
 abbrev pub takes : CatalogView → AtRest → EventRef → Bool
 takes catalog s e = is_none (add_refusal catalog.book e s)
 
+-- the candidates that the set still takes, in their order
 abbrev pub taken : CatalogView → AtRest → Candidates → List EventRef
 taken catalog s which = filter (takes catalog s) (candidates catalog which)
 
@@ -64,9 +69,11 @@ taken catalog s which = filter (takes catalog s) (candidates catalog which)
 abbrev pub names_text : CatalogView → List EventRef → Text
 names_text catalog events = flat_map (λ e. event_name catalog e ++ 10 ∷ []) events
 
+-- the last line of a list, which says how many events it has
 abbrev pub total_text : ℕ → Text
 total_text total = codes "Total events: " ++ (decimal total ++ 10 ∷ [])
 
+-- the list of some events
 abbrev pub list_text : CatalogView → List EventRef → Text
 list_text catalog events = names_text catalog events ++ total_text (length events)
 
@@ -74,6 +81,7 @@ list_text catalog events = names_text catalog events ++ total_text (length event
 abbrev pub refused_text : CatalogView → RefusedText → Text
 refused_text catalog r = r.text ++ (58 ∷ (reply_text catalog (refused r.refusal) ++ 10 ∷ []))
 
+-- the list of what the set still takes, or the line of the text that was refused
 abbrev pub text_of : CatalogView → Candidates → Given → Text
 text_of catalog which (Ok s) = list_text catalog (taken catalog s which)
 text_of catalog which (Err r) = refused_text catalog r

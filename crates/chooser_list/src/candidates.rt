@@ -1,6 +1,6 @@
 //! The candidates of a listing.
 
-/// Which events are looked at: native events, each without umasks or with one, or the presets that are available.
+/// Which events are looked at: native events, each without umasks or with one, or the presets and user events that are available.
 /// Source: papi_event_chooser(1).
 #[derive(Clone, Copy, Debug, PartialEq, Eq)]
 pub enum Candidates {

@@ -19,7 +19,6 @@ use counter_alloc::Matching;
 use event_sets::EventSet;
 use event_tables::EventRow;
 use papi_base::EventRef;
-use preset_table::preset_count;
 use std::alloc::{AllocError, Global};
 
 // Appends an event, where the set would take it.
@@ -92,7 +91,7 @@ fn keep_component(
     Ok(())
 }
 
-// Appends the preset of a row, where it is available and the set would take it.
+// Appends the preset or user event of a row, where it is available and the set would take it.
 fn keep_preset(
     events: &mut Vec<EventRef>,
     catalog: &Catalog,
@@ -112,7 +111,7 @@ fn keep_preset(
     keep(events, catalog, set, &matching, EventRef::Preset(row))
 }
 
-/// The candidates that the set would take, in table order.
+/// The candidates that the set would take, in the order of the tables. User events come after the presets.
 pub fn taken_by(
     alloc: Global,
     catalog: &Catalog,
@@ -130,7 +129,7 @@ pub fn taken_by(
             }
         }
         Candidates::Preset => {
-            for row in 0..preset_count() {
+            for row in 0..catalog.rows() {
                 keep_preset(&mut events, catalog, set, row)?;
             }
         }

@@ -9,13 +9,13 @@ use Rattle.preset_csv.specs.Defs.{DefView}
 use Rattle.preset_csv.specs.declared.entry.Entry.{Entry}
 use Rattle.preset_csv.specs.declared.entry.Entry.TheVariants as row
 use Rattle.table_rows.specs.Texts.{Text}
-use Rattle.component_table.specs.Books.{are_together, book_of, derived_by, derived_from, derived_if, in_front, is_available, natives_named, rule_of}
+use Rattle.component_table.specs.Books.{are_together, book_of, derived_by, derived_from, derived_if, is_available, natives_named, rule_of, with_first}
 use Rattle.component_table.specs.Laws.{Available, ExactlyAvailable, named}
 use Rattle.component_table.proofs.Deriving.{all-together, together-all}
 
 -- ---- texts that name natives
 
-names_front : (tables : List ComponentText) (text : Text) (texts : List Text) → natives_named tables (text ∷ texts) ≡ in_front (names tables text) (natives_named tables texts)
+names_front : (tables : List ComponentText) (text : Text) (texts : List Text) → natives_named tables (text ∷ texts) ≡ with_first (names tables text) (natives_named tables texts)
 unfolding natives_named
 names_front tables text texts = refl
 
@@ -27,7 +27,8 @@ each_named : (tables : List ComponentText) (texts : List Text) (natives : List N
 each_named tables [] natives e = let none : [] ≡ natives = cc (names_none tables, e) in ap (map named) none
 each_named tables (text ∷ texts) natives e = go (names tables text) (natives_named tables texts) refl refl (each_named tables texts) (sym (names_front tables text texts) ∙ e)
   where
-    go : (first : Result Native NameFault) (rest : Option (List Native)) → names tables text ≡ first → natives_named tables texts ≡ rest → ((ns : List Native) → natives_named tables texts ≡ Some ns → map (names tables) texts ≡ map named ns) → in_front first rest ≡ Some natives
+    go : (first : Result Native NameFault) (rest : Option (List Native)) → names tables text ≡ first → natives_named tables texts ≡ rest
+        → ((ns : List Native) → natives_named tables texts ≡ Some ns → map (names tables) texts ≡ map named ns) → with_first first rest ≡ Some natives
         → names tables text ∷ map (names tables) texts ≡ map named natives
     go (Ok n) (Some ns) f r later h = let whole : n ∷ ns ≡ natives = cc h in ap₂ (λ (a : Result Native NameFault) b. a ∷ b) f (later ns r) ∙ ap (map named) whole
     go (Ok n) None f r later h = cc h
@@ -40,7 +41,7 @@ all_named tables (text ∷ texts) [] e = cc e
 all_named tables (text ∷ texts) (n ∷ natives) e =
     let first : names tables text ≡ Ok n = cc e in
     let rest : map (names tables) texts ≡ map named natives = cc e in
-    names_front tables text texts ∙ ap₂ in_front first (all_named tables texts natives rest)
+    names_front tables text texts ∙ ap₂ with_first first (all_named tables texts natives rest)
 
 -- ---- a row of the book
 
@@ -52,7 +53,8 @@ get_map tables (e ∷ rows) (suc r) = get_map tables rows r
 entry_is : (tables : List ComponentText) (rows : List Entry) (r : ℕ) (e : Option Entry) → slice_get rows r ≡ e → entry (book_of tables rows) r ≡ unwrap_or (option_map (derived_from tables) e) None
 entry_is tables rows r e is = ap (λ p. unwrap_or p None) (get_map tables rows r ∙ ap (option_map (derived_from tables)) is)
 
-from_test : (tables : List ComponentText) (rows : List Entry) (r : ℕ) (d : DefView) (natives : List Native) (b : Bool) → slice_get rows r ≡ Some (row.Def d) → natives_named tables d.natives ≡ Some natives → are_together natives ≡ b
+from_test : (tables : List ComponentText) (rows : List Entry) (r : ℕ) (d : DefView) (natives : List Native) (b : Bool) → slice_get rows r ≡ Some (row.Def d)
+    → natives_named tables d.natives ≡ Some natives → are_together natives ≡ b
     → is_some (derived_if b natives (rule_of d.kind d.formula)) ≡ true → Available tables rows r
 from_test tables rows r d natives true here is together h =
     let one = together-all natives together in
@@ -64,7 +66,8 @@ from_natives : (tables : List ComponentText) (rows : List Entry) (r : ℕ) (d : 
 from_natives tables rows r d None here is h = cc h
 from_natives tables rows r d (Some natives) here is h = from_test tables rows r d natives (are_together natives) here is refl h
 
-from_entry : (tables : List ComponentText) (rows : List Entry) (r : ℕ) (e : Option Entry) → slice_get rows r ≡ e → is_some (unwrap_or (option_map (derived_from tables) e) None) ≡ true → Available tables rows r
+from_entry : (tables : List ComponentText) (rows : List Entry) (r : ℕ) (e : Option Entry) → slice_get rows r ≡ e
+    → is_some (unwrap_or (option_map (derived_from tables) e) None) ≡ true → Available tables rows r
 from_entry tables rows r None here h = cc h
 from_entry tables rows r (Some row.Missing) here h = cc h
 from_entry tables rows r (Some row.Uncomputed) here h = cc h

@@ -65,7 +65,8 @@ derivable tables d natives def named together =
     }
 
 -- what a computed preset derives, where its natives and its rule make a derived event
-pub derives : (tables : List ComponentText) (d : DefView) (natives : List Native) (r : Rule) → natives_named tables d.natives ≡ Some natives → r ≡ rule_of d.kind d.formula → IsDerived (record { natives = natives; rule = r })
+pub derives : (tables : List ComponentText) (d : DefView) (natives : List Native) (r : Rule) → natives_named tables d.natives ≡ Some natives
+    → r ≡ rule_of d.kind d.formula → IsDerived (record { natives = natives; rule = r })
     → derived_of tables d ≡ Some (record { natives = natives; rule = r })
 derives tables d natives r named is made =
     ap (λ o. derived_by o (rule_of d.kind d.formula)) named
@@ -73,7 +74,8 @@ derives tables d natives r named is made =
     ∙ ap (λ q. derived_if true natives q) (sym is)
 
 -- a computed preset derives nothing where its natives and its rule make no derived event
-pub derives-none : (tables : List ComponentText) (d : DefView) (natives : List Native) (r : Rule) → IsDef d → natives_named tables d.natives ≡ Some natives → r ≡ rule_of d.kind d.formula → ¬ IsDerived (record { natives = natives; rule = r })
+pub derives-none : (tables : List ComponentText) (d : DefView) (natives : List Native) (r : Rule) → IsDef d → natives_named tables d.natives ≡ Some natives
+    → r ≡ rule_of d.kind d.formula → ¬ IsDerived (record { natives = natives; rule = r })
     → derived_of tables d ≡ None
 derives-none tables d natives r def named is apart =
     ap (λ o. derived_by o (rule_of d.kind d.formula)) named

@@ -5,7 +5,7 @@ use Rattle.postfix_rules.specs.Presets.{Book}
 use Rattle.preset_csv.specs.Tables.{TableView}
 use Rattle.preset_csv.specs.declared.entry.Entry.{Entry}
 use Rattle.preset_csv.specs.declared.entry.Entry.TheVariants as row
-use Rattle.component_table.specs.Books.{available_from, available_only, is_available}
+use Rattle.component_table.specs.Books.{available_from, is_available}
 
 -- what a loop over the rows keeps: those before the next one are done
 pub record Cleared (book : Book) (presets : TableView) (r : ℕ) (now : TableView) : Type 0 where
@@ -64,7 +64,7 @@ done : (book : Book) (r : ℕ) → available_from book r [] ≡ []
 unfolding available_from
 done book r = refl
 
-pub cleared-all : (book : Book) (presets : TableView) (r : ℕ) (now : TableView) → 26 ≤ r → Cleared book presets r now → now ≡ available_only book presets
+pub cleared-all : (book : Book) (presets : TableView) (r : ℕ) (now : TableView) → 26 ≤ r → Cleared book presets r now → now ≡ record { cpu = presets.cpu; rows = available_from book 0 presets.rows }
 cleared-all book presets r now all c =
     let rows : now.rows ≡ available_from book 0 presets.rows =
     sym (c.so_far

@@ -1,5 +1,7 @@
 mod Availability
 mod Deriving
 mod Keeping
+mod KeptEvents
 mod Mentions
 mod Naming
+pub mod RowCodes

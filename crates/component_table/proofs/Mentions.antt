@@ -1,5 +1,6 @@
 -- The natives mentioned and their codes, as an insertion-ordered set keeps them.
-use Rattle.std.proofs.Common.{◌≡◌, ◌∙◌, ◌+◌, ℕ, Bool, true, false, cond, eqb, List, [], ◌∷◌, ◌++◌, Option, Some, None, length, refl, sym, ap, arith, option_map, if◌then◌else◌, position, ◌&&◌, ◌==◌, is_some}
+use Rattle.std.proofs.Common.{◌≡◌, ◌∙◌, ◌+◌, ℕ, Bool, true, false, cond, eqb, List, [], ◌∷◌, ◌++◌, Option, Some, None}
+use Rattle.std.proofs.Common.{length, refl, sym, ap, arith, option_map, if◌then◌else◌, position, ◌&&◌, ◌==◌, is_some}
 use Rattle.std.specs.List.{list_any, position_or_len}
 use Rattle.std.proofs.Math.Dec.{ltb}
 use Rattle.std.proofs.lemmas.Bool.{eqb-true}
@@ -34,7 +35,9 @@ bools_same false false = refl
 
 pub natives_same : (m n : Native) → eq-value.it m n ≡ same_native m n
 natives_same m n =
-    in_row (m.comp == n.comp) (m.event == n.event) (m.select == n.select) (m.masks == n.masks) (m.umask == n.umask) (beq m.mods.user n.mods.user) (beq m.mods.kernel n.mods.kernel) (beq m.mods.edge n.mods.edge) (beq m.mods.invert n.mods.invert) (m.mods.cmask == n.mods.cmask) (m.allowed == n.allowed)
+    in_row (m.comp == n.comp) (m.event == n.event) (m.select == n.select) (m.masks == n.masks) (m.umask == n.umask) (beq m.mods.user n.mods.user)
+    (beq m.mods.kernel n.mods.kernel) (beq m.mods.edge n.mods.edge) (beq m.mods.invert n.mods.invert) (m.mods.cmask == n.mods.cmask)
+    (m.allowed == n.allowed)
     ∙ (λ i. (m.comp == n.comp) && (m.event == n.event) && (m.select == n.select) && (m.masks == n.masks) && (m.umask == n.umask) && bools_same m.mods.user n.mods.user i && bools_same m.mods.kernel n.mods.kernel i && bools_same m.mods.edge n.mods.edge i && bools_same m.mods.invert n.mods.invert i && (m.mods.cmask == n.mods.cmask) && (m.allowed == n.allowed))
 
 among_same : (natives : List Native) (n : Native) → list_any (eq-value.it n) natives ≡ among n natives

@@ -6,47 +6,50 @@ use Rattle.name_encoder.specs.declared.fault.NameFault.{NameFault}
 use Rattle.name_encoder.specs.Names.{names}
 use Rattle.papi_base.specs.declared.native.Native.{Native}
 use Rattle.table_rows.specs.Texts.{Text}
-use Rattle.component_table.specs.Books.{in_front, natives_named}
+use Rattle.component_table.specs.Books.{natives_named, with_first}
 
--- some natives in front of those that come, where these are named
-abbrev pub behind : List Native → Option (List Native) → Option (List Native)
-behind natives None = None
-behind natives (Some more) = Some (natives ++ more)
+-- some natives before those that come, where these are named
+abbrev pub after : List Native → Option (List Native) → Option (List Native)
+after natives None = None
+after natives (Some more) = Some (natives ++ more)
 
 -- what a loop over the texts keeps: the natives of the first so many of them
 pub record Named (tables : List ComponentText) (texts : List Text) (i : ℕ) (natives : List Native) : Type 0 where
-  pub so_far : natives_named tables texts ≡ behind natives (natives_named tables (drop i texts))
+  pub so_far : natives_named tables texts ≡ after natives (natives_named tables (drop i texts))
   pub count : length natives ≡ i
 
-behind_none : (r : Option (List Native)) → r ≡ behind [] r
-behind_none None = refl
-behind_none (Some more) = refl
+after_none : (r : Option (List Native)) → r ≡ after [] r
+after_none None = refl
+after_none (Some more) = refl
 
 pub named-none : (tables : List ComponentText) (texts : List Text) → Named tables texts 0 []
-named-none tables texts = record { so_far = behind_none (natives_named tables texts); count = refl }
+named-none tables texts = record { so_far = after_none (natives_named tables texts); count = refl }
 
-named_here : (tables : List ComponentText) (texts : List Text) (i : ℕ) → i < length texts → natives_named tables (drop i texts) ≡ in_front (names tables (get_or texts i [])) (natives_named tables (drop (i + 1) texts))
+named_here : (tables : List ComponentText) (texts : List Text) (i : ℕ) → i < length texts
+    → natives_named tables (drop i texts) ≡ with_first (names tables (get_or texts i [])) (natives_named tables (drop (i + 1) texts))
 unfolding natives_named
 named_here tables texts i small = rw (drop_more texts i [] small) refl
 
-behind_one : (natives : List Native) (n : Native) (r : Option (List Native)) → behind natives (in_front (Ok n) r) ≡ behind (natives ++ n ∷ []) r
-behind_one natives n None = refl
-behind_one natives n (Some more) = ap Some (sym (append_assoc natives (n ∷ []) more))
+after_one : (natives : List Native) (n : Native) (r : Option (List Native)) → after natives (with_first (Ok n) r) ≡ after (natives ++ n ∷ []) r
+after_one natives n None = refl
+after_one natives n (Some more) = ap Some (sym (append_assoc natives (n ∷ []) more))
 
-pub named-more : (tables : List ComponentText) (texts : List Text) (i : ℕ) (natives : List Native) (n : Native) → i < length texts → names tables (get_or texts i []) ≡ Ok n → Named tables texts i natives
+pub named-more : (tables : List ComponentText) (texts : List Text) (i : ℕ) (natives : List Native) (n : Native) → i < length texts
+    → names tables (get_or texts i []) ≡ Ok n → Named tables texts i natives
     → Named tables texts (i + 1) (natives ++ n ∷ [])
 named-more tables texts i natives n small is named = record {
   so_far =
       named.so_far
-      ∙ ap (behind natives) (named_here tables texts i small ∙ ap (λ r. in_front r (natives_named tables (drop (i + 1) texts))) is)
-      ∙ behind_one natives n (natives_named tables (drop (i + 1) texts));
+      ∙ ap (after natives) (named_here tables texts i small ∙ ap (λ r. with_first r (natives_named tables (drop (i + 1) texts))) is)
+      ∙ after_one natives n (natives_named tables (drop (i + 1) texts));
   count = omega (arith, named.count, length-append natives (n ∷ []));
 }
 
-pub named-fault : (tables : List ComponentText) (texts : List Text) (i : ℕ) (natives : List Native) (fault : NameFault) → i < length texts → names tables (get_or texts i []) ≡ Err fault → Named tables texts i natives
+pub named-fault : (tables : List ComponentText) (texts : List Text) (i : ℕ) (natives : List Native) (fault : NameFault) → i < length texts
+    → names tables (get_or texts i []) ≡ Err fault → Named tables texts i natives
     → natives_named tables texts ≡ None
 named-fault tables texts i natives fault small is named =
-    named.so_far ∙ ap (behind natives) (named_here tables texts i small ∙ ap (λ r. in_front r (natives_named tables (drop (i + 1) texts))) is)
+    named.so_far ∙ ap (after natives) (named_here tables texts i small ∙ ap (λ r. with_first r (natives_named tables (drop (i + 1) texts))) is)
 
 named_end : (tables : List ComponentText) → natives_named tables [] ≡ Some []
 unfolding natives_named
@@ -54,14 +57,14 @@ named_end tables = refl
 
 pub named-all : (tables : List ComponentText) (texts : List Text) (i : ℕ) (natives : List Native) → length texts ≤ i → Named tables texts i natives → natives_named tables texts ≡ Some natives
 named-all tables texts i natives all named =
-    named.so_far ∙ ap (behind natives) (ap (natives_named tables) (drop_all i texts all) ∙ named_end tables) ∙ ap Some (append-nil natives)
+    named.so_far ∙ ap (after natives) (ap (natives_named tables) (drop_all i texts all) ∙ named_end tables) ∙ ap Some (append-nil natives)
 
 one_more : (tables : List ComponentText) (text : Text) (texts : List Text) (natives : List Native) → ((more : List Native) → natives_named tables texts ≡ Some more → length more ≡ length texts)
     → natives_named tables (text ∷ texts) ≡ Some natives → length natives ≡ length (text ∷ texts)
 unfolding natives_named
 one_more tables text texts natives earlier is = go (names tables text) (natives_named tables texts) refl is
   where
-    go : (r : Result Native NameFault) (rest : Option (List Native)) → natives_named tables texts ≡ rest → in_front r rest ≡ Some natives → length natives ≡ length (text ∷ texts)
+    go : (r : Result Native NameFault) (rest : Option (List Native)) → natives_named tables texts ≡ rest → with_first r rest ≡ Some natives → length natives ≡ length (text ∷ texts)
     go (Ok n) (Some more) e h =
         let count : length more ≡ length texts = earlier more e in
         let whole : n ∷ more ≡ natives = cc h in

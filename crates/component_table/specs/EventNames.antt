@@ -2,11 +2,10 @@
 use Rattle.std.specs.Prelude.{ℕ, List}
 use Rattle.papi_base.specs.declared.native.EventRef.{EventRef}
 use Rattle.papi_base.specs.declared.native.EventRef.TheVariants as event
-use Rattle.component_table.specs.Catalogs.{CatalogView}
+use Rattle.component_table.specs.Catalogs.{CatalogView, row_name}
 use Rattle.name_encoder.specs.Canonical.{canonical}
-use Rattle.preset_table.specs.Table.{symbol_at}
 
--- a preset's symbol, or a native event's canonical name
+-- a preset's symbol, a user event's name, or a native event's canonical name
 abbrev pub event_name : CatalogView → EventRef → List ℕ
-event_name catalog (event.Preset row) = symbol_at row
+event_name catalog (event.Preset row) = row_name catalog row
 event_name catalog (event.Native native) = canonical catalog.tables native

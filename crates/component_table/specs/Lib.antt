@@ -11,3 +11,4 @@ pub use Rattle.postfix_rules.specs.NativeCodes
 pub use Rattle.postfix_rules.specs.Presets
 pub use Rattle.preset_csv.specs.Tables as PresetTables
 pub use Rattle.preset_table.specs.Table
+pub use Rattle.user_events.specs.Events as Extended

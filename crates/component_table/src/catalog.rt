@@ -1,76 +1,149 @@
-//! A unit's events and the presets over them.
+//! A unit's events, and the presets and user events over them.
 
-ghost use Rattle.std.specs.Prelude.{◌≡◌, IfOk, string_bytes};
-ghost use Rattle.component_table.specs.Books.{available_only, is_available, is_derived};
-ghost use Rattle.component_table.specs.Catalogs as Catalogs;
-ghost use Rattle.component_table.specs.Catalogs.{catalog_of, looked_up, preset_looked_up};
-ghost use Rattle.component_table.specs.EventNames as EventNames;
-ghost use Rattle.postfix_rules.specs.Fitting.{BookFits, IsNamed};
+ghost use Rattle.std.specs.Prelude.{◌≡◌, ◌<◌, ◌≤◌, ◌+◌, ◌++◌, IfOk, OnOk, length, map, string_bytes};
+ghost use Rattle.component_table.specs.Books as Books;
+ghost use Rattle.component_table.specs.Books.{available_from, available_only, events_from, is_derived, kept_if, rows_in};
+ghost use Rattle.component_table.specs.Catalogs.{catalog_of, row_count};
 ghost use Rattle.event_tables.specs.Tables.{shape_of};
-ghost use Rattle.preset_table.specs.Table as Table;
+ghost use Rattle.postfix_rules.specs.Fitting.{BookFits};
+ghost use Rattle.preset_table.specs.declared.TheConstants.{PRESETS};
+ghost use Rattle.user_events.specs.Events.{IsExtended, event_view, names_of};
+ghost use Rattle.user_events.specs.declared.event.TheConstants.{MOST_EVENTS};
 
 use crate::derivation::book_of;
 use event_tables::Tables;
-use name_encoder::{cause_code, encode, write_name};
-use papi_base::{Code, EventRef, Shape};
+use papi_base::Shape;
 use postfix_rules::{PresetBook, Rule};
-use preset_csv::PresetTable;
-use preset_table::{preset_count, preset_row, preset_symbol};
+use preset_csv::{Entry, PresetTable};
+use preset_table::preset_count;
 use std::alloc::{AllocError, Global};
 use std::marker::Model;
+use user_events::{Extended, UserEvent};
 
-/// The tables of a unit, and the book of the presets that are available over them.
+/// The tables of a unit, and the presets and user events over them: what is derived in each row, where the event is available, and the
+/// names of the user events. There is a row for each preset and below them one for each user event, in the order of the ranks.
 #[derive(Drop)]
 pub struct Catalog {
-    tables: Tables,
-    book: PresetBook,
+    pub(crate) tables: Tables,
+    pub(crate) book: PresetBook,
+    pub(crate) names: Vec<String>,
 }
 
 impl Model for Catalog {
-    ghost use Rattle.postfix_rules.specs.Fitting.{BookFits};
-    ghost use Rattle.event_tables.specs.Tables.{shape_of};
-    ghost use Rattle.component_table.specs.Catalogs.{CatalogView};
+    ghost use Rattle.std.specs.Prelude.{map, string_bytes};
+    ghost use Rattle.component_table.specs.Catalogs.{CatalogView, IsCatalog};
 
     ghost Value = { CatalogView };
 
-    ghost view = { λ c. record { tables = c.tables; book = c.book } };
+    ghost view = { λ c. record { tables = c.tables; book = c.book; names = map string_bytes c.names.items } };
 
-    ghost invariant = { λ c. BookFits (shape_of c.tables) c.book };
+    ghost invariant = { λ c. IsCatalog (record { tables = c.tables; book = c.book; names = map string_bytes c.names.items }) };
 }
 
-// Whether a text begins as a preset's symbol does.
-fn is_symbol(text: &str) -> bool
-    ensures { result ≡ Catalogs.is_symbol text.now }
+// The entries of all rows, and the names of the user events.
+fn taken_apart(alloc: Global, x: Extended) -> Result<(Vec<Entry>, Vec<String>), AllocError>
+    ensures entries { IfOk result (λ r. r.0.items ≡ rows_in x) }
+    ensures names { IfOk result (λ r. map string_bytes r.1.items ≡ names_of x.events) }
+    ensures kept { IsExtended x }
 {
-    text.starts_with("PAPI_")
-}
-
-// The symbol of a preset, and an empty text where there is no such row.
-fn symbol_of(row: u32) -> &'static str
-    ensures { result.now ≡ Table.symbol_at row }
-{
-    if row < preset_count() {
-        preset_symbol(row)
-    } else {
-        ""
+    let (presets, events) = x.into_parts();
+    let mut entries = presets.into_rows();
+    let mut names = Vec::new(alloc);
+    for event in events {
+        let UserEvent { name, entry } = event;
+        entries.push(entry)?;
+        names.push(name)?;
     }
+    Ok((entries, names))
+}
+
+// The catalog of a unit, with the presets and user events for a cpu.
+fn catalog_with(alloc: Global, tables: Tables, x: Extended) -> Result<Catalog, AllocError>
+    ensures { IfOk result (λ c. c ≡ catalog_of tables (Some x)) }
+{
+    let (entries, names) = taken_apart(alloc, x)?;
+    let book = book_of(alloc, &tables, entries)?;
+    Ok(Catalog {
+        tables,
+        book,
+        names,
+    })
+}
+
+// The catalog of a unit alone.
+fn catalog_without(alloc: Global, tables: Tables) -> Result<Catalog, AllocError>
+    ensures { IfOk result (λ c. c ≡ catalog_of tables None) }
+{
+    let book = book_of(alloc, &tables, Vec::new(alloc))?;
+    Ok(Catalog {
+        tables,
+        book,
+        names: Vec::new(alloc),
+    })
+}
+
+// Whether what is derived in a row is known.
+fn is_available(book: &PresetBook, row: u32) -> bool
+    ensures { result ≡ Books.is_available book.now row }
+{
+    book.get(row).is_some()
+}
+
+// A table of presets with a missing entry in place of each that is not available.
+fn available_presets(book: &PresetBook, presets: PresetTable) -> PresetTable
+    ensures { result ≡ record { cpu = presets.cpu; rows = available_from book.now 0 presets.rows } }
+{
+    let mut presets = presets;
+    let _rows = presets.rows();
+    for row in 0..preset_count() {
+        if !is_available(book, row) {
+            presets.set_missing(row);
+        }
+    }
+    presets
+}
+
+// Keeps a user event where it is available.
+fn keep_if(kept: &mut Vec<UserEvent>, event: UserEvent, available: bool) -> Result<(), AllocError>
+    ensures { OnOk result (map event_view kept.new.items ≡ map event_view kept.old.items ++ kept_if available (event_view event)) }
+{
+    if available {
+        kept.push(event)?;
+    }
+    Ok(())
+}
+
+// The user events that are available.
+fn available_events(
+    alloc: Global,
+    book: &PresetBook,
+    events: Vec<UserEvent>,
+) -> Result<Vec<UserEvent>, AllocError>
+    requires few { length events.items ≤ MOST_EVENTS }
+    ensures { IfOk result (λ kept. map event_view kept.items ≡ events_from book.now PRESETS (map event_view events.items)) }
+{
+    let mut kept = Vec::new(alloc);
+    let mut row = preset_count();
+    for event in events {
+        keep_if(&mut kept, event, is_available(book, row))?;
+        row += 1;
+    }
+    Ok(kept)
 }
 
 impl Catalog {
-    /// The catalog of a unit, with the presets for a cpu or without any.
+    /// The catalog of a unit, with the presets and user events for a cpu or without any.
     pub fn build(
         alloc: Global,
         tables: Tables,
-        presets: Option<PresetTable>,
+        presets: Option<Extended>,
     ) -> Result<Catalog, AllocError>
         ensures catalog { IfOk result (λ c. c ≡ catalog_of tables presets) }
     {
-        let rows = match presets {
-            Some(presets) => presets.into_rows(),
-            None => Vec::new(alloc),
-        };
-        let book = book_of(alloc, &tables, rows)?;
-        Ok(Catalog { tables, book })
+        match presets {
+            Some(presets) => catalog_with(alloc, tables, presets),
+            None => catalog_without(alloc, tables),
+        }
     }
 
     /// The tables of the unit.
@@ -80,7 +153,7 @@ impl Catalog {
         &self.tables
     }
 
-    /// The book of the presets that are available.
+    /// What is derived in each row, where the event is available.
     pub fn book(&self) -> &PresetBook
         ensures book { result.now ≡ self.now.book }
         ensures fits { BookFits (shape_of self.now.tables) self.now.book }
@@ -88,15 +161,25 @@ impl Catalog {
         &self.book
     }
 
-    /// Whether the preset in a row of the preset table is available.
-    pub fn available(&self, row: u32) -> bool
-        ensures available { result ≡ is_available self.now.book row }
+    /// How many rows there are: one for each preset, and one for each user event.
+    pub fn rows(&self) -> u32
+        ensures rows { result ≡ row_count self.now }
+        ensures few { row_count self.now ≤ PRESETS + MOST_EVENTS }
     {
-        self.book.get(row).is_some()
+        preset_count() + self.names.len() as u32
     }
 
-    /// Whether the preset in a row of the preset table is available, and of another kind than `NotDerived`.
+    /// Whether the event in a row is available.
+    pub fn available(&self, row: u32) -> bool
+        requires { row < row_count self.now }
+        ensures available { result ≡ Books.is_available self.now.book row }
+    {
+        is_available(&self.book, row)
+    }
+
+    /// Whether the event in a row is available, and of another kind than `NotDerived`.
     pub fn derived(&self, row: u32) -> bool
+        requires { row < row_count self.now }
         ensures derived { result ≡ is_derived self.now.book row }
     {
         match self.book.get(row) {
@@ -105,18 +188,15 @@ impl Catalog {
         }
     }
 
-    /// A table of presets with a missing entry in place of each that is not available.
-    pub fn only_available(&self, presets: PresetTable) -> PresetTable
-        ensures available { result ≡ available_only self.now.book presets }
+    /// The presets and user events that are available: a missing entry stands in place of each other preset, and no other user event
+    /// stays.
+    pub fn only_available(&self, alloc: Global, x: Extended) -> Result<Extended, AllocError>
+        ensures available { IfOk result (λ kept. kept ≡ available_only self.now.book x) }
     {
-        let mut presets = presets;
-        let _rows = presets.rows();
-        for row in 0..preset_count() {
-            if !self.available(row) {
-                presets.set_missing(row);
-            }
-        }
-        presets
+        let (presets, events) = x.into_parts();
+        let presets = available_presets(&self.book, presets);
+        let events = available_events(alloc, &self.book, events)?;
+        Ok(Extended::new(presets, events))
     }
 
     /// The components' counters and their widths.
@@ -124,46 +204,5 @@ impl Catalog {
         ensures shape { result ≡ shape_of self.now.tables }
     {
         self.tables.shape()
-    }
-
-    // The preset of a symbol, where it is available.
-    fn preset_of(&self, symbol: &str) -> Result<EventRef, Code>
-        ensures preset { result ≡ preset_looked_up self.now.book (Table.row_of symbol.now) }
-        ensures named { IsNamed self.now.book (shape_of self.now.tables) result }
-    {
-        let Some(row) = preset_row(symbol) else {
-            return Err(Code::Enoevnt);
-        };
-        match self.book.get(row) {
-            Some(_) => Ok(EventRef::Preset(row)),
-            None => Err(Code::Enoevnt),
-        }
-    }
-
-    /// The event that a text names, PAPI_event_name_to_code(3), or the code that refuses it.
-    ///
-    /// A text that begins with `PAPI_` is the symbol of a preset, and Enoevnt where that is no symbol of the table or not
-    /// available. Any other text is the name of a native event.
-    pub fn lookup(&self, text: &str) -> Result<EventRef, Code>
-        ensures event { result ≡ looked_up self.now text.now }
-        ensures named { IsNamed self.now.book (shape_of self.now.tables) result }
-    {
-        if is_symbol(text) {
-            return self.preset_of(text);
-        }
-        match encode(&self.tables, text) {
-            Ok(native) => Ok(EventRef::Native(native)),
-            Err(fault) => Err(cause_code(fault)),
-        }
-    }
-
-    /// What an event is called: a preset by its symbol, a native event by its canonical name, PAPI_event_code_to_name(3).
-    pub fn event_name(&self, alloc: Global, event: &EventRef) -> Result<String, AllocError>
-        ensures name { IfOk result (λ name. string_bytes name ≡ EventNames.event_name self.now event.now) }
-    {
-        match event {
-            EventRef::Preset(row) => String::from_str(alloc, symbol_of(*row)),
-            EventRef::Native(native) => write_name(alloc, &self.tables, native),
-        }
     }
 }

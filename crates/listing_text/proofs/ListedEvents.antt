@@ -26,7 +26,8 @@ pub record AreListed (pmu : Text) (included excluded : Option Text) (umasks : Bo
   pub counted : count ≡ length (listed_of pmu included excluded (take i events))
   pub within : count ≤ i
 
-pub one_listed : (pmu : Text) (included excluded : Option Text) (umasks : Bool) (events : List EventRow) (i : ℕ) (x : EventRow) (start line after : Text) (count : ℕ) → i < length events → x ≡ get_or events i x
+pub one_listed : (pmu : Text) (included excluded : Option Text) (umasks : Bool) (events : List EventRow) (i : ℕ) (x : EventRow) (start line after : Text)
+    (count : ℕ) → i < length events → x ≡ get_or events i x
     → is_chosen included excluded (full_name pmu (event_text x)) ≡ true → after ≡ line ++ event_lines umasks pmu (event_text x)
     → AreListed pmu included excluded umasks events i start line count → AreListed pmu included excluded umasks events (i + 1) start after (count + 1)
 one_listed pmu included excluded umasks events i x start line after count lt at chosen more h =
@@ -38,7 +39,8 @@ one_listed pmu included excluded umasks events i x start line after count lt at 
       within = omega (arith, h.within);
     }
 
-pub none_listed : (pmu : Text) (included excluded : Option Text) (umasks : Bool) (events : List EventRow) (i : ℕ) (x : EventRow) (start line : Text) (count : ℕ) → i < length events → x ≡ get_or events i x
+pub none_listed : (pmu : Text) (included excluded : Option Text) (umasks : Bool) (events : List EventRow) (i : ℕ) (x : EventRow) (start line : Text)
+    (count : ℕ) → i < length events → x ≡ get_or events i x
     → is_chosen included excluded (full_name pmu (event_text x)) ≡ false
     → AreListed pmu included excluded umasks events i start line count → AreListed pmu included excluded umasks events (i + 1) start line count
 none_listed pmu included excluded umasks events i x start line count lt at other h =

@@ -1,20 +1,15 @@
 -- What is at a place of the tables.
 use Rattle.std.proofs.Common.{◌≡◌, ◌∙◌, ◌<◌, ◌≤◌, ◌∷◌, ℕ, zero, suc, List, [], Option, Some, None, get_or, length, map, refl, sym, ap, subst, string_bytes, arith}
 use Rattle.std.proofs.lemmas.List.{length-map}
-use Rattle.std.proofs.lemmas.List.Quantifiers.{position-Some}
 use Rattle.std.proofs.lemmas.Option.{slice_get-map, slice_get-get_or}
 use Rattle.std.specs.List.{AllByRecursion}
 use Rattle.std.specs.Option.{option_map, option_map_or}
 use Rattle.std.specs.Prelude.{slice_get}
-use Rattle.std.specs.Str.{bytes_eq}
 use Rattle.event_tables.specs.Kept.{IsComponent, IsTables}
 use Rattle.event_tables.specs.Tables.{ComponentText, CounterText}
 use Rattle.event_tables.specs.Views.{component_text, counter_text}
 use Rattle.event_tables.specs.declared.component.Component.{Component}
 use Rattle.event_tables.specs.declared.component.Counter.{Counter}
-use Rattle.preset_table.specs.Table.{preset, preset_rows, row_of}
-use Rattle.preset_table.specs.declared.TheConstants.{PRESETS}
-use Rattle.listing_text.specs.Lines.{Text}
 
 -- the name of a counter
 pub counter_named : (counters : List Counter) (k : ℕ) (d : Counter) → k < length counters
@@ -45,8 +40,3 @@ few_counters tables i c h e =
 
 pub few_events : (tables : List ComponentText) (i : ℕ) (c : Component) → IsTables tables → Some (component_text c) ≡ slice_get tables i → length (component_text c).events ≤ 1024
 few_events tables i c h e = (each_at IsComponent tables i (component_text c) h.each (sym e)).few_events
-
--- the row of a symbol is one of the table
-pub row_within : (symbol : Text) (row : ℕ) → row_of symbol ≡ Some row → row < PRESETS
-unfolding row_of preset_rows
-row_within symbol row e = (position-Some (λ r. bytes_eq r.symbol symbol) preset_rows row (preset [] 0 []) e).0

@@ -2,9 +2,11 @@
 use Rattle.std.specs.Prelude.{◌-◌, ℕ, List, [], ◌∷◌, ◌++◌, false, codes, length, replicate}
 use Rattle.std.specs.Fmt.{digits}
 
+-- the bytes of what is printed
 abbrev pub Text : Type 0
 Text = List ℕ
 
+-- spaces that fill a column
 abbrev pub spaces : ℕ → Text
 spaces count = replicate count 32
 
@@ -16,8 +18,10 @@ column width text = text ++ spaces (width - length text)
 abbrev pub hex_text : ℕ → Text
 hex_text number = codes "0x" ++ digits 16 false number
 
+-- what an event is called: a symbol, a user event's name, or a canonical name
 abbrev pub name_line : Text → Text
 name_line name = codes "Name: " ++ (name ++ 10 ∷ [])
 
+-- an event's code: of a preset or user event 32 bits, of a native event the 64 bits of its encoding
 abbrev pub code_line : ℕ → Text
 code_line code = codes "Code: " ++ (hex_text code ++ 10 ∷ [])

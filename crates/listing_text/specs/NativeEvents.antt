@@ -22,9 +22,11 @@ allowed_places counters allowed = filter (λ place. bit_at allowed place == 1) (
 abbrev pub counters_text : List CounterText → ℕ → Text
 counters_text counters allowed = flat_map (counter_text counters) (allowed_places counters allowed)
 
+-- the counters of the component in a place of the unit
 abbrev pub counters_of : List ComponentText → ℕ → List CounterText
 counters_of tables comp = option_map_or (λ component. component.counters) (slice_get tables comp) []
 
+-- on which counters of its component the native event can be counted
 abbrev pub counters_line : List ComponentText → Native → Text
 counters_line tables native = codes "Counters:" ++ (counters_text (counters_of tables native.comp) native.allowed ++ 10 ∷ [])
 

@@ -25,12 +25,15 @@ is_chosen included excluded name =
 abbrev pub listed_events : Option Text → Option Text → ComponentText → List EventText
 listed_events included excluded component = filter (λ event. is_chosen included excluded (full_name component.pmu event)) component.events
 
+-- the mark of the default umask, which an event has where its text names none
 abbrev pub default_mark : Bool → Text
 default_mark is_default = if is_default then codes " [default]" else []
 
+-- a umask, its description and its mark, further in than the event
 abbrev pub umask_line : MaskText → Text
 umask_line umask = codes "  :" ++ (umask.name ++ (codes "  " ++ (umask.text ++ (default_mark umask.preset_choice ++ 10 ∷ []))))
 
+-- the umasks of an event in the unit's order, which `--noumasks` leaves out
 abbrev pub umask_lines : Bool → List MaskText → Text
 umask_lines umasks masks = if umasks then flat_map umask_line masks else []
 
@@ -38,9 +41,11 @@ umask_lines umasks masks = if umasks then flat_map umask_line masks else []
 abbrev pub named_lines : Bool → Text → EventText → Text
 named_lines umasks name event = name ++ (codes "  " ++ (event.text ++ (10 ∷ umask_lines umasks event.masks)))
 
+-- an event of a pmu, with its umasks
 abbrev pub event_lines : Bool → Text → EventText → Text
 event_lines umasks pmu event = named_lines umasks (full_name pmu event) event
 
+-- the line above the events of a component: its name, its pmu, and how many counters it has
 abbrev pub component_line : ComponentText → Text
 component_line component =
     codes "Component " ++ (component.name ++ (codes ": pmu " ++ (component.pmu
@@ -50,6 +55,7 @@ component_line component =
 abbrev pub listed_lines : Option Text → Option Text → Bool → ComponentText → Text
 listed_lines included excluded umasks component = flat_map (event_lines umasks component.pmu) (listed_events included excluded component)
 
+-- a component, and below it its events that are listed
 abbrev pub component_lines : Option Text → Option Text → Bool → ComponentText → Text
 component_lines included excluded umasks component = component_line component ++ listed_lines included excluded umasks component
 

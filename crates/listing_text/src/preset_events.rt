@@ -1,10 +1,9 @@
-//! One preset event.
+//! One preset, or one user event.
 
 ghost use Rattle.std.specs.Prelude.{◌≡◌, ◌<◌, ◌++◌, IfOk, OnOk, is_some, string_bytes};
 ghost use Rattle.std.specs.Option.{option_copied};
+ghost use Rattle.component_table.specs.Catalogs.{row_count, row_named};
 ghost use Rattle.listing_text.specs.PresetEvents as PresetEvents;
-ghost use Rattle.preset_table.specs.Table.{row_of};
-ghost use Rattle.preset_table.specs.declared.TheConstants.{PRESETS};
 
 use crate::lines::push_name_and_code;
 use crate::named_event::NamedEvent;
@@ -14,11 +13,10 @@ use name_encoder::write_name;
 use papi_base::Natives;
 use postfix_rules::{Derived, Rule, write_formula};
 use preset_csv::{Kind, kind_text};
-use preset_table::{preset_code, preset_row, preset_symbol};
 use std::alloc::{AllocError, Global};
 use std::fmt::Write;
 
-// The kind of the presets that have a rule.
+// The kind of the events that have a rule.
 fn kind_of(rule: &Rule) -> Kind
     ensures { result ≡ PresetEvents.kind_of rule.now }
 {
@@ -53,7 +51,7 @@ fn push_natives(text: &mut String, tables: &Tables, natives: &Natives) -> Result
     Ok(())
 }
 
-// Appends what an available preset derives.
+// Appends what an available event derives.
 fn push_derived(text: &mut String, tables: &Tables, derived: &Derived) -> Result<(), AllocError>
     ensures { OnOk result (string_bytes text.new ≡ string_bytes text.old ++ PresetEvents.derived_lines tables.now derived.now) }
 {
@@ -64,13 +62,14 @@ fn push_derived(text: &mut String, tables: &Tables, derived: &Derived) -> Result
     Ok(())
 }
 
-// The text of the event in a row of the preset table.
+// The text of the event in a row of the catalog.
 fn row_text(alloc: Global, catalog: &Catalog, row: u32) -> Result<String, AllocError>
-    requires { row < PRESETS }
+    requires { row < row_count catalog.now }
     ensures { IfOk result (λ text. string_bytes text ≡ PresetEvents.row_lines catalog.now row) }
 {
     let mut text = String::new(alloc);
-    push_name_and_code(&mut text, preset_symbol(row), u64::from(preset_code(row)))?;
+    let code = catalog.code(row);
+    push_name_and_code(&mut text, catalog.name(row), u64::from(code))?;
     match catalog.book().get(row) {
         Some(derived) => push_derived(&mut text, catalog.tables(), derived)?,
         None => text.push_str("Available: No\n")?,
@@ -78,16 +77,17 @@ fn row_text(alloc: Global, catalog: &Catalog, row: u32) -> Result<String, AllocE
     Ok(text)
 }
 
-/// What papi_avail(1) prints of the preset event of a symbol: its name, its code, whether it is available, and then its type,
-/// its formula where it has one, and its native events by their canonical names.
+/// What papi_avail(1) prints of the preset of a symbol, or of the user event of a name: its name, its code, whether it is
+/// available, and then its type, its formula where it has one, and its native events by their canonical names.
 ///
-/// A symbol is compared exactly. Of a name that is no symbol of the preset table it says that there is no such event.
+/// A name is compared exactly. Of one that is neither a symbol of the preset table nor a user event's it says that there is no
+/// such event.
 #[tactic(auto, unfolding(crate::specs::PresetEvents::preset_event))]
 pub fn avail_event(alloc: Global, catalog: &Catalog, name: &str) -> Result<NamedEvent, AllocError>
     ensures text { IfOk result (λ event. string_bytes event.text ≡ PresetEvents.preset_event catalog.now name.now) }
-    ensures known { IfOk result (λ event. event.known ≡ is_some (row_of name.now)) }
+    ensures known { IfOk result (λ event. event.known ≡ is_some (row_named catalog.now name.now)) }
 {
-    match preset_row(name) {
+    match catalog.row_named(name) {
         Some(row) => Ok(NamedEvent {
             text: row_text(alloc, catalog, row)?,
             known: true,

@@ -1,12 +1,12 @@
-//! The list of the preset events.
+//! The list of the presets and the user events.
 
 ghost use Rattle.std.specs.Prelude.{◌≡◌, ◌<◌, ◌++◌, IfOk, OnOk, string_bytes};
+ghost use Rattle.component_table.specs.Catalogs.{row_count};
 ghost use Rattle.listing_text.specs.PresetLists as PresetLists;
-ghost use Rattle.preset_table.specs.declared.TheConstants.{PRESETS};
 
 use crate::lines::push_column;
 use component_table::Catalog;
-use preset_table::{preset_code, preset_count, preset_symbol, preset_text};
+use preset_table::{preset_count, preset_text};
 use std::alloc::{AllocError, Global};
 use std::fmt::Write;
 
@@ -50,27 +50,38 @@ fn yes_or_no(is_so: bool) -> &'static str
     if is_so { "Yes" } else { "No" }
 }
 
-// Appends the line of a row of the preset table.
-fn push_preset(text: &mut String, catalog: &Catalog, row: u32) -> Result<(), AllocError>
-    requires { row < PRESETS }
-    ensures { OnOk result (string_bytes text.new ≡ string_bytes text.old ++ PresetLists.preset_line catalog.now.book row) }
+// The description of the event in a row: a preset's own, and one for all user events.
+fn description_of(row: u32) -> &'static str
+    ensures { result.now ≡ PresetLists.description_of row }
 {
-    let code = format!(in *text.allocator(); "0x{:x}", preset_code(row))?;
+    if row < preset_count() {
+        preset_text(row)
+    } else {
+        "User defined event"
+    }
+}
+
+// Appends the line of a row of the catalog.
+fn push_row(text: &mut String, catalog: &Catalog, row: u32) -> Result<(), AllocError>
+    requires { row < row_count catalog.now }
+    ensures { OnOk result (string_bytes text.new ≡ string_bytes text.old ++ PresetLists.row_line catalog.now row) }
+{
+    let code = format!(in *text.allocator(); "0x{:x}", catalog.code(row))?;
     let columns = Columns {
-        name: preset_symbol(row),
+        name: catalog.name(row),
         code: code.as_str(),
         available: yes_or_no(catalog.available(row)),
         derived: yes_or_no(catalog.derived(row)),
-        description: preset_text(row),
+        description: description_of(row),
     };
     push_columns(text, &columns)
 }
 
-// Appends how many presets there are, how many of them are available, and how many of these are derived.
+// Appends how many events there are, how many of them are available, and how many of these are derived.
 fn push_counts(text: &mut String, catalog: &Catalog) -> Result<(), AllocError>
-    ensures { OnOk result (string_bytes text.new ≡ string_bytes text.old ++ PresetLists.counts_line catalog.now.book) }
+    ensures { OnOk result (string_bytes text.new ≡ string_bytes text.old ++ PresetLists.counts_line catalog.now) }
 {
-    let count = preset_count();
+    let count = catalog.rows();
     let mut available = 0;
     let mut derived = 0;
     for row in 0..count {
@@ -83,31 +94,32 @@ fn push_counts(text: &mut String, catalog: &Catalog) -> Result<(), AllocError>
     )
 }
 
-// Whether a row of the preset table is listed.
+// Whether a row of the catalog is listed.
 fn is_listed(catalog: &Catalog, available_alone: bool, row: u32) -> bool
+    requires { row < row_count catalog.now }
     ensures { result ≡ PresetLists.is_listed catalog.now.book available_alone row }
 {
     !available_alone || catalog.available(row)
 }
 
-/// The list of the preset events, as papi_avail(1) prints it: a heading, a line for each row of the preset table or for the
-/// available ones alone, and how many there are.
+/// The list of the presets and the user events, as papi_avail(1) prints it: a heading, a line for each row of the catalog or
+/// for the available ones alone, and how many there are.
 ///
 /// A line has the name in 14 places, the code in 12, whether it is available in 7, whether it is derived in 7, and the
-/// description. The counts are those of the whole table.
+/// description. A longer name is written whole, and the code follows it at once. The counts are those of the whole catalog.
 #[tactic(auto, unfolding(crate::specs::PresetLists::preset_list))]
 pub fn avail_list(
     alloc: Global,
     catalog: &Catalog,
     available_alone: bool,
 ) -> Result<String, AllocError>
-    ensures text { IfOk result (λ text. string_bytes text ≡ PresetLists.preset_list catalog.now.book available_alone) }
+    ensures text { IfOk result (λ text. string_bytes text ≡ PresetLists.preset_list catalog.now available_alone) }
 {
     let mut text = String::new(alloc);
     push_heading(&mut text)?;
-    for row in 0..preset_count() {
+    for row in 0..catalog.rows() {
         if is_listed(catalog, available_alone, row) {
-            push_preset(&mut text, catalog, row)?;
+            push_row(&mut text, catalog, row)?;
         }
     }
     push_counts(&mut text, catalog)?;

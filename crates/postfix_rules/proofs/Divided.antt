@@ -1,5 +1,6 @@
 -- Rust's wrapping division is the wrapped quotient.
-use Rattle.std.proofs.Common.{◌≡◌, ◌-◌, ◌/◌, ◌%◌, ◌^◌, ◌≤◌, ◌==◌, ℕ, zero, suc, Bool, true, false, ℤ, pos, negsuc, neg_ℤ, unsigned_abs, int_div, FitsSigned, w64, refl, ap, arith, div-le_self, mod-eq_of_lt, to_z, of_z}
+use Rattle.std.proofs.Common.{◌≡◌, ◌-◌, ◌/◌, ◌%◌, ◌^◌, ◌≤◌, ◌==◌, ℕ, zero, suc, Bool, true, false, ℤ, pos, negsuc, neg_ℤ, unsigned_abs}
+use Rattle.std.proofs.Common.{int_div, FitsSigned, w64, refl, ap, arith, div-le_self, mod-eq_of_lt, to_z, of_z}
 use Rattle.std.specs.Prelude.{if◌then◌else◌}
 use Rattle.std.proofs.lemmas.Bool.{eqb-true}
 use Rattle.std.specs.Int.{int_wrap, int_wrapping_div}

@@ -23,7 +23,7 @@ pile-one parts p q a b =
     let made : Some p ≡ Some q = sym (pile-made p) ∙ ap (pile_from []) same ∙ pile-made q in
     cc made
 
--- the pile behind one part more that has no cause
+-- the pile after one part more that has no cause
 abbrev after : List Tree → Part → List Tree
 after pile None = pile
 after pile (Some (token.Constant n)) = Constant n ∷ pile
@@ -36,7 +36,7 @@ after (y ∷ x ∷ pile) (Some (token.Operator o)) = Node o x y ∷ pile
 abbrev pub ClearAt : ℕ → List Part → ℕ → Type 0
 ClearAt natives parts j = (trees : List Tree) → Pile (take j parts) trees → length trees ≤ 16 → place_cause natives (length trees) (slice_get parts j) ≡ None
 
--- a list at and behind the end of another
+-- a list at and after the end of another
 get-middle : (above : List Part) (t : Part) (rest : List Part) → slice_get (above ++ t ∷ rest) (length above) ≡ Some t
 get-middle [] t rest = refl
 get-middle (a ∷ above) t rest = get-middle above t rest
@@ -66,9 +66,9 @@ pile-after natives above (y ∷ x ∷ pile) (Some (token.Operator o)) p e = (
   omega arith,
 )
 
-few-behind : (natives height : ℕ) (part : Part) → height ≤ 16 → token_cause natives height part ≡ None → height_after height part ≤ 16
-few-behind natives height None h e = h
-few-behind natives height (Some t) h e = few-after natives height t h e
+few-after_part : (natives height : ℕ) (part : Part) → height ≤ 16 → token_cause natives height part ≡ None → height_after height part ≤ 16
+few-after_part natives height None h e = h
+few-after_part natives height (Some t) h e = few-after natives height t h e
 
 -- what the search by heights says of the definition
 abbrev pub Says : ℕ → List Part → Option (ℕ × FormulaCause) → Type 0
@@ -143,7 +143,7 @@ walk natives parts above (t ∷ rest) pile is p few clear = go (token_cause nati
         let a = pile-after natives above pile t p e in
         let n : length (above ++ t ∷ []) ≡ length above + 1 = length-append above (t ∷ []) ∙ omega arith in
         let more = next (is ∙ sym (append_assoc above (t ∷ []) rest)) a.0
-        (rw a.1 (few-behind natives (length pile) t few e))
+        (rw a.1 (few-after_part natives (length pile) t few e))
         (λ j lt. elim (cases_lt j (length above)) [
           | inl less ↦ clear j less
           | inr ge ↦

@@ -9,7 +9,7 @@ use Rattle.postfix_rules.specs.Infix.{IsPhrase, OneTree, Written, Number, Native
 use Rattle.postfix_rules.specs.InfixTokens.{InfixPart}
 use Rattle.postfix_rules.proofs.InfixStates.{Frame, Held, State, done, frame, held, joined, stepped, wants}
 
--- the state behind further tokens
+-- the state after further tokens
 abbrev run : State → List InfixToken → State
 run s [] = s
 run s (t ∷ rest) = run (stepped s t) rest

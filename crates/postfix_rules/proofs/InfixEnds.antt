@@ -70,7 +70,8 @@ pub checked-end : (natives : ℕ) (tokens : List Token) (i height : ℕ) → len
 checked-end natives tokens i height le c = c.same ∙ ap (λ (ts : List Token). fault_from natives i height (map Some ts)) (drop_all i tokens le)
 
 -- the tokens are a formula exactly where there is no fault at the end
-pub formula-iff : (natives : ℕ) (tokens : List Token) (i height : ℕ) (b : Bool) → is_some (end_cause height) ≡ not b → length tokens ≤ i → Checked natives tokens i height → IsTrue b ↔ IsFormula natives tokens
+pub formula-iff : (natives : ℕ) (tokens : List Token) (i height : ℕ) (b : Bool) → is_some (end_cause height) ≡ not b → length tokens ≤ i
+    → Checked natives tokens i height → IsTrue b ↔ IsFormula natives tokens
 formula-iff natives tokens i height b h le c = go (end_cause height) b refl h
   where
     go : (o : Option FormulaCause) (d : Bool) → end_cause height ≡ o → is_some o ≡ not d → IsTrue d ↔ IsFormula natives tokens
@@ -93,7 +94,8 @@ pub end-open : (natives place : ℕ) (order : OrderView) → order.must ≡ fals
 unfolding infix_end
 end-open natives place order m o = end-refused natives place order cause.Unbalanced (rw (m, lt-ltb 0 (length order.outer) o) refl)
 
-pub end-deep : (natives place : ℕ) (order : OrderView) → order.must ≡ false → length order.outer ≡ 0 → (IsFormula natives (ended_tokens order) → ⊥) → infix_ended natives place order [] ≡ refused_at place cause.TooDeep
+pub end-deep : (natives place : ℕ) (order : OrderView) → order.must ≡ false → length order.outer ≡ 0 → (IsFormula natives (ended_tokens order) → ⊥)
+    → infix_ended natives place order [] ≡ refused_at place cause.TooDeep
 unfolding infix_end
 end-deep natives place order m o n = end-refused natives place order cause.TooDeep (rw (m, o, some-of (fault_from natives 0 0 (map Some (ended_tokens order))) n) refl)
   where
@@ -131,17 +133,18 @@ pub reads-none : (natives : ℕ) (text : Text) → Reads natives text text 0 ord
 unfolding infix_of
 reads-none natives text = record { same = refl; within = omega arith }
 
-pub reads-more : (natives : ℕ) (text rest behind : Text) (place : ℕ) (order : OrderView) (part : InfixPart) (t : InfixToken) → infix_parts rest ≡ part ∷ infix_parts behind → part ≡ Some t
-    → order_cause natives order part ≡ None → length behind < length rest → Reads natives text rest place order → Reads natives text behind (place + 1) (moved order t)
-reads-more natives text rest behind place order part t is token none lt r = record {
-  same = r.same ∙ ap (infix_ended natives place order) is ∙ part-taken natives place order part (infix_parts behind) none
-      ∙ ap (λ (p : InfixPart). infix_ended natives (place + 1) (moved_by order p) (infix_parts behind)) token;
+pub reads-more : (natives : ℕ) (text rest after : Text) (place : ℕ) (order : OrderView) (part : InfixPart) (t : InfixToken) → infix_parts rest ≡ part ∷ infix_parts after → part ≡ Some t
+    → order_cause natives order part ≡ None → length after < length rest → Reads natives text rest place order → Reads natives text after (place + 1) (moved order t)
+reads-more natives text rest after place order part t is token none lt r = record {
+  same = r.same ∙ ap (infix_ended natives place order) is ∙ part-taken natives place order part (infix_parts after) none
+      ∙ ap (λ (p : InfixPart). infix_ended natives (place + 1) (moved_by order p) (infix_parts after)) token;
   within = let w = r.within in omega arith;
 }
 
-pub reads-refused : (natives : ℕ) (text rest behind : Text) (place : ℕ) (order : OrderView) (part : InfixPart) (why : FormulaCause) → infix_parts rest ≡ part ∷ infix_parts behind
+pub reads-refused : (natives : ℕ) (text rest after : Text) (place : ℕ) (order : OrderView) (part : InfixPart) (why : FormulaCause) → infix_parts rest ≡ part ∷ infix_parts after
     → order_cause natives order part ≡ Some why → Reads natives text rest place order → infix_of natives text ≡ refused_at place why
-reads-refused natives text rest behind place order part why is e r = r.same ∙ ap (infix_ended natives place order) is ∙ part-refused natives place order part (infix_parts behind) why e
+reads-refused natives text rest after place order part why is e r = r.same ∙ ap (infix_ended natives place order) is ∙ part-refused natives place order part (infix_parts after) why e
 
-pub reads-ended : (natives : ℕ) (text rest : Text) (place : ℕ) (order : OrderView) → infix_parts rest ≡ [] → Reads natives text rest place order → infix_of natives text ≡ infix_ended natives place order []
+pub reads-ended : (natives : ℕ) (text rest : Text) (place : ℕ) (order : OrderView) → infix_parts rest ≡ [] → Reads natives text rest place order
+    → infix_of natives text ≡ infix_ended natives place order []
 reads-ended natives text rest place order is r = r.same ∙ ap (infix_ended natives place order) is

@@ -12,7 +12,8 @@ use Rattle.postfix_rules.specs.Trees.{spelling}
 use Rattle.postfix_rules.proofs.InfixStates.{Small}
 use Rattle.postfix_rules.proofs.Spelled.{clear-first, constant-ok, native-ok}
 
-step-free : (natives place h : ℕ) (part : Part) (rest : List Part) → token_cause natives h part ≡ None → fault_from natives place h (part ∷ rest) ≡ fault_from natives (place + 1) (height_after h part) rest
+step-free : (natives place h : ℕ) (part : Part) (rest : List Part) → token_cause natives h part ≡ None
+    → fault_from natives place h (part ∷ rest) ≡ fault_from natives (place + 1) (height_after h part) rest
 unfolding fault_from
 step-free natives place h part rest e = rw e refl
 
@@ -88,7 +89,8 @@ within natives (Native i) place h rest e =
     let c = clear-first natives place h (Some (token.Native i)) rest e in record { room = (native-ok natives h i c.now).1; place = place + 1; left = c.next }
 within natives (Inside x) place h rest e = let w = within natives x place h rest e in record { room = w.room; place = w.place; left = w.left }
 within natives (Two o x y) place h rest e =
-    let a = within natives x place h (map Some (spelling (tree_of y)) ++ (Some (token.Operator o) ∷ rest)) (sym (ap (fault_from natives place h) (node-parts (spelling (tree_of x)) (spelling (tree_of y)) o rest)) ∙ e) in
+    let a = within natives x place h (map Some (spelling (tree_of y)) ++ (Some (token.Operator o) ∷ rest))
+    (sym (ap (fault_from natives place h) (node-parts (spelling (tree_of x)) (spelling (tree_of y)) o rest)) ∙ e) in
     let b = within natives y a.place (h + 1) (Some (token.Operator o) ∷ rest) a.left in
     let c = clear-first natives b.place (h + 1 + 1) (Some (token.Operator o)) rest b.left in
     let back : h + 1 + 1 - 1 ≡ h + 1 = omega arith in

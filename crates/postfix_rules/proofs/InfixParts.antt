@@ -1,4 +1,4 @@
--- The first part of a text in infix order, and what is behind it.
+-- The first part of a text in infix order, and what is after it.
 use Rattle.std.proofs.Common.{◌≡◌, ◌∙◌, ◌<◌, ◌≤◌, ◌+◌, ◌^◌, ◌∷◌, ℕ, suc, Bool, true, false, List, [], Option, Some, None, cond, length, take, drop, refl, sym, ap, subst, arith}
 use Rattle.std.specs.Prelude.{◌&&◌, ◌||◌, ◌==◌, not, nat_lt, slice_index, if◌then◌else◌}
 use Rattle.std.specs.List.{list_all, prefix_len, take_while}
@@ -50,7 +50,8 @@ sign-none text e n m o =
     let is : operator_of (slice_index text 0 ∷ []) ≡ None = ap operator_of (sym (one-sign text e)) ∙ o in
     rw (ne_eqb _ 40 n, ne_eqb _ 41 m, is) refl
 
-pub sign-some : (text : Text) (p : Operator) → length text ≡ 1 → (slice_index text 0 ≡ 40 → ⊥) → (slice_index text 0 ≡ 41 → ⊥) → operator_of text ≡ Some p → sign_part (slice_index text 0) ≡ Some (sign.Token (token.Operator p))
+pub sign-some : (text : Text) (p : Operator) → length text ≡ 1 → (slice_index text 0 ≡ 40 → ⊥) → (slice_index text 0 ≡ 41 → ⊥) → operator_of text ≡ Some p
+    → sign_part (slice_index text 0) ≡ Some (sign.Token (token.Operator p))
 sign-some text p e n m o =
     let is : operator_of (slice_index text 0 ∷ []) ≡ Some p = ap operator_of (sym (one-sign text e)) ∙ o in
     rw (ne_eqb _ 40 n, ne_eqb _ 41 m, is) refl

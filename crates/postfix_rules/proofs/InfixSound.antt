@@ -11,7 +11,7 @@ use Rattle.postfix_rules.specs.declared.fault.FormulaFault.TheVariants.{At, Memo
 use Rattle.postfix_rules.specs.declared.infix_token.InfixToken.{InfixToken}
 use Rattle.postfix_rules.specs.Faults.{FormulaView, IsFormula}
 use Rattle.postfix_rules.specs.Infix.{IsInfix, Written, need, tree_of}
-use Rattle.postfix_rules.specs.InfixFaults.{AreClear, HasCause, IsInfixFault, ReadsInfix, WritesTree, begins_factor, cause_at, infix_cause, must_begin, open_after, open_behind}
+use Rattle.postfix_rules.specs.InfixFaults.{AreClear, HasCause, IsInfixFault, ReadsInfix, WritesTree, begins_factor, cause_at, infix_cause, must_begin, open_after, open_at_end}
 use Rattle.postfix_rules.specs.InfixReading.{Gives, OrderView, ended_tokens, infix_ended, infix_of, moved, operator_tokens, order_begun, order_cause, refused_at}
 use Rattle.postfix_rules.specs.InfixTokens.{InfixPart, infix_parts}
 use Rattle.postfix_rules.specs.Reading.{Refused}
@@ -22,12 +22,12 @@ use Rattle.postfix_rules.proofs.InfixNeeds.{few-formula, formula-few}
 use Rattle.postfix_rules.proofs.InfixStates.{Held, IsFine, Small, State, by, done, held_tokens, joined, joined-sum, joined-tokens, joined-words, order_of, state_words, stepped, waits, wants}
 use Rattle.postfix_rules.proofs.InfixSteps.{moves}
 
--- the state behind some parts, and how it shows
+-- the state after some parts, and how it shows
 record Follows (natives : ℕ) (before : List InfixPart) (order : OrderView) (s : State) : Type 0 where
   words : map Some (state_words s) ≡ before
   shows : order ≡ order_of s
   must : must_begin before ≡ order.must
-  depth : open_behind before ≡ length order.outer
+  depth : open_at_end before ≡ length order.outer
   fine : IsFine natives s
 
 follows-none : (natives : ℕ) → Follows natives [] order_begun (wants [] None None)
@@ -42,7 +42,8 @@ follows-more natives before order s t e f =
       words = ap (map Some) m.words ∙ map-append Some (state_words s) (t ∷ []) ∙ ap (λ (ps : List InfixPart). ps ++ Some t ∷ []) f.words;
       shows = shows;
       must = fold-append (λ (b : Bool) (p : InfixPart). begins_factor p) true before (Some t ∷ []) ∙ m.must ∙ sym (ap (λ (o : OrderView). o.must) shows);
-      depth = fold-append open_after 0 before (Some t ∷ []) ∙ ap (λ (n : ℕ). open_after n (Some t)) (f.depth ∙ ap (λ (o : OrderView). length o.outer) f.shows) ∙ m.depth ∙ sym (ap (λ (o : OrderView). length o.outer) shows);
+      depth = fold-append open_after 0 before (Some t ∷ []) ∙ ap (λ (n : ℕ). open_after n (Some t)) (f.depth ∙ ap (λ (o : OrderView). length o.outer) f.shows)
+          ∙ m.depth ∙ sym (ap (λ (o : OrderView). length o.outer) shows);
       fine = m.fine;
     }
 
@@ -60,19 +61,21 @@ get-end : (xs : List InfixPart) → slice_get xs (length xs) ≡ None
 get-end [] = refl
 get-end (x ∷ xs) = get-end xs
 
-here : (natives : ℕ) (before rest : List InfixPart) (part : InfixPart) (order : OrderView) → must_begin before ≡ order.must → open_behind before ≡ length order.outer
+here : (natives : ℕ) (before rest : List InfixPart) (part : InfixPart) (order : OrderView) → must_begin before ≡ order.must → open_at_end before ≡ length order.outer
     → cause_at natives (before ++ part ∷ rest) (length before) part ≡ order_cause natives order part
 here natives before rest part order m d =
-    ap (λ (ps : List InfixPart). infix_cause natives (must_begin ps) (open_behind ps) part) (take-front before (part ∷ rest))
-    ∙ ap (λ (b : Bool). infix_cause natives b (open_behind before) part) m
+    ap (λ (ps : List InfixPart). infix_cause natives (must_begin ps) (open_at_end ps) part) (take-front before (part ∷ rest))
+    ∙ ap (λ (b : Bool). infix_cause natives b (open_at_end before) part) m
     ∙ ap (λ (n : ℕ). infix_cause natives order.must n part) d
 
-clear-more : (natives : ℕ) (before rest : List InfixPart) (part : InfixPart) → cause_at natives (before ++ part ∷ rest) (length before) part ≡ None → AreClear natives (before ++ part ∷ rest) (length before)
+clear-more : (natives : ℕ) (before rest : List InfixPart) (part : InfixPart) → cause_at natives (before ++ part ∷ rest) (length before) part ≡ None
+    → AreClear natives (before ++ part ∷ rest) (length before)
     → AreClear natives ((before ++ part ∷ []) ++ rest) (length (before ++ part ∷ []))
 clear-more natives before rest part none clear =
     subst (λ (ps : List InfixPart). AreClear natives ps (length (before ++ part ∷ []))) (sym (append_assoc before (part ∷ []) rest)) (λ j q lt at. go j q lt at (nat_lt j (length before)) refl)
   where
-    go : (j : ℕ) (q : InfixPart) → j < length (before ++ part ∷ []) → slice_get (before ++ part ∷ rest) j ≡ Some q → (b : Bool) → nat_lt j (length before) ≡ b → cause_at natives (before ++ part ∷ rest) j q ≡ None
+    go : (j : ℕ) (q : InfixPart) → j < length (before ++ part ∷ []) → slice_get (before ++ part ∷ rest) j ≡ Some q → (b : Bool) → nat_lt j (length before) ≡ b
+        → cause_at natives (before ++ part ∷ rest) j q ≡ None
     go j q lt at true e = clear j q (ltb-true j (length before) e) at
     go j q lt at false e =
         let le = ltb-false j (length before) e in
@@ -87,7 +90,8 @@ abbrev Says : ℕ → List InfixPart → Result FormulaView Refused → Type 0
 Says natives parts (Ok f) = (tree : Tree) × WritesTree natives parts tree × (f.tokens ≡ spelling tree) × (f.natives ≡ natives)
 Says natives parts (Err r) = (k : ℕ) × (r.place ≡ k + 1) × IsInfixFault natives parts k r.cause
 
-fault-end : (natives : ℕ) (before : List InfixPart) (why : FormulaCause) → HasCause natives before (length before) why None → AreClear natives before (length before) → IsInfixFault natives before (length before) why
+fault-end : (natives : ℕ) (before : List InfixPart) (why : FormulaCause) → HasCause natives before (length before) why None
+    → AreClear natives before (length before) → IsInfixFault natives before (length before) why
 fault-end natives before why h clear = record { here = subst (HasCause natives before (length before) why) (sym (get-end before)) h; first = clear }
 
 refuses : (natives place : ℕ) (before : List InfixPart) (why : FormulaCause) → place ≡ length before → HasCause natives before (length before) why None → AreClear natives before (length before)
@@ -104,7 +108,7 @@ ended natives place before (wants outer s p) n f clear =
     subst (Says natives before) (sym (end-missing natives place (order_of (wants outer s p)) refl)) (refuses natives place before cause.OperandMissing n (refl, f.must) clear)
 ended natives place before (done (g ∷ outer) s w) n f clear =
     let some : 0 < length (waits (g ∷ outer)) = omega arith in
-    let deep : 0 < open_behind before = subst (λ (k : ℕ). 0 < k) (sym f.depth) some in
+    let deep : 0 < open_at_end before = subst (λ (k : ℕ). 0 < k) (sym f.depth) some in
     subst (Says natives before) (sym (end-open natives place (order_of (done (g ∷ outer) s w)) refl some)) (refuses natives place before cause.Unbalanced n (refl, (f.must, deep)) clear)
 ended natives place before (done [] s w) n f clear = go (nat_lt 16 (need (tree_of (joined s w)))) refl
   where
@@ -144,7 +148,8 @@ says natives place before [] order s n f clear =
     let parts : before ++ [] ≡ before = append-nil before in
     let f2 : Follows natives before (order_of s) s = subst (λ (o : OrderView). Follows natives before o s) f.shows f in
     let all = ended natives place before s n f2 (subst (λ (ps : List InfixPart). AreClear natives ps (length before)) parts clear) in
-    subst (λ (ps : List InfixPart). Says natives ps (infix_ended natives place order [])) (sym parts) (subst (λ (o : OrderView). Says natives before (infix_ended natives place o [])) (sym f.shows) all)
+    subst (λ (ps : List InfixPart). Says natives ps (infix_ended natives place order [])) (sym parts)
+    (subst (λ (o : OrderView). Says natives before (infix_ended natives place o [])) (sym f.shows) all)
 says natives place before (None ∷ rest) order s n f clear =
     let why = here natives before rest None order f.must f.depth in
     let at : cause_at natives (before ++ None ∷ rest) (length before) None ≡ Some cause.UnknownToken = why ∙ unknown-part natives order.must (length order.outer) in

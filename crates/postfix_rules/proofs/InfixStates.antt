@@ -1,4 +1,4 @@
--- What stands of a formula in infix order behind some of its tokens.
+-- What stands of a formula in infix order after some of its tokens.
 use Rattle.std.proofs.Common.{◌≡◌, ◌<◌, ◌^◌, ◌∷◌, ◌++◌, ℕ, true, false, List, [], Option, Some, None, map, refl, append_assoc, append-nil}
 use Rattle.std.specs.Prelude.{⊤}
 use Rattle.std.specs.List.{AllByRecursion}
@@ -21,7 +21,7 @@ pub data Held : Type 0 where
 pub data Frame : Type 0 where
   frame : Option Held → Option Held → Frame
 
--- a factor must begin, behind a sum and a product that wait; or a term stands, behind a sum that waits
+-- a factor must begin, after a sum and a product that wait; or a term stands, after a sum that waits
 pub data State : Type 0 where
   wants : List Frame → Option Held → Option Held → State
   done : List Frame → Option Held → Written → State

@@ -14,14 +14,15 @@ use Rattle.postfix_rules.specs.Infix.{Written, Number, Native, Inside, tree_of, 
 use Rattle.postfix_rules.specs.InfixFaults.{begins_factor, infix_cause, open_after, place_of_operand}
 use Rattle.postfix_rules.specs.InfixReading.{OrderView, moved, operator_tokens, order_cause}
 use Rattle.postfix_rules.specs.Trees.{spelling}
-use Rattle.postfix_rules.proofs.InfixStates.{Frame, Held, IsFine, State, by, done, frame, held, held_tokens, held_words, joined, joined-sum, joined-term, joined-tokens, joined-words, order_of, outer_tokens, outer_words, state_words, stepped, waits, wants}
+use Rattle.postfix_rules.proofs.InfixStates.{Frame, Held, IsFine, State, by, done, frame, held, held_tokens, held_words, joined, joined-sum, joined-term}
+use Rattle.postfix_rules.proofs.InfixStates.{joined-tokens, joined-words, order_of, outer_tokens, outer_words, state_words, stepped, waits, wants}
 
 -- ---- lists
 
 regroup : {X : Type 0} (a b c d : List X) → (a ++ (b ++ c)) ++ d ≡ a ++ (b ++ (c ++ d))
 regroup a b c d = append_assoc a (b ++ c) d ∙ ap (λ t. a ++ t) (append_assoc b c d)
 
--- a leaf behind a sum and a product
+-- a leaf after a sum and a product
 leaf-words : (outer : List Frame) (s p : Option Held) (w : Written) (t : InfixToken) → wording w ≡ t ∷ [] → state_words (done outer s (joined p w)) ≡ state_words (wants outer s p) ++ (t ∷ [])
 leaf-words outer s p w t is =
     ap (λ (ts : List InfixToken). outer_words outer ++ (held_words s ++ ts)) (sym (joined-words p w) ∙ ap (λ (ts : List InfixToken). held_words p ++ ts) is)
@@ -35,18 +36,24 @@ leaf-tokens outer s p w t is =
     ∙ ap (λ (ts : List Token). outer_tokens outer ++ (held_tokens s ++ (held_tokens p ++ (ts ++ operator_tokens (by p))))) (sym is)
     ∙ ap (λ (ts : List Token). outer_tokens outer ++ (held_tokens s ++ ts)) (joined-tokens p w)
 
--- a term joins the sum in front of it
-sum-words : (outer : List Frame) (s : Option Held) (w : Written) (o : Operator) → state_words (wants outer (Some (held (joined s w) o)) None) ≡ state_words (done outer s w) ++ (sign.Token (token.Operator o) ∷ [])
+-- a term joins the sum before it
+sum-words : (outer : List Frame) (s : Option Held) (w : Written) (o : Operator)
+    → state_words (wants outer (Some (held (joined s w) o)) None) ≡ state_words (done outer s w) ++ (sign.Token (token.Operator o) ∷ [])
 sum-words outer s w o =
-    ap (λ (ts : List InfixToken). outer_words outer ++ ts) (append-nil (wording (joined s w) ++ (sign.Token (token.Operator o) ∷ [])) ∙ ap (λ (ts : List InfixToken). ts ++ (sign.Token (token.Operator o) ∷ [])) (sym (joined-words s w)))
+    ap (λ (ts : List InfixToken). outer_words outer ++ ts)
+    (append-nil (wording (joined s w) ++ (sign.Token (token.Operator o) ∷ []))
+    ∙ ap (λ (ts : List InfixToken). ts ++ (sign.Token (token.Operator o) ∷ [])) (sym (joined-words s w)))
     ∙ sym (append_assoc (outer_words outer) (held_words s ++ wording w) (sign.Token (token.Operator o) ∷ []))
 
-sum-tokens : (outer : List Frame) (s : Option Held) (w : Written) → (outer_tokens outer ++ (held_tokens s ++ spelling (tree_of w))) ++ operator_tokens (by s) ≡ outer_tokens outer ++ (spelling (tree_of (joined s w)) ++ [])
+sum-tokens : (outer : List Frame) (s : Option Held) (w : Written)
+    → (outer_tokens outer ++ (held_tokens s ++ spelling (tree_of w))) ++ operator_tokens (by s)
+    ≡ outer_tokens outer ++ (spelling (tree_of (joined s w)) ++ [])
 sum-tokens outer s w =
     regroup (outer_tokens outer) (held_tokens s) (spelling (tree_of w)) (operator_tokens (by s))
     ∙ ap (λ (ts : List Token). outer_tokens outer ++ ts) (joined-tokens s w ∙ sym (append-nil (spelling (tree_of (joined s w)))))
 
-product-words : (outer : List Frame) (s : Option Held) (w : Written) (o : Operator) → state_words (wants outer s (Some (held w o))) ≡ state_words (done outer s w) ++ (sign.Token (token.Operator o) ∷ [])
+product-words : (outer : List Frame) (s : Option Held) (w : Written) (o : Operator)
+    → state_words (wants outer s (Some (held w o))) ≡ state_words (done outer s w) ++ (sign.Token (token.Operator o) ∷ [])
 product-words outer s w o = sym (regroup (outer_words outer) (held_words s) (wording w) (sign.Token (token.Operator o) ∷ []))
 
 open-words : (outer : List Frame) (s p : Option Held) → state_words (wants (frame s p ∷ outer) None None) ≡ state_words (wants outer s p) ++ (sign.Open ∷ [])
@@ -69,7 +76,9 @@ close-tokens : (outer : List Frame) (t p s : Option Held) (w : Written)
     ≡ outer_tokens outer ++ (held_tokens t ++ spelling (tree_of (joined p (Inside (joined s w)))))
 close-tokens outer t p s w =
     let all = outer_tokens outer ++ (held_tokens t ++ held_tokens p) in
-    ap (λ (ts : List Token). ts ++ operator_tokens (by p)) (append_assoc all (held_tokens s ++ spelling (tree_of w)) (operator_tokens (by s)) ∙ ap (λ (ts : List Token). all ++ ts) (append_assoc (held_tokens s) (spelling (tree_of w)) (operator_tokens (by s)) ∙ joined-tokens s w))
+    ap (λ (ts : List Token). ts ++ operator_tokens (by p))
+    (append_assoc all (held_tokens s ++ spelling (tree_of w)) (operator_tokens (by s))
+    ∙ ap (λ (ts : List Token). all ++ ts) (append_assoc (held_tokens s) (spelling (tree_of w)) (operator_tokens (by s)) ∙ joined-tokens s w))
     ∙ append_assoc all (spelling (tree_of (joined s w))) (operator_tokens (by p))
     ∙ regroup (outer_tokens outer) (held_tokens t) (held_tokens p) (spelling (tree_of (joined s w)) ++ operator_tokens (by p))
     ∙ ap (λ (ts : List Token). outer_tokens outer ++ (held_tokens t ++ ts)) (joined-tokens p (Inside (joined s w)))
@@ -79,7 +88,7 @@ close-tokens outer t p s w =
 abbrev order-with : List Waiting → Waiting → Bool → List Token → OrderView
 order-with outer here must tokens = record { tokens = tokens; outer = outer; here = here; must = must }
 
--- the state behind one token more, and how it shows
+-- the state after one token more, and how it shows
 pub record Moves (natives : ℕ) (s : State) (t : InfixToken) : Type 0 where
   pub words : state_words (stepped s t) ≡ state_words s ++ (t ∷ [])
   pub order : moved (order_of s) t ≡ order_of (stepped s t)
@@ -107,9 +116,9 @@ small-native natives i must depth e = go (nat_lt i natives) refl e
     go true p q = (ltb-true i natives p, operand-free must q)
     go false p q = cc q
 
-behind-operand : (natives : ℕ) (o : Operator) (depth : ℕ) → infix_cause natives true depth (Some (sign.Token (token.Operator o))) ≡ None → ⊥
+after-operand : (natives : ℕ) (o : Operator) (depth : ℕ) → infix_cause natives true depth (Some (sign.Token (token.Operator o))) ≡ None → ⊥
 unfolding infix_cause
-behind-operand natives o depth e = cc e
+after-operand natives o depth e = cc e
 
 closes-none : (natives depth : ℕ) → infix_cause natives true depth (Some sign.Close) ≡ None → ⊥
 unfolding infix_cause
@@ -146,10 +155,11 @@ moves natives (wants outer s p) (sign.Token (token.Native i)) h e =
       must = refl;
       depth = refl;
     }
-moves natives (wants outer s p) (sign.Token (token.Operator o)) h e = absurd (behind-operand natives o (length (waits outer)) e)
+moves natives (wants outer s p) (sign.Token (token.Operator o)) h e = absurd (after-operand natives o (length (waits outer)) e)
 moves natives (wants outer s p) sign.Open h e = record {
   words = open-words outer s p;
-  order = ap (order-with (record { sum = by s; product = by p } ∷ waits outer) (record { sum = None; product = None }) true) (sym (append-nil (outer_tokens outer ++ (held_tokens s ++ held_tokens p))));
+  order = ap (order-with (record { sum = by s; product = by p } ∷ waits outer) (record { sum = None; product = None }) true)
+      (sym (append-nil (outer_tokens outer ++ (held_tokens s ++ held_tokens p))));
   fine = (((h.1, h.2), h.0), tt, tt);
   must = refl;
   depth = omega arith;

@@ -60,15 +60,18 @@ next_has false n seen h = list_any-append (same_native n) seen (n ∷ []) ∙ or
 joined_has : (m : Native) (seen more : List Native) → among m more ≡ true → among m (joined_by seen more) ≡ true
 joined_has m seen [] h = cc
 joined_has m seen (n ∷ more) h = go (λ s. joined_has m s more) (same_native m n) refl h where
-  go : ((s : List Native) → among m more ≡ true → among m (joined_by s more) ≡ true) → (b : Bool) → same_native m n ≡ b → (b || among m more) ≡ true → among m (joined_by (if among n seen then seen else seen ++ n ∷ []) more) ≡ true
-  go later true q k = joined_among m (if among n seen then seen else seen ++ n ∷ []) more (ap (λ x. among x (if among n seen then seen else seen ++ n ∷ [])) (native_is m n q) ∙ next_has (among n seen) n seen refl)
+  go : ((s : List Native) → among m more ≡ true → among m (joined_by s more) ≡ true) → (b : Bool) → same_native m n ≡ b → (b || among m more) ≡ true
+      → among m (joined_by (if among n seen then seen else seen ++ n ∷ []) more) ≡ true
+  go later true q k = joined_among m (if among n seen then seen else seen ++ n ∷ []) more
+      (ap (λ x. among x (if among n seen then seen else seen ++ n ∷ [])) (native_is m n q) ∙ next_has (among n seen) n seen refl)
   go later false q k = later (if among n seen then seen else seen ++ n ∷ []) k
 
 after_among : (book : Book) (m : Native) (seen : List Native) (es : List EventRef) → among m seen ≡ true → among m (natives_after book seen es) ≡ true
 after_among book m seen [] h = h
 after_among book m seen (e ∷ es) h = after_among book m (joined_by seen (natives_of_event book e)) es (joined_among m seen (natives_of_event book e) h)
 
-after_has : (book : Book) (m : Native) (seen : List Native) (es : List EventRef) (i : ℕ) (e : EventRef) → slice_get es i ≡ Some e → among m (natives_of_event book e) ≡ true → among m (natives_after book seen es) ≡ true
+after_has : (book : Book) (m : Native) (seen : List Native) (es : List EventRef) (i : ℕ) (e : EventRef) → slice_get es i ≡ Some e
+    → among m (natives_of_event book e) ≡ true → among m (natives_after book seen es) ≡ true
 after_has book m seen [] i e g h = cc
 after_has book m seen (x ∷ es) zero e g h =
     let same : x ≡ e = cc in

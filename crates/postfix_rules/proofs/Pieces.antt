@@ -1,4 +1,4 @@
--- The first piece of a text, and what is behind its bar.
+-- The first piece of a text, and what is after its bar.
 use Rattle.std.proofs.Common.{◌≡◌, ◌∙◌, ◌<◌, ◌+◌, ◌-◌, ◌∷◌, ℕ, Bool, true, false, List, [], None, Some, cond, length, map, take, drop, refl, sym, ap, arith, length-drop}
 use Rattle.std.specs.Prelude.{nat_lt, not, ◌==◌, position}
 use Rattle.std.proofs.lemmas.Bool.{ltb-true, ltb-false, lt-ltb, le-ltb}
@@ -36,7 +36,7 @@ parts-cut text n h = go (nat_lt (position_or_len is_bar text) (length text)) ref
         ∙ ap (λ (k : ℕ). part (take k text) ∷ map part (without_blank_last (slice_split is_bar (drop (k + 1) text)))) at
     go false e s = cc s
 
--- the same, the text behind the bar as a slice to the end gives it
+-- the same, the text after the bar as a slice to the end gives it
 pub parts-cut_rest : (text : Text) (n : ℕ) → position is_bar text ≡ Some n
     → parts_of text ≡ part_of (trimmed (take n text)) ∷ parts_of (take (length text - (n + 1)) (drop (n + 1) text))
 parts-cut_rest text n h =

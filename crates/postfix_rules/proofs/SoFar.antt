@@ -38,18 +38,18 @@ fault-none : (natives place height : ℕ) → end_cause height ≡ None → faul
 unfolding fault_from
 fault-none natives place height e = rw e refl
 
-pub so_far-more : (natives : ℕ) (text rest behind : Text) (tokens : List Token) (height : ℕ) (part : Part) (t : Token) → parts_of rest ≡ part ∷ parts_of behind → part ≡ Some t
-    → token_cause natives height part ≡ None → SoFar natives text rest tokens height → SoFar natives text behind (tokens ++ t ∷ []) (height_after height (Some t))
-so_far-more natives text rest behind tokens height part t is token clear s =
-    let first : parts_of rest ≡ Some t ∷ parts_of behind = is ∙ ap (λ (p : Part). p ∷ parts_of behind) token in
+pub so_far-more : (natives : ℕ) (text rest after : Text) (tokens : List Token) (height : ℕ) (part : Part) (t : Token) → parts_of rest ≡ part ∷ parts_of after → part ≡ Some t
+    → token_cause natives height part ≡ None → SoFar natives text rest tokens height → SoFar natives text after (tokens ++ t ∷ []) (height_after height (Some t))
+so_far-more natives text rest after tokens height part t is token clear s =
+    let first : parts_of rest ≡ Some t ∷ parts_of after = is ∙ ap (λ (p : Part). p ∷ parts_of after) token in
     let free : token_cause natives height (Some t) ≡ None = ap (token_cause natives height) (sym token) ∙ clear in
-    let pushed : map Some tokens ++ (Some t ∷ parts_of behind) ≡ map Some (tokens ++ t ∷ []) ++ parts_of behind
-    = sym (append_assoc (map Some tokens) (Some t ∷ []) (parts_of behind)) ∙ ap (λ (ps : List Part). ps ++ parts_of behind) (sym (map-append Some tokens (t ∷ []))) in
+    let pushed : map Some tokens ++ (Some t ∷ parts_of after) ≡ map Some (tokens ++ t ∷ []) ++ parts_of after
+    = sym (append_assoc (map Some tokens) (Some t ∷ []) (parts_of after)) ∙ ap (λ (ps : List Part). ps ++ parts_of after) (sym (map-append Some tokens (t ∷ []))) in
     let long : length tokens + 1 ≡ length (tokens ++ t ∷ []) = sym (length-append tokens (t ∷ [])) in record {
       parts = s.parts ∙ ap (λ (ps : List Part). map Some tokens ++ ps) first ∙ pushed;
       faults = s.faults ∙ ap (fault_from natives (length tokens) height) first
-          ∙ fault-next natives (length tokens) height (Some t) (parts_of behind) free
-          ∙ ap (λ (n : ℕ). fault_from natives n (height_after height (Some t)) (parts_of behind)) long;
+          ∙ fault-next natives (length tokens) height (Some t) (parts_of after) free
+          ∙ ap (λ (n : ℕ). fault_from natives n (height_after height (Some t)) (parts_of after)) long;
       few = few-after natives height t s.few free;
     }
 
@@ -58,11 +58,11 @@ refused-at : (natives : ℕ) (text : Text) (place : ℕ) (why : FormulaCause) �
 unfolding formula_of
 refused-at natives text place why e = ap (unless_fault natives (parts_of text)) e
 
-pub so_far-refused : (natives : ℕ) (text rest behind : Text) (tokens : List Token) (height : ℕ) (part : Part) (why : FormulaCause) → parts_of rest ≡ part ∷ parts_of behind
+pub so_far-refused : (natives : ℕ) (text rest after : Text) (tokens : List Token) (height : ℕ) (part : Part) (why : FormulaCause) → parts_of rest ≡ part ∷ parts_of after
     → token_cause natives height part ≡ Some why → SoFar natives text rest tokens height → formula_of natives text ≡ Err (record { place = length tokens + 1; cause = why })
-so_far-refused natives text rest behind tokens height part why is e s =
+so_far-refused natives text rest after tokens height part why is e s =
     refused-at natives text (length tokens) why
-    (s.faults ∙ ap (fault_from natives (length tokens) height) is ∙ fault-here natives (length tokens) height part (parts_of behind) why e)
+    (s.faults ∙ ap (fault_from natives (length tokens) height) is ∙ fault-here natives (length tokens) height part (parts_of after) why e)
 
 pub so_far-unended : (natives : ℕ) (text rest : Text) (tokens : List Token) (height : ℕ) (why : FormulaCause) → parts_of rest ≡ [] → end_cause height ≡ Some why
     → SoFar natives text rest tokens height → formula_of natives text ≡ Err (record { place = length tokens + 1; cause = why })

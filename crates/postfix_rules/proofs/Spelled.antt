@@ -59,7 +59,7 @@ one-tree height e = go (nat_lt height 1) (nat_lt height 2) refl refl e
     go false true p q h = grind (arith, tests)
     go false false p q h = cc h
 
--- a part without a cause, and no fault behind it
+-- a part without a cause, and no fault after it
 pub record Clear (natives place height : ℕ) (part : Part) (rest : List Part) : Type 0 where
   pub now : token_cause natives height part ≡ None
   pub next : fault_from natives (place + 1) (height_after height part) rest ≡ None
@@ -68,7 +68,9 @@ pub clear-first : (natives place height : ℕ) (part : Part) (rest : List Part) 
 unfolding fault_from
 clear-first natives place height part rest e = go (token_cause natives height part) refl e
   where
-    go : (o : Option FormulaCause) → token_cause natives height part ≡ o → option_map_or (λ why. Some (place, why)) o (fault_from natives (place + 1) (height_after height part) rest) ≡ None → Clear natives place height part rest
+    go : (o : Option FormulaCause) → token_cause natives height part ≡ o
+        → option_map_or (λ why. Some (place, why)) o (fault_from natives (place + 1) (height_after height part) rest) ≡ None
+        → Clear natives place height part rest
     go None p q = record { now = p; next = q }
     go (Some w) p q = cc q
 

@@ -1,5 +1,6 @@
 -- The first fault of a formula: papi_events.csv, with a stack of 16 places and constants of 63 bits.
-use Rattle.std.specs.Prelude.{◌≡◌, ◌≤◌, ◌<◌, ◌+◌, ◌-◌, ◌^◌, ℕ, List, [], ◌∷◌, map, take, length, slice_get, Option, Some, None, if◌then◌else◌, nat_le, nat_lt}
+use Rattle.std.specs.Prelude.{◌≡◌, ◌≤◌, ◌<◌, ◌+◌, ◌-◌, ◌^◌, ℕ, List, [], ◌∷◌, map, take, length}
+use Rattle.std.specs.Prelude.{slice_get, Option, Some, None, if◌then◌else◌, nat_le, nat_lt}
 use Rattle.std.specs.Option.{option_map_or}
 use Rattle.postfix_rules.specs.declared.token.Token.{Token}
 use Rattle.postfix_rules.specs.declared.token.Token.TheVariants as token
@@ -7,7 +8,7 @@ use Rattle.postfix_rules.specs.declared.fault.FormulaCause.{FormulaCause}
 use Rattle.postfix_rules.specs.declared.fault.FormulaCause.TheVariants as cause
 use Rattle.postfix_rules.specs.Trees.{Tree, pile_text}
 
--- a part of a formula's text: a token, or none where it is no token
+-- a part of a formula's text: a token, or none where it is not one
 abbrev pub Part : Type 0
 Part = Option Token
 
@@ -15,6 +16,7 @@ Part = Option Token
 abbrev pub Pile : List Part → List Tree → Type 0
 Pile parts trees = parts ≡ map Some (pile_text trees)
 
+-- why one value more is refused, if it is: at most 16 wait
 abbrev pub operand_cause : ℕ → Option FormulaCause
 operand_cause height = if nat_le 16 height then Some cause.TooDeep else None
 
@@ -41,7 +43,8 @@ pub record IsFault (natives : ℕ) (parts : List Part) (k : ℕ) (why : FormulaC
   pub before : Pile (take k parts) pile
   pub few : length pile ≤ 16
   pub here : place_cause natives (length pile) (slice_get parts k) ≡ Some why
-  pub first : (j : ℕ) (trees : List Tree) → j < k → Pile (take j parts) trees → length trees ≤ 16 → place_cause natives (length trees) (slice_get parts j) ≡ None
+  pub first : (j : ℕ) (trees : List Tree) → j < k → Pile (take j parts) trees → length trees ≤ 16
+      → place_cause natives (length trees) (slice_get parts j) ≡ None
 
 -- the height of the pile after a part
 abbrev pub height_after : ℕ → Part → ℕ

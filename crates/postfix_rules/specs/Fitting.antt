@@ -23,11 +23,11 @@ pub record Fits (shape : Widths) (n : Native) : Type 0 where
   pub has_component : n.comp < length shape
   pub has_counters : n.allowed < 2 ^ length (widths_at shape (Some n.comp))
 
--- so is each native of the book
+-- each native of each derived event of the book fits the counters
 pub record BookFits (shape : Widths) (book : Book) : Type 0 where
   pub each : All (λ place. ForSome place (λ d. All (Fits shape) d.natives)) book
 
--- so is a native event; the natives of a preset are those of the book
+-- a native event fits the counters; the natives of a preset are those of the book
 abbrev pub EventFits : Widths → EventRef → Type 0
 EventFits shape (event.Native n) = Fits shape n
 EventFits shape (event.Preset row) = ⊤

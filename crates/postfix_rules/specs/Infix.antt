@@ -37,14 +37,14 @@ IsPhrase term (Two op.Times x y) = IsPhrase term x × IsPhrase factor y
 IsPhrase term (Two op.Over x y) = IsPhrase term x × IsPhrase factor y
 IsPhrase factor (Two o x y) = ⊥
 
--- its tokens
+-- the tokens of a written formula, from left to right
 abbrev pub wording : Written → List InfixToken
 wording (Number n) = sign.Token (token.Constant n) ∷ []
 wording (Native i) = sign.Token (token.Native i) ∷ []
 wording (Two o x y) = wording x ++ (sign.Token (token.Operator o) ∷ wording y)
 wording (Inside x) = sign.Open ∷ (wording x ++ (sign.Close ∷ []))
 
--- its tree, to which parentheses do not belong
+-- the tree of a written formula, in which parentheses leave no node
 abbrev pub tree_of : Written → Tree
 tree_of (Number n) = Constant n
 tree_of (Native i) = Count i

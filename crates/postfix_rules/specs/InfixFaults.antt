@@ -1,5 +1,6 @@
 -- The first fault of a formula in infix order, with 16 open parentheses, a stack of 16 places and constants of 63 bits.
-use Rattle.std.specs.Prelude.{◌≡◌, ◌≤◌, ◌<◌, ◌+◌, ◌-◌, ◌^◌, ◌==◌, ℕ, Bool, true, false, List, take, fold, length, slice_get, Option, Some, None, if◌then◌else◌, nat_le, nat_lt, Result, Ok, Err}
+use Rattle.std.specs.Prelude.{◌≡◌, ◌≤◌, ◌<◌, ◌+◌, ◌-◌, ◌^◌, ◌==◌, ℕ, Bool, true, false, List, take, fold, length, slice_get}
+use Rattle.std.specs.Prelude.{Option, Some, None, if◌then◌else◌, nat_le, nat_lt, Result, Ok, Err}
 use Rattle.postfix_rules.specs.declared.fault.FormulaCause.{FormulaCause}
 use Rattle.postfix_rules.specs.declared.fault.FormulaCause.TheVariants as cause
 use Rattle.postfix_rules.specs.declared.fault.FormulaFault.{FormulaFault}
@@ -21,7 +22,7 @@ begins_factor (Some (sign.Token (token.Operator o))) = true
 begins_factor (Some sign.Open) = true
 begins_factor (Some sign.Close) = false
 
--- a factor must begin after these parts: they are none, or it must after their last
+-- a factor must begin after these parts: there are none, or it must after the last of them
 abbrev pub must_begin : List InfixPart → Bool
 must_begin parts = fold (λ must part. begins_factor part) true parts
 
@@ -33,8 +34,8 @@ open_after depth (Some sign.Open) = depth + 1
 open_after depth (Some sign.Close) = depth - 1
 
 -- how many parentheses are open after these parts
-abbrev pub open_behind : List InfixPart → ℕ
-open_behind parts = fold open_after 0 parts
+abbrev pub open_at_end : List InfixPart → ℕ
+open_at_end parts = fold open_after 0 parts
 
 -- an operand stands only where a factor must begin
 abbrev pub place_of_operand : Bool → Option FormulaCause
@@ -59,13 +60,13 @@ infix_cause natives must depth (Some sign.Open) = open_cause must depth
 
 -- the cause of the part at a place from 0, in view of the parts before it
 abbrev pub cause_at : ℕ → List InfixPart → ℕ → InfixPart → Option FormulaCause
-cause_at natives parts k part = infix_cause natives (must_begin (take k parts)) (open_behind (take k parts)) part
+cause_at natives parts k part = infix_cause natives (must_begin (take k parts)) (open_at_end (take k parts)) part
 
 -- the end of parts that have no cause is at fault
 abbrev pub IsEndFault : List InfixPart → FormulaCause → Type 0
 IsEndFault parts cause.OperandMissing = must_begin parts ≡ true
-IsEndFault parts cause.Unbalanced = (must_begin parts ≡ false) × (0 < open_behind parts)
-IsEndFault parts cause.TooDeep = (must_begin parts ≡ false) × (open_behind parts ≡ 0) × ((tree : Tree) × IsInfix parts tree × (16 < need tree))
+IsEndFault parts cause.Unbalanced = (must_begin parts ≡ false) × (0 < open_at_end parts)
+IsEndFault parts cause.TooDeep = (must_begin parts ≡ false) × (open_at_end parts ≡ 0) × ((tree : Tree) × IsInfix parts tree × (16 < need tree))
 IsEndFault parts cause.UnknownToken = ⊥
 IsEndFault parts cause.ConstantTooLarge = ⊥
 IsEndFault parts cause.NativeRange = ⊥

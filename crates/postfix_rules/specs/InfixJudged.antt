@@ -16,6 +16,7 @@ abbrev pub Begins : List InfixPart → Option (Result InfixToken FormulaCause ×
 Begins parts None = parts ≡ []
 Begins parts (Some p) = (part : InfixPart) × (parts ≡ part ∷ infix_parts p.1.now) × ReadsPart p.0 part
 
+-- the first part was read, and the others are those of the text that is left
 abbrev pub BeginsPart : List InfixPart → Result InfixToken FormulaCause × Bor (List ℕ) → Type 0
 BeginsPart parts p = (part : InfixPart) × (parts ≡ part ∷ infix_parts p.1.now) × ReadsPart p.0 part
 

@@ -1,5 +1,6 @@
 -- A formula in infix order, read from its front: the tokens in postfix order so far, and the operators that wait.
-use Rattle.std.specs.Prelude.{◌≡◌, ◌+◌, ℕ, Bool, true, false, List, [], ◌∷◌, ◌++◌, map, length, Option, Some, None, is_some, Result, Ok, Err, if◌then◌else◌, nat_lt}
+use Rattle.std.specs.Prelude.{◌≡◌, ◌+◌, ℕ, Bool, true, false, List, [], ◌∷◌, ◌++◌, map, length, Option, Some, None, is_some}
+use Rattle.std.specs.Prelude.{Result, Ok, Err, if◌then◌else◌, nat_lt}
 use Rattle.std.specs.Option.{option_map_or}
 use Rattle.postfix_rules.specs.declared.fault.FormulaCause.{FormulaCause}
 use Rattle.postfix_rules.specs.declared.fault.FormulaCause.TheVariants as cause
@@ -27,12 +28,15 @@ pub record OrderView : Type 0 where
   pub here : Waiting
   pub must : Bool
 
+-- no operator waits
 abbrev pub none_waits : Waiting
 none_waits = record { sum = None; product = None }
 
+-- no token so far
 abbrev pub order_begun : OrderView
 order_begun = record { tokens = []; outer = []; here = none_waits; must = true }
 
+-- the operator that waits as a token
 abbrev pub operator_tokens : Option Operator → List Token
 operator_tokens None = []
 operator_tokens (Some o) = token.Operator o ∷ []
@@ -43,31 +47,46 @@ put_out order o = record order { tokens = order.tokens ++ operator_tokens o }
 
 -- a factor has ended, and with it the product that waited for it
 abbrev pub factor_ended : OrderView → OrderView
-factor_ended order = record { tokens = order.tokens ++ operator_tokens order.here.product; outer = order.outer; here = record { sum = order.here.sum; product = None }; must = false }
+factor_ended order = record {
+  tokens = order.tokens ++ operator_tokens order.here.product;
+  outer = order.outer;
+  here = record { sum = order.here.sum; product = None };
+  must = false;
+}
 
+-- a constant or a native is one factor more
 abbrev pub operand_moved : OrderView → Token → OrderView
 operand_moved order t = factor_ended (record order { tokens = order.tokens ++ (t ∷ []) })
 
 -- a sum waits for a whole term, and a product for a factor
 abbrev pub sum_moved : OrderView → Operator → OrderView
-sum_moved order o = record { tokens = order.tokens ++ operator_tokens order.here.sum; outer = order.outer; here = record { sum = Some o; product = None }; must = true }
+sum_moved order o = record {
+  tokens = order.tokens ++ operator_tokens order.here.sum;
+  outer = order.outer;
+  here = record { sum = Some o; product = None };
+  must = true;
+}
 
+-- a product has its first factor, and waits for the second
 abbrev pub product_moved : OrderView → Operator → OrderView
 product_moved order o = record { tokens = order.tokens; outer = order.outer; here = record { sum = order.here.sum; product = Some o }; must = true }
 
+-- one operator more
 abbrev pub operator_moved : OrderView → Operator → OrderView
 operator_moved order op.Plus = sum_moved order op.Plus
 operator_moved order op.Minus = sum_moved order op.Minus
 operator_moved order op.Times = product_moved order op.Times
 operator_moved order op.Over = product_moved order op.Over
 
+-- a parenthesis opens: what waits, waits around it
 abbrev pub opened : OrderView → OrderView
 opened order = record { tokens = order.tokens; outer = order.here ∷ order.outer; here = none_waits; must = true }
 
 -- what is inside parentheses has ended, and is a factor of what is around them
 abbrev pub closed : OrderView → List Waiting → OrderView
 closed order [] = order
-closed order (around ∷ outer) = factor_ended (record { tokens = order.tokens ++ operator_tokens order.here.sum; outer = outer; here = around; must = order.must })
+closed order (around ∷ outer) =
+    factor_ended (record { tokens = order.tokens ++ operator_tokens order.here.sum; outer = outer; here = around; must = order.must })
 
 -- the order with one token more
 unfoldable pub moved : OrderView → InfixToken → OrderView
@@ -77,6 +96,7 @@ moved order (sign.Token (token.Operator o)) = operator_moved order o
 moved order sign.Open = opened order
 moved order sign.Close = closed order order.outer
 
+-- the order with one part more; a part that is not a token changes nothing
 abbrev pub moved_by : OrderView → InfixPart → OrderView
 moved_by order None = order
 moved_by order (Some t) = moved order t
@@ -85,6 +105,7 @@ moved_by order (Some t) = moved order t
 abbrev pub formula_cause : ℕ → List Token → Option FormulaCause
 formula_cause natives tokens = if is_some (fault_from natives 0 0 (map Some tokens)) then Some cause.TooDeep else None
 
+-- the tokens of the whole formula, in postfix order
 abbrev pub ended_tokens : OrderView → List Token
 ended_tokens order = order.tokens ++ operator_tokens order.here.sum
 
@@ -95,9 +116,11 @@ infix_end natives order =
     else if nat_lt 0 (length order.outer) then Some cause.Unbalanced
     else formula_cause natives (ended_tokens order)
 
+-- a refusal at a place, which counts from 1
 abbrev pub refused_at : ℕ → FormulaCause → Result FormulaView Refused
 refused_at place why = Err (record { place = place + 1; cause = why })
 
+-- why a part is refused in this order, if it is
 abbrev pub order_cause : ℕ → OrderView → InfixPart → Option FormulaCause
 order_cause natives order part = infix_cause natives order.must (length order.outer) part
 

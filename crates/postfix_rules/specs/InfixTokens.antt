@@ -10,7 +10,7 @@ use Rattle.postfix_rules.specs.declared.token.Token.TheVariants as token
 use Rattle.postfix_rules.specs.declared.infix_token.InfixToken.{InfixToken}
 use Rattle.postfix_rules.specs.declared.infix_token.InfixToken.TheVariants as sign
 
--- a part of a text in infix order: a token, or none where it is no token
+-- a part of a text in infix order: a token, or none where it is not one
 abbrev pub InfixPart : Type 0
 InfixPart = Option InfixToken
 
@@ -18,10 +18,11 @@ InfixPart = Option InfixToken
 abbrev pub in_infix : Part → InfixPart
 in_infix part = option_map sign.Token part
 
--- the digits in front of a text
+-- the digits that a text begins with
 abbrev pub digits_of : Text → Text
 digits_of text = take_while is_digit text
 
+-- the text begins with a digit
 abbrev pub begins_digits : Text → Bool
 begins_digits [] = false
 begins_digits (b ∷ rest) = is_digit b
@@ -34,7 +35,7 @@ sign_part b =
     else option_map (λ o. sign.Token (token.Operator o)) (operator_of (b ∷ []))
 
 -- The parts of a text: digits, `N` and digits, operators and parentheses, with spaces and tabs between them. Each other byte
--- is a part that is no token. Inside a part that has begun, further digits belong to it.
+-- is a part that is not a token. Inside a part that has begun, further digits belong to it.
 unfoldable pub infix_from : Bool → Text → List InfixPart
 infix_from inside [] = []
 infix_from inside (b ∷ rest) =
@@ -43,5 +44,6 @@ infix_from inside (b ∷ rest) =
     else if is_blank b then infix_from false rest
     else sign_part b ∷ infix_from false rest
 
+-- the parts of a text in infix order
 abbrev pub infix_parts : Text → List InfixPart
 infix_parts text = infix_from false text

@@ -9,13 +9,15 @@ use Rattle.postfix_rules.specs.Presets.{Book, natives_of, natives_of_event}
 use Rattle.postfix_rules.specs.Trees.{Tree, spelling}
 use Rattle.postfix_rules.specs.Values.{IsTreeValue, formula_value}
 
+-- the test for equal natives is true exactly of equal ones
 abbrev pub SameNatives : Type 0
 SameNatives = (m n : Native) → (same_native m n ≡ true) ↔ (m ≡ n)
 
+-- the test for equal events is true exactly of equal ones
 abbrev pub SameEvents : Type 0
 SameEvents = (e f : EventRef) → (same_event e f ≡ true) ↔ (e ≡ f)
 
--- one event more appends its natives that are new
+-- an event added to a list of events appends those of its natives that the list did not have
 abbrev pub OneMoreJoins : Type 0
 OneMoreJoins = (book : Book) (es : List EventRef) (e : EventRef) → natives_of book (es ++ e ∷ []) ≡ joined_by (natives_of book es) (natives_of_event book e)
 
@@ -23,13 +25,17 @@ OneMoreJoins = (book : Book) (es : List EventRef) (e : EventRef) → natives_of 
 abbrev pub EarlierStay : Type 0
 EarlierStay = (book : Book) (es : List EventRef) (e : EventRef) → take (length (natives_of book es)) (natives_of book (es ++ e ∷ [])) ≡ natives_of book es
 
--- each native of each event is among them
+-- each native of each event of a list is among the natives of the list
 abbrev pub EachIsAmong : Type 0
-EachIsAmong = (book : Book) (es : List EventRef) (i : ℕ) (e : EventRef) (n : Native) → slice_get es i ≡ Some e → among n (natives_of_event book e) ≡ true → among n (natives_of book es) ≡ true
+EachIsAmong =
+    (book : Book) (es : List EventRef) (i : ℕ) (e : EventRef) (n : Native)
+    → slice_get es i ≡ Some e → among n (natives_of_event book e) ≡ true → among n (natives_of book es) ≡ true
 
--- none stands twice
+-- no native stands twice among the natives of a list of events
 abbrev pub NoneTwice : Type 0
-NoneTwice = (book : Book) (es : List EventRef) (i j : ℕ) (n : Native) → slice_get (natives_of book es) i ≡ Some n → slice_get (natives_of book es) j ≡ Some n → i ≡ j
+NoneTwice =
+    (book : Book) (es : List EventRef) (i j : ℕ) (n : Native)
+    → slice_get (natives_of book es) i ≡ Some n → slice_get (natives_of book es) j ≡ Some n → i ≡ j
 
 -- the tokens of a formula are those of one tree
 abbrev pub FormulasSpell : Type 0

@@ -39,6 +39,7 @@ component_of_event book e = option_map (λ n. n.comp) (lead book e)
 abbrev pub event_value : Book → (Native → ℕ) → EventRef → ℤ
 event_value book count e = rule_value (rule_of_event book e) (map (λ n. pos (count n)) (natives_of_event book e))
 
+-- the natives of some events after those seen, each once
 abbrev pub natives_after : Book → List Native → List EventRef → List Native
 natives_after book seen [] = seen
 natives_after book seen (e ∷ es) = natives_after book (joined_by seen (natives_of_event book e)) es

@@ -50,15 +50,19 @@ IsTextFault natives text Memory = Unit {0}
 
 -- a text is refused exactly at its first fault
 abbrev pub FirstFaults : Type 0
-FirstFaults = (natives : ℕ) (text : Text) (k : ℕ) (why : FormulaCause) → (formula_of natives text ≡ Err (record { place = k + 1; cause = why })) ↔ IsFault natives (parts_of text) k why
+FirstFaults =
+    (natives : ℕ) (text : Text) (k : ℕ) (why : FormulaCause)
+    → (formula_of natives text ≡ Err (record { place = k + 1; cause = why })) ↔ IsFault natives (parts_of text) k why
 
--- places count from 1
+-- the place of a fault in a text counts from 1
 abbrev pub FromOne : Type 0
 FromOne = (natives : ℕ) (text : Text) (refused : Refused) → formula_of natives text ≡ Err refused → 0 < refused.place
 
 -- a text reads as a formula exactly where its parts are the formula's tokens
 abbrev pub SameTokens : Type 0
-SameTokens = (natives : ℕ) (text : Text) (f : FormulaView) → (formula_of natives text ≡ Ok f) ↔ ((parts_of text ≡ map Some f.tokens) × (f.natives ≡ natives) × IsFormula natives f.tokens)
+SameTokens =
+    (natives : ℕ) (text : Text) (f : FormulaView)
+    → (formula_of natives text ≡ Ok f) ↔ ((parts_of text ≡ map Some f.tokens) × (f.natives ≡ natives) × IsFormula natives f.tokens)
 
 -- the written text of a formula reads as the formula
 abbrev pub WrittenRead : Type 0
@@ -66,4 +70,6 @@ WrittenRead = (f : FormulaView) → f.natives < 2 ^ 32 → IsFormula f.natives f
 
 -- the written text of a formula has some bytes, which are digits, `N`, `|` and operators
 abbrev pub WrittenBytes : Type 0
-WrittenBytes = (f : FormulaView) → f.natives < 2 ^ 32 → IsFormula f.natives f.tokens → (0 < length (formula_text f.tokens)) × (list_all is_formula_byte (formula_text f.tokens) ≡ true)
+WrittenBytes =
+    (f : FormulaView) → f.natives < 2 ^ 32 → IsFormula f.natives f.tokens
+    → (0 < length (formula_text f.tokens)) × (list_all is_formula_byte (formula_text f.tokens) ≡ true)

@@ -5,14 +5,19 @@ use Rattle.papi_base.specs.declared.native.Native.{Native}
 use Rattle.papi_base.specs.declared.native.EventRef.{EventRef}
 use Rattle.papi_base.specs.declared.native.EventRef.TheVariants as event
 
+-- two truth values are equal
 abbrev pub same_bool : Bool → Bool → Bool
 same_bool true b = b
 same_bool false b = not b
 
--- all fields are equal
+-- two native events are equal: all their fields are
 abbrev pub same_native : Native → Native → Bool
-same_native m n = (m.comp == n.comp) && (m.event == n.event) && (m.select == n.select) && (m.masks == n.masks) && (m.umask == n.umask) && same_bool m.mods.user n.mods.user && same_bool m.mods.kernel n.mods.kernel && same_bool m.mods.edge n.mods.edge && same_bool m.mods.invert n.mods.invert && (m.mods.cmask == n.mods.cmask) && (m.allowed == n.allowed)
+same_native m n =
+    (m.comp == n.comp) && (m.event == n.event) && (m.select == n.select) && (m.masks == n.masks) && (m.umask == n.umask)
+    && same_bool m.mods.user n.mods.user && same_bool m.mods.kernel n.mods.kernel && same_bool m.mods.edge n.mods.edge
+    && same_bool m.mods.invert n.mods.invert && (m.mods.cmask == n.mods.cmask) && (m.allowed == n.allowed)
 
+-- two events are equal
 abbrev pub same_event : EventRef → EventRef → Bool
 same_event (event.Preset i) (event.Preset j) = i == j
 same_event (event.Preset i) (event.Native n) = false

@@ -61,6 +61,7 @@ parts_of text = map (λ p. part_of (trimmed p)) (pieces_of text)
 
 -- ---- the text of tokens
 
+-- the text of an operator
 abbrev pub operator_text : Operator → Text
 operator_text op.Plus = codes "+"
 operator_text op.Minus = codes "-"

@@ -1,5 +1,6 @@
 -- The values of formulas, in signed numbers of 64 bits that wrap: papi_events.csv, in whole numbers.
-use Rattle.std.specs.Prelude.{◌≡◌, ◌==◌, List, [], ◌∷◌, slice_index_or, ℤ, pos, ◌+ℤ◌, ◌-ℤ◌, ◌*ℤ◌, int_div, unsigned_abs, if◌then◌else◌, Option, Some, None}
+use Rattle.std.specs.Prelude.{◌≡◌, ◌==◌, List, [], ◌∷◌, slice_index_or, ℤ, pos, ◌+ℤ◌, ◌-ℤ◌}
+use Rattle.std.specs.Prelude.{◌*ℤ◌, int_div, unsigned_abs, if◌then◌else◌, Option, Some, None}
 use Rattle.std.specs.Int.{int_wrap, w64}
 use Rattle.postfix_rules.specs.declared.token.Operator.{Operator}
 use Rattle.postfix_rules.specs.declared.token.Operator.TheVariants as op
@@ -10,10 +11,11 @@ use Rattle.postfix_rules.specs.Trees.{Tree, Constant, Count, Node, pile_from, sp
 abbrev pub wrapped : ℤ → ℤ
 wrapped z = int_wrap w64 z
 
--- toward zero, and 0 by 0
+-- the quotient of two values, toward zero; by 0 it is 0
 unfoldable pub divided : ℤ → ℤ → ℤ
 divided x y = if unsigned_abs y == 0 then pos 0 else wrapped (int_div x y)
 
+-- an operator on two values
 abbrev pub applied : Operator → ℤ → ℤ → ℤ
 applied op.Plus x y = wrapped (x +ℤ y)
 applied op.Minus x y = wrapped (x -ℤ y)

@@ -1,4 +1,4 @@
-// Books of presets.
+//! Books of presets.
 use crate::Derived;
 use std::marker::Model;
 

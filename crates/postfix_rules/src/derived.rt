@@ -1,4 +1,4 @@
-// Derived events.
+//! Derived events.
 ghost use Rattle.std.specs.Prelude.{◌≡◌, ◌<◌, ◌↔◌, IsTrue, length};
 ghost use Rattle.postfix_rules.specs.Rules.{IsDerived, IsOver, OfOneComponent};
 

@@ -1,11 +1,11 @@
-// Why a text is not a formula.
+//! Why a text is not a formula.
 ghost use Rattle.std.specs.Prelude.{◌≡◌};
 ghost use Rattle.postfix_rules.specs.declared.fault.FormulaFault.TheVariants.{Memory};
 
 use std::alloc::{AllocError, AllocFailed};
 use thiserror::Error;
 
-/// Why a text is no formula at a token. Causes are tried in this order, but in infix order `TooDeep` is the last.
+/// Why a text is not a formula at a token. Causes are tried in this order, but in infix order `TooDeep` is the last.
 #[derive(Clone, Copy, Debug, PartialEq, Eq, Error)]
 pub enum FormulaCause {
     /// It is not a token.

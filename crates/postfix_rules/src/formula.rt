@@ -1,4 +1,4 @@
-// Formulas.
+//! Formulas.
 use crate::Token;
 use std::alloc::{AllocError, Global};
 use std::marker::Model;

@@ -1,4 +1,4 @@
-// Whether a part of a text in infix order may stand where it does.
+//! Whether a part of a text in infix order may stand where it does.
 ghost use Rattle.std.specs.Prelude.{◌≡◌, Some};
 ghost use Rattle.postfix_rules.specs.InfixFaults as InfixFaults;
 ghost use Rattle.postfix_rules.specs.InfixJudged.{JudgesPart, ReadsPart};

@@ -1,4 +1,4 @@
-// The parts of a text in infix order, one by one.
+//! The parts of a text in infix order, one by one.
 ghost use Rattle.std.specs.Prelude.{◌≡◌, ◌<◌, ◌+◌, false, true, IfSome, length, slice_index};
 ghost use Rattle.std.specs.List.{prefix_len, take_while};
 ghost use Rattle.papi_base.specs.Numerals as Numerals;
@@ -18,7 +18,7 @@ fn is_digit(b: u8) -> bool
     48 <= b && b <= 57
 }
 
-// How many digits are in front of a text.
+// How many digits a text begins with.
 fn digits_in(text: &[u8]) -> usize
     ensures { result ≡ prefix_len Numerals.is_digit text.now }
 {
@@ -57,17 +57,17 @@ fn sign_of(sign: &[u8]) -> Result<InfixToken, FormulaCause>
     }
 }
 
-// The digits in front of a text, and the text after them.
+// The digits that a text begins with, and the text after them.
 fn split_digits(text: &[u8]) -> (&[u8], &[u8])
     ensures digits { result.0.now ≡ take_while Numerals.is_digit text.now }
-    ensures behind { infix_from false result.1.now ≡ infix_from true text.now }
+    ensures after { infix_from false result.1.now ≡ infix_from true text.now }
     ensures whole { length result.0.now + length result.1.now ≡ length text.now }
 {
     let digits = digits_in(text);
     text.split_at(digits)
 }
 
-// The part in front of a text that begins with no blank, and the text after it.
+// The part that a text without a blank at its start begins with, and the text after it.
 fn first_part(text: &[u8]) -> (Result<InfixToken, FormulaCause>, &[u8])
     requires some { 0 < length text.now }
     requires begins { Texts.is_blank (slice_index text.now 0) ≡ false }
@@ -75,15 +75,15 @@ fn first_part(text: &[u8]) -> (Result<InfixToken, FormulaCause>, &[u8])
     ensures shorter { length result.1.now < length text.now }
 {
     if is_digit(text[0]) {
-        let (digits, behind) = split_digits(text);
-        return (in_infix_order(constant_of(digits)), behind);
+        let (digits, after) = split_digits(text);
+        return (in_infix_order(constant_of(digits)), after);
     }
-    let (sign, behind) = text.split_at(1);
-    let (digits, behind_digits) = split_digits(behind);
+    let (sign, after) = text.split_at(1);
+    let (digits, after_digits) = split_digits(after);
     if text[0] == b'N' && digits.len() > 0 {
-        return (in_infix_order(native_of(digits)), behind_digits);
+        return (in_infix_order(native_of(digits)), after_digits);
     }
-    (sign_of(sign), behind)
+    (sign_of(sign), after)
 }
 
 /// The first part of a text and the text after it, and `None` where the text has no part.

@@ -1,4 +1,4 @@
-// Formulas from their texts in infix order.
+//! Formulas from their texts in infix order.
 ghost use Rattle.std.specs.Prelude.{◌≡◌, ◌<◌, ◌≤◌, ◌^◌, [], IfOk, IsTrue, ◌↔◌};
 ghost use Rattle.postfix_rules.specs.Faults.{IsFormula};
 ghost use Rattle.postfix_rules.specs.InfixFaults.{ReadsInfix};
@@ -8,7 +8,7 @@ use crate::infix_judging::judge_part;
 use crate::infix_part::next_part;
 use crate::judging::{end_cause, height_after, token_cause};
 use crate::postfix_order::PostfixOrder;
-use crate::reading::fault_behind;
+use crate::reading::fault_after;
 use crate::{Formula, FormulaCause, FormulaFault, Token};
 use std::alloc::Global;
 
@@ -33,16 +33,16 @@ fn end_formula(order: PostfixOrder, natives: u32, tokens: usize) -> Result<Formu
     ensures { Gives result (infix_ended natives tokens order []) }
 {
     if order.must_begin() {
-        return Err(fault_behind(tokens, FormulaCause::OperandMissing));
+        return Err(fault_after(tokens, FormulaCause::OperandMissing));
     }
     if order.open() > 0 {
-        return Err(fault_behind(tokens, FormulaCause::Unbalanced));
+        return Err(fault_after(tokens, FormulaCause::Unbalanced));
     }
     let postfix = order.into_tokens()?;
     if is_formula(natives, postfix.as_slice()) {
         Ok(Formula::new(postfix, natives))
     } else {
-        Err(fault_behind(tokens, FormulaCause::TooDeep))
+        Err(fault_after(tokens, FormulaCause::TooDeep))
     }
 }
 
@@ -53,13 +53,13 @@ fn formula_in(alloc: Global, text: &str, natives: u32) -> Result<Formula, Formul
     let mut order = PostfixOrder::new(alloc);
     let mut tokens = 0;
     let mut rest = text.as_bytes();
-    while let Some((part, behind)) = next_part(rest) {
+    while let Some((part, after)) = next_part(rest) {
         match judge_part(natives, order.must_begin(), order.open(), part) {
             Ok(token) => order.take(token)?,
-            Err(cause) => return Err(fault_behind(tokens, cause)),
+            Err(cause) => return Err(fault_after(tokens, cause)),
         }
         tokens += 1;
-        rest = behind;
+        rest = after;
     }
     end_formula(order, natives, tokens)
 }

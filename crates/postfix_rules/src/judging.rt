@@ -1,4 +1,4 @@
-// One token of a formula's text, and whether it may stand where it does.
+//! One token of a formula's text, and whether it may stand where it does.
 ghost use Rattle.std.specs.Prelude.{◌≡◌, ◌∷◌, ◌≤◌, true, Some};
 ghost use Rattle.papi_base.specs.Numerals as Numerals;
 ghost use Rattle.postfix_rules.specs.Faults as Faults;
@@ -50,7 +50,7 @@ pub(crate) fn operator_of(piece: &[u8]) -> Option<Operator>
 }
 
 // The token of a letter and what follows it.
-fn behind_letter(letter: u8, digits: &[u8]) -> Result<Token, FormulaCause>
+fn after_letter(letter: u8, digits: &[u8]) -> Result<Token, FormulaCause>
     ensures { ReadsToken result (Tokens.lettered_part (letter ∷ digits.now)) }
 {
     if letter == b'N' {
@@ -68,7 +68,7 @@ fn operand_of(piece: &[u8]) -> Result<Token, FormulaCause>
         return constant_of(piece);
     }
     match piece.split_first() {
-        Some((letter, digits)) => behind_letter(*letter, digits),
+        Some((letter, digits)) => after_letter(*letter, digits),
         None => Err(FormulaCause::UnknownToken),
     }
 }

@@ -1,4 +1,4 @@
-// The pieces of a formula's text, one by one.
+//! The pieces of a formula's text, one by one.
 ghost use Rattle.std.specs.Prelude.{◌≡◌, ◌<◌, IfSome, length, position};
 ghost use Rattle.postfix_rules.specs.Judged.{parts_after};
 ghost use Rattle.postfix_rules.specs.Tokens.{is_bar, parts_of};

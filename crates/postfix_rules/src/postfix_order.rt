@@ -1,4 +1,4 @@
-// Tokens of a formula in infix order, put into postfix order.
+//! Tokens of a formula in infix order, put into postfix order.
 use crate::{InfixToken, Operator, Token};
 use std::alloc::{AllocError, Global};
 use std::marker::Model;
@@ -31,7 +31,8 @@ impl Model for PostfixOrder {
 
 impl PostfixOrder {
     ghost use Rattle.std.specs.Prelude.{◌≡◌, IfOk, OnOk, length};
-    ghost use Rattle.postfix_rules.specs.InfixReading.{ended_tokens, factor_ended, moved, opened, operand_moved, operator_moved, order_begun, product_moved, put_out, sum_moved};
+    ghost use Rattle.postfix_rules.specs.InfixReading.{ended_tokens, factor_ended, moved, opened, operand_moved, operator_moved};
+    ghost use Rattle.postfix_rules.specs.InfixReading.{order_begun, product_moved, put_out, sum_moved};
     ghost use Rattle.postfix_rules.specs.InfixReading as InfixReading;
 
     /// No token so far.

@@ -1,4 +1,4 @@
-// Formulas from their texts.
+//! Formulas from their texts.
 ghost use Rattle.std.specs.Prelude.{◌≡◌, ◌+◌, ◌<◌, ◌^◌, IfErr, IfOk};
 ghost use Rattle.postfix_rules.specs.Reading.{IsTextFault, IsTreeText, ReadsFormula};
 ghost use Rattle.postfix_rules.specs.declared.fault.FormulaFault.TheVariants.{At};
@@ -9,7 +9,7 @@ use crate::{Formula, FormulaCause, FormulaFault};
 use std::alloc::Global;
 
 /// The fault of the token after so many others.
-pub(crate) fn fault_behind(tokens: usize, cause: FormulaCause) -> FormulaFault
+pub(crate) fn fault_after(tokens: usize, cause: FormulaCause) -> FormulaFault
     requires { tokens < 2 ^ 63 }
     ensures { result ≡ At (tokens + 1) cause }
 {
@@ -27,18 +27,18 @@ fn formula_in(alloc: Global, text: &str, natives: u32) -> Result<Formula, Formul
     let mut tokens = Vec::new(alloc);
     let mut height = 0;
     let mut rest = text.as_bytes();
-    while let Some((piece, behind)) = next_piece(rest) {
+    while let Some((piece, after)) = next_piece(rest) {
         match judge(natives, height, piece) {
             Ok(token) => {
                 height = height_after(height, token);
                 tokens.push(token)?;
             }
-            Err(cause) => return Err(fault_behind(tokens.len(), cause)),
+            Err(cause) => return Err(fault_after(tokens.len(), cause)),
         }
-        rest = behind;
+        rest = after;
     }
     match end_cause(height) {
-        Some(cause) => Err(fault_behind(tokens.len(), cause)),
+        Some(cause) => Err(fault_after(tokens.len(), cause)),
         None => Ok(Formula::new(tokens, natives)),
     }
 }

@@ -1,4 +1,4 @@
-// Rules of derived events.
+//! Rules of derived events.
 ghost use Rattle.std.specs.Prelude.{◌≡◌, ◌<◌, length, drop};
 ghost use Rattle.std.specs.Int.{w64};
 ghost use Rattle.postfix_rules.specs.Rules.{Counts, rule_value};

@@ -1,4 +1,4 @@
-// The value of a formula on a stack of numbers.
+//! The value of a formula on a stack of numbers.
 ghost use Rattle.std.specs.Prelude.{◌≡◌, ◌≤◌, length, map, Some, None};
 ghost use Rattle.postfix_rules.specs.Faults.{IsFormula, height_after, token_cause};
 ghost use Rattle.postfix_rules.specs.Stack.{pile, stepped};

@@ -1,4 +1,4 @@
-// The tokens of formulas.
+//! The tokens of formulas.
 
 /// An operator of a formula. `/` truncates toward zero, and gives 0 where the divisor is 0.
 #[derive(Clone, Copy, Debug, PartialEq, Eq)]

@@ -1,4 +1,4 @@
-// Formulas as texts.
+//! Formulas as texts.
 ghost use Rattle.std.specs.Prelude.{◌≡◌, ◌++◌, ◌∷◌, [], IfOk, OnOk, Ok, string_bytes};
 ghost use Rattle.postfix_rules.specs.Reading.{formula_of};
 ghost use Rattle.postfix_rules.specs.Tokens as Tokens;

@@ -42,19 +42,19 @@ InRow st.InEscape = ⊥
 InRow st.InComment = ⊥
 InRow st.AfterCr = ⊥
 
--- the record behind one byte more
-abbrev behind : List Text → List ℕ → ℕ → List ℕ → State × Action → Option Read
-behind fields field c rest p =
+-- the record after one byte more
+abbrev after : List Text → List ℕ → ℕ → List ℕ → State × Action → Option Read
+after fields field c rest p =
     if is_end p.1 then Some (fields_after p.1 fields field, p.0, rest)
     else next_record table_config p.0 (fields_after p.1 fields field) (field_after p.1 c field) rest
 
 byte-begins : (f : Text) (fields : List Text) (field : List ℕ) (c : ℕ) (xs : List ℕ)
     → Begins f (next_record table_config st.StartField (f ∷ (fields ++ (field ∷ []))) [] xs) → Begins f (next_record table_config st.InField (f ∷ fields) (field ++ (c ∷ [])) xs)
-    → Begins f (behind (f ∷ fields) field c xs (in_field table_config c))
+    → Begins f (after (f ∷ fields) field c xs (in_field table_config c))
 byte-begins f fields field c xs ends goes = go (c == 44) (ends_with table_config.terminator c)
   where
     go : (b e : Bool)
-        → Begins f (behind (f ∷ fields) field c xs (if b then (st.StartField, act.EndField) else if e then (after_end table_config.terminator c, act.EndRecord) else (st.InField, act.Copy)))
+        → Begins f (after (f ∷ fields) field c xs (if b then (st.StartField, act.EndField) else if e then (after_end table_config.terminator c, act.EndRecord) else (st.InField, act.Copy)))
     go true e = ends
     go false true = record { more = fields ++ (field ∷ []); state = after_end table_config.terminator c; rest = xs; is = refl }
     go false false = goes
@@ -103,11 +103,17 @@ unfolding rows_of
 first-row xs =
     let n : length (cpu_text xs) + 1 ≡ suc (length (cpu_text xs)) = omega arith in
     let r = records-cpu (length (cpu_text xs)) xs in
-    record { more = r.more; below = r.below; is = ap (λ (t : List ℕ). records_from table_config (length t + 1) st.StartRecord t) (strip-cpu xs) ∙ ap (λ (k : ℕ). records_from table_config k st.StartRecord (cpu_text xs)) n ∙ r.is }
+    record {
+      more = r.more;
+      below = r.below;
+      is = ap (λ (t : List ℕ). records_from table_config (length t + 1) st.StartRecord t) (strip-cpu xs)
+          ∙ ap (λ (k : ℕ). records_from table_config k st.StartRecord (cpu_text xs)) n ∙ r.is;
+    }
 
 -- ---- a cpu whose name can stand in no field
 
-pub none-faulty : (name : Text) (above lines : List Line) → is_field name ≡ false → has_cpu above ≡ true → AllByRecursion IsLine above → AllByRecursion IsLine lines → fault_from name above lines ≡ None
+pub none-faulty : (name : Text) (above lines : List Line) → is_field name ≡ false → has_cpu above ≡ true → AllByRecursion IsLine above
+    → AllByRecursion IsLine lines → fault_from name above lines ≡ None
 unfolding fault_from
 none-faulty name above [] e c a h = refl
 none-faulty name above (other ∷ rest) e c a h =

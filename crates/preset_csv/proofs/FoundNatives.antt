@@ -1,5 +1,6 @@
 -- The natives of a row, field by field.
-use Rattle.std.proofs.Common.{◌≡◌, ◌∙◌, ◌+◌, ◌<◌, ◌≤◌, ◌∷◌, ◌++◌, ℕ, zero, suc, Bool, true, false, List, [], Some, None, Ok, Err, map, drop, take, length, get_or, refl, sym, ap, arith, append_assoc, append-nil, lt-ltb, le-ltb}
+use Rattle.std.proofs.Common.{◌≡◌, ◌∙◌, ◌+◌, ◌<◌, ◌≤◌, ◌∷◌, ◌++◌, ℕ, zero, suc, Bool, true, false, List, [], Some, None, Ok, Err, map, drop, take}
+use Rattle.std.proofs.Common.{length, get_or, refl, sym, ap, arith, append_assoc, append-nil, lt-ltb, le-ltb}
 use Rattle.std.specs.Prelude.{if◌then◌else◌}
 use Rattle.std.specs.List.{list_all}
 use Rattle.std.proofs.lemmas.Bool.{and_from}
@@ -37,10 +38,12 @@ pub record Found (fields : List Text) (first i : ℕ) (natives : List Text) : Ty
   pub found : natives_from fields first ≡ natives ++ natives_from fields i
   pub printed : list_all is_printable natives ≡ true
 
-pub one-more : (fields : List Text) (first i : ℕ) (natives more : List Text) → i < length fields → Found fields first i natives → ends_natives (text_at fields i) ≡ false → is_printable (text_at fields i) ≡ true
+pub one-more : (fields : List Text) (first i : ℕ) (natives more : List Text) → i < length fields → Found fields first i natives
+    → ends_natives (text_at fields i) ≡ false → is_printable (text_at fields i) ≡ true
     → more ≡ natives ++ text_at fields i ∷ [] → Found fields first (i + 1) more
 one-more fields first i natives more lt f stays printed is = rw is (record {
-  found = f.found ∙ ap (λ (t : List Text). natives ++ t) (from-here fields i lt ∙ first-stays (text_at fields i) _ stays) ∙ sym (append_assoc natives (text_at fields i ∷ []) (natives_from fields (i + 1)));
+  found = f.found ∙ ap (λ (t : List Text). natives ++ t) (from-here fields i lt ∙ first-stays (text_at fields i) _ stays)
+      ∙ sym (append_assoc natives (text_at fields i ∷ []) (natives_from fields (i + 1)));
   printed = list_all-append is_printable natives (text_at fields i ∷ []) ∙ and_from _ _ f.printed (and_from _ _ printed refl);
 })
 
@@ -61,7 +64,8 @@ take-more zero xs ys = refl
 take-more (suc n) [] ys = refl
 take-more (suc n) (x ∷ xs) ys = ap (λ (rest : List Text). x ∷ rest) (take-more n xs ys)
 
-pub held-more : (fields : List Text) (first i count : ℕ) (natives more : List Text) → i < length fields → Held fields first i count natives → ends_natives (text_at fields i) ≡ false → is_printable (text_at fields i) ≡ true
+pub held-more : (fields : List Text) (first i count : ℕ) (natives more : List Text) → i < length fields → Held fields first i count natives
+    → ends_natives (text_at fields i) ≡ false → is_printable (text_at fields i) ≡ true
     → more ≡ take MOST_NATIVES (natives ++ text_at fields i ∷ []) → Held fields first (i + 1) (count + 1) more
 held-more fields first i count natives more lt h stays printed is = record {
   all = h.all ++ text_at fields i ∷ [];
@@ -88,20 +92,24 @@ ends-last fields first i le = record { none = at-end fields i le }
 whole : (fields : List Text) (first i : ℕ) (all : List Text) → Ends fields first i → Found fields first i all → natives_from fields first ≡ all
 whole fields first i all e f = f.found ∙ ap (λ (t : List Text). all ++ t) e.none ∙ append-nil all
 
-pub within : (fields : List Text) (first i count : ℕ) (natives : List Text) → Ends fields first i → Held fields first i count natives → count ≤ MOST_NATIVES → kept_natives (natives_from fields first) ≡ Ok natives
+pub within : (fields : List Text) (first i count : ℕ) (natives : List Text) → Ends fields first i → Held fields first i count natives → count ≤ MOST_NATIVES
+    → kept_natives (natives_from fields first) ≡ Ok natives
 within fields first i count natives e h le =
     let short : length h.all ≤ MOST_NATIVES = omega (arith, h.counted, le) in
     rw (whole fields first i h.all e h.found, h.found.printed, le-ltb MOST_NATIVES (length h.all) short) (ap Ok (sym (h.few ∙ take_all MOST_NATIVES h.all short)))
 
-pub over : (fields : List Text) (first i count : ℕ) (natives : List Text) → Ends fields first i → Held fields first i count natives → MOST_NATIVES < count → kept_natives (natives_from fields first) ≡ Err cause.OverLimit
+pub over : (fields : List Text) (first i count : ℕ) (natives : List Text) → Ends fields first i → Held fields first i count natives → MOST_NATIVES < count
+    → kept_natives (natives_from fields first) ≡ Err cause.OverLimit
 over fields first i count natives e h lt =
     let long : MOST_NATIVES < length h.all = omega (arith, h.counted, lt) in
     rw (whole fields first i h.all e h.found, h.found.printed, lt-ltb MOST_NATIVES (length h.all) long) refl
 
-pub broken : (fields : List Text) (first i count : ℕ) (natives : List Text) → i < length fields → Held fields first i count natives → ends_natives (text_at fields i) ≡ false → is_printable (text_at fields i) ≡ false
+pub broken : (fields : List Text) (first i count : ℕ) (natives : List Text) → i < length fields → Held fields first i count natives
+    → ends_natives (text_at fields i) ≡ false → is_printable (text_at fields i) ≡ false
     → kept_natives (natives_from fields first) ≡ Err cause.BadField
 broken fields first i count natives lt h stays bad =
-    let whole : natives_from fields first ≡ h.all ++ text_at fields i ∷ natives_from fields (i + 1) = h.found.found ∙ ap (λ (t : List Text). h.all ++ t) (from-here fields i lt ∙ first-stays (text_at fields i) _ stays) in
+    let whole : natives_from fields first ≡ h.all ++ text_at fields i ∷ natives_from fields (i + 1) = h.found.found
+    ∙ ap (λ (t : List Text). h.all ++ t) (from-here fields i lt ∙ first-stays (text_at fields i) _ stays) in
     rw (whole, list_all-append is_printable h.all (text_at fields i ∷ natives_from fields (i + 1)), h.found.printed, bad) refl
 
 -- ---- a field as the code has it

@@ -82,7 +82,7 @@ group-open (cpu m ∷ rest) n e = go (cuts_off rest) (cuts-open rest n e) (group
     go true c g = rw (c, g) refl
     go false c g = rw (c, g) refl
 
--- with a PRESET row in it and no CPU row behind
+-- with a PRESET row in it and no CPU row after it
 group-closed : (above : List Line) (n : Text) → is_closed above ≡ true → group (above ++ cpu n ∷ []) ≡ n ∷ []
 unfolding group cuts_off is_closed has_cpu
 group-closed [] n e = cc e

@@ -22,7 +22,7 @@ use Rattle.preset_csv.specs.declared.kind.DerivedType.{DerivedType}
 use Rattle.preset_csv.specs.declared.kind.DerivedType.TheVariants as derived
 use Rattle.preset_csv.proofs.NativesKept.{IsNative, kept-is, texts-kept}
 
--- a formula that was read over so many natives agrees with them
+-- a formula that was read for so many natives agrees with them
 pub read-agrees : (natives : List Text) (text : Text) (f : FormulaView) → formula_of (length natives) text ≡ Ok f → Agrees kind.Postfix (Some f) natives
 read-agrees natives text f e =
     let t = (same_tokens (length natives) text f).0 e in
@@ -70,7 +70,8 @@ some-natives : (natives : List Text) → is_empty natives ≡ false → 1 ≤ le
 some-natives [] e = cc e
 some-natives (t ∷ rest) e = omega arith
 
-entry-kept : (t : DerivedType) (formula : Text) (natives : Result (List Text) PresetCause) → IfOk natives (λ kept. AllByRecursion IsNativeText kept × (length kept ≤ MOST_NATIVES)) → Keeps (kept_entry t formula natives)
+entry-kept : (t : DerivedType) (formula : Text) (natives : Result (List Text) PresetCause)
+    → IfOk natives (λ kept. AllByRecursion IsNativeText kept × (length kept ≤ MOST_NATIVES)) → Keeps (kept_entry t formula natives)
 entry-kept t formula (Ok natives) h = go (is_empty natives) refl
   where
     go : (b : Bool) → is_empty natives ≡ b → Keeps (if b then Ok entry.Uncomputed else typed_entry t formula natives)

@@ -62,7 +62,8 @@ kept-is natives kept e = go (list_all is_printable natives) (nat_lt MOST_NATIVES
     judged : Bool → Bool → Result (List Text) PresetCause
     judged b c = if not b then Err cause.BadField else if c then Err cause.OverLimit else Ok natives
 
-    go : (b c : Bool) → list_all is_printable natives ≡ b → nat_lt MOST_NATIVES (length natives) ≡ c → judged b c ≡ Ok kept → (natives ≡ kept) × (list_all is_printable natives ≡ true) × (length kept ≤ MOST_NATIVES)
+    go : (b c : Bool) → list_all is_printable natives ≡ b → nat_lt MOST_NATIVES (length natives) ≡ c → judged b c ≡ Ok kept
+        → (natives ≡ kept) × (list_all is_printable natives ≡ true) × (length kept ≤ MOST_NATIVES)
     go false c p q h = cc h
     go true true p q h = cc h
     go true false p q h = let is : natives ≡ kept = cc h in (is, p, subst (λ (k : List Text). length k ≤ MOST_NATIVES) is (ltb-false MOST_NATIVES (length natives) q))

@@ -58,7 +58,8 @@ read-append name a (other ∷ xs) line =
 read-append name a (cpu n ∷ xs) line =
     read-append name (a ++ cpu n ∷ []) xs line ∙ ap (λ (b : List Line). read_from name (a ++ cpu n ∷ []) xs ++ read_from name b (line ∷ [])) (append_assoc a (cpu n ∷ []) xs)
 read-append name a (preset r ∷ xs) line =
-    go (is_read name a r) (read-append name (a ++ preset r ∷ []) xs line ∙ ap (λ (b : List Line). read_from name (a ++ preset r ∷ []) xs ++ read_from name b (line ∷ [])) (append_assoc a (preset r ∷ []) xs))
+    go (is_read name a r) (read-append name (a ++ preset r ∷ []) xs line
+    ∙ ap (λ (b : List Line). read_from name (a ++ preset r ∷ []) xs ++ read_from name b (line ∷ [])) (append_assoc a (preset r ∷ []) xs))
   where
     go : (b : Bool) → read_from name (a ++ preset r ∷ []) (xs ++ line ∷ []) ≡ read_from name (a ++ preset r ∷ []) xs ++ read_from name (a ++ preset r ∷ xs) (line ∷ [])
         → (if b then r ∷ read_from name (a ++ preset r ∷ []) (xs ++ line ∷ []) else read_from name (a ++ preset r ∷ []) (xs ++ line ∷ []))
@@ -94,11 +95,12 @@ placed-more f r (Err why) = map-same (entry_more f r (Err why)) f symbols (λ s.
     go None = refl
     go (Some row) = refl
 
--- one row more that is no PRESET row, or none that is read
+-- one row more that is not a PRESET row, or not one that is read
 unread : (rows : List Derivation) → map (entry_of (rows ++ [])) symbols ≡ map (entry_of rows) symbols
 unread rows = ap (λ (t : List Derivation). map (entry_of t) symbols) (append-nil rows)
 
-taken-more : (rows : List Derivation) (r : Derivation) (holds : Bool) → map (entry_of (rows ++ (if holds && is_some (row_of r.symbol) then r ∷ [] else []))) symbols ≡ entries_with holds (map (entry_of rows) symbols) r
+taken-more : (rows : List Derivation) (r : Derivation) (holds : Bool)
+    → map (entry_of (rows ++ (if holds && is_some (row_of r.symbol) then r ∷ [] else []))) symbols ≡ entries_with holds (map (entry_of rows) symbols) r
 taken-more rows r false = unread rows
 taken-more rows r true = go (row_of r.symbol) (map-same (entry_of (rows ++ r ∷ [])) (entry_more (entry_of rows) r (judged r)) symbols (entry-append rows r) ∙ placed-more (entry_of rows) r (judged r))
   where

@@ -64,7 +64,8 @@ step-fine st.InField c o = in_field-fine c
 step-fine st.InQuoted c o = absurd o
 step-fine st.AfterQuote c o = absurd o
 step-fine st.InEscape c o = absurd o
-step-fine st.InComment c o = fine-if c (c == 10) (st.StartRecord, act.Skip) (st.InComment, act.Skip) (record { open_after = tt; copies = λ e. cc e }) (λ n. record { open_after = tt; copies = λ e. cc e })
+step-fine st.InComment c o = fine-if c (c == 10) (st.StartRecord, act.Skip) (st.InComment, act.Skip) (record { open_after = tt; copies = λ e. cc e })
+    (λ n. record { open_after = tt; copies = λ e. cc e })
 step-fine st.AfterCr c o = fine-if c (c == 10) (st.StartRecord, act.Skip) (start_record table_config c) (record { open_after = tt; copies = λ e. cc e }) (λ n. start-fine c)
 
 fields-fine : (a : Action) (fields : List (List ℕ)) (field : List ℕ) → AllByRecursion IsPlainField fields → IsPlainField field → AllByRecursion IsPlainField (fields_after a fields field)

@@ -53,7 +53,8 @@ small f natives few is = omega (arith, few, is)
 pub text-good : (f : FormulaView) (natives : List Text) → length natives ≤ MOST_NATIVES → Agrees kind.Postfix (Some f) natives → IsGood (formula_text f.tokens)
 text-good f natives few agrees = ink-good (formula_text f.tokens) (formula-ink f (small f natives few agrees.0) agrees.1)
 
-pub formula-good : (k : Kind) (f : Option FormulaView) (natives : List Text) → AllByRecursion IsNativeText natives → length natives ≤ MOST_NATIVES → Agrees k f natives → AllByRecursion IsGood (formula_fields f ++ natives)
+pub formula-good : (k : Kind) (f : Option FormulaView) (natives : List Text) → AllByRecursion IsNativeText natives → length natives ≤ MOST_NATIVES
+    → Agrees k f natives → AllByRecursion IsGood (formula_fields f ++ natives)
 formula-good k None natives each few agrees = natives-good natives each
 formula-good kind.NotDerived (Some f) natives each few agrees = absurd agrees
 formula-good kind.Add (Some f) natives each few agrees = absurd agrees

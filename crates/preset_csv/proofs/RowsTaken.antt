@@ -1,5 +1,6 @@
 -- The rows that were taken, and those that are left.
-use Rattle.std.proofs.Common.{◌≡◌, ◌∙◌, ◌+◌, ◌<◌, ◌≤◌, ◌∷◌, ℕ, zero, suc, List, [], Some, None, true, false, Bool, map, length, get_or, set, take, drop, replicate, length-drop, refl, sym, ap, subst, arith, Ok, Err}
+use Rattle.std.proofs.Common.{◌≡◌, ◌∙◌, ◌+◌, ◌<◌, ◌≤◌, ◌∷◌, ℕ, zero, suc, List, [], Some, None, true, false, Bool, map, length, get_or, set}
+use Rattle.std.proofs.Common.{take, drop, replicate, length-drop, refl, sym, ap, subst, arith, Ok, Err}
 use Rattle.std.specs.List.{AllByRecursion}
 use Rattle.std.proofs.lemmas.List.{take_all, drop_more, take_more, drop_all, get_or-map, length-map, length-take-le}
 use Rattle.table_rows.specs.Texts.{Text, text_at}
@@ -23,7 +24,8 @@ use Rattle.preset_csv.proofs.OneMore.{cause-one-more, entries-one-more, group-on
 symbol-row : (fields : List Text) (row : ℕ) → row_of (text_at fields 1) ≡ Some row → row_of (derivation_of fields).symbol ≡ Some row
 symbol-row fields row e = ap row_of (symbol-there fields) ∙ e
 
-pub put-taken : (fields : List Text) (holds : Bool) (row : ℕ) (e : Entry) (old new : List Entry) → holds ≡ true → row_of (text_at fields 1) ≡ Some row → judged (derivation_of fields) ≡ Ok e → new ≡ set old row e
+pub put-taken : (fields : List Text) (holds : Bool) (row : ℕ) (e : Entry) (old new : List Entry) → holds ≡ true → row_of (text_at fields 1) ≡ Some row
+    → judged (derivation_of fields) ≡ Ok e → new ≡ set old row e
     → (read_cause holds (derivation_of fields) ≡ None) × (new ≡ entries_with holds old (derivation_of fields))
 put-taken fields true row e old new h at j is = let s = symbol-row fields row at in (rw (s, j) refl, rw (s, j) is)
 put-taken fields false row e old new h at j is = cc h
@@ -33,7 +35,8 @@ pub unknown-taken : (fields : List Text) (holds : Bool) (old : List Entry) → h
 unknown-taken fields true old h at = let s : row_of (derivation_of fields).symbol ≡ None = ap row_of (symbol-there fields) ∙ at in (rw s refl, rw s refl)
 unknown-taken fields false old h at = cc h
 
-pub not-taken : (fields : List Text) (holds : Bool) (row : ℕ) (f : Refusal) (old new : List Entry) → holds ≡ true → row_of (text_at fields 1) ≡ Some row → Judges (judged (derivation_of fields)) (Err f)
+pub not-taken : (fields : List Text) (holds : Bool) (row : ℕ) (f : Refusal) (old new : List Entry) → holds ≡ true → row_of (text_at fields 1) ≡ Some row
+    → Judges (judged (derivation_of fields)) (Err f)
     → TakesPreset holds (derivation_of fields) old new (Err f)
 not-taken fields true row (refusal.Cause why) old new h at j = let s = symbol-row fields row at in rw (s, j) refl
 not-taken fields true row refusal.Memory old new h at j = tt
@@ -94,7 +97,8 @@ pub record Taken (name : Text) (lines : List Line) (i : ℕ) (g : Group) (entrie
   pub group : g ≡ group_at name (take i lines)
   pub entries_are : entries ≡ presets name (take i lines)
 
-pub none-taken : (name : Text) (lines : List Line) (g : Group) (entries : List Entry) → g ≡ record { begun = false; closed = false; holds = false } → entries ≡ replicate 26 entry.Missing → Taken name lines 0 g entries
+pub none-taken : (name : Text) (lines : List Line) (g : Group) (entries : List Entry) → g ≡ record { begun = false; closed = false; holds = false }
+    → entries ≡ replicate 26 entry.Missing → Taken name lines 0 g entries
 unfolding has_cpu is_closed group presets symbols preset_rows read_from entry_of
 none-taken name lines g entries begins are = record { fault = refl; group = begins; entries_are = are }
 
@@ -106,7 +110,8 @@ taken name lines i line g h old new lt at_i t none begins are = record {
   entries_are = are ∙ sym (rw (← t.group, ← t.entries_are, at_i) at (ap (presets name) (take_more lines i other lt) ∙ entries-one-more name (take i lines) (get_or lines i other)));
 }
 
-pub refused : (name : Text) (bytes : List ℕ) (lines : List Line) (i : ℕ) (line : Line) (g h : Group) (old new : List Entry) (r : Refusal) → lines_of bytes ≡ lines → i < length lines → get_or lines i other ≡ line
+pub refused : (name : Text) (bytes : List ℕ) (lines : List Line) (i : ℕ) (line : Line) (g h : Group) (old new : List Entry) (r : Refusal)
+    → lines_of bytes ≡ lines → i < length lines → get_or lines i other ≡ line
     → Taken name lines i g old → TakesRow name line g old h new (Err r) → ReadsPresets (Err (fault_at i r)) bytes name
 unfolding preset_fault
 refused name bytes lines i line g h old new (refusal.Cause why) from lt at_i t e =

@@ -113,7 +113,8 @@ pub changed-at : {X : Type 0} (f : Text → X) (t : Text) (x : X) → map (chang
 unfolding symbols row_of
 changed-at f t x = go (nat_lt (place t preset_rows) (length preset_rows)) refl
   where
-    go : (b : Bool) → nat_lt (place t preset_rows) (length preset_rows) ≡ b → map (changed f t x) (map symbol_of preset_rows) ≡ set_at (map f (map symbol_of preset_rows)) (cond b (Some (place t preset_rows)) None) x
+    go : (b : Bool) → nat_lt (place t preset_rows) (length preset_rows) ≡ b
+        → map (changed f t x) (map symbol_of preset_rows) ≡ set_at (map f (map symbol_of preset_rows)) (cond b (Some (place t preset_rows)) None) x
     go true e = changed-set f t x preset_rows symbols-apart (ltb-true _ _ e)
     go false e = changed-none f t x preset_rows (place-end t preset_rows (ltb-false _ _ e))
 
@@ -131,7 +132,7 @@ symbols-printed : AllByRecursion (λ r. is_printable r.symbol ≡ true) preset_r
 unfolding preset_rows
 symbols-printed = all-test (λ r. is_printable r.symbol) preset_rows refl
 
--- a text that is not printable is no symbol
+-- a text that is not printable is not a symbol
 pub no-symbol : (t : Text) → is_printable t ≡ false → None ≡ row_of t
 unfolding row_of
 no-symbol t e = go (nat_lt (place t preset_rows) (length preset_rows)) refl

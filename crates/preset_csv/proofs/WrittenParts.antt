@@ -8,23 +8,23 @@ use Rattle.table_rows.specs.Rows.{rows_text}
 use Rattle.table_rows.specs.Texts.{Text}
 use Rattle.preset_table.specs.Table.{PresetRow, preset_rows, symbol_at}
 use Rattle.preset_csv.specs.Defs.{DefView}
-use Rattle.preset_csv.specs.Steps.{behind_commas}
+use Rattle.preset_csv.specs.Steps.{after_commas}
 use Rattle.preset_csv.specs.Tables.{TableView, symbols}
 use Rattle.preset_csv.specs.Written.{def_fields, entry_rows, rows_of_entries, table_text}
 use Rattle.preset_csv.specs.declared.entry.Entry.{Entry}
 use Rattle.preset_csv.specs.declared.entry.Entry.TheVariants as entry
 
 -- fields joined by commas
-joined : (x : Text) (rest : List Text) → join_with_byte 44 (x ∷ rest) ≡ x ++ behind_commas rest
+joined : (x : Text) (rest : List Text) → join_with_byte 44 (x ∷ rest) ≡ x ++ after_commas rest
 joined x [] = sym (append-nil x)
 joined x (y ∷ rest) = ap (λ (t : Text). x ++ (44 ∷ t)) (joined y rest)
 
-pub commas-append : (xs ys : List Text) → behind_commas (xs ++ ys) ≡ behind_commas xs ++ behind_commas ys
+pub commas-append : (xs ys : List Text) → after_commas (xs ++ ys) ≡ after_commas xs ++ after_commas ys
 commas-append [] ys = refl
-commas-append (x ∷ xs) ys = ap (λ (t : Text). 44 ∷ (x ++ t)) (commas-append xs ys) ∙ ap (λ (t : Text). 44 ∷ t) (sym (append_assoc x (behind_commas xs) (behind_commas ys)))
+commas-append (x ∷ xs) ys = ap (λ (t : Text). 44 ∷ (x ++ t)) (commas-append xs ys) ∙ ap (λ (t : Text). 44 ∷ t) (sym (append_assoc x (after_commas xs) (after_commas ys)))
 
 -- one row
-pub row-text : (x : Text) (rest : List Text) → rows_text ((x ∷ rest) ∷ []) ≡ (x ++ behind_commas rest) ++ (10 ∷ [])
+pub row-text : (x : Text) (rest : List Text) → rows_text ((x ∷ rest) ∷ []) ≡ (x ++ after_commas rest) ++ (10 ∷ [])
 unfolding rows_text
 row-text x rest = ap (λ (t : Text). t ++ (10 ∷ [])) (joined x rest)
 
@@ -34,14 +34,15 @@ rows-append [] ys = refl
 rows-append (x ∷ xs) ys = ap (λ (t : Text). join_with_byte 44 x ++ (10 ∷ t)) (rows-append xs ys) ∙ sym (append_assoc (join_with_byte 44 x) (10 ∷ rows_text xs) (rows_text ys))
 
 -- one field more of a list
-pub fields-more : {X : Type 0} (view : X → Text) (xs : List X) (i : ℕ) (x : X) (first old new field : Text) → i < length xs → x ≡ get_or xs i x → field ≡ view x → old ≡ first ++ behind_commas (map view (take i xs))
-    → new ≡ old ++ (44 ∷ field) → new ≡ first ++ behind_commas (map view (take (i + 1) xs))
+pub fields-more : {X : Type 0} (view : X → Text) (xs : List X) (i : ℕ) (x : X) (first old new field : Text) → i < length xs → x ≡ get_or xs i x
+    → field ≡ view x → old ≡ first ++ after_commas (map view (take i xs))
+    → new ≡ old ++ (44 ∷ field) → new ≡ first ++ after_commas (map view (take (i + 1) xs))
 fields-more view xs i x first old new field lt at is before are =
-    let last : behind_commas (map view (take (i + 1) xs)) ≡ behind_commas (map view (take i xs)) ++ (44 ∷ (view x ++ [])) =
-    ap (λ ys. behind_commas (map view ys)) (take_more xs i x lt ∙ ap (λ y. take i xs ++ (y ∷ [])) (sym at))
-    ∙ ap behind_commas (map-append view (take i xs) (x ∷ [])) ∙ commas-append (map view (take i xs)) (view x ∷ []) in
-    are ∙ ap (λ (t : Text). t ++ (44 ∷ field)) before ∙ append_assoc first (behind_commas (map view (take i xs))) (44 ∷ field)
-    ∙ ap (λ (t : Text). first ++ (behind_commas (map view (take i xs)) ++ (44 ∷ t))) (is ∙ sym (append-nil (view x)))
+    let last : after_commas (map view (take (i + 1) xs)) ≡ after_commas (map view (take i xs)) ++ (44 ∷ (view x ++ [])) =
+    ap (λ ys. after_commas (map view ys)) (take_more xs i x lt ∙ ap (λ y. take i xs ++ (y ∷ [])) (sym at))
+    ∙ ap after_commas (map-append view (take i xs) (x ∷ [])) ∙ commas-append (map view (take i xs)) (view x ∷ []) in
+    are ∙ ap (λ (t : Text). t ++ (44 ∷ field)) before ∙ append_assoc first (after_commas (map view (take i xs))) (44 ∷ field)
+    ∙ ap (λ (t : Text). first ++ (after_commas (map view (take i xs)) ++ (44 ∷ t))) (is ∙ sym (append-nil (view x)))
     ∙ sym (ap (λ (t : Text). first ++ t) last)
 
 -- ---- the row of an entry
@@ -55,21 +56,23 @@ pub missing-put : (s : Text) (e : Entry) (text : Text) → e ≡ entry.Missing �
 unfolding rows_text
 missing-put s e text is = rw is (sym (append-nil text))
 
-put-fields : (s : Text) (fields t0 t1 t2 t3 t4 : Text) (row : List Text) → fields ≡ behind_commas row → t1 ≡ t0 ++ codes "PRESET" → t2 ≡ t1 ++ (44 ∷ s) → t3 ≡ t2 ++ fields → t4 ≡ t3 ++ (10 ∷ [])
+put-fields : (s : Text) (fields t0 t1 t2 t3 t4 : Text) (row : List Text) → fields ≡ after_commas row → t1 ≡ t0 ++ codes "PRESET" → t2 ≡ t1 ++ (44 ∷ s) → t3 ≡ t2 ++ fields → t4 ≡ t3 ++ (10 ∷ [])
     → t4 ≡ t0 ++ rows_text ((codes "PRESET" ∷ s ∷ row) ∷ [])
 put-fields s fields t0 t1 t2 t3 t4 row is first second third fourth =
     fourth ∙ ap (λ (t : Text). t ++ (10 ∷ [])) (third ∙ ap (λ (t : Text). t ++ fields) (second ∙ ap (λ (t : Text). t ++ (44 ∷ s)) first))
     ∙ put-row t0 (codes "PRESET") s fields (10 ∷ []) ∙ ap (λ (t : Text). t0 ++ ((codes "PRESET" ++ (44 ∷ (s ++ t))) ++ (10 ∷ []))) is
     ∙ ap (λ (t : Text). t0 ++ t) (sym (row-text (codes "PRESET") (s ∷ row)))
 
-pub uncomputed-put : (s : Text) (e : Entry) (t0 t1 t2 t3 : Text) → e ≡ entry.Uncomputed → t1 ≡ t0 ++ codes "PRESET" → t2 ≡ t1 ++ (44 ∷ s) → t3 ≡ t2 ++ codes ",DERIVED_CMPD\n" → t3 ≡ t0 ++ rows_text (entry_rows s e)
+pub uncomputed-put : (s : Text) (e : Entry) (t0 t1 t2 t3 : Text) → e ≡ entry.Uncomputed → t1 ≡ t0 ++ codes "PRESET" → t2 ≡ t1 ++ (44 ∷ s)
+    → t3 ≡ t2 ++ codes ",DERIVED_CMPD\n" → t3 ≡ t0 ++ rows_text (entry_rows s e)
 uncomputed-put s e t0 t1 t2 t3 is first second third =
     rw is (put-fields s (codes ",DERIVED_CMPD") t0 t1 t2 (t2 ++ codes ",DERIVED_CMPD") t3 (codes "DERIVED_CMPD" ∷ []) refl first second refl
     (third ∙ sym (append_assoc t2 (codes ",DERIVED_CMPD") (10 ∷ []))))
 
-pub def-put : (s : Text) (e : Entry) (d : DefView) (t0 t1 t2 t3 t4 : Text) → e ≡ entry.Def d → t1 ≡ t0 ++ codes "PRESET" → t2 ≡ t1 ++ (44 ∷ s) → t3 ≡ t2 ++ behind_commas (def_fields d) → t4 ≡ t3 ++ (10 ∷ [])
+pub def-put : (s : Text) (e : Entry) (d : DefView) (t0 t1 t2 t3 t4 : Text) → e ≡ entry.Def d → t1 ≡ t0 ++ codes "PRESET" → t2 ≡ t1 ++ (44 ∷ s)
+    → t3 ≡ t2 ++ after_commas (def_fields d) → t4 ≡ t3 ++ (10 ∷ [])
     → t4 ≡ t0 ++ rows_text (entry_rows s e)
-def-put s e d t0 t1 t2 t3 t4 is first second third fourth = rw is (put-fields s (behind_commas (def_fields d)) t0 t1 t2 t3 t4 (def_fields d) refl first second third fourth)
+def-put s e d t0 t1 t2 t3 t4 is first second third fourth = rw is (put-fields s (after_commas (def_fields d)) t0 t1 t2 t3 t4 (def_fields d) refl first second third fourth)
 
 -- ---- the rows of the table
 
@@ -118,7 +121,8 @@ pub begun : (t : TableView) (text : Text) → text ≡ (codes "CPU" ++ (44 ∷ t
 unfolding table_text rows_text
 begun t text is = sym (rw is (append_assoc (codes "CPU" ++ (44 ∷ t.cpu)) (10 ∷ []) (text_from t.rows 0)))
 
-pub one-more : (t : TableView) (i : ℕ) (s : Text) (e : Entry) (old new : Text) → length t.rows ≡ 26 → i < length t.rows → s ≡ symbol_at i → e ≡ get_or t.rows i e → new ≡ old ++ rows_text (entry_rows s e) → IsText t i old → IsText t (i + 1) new
+pub one-more : (t : TableView) (i : ℕ) (s : Text) (e : Entry) (old new : Text) → length t.rows ≡ 26 → i < length t.rows → s ≡ symbol_at i
+    → e ≡ get_or t.rows i e → new ≡ old ++ rows_text (entry_rows s e) → IsText t i old → IsText t (i + 1) new
 one-more t i s e old new n lt at is are h =
     let here : text_from t.rows i ≡ rows_text (entry_rows s e) ++ text_from t.rows (i + 1) =
     text-more t.rows i e n lt ∙ ap₂ (λ (u : Text) (x : Entry). rows_text (entry_rows u x) ++ text_from t.rows (i + 1)) (sym at) (sym is) in

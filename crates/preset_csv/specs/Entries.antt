@@ -20,9 +20,11 @@ use Rattle.preset_csv.specs.declared.kind.DerivedType.TheVariants as derived
 unfoldable pub has_rate : Text → Bool
 has_rate formula = list_any (λ p. bytes_eq (trimmed p) (codes "#")) (slice_split (λ b. b == 124) formula)
 
+-- an entry that is computed
 abbrev pub def_entry : Kind → Option FormulaView → List Text → Entry
 def_entry k formula natives = entry.Def (record { kind = k; formula = formula; natives = natives })
 
+-- the entry of a row with this formula, or why the row is refused
 abbrev pub formula_entry : List Text → Result FormulaView Refused → Result Entry PresetCause
 formula_entry natives (Ok formula) = Ok (def_entry kind.Postfix (Some formula) natives)
 formula_entry natives (Err refused) = Err (cause.BadFormula refused.cause)
@@ -50,6 +52,7 @@ abbrev pub kept_entry : DerivedType → Text → Result (List Text) PresetCause 
 kept_entry t formula (Ok natives) = if is_empty natives then Ok entry.Uncomputed else typed_entry t formula natives
 kept_entry t formula (Err why) = Err why
 
+-- the entry of a row of this type, or why the row is refused
 abbrev pub judged_as : Option DerivedType → Text → List Text → Result Entry PresetCause
 judged_as None formula natives = Err cause.BadField
 judged_as (Some t) formula natives = if is_printable formula then kept_entry t formula (kept_natives natives) else Err cause.BadField

@@ -27,7 +27,7 @@ kind_text kind.Add = codes "DERIVED_ADD"
 kind_text kind.Sub = codes "DERIVED_SUB"
 kind_text kind.Postfix = codes "DERIVED_POSTFIX"
 
--- a row of this type has a formula in front of its natives
+-- a row of this type has a formula before its natives
 abbrev pub has_formula : Option DerivedType → Bool
 has_formula None = false
 has_formula (Some derived.NotDerived) = false

@@ -39,6 +39,7 @@ derivation fields t =
     then record { symbol = text_at fields 1; derived_type = t; formula = text_at fields 3; natives = natives_from fields 4 }
     else record { symbol = text_at fields 1; derived_type = t; formula = []; natives = natives_from fields 3 }
 
+-- what a PRESET row with these fields says
 unfoldable pub derivation_of : List Text → Derivation
 derivation_of fields = derivation fields (type_of (text_at fields 2))
 
@@ -49,6 +50,7 @@ line_of fields =
     else if str_eq_ignore_ascii_case (text_at fields 0) (codes "PRESET") then preset (derivation_of fields)
     else other
 
+-- what each row of a preset file says
 abbrev pub lines_of : List ℕ → List Line
 lines_of bytes = map line_of (rows_of bytes)
 

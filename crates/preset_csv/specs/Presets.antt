@@ -1,5 +1,6 @@
 -- The presets of a file for one cpu, and its first fault: papi_events.csv.
-use Rattle.std.specs.Prelude.{◌≡◌, ◌+◌, ◌&&◌, ℕ, Bool, true, false, not, List, [], ◌∷◌, ◌++◌, length, map, fold, Option, Some, None, Result, Ok, Err, is_some, if◌then◌else◌, codes}
+use Rattle.std.specs.Prelude.{◌≡◌, ◌+◌, ◌&&◌, ℕ, Bool, true, false, not, List, [], ◌∷◌, ◌++◌, length, map, fold, Option, Some}
+use Rattle.std.specs.Prelude.{None, Result, Ok, Err, is_some, if◌then◌else◌, codes}
 use Rattle.std.specs.List.{list_any}
 use Rattle.std.specs.Option.{option_map_or}
 use Rattle.std.specs.Str.{bytes_eq}
@@ -18,6 +19,7 @@ use Rattle.preset_csv.specs.declared.table.PresetTable.{PresetTable}
 
 -- ---- the group of cpus to which a row belongs
 
+-- a CPU row is among these
 unfoldable pub has_cpu : List Line → Bool
 has_cpu [] = false
 has_cpu (other ∷ rest) = has_cpu rest
@@ -49,10 +51,12 @@ unfoldable pub read_from : Text → List Line → List Line → List Derivation
 read_from name above [] = []
 read_from name above (other ∷ rest) = read_from name (above ++ other ∷ []) rest
 read_from name above (cpu n ∷ rest) = read_from name (above ++ cpu n ∷ []) rest
-read_from name above (preset r ∷ rest) = if is_read name above r then r ∷ read_from name (above ++ preset r ∷ []) rest else read_from name (above ++ preset r ∷ []) rest
+read_from name above (preset r ∷ rest) =
+    if is_read name above r then r ∷ read_from name (above ++ preset r ∷ []) rest else read_from name (above ++ preset r ∷ []) rest
 
 -- ---- the entries
 
+-- the entry that a row gives, or the old one
 abbrev pub entry_or : Entry → Result Entry PresetCause → Entry
 entry_or old (Ok e) = e
 entry_or old (Err why) = old
@@ -67,6 +71,7 @@ presets name lines = map (entry_of (read_from name [] lines)) symbols
 
 -- ---- the first fault
 
+-- why a row is refused, if it is
 abbrev pub judged_cause : Result Entry PresetCause → Option PresetCause
 judged_cause (Ok e) = None
 judged_cause (Err why) = Some why

@@ -1,5 +1,6 @@
 -- The presets of some rows and of one row more, with the group of cpus at the end of the rows.
-use Rattle.std.specs.Prelude.{◌≡◌, ◌++◌, ◌||◌, ◌&&◌, ◌+◌, ℕ, Bool, true, false, not, List, [], ◌∷◌, set, Option, Some, None, Result, Ok, Err, is_some, if◌then◌else◌}
+use Rattle.std.specs.Prelude.{◌≡◌, ◌++◌, ◌||◌, ◌&&◌, ◌+◌, ℕ, Bool, true, false, not, List, [], ◌∷◌, set, Option, Some, None}
+use Rattle.std.specs.Prelude.{Result, Ok, Err, is_some, if◌then◌else◌}
 use Rattle.std.specs.List.{AllByRecursion, list_any}
 use Rattle.std.specs.Str.{bytes_eq}
 use Rattle.csv.specs.Records.{fields_of}
@@ -49,6 +50,7 @@ placed entries (Some row) (Err why) = entries
 abbrev pub entries_with : Bool → List Entry → Derivation → List Entry
 entries_with holds entries r = if holds then placed entries (row_of r.symbol) (judged r) else entries
 
+-- the entries with one row more
 abbrev pub entries_more : Group → List Entry → Line → List Entry
 entries_more g entries other = entries
 entries_more g entries (cpu n) = entries
@@ -58,6 +60,7 @@ entries_more g entries (preset r) = entries_with g.holds entries r
 abbrev pub read_cause : Bool → Derivation → Option PresetCause
 read_cause holds r = if holds && is_some (row_of r.symbol) then judged_cause (judged r) else None
 
+-- why one row more is refused, if it is
 abbrev pub cause_more : Group → Line → Option PresetCause
 cause_more g other = None
 cause_more g (cpu n) = None
@@ -79,6 +82,7 @@ TakesPreset holds r old new (Err refusal.Memory) = Unit {0}
 abbrev pub IsReadRow : List Text → Type 0
 IsReadRow fields = AllByRecursion IsPlainField fields
 
+-- no byte of a field of this row ends a field or a row
 abbrev pub IsPlainRow : Row → Type 0
 IsPlainRow row.Other = Unit {0}
 IsPlainRow (row.Cpu name) = Unit {0}
@@ -105,6 +109,6 @@ fault_at place (refusal.Cause why) = fault.Row (place + 1) why
 fault_at place refusal.Memory = fault.Memory
 
 -- fields, each after a comma
-abbrev pub behind_commas : List Text → Text
-behind_commas [] = []
-behind_commas (field ∷ rest) = 44 ∷ (field ++ behind_commas rest)
+abbrev pub after_commas : List Text → Text
+after_commas [] = []
+after_commas (field ∷ rest) = 44 ∷ (field ++ after_commas rest)

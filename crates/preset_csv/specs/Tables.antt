@@ -17,11 +17,13 @@ pub record TableView : Type 0 where
   pub cpu : Text
   pub rows : List Entry
 
+-- what each entry keeps
 abbrev pub IsEntry : Entry → Type 0
 IsEntry entry.Missing = Unit {0}
 IsEntry entry.Uncomputed = Unit {0}
 IsEntry (entry.Def d) = IsDef d
 
+-- the file has no row for the preset
 abbrev pub IsMissing : Entry → Type 0
 IsMissing e = e ≡ entry.Missing
 

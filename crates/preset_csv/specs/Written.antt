@@ -11,6 +11,7 @@ use Rattle.preset_csv.specs.Tables.{TableView, symbols}
 use Rattle.preset_csv.specs.declared.entry.Entry.{Entry}
 use Rattle.preset_csv.specs.declared.entry.Entry.TheVariants as entry
 
+-- the field of a formula, if there is one
 abbrev pub formula_fields : Option FormulaView → List Text
 formula_fields None = []
 formula_fields (Some f) = formula_text f.tokens ∷ []

@@ -1,4 +1,4 @@
-// Presets that are computed.
+//! Presets that are computed.
 
 use crate::kind::Kind;
 use postfix_rules::Formula;

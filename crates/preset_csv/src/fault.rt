@@ -1,4 +1,4 @@
-// Why a preset file is refused.
+//! Why a preset file is refused.
 
 ghost use Rattle.std.specs.Prelude.{◌≡◌};
 ghost use Rattle.preset_csv.specs.Presets as Presets;

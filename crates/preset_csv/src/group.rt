@@ -1,4 +1,4 @@
-// The group of cpus to which a row belongs.
+//! The group of cpus to which a row belongs.
 
 ghost use Rattle.std.specs.Prelude.{◌≡◌, ◌||◌, ◌&&◌, not, true, false};
 

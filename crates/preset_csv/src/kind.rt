@@ -1,4 +1,4 @@
-// Kinds of presets, and the derived types that a preset file states.
+//! Kinds of presets, and the derived types that a preset file states.
 
 ghost use Rattle.std.specs.Prelude.{◌≡◌, Some};
 ghost use Rattle.preset_csv.specs.Kinds as Kinds;
@@ -64,7 +64,7 @@ pub fn type_of(name: &[u8]) -> Option<DerivedType>
     }
 }
 
-/// Whether a row of this derived type has a formula in front of its natives.
+/// Whether a row of this derived type has a formula before its natives.
 pub fn has_formula(derived_type: DerivedType) -> bool
     ensures { result ≡ Kinds.has_formula (Some derived_type) }
 {

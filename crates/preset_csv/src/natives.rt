@@ -1,4 +1,4 @@
-// The natives of a row.
+//! The natives of a row.
 
 ghost use Rattle.std.specs.Prelude.{◌≡◌, ◌<◌, ◌≤◌, ◌∷◌, ◌++◌, [], IfErr, IfOk, OnOk, Ok, length, map, string_bytes, take};
 ghost use Rattle.csv.specs.Records.{fields_of};

@@ -1,4 +1,4 @@
-// A whole preset file.
+//! A whole preset file.
 
 ghost use Rattle.std.specs.Prelude.{◌≡◌, ◌<◌, IfOk, length, replicate, set};
 ghost use Rattle.csv.specs.Records.{fields_of};

@@ -1,4 +1,4 @@
-// Why a row is not taken.
+//! Why a row is not taken.
 
 ghost use Rattle.std.specs.Prelude.{◌≡◌, ◌<◌, ◌-◌, ◌^◌};
 ghost use Rattle.preset_csv.specs.Steps as Steps;

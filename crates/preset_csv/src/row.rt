@@ -1,4 +1,4 @@
-// One row of a preset file, by its kind.
+//! One row of a preset file, by its kind.
 
 ghost use Rattle.std.specs.Prelude.{◌≡◌};
 ghost use Rattle.csv.specs.Records.{fields_of};

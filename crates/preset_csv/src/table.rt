@@ -1,4 +1,4 @@
-// The presets for one cpu.
+//! The presets for one cpu.
 
 use crate::Entry;
 use std::marker::Model;

@@ -1,9 +1,9 @@
-// A table of presets as a preset file.
+//! A table of presets as a preset file.
 
 ghost use Rattle.std.specs.Prelude.{◌≡◌, ◌∷◌, ◌++◌, [], IfOk, OnOk, map, codes, string_bytes};
 ghost use Rattle.std.specs.Option.{option_copied};
 ghost use Rattle.table_rows.specs.Rows.{rows_text};
-ghost use Rattle.preset_csv.specs.Steps.{behind_commas};
+ghost use Rattle.preset_csv.specs.Steps.{after_commas};
 ghost use Rattle.preset_csv.specs.Written.{ReadsBack, def_fields, entry_rows, formula_fields, table_text};
 
 use crate::definition::Def;
@@ -25,7 +25,7 @@ pub fn put_field(text: &mut Vec<u8>, field: &[u8]) -> Result<(), AllocError>
 
 // The natives, each after a comma.
 fn put_natives(text: &mut Vec<u8>, natives: &[String]) -> Result<(), AllocError>
-    ensures { OnOk result (text.new.items ≡ text.old.items ++ behind_commas (map string_bytes natives.now)) }
+    ensures { OnOk result (text.new.items ≡ text.old.items ++ after_commas (map string_bytes natives.now)) }
 {
     for native in natives {
         put_field(text, native.as_bytes())?;
@@ -39,7 +39,7 @@ fn put_formula(
     text: &mut Vec<u8>,
     formula: Option<&Formula>,
 ) -> Result<(), AllocError>
-    ensures { OnOk result (text.new.items ≡ text.old.items ++ behind_commas (formula_fields (option_copied formula.entry))) }
+    ensures { OnOk result (text.new.items ≡ text.old.items ++ after_commas (formula_fields (option_copied formula.entry))) }
 {
     match formula {
         Some(formula) => {
@@ -52,7 +52,7 @@ fn put_formula(
 
 /// Appends the type, the formula where there is one, and the natives, each after a comma.
 pub fn put_def(alloc: Global, text: &mut Vec<u8>, def: &Def) -> Result<(), AllocError>
-    ensures { OnOk result (text.new.items ≡ text.old.items ++ behind_commas (def_fields def.now)) }
+    ensures { OnOk result (text.new.items ≡ text.old.items ++ after_commas (def_fields def.now)) }
 {
     put_field(text, kind_text(def.kind()).as_bytes())?;
     put_formula(alloc, text, def.formula())?;

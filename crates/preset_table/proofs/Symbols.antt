@@ -1,4 +1,4 @@
--- A text that is no symbol has no row.
+-- A text that is not a symbol has no row.
 use Rattle.std.proofs.Common.{◌≡◌, ◌∷◌, ◌+◌, ℕ, Bool, true, false, List, [], None, Some, cond, length, refl, arith}
 use Rattle.std.proofs.lemmas.Bool.{ltb-true}
 use Rattle.std.proofs.lemmas.Slice.Eq.{bytes_eq-Decides}
@@ -8,7 +8,7 @@ use Rattle.std.specs.List.{position_or_len}
 use Rattle.std.specs.Str.{bytes_eq}
 use Rattle.preset_table.specs.Table.{PresetRow}
 
--- the text is none of the symbols
+-- the text is not one of the symbols
 abbrev pub AreOthers : List ℕ → List PresetRow → Type 0
 AreOthers symbol [] = Unit {0}
 AreOthers symbol (row ∷ rows) = (row.symbol ≡ symbol → ⊥) × AreOthers symbol rows

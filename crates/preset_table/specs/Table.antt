@@ -4,11 +4,13 @@ use Rattle.std.specs.Option.{option_map_or}
 use Rattle.std.specs.Str.{bytes_eq}
 use Rattle.preset_table.specs.declared.TheConstants.{PRESETS}
 
+-- a preset: its symbol, its code and what it counts
 pub record PresetRow : Type 0 where
   pub symbol : List ℕ
   pub code : ℕ
   pub description : List ℕ
 
+-- a row of the table
 abbrev pub preset : List ℕ → ℕ → List ℕ → PresetRow
 preset symbol code description = record { symbol = symbol; code = code; description = description }
 
@@ -43,17 +45,19 @@ preset_rows =
     ∷ preset (codes "PAPI_REF_CYC") 0x8000006b (codes "Reference clock cycles")
     ∷ []
 
--- how many there are
+-- how many presets the table has
 abbrev pub preset_count : ℕ
 preset_count = PRESETS
 
--- the symbol, the code and the description in a row
+-- the symbol of the preset in a row, or an empty one
 unfoldable pub symbol_at : ℕ → List ℕ
 symbol_at row = option_map_or (λ r. r.symbol) (slice_get preset_rows row) []
 
+-- the code of the preset in a row, or 0
 unfoldable pub code_at : ℕ → ℕ
 code_at row = option_map_or (λ r. r.code) (slice_get preset_rows row) 0
 
+-- the description of the preset in a row, or an empty one
 unfoldable pub description_at : ℕ → List ℕ
 description_at row = option_map_or (λ r. r.description) (slice_get preset_rows row) []
 

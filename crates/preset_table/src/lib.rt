@@ -124,7 +124,7 @@ pub fn preset_text(row: u32) -> &'static str
     }
 }
 
-/// The row of a symbol, compared exactly, which is below [`PRESETS`], and `None` where the text is no symbol of the table.
+/// The row of a symbol, compared exactly, which is below [`PRESETS`], and `None` where the text is not a symbol of the table.
 #[tactic(auto, unfolding(crate::specs::Table::preset_rows, crate::specs::Table::row_of))]
 pub fn preset_row(symbol: &str) -> Option<u32>
     ensures row { result ≡ Table.row_of symbol.now }

@@ -7,4 +7,5 @@ use Rattle.reply_text.specs.Replies.{Text}
 -- `note`, the thread, the set, the event's index in it, and the program counter in hexadecimal without leading zeros
 abbrev pub note_text : Note → Text
 note_text note =
-    codes "note " ++ (decimal note.thread ++ (32 ∷ (decimal note.set ++ (32 ∷ (decimal note.index ++ (codes " 0x" ++ (digits 16 false note.pc ++ 10 ∷ [])))))))
+    codes "note " ++ (decimal note.thread ++ (32 ∷ (decimal note.set ++ (32 ∷ (decimal note.index
+    ++ (codes " 0x" ++ (digits 16 false note.pc ++ 10 ∷ [])))))))

@@ -19,6 +19,7 @@ use Rattle.session_model.specs.declared.reply.Body.TheVariants as body
 use Rattle.session_model.specs.declared.reply.Reply.{Reply}
 use Rattle.reply_text.specs.Hexadecimal.{hex_text}
 
+-- the bytes of a text
 abbrev pub Text : Type 0
 Text = List ℕ
 

@@ -11,7 +11,7 @@ use papi_base::{EventRef, Native};
 use std::alloc::AllocError;
 use std::fmt::Write;
 
-/// Appends a space and the name of an event: a preset's symbol, or a native event's canonical name.
+/// Appends a space and the name of an event: a preset's symbol, a user event's name, or a native event's canonical name.
 pub(crate) fn push_event(
     text: &mut String,
     catalog: &Catalog,

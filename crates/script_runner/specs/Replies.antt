@@ -7,6 +7,7 @@ use Rattle.plan_runner.specs.declared.result.ReplyLine.{ReplyLine}
 use Rattle.reply_text.specs.Notes.{note_text}
 use Rattle.reply_text.specs.Replies as Texts
 
+-- a reply with its line's number, its thread and its word, as the output of a run has it
 abbrev pub reply_line_text : CatalogView → ReplyLine → List ℕ
 reply_line_text catalog l = Texts.line_text catalog l.line l.thread l.word l.reply
 

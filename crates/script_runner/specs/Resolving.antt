@@ -1,14 +1,15 @@
--- The lines of a script, with their events looked up: PAPI_event_name_to_code(3), PAPI_event_code_to_name(3). The script is this project's own: docs/FORMATS.md.
-use Rattle.std.specs.Prelude.{◌≡◌, ◌++◌, ℕ, List, [], ◌∷◌, map, Result, Ok, Err, ⊤}
+-- The lines of a script, with their events looked up: PAPI_event_name_to_code(3), PAPI_event_code_to_name(3).
+-- The script is this project's own: docs/FORMATS.md.
+use Rattle.std.specs.Prelude.{◌≡◌, ◌++◌, List, [], ◌∷◌, map, Result, Ok, Err, ⊤}
 use Rattle.std.specs.List.{flat_map}
 use Rattle.component_table.specs.Catalogs.{CatalogView, looked_up, shape_of}
+use Rattle.component_table.specs.Codes.{row_codes}
 use Rattle.papi_base.specs.declared.code.Code.{Code}
 use Rattle.papi_base.specs.declared.native.EventRef.{EventRef}
 use Rattle.papi_base.specs.declared.native.EventRef.TheVariants as event
 use Rattle.papi_base.specs.declared.native.Native.{Native}
 use Rattle.plan_runner.specs.declared.result.ReplyLine.{ReplyLine}
 use Rattle.postfix_rules.specs.Sameness.{joined_by}
-use Rattle.preset_table.specs.Table.{preset_rows}
 use Rattle.script_lines.specs.Names.{name_of}
 use Rattle.script_lines.specs.declared.call.ScriptCall.{ScriptCall}
 use Rattle.script_lines.specs.declared.call.ScriptCall.TheVariants as script
@@ -20,13 +21,9 @@ use Rattle.session_model.specs.declared.line.Asked.{Asked}
 use Rattle.session_model.specs.declared.line.Asked.TheVariants as asked
 use Rattle.session_model.specs.declared.line.Line.{Line}
 
--- the codes of the preset table's rows
-abbrev pub preset_codes : List ℕ
-preset_codes = map (λ r. r.code) preset_rows
-
--- what all threads share: the presets, their codes, and the counters
+-- what all threads share: the presets and user events, their codes, and the counters
 abbrev pub setting_of : CatalogView → Setting
-setting_of catalog = record { book = catalog.book; codes = preset_codes; shape = shape_of catalog.tables }
+setting_of catalog = record { book = catalog.book; codes = row_codes catalog; shape = shape_of catalog.tables }
 
 -- what a line asks for
 abbrev pub asked_of : CatalogView → ScriptCall → Asked
@@ -55,6 +52,7 @@ asked_of catalog (script.Run count) = asked.Call (call.Run count)
 asked_of catalog (script.Code event) = asked.CodeOf (looked_up catalog event)
 asked_of catalog (script.Name code) = asked.NameOf code
 
+-- a line of a script as the model has it, with the events that its names stand for
 abbrev pub line_of : CatalogView → ScriptLine → Line
 line_of catalog l = record { thread = l.thread; asked = asked_of catalog l.call }
 
@@ -69,7 +67,7 @@ IsGoodAsk catalog (asked.CodeOf e) = ⊤
 IsGoodAsk catalog (asked.NameOf c) = ⊤
 IsGoodAsk catalog asked.Threads = ⊤
 
--- the native event that a text names, where it names one
+-- the native event that a text names, where it names one: no preset and no user event is mentioned
 abbrev pub mentions_by : Result EventRef Code → List Native
 mentions_by (Ok (event.Native n)) = n ∷ []
 mentions_by (Ok (event.Preset row)) = []

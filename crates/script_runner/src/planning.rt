@@ -1,48 +1,25 @@
 //! What a line of a plan asks for, where the native events up to this line are mentioned.
 
-ghost use Rattle.std.specs.Prelude.{◌≡◌, ◌==◌, ◌<◌, ◌≤◌, IfOk, OnErr, OnOk, length, map, position, slice_get, unwrap_or};
+ghost use Rattle.std.specs.Prelude.{◌≡◌, ◌==◌, ◌<◌, IfOk, OnErr, OnOk, length, position};
+ghost use Rattle.component_table.specs.Codes.{row_codes};
 ghost use Rattle.component_table.specs.declared.native_codes.TheConstants.{MOST_MENTIONED};
 ghost use Rattle.plan_runner.specs.Plans.{event_by, looked_up};
 ghost use Rattle.postfix_rules.specs.Sameness.{joined_by};
-ghost use Rattle.script_runner.specs.Resolving.{mentions_by, preset_codes, setting_of};
-ghost use Rattle.session_model.specs.World.{Setting, mentions_of, mentions_of_call};
+ghost use Rattle.script_runner.specs.Resolving.{mentions_by, setting_of};
+ghost use Rattle.session_model.specs.World.{mentions_of, mentions_of_call};
 ghost use Rattle.postfix_rules.specs.NativeCodes.{native_named};
 
-use component_table::NativeCodes;
+use component_table::{Catalog, NativeCodes};
 use papi_base::EventRef;
 use plan_runner::Planned;
-use preset_table::{preset_code, preset_count};
 use session_model::{Asked, Call, Named};
 use std::alloc::AllocError;
 
-// The code in a row of the preset table, and 0 where there is no such row.
-fn code_of_preset(row: u32) -> u32
-    ensures { result ≡ unwrap_or (slice_get preset_codes row) 0 }
-{
-    if row < preset_count() {
-        preset_code(row)
-    } else {
-        0
-    }
-}
-
-// The row of the preset with a code.
-fn preset_of_code(code: u32) -> Option<u32>
-    ensures { result ≡ position (λ x. x == code) preset_codes }
-{
-    for row in 0..preset_count() {
-        if preset_code(row) == code {
-            return Some(row);
-        }
-    }
-    None
-}
-
 // The event of a code: PAPI_event_code_to_name(3).
-fn event_of_code(code: u32, codes: &NativeCodes) -> Option<EventRef>
-    ensures { result ≡ event_by (position (λ x. x == code) preset_codes) (native_named codes.now code) }
+fn event_of_code(catalog: &Catalog, code: u32, codes: &NativeCodes) -> Option<EventRef>
+    ensures { result ≡ event_by (position (λ x. x == code) (row_codes catalog.now)) (native_named codes.now code) }
 {
-    if let Some(row) = preset_of_code(code) {
+    if let Some(row) = catalog.row_of_code(code) {
         return Some(EventRef::Preset(row));
     }
     let native = codes.native_of(code, codes.count())?;
@@ -76,9 +53,13 @@ fn mention_in(call: &Call, codes: &mut NativeCodes) -> Result<(), AllocError>
 }
 
 /// What a line asks for, looked up where its own mention is the last one.
-pub(crate) fn planned_of(asked: Asked, codes: &mut NativeCodes) -> Result<Planned, AllocError>
+pub(crate) fn planned_of(
+    catalog: &Catalog,
+    asked: Asked,
+    codes: &mut NativeCodes,
+) -> Result<Planned, AllocError>
     requires few { length codes.old < MOST_MENTIONED }
-    ensures planned { (at : Setting) → at.codes ≡ preset_codes → IfOk result (λ planned. planned ≡ looked_up at codes.new asked) }
+    ensures planned { IfOk result (λ planned. planned ≡ looked_up (setting_of catalog.now) codes.new asked) }
     ensures mentioned { OnOk result (codes.new ≡ joined_by codes.old (mentions_of asked)) }
     ensures unchanged { OnErr result (codes.new ≡ codes.old) }
 {
@@ -90,9 +71,9 @@ pub(crate) fn planned_of(asked: Asked, codes: &mut NativeCodes) -> Result<Planne
         Asked::CodeOf(Ok(EventRef::Native(native))) => {
             Ok(Planned::Code(Ok(codes.mention(native)?)))
         }
-        Asked::CodeOf(Ok(EventRef::Preset(row))) => Ok(Planned::Code(Ok(code_of_preset(row)))),
+        Asked::CodeOf(Ok(EventRef::Preset(row))) => Ok(Planned::Code(Ok(catalog.code_at(row)))),
         Asked::CodeOf(Err(code)) => Ok(Planned::Code(Err(code))),
-        Asked::NameOf(code) => Ok(Planned::Name(event_of_code(code, codes))),
+        Asked::NameOf(code) => Ok(Planned::Name(event_of_code(catalog, code, codes))),
         Asked::Threads => Ok(Planned::Threads),
     }
 }

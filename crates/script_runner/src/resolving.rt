@@ -33,7 +33,7 @@ pub fn resolve(
 {
     let mut lines = Vec::new(alloc);
     for line in script.lines() {
-        let planned = planned_of(asked_of(catalog, &line.call), codes)?;
+        let planned = planned_of(catalog, asked_of(catalog, &line.call), codes)?;
         lines.push(PlanLine {
             number: line.line,
             thread: line.thread,

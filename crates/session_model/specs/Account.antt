@@ -4,7 +4,8 @@ use Rattle.papi_base.specs.declared.occurrence.Occ.{Occ}
 use Rattle.papi_base.specs.Streams.{Mark}
 use Rattle.event_sets.specs.AtRest.{AtRest}
 
--- A set, the window of positions over which it counts, and the caller's value of each event. The window goes from `from` up to, but not including, `to`; while the set runs, up to now.
+-- A set, the window of positions over which it counts, and the caller's value of each event. The window goes from `from` up
+-- to, but not including, `to`; while the set runs, up to now.
 pub record Kept : Type 0 where
   pub set : AtRest
   pub running : Bool

@@ -15,7 +15,7 @@ pub record IsWithin (end : ℕ) (s : Kept) : Type 0 where
   pub in_order : s.from ≤ s.to
   pub past : s.to ≤ end
 
--- so does each set's
+-- the window of each set lies in the past
 pub record AllWithin (end : ℕ) (sets : List (Option Kept)) : Type 0 where
   pub each : All (λ place. ForSome place (IsWithin end)) sets
 
@@ -27,6 +27,6 @@ pub record AreApart (faces : List (Option Face)) : Type 0 where
 pub record IsValued (s : Kept) : Type 0 where
   pub one_each : length s.values ≡ length s.set.events
 
--- so are each set's
+-- each set has a caller's value for each of its events
 pub record AllValued (sets : List (Option Kept)) : Type 0 where
   pub each : All (λ place. ForSome place IsValued) sets

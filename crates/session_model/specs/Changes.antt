@@ -10,7 +10,7 @@ use Rattle.session_model.specs.Account.{Kept, end, zeroed}
 use Rattle.session_model.specs.Values.{accumulated}
 use Rattle.session_model.specs.Faces.{change, free}
 
--- PAPI_create_eventset(3)
+-- a new set, without events: PAPI_create_eventset(3)
 abbrev pub new_kept : Kept
 new_kept = record { set = new_set; running = false; from = 0; to = 0; values = [] }
 

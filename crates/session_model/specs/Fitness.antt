@@ -14,7 +14,7 @@ pub record IsFit (book : Book) (shape : Widths) (s : AtRest) : Type 0 where
   pub has_component : (comp : ℕ) → s.component ≡ Some comp → comp < length shape
   pub thresholds : All (λ t. (t ≡ 0) ⊎ ((256 ≤ t) × (t < 2 ^ least_width (widths_at shape s.component)))) s.thresholds
 
--- so is each set, with one value of the caller for each event
+-- each set fits, and has a caller's value for each of its events
 pub record AreFit (book : Book) (shape : Widths) (sets : List (Option Kept)) : Type 0 where
   pub fit : (k : ℕ) (s : Kept) → slice_get sets k ≡ Some (Some s) → IsFit book shape s.set
   pub one_value_each : (k : ℕ) (s : Kept) → slice_get sets k ≡ Some (Some s) → length s.values ≡ length s.set.events

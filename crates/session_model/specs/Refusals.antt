@@ -13,7 +13,8 @@ use Rattle.event_sets.specs.declared.refusal.Clash.{Clash}
 use Rattle.event_sets.specs.declared.refusal.Refusal.{Refusal}
 use Rattle.event_sets.specs.declared.refusal.Refusal.TheVariants.{Plain, Conflict}
 use Rattle.event_sets.specs.Assigning.{counters_for}
-use Rattle.event_sets.specs.AtRest.{Widths, AtRest, set_natives, has_event, cannot_take, is_full, clash_with, is_armed, cannot_arm, is_bad_threshold, shares_native, is_bad_domain, is_bad_slice, is_other, widths_at}
+use Rattle.event_sets.specs.AtRest.{Widths, AtRest, set_natives, has_event, cannot_take, is_full, clash_with, is_armed}
+use Rattle.event_sets.specs.AtRest.{cannot_arm, is_bad_threshold, shares_native, is_bad_domain, is_bad_slice, is_other, widths_at}
 use Rattle.session_model.specs.Faces.{Face, at, is_absent, has, runs, is_running, component_runs}
 
 -- a refusal by a code alone, where it comes

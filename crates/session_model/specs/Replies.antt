@@ -63,7 +63,7 @@ sight_of_kept book shape past = record {
 abbrev pub shown : {X : Type 0} → (X → Body) → List (Option X) → ℕ → Reply
 shown f sets k = done (option_map_or f (at sets k) body.Nothing)
 
--- the reply to a call that is not refused, and no run
+-- the reply to a call that is not refused, and is not a run
 abbrev pub reply_over : {X : Type 0} → Book → Sight X → List (Option X) → Call → Reply
 reply_over book sight sets call.Create = done (body.SetNumber (free sets))
 reply_over book sight sets (call.Stop k) = shown (λ s. body.Values (sight.values s)) sets k

@@ -1,6 +1,7 @@
 -- All threads, line by line in the script's order: PAPI_register_thread(3), PAPI_list_threads(3),
 -- PAPI_event_name_to_code(3). The script is this project's own.
-use Rattle.std.specs.Prelude.{ℕ, zero, suc, ◌+◌, ◌*◌, Bool, true, false, ◌==◌, ◌&&◌, if◌then◌else◌, List, [], ◌∷◌, ◌++◌, Option, Some, None, Ok, Err, slice_get, slice_set, unwrap_or, position}
+use Rattle.std.specs.Prelude.{ℕ, zero, suc, ◌+◌, ◌*◌, Bool, true, false, ◌==◌, ◌&&◌, if◌then◌else◌, List, [], ◌∷◌, ◌++◌}
+use Rattle.std.specs.Prelude.{Option, Some, None, Ok, Err, slice_get, slice_set, unwrap_or, position}
 use Rattle.papi_base.specs.declared.native.Native.{Native}
 use Rattle.overflow_dispatch.specs.declared.handler.Note.{Note}
 use Rattle.papi_base.specs.declared.native.EventRef.TheVariants as event
@@ -24,7 +25,7 @@ use Rattle.session_model.specs.Account.{Account, opening}
 use Rattle.session_model.specs.Replies.{plain, done}
 use Rattle.session_model.specs.Step.{Outcome, step}
 
--- what all threads share: presets, the codes of the preset table's rows, and the counters
+-- what all threads share: the book of presets and user events, the codes of its rows, and the counters
 pub record Setting : Type 0 where
   pub book : Book
   pub codes : List ℕ
@@ -64,7 +65,7 @@ mentions_of (asked.CodeOf e) = []
 mentions_of (asked.NameOf c) = []
 mentions_of asked.Threads = []
 
--- PAPI_event_code_to_name(3): the row of a preset, or a native mentioned so far
+-- PAPI_event_code_to_name(3): the row of a preset or user event, or a native mentioned so far
 abbrev pub name_by : Option ℕ → Option Native → Reply
 name_by (Some row) native = done (body.EventName (event.Preset row))
 name_by None (Some n) = done (body.EventName (event.Native n))
@@ -75,7 +76,7 @@ abbrev pub listed_from : ℕ → List Account → ℕ
 listed_from bit [] = 0
 listed_from bit (a ∷ accounts) = (if a.registered then bit else 0) + listed_from (2 * bit) accounts
 
--- what a line that is no session's call replies, where these natives are mentioned
+-- what a line that is not a session's call replies, where these natives are mentioned
 abbrev pub answer : Setting → List Account → List Native → Asked → Reply
 answer at accounts mentioned (asked.CodeOf (Ok (event.Native n))) = done (body.EventCode (native_code mentioned n))
 answer at accounts mentioned (asked.CodeOf (Ok (event.Preset row))) = done (body.EventCode (unwrap_or (slice_get at.codes row) 0))
@@ -150,7 +151,7 @@ abbrev pub calls_at : ℕ → List Line → List Call
 calls_at t [] = []
 calls_at t (l ∷ ls) = (if l.thread == t then call_of l.asked else []) ++ calls_at t ls
 
--- the replies to a thread's calls, and its notes
+-- the replies to a thread's calls, in order
 abbrev pub replies_at : ℕ → List Told → List Reply
 replies_at t [] = []
 replies_at t (x ∷ xs) = (if calls_on t x.line then x.reply ∷ [] else []) ++ replies_at t xs

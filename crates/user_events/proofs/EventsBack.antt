@@ -1,5 +1,6 @@
 -- A written table's rows are read, and give its entries.
-use Rattle.std.proofs.Common.{◌≡◌, ◌∙◌, ◌+◌, ◌<◌, ◌≤◌, ◌∷◌, ◌++◌, ℕ, Bool, true, false, not, List, [], length, map, fold, refl, sym, ap, subst, arith, tests, append_assoc, append-nil, Option, Some, None, Result, Ok, nat_le}
+use Rattle.std.proofs.Common.{◌≡◌, ◌∙◌, ◌+◌, ◌<◌, ◌≤◌, ◌∷◌, ◌++◌, ℕ, Bool, true, false, not, List, [], length, map, fold, refl, sym, ap, subst}
+use Rattle.std.proofs.Common.{arith, tests, append_assoc, append-nil, Option, Some, None, Result, Ok, nat_le}
 use Rattle.std.specs.Prelude.{◌&&◌, is_some, if◌then◌else◌}
 use Rattle.std.specs.List.{AllByRecursion}
 use Rattle.std.specs.Option.{option_map_or}
@@ -149,7 +150,8 @@ event-read name above r s = read-more (event_read name) [] above (event r) ∙ r
 preset-passed : (name : Text) (above : List EventLine) (r : Derivation) → events_read name (above ++ plain (preset r) ∷ []) ≡ events_read name above
 preset-passed name above r = read-more (event_read name) [] above (plain (preset r)) ∙ append-nil (events_read name above)
 
-pub fault-next : (name : Text) (above : List EventLine) (line : EventLine) (rest : List EventLine) → line_cause name above line ≡ None → fault_from name (above ++ line ∷ []) rest ≡ None → fault_from name above (line ∷ rest) ≡ None
+pub fault-next : (name : Text) (above : List EventLine) (line : EventLine) (rest : List EventLine) → line_cause name above line ≡ None
+    → fault_from name (above ++ line ∷ []) rest ≡ None → fault_from name above (line ∷ rest) ≡ None
 unfolding fault_from
 fault-next name above line rest e later = ap (λ (o : Option PresetCause). option_map_or (λ why. Some (length above + 1, why)) o (fault_from name (above ++ line ∷ []) rest)) e ∙ later
 

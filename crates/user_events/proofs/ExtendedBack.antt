@@ -113,7 +113,8 @@ one-more above line a l = all-append IsEventLine above (line ∷ []) a (l, tt)
 cpu-stays : (above : List EventLine) (line : EventLine) → has_cpu (groups above) ≡ true → has_cpu (groups (above ++ line ∷ [])) ≡ true
 cpu-stays above line c = ap has_cpu (map-append in_groups above (line ∷ [])) ∙ has_cpu-more (groups above) (in_groups line) ∙ rw c refl
 
-none-faulty : (name : Text) (above lines : List EventLine) → is_field name ≡ false → has_cpu (groups above) ≡ true → AllByRecursion IsEventLine above → AllByRecursion IsEventLine lines → fault_from name above lines ≡ None
+none-faulty : (name : Text) (above lines : List EventLine) → is_field name ≡ false → has_cpu (groups above) ≡ true → AllByRecursion IsEventLine above
+    → AllByRecursion IsEventLine lines → fault_from name above lines ≡ None
 unfolding fault_from
 none-faulty name above [] e c a h = refl
 none-faulty name above (line ∷ rest) e c a h = go line h.0 (none-faulty name (above ++ line ∷ []) rest e (cpu-stays above line c) (one-more above line a h.0) h.1)
@@ -183,7 +184,8 @@ bad-back x h e =
     let n = x.presets.cpu in
     let lines = lines_of (extended_text x) in
     let each = all-lines (rows_of (extended_text x)) (rows-plain (extended_text x)) in
-    same-view n _ _ _ _ (ap (λ (r : List Derivation). map (entry_of r) symbols) (no-presets n [] lines e tt each) ∙ missing-same symbols x.presets.rows (h.table.named e) (h.table.all ∙ sym length-symbols))
+    same-view n _ _ _ _ (ap (λ (r : List Derivation). map (entry_of r) symbols) (no-presets n [] lines e tt each)
+    ∙ missing-same symbols x.presets.rows (h.table.named e) (h.table.all ∙ sym length-symbols))
     (ap events_of (no-events n [] lines e tt each) ∙ none-named ∙ sym (h.named e))
 
 -- ---- the law

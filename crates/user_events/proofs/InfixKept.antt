@@ -41,7 +41,8 @@ unfolding infix_ended
 all-one natives place order [] = end-one natives place order
 all-one natives place order (part ∷ rest) = go (order_cause natives order part) (all-one natives (place + 1) (moved_by order part) rest)
   where
-    go : (o : Option FormulaCause) → IsOne natives (infix_ended natives (place + 1) (moved_by order part) rest) → IsOne natives (option_map_or (refused_at place) o (infix_ended natives (place + 1) (moved_by order part) rest))
+    go : (o : Option FormulaCause) → IsOne natives (infix_ended natives (place + 1) (moved_by order part) rest)
+        → IsOne natives (option_map_or (refused_at place) o (infix_ended natives (place + 1) (moved_by order part) rest))
     go None h = h
     go (Some why) h = tt
 

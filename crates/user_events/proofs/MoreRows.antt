@@ -21,7 +21,8 @@ use Rattle.user_events.specs.Entries.{event_judged}
 use Rattle.user_events.specs.Events.{Distinct, EventView, names_of}
 use Rattle.user_events.specs.Lines.{EventLine, event, in_groups, plain}
 use Rattle.user_events.specs.Names.{is_event_name}
-use Rattle.user_events.specs.Rows.{among, cause_if, entry_of, event_of, event_read, events_of, events_read, holds, is_too_many, limited, name_added, named_entry, names_in, preset_entries, preset_read, presets_read, read_from, rows_if}
+use Rattle.user_events.specs.Rows.{among, cause_if, entry_of, event_of, event_read, events_of, events_read, holds, is_too_many, limited, name_added}
+use Rattle.user_events.specs.Rows.{named_entry, names_in, preset_entries, preset_read, presets_read, read_from, rows_if}
 use Rattle.user_events.specs.Steps.{entries_more, events_more, put_event, put_judged}
 
 abbrev groups : List EventLine → List Line

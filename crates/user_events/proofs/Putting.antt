@@ -21,7 +21,8 @@ abbrev nothing : EventView
 nothing = record { name = []; entry = entry.Missing }
 
 put-at : (events : List UserEvent) (name : Text) (e : Entry) (p : ℕ) (x : UserEvent) → p < length events → x ≡ get_or events p x → is_named name (get_or (map event_view events) p nothing) ≡ true
-    → ((k : ℕ) → k < p → is_named name (get_or (map event_view events) k nothing) ≡ false) → map event_view (set events p (record { name = x.name; entry = e })) ≡ put_event (map event_view events) name e
+    → ((k : ℕ) → k < p → is_named name (get_or (map event_view events) k nothing) ≡ false)
+    → map event_view (set events p (record { name = x.name; entry = e })) ≡ put_event (map event_view events) name e
 put-at [] name e p x lt is here first = absurd (omega arith)
 put-at (y ∷ events) name e zero x lt is here first = rw here (ap (λ (u : UserEvent). event_view (record { name = u.name; entry = e }) ∷ map event_view events) is)
 put-at (y ∷ events) name e (suc p) x lt is here first =

@@ -35,7 +35,8 @@ unfolding line_of
 same-lines [] h = refl
 same-lines (fields ∷ rows) h = ap₂ (λ (x : Line) (xs : List Line). x ∷ xs) (go (str_eq_ignore_ascii_case (text_at fields 0) (codes "EVENT")) h.0) (same-lines rows h.1)
   where
-    go : (b : Bool) → IsOfPresets (if b then event (derivation_of fields) else plain (Presets.line_of fields)) → in_groups (if b then event (derivation_of fields) else plain (Presets.line_of fields)) ≡ Presets.line_of fields
+    go : (b : Bool) → IsOfPresets (if b then event (derivation_of fields) else plain (Presets.line_of fields))
+        → in_groups (if b then event (derivation_of fields) else plain (Presets.line_of fields)) ≡ Presets.line_of fields
     go true k = absurd k
     go false k = refl
 

@@ -1,5 +1,6 @@
 -- The rows that were taken, and those that are left.
-use Rattle.std.proofs.Common.{◌≡◌, ◌∙◌, ◌+◌, ◌<◌, ◌≤◌, ◌∷◌, ◌++◌, ℕ, zero, suc, List, [], Some, None, true, false, Bool, not, map, length, get_or, set, take, drop, replicate, length-drop, refl, sym, ap, subst, arith, tests, Ok, Err, Option, Result, nat_le}
+use Rattle.std.proofs.Common.{◌≡◌, ◌∙◌, ◌+◌, ◌<◌, ◌≤◌, ◌∷◌, ◌++◌, ℕ, zero, suc, List, [], Some, None, true, false, Bool, not, map, length, get_or, set, take}
+use Rattle.std.proofs.Common.{drop, replicate, length-drop, refl, sym, ap, subst, arith, tests, Ok, Err, Option, Result, nat_le}
 use Rattle.std.specs.Prelude.{◌&&◌, ◌||◌, if◌then◌else◌, codes}
 use Rattle.std.specs.List.{AllByRecursion}
 use Rattle.std.specs.Str.{bytes_eq, str_eq_ignore_ascii_case}
@@ -26,7 +27,8 @@ use Rattle.user_events.specs.Entries.{event_judged}
 use Rattle.user_events.specs.Events.{Distinct, EventView, ExtendedView, IsEvent, IsExtended, IsGiven, names_of}
 use Rattle.user_events.specs.Lines.{EventLine, event, in_groups, line_of, lines_of, plain}
 use Rattle.user_events.specs.Names.{is_event_name}
-use Rattle.user_events.specs.Rows.{ReadsExtended, among, cause_if, entry_of, events_of, events_read, extended_fault, extended_in, fault_from, holds, is_too_many, line_cause, named_entry, names_in, preset_entries, read_from}
+use Rattle.user_events.specs.Rows.{ReadsExtended, among, cause_if, entry_of, events_of, events_read, extended_fault, extended_in, fault_from, holds}
+use Rattle.user_events.specs.Rows.{is_too_many, line_cause, named_entry, names_in, preset_entries, read_from}
 use Rattle.user_events.specs.Steps.{Taking, TakesRow, cause_more, entries_more, events_more, put_event, put_judged}
 use Rattle.user_events.specs.declared.event.TheConstants.{MOST_EVENTS}
 use Rattle.user_events.proofs.Giving.{Gives, event-gives}
@@ -209,7 +211,8 @@ all-missing : (n : ℕ) → AllByRecursion IsEntry (replicate n entry.Missing) �
 all-missing zero = (tt, tt)
 all-missing (suc n) = let h = all-missing n in ((tt, h.0), (refl, h.1))
 
-pub none-taken : (name : Text) (lines : List EventLine) → Taken name lines 0 (record { group = record { begun = false; closed = false; holds = false }; entries = replicate 26 entry.Missing; events = [] })
+pub none-taken : (name : Text) (lines : List EventLine)
+    → Taken name lines 0 (record { group = record { begun = false; closed = false; holds = false }; entries = replicate 26 entry.Missing; events = [] })
 unfolding has_cpu is_closed group symbols preset_rows read_from entry_of names_in
 none-taken name lines =
     let m = all-missing 26 in record {
@@ -237,18 +240,21 @@ taken name lines i line s lt at_i l t none =
       kept = kept-more name s line l none t.kept;
     }
 
-pub same-taking : (g h : Group) (a b : List Entry) (x y : List EventView) → g ≡ h → a ≡ b → x ≡ y → ◌≡◌ {A = Taking} (record { group = g; entries = a; events = x }) (record { group = h; entries = b; events = y })
+pub same-taking : (g h : Group) (a b : List Entry) (x y : List EventView) → g ≡ h → a ≡ b → x ≡ y
+    → ◌≡◌ {A = Taking} (record { group = g; entries = a; events = x }) (record { group = h; entries = b; events = y })
 same-taking g h a b x y p q r =
     ap (λ (k : Group). record { group = k; entries = a; events = x }) p
     ∙ ap (λ (k : List Entry). record { group = h; entries = k; events = x }) q
     ∙ ap (λ (k : List EventView). record { group = h; entries = b; events = k }) r
 
-pub taken-row : (name : Text) (lines : List EventLine) (i : ℕ) (line : EventLine) (s : Taking) (g : Group) (a : List Entry) (x : List EventView) → i < length lines → get_or lines i none_at ≡ line → IsEventLine line
+pub taken-row : (name : Text) (lines : List EventLine) (i : ℕ) (line : EventLine) (s : Taking) (g : Group) (a : List Entry) (x : List EventView)
+    → i < length lines → get_or lines i none_at ≡ line → IsEventLine line
     → Taken name lines i s → cause_more s.group s.events line ≡ None → g ≡ group_more name s.group (in_groups line) → a ≡ entries_more s.group s.entries line → x ≡ events_more s.group s.events line
     → Taken name lines (i + 1) (record { group = g; entries = a; events = x })
 taken-row name lines i line s g a x lt at_i l t none p q r = subst (Taken name lines (i + 1)) (sym (same-taking g _ a _ x _ p q r)) (taken name lines i line s lt at_i l t none)
 
-pub refused : (name : Text) (bytes : List ℕ) (lines : List EventLine) (i : ℕ) (line : EventLine) (s t : Taking) (r : Refusal) → lines_of bytes ≡ lines → i < length lines → get_or lines i none_at ≡ line
+pub refused : (name : Text) (bytes : List ℕ) (lines : List EventLine) (i : ℕ) (line : EventLine) (s t : Taking) (r : Refusal) → lines_of bytes ≡ lines
+    → i < length lines → get_or lines i none_at ≡ line
     → Taken name lines i s → TakesRow name line s t (Err r) → ReadsExtended (Err (fault_at i r)) bytes name
 unfolding extended_fault
 refused name bytes lines i line s t (refusal.Cause why) from lt at_i k e =
@@ -301,7 +307,8 @@ no-row rows i e =
 
 -- ---- the table
 
-pub extended-kept : (name : Text) (lines : List EventLine) (i : ℕ) (s : Taking) (table : TableView) → Taken name lines i s → table ≡ record { cpu = name; rows = s.entries } → IsExtended (record { presets = table; events = s.events })
+pub extended-kept : (name : Text) (lines : List EventLine) (i : ℕ) (s : Taking) (table : TableView) → Taken name lines i s
+    → table ≡ record { cpu = name; rows = s.entries } → IsExtended (record { presets = table; events = s.events })
 extended-kept name lines i s table t is =
     let rows = events_read name (take i lines) in
     let distinct : Distinct (names_of s.events) = subst Distinct (sym (ap names_of t.events ∙ names-are rows)) (names-distinct rows) in
@@ -310,7 +317,8 @@ extended-kept name lines i s table t is =
     subst (λ (v : TableView). IsExtended (record { presets = v; events = s.events })) (sym is)
     (record { table = whole; few = t.kept.few; each = t.kept.events; distinct = distinct; named = λ f. (t.kept.named f).2 })
 
-pub extended-is : (name : Text) (bytes : List ℕ) (entries : List Entry) (events : List EventView) (table : TableView) (x : ExtendedView) → x ≡ record { presets = table; events = events } → table ≡ record { cpu = name; rows = entries }
+pub extended-is : (name : Text) (bytes : List ℕ) (entries : List Entry) (events : List EventView) (table : TableView) (x : ExtendedView)
+    → x ≡ record { presets = table; events = events } → table ≡ record { cpu = name; rows = entries }
     → entries ≡ preset_entries name (lines_of bytes) → events ≡ events_of (events_read name (lines_of bytes)) → x ≡ extended_in name bytes
 unfolding extended_in
 extended-is name bytes entries events table x is t a b =

@@ -28,7 +28,8 @@ use Rattle.user_events.proofs.Putting.{is-among, is_named, not-among}
 symbol-row : (fields : List Text) (o : Option ℕ) → row_of (text_at fields 1) ≡ o → row_of (derivation_of fields).symbol ≡ o
 symbol-row fields o e = ap row_of (symbol-there fields) ∙ e
 
-pub put-taken : (fields : List Text) (holds : Bool) (row : ℕ) (e : Entry) (old new : List Entry) → holds ≡ true → row_of (text_at fields 1) ≡ Some row → event_judged (derivation_of fields) ≡ Ok e → new ≡ set old row e
+pub put-taken : (fields : List Text) (holds : Bool) (row : ℕ) (e : Entry) (old new : List Entry) → holds ≡ true → row_of (text_at fields 1) ≡ Some row
+    → event_judged (derivation_of fields) ≡ Ok e → new ≡ set old row e
     → (cause_if (holds && is_some (row_of (derivation_of fields).symbol)) (event_judged (derivation_of fields)) ≡ None) × (new ≡ (if holds then placed old (row_of (derivation_of fields).symbol) (event_judged (derivation_of fields)) else old))
 put-taken fields true row e old new h at j is = let s = symbol-row fields (Some row) at in (rw (s, j) refl, rw (s, j) is)
 put-taken fields false row e old new h at j is = cc h
@@ -38,7 +39,8 @@ pub unknown-taken : (fields : List Text) (holds : Bool) (old : List Entry) → h
 unknown-taken fields true old h at = let s = symbol-row fields None at in (rw s refl, rw s refl)
 unknown-taken fields false old h at = cc h
 
-pub not-taken : (fields : List Text) (holds : Bool) (row : ℕ) (f : Refusal) (old new : List Entry) → holds ≡ true → row_of (text_at fields 1) ≡ Some row → Judges (event_judged (derivation_of fields)) (Err f)
+pub not-taken : (fields : List Text) (holds : Bool) (row : ℕ) (f : Refusal) (old new : List Entry) → holds ≡ true → row_of (text_at fields 1) ≡ Some row
+    → Judges (event_judged (derivation_of fields)) (Err f)
     → TakesPreset holds (derivation_of fields) old new (Err f)
 not-taken fields true row (refusal.Cause why) old new h at j = let s = symbol-row fields (Some row) at in rw (s, j) refl
 not-taken fields true row refusal.Memory old new h at j = tt
@@ -71,12 +73,14 @@ too-many events name (Some p) false e h = rw (is-among (map event_view events) n
 abbrev row_name : List Text → Text
 row_name fields = (derivation_of fields).symbol
 
-pub bad-name : (fields : List Text) (holds : Bool) (names : List Text) → holds ≡ true → is_event_name (text_at fields 1) ≡ false → cause_if holds (named_entry names (derivation_of fields)) ≡ Some cause.BadField
+pub bad-name : (fields : List Text) (holds : Bool) (names : List Text) → holds ≡ true → is_event_name (text_at fields 1) ≡ false
+    → cause_if holds (named_entry names (derivation_of fields)) ≡ Some cause.BadField
 bad-name fields true names h e = let s : is_event_name (row_name fields) ≡ false = ap is_event_name (symbol-there fields) ∙ e in rw s refl
 bad-name fields false names h e = cc h
 
 -- what the row is judged as
-judged-by : (fields : List Text) (names : List Text) (b : Bool) → is_event_name (text_at fields 1) ≡ true → is_too_many names (text_at fields 1) ≡ b → named_entry names (derivation_of fields) ≡ limited b (event_judged (derivation_of fields))
+judged-by : (fields : List Text) (names : List Text) (b : Bool) → is_event_name (text_at fields 1) ≡ true → is_too_many names (text_at fields 1) ≡ b
+    → named_entry names (derivation_of fields) ≡ limited b (event_judged (derivation_of fields))
 judged-by fields names b e m =
     let s : is_event_name (row_name fields) ≡ true = ap is_event_name (symbol-there fields) ∙ e in
     let t : is_too_many names (row_name fields) ≡ b = ap (is_too_many names) (symbol-there fields) ∙ m in
@@ -95,23 +99,27 @@ over j (Err (refusal.Cause cause.OverLimit)) refused h o = subst (Refuses (limit
 over j (Err (refusal.Cause (cause.BadFormula why))) refused h o = subst (Refuses (limited true j)) (sym o) (ap (limited true) h)
 over j (Err refusal.Memory) refused h o = subst (Refuses (limited true j)) (sym o) tt
 
-refuses : (holds : Bool) (j : Result Entry PresetCause) (refused : Refusal) (fields : List Text) (old new : List EventView) → holds ≡ true → named_entry (names_of old) (derivation_of fields) ≡ j → Refuses j refused
+refuses : (holds : Bool) (j : Result Entry PresetCause) (refused : Refusal) (fields : List Text) (old new : List EventView) → holds ≡ true
+    → named_entry (names_of old) (derivation_of fields) ≡ j → Refuses j refused
     → TakesEvent holds (derivation_of fields) old new (Err refused)
 refuses true j (refusal.Cause why) fields old new h is r = rw (is, r) refl
 refuses true j refusal.Memory fields old new h is r = tt
 refuses false j refused fields old new h is r = cc h
 
-pub over-taken : (fields : List Text) (holds : Bool) (old new : List EventView) (judged : Result Entry Refusal) (refused : Refusal) → holds ≡ true → is_event_name (text_at fields 1) ≡ true → is_too_many (names_of old) (text_at fields 1) ≡ true
+pub over-taken : (fields : List Text) (holds : Bool) (old new : List EventView) (judged : Result Entry Refusal) (refused : Refusal) → holds ≡ true
+    → is_event_name (text_at fields 1) ≡ true → is_too_many (names_of old) (text_at fields 1) ≡ true
     → Judges (event_judged (derivation_of fields)) judged → IsOverLimit judged refused → TakesEvent holds (derivation_of fields) old new (Err refused)
 over-taken fields holds old new judged refused h e m j o =
     refuses holds (limited true (event_judged (derivation_of fields))) refused fields old new h (judged-by fields (names_of old) true e m) (over (event_judged (derivation_of fields)) judged refused j o)
 
-pub event-refused : (fields : List Text) (holds : Bool) (old new : List EventView) (refused : Refusal) → holds ≡ true → is_event_name (text_at fields 1) ≡ true → is_too_many (names_of old) (text_at fields 1) ≡ false
+pub event-refused : (fields : List Text) (holds : Bool) (old new : List EventView) (refused : Refusal) → holds ≡ true
+    → is_event_name (text_at fields 1) ≡ true → is_too_many (names_of old) (text_at fields 1) ≡ false
     → Judges (event_judged (derivation_of fields)) (Err refused) → TakesEvent holds (derivation_of fields) old new (Err refused)
 event-refused fields holds old new (refusal.Cause why) h e m j = refuses holds (event_judged (derivation_of fields)) (refusal.Cause why) fields old new h (judged-by fields (names_of old) false e m) j
 event-refused fields holds old new refusal.Memory h e m j = tt
 
-pub event-taken : (fields : List Text) (holds : Bool) (old new : List EventView) (x : Entry) → holds ≡ true → is_event_name (text_at fields 1) ≡ true → is_too_many (names_of old) (text_at fields 1) ≡ false
+pub event-taken : (fields : List Text) (holds : Bool) (old new : List EventView) (x : Entry) → holds ≡ true → is_event_name (text_at fields 1) ≡ true
+    → is_too_many (names_of old) (text_at fields 1) ≡ false
     → event_judged (derivation_of fields) ≡ Ok x → new ≡ put_event old (text_at fields 1) x
     → (cause_if holds (named_entry (names_of old) (derivation_of fields)) ≡ None) × (new ≡ (if holds then put_judged old (derivation_of fields).symbol (named_entry (names_of old) (derivation_of fields)) else old))
 event-taken fields true old new x h e m j is =

@@ -4,7 +4,7 @@ use Rattle.std.proofs.lemmas.List.{map-append, take_all, take_more}
 use Rattle.table_rows.specs.Rows.{rows_text}
 use Rattle.table_rows.specs.Texts.{Text}
 use Rattle.preset_csv.specs.Defs.{DefView}
-use Rattle.preset_csv.specs.Steps.{behind_commas}
+use Rattle.preset_csv.specs.Steps.{after_commas}
 use Rattle.preset_csv.specs.Tables.{TableView}
 use Rattle.preset_csv.specs.Written.{def_fields, table_text}
 use Rattle.preset_csv.specs.declared.entry.Entry.{Entry}
@@ -20,21 +20,23 @@ pub missing-put : (s : Text) (e : Entry) (text : Text) → e ≡ entry.Missing �
 unfolding rows_text
 missing-put s e text is = rw is (sym (append-nil text))
 
-put-fields : (s fields t0 t1 t2 t3 t4 : Text) (row : List Text) → fields ≡ behind_commas row → t1 ≡ t0 ++ codes "EVENT" → t2 ≡ t1 ++ (44 ∷ s) → t3 ≡ t2 ++ fields → t4 ≡ t3 ++ (10 ∷ [])
+put-fields : (s fields t0 t1 t2 t3 t4 : Text) (row : List Text) → fields ≡ after_commas row → t1 ≡ t0 ++ codes "EVENT" → t2 ≡ t1 ++ (44 ∷ s) → t3 ≡ t2 ++ fields → t4 ≡ t3 ++ (10 ∷ [])
     → t4 ≡ t0 ++ rows_text ((codes "EVENT" ∷ s ∷ row) ∷ [])
 put-fields s fields t0 t1 t2 t3 t4 row is first second third fourth =
     fourth ∙ ap (λ (t : Text). t ++ (10 ∷ [])) (third ∙ ap (λ (t : Text). t ++ fields) (second ∙ ap (λ (t : Text). t ++ (44 ∷ s)) first))
     ∙ put-row t0 (codes "EVENT") s fields (10 ∷ []) ∙ ap (λ (t : Text). t0 ++ ((codes "EVENT" ++ (44 ∷ (s ++ t))) ++ (10 ∷ []))) is
     ∙ ap (λ (t : Text). t0 ++ t) (sym (row-text (codes "EVENT") (s ∷ row)))
 
-pub uncomputed-put : (s : Text) (e : Entry) (t0 t1 t2 t3 : Text) → e ≡ entry.Uncomputed → t1 ≡ t0 ++ codes "EVENT" → t2 ≡ t1 ++ (44 ∷ s) → t3 ≡ t2 ++ codes ",DERIVED_CMPD\n" → t3 ≡ t0 ++ rows_text (named_rows s e)
+pub uncomputed-put : (s : Text) (e : Entry) (t0 t1 t2 t3 : Text) → e ≡ entry.Uncomputed → t1 ≡ t0 ++ codes "EVENT" → t2 ≡ t1 ++ (44 ∷ s)
+    → t3 ≡ t2 ++ codes ",DERIVED_CMPD\n" → t3 ≡ t0 ++ rows_text (named_rows s e)
 uncomputed-put s e t0 t1 t2 t3 is first second third =
     rw is (put-fields s (codes ",DERIVED_CMPD") t0 t1 t2 (t2 ++ codes ",DERIVED_CMPD") t3 (codes "DERIVED_CMPD" ∷ []) refl first second refl
     (third ∙ sym (append_assoc t2 (codes ",DERIVED_CMPD") (10 ∷ []))))
 
-pub def-put : (s : Text) (e : Entry) (d : DefView) (t0 t1 t2 t3 t4 : Text) → e ≡ entry.Def d → t1 ≡ t0 ++ codes "EVENT" → t2 ≡ t1 ++ (44 ∷ s) → t3 ≡ t2 ++ behind_commas (def_fields d) → t4 ≡ t3 ++ (10 ∷ [])
+pub def-put : (s : Text) (e : Entry) (d : DefView) (t0 t1 t2 t3 t4 : Text) → e ≡ entry.Def d → t1 ≡ t0 ++ codes "EVENT" → t2 ≡ t1 ++ (44 ∷ s)
+    → t3 ≡ t2 ++ after_commas (def_fields d) → t4 ≡ t3 ++ (10 ∷ [])
     → t4 ≡ t0 ++ rows_text (named_rows s e)
-def-put s e d t0 t1 t2 t3 t4 is first second third fourth = rw is (put-fields s (behind_commas (def_fields d)) t0 t1 t2 t3 t4 (def_fields d) refl first second third fourth)
+def-put s e d t0 t1 t2 t3 t4 is first second third fourth = rw is (put-fields s (after_commas (def_fields d)) t0 t1 t2 t3 t4 (def_fields d) refl first second third fourth)
 
 -- ---- the rows of some user events
 
@@ -70,7 +72,8 @@ one-more t events i e old new name lt at named are before =
     ∙ append_assoc (table_text t) (rows_text (event_rows (map event_view (take i events)))) (rows_text (named_rows x.name x.entry))
     ∙ ap (λ (u : Text). table_text t ++ u) (sym (ap rows_text rows ∙ rows-append (event_rows (map event_view (take i events))) (named_rows x.name x.entry)))
 
-pub ended : (x : ExtendedView) (t : TableView) (events : List UserEvent) (i : ℕ) (text : Text) → t ≡ x.presets → map event_view events ≡ x.events → length events ≤ i → text ≡ text_to t events i → text ≡ extended_text x
+pub ended : (x : ExtendedView) (t : TableView) (events : List UserEvent) (i : ℕ) (text : Text) → t ≡ x.presets → map event_view events ≡ x.events
+    → length events ≤ i → text ≡ text_to t events i → text ≡ extended_text x
 unfolding extended_text
 ended x t events i text is are le h =
     h ∙ ap (λ (es : List UserEvent). table_text t ++ rows_text (event_rows (map event_view es))) (take_all i events le)

@@ -25,13 +25,15 @@ abbrev pub infix_kept : Text → Result (List Text) PresetCause → Result Entry
 infix_kept formula (Ok natives) = if is_empty natives then Ok entry.Uncomputed else infix_entry formula natives
 infix_kept formula (Err why) = Err why
 
+-- the entry of a formula in infix order over these natives, or why the row is refused
 abbrev pub infix_of_parts : Text → List Text → Result Entry PresetCause
 infix_of_parts formula natives = if is_printable formula then infix_kept formula (kept_natives natives) else Err cause.BadField
 
+-- the entry of a row with a formula in infix order, or why the row is refused
 abbrev pub infix_judged : Derivation → Result Entry PresetCause
 infix_judged r = infix_of_parts r.formula r.natives
 
--- the same by a row's fields
+-- the entry of a row with a formula in infix order, from the fields of the row
 abbrev pub infix_fields : List Text → Result Entry PresetCause
 infix_fields fields = infix_of_parts (text_at fields 3) (natives_from fields 4)
 

@@ -15,6 +15,7 @@ pub record EventView : Type 0 where
   pub name : Text
   pub entry : Entry
 
+-- a user event: its name and its entry
 abbrev pub event_view : UserEvent → EventView
 event_view e = record { name = string_bytes e.name; entry = e.entry }
 
@@ -29,9 +30,11 @@ IsGiven entry.Missing = ⊥
 IsGiven entry.Uncomputed = ⊤
 IsGiven (entry.Def d) = ⊤
 
+-- what each event of a table keeps
 abbrev pub IsEvent : EventView → Type 0
 IsEvent e = (is_event_name e.name ≡ true) × IsEntry e.entry × IsGiven e.entry
 
+-- the names of some events
 abbrev pub names_of : List EventView → List Text
 names_of events = map (λ e. e.name) events
 

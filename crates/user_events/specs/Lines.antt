@@ -17,6 +17,7 @@ line_of fields =
     if str_eq_ignore_ascii_case (text_at fields 0) (codes "EVENT") then event (derivation_of fields)
     else plain (Presets.line_of fields)
 
+-- what each row of such a file says
 abbrev pub lines_of : List ℕ → List EventLine
 lines_of bytes = map line_of (rows_of bytes)
 

@@ -1,5 +1,6 @@
 -- The presets and user events of a file for one cpu, and its first fault: papi_events.csv.
-use Rattle.std.specs.Prelude.{◌≡◌, ◌+◌, ◌&&◌, ℕ, Bool, true, false, not, List, [], ◌∷◌, ◌++◌, length, map, fold, Option, Some, None, Result, Ok, Err, is_some, if◌then◌else◌, nat_le}
+use Rattle.std.specs.Prelude.{◌≡◌, ◌+◌, ◌&&◌, ℕ, Bool, true, false, not, List, [], ◌∷◌, ◌++◌, length, map, fold, Option, Some}
+use Rattle.std.specs.Prelude.{None, Result, Ok, Err, is_some, if◌then◌else◌, nat_le}
 use Rattle.std.specs.List.{list_any}
 use Rattle.std.specs.Option.{option_map_or}
 use Rattle.std.specs.Str.{bytes_eq}
@@ -27,6 +28,7 @@ use Rattle.user_events.specs.declared.extended.Extended.{Extended}
 abbrev pub holds : Text → List EventLine → Bool
 holds name above = list_any (λ n. bytes_eq name n) (group (map in_groups above))
 
+-- a row, where it is read: its group of CPU rows names the cpu
 abbrev pub rows_if : Bool → Derivation → List Derivation
 rows_if read r = if read then r ∷ [] else []
 
@@ -37,7 +39,7 @@ preset_read name above (plain (cpu n)) = []
 preset_read name above (plain (preset r)) = rows_if (holds name above && is_some (row_of r.symbol)) r
 preset_read name above (event r) = []
 
--- and to the EVENT rows that are read
+-- what one row below these adds to the EVENT rows that are read
 abbrev pub event_read : Text → List EventLine → EventLine → List Derivation
 event_read name above (plain line) = []
 event_read name above (event r) = rows_if (holds name above) r
@@ -47,9 +49,11 @@ unfoldable pub read_from : (List EventLine → EventLine → List Derivation) �
 read_from adds above [] = []
 read_from adds above (line ∷ rest) = adds above line ++ read_from adds (above ++ line ∷ []) rest
 
+-- the PRESET rows that are read for a cpu
 abbrev pub presets_read : Text → List EventLine → List Derivation
 presets_read name lines = read_from (preset_read name) [] lines
 
+-- the EVENT rows that are read for a cpu
 abbrev pub events_read : Text → List EventLine → List Derivation
 events_read name lines = read_from (event_read name) [] lines
 
@@ -59,9 +63,11 @@ events_read name lines = read_from (event_read name) [] lines
 unfoldable pub entry_of : List Derivation → Text → Entry
 entry_of rows name = fold (λ e r. if bytes_eq r.symbol name then entry_or e (event_judged r) else e) entry.Missing rows
 
+-- the name is one of these
 abbrev pub among : Text → List Text → Bool
 among name names = list_any (λ n. bytes_eq name n) names
 
+-- the names with that of one row more, each once
 abbrev pub name_added : List Text → Derivation → List Text
 name_added names r = if among r.symbol names then names else names ++ r.symbol ∷ []
 
@@ -69,6 +75,7 @@ name_added names r = if among r.symbol names then names else names ++ r.symbol �
 unfoldable pub names_in : List Derivation → List Text
 names_in rows = fold name_added [] rows
 
+-- the event of a name: the entry of its last row
 abbrev pub event_of : List Derivation → Text → EventView
 event_of rows name = record { name = name; entry = entry_of rows name }
 
@@ -76,6 +83,7 @@ event_of rows name = record { name = name; entry = entry_of rows name }
 abbrev pub preset_entries : Text → List EventLine → List Entry
 preset_entries name lines = map (entry_of (presets_read name lines)) symbols
 
+-- the events of some rows, in the order of their first rows
 abbrev pub events_of : List Derivation → List EventView
 events_of rows = map (event_of rows) (names_in rows)
 
@@ -98,6 +106,7 @@ is_too_many names name = not (among name names) && nat_le MOST_EVENTS (length na
 abbrev pub named_entry : List Text → Derivation → Result Entry PresetCause
 named_entry names r = if is_event_name r.symbol then limited (is_too_many names r.symbol) (event_judged r) else Err cause.BadField
 
+-- why a row is refused, where it is read
 abbrev pub cause_if : Bool → Result Entry PresetCause → Option PresetCause
 cause_if read judgement = if read then judged_cause judgement else None
 
@@ -126,7 +135,8 @@ extended_fault name bytes = fault_from name [] (lines_of bytes)
 
 -- the presets and user events for a cpu in a file that has no faulty row
 unfoldable pub extended_in : Text → List ℕ → ExtendedView
-extended_in name bytes = record { presets = record { cpu = name; rows = preset_entries name (lines_of bytes) }; events = events_of (events_read name (lines_of bytes)) }
+extended_in name bytes =
+    record { presets = record { cpu = name; rows = preset_entries name (lines_of bytes) }; events = events_of (events_read name (lines_of bytes)) }
 
 -- these where no row is faulty, or the first fault, or out of memory
 abbrev pub ReadsExtended : Result Extended PresetFault → List ℕ → Text → Type 0

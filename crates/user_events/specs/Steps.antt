@@ -27,6 +27,7 @@ abbrev pub row_line : EventRow → EventLine
 row_line (event_row.Plain r) = plain (Presets.row_line r)
 row_line (event_row.Event r) = event (derivation_of (fields_of r.now))
 
+-- no byte of a field of this row ends a field or a row
 abbrev pub IsPlainRow : EventRow → Type 0
 IsPlainRow (event_row.Plain r) = PresetSteps.IsPlainRow r
 IsPlainRow (event_row.Event r) = IsReadRow (fields_of r.now)
@@ -36,6 +37,7 @@ abbrev pub put_event : List EventView → Text → Entry → List EventView
 put_event [] name e = record { name = name; entry = e } ∷ []
 put_event (x ∷ events) name e = if bytes_eq name x.name then record { name = x.name; entry = e } ∷ events else x ∷ put_event events name e
 
+-- the events with what a row gives, unless it is refused
 abbrev pub put_judged : List EventView → Text → Result Entry PresetCause → List EventView
 put_judged events name (Ok e) = put_event events name e
 put_judged events name (Err why) = events
@@ -47,36 +49,45 @@ entries_more g entries (plain (cpu n)) = entries
 entries_more g entries (plain (preset r)) = if g.holds then placed entries (row_of r.symbol) (event_judged r) else entries
 entries_more g entries (event r) = entries
 
+-- the events with one row more
 abbrev pub events_more : Group → List EventView → EventLine → List EventView
 events_more g events (plain line) = events
 events_more g events (event r) = if g.holds then put_judged events r.symbol (named_entry (names_of events) r) else events
 
+-- why one row more is refused, if it is
 abbrev pub cause_more : Group → List EventView → EventLine → Option PresetCause
 cause_more g events (plain other) = None
 cause_more g events (plain (cpu n)) = None
 cause_more g events (plain (preset r)) = if not g.begun then Some cause.NoCpu else cause_if (g.holds && is_some (row_of r.symbol)) (event_judged r)
 cause_more g events (event r) = if not g.begun then Some cause.NoCpu else cause_if g.holds (named_entry (names_of events) r)
 
--- one row is taken, or refused for its cause
+-- what the rows so far gave: the group of CPU rows at their end, the entries of the presets, and the user events
 pub record Taking : Type 0 where
   pub group : Group
   pub entries : List Entry
   pub events : List EventView
 
+-- one row is taken and gives all that it says, or is refused for its cause
 abbrev pub TakesRow : Text → EventLine → Taking → Taking → Result Unit Refusal → Type 0
 TakesRow name line old new (Ok u) =
-    (cause_more old.group old.events line ≡ None) × (new.group ≡ group_more name old.group (in_groups line)) × (new.entries ≡ entries_more old.group old.entries line) × (new.events ≡ events_more old.group old.events line)
+    (cause_more old.group old.events line ≡ None) × (new.group ≡ group_more name old.group (in_groups line))
+    × (new.entries ≡ entries_more old.group old.entries line) × (new.events ≡ events_more old.group old.events line)
 TakesRow name line old new (Err (refusal.Cause why)) = cause_more old.group old.events line ≡ Some why
 TakesRow name line old new (Err refusal.Memory) = Unit {0}
 
 -- what a row gives is taken, or the row refused for its cause
 abbrev pub TakesPreset : Bool → Derivation → List Entry → List Entry → Result Unit Refusal → Type 0
-TakesPreset held r old new (Ok u) = (cause_if (held && is_some (row_of r.symbol)) (event_judged r) ≡ None) × (new ≡ (if held then placed old (row_of r.symbol) (event_judged r) else old))
+TakesPreset held r old new (Ok u) =
+    (cause_if (held && is_some (row_of r.symbol)) (event_judged r) ≡ None)
+    × (new ≡ (if held then placed old (row_of r.symbol) (event_judged r) else old))
 TakesPreset held r old new (Err (refusal.Cause why)) = cause_if (held && is_some (row_of r.symbol)) (event_judged r) ≡ Some why
 TakesPreset held r old new (Err refusal.Memory) = Unit {0}
 
+-- what an EVENT row gives is taken, or the row is refused for its cause
 abbrev pub TakesEvent : Bool → Derivation → List EventView → List EventView → Result Unit Refusal → Type 0
-TakesEvent held r old new (Ok u) = (cause_if held (named_entry (names_of old) r) ≡ None) × (new ≡ (if held then put_judged old r.symbol (named_entry (names_of old) r) else old))
+TakesEvent held r old new (Ok u) =
+    (cause_if held (named_entry (names_of old) r) ≡ None)
+    × (new ≡ (if held then put_judged old r.symbol (named_entry (names_of old) r) else old))
 TakesEvent held r old new (Err (refusal.Cause why)) = cause_if held (named_entry (names_of old) r) ≡ Some why
 TakesEvent held r old new (Err refusal.Memory) = Unit {0}
 

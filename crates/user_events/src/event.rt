@@ -1,4 +1,4 @@
-// User events, and their names.
+//! User events, and their names.
 
 ghost use Rattle.std.specs.Prelude.{◌≡◌, OnOk, codes, map, position, take};
 ghost use Rattle.std.specs.List.{list_all};

@@ -1,4 +1,4 @@
-// The presets and user events for one cpu.
+//! The presets and user events for one cpu.
 
 use crate::event::UserEvent;
 use preset_csv::PresetTable;

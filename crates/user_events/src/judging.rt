@@ -1,4 +1,4 @@
-// The entry that a row gives.
+//! The entry that a row gives.
 
 ghost use Rattle.std.specs.Prelude.{◌≡◌, ◌≤◌, Ok, map, length, string_bytes};
 ghost use Rattle.std.specs.List.{AllByRecursion};

@@ -1,4 +1,4 @@
-// Laws of the definitions, each the contract of a function that does nothing.
+//! Laws of the definitions, each the contract of a function that does nothing.
 ghost use Rattle.user_events.specs.Alike.{ReadsAsPresets};
 
 /// In a file without EVENT rows and formulas in infix order the presets are those that

@@ -1,4 +1,4 @@
-// A whole preset file with user events.
+//! A whole preset file with user events.
 
 ghost use Rattle.std.specs.Prelude.{◌≡◌, ◌<◌, length, map, set};
 ghost use Rattle.csv.specs.Records.{fields_of};

@@ -1,4 +1,4 @@
-// A table of presets and user events as a preset file.
+//! A table of presets and user events as a preset file.
 
 ghost use Rattle.std.specs.Prelude.{◌≡◌, ◌++◌, IfOk, OnOk};
 ghost use Rattle.table_rows.specs.Rows.{rows_text};

@@ -11,7 +11,8 @@ unfolding with_texts
 after_refused catalog r [] = refl
 after_refused catalog r (text ∷ texts) = after_refused catalog r texts
 
-one_more : (catalog : CatalogView) (given : Given) (texts : List Text) (i : ℕ) (text : Text) → i < length texts → text ≡ get_or texts i [] → with_texts catalog given (drop i texts) ≡ with_texts catalog (with_text catalog given text) (drop (i + 1) texts)
+one_more : (catalog : CatalogView) (given : Given) (texts : List Text) (i : ℕ) (text : Text) → i < length texts → text ≡ get_or texts i []
+    → with_texts catalog given (drop i texts) ≡ with_texts catalog (with_text catalog given text) (drop (i + 1) texts)
 unfolding with_texts
 one_more catalog given texts i text small is =
     ap (with_texts catalog given) (drop_more texts i [] small) ∙ ap (λ t. with_texts catalog (with_text catalog given t) (drop (i + 1) texts)) (sym is)
@@ -29,7 +30,8 @@ returns-in-Err-clause-refused c =
     let texts = c.args.texts.now in
     let text = c.as_str-text.result.now in
     sym c.loop-text.invariant.so_far
-    ∙ one_more catalog (Ok c.loop-text.set.rest) texts c.loop-text.text-index text c.loop-text-test.true (here texts c.loop-text.text-index c.text-item.result text c.loop-text-test.true c.text-item.is c.as_str-text.ensures)
+    ∙ one_more catalog (Ok c.loop-text.set.rest) texts c.loop-text.text-index text c.loop-text-test.true
+    (here texts c.loop-text.text-index c.text-item.result text c.loop-text-test.true c.text-item.is c.as_str-text.ensures)
     ∙ ap (λ (g : Given). with_texts catalog g (drop (c.loop-text.text-index + 1) texts)) c.in-Err.ensures.refused
     ∙ after_refused catalog _ (drop (c.loop-text.text-index + 1) texts)
 

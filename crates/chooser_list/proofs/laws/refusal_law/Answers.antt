@@ -14,7 +14,8 @@ use Rattle.session_model.specs.Refusals.{conflict_of, refusal_of}
 use Rattle.session_model.specs.declared.call.Call.TheVariants as call
 use Rattle.chooser_list.proofs.laws.refusal_law.Goals as goal
 
-refuses : (book : Book) (shape : Widths) (registered : Bool) (faces : List (Option Face)) (k : ℕ) (e : EventRef) (f : Face) → at faces k ≡ Some f → f.running ≡ false → refusal_of book shape registered faces (call.Add k (Ok e)) ≡ add_refusal book e f.set
+refuses : (book : Book) (shape : Widths) (registered : Bool) (faces : List (Option Face)) (k : ℕ) (e : EventRef) (f : Face) → at faces k ≡ Some f
+    → f.running ≡ false → refusal_of book shape registered faces (call.Add k (Ok e)) ≡ add_refusal book e f.set
 refuses book shape registered faces k e f here stopped =
     ap table here ∙ ap (λ b. if b then Some (Plain Eisrun) else rest) stopped ∙ ap (λ c. if cannot_take book e f.set then Some (Plain Einval) else if is_full book e f.set then Some (Plain Ecount) else c) (clash (clash_with book e f.set))
   where

@@ -1,7 +1,6 @@
 use Rattle.std.proofs.Common.{◌≡◌, ◌∙◌, [], ℕ, filter, length, ap, arith}
 use Rattle.std.specs.List.{flat_map, range_with_len}
-use Rattle.component_table.specs.Catalogs.{CatalogView}
-use Rattle.preset_table.specs.Table.{preset_count}
+use Rattle.component_table.specs.Catalogs.{CatalogView, row_count}
 use Rattle.chooser_list.specs.Candidates.{candidates, natives_at, preset_in}
 use Rattle.chooser_list.specs.Choosing.{takes}
 use Rattle.chooser_list.specs.declared.candidates.Candidates.TheVariants as which
@@ -13,7 +12,7 @@ natives_are : (catalog : CatalogView) (n : ℕ) → n ≡ length catalog.tables 
 unfolding candidates
 natives_are catalog n is = ap (λ k. flat_map (natives_at catalog.tables) (range_with_len 0 k)) is
 
-presets_are : (catalog : CatalogView) (n : ℕ) → n ≡ preset_count → flat_map (preset_in catalog.book) (range_with_len 0 n) ≡ candidates catalog which.Preset
+presets_are : (catalog : CatalogView) (n : ℕ) → n ≡ row_count catalog → flat_map (preset_in catalog.book) (range_with_len 0 n) ≡ candidates catalog which.Preset
 unfolding candidates
 presets_are catalog n is = ap (λ k. flat_map (preset_in catalog.book) (range_with_len 0 k)) is
 
@@ -37,6 +36,6 @@ returns c =
           omega (arith, w.loop-comp-test.false, w.loop-comp.auto.comp-end, w.components-comp-end.ensures.count, ap length w.tables.ensures.tables) in
           rw (w.events-is, w.in-Native.is) (w.loop-comp.invariant ∙ ap (filter keeps) (natives_are catalog w.loop-comp.comp all))
       | in-Preset+else-loop-row-test w ↦
-          let all : w.loop-row.row ≡ preset_count = omega (arith, w.loop-row-test.false, w.loop-row.auto.row-end, w.preset_count-row-end.ensures.count) in
+          let all : w.loop-row.row ≡ row_count catalog = omega (arith, w.loop-row-test.false, w.loop-row.auto.row-end, w.rows-row-end.ensures.rows) in
           rw (w.events-is, w.in-Preset.is) (w.loop-row.invariant ∙ ap (filter keeps) (presets_are catalog w.loop-row.row all))
     ]

@@ -23,7 +23,8 @@ loop-event-preserved c =
       | then-is_chosen+in_ok-push_event w ↦
           rw (w.text-is, w.listed-is)
           (one_listed pmu included excluded c.args.umasks _ i x _ _ _ _ within at (ap (is_chosen included excluded) (sym name) ∙ sym c.is_chosen.ensures ∙ w.if-is_chosen.true)
-          (w.in_ok-push_event.ensures ∙ ap (λ (t : Text). string_bytes c.loop-event.text ++ named_lines c.args.umasks t (event_text x)) (w.as_str-then-is_chosen.ensures.value ∙ c.in_ok-name.ensures.ok))
+          (w.in_ok-push_event.ensures ∙ ap (λ (t : Text). string_bytes c.loop-event.text ++ named_lines c.args.umasks t (event_text x))
+          (w.as_str-then-is_chosen.ensures.value ∙ c.in_ok-name.ensures.ok))
           c.loop-event.invariant)
       | else-is_chosen w ↦
           rw (w.text-is, w.listed-is)

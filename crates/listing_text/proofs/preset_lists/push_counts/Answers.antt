@@ -8,13 +8,13 @@ pub overflow_add-available : goal.overflow_add-available
 overflow_add-available c =
     let p = is_available c.args.catalog.now.book in
     let more = counted_row p c.loop-row.row c.loop-row.available c.from.result c.loop-row.invariant.available (c.from.ensures ∙ ap from_bool c.available.ensures.available) in
-    omega (arith, more, count_within p (c.loop-row.row + 1), c.preset_count-count.ensures.count, c.loop-row-test.true)
+    omega (arith, more, count_within p (c.loop-row.row + 1), c.rows-count.ensures.rows, c.loop-row-test.true)
 
 pub overflow_add-derived : goal.overflow_add-derived
 overflow_add-derived c =
     let p = is_derived c.args.catalog.now.book in
     let more = counted_row p c.loop-row.row c.loop-row.derived c.from-in-loop-row.result c.loop-row.invariant.derived (c.from-in-loop-row.ensures ∙ ap from_bool c.derived.ensures.derived) in
-    omega (arith, more, count_within p (c.loop-row.row + 1), c.preset_count-count.ensures.count, c.loop-row-test.true)
+    omega (arith, more, count_within p (c.loop-row.row + 1), c.rows-count.ensures.rows, c.loop-row-test.true)
 
 pub loop-row-preserved : goal.loop-row-preserved
 loop-row-preserved c =

@@ -20,7 +20,7 @@ returns-then-is_digit-clause-part c =
       in_infix (constant_part c.split_digits.result.0.now),
       constant-first text c.requires.some d
           ∙ ap (λ (t : Text). in_infix (constant_part t) ∷ infix_from true text) (sym c.split_digits.ensures.digits)
-          ∙ ap (λ (ps : List InfixPart). in_infix (constant_part c.split_digits.result.0.now) ∷ ps) (sym c.split_digits.ensures.behind),
+          ∙ ap (λ (ps : List InfixPart). in_infix (constant_part c.split_digits.result.0.now) ∷ ps) (sym c.split_digits.ensures.after),
       c.in_infix_order.ensures _ c.constant_of.ensures,
     )
 
@@ -32,7 +32,7 @@ returns-then-digits-gt0-clause-part c =
       in_infix (native_part c.split_digits-2.result.0.now),
       native-first text c.requires.some c.if-text-eq78.true some
           ∙ ap (λ (t : Text). in_infix (native_part t) ∷ infix_from true (drop 1 text)) (sym digits)
-          ∙ ap (λ (ps : List InfixPart). in_infix (native_part c.split_digits-2.result.0.now) ∷ ps) (sym (c.split_digits-2.ensures.behind ∙ ap (infix_from true) c.split_at.ensures.back)),
+          ∙ ap (λ (ps : List InfixPart). in_infix (native_part c.split_digits-2.result.0.now) ∷ ps) (sym (c.split_digits-2.ensures.after ∙ ap (infix_from true) c.split_at.ensures.back)),
       c.in_infix_order-then-digits-gt0.ensures _ c.native_of.ensures,
     )
 

@@ -9,6 +9,6 @@ use Rattle.postfix_rules.proofs.infix_part.split_digits.Goals as goal
 pub split_at-requires : goal.split_at-requires
 split_at-requires c = subst (λ n. n ≤ length c.args.text.now) (sym c.digits_in-digits.ensures) (prefix_len-le-length is_digit c.args.text.now)
 
-pub returns-clause-behind : goal.returns-clause-behind
-returns-clause-behind c =
+pub returns-clause-after : goal.returns-clause-after
+returns-clause-after c =
     ap (infix_from false) (c.split_at.ensures.back ∙ ap (λ (n : ℕ). drop n c.args.text.now) c.digits_in-digits.ensures) ∙ inside-digits c.args.text.now

@@ -11,7 +11,7 @@ returns-in-Err c =
     let s = c.loop-part in
     let first = c.in-Some.ensures.begins in
     let cause = cause-in c.args.natives s.order c.must_begin.result c.open.result first.0 _ c.must_begin.ensures c.open.ensures (c.in-Err.ensures first.0 first.2) in
-    rw c.fault_behind.ensures (reads-refused c.args.natives c.args.text.now s.rest.now c.in-Some.behind.now s.tokens s.order first.0 c.in-Err.cause first.1 cause s.invariant)
+    rw c.fault_after.ensures (reads-refused c.args.natives c.args.text.now s.rest.now c.in-Some.after.now s.tokens s.order first.0 c.in-Err.cause first.1 cause s.invariant)
 
 pub loop-part-preserved : goal.loop-part-preserved
 loop-part-preserved c =
@@ -19,7 +19,7 @@ loop-part-preserved c =
     let first = c.in-Some.ensures.begins in
     let j = c.in-Ok.ensures first.0 first.2 in
     let none = cause-in c.args.natives s.order c.must_begin.result c.open.result first.0 _ c.must_begin.ensures c.open.ensures j.1 in
-    rw c.in_ok-take-in-Ok.ensures (reads-more c.args.natives c.args.text.now s.rest.now c.in-Some.behind.now s.tokens s.order first.0 c.in-Ok.token first.1 j.0 none c.in-Some.ensures.shorter s.invariant)
+    rw c.in_ok-take-in-Ok.ensures (reads-more c.args.natives c.args.text.now s.rest.now c.in-Some.after.now s.tokens s.order first.0 c.in-Ok.token first.1 j.0 none c.in-Some.ensures.shorter s.invariant)
 
 pub returns : goal.returns
 returns c =

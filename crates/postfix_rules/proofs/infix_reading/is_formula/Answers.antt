@@ -9,7 +9,8 @@ loop-i-init c = none-checked c.args.natives c.args.tokens.now
 pub returns-then-is_some : goal.returns-then-is_some
 returns-then-is_some c = (
   λ t. cc t,
-  λ f. absurd (no-formula c.args.natives c.args.tokens.now c.loop-i.i c.loop-i.height _ c.loop-i-test.true (ap is_some (sym c.token_cause.ensures) ∙ sym c.is_some.ensures ∙ c.if-is_some.true) c.loop-i.invariant f),
+  λ f. absurd (no-formula c.args.natives c.args.tokens.now c.loop-i.i c.loop-i.height _ c.loop-i-test.true
+      (ap is_some (sym c.token_cause.ensures) ∙ sym c.is_some.ensures ∙ c.if-is_some.true) c.loop-i.invariant f),
 )
 
 pub loop-i-preserved : goal.loop-i-preserved

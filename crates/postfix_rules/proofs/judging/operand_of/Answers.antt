@@ -6,7 +6,7 @@ use Rattle.postfix_rules.proofs.judging.operand_of.Goals as goal
 pub returns-in-Some : goal.returns-in-Some
 returns-in-Some c =
     let no : is_numeral c.args.piece.now ≡ false = sym c.is_numeral.ensures ∙ c.if-is_numeral.false in
-    rw (no, c.in-Some.ensures.cases.0) c.behind_letter.ensures
+    rw (no, c.in-Some.ensures.cases.0) c.after_letter.ensures
 
 pub returns-in-None : goal.returns-in-None
 returns-in-None c natives height lt =

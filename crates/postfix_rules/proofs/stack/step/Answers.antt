@@ -56,5 +56,6 @@ returns-in-Operator-clause-stack c =
     let x : to_z w64 (of_z w64 (get_or c.args.stack.now (c.args.height - 2) (pos 0))) ≡ get_or c.args.stack.now (c.args.height - 2) (pos 0) = search rules in
     let y : to_z w64 (of_z w64 (get_or c.args.stack.now (c.args.height - 1) (pos 0))) ≡ get_or c.args.stack.now (c.args.height - 1) (pos 0) = search rules in
     let q : FitsSigned w64 c.apply.result = record { sfits = c.apply.type_inv } in
-    let is : c.apply.result ≡ applied c.in-Operator.operator (get_or c.args.stack.now (c.args.height - 2) (pos 0)) (get_or c.args.stack.now (c.args.height - 1) (pos 0)) = rw (x, y) at c.apply.ensures in
+    let is : c.apply.result ≡ applied c.in-Operator.operator (get_or c.args.stack.now (c.args.height - 2) (pos 0))
+    (get_or c.args.stack.now (c.args.height - 1) (pos 0)) = rw (x, y) at c.apply.ensures in
     rw c.in-Operator.is (operator-pile c.args.counts.now c.args.stack.now c.args.height c.in-Operator.operator _ (pos 0) k (omega (arith, c.requires.few, c.told-stack)) (to_z-of_z q ∙ is))

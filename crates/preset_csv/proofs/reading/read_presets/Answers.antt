@@ -36,7 +36,8 @@ loop-entries-preserved c =
     record {
       left = next.rest;
       few = inv.few;
-      taken = taken c.args.cpu.now (map line_of rows) c.loop-entries.place _ _ _ _ _ next.inside (next.line ∙ sym c.row_of.ensures.line) inv.taken c.in-Ok.ensures.0 c.in-Ok.ensures.1 c.in-Ok.ensures.2;
+      taken = taken c.args.cpu.now (map line_of rows) c.loop-entries.place _ _ _ _ _ next.inside
+          (next.line ∙ sym c.row_of.ensures.line) inv.taken c.in-Ok.ensures.0 c.in-Ok.ensures.1 c.in-Ok.ensures.2;
     }
 
 pub returns-in-Err : goal.returns-in-Err

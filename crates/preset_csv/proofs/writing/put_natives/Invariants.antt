@@ -1,6 +1,6 @@
 use Rattle.std.proofs.Common.{◌≡◌, ◌++◌, map, take, string_bytes}
-use Rattle.preset_csv.specs.Steps.{behind_commas}
+use Rattle.preset_csv.specs.Steps.{after_commas}
 use Rattle.preset_csv.proofs.writing.put_natives.Given as goal
 
 abbrev pub invariant-loop-native : goal.invariant-loop-native
-invariant-loop-native l = l.text.items ≡ l.initial.text.items ++ behind_commas (map string_bytes (take l.native-index l.natives))
+invariant-loop-native l = l.text.items ≡ l.initial.text.items ++ after_commas (map string_bytes (take l.native-index l.natives))

@@ -6,7 +6,8 @@ use Rattle.user_events.proofs.reading.is_too_many.Goals as goal
 
 pub returns-then-is_none : goal.returns-then-is_none
 returns-then-is_none c =
-    ap (λ (b : Bool). b && nat_le MOST_EVENTS (length c.args.events.now)) (sym c.if-is_none.true) ∙ too-many c.args.events.now c.args.name.now c.place_of.result c.is_none.result c.place_of.ensures c.is_none.ensures
+    ap (λ (b : Bool). b && nat_le MOST_EVENTS (length c.args.events.now)) (sym c.if-is_none.true)
+    ∙ too-many c.args.events.now c.args.name.now c.place_of.result c.is_none.result c.place_of.ensures c.is_none.ensures
 
 pub returns-else-is_none : goal.returns-else-is_none
 returns-else-is_none c =

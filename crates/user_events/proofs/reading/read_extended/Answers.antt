@@ -39,7 +39,8 @@ loop-events-preserved c =
     record {
       left = next.rest;
       few = inv.few;
-      taken = taken-row c.args.cpu.now (map line_of rows) c.loop-events.place (row_line c.event_row_of-row.result) _ c.take_row.new.group c.take_row.new.entries.items (map event_view c.take_row.new.events.items) next.inside
+      taken = taken-row c.args.cpu.now (map line_of rows) c.loop-events.place
+          (row_line c.event_row_of-row.result) _ c.take_row.new.group c.take_row.new.entries.items (map event_view c.take_row.new.events.items) next.inside
           (next.line ∙ sym c.event_row_of-row.ensures.line) kept inv.taken c.in-Ok.ensures.0 c.in-Ok.ensures.1 c.in-Ok.ensures.2 c.in-Ok.ensures.3;
     }
 
@@ -50,7 +51,8 @@ returns-in-Err c =
     let read : c.loop-events.reader ≡ fields_of c.read_row.new.row ∷ c.read_row.new.self = rw c.if-branch.true at c.in_ok-read_row.ensures.next in
     let next = next-row rows c.loop-events.place (fields_of c.read_row.new.row) c.read_row.new.self (rows-plain c.args.bytes.now) (sym inv.left ∙ read) in
     rw c.fault_at.ensures
-    (refused c.args.cpu.now c.args.bytes.now (map line_of rows) c.loop-events.place (row_line c.event_row_of-row.result) (record { group = c.loop-events.group; entries = c.loop-events.entries.items; events = map event_view c.loop-events.events.items })
+    (refused c.args.cpu.now c.args.bytes.now (map line_of rows) c.loop-events.place (row_line c.event_row_of-row.result)
+    (record { group = c.loop-events.group; entries = c.loop-events.entries.items; events = map event_view c.loop-events.events.items })
     (record { group = c.take_row.new.group; entries = c.take_row.new.entries.items; events = map event_view c.take_row.new.events.items }) c.in-Err.refusal refl next.inside (next.line ∙ sym c.event_row_of-row.ensures.line) inv.taken c.in-Err.ensures)
 
 pub new-presets-requires : goal.new-presets-requires
@@ -60,7 +62,8 @@ new-presets-requires c =
 
 pub new-requires : goal.new-requires
 new-requires c =
-    let table : c.new-presets.result ≡ record { cpu = c.args.cpu.now; rows = c.loop-events.entries.items } = c.new-presets.ensures ∙ ap (λ (n : Text). record { cpu = n; rows = c.loop-events.entries.items }) c.in_ok-from_str.ensures.ok in
+    let table : c.new-presets.result ≡ record { cpu = c.args.cpu.now; rows = c.loop-events.entries.items } = c.new-presets.ensures
+    ∙ ap (λ (n : Text). record { cpu = n; rows = c.loop-events.entries.items }) c.in_ok-from_str.ensures.ok in
     extended-kept c.args.cpu.now (map line_of (rows_of c.args.bytes.now)) c.loop-events.place _ c.new-presets.result c.loop-events.invariant.taken table
 
 pub returns : goal.returns
@@ -70,5 +73,6 @@ returns c =
     let none : (c.loop-events.reader ≡ []) × (c.read_row.new.self ≡ []) = rw c.if-branch.false at c.in_ok-read_row.ensures.next in
     let end = no-row rows c.loop-events.place (sym inv.left ∙ none.0) in
     let a = all-taken c.args.cpu.now c.args.bytes.now (map line_of rows) c.loop-events.place _ refl end inv.taken in
-    let table : c.new-presets.result ≡ record { cpu = c.args.cpu.now; rows = c.loop-events.entries.items } = c.new-presets.ensures ∙ ap (λ (n : Text). record { cpu = n; rows = c.loop-events.entries.items }) c.in_ok-from_str.ensures.ok in
+    let table : c.new-presets.result ≡ record { cpu = c.args.cpu.now; rows = c.loop-events.entries.items } = c.new-presets.ensures
+    ∙ ap (λ (n : Text). record { cpu = n; rows = c.loop-events.entries.items }) c.in_ok-from_str.ensures.ok in
     (a.0, extended-is c.args.cpu.now c.args.bytes.now c.loop-events.entries.items (map event_view c.loop-events.events.items) c.new-presets.result c.new.result c.new.ensures table a.1 a.2)

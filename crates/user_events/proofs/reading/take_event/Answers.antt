@@ -15,7 +15,8 @@ use Rattle.user_events.proofs.reading.take_event.Goals as goal
 
 pub returns-then-not-is_event_name : goal.returns-then-not-is_event_name
 returns-then-not-is_event_name c =
-    bad-name (fields_of c.args.row.now) c.args.holds (names_of (map event_view c.args.events.now.items)) c.if-not-holds.false (ap is_event_name (sym c.text_at-name.ensures) ∙ sym c.is_event_name.ensures ∙ c.if-not-is_event_name.true)
+    bad-name (fields_of c.args.row.now) c.args.holds (names_of (map event_view c.args.events.now.items)) c.if-not-holds.false
+    (ap is_event_name (sym c.text_at-name.ensures) ∙ sym c.is_event_name.ensures ∙ c.if-not-is_event_name.true)
 
 pub returns-in_default : goal.returns-in_default
 returns-in_default c = absurd (not-printed c.text_at-name.result.now c.in_default.ensures (name-printable c.text_at-name.result.now (sym c.is_event_name.ensures ∙ c.if-not-is_event_name.false)))

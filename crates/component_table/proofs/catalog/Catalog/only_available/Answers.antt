@@ -1,17 +1,17 @@
-use Rattle.std.proofs.Common.{◌∙◌, ◌<◌, sym, arith}
-use Rattle.component_table.proofs.Keeping.{cleared-all, cleared-kept, cleared-missing}
+use Rattle.std.proofs.Common.{◌∙◌, ◌≡◌, ap, subst, sym, map}
+use Rattle.preset_csv.specs.Tables.{IsTable, TableView}
+use Rattle.user_events.specs.Events.{EventView, IsExtended, event_view}
+use Rattle.std.specs.Prelude.{List}
+use Rattle.component_table.specs.Books.{events_from}
+use Rattle.component_table.proofs.KeptEvents.{kept-extended}
 use Rattle.component_table.proofs.catalog.Catalog.only_available.Goals as goal
-use Rattle.component_table.proofs.catalog.Catalog.only_available.Goals.{then-not-available, else-not-available}
 
-pub loop-row-preserved : goal.loop-row-preserved
-loop-row-preserved c =
-    let book = c.args.self.now.book in
-    let small : c.loop-row.row < 26 = omega (arith, c.loop-row-test.true, c.preset_count-row-end.ensures.count) in
-    elim c.if-not-available.branch [
-      | then-not-available w ↦
-          rw (w.presets-is ∙ w.set_missing.ensures) (cleared-missing book c.args.presets c.loop-row.row c.loop-row.presets small (sym w.if-not-available.ensures.available) c.loop-row.invariant)
-      | else-not-available w ↦ rw w.presets-is (cleared-kept book c.args.presets c.loop-row.row c.loop-row.presets small (sym w.if-not-available.ensures.available) c.loop-row.invariant)
-    ]
-
-pub returns : goal.returns
-returns c = record { available = cleared-all c.args.self.now.book c.args.presets c.loop-row.row c.loop-row.presets (omega (arith, c.loop-row-test.false, c.preset_count-row-end.ensures.count)) c.loop-row.invariant }
+pub new-requires : goal.new-requires
+new-requires c =
+    let book = c.self.inside.book in
+    let cpu : c.available_presets-presets.result.cpu ≡ c.args.x.presets.cpu =
+    ap (λ (t : TableView). t.cpu) c.available_presets-presets.ensures ∙ ap (λ (t : TableView). t.cpu) c.into_parts-presets.ensures.presets in
+    let events : map event_view c.in_ok-events.events.items ≡ events_from book 26 c.args.x.events =
+    c.in_ok-events.ensures ∙ ap (events_from book 26) c.into_parts-presets.ensures.events in
+    subst (λ (es : List EventView). IsExtended (record { presets = c.available_presets-presets.result; events = es })) (sym events)
+    (kept-extended book c.args.x c.available_presets-presets.result c.into_parts-presets.ensures.kept (subst IsTable c.presets.view_is c.presets.invariant) cpu)

@@ -1,7 +1,7 @@
 use Rattle.std.proofs.Common.{◌≡◌, ◌==◌, false}
 use Rattle.std.proofs.lemmas.Bool.{ne_eqb}
 use Rattle.postfix_rules.proofs.Digits.{none-unknown}
-use Rattle.postfix_rules.proofs.judging.behind_letter.Goals as goal
+use Rattle.postfix_rules.proofs.judging.after_letter.Goals as goal
 
 pub returns-else-letter-eq78 : goal.returns-else-letter-eq78
 returns-else-letter-eq78 c natives height lt =
