@@ -1,5 +1,6 @@
 -- Values at each place, and spans, one more at a time.
-use Rattle.std.proofs.Common.{◌≡◌, ◌∙◌, ◌<◌, ◌≤◌, ◌+◌, ◌∷◌, ◌++◌, ℕ, ℤ, Bool, true, false, List, [], Some, length, drop, sym, ap, refl, arith, append_assoc, append-nil, get_or, length-append, min, nat_le, slice_get}
+use Rattle.std.proofs.Common.{◌≡◌, ◌∙◌, ◌<◌, ◌≤◌, ◌+◌, ◌∷◌, ◌++◌, ℕ, ℤ, Bool, true, false, List, [], Some, length, drop, sym, ap, refl}
+use Rattle.std.proofs.Common.{arith, append_assoc, append-nil, get_or, length-append, min, nat_le, slice_get}
 use Rattle.std.proofs.lemmas.Bool.{leb-false, leb-true}
 use Rattle.std.proofs.lemmas.List.{drop_all, drop_more}
 use Rattle.std.proofs.lemmas.Option.{get_or_from_slice_get, slice_get_within}
@@ -7,7 +8,8 @@ use Rattle.region_report.specs.Lines.{is_reading}
 use Rattle.region_report.specs.Spans.{Span, pairwise, span, spans_at, spans_from}
 use Rattle.region_report.specs.declared.regions.RegionLine.{RegionLine}
 
-dropped : {X : Type 0} (xs : List X) (i : ℕ) (x : X) → slice_get xs i ≡ Some x → drop i xs ≡ x ∷ drop (i + 1) xs
+-- what is left from a place on
+pub dropped : {X : Type 0} (xs : List X) (i : ℕ) (x : X) → slice_get xs i ≡ Some x → drop i xs ≡ x ∷ drop (i + 1) xs
 dropped xs i x e = drop_more xs i x (slice_get_within xs i x e) ∙ ap (λ y. y ∷ drop (i + 1) xs) (get_or_from_slice_get xs i x x e)
 
 pairs : (f : ℤ → ℤ → ℤ) (x y : ℤ) (xs ys : List ℤ) → pairwise f (x ∷ xs) (y ∷ ys) ≡ f x y ∷ pairwise f xs ys

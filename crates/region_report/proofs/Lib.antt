@@ -1,4 +1,7 @@
 pub mod Counted
+pub mod LineRead
 pub mod LinesRead
 pub mod Pieces
+pub mod ScriptRead
 pub mod Stacks
+pub mod TotalsKept

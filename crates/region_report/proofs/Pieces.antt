@@ -1,5 +1,6 @@
 -- Texts that grow at their end, and lists that are worked item by item.
-use Rattle.std.proofs.Common.{◌≡◌, ◌∙◌, ◌<◌, ◌≤◌, ◌+◌, ◌∷◌, ◌++◌, ℕ, zero, suc, List, [], Bool, Some, cond, count_by, length, slice_get, take, drop, map, sym, ap, refl, arith, append_assoc, get_or, slice_index_or}
+use Rattle.std.proofs.Common.{◌≡◌, ◌∙◌, ◌<◌, ◌≤◌, ◌+◌, ◌∷◌, ◌++◌, ℕ, zero, suc, List, [], Bool, Some, cond, count_by, length, slice_get}
+use Rattle.std.proofs.Common.{take, drop, map, sym, ap, refl, arith, append_assoc, get_or, slice_index_or}
 use Rattle.std.proofs.lemmas.List.{drop_all, drop_more, flat_map_more, map-append, take_more}
 use Rattle.std.proofs.lemmas.List.Sums.{sum_by-append}
 use Rattle.std.proofs.lemmas.List.FromFn.{map-range_with_len_more}

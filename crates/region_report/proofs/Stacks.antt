@@ -1,5 +1,6 @@
 -- The open regions as they are kept.
-use Rattle.std.proofs.Common.{OnOk, Result, Ok, Err, true, false, drop, eq-eqb, slice_set, ◌≡◌, ◌∙◌, ◌<◌, ◌≤◌, ◌+◌, ◌-◌, ◌∷◌, ◌++◌, ℕ, zero, suc, List, [], length, take, map, replicate, sym, ap, refl, arith, get_or, Vec, Global}
+use Rattle.std.proofs.Common.{OnOk, Result, Ok, Err, true, false, drop, eq-eqb, slice_set, ◌≡◌, ◌∙◌, ◌<◌, ◌≤◌, ◌+◌, ◌-◌, ◌∷◌, ◌++◌, ℕ, zero}
+use Rattle.std.proofs.Common.{suc, List, [], length, take, map, replicate, sym, ap, refl, arith, get_or, Vec, Global}
 use Rattle.std.proofs.lemmas.List.{drop_all, drop_more, length-map, map-append, map-set, replicate_more}
 use Rattle.std.proofs.lemmas.Bool.{ne_eqb}
 use Rattle.region_report.specs.Lines.{Open, after_call, after_line}

@@ -11,6 +11,7 @@ use Rattle.region_report.specs.declared.regions.RegionLine.{RegionLine}
 abbrev pub call_text : ℕ → Text → Text
 call_text thread words = decimal thread ++ (codes " " ++ (words ++ codes "\n"))
 
+-- the line that adds an event to the set: PAPI_add_named_event(3)
 abbrev pub add_text : ℕ → Text → Text
 add_text thread event = call_text thread (codes "add 0 " ++ event)
 
@@ -25,12 +26,15 @@ words_of_call (call.Read name) = codes "read 0"
 words_of_call (call.End name) = codes "read 0"
 words_of_call (call.Run count) = codes "run " ++ decimal count
 
+-- the line of calls that a line of a region script becomes
 abbrev pub line_text : RegionLine → Text
 line_text line = call_text line.thread (words_of_call line.call)
 
+-- some line is of this thread: only such threads count
 abbrev pub has_lines : List RegionLine → ℕ → Bool
 has_lines lines thread = list_any (λ l. l.thread == thread) lines
 
+-- the lines by which a thread begins to count, where it has lines
 abbrev pub thread_opening : List RegionLine → List Text → ℕ → Text
 thread_opening lines events thread = if has_lines lines thread then opening events thread else []
 

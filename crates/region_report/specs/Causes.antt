@@ -9,6 +9,7 @@ use Rattle.region_report.specs.declared.fault.RegionCause.TheVariants as cause
 use Rattle.region_report.specs.declared.fault.RegionFault.{RegionFault}
 use Rattle.region_report.specs.declared.fault.RegionFault.TheVariants as region
 
+-- each cause as it stands in a message, after the number of the line
 abbrev pub text_of : RegionCause → List ℕ
 text_of cause.OverLimit = codes "over a limit"
 text_of cause.BadThread = codes "bad thread"

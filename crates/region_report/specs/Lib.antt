@@ -5,5 +5,7 @@ pub mod Opens
 pub mod Scripts
 pub mod Spans
 pub mod Reports
+pub mod Totals
 pub mod Calls
+pub mod CallLines
 pub use Rattle.table_rows.specs.Texts

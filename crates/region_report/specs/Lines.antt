@@ -1,5 +1,6 @@
 -- One line of a region script: this project's own format, docs/FORMATS.md.
-use Rattle.std.specs.Prelude.{◌≡◌, ◌+◌, ◌-◌, ℕ, Bool, true, false, List, [], ◌∷◌, ◌++◌, length, take, Option, Some, None, Result, Ok, Err, codes, if◌then◌else◌, nat_le, slice_get, slice_index_or, slice_set}
+use Rattle.std.specs.Prelude.{◌≡◌, ◌+◌, ◌-◌, ℕ, Bool, true, false, List, [], ◌∷◌, ◌++◌, length}
+use Rattle.std.specs.Prelude.{take, Option, Some, None, Result, Ok, Err, codes, if◌then◌else◌, nat_le, slice_get, slice_index_or, slice_set}
 use Rattle.std.specs.Str.{bytes_eq}
 use Rattle.table_rows.specs.Texts.{Text, is_name}
 use Rattle.script_lines.specs.Arguments.{one_number}
@@ -16,7 +17,7 @@ use Rattle.region_report.specs.declared.regions.RegionCall.TheVariants as call
 use Rattle.region_report.specs.declared.regions.RegionLine.{RegionLine}
 use Rattle.region_report.specs.declared.regions.TheConstants.{MOST_LINES, MOST_OPEN}
 
--- ---- the regions that are opens
+-- ---- the regions that are open
 
 -- an open region: its name, and which reading is that of its begin, from 0
 pub record Open : Type 0 where
@@ -27,6 +28,7 @@ pub record Open : Type 0 where
 abbrev pub open_of : List (List Open) → ℕ → List Open
 open_of opens thread = slice_index_or opens thread []
 
+-- the region that was begun last and is still open, which alone can be read and ended
 abbrev pub innermost : List Open → Option Open
 innermost opens = slice_get opens (length opens - 1)
 
@@ -48,9 +50,11 @@ reads_call (call.Read name) = true
 reads_call (call.End name) = true
 reads_call (call.Run count) = false
 
+-- a line that begins, reads or ends a region
 abbrev pub is_reading : RegionLine → Bool
 is_reading line = reads_call line.call
 
+-- how many readings there are after a line
 abbrev pub after_reading : ℕ → RegionLine → ℕ
 after_reading readings line = if is_reading line then readings + 1 else readings
 
@@ -61,6 +65,7 @@ abbrev pub and_then : {A B : Type 0} → Result A RegionCause → (A → Result 
 and_then (Ok value) next = next value
 and_then (Err cause) next = Err cause
 
+-- a word that the format of scripts has too, and that is refused for the same cause here
 abbrev pub by_script : {A : Type 0} → Result A ScriptCause → Result A RegionCause
 by_script (Ok value) = Ok value
 by_script (Err cause) = Err (cause_of cause)
@@ -77,6 +82,7 @@ begun_of (Some opens) name = if bytes_eq opens.name name then Ok opens.begun els
 
 -- ---- the calls of a thread with these open regions, each with the reading at which its region begins or began
 
+-- `begin NAME`: PAPI_hl_region_begin(3), where its thread has not too many regions open
 abbrev pub begin_call : ℕ → List Open → List Text → Result (RegionCall × ℕ) RegionCause
 begin_call readings opens arguments =
     if nat_le MOST_OPEN (length opens) then Err OverLimit else and_then (one_name arguments) (λ name. Ok (call.Begin name, readings))
@@ -85,9 +91,11 @@ begin_call readings opens arguments =
 abbrev pub innermost_call : (Text → RegionCall) → List Open → List Text → Result (RegionCall × ℕ) RegionCause
 innermost_call make opens arguments = and_then (one_name arguments) (λ name. and_then (begun_of (innermost opens) name) (λ begun. Ok (make name, begun)))
 
+-- `run COUNT`: the thread runs on by so many occurrences, as in a script of calls
 abbrev pub run_call : ℕ → List Text → Result (RegionCall × ℕ) RegionCause
 run_call readings arguments = and_then (by_script (one_number arguments)) (λ count. Ok (call.Run count, readings))
 
+-- the call of a line by the word after its thread
 abbrev pub call_of : ℕ → List Open → Text → List Text → Result (RegionCall × ℕ) RegionCause
 call_of readings opens word arguments =
     if bytes_eq word (codes "begin") then begin_call readings opens arguments
@@ -98,20 +106,23 @@ call_of readings opens word arguments =
 
 -- ---- a line
 
+-- a line of this number and thread, from its call and the reading at which its region begins or began
 abbrev pub line_with : ℕ → ℕ → RegionCall × ℕ → RegionLine
 line_with number thread called = record { line = number; thread = thread; call = called.0; begun = called.1 }
 
+-- a line by the words after its thread, of which the first names the call
 abbrev pub line_of_thread : ℕ → ℕ → List (List Open) → ℕ → List Text → Result RegionLine RegionCause
 line_of_thread number readings opens thread [] = Err UnknownCall
 line_of_thread number readings opens thread (word ∷ arguments) =
     and_then (call_of readings (open_of opens thread) word arguments) (λ called. Ok (line_with number thread called))
 
+-- a line by its words, of which the first is its thread
 abbrev pub line_of_words : ℕ → ℕ → List (List Open) → List Text → Result RegionLine RegionCause
 line_of_words number readings opens [] = Err BadThread
 line_of_words number readings opens (thread ∷ words) =
     and_then (by_script (thread_in thread)) (λ thread. line_of_thread number readings opens thread words)
 
--- the line of a number, after so many lines and readings, where these regions are opens
+-- the line of a number, after so many lines and readings, where these regions are open
 unfoldable pub region_line : ℕ → ℕ → ℕ → List (List Open) → Text → Result RegionLine RegionCause
 region_line number above readings opens line =
     if nat_le MOST_LINES above then Err OverLimit else line_of_words number readings opens (words_of line)

@@ -10,24 +10,28 @@ use Rattle.region_report.specs.Spans.{Span, pairwise}
 use Rattle.region_report.specs.declared.regions.RegionCall.{RegionCall}
 use Rattle.region_report.specs.declared.regions.RegionCall.TheVariants as call
 
+-- the region that a call names; a `run` names none
 abbrev pub name_of : RegionCall → Text
 name_of (call.Begin name) = name
 name_of (call.Read name) = name
 name_of (call.End name) = name
 name_of (call.Run count) = []
 
+-- a call that begins an instance of a region: PAPI_hl_region_begin(3)
 abbrev pub is_begin : RegionCall → Bool
 is_begin (call.Begin name) = true
 is_begin (call.Read name) = false
 is_begin (call.End name) = false
 is_begin (call.Run count) = false
 
+-- a call that reads within a region: PAPI_hl_read(3)
 abbrev pub is_read : RegionCall → Bool
 is_read (call.Begin name) = false
 is_read (call.Read name) = true
 is_read (call.End name) = false
 is_read (call.Run count) = false
 
+-- a call that ends an instance of a region: PAPI_hl_region_end(3)
 abbrev pub is_end : RegionCall → Bool
 is_end (call.Begin name) = false
 is_end (call.Read name) = false
@@ -51,6 +55,7 @@ read_text s =
 abbrev pub with_name : List Text → Text → List Text
 with_name names name = if list_any (λ n. bytes_eq n name) names then names else names ++ name ∷ []
 
+-- the names of a thread after one line more, which adds a name where it begins a region of the thread
 abbrev pub with_begin : ℕ → List Text → Span → List Text
 with_begin thread names s = if (s.line.thread == thread) && is_begin s.line.call then with_name names (name_of s.line.call) else names
 
@@ -62,6 +67,7 @@ names_of thread spans = fold (with_begin thread) [] spans
 abbrev pub ends : ℕ → Text → Span → Bool
 ends thread name s = (s.line.thread == thread) && (is_end s.line.call && bytes_eq (name_of s.line.call) name)
 
+-- the sum after one line more, which adds its values where it ends an instance of this region
 abbrev pub with_end : ℕ → Text → List ℤ → Span → List ℤ
 with_end thread name sum s = if ends thread name s then pairwise (int_wrapping_add w64) sum s.values else sum
 
@@ -69,6 +75,7 @@ with_end thread name sum s = if ends thread name s then pairwise (int_wrapping_a
 abbrev pub total : ℕ → ℕ → Text → List Span → List ℤ
 total events thread name spans = fold (with_end thread name) (replicate events (pos 0)) spans
 
+-- the line of a region, from the number of its instances and their sum
 abbrev pub total_text : ℕ → Text → ℕ → List ℤ → Text
 total_text thread name instances values =
     decimal thread ++ (codes " " ++ (name ++ (codes " " ++ (decimal instances ++ (values_text values ++ codes "\n")))))
@@ -77,6 +84,7 @@ total_text thread name instances values =
 abbrev pub region_text : ℕ → List Span → ℕ → Text → Text
 region_text events spans thread name = total_text thread name (count_by (ends thread name) spans) (total events thread name spans)
 
+-- the lines of a thread's regions, in the order of their first begins
 abbrev pub thread_text : ℕ → List Span → ℕ → Text
 thread_text events spans thread = flat_map (region_text events spans thread) (names_of thread spans)
 

@@ -18,24 +18,25 @@ pub record Refused : Type 0 where
   pub line : ℕ
   pub cause : RegionCause
 
--- no region is opens
+-- no region is open
 abbrev pub all_ended : List (List Open) → Bool
 all_ended opens = list_all (λ (regions : List Open). length regions == 0) opens
 
+-- each thread begins with no region open
 abbrev pub none_open : List (List Open)
 none_open = replicate THREADS []
 
 -- lines before those that are read further on
-abbrev pub behind : List RegionLine → Result (List RegionLine) Refused → Result (List RegionLine) Refused
-behind above (Ok below) = Ok (above ++ below)
-behind above (Err refused) = Err refused
+abbrev pub put_before : List RegionLine → Result (List RegionLine) Refused → Result (List RegionLine) Refused
+put_before above (Ok below) = Ok (above ++ below)
+put_before above (Err refused) = Err refused
 
 -- a line before those that are read after it, or the line that is refused
 abbrev pub onto : ℕ → Result RegionLine RegionCause → (RegionLine → Result (List RegionLine) Refused) → Result (List RegionLine) Refused
-onto number (Ok line) below = behind (line ∷ []) (below line)
+onto number (Ok line) below = put_before (line ∷ []) (below line)
 onto number (Err cause) below = Err (record { line = number; cause = cause })
 
--- the call lines of some lines, the first of this number, where so many call lines and readings stand above them and these regions are opens
+-- the call lines of some lines, the first of this number, where so many call lines and readings stand above them and these regions are open
 unfoldable pub regions_from : ℕ → ℕ → ℕ → List (List Open) → List Text → Result (List RegionLine) Refused
 regions_from number above readings opens [] = if all_ended opens then Ok [] else Err (record { line = number; cause = NotEnded })
 regions_from number above readings opens (line ∷ rest) =

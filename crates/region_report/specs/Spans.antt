@@ -25,6 +25,7 @@ pub record Span : Type 0 where
 abbrev pub values_at : List (List ℤ) → ℕ → List ℤ
 values_at readings i = slice_index_or readings i []
 
+-- the span of a line: its own reading, which is that of this number, less the reading at which its region began
 abbrev pub span : List (List ℤ) → ℕ → RegionLine → Span
 span readings i line = record { line = line; values = difference (values_at readings i) (values_at readings line.begun) }
 
@@ -37,6 +38,7 @@ unfoldable pub spans_from : List (List ℤ) → ℕ → List RegionLine → List
 spans_from readings i [] = []
 spans_from readings i (line ∷ lines) = if is_reading line then span readings i line ∷ spans_from readings (i + 1) lines else spans_from readings i lines
 
+-- the values alone of readings that were taken
 abbrev pub reading_values : List Reading → List (List ℤ)
 reading_values readings = map (λ r. r.values) readings
 

@@ -15,7 +15,7 @@ pub enum RegionCause {
     /// It is one line more than a region script may have, or begins a region inside as many as may be open.
     #[error("over a limit")]
     OverLimit,
-    /// Its first word is no thread.
+    /// Its first word is not a thread.
     #[error("bad thread")]
     BadThread,
     /// Its second word is missing, or no call.

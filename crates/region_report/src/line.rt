@@ -1,7 +1,8 @@
 //! One line of a region script.
 
-ghost use Rattle.std.specs.Prelude.{◌≡◌, ◌<◌, IfOk, map, option_map};
+ghost use Rattle.std.specs.Prelude.{◌≡◌, ◌<◌, ◌^◌, IfOk, map, option_map};
 ghost use Rattle.papi_base.specs.declared.limits.TheConstants.{THREADS};
+ghost use Rattle.region_report.specs.Kept.{count_of};
 ghost use Rattle.region_report.specs.Lines as Lines;
 ghost use Rattle.region_report.specs.Lines.{Answers, open_of};
 ghost use Rattle.region_report.specs.Opens.{open_text};
@@ -47,7 +48,8 @@ fn call_of(
     arguments: &[&[u8]],
 ) -> Result<(RegionCall, usize), LineFault>
     requires { thread < THREADS }
-    ensures { Answers result (Lines.call_of readings (open_of opens.now thread) word.now (map (λ w. w.now) arguments.now)) }
+    ensures call { Answers result (Lines.call_of readings (open_of opens.now thread) word.now (map (λ w. w.now) arguments.now)) }
+    ensures count { IfOk result (λ called. count_of called.0 < 2 ^ 32) }
 {
     if word == b"begin".as_slice() {
         if opens.count(thread) >= MOST_OPEN {
@@ -83,6 +85,7 @@ fn line_of_words(
 ) -> Result<RegionLine, LineFault>
     ensures line { Answers result (Lines.line_of_words number readings opens.now (map (λ w. w.now) words.now)) }
     ensures thread { IfOk result (λ line. line.thread < THREADS) }
+    ensures count { IfOk result (λ line. count_of line.call < 2 ^ 32) }
 {
     let [thread, words @ ..] = words else {
         return Err(LineFault::Cause(RegionCause::BadThread));
@@ -112,6 +115,7 @@ pub(crate) fn region_line(
 ) -> Result<RegionLine, LineFault>
     ensures line { Answers result (Lines.region_line number above readings opens.now line.now) }
     ensures few { IfOk result (λ line. (above < MOST_LINES) × (line.thread < THREADS)) }
+    ensures count { IfOk result (λ line. count_of line.call < 2 ^ 32) }
 {
     if above >= MOST_LINES {
         return Err(LineFault::Cause(RegionCause::OverLimit));

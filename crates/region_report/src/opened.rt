@@ -1,6 +1,7 @@
 //! The regions that are open while a region script is read.
 
-ghost use Rattle.std.specs.Prelude.{◌≡◌, ◌<◌, ◌≤◌, ◌-◌, ◌∷◌, ◌++◌, [], map, replicate, length, take, IfOk, OnOk, slice_index_or, vec_len, slice_get, option_map};
+ghost use Rattle.std.specs.Prelude.{◌≡◌, ◌<◌, ◌≤◌, ◌-◌, ◌∷◌, ◌++◌, [], map};
+ghost use Rattle.std.specs.Prelude.{replicate, length, take, IfOk, OnOk, slice_index_or, vec_len, slice_get, option_map};
 ghost use Rattle.papi_base.specs.declared.limits.TheConstants.{THREADS};
 ghost use Rattle.region_report.specs.Lines as Lines;
 ghost use Rattle.region_report.specs.Lines.{Open, after_line, open_of, innermost};

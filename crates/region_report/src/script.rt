@@ -1,8 +1,10 @@
 //! The script of calls that a region script stands for.
 
-ghost use Rattle.std.specs.Prelude.{◌≡◌, ◌++◌, IfOk, OnOk, string_bytes};
+ghost use Rattle.std.specs.Prelude.{◌≡◌, ◌++◌, IfOk, Ok, OnOk, string_bytes};
 ghost use Rattle.std.specs.List.{flat_map, range_with_len};
 ghost use Rattle.papi_base.specs.declared.limits.TheConstants.{THREADS};
+ghost use Rattle.script_lines.specs.Scripts as Scripts;
+ghost use Rattle.region_report.specs.CallLines.{AreEvents, asked, numbered};
 ghost use Rattle.region_report.specs.Calls as Calls;
 ghost use Rattle.region_report.specs.Calls.{add_text, call_text, has_lines, line_text, opening, thread_opening};
 
@@ -10,6 +12,9 @@ use crate::regions::{RegionCall, RegionLine, Regions};
 use papi_base::{THREADS, Text};
 use std::alloc::{AllocError, Global};
 use std::fmt::Write;
+
+/// How many events a set has at most.
+pub const MOST_EVENTS: u32 = 32;
 
 fn push_call(text: &mut String, thread: u32, words: &str) -> Result<(), AllocError>
     ensures { OnOk result (string_bytes text.new ≡ string_bytes text.old ++ call_text thread words.now) }
@@ -90,15 +95,25 @@ fn push_lines(text: &mut String, lines: &[RegionLine]) -> Result<(), AllocError>
     Ok(())
 }
 
-/// The script of calls that a region script stands for: each thread that has lines makes a set of the events and starts it, each line that
-/// begins, reads or ends a region reads it, and the other lines run.
+// The text of the calls that lines stand for.
 #[tactic(auto, unfolding(crate::specs::Calls::script_text))]
-pub fn script_of(alloc: Global, regions: &Regions, events: &[Text]) -> Result<String, AllocError>
-    ensures { IfOk result (λ text. string_bytes text ≡ Calls.script_text regions.now events.now) }
+fn calls_text(alloc: Global, lines: &[RegionLine], events: &[Text]) -> Result<String, AllocError>
+    ensures { IfOk result (λ text. string_bytes text ≡ Calls.script_text lines.now events.now) }
 {
     let mut text = String::new(alloc);
-    let lines = regions.lines();
     push_openings(&mut text, lines, events)?;
     push_lines(&mut text, lines)?;
+    Ok(text)
+}
+
+/// The script of calls that a region script stands for: each thread that has lines makes a set of the events and starts it, each line that
+/// begins, reads or ends a region reads it, and the other lines run. Where each event is a word and a set can have as many, `read_script`
+/// reads the script as these calls.
+pub fn script_of(alloc: Global, regions: &Regions, events: &[Text]) -> Result<String, AllocError>
+    ensures text { IfOk result (λ text. string_bytes text ≡ Calls.script_text regions.now events.now) }
+    ensures read { AreEvents events.now → IfOk result (λ text. Scripts.script_of (string_bytes text) ≡ Ok (numbered 1 (asked regions.now events.now))) }
+{
+    let lines = regions.lines();
+    let text = calls_text(alloc, lines, events)?;
     Ok(text)
 }

@@ -13,7 +13,7 @@ loop-rest-preserved-in-Continue-branch-3 c =
     let call = rw above at c.in-Ok.ensures.line in
     subst (Reads c.args.bytes.now c.cut_line.result.1.now (c.loop-rest.number + 1) c.after_reading-readings.result c.take.new.self) (sym c.in_ok-push-in-Ok.ensures.items)
     (reads-call c.args.bytes.now c.loop-rest.rest.now c.cut_line.result.1.now c.cut_line.result.0.now c.loop-rest.number c.loop-rest.readings c.after_reading-readings.result c.loop-rest.opens c.take.new.self c.loop-rest.lines.items
-    c.in-Ok.line c.cut_line.ensures.line c.cut_line.ensures.shorter (sym c.is_skipped.ensures ∙ c.if-not-is_skipped.true) call (few, c.in-Ok.ensures.few.1) c.after_reading-readings.ensures
+    c.in-Ok.line c.cut_line.ensures.line c.cut_line.ensures.shorter (sym c.is_skipped.ensures ∙ c.if-not-is_skipped.true) call (few, c.in-Ok.ensures.few.1) c.in-Ok.ensures.count c.after_reading-readings.ensures
     c.in_ok-take-in-Ok.ensures c.loop-rest.invariant)
 
 pub loop-rest-preserved : goal.loop-rest-preserved

@@ -1,0 +1,127 @@
+-- What an answer that is read says of the parts that it was read from.
+use Rattle.std.proofs.Common.{◌≡◌, ◌⊎◌, inl, inr, ℕ, Bool, true, false, List, [], ◌∷◌, refl, sym, ◌∙◌, ap, Option, Some, None, Result, Ok, Err, bytes_eq, length, codes, nat_le}
+use Rattle.std.specs.Prelude.{if◌then◌else◌}
+use Rattle.std.proofs.lemmas.Slice.Eq.{bytes_eq-Decides}
+use Rattle.table_rows.specs.Texts.{Text}
+use Rattle.script_lines.specs.Arguments.{one_number}
+use Rattle.script_lines.specs.Lines.{thread_in}
+use Rattle.script_lines.specs.Words.{words_of}
+use Rattle.region_report.specs.Lines.{Open, and_then, begin_call, begun_of, by_script, call_of, innermost, innermost_call, line_of_thread}
+use Rattle.region_report.specs.Lines.{line_of_words, line_with, one_name, open_of, region_line, run_call}
+use Rattle.region_report.specs.declared.fault.RegionCause.{RegionCause}
+use Rattle.region_report.specs.declared.fault.RegionCause.TheVariants.{OverLimit, UnknownCall, WrongRegion}
+use Rattle.region_report.specs.declared.regions.RegionCall.{RegionCall}
+use Rattle.region_report.specs.declared.regions.RegionCall.TheVariants as call
+use Rattle.region_report.specs.declared.regions.RegionLine.{RegionLine}
+use Rattle.region_report.specs.declared.regions.TheConstants.{MOST_LINES, MOST_OPEN}
+
+-- both parts were read
+both_read : {A B : Type 0} (first : Result A RegionCause) (next : A → Result B RegionCause) (b : B) → and_then first next ≡ Ok b → (a : A) × (next a ≡ Ok b)
+both_read (Ok a) next b e = (a, e)
+both_read (Err cause) next b e = cc
+
+not_refused : {A : Type 0} (b : Bool) (cause : RegionCause) (read : Result A RegionCause) (a : A) → (if b then Err cause else read) ≡ Ok a → read ≡ Ok a
+not_refused true cause read a e = cc
+not_refused false cause read a e = e
+
+-- the call of the word that it has
+one_of : {A : Type 0} (b c d f : Bool) (first second third fourth : Result A RegionCause) (a : A)
+    → (if b then first else if c then second else if d then third else if f then fourth else Err UnknownCall) ≡ Ok a
+    → (first ≡ Ok a) ⊎ ((second ≡ Ok a) ⊎ ((third ≡ Ok a) ⊎ (fourth ≡ Ok a)))
+one_of true c d f first second third fourth a e = inl e
+one_of false true d f first second third fourth a e = inr (inl e)
+one_of false false true f first second third fourth a e = inr (inr (inl e))
+one_of false false false true first second third fourth a e = inr (inr (inr e))
+one_of false false false false first second third fourth a e = cc
+
+-- a region of this name is open, and began at this reading
+abbrev pub Found : Option Open → Text → ℕ → Type 0
+Found place name begun = (o : Open) × (place ≡ Some o) × (o.name ≡ name) × (o.begun ≡ begun)
+
+found : (place : Option Open) (name : Text) (begun : ℕ) → begun_of place name ≡ Ok begun → Found place name begun
+found None name begun e = cc
+found (Some o) name begun e = go (bytes_eq o.name name) refl e where
+  go : (b : Bool) → bytes_eq o.name name ≡ b → (if b then Ok o.begun else Err WrongRegion) ≡ Ok begun → Found (Some o) name begun
+  go true q h = (o, refl, (bytes_eq-Decides o.name name).0 q, (let same : o.begun ≡ begun = cc in same))
+  go false q h = cc
+
+-- the call of an open region
+abbrev pub OfInnermost : (Text → RegionCall) → List Open → RegionCall × ℕ → Type 0
+OfInnermost make opens called = (name : Text) × (called.0 ≡ make name) × Found (innermost opens) name called.1
+
+of_innermost : (make : Text → RegionCall) (opens : List Open) (words : List Text) (called : RegionCall × ℕ) → innermost_call make opens words ≡ Ok called → OfInnermost make opens called
+of_innermost make opens words called e =
+    let named = both_read (one_name words) (λ name. and_then (begun_of (innermost opens) name) (λ begun. Ok (make name, begun))) called e in
+    go named.0 (begun_of (innermost opens) named.0) refl named.1 where
+      go : (name : Text) (read : Result ℕ RegionCause) → begun_of (innermost opens) name ≡ read → and_then read (λ begun. Ok (make name, begun)) ≡ Ok called → OfInnermost make opens called
+      go name (Ok begun) q h =
+          let same : (make name, begun) ≡ called = cc in
+          let f = found (innermost opens) name begun q in
+          (name, ap (λ c. c.0) (sym same), (f.0, f.1, f.2, f.3 ∙ ap (λ c. c.1) same))
+      go name (Err cause) q h = cc
+
+-- ---- the four calls
+
+-- a region begins at this reading
+abbrev pub Begins : ℕ → RegionCall × ℕ → Type 0
+Begins readings called = (name : Text) × (called ≡ (call.Begin name, readings))
+
+abbrev pub Runs : RegionCall × ℕ → Type 0
+Runs called = (n : ℕ) × (begun : ℕ) × (called ≡ (call.Run n, begun))
+
+abbrev pub Called : ℕ → List Open → RegionCall × ℕ → Type 0
+Called readings opens called =
+    Begins readings called ⊎ (OfInnermost (λ name. call.Read name) opens called ⊎ (OfInnermost (λ name. call.End name) opens called ⊎ Runs called))
+
+begins : (readings : ℕ) (opens : List Open) (words : List Text) (called : RegionCall × ℕ) → begin_call readings opens words ≡ Ok called → Begins readings called
+begins readings opens words called e =
+    let read = both_read (one_name words) (λ name. Ok (call.Begin name, readings)) called
+    (not_refused (nat_le MOST_OPEN (length opens)) OverLimit (and_then (one_name words) (λ name. Ok (call.Begin name, readings))) called e) in
+    (read.0, (let same : called ≡ (call.Begin read.0, readings) = cc in same))
+
+runs : (readings : ℕ) (words : List Text) (called : RegionCall × ℕ) → run_call readings words ≡ Ok called → Runs called
+runs readings words called e =
+    let read = both_read (by_script (one_number words)) (λ count. Ok (call.Run count, readings)) called e in
+    (read.0, readings, (let same : called ≡ (call.Run read.0, readings) = cc in same))
+
+pub called_is : (readings : ℕ) (opens : List Open) (word : Text) (words : List Text) (called : RegionCall × ℕ) → call_of readings opens word words ≡ Ok called → Called readings opens called
+called_is readings opens word words called e =
+    go (one_of (bytes_eq word (codes "begin")) (bytes_eq word (codes "read")) (bytes_eq word (codes "end")) (bytes_eq word (codes "run"))
+    (begin_call readings opens words) (innermost_call (λ name. call.Read name) opens words) (innermost_call (λ name. call.End name) opens words)
+    (run_call readings words) called e) where
+      go : (begin_call readings opens words ≡ Ok called) ⊎ ((innermost_call (λ name. call.Read name) opens words ≡ Ok called)
+          ⊎ ((innermost_call (λ name. call.End name) opens words ≡ Ok called) ⊎ (run_call readings words ≡ Ok called))) → Called readings opens called
+      go (inl h) = inl (begins readings opens words called h)
+      go (inr (inl h)) = inr (inl (of_innermost (λ name. call.Read name) opens words called h))
+      go (inr (inr (inl h))) = inr (inr (inl (of_innermost (λ name. call.End name) opens words called h)))
+      go (inr (inr (inr h))) = inr (inr (inr (runs readings words called h)))
+
+-- ---- a line
+
+-- it is the call of a thread
+abbrev pub IsCalled : ℕ → ℕ → List (List Open) → RegionLine → Type 0
+IsCalled number readings opens line =
+    (t : ℕ) × (called : RegionCall × ℕ) × (line ≡ line_with number t called) × Called readings (open_of opens t) called
+
+of_thread : (number readings : ℕ) (opens : List (List Open)) (t : ℕ) (words : List Text) (line : RegionLine) → line_of_thread number readings opens t words ≡ Ok line
+    → IsCalled number readings opens line
+of_thread number readings opens t [] line e = cc
+of_thread number readings opens t (word ∷ words) line e = go (call_of readings (open_of opens t) word words) refl e where
+  go : (read : Result (RegionCall × ℕ) RegionCause) → call_of readings (open_of opens t) word words ≡ read → and_then read (λ called. Ok (line_with number t called)) ≡ Ok line
+      → IsCalled number readings opens line
+  go (Ok called) q h = (t, called, (let same : line ≡ line_with number t called = cc in same), called_is readings (open_of opens t) word words called q)
+  go (Err cause) q h = cc
+
+of_words : (number readings : ℕ) (opens : List (List Open)) (words : List Text) (line : RegionLine) → line_of_words number readings opens words ≡ Ok line
+    → IsCalled number readings opens line
+of_words number readings opens [] line e = cc
+of_words number readings opens (thread ∷ words) line e =
+    let read = both_read (by_script (thread_in thread)) (λ t. line_of_thread number readings opens t words) line e in
+    of_thread number readings opens read.0 words line read.1
+
+pub line_is : (number above readings : ℕ) (opens : List (List Open)) (text : Text) (line : RegionLine) → region_line number above readings opens text ≡ Ok line
+    → IsCalled number readings opens line
+unfolding region_line
+line_is number above readings opens text line e =
+    of_words number readings opens (words_of text) line
+    (not_refused (nat_le MOST_LINES above) OverLimit (line_of_words number readings opens (words_of text)) line e)

@@ -1,0 +1,12 @@
+pub mod Told
+pub mod Opened
+pub mod Counted
+pub mod LinesRead
+pub mod Numbered
+pub mod Differences
+pub mod Spanned
+pub mod Cases
+pub mod Begun
+pub mod LookedUp
+pub mod Bounded
+pub mod CountedBy

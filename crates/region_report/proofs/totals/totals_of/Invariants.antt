@@ -1,0 +1,7 @@
+use Rattle.std.proofs.Common.{◌≡◌, map, take}
+use Rattle.region_report.specs.Spans.{span_text}
+use Rattle.region_report.specs.Totals.{total_of}
+use Rattle.region_report.proofs.totals.totals_of.Given as goal
+
+abbrev pub invariant-loop-span : goal.invariant-loop-span
+invariant-loop-span l = l.totals.items ≡ map (total_of l.events l.thread (map span_text (take l.span-index l.spans))) (map (λ n. n.now) l.names.keys)
