@@ -5,8 +5,9 @@
  * handle each, and share nothing: sets and codes of events are the handle's.
  *
  * The functions answer PAPI's codes: 0, or a number below 0 (papi.h names them). A handle without a library answers -16,
- * PAPI_ENOINIT. Texts and arrays are a pointer and a length; the pointer is never null, and what is given back goes into
- * an array as far as there is room, with its whole length beside it. These functions are proved up to here; this header
+ * PAPI_ENOINIT. Texts and arrays are a pointer and a length, and the pointer is never null. Names and codes that are given
+ * back go into an array where it has room for all of them; else nothing is written but how much room it takes, and the answer
+ * is -1, PAPI_EINVAL. Values go into an array as far as there is room. These functions are proved up to here; this header
  * itself is not. */
 #ifndef KISTALUB_H
 #define KISTALUB_H
@@ -41,7 +42,7 @@ int kistalub_assign_component(kistalub *h, uint32_t set, uint32_t component);
 int kistalub_set_domain(kistalub *h, uint32_t set, uint32_t bits);
 int kistalub_set_multiplex(kistalub *h, uint32_t set, uint32_t slice);
 
-/* Events by name: -1 where the name is no UTF-8. */
+/* Events by name: -1 where the name is not UTF-8. */
 int kistalub_add_named(kistalub *h, uint32_t set, const unsigned char *name, size_t name_len);
 int kistalub_remove_named(kistalub *h, uint32_t set, const unsigned char *name, size_t name_len);
 int kistalub_overflow_named(kistalub *h, uint32_t set, const unsigned char *name, size_t name_len, uint64_t threshold);
@@ -51,8 +52,22 @@ int kistalub_add(kistalub *h, uint32_t set, uint32_t code);
 int kistalub_remove(kistalub *h, uint32_t set, uint32_t code);
 int kistalub_overflow(kistalub *h, uint32_t set, uint32_t code, uint64_t threshold);
 int kistalub_name_to_code(kistalub *h, const unsigned char *name, size_t name_len, uint32_t *code);
-int kistalub_code_to_name(kistalub *h, uint32_t code, unsigned char *name, size_t room, uint32_t *length);
-int kistalub_list_events(kistalub *h, uint32_t set, uint32_t *codes, size_t room, uint32_t *count);
+int kistalub_code_to_name(kistalub *h, uint32_t code, unsigned char *name, size_t room, uint64_t *length);
+int kistalub_list_events(kistalub *h, uint32_t set, uint32_t *codes, size_t room, uint64_t *count);
+
+/* A part of what is told of the event of a code, empty where the event has none: its name, its description, and of an available
+ * preset or user event the derived type, the formula, and the name of the native event in a place from 0. */
+#define KISTALUB_NAME 0
+#define KISTALUB_DESCRIPTION 1
+#define KISTALUB_DERIVED_TYPE 2
+#define KISTALUB_FORMULA 3
+#define KISTALUB_NATIVE 4
+int kistalub_info(kistalub *h, uint32_t code, uint32_t part, uint32_t place, unsigned char *text, size_t room, uint64_t *length);
+
+/* The events in order: the code in a row, the presets first and then the user events, and the name of the native event in a row of a
+ * component. -7 past the last. */
+int kistalub_code_in_row(kistalub *h, uint32_t row, uint32_t *code);
+int kistalub_native_name(kistalub *h, uint32_t component, uint32_t row, unsigned char *name, size_t room, uint64_t *length);
 
 int kistalub_start(kistalub *h, uint32_t set);
 int kistalub_stop(kistalub *h, uint32_t set, int64_t *values, size_t room, uint32_t *count);
@@ -65,9 +80,11 @@ int kistalub_state(kistalub *h, uint32_t set, uint32_t *bits);
 /* How many counters a component has, -17 where there is no such component. */
 int kistalub_counters(kistalub *h, uint32_t component);
 
-/* Consumes up to n occurrences of the stream. At one occurrence at most 32 thresholds are passed, so that with n = 1 an array of 32
- * passings has room for all. -3 where the stream is faulty, -2 where memory is refused at a passing. */
-int kistalub_run(kistalub *h, uint32_t n, uint32_t *consumed, kistalub_passing *passings, size_t room, uint32_t *told);
+/* Consumes up to n occurrences of the stream, and says how many. Each threshold that is passed is written into the array, in order. At one
+ * occurrence at most 32 are passed: where fewer have room it stops before the next occurrence with -20, PAPI_EBUF, and a further call goes
+ * on, so that none is lost. With n = 1 an array of 32 is always enough. -3 where the stream is faulty; -2 where memory is refused, and
+ * nothing happened then. */
+int kistalub_run(kistalub *h, uint32_t n, uint32_t *consumed, kistalub_passing *passings, size_t room, uint64_t *told);
 
 /* What follows is C over the functions above (papi.c), and is not proved. */
 

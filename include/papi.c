@@ -77,20 +77,31 @@ static char *copied(const char *s) {
     return to;
 }
 
+/* Without files, as before kistalub_init. */
+static void drop_files(void) {
+    drop_text(&unit);
+    drop_text(&presets);
+    free(cpu);
+    free(stream_path);
+    cpu = stream_path = NULL;
+}
+
 int kistalub_init(const char *unit_path, const char *presets_path, const char *cpu_name, const char *streams) {
-    int code = PAPI_OK;
     if (!unit_path) return PAPI_EINVAL;
     pthread_mutex_lock(&lock);
-    if (initialized) code = PAPI_EINVAL;
-    if (code == PAPI_OK) code = read_file(unit_path, &unit);
+    if (initialized) {
+        pthread_mutex_unlock(&lock);
+        return PAPI_EINVAL;
+    }
+    drop_files();
+    int code = read_file(unit_path, &unit);
     if (code == PAPI_OK && presets_path) code = read_file(presets_path, &presets);
     if (code == PAPI_OK) {
-        free(cpu);
-        free(stream_path);
         cpu = copied(cpu_name ? cpu_name : "");
         stream_path = copied(streams ? streams : "");
         if (!cpu || !stream_path) code = PAPI_ENOMEM;
     }
+    if (code != PAPI_OK) drop_files();
     pthread_mutex_unlock(&lock);
     return code;
 }
@@ -186,11 +197,7 @@ void PAPI_shutdown(void) {
     initialized = 0;
     registered_count = 0;
     thread_id = NULL;
-    drop_text(&unit);
-    drop_text(&presets);
-    free(cpu);
-    free(stream_path);
-    cpu = stream_path = NULL;
+    drop_files();
     pthread_mutex_unlock(&lock);
 }
 
@@ -249,8 +256,34 @@ int PAPI_cleanup_eventset(int set) {
     return code;
 }
 
+/* The codes of a set's events, and how many there are. */
+typedef struct { uint32_t codes[MOST_EVENTS]; uint64_t count; } events_of_set;
+
+static events_of_set events_in(thread_state *t, int set) {
+    events_of_set events;
+    if (kistalub_list_events(&t->library, set_number(set), events.codes, MOST_EVENTS, &events.count) != PAPI_OK) events.count = 0;
+    return events;
+}
+
+/* One of these events was taken out: its profile goes, and those after it follow their events. */
+static void profiles_follow(thread_state *t, int set, const events_of_set *before) {
+    events_of_set after = events_in(t, set);
+    profile *profiles = t->profiles[set];
+    uint64_t place = 0;
+    while (place < after.count && before->codes[place] == after.codes[place]) place++;
+    memmove(profiles + place, profiles + place + 1, (MOST_EVENTS - 1 - place) * sizeof *profiles);
+    memset(profiles + MOST_EVENTS - 1, 0, sizeof *profiles);
+}
+
 int PAPI_add_event(int set, int event) { HERE(t); return kistalub_add(&t->library, set_number(set), (uint32_t)event); }
-int PAPI_remove_event(int set, int event) { HERE(t); return kistalub_remove(&t->library, set_number(set), (uint32_t)event); }
+
+int PAPI_remove_event(int set, int event) {
+    HERE(t);
+    events_of_set before = events_in(t, set);
+    int code = kistalub_remove(&t->library, set_number(set), (uint32_t)event);
+    if (code == PAPI_OK) profiles_follow(t, set, &before);
+    return code;
+}
 
 int PAPI_add_named_event(int set, const char *name) {
     HERE(t);
@@ -261,7 +294,10 @@ int PAPI_add_named_event(int set, const char *name) {
 int PAPI_remove_named_event(int set, const char *name) {
     HERE(t);
     if (!name) return PAPI_EINVAL;
-    return kistalub_remove_named(&t->library, set_number(set), (const unsigned char *)name, strlen(name));
+    events_of_set before = events_in(t, set);
+    int code = kistalub_remove_named(&t->library, set_number(set), (const unsigned char *)name, strlen(name));
+    if (code == PAPI_OK) profiles_follow(t, set, &before);
+    return code;
 }
 
 static int each(int (*call)(int, int), int set, int *events, int number) {
@@ -282,12 +318,13 @@ int PAPI_assign_eventset_component(int set, int component) {
 }
 
 int PAPI_list_events(int set, int *events, int *number) {
-    uint32_t codes[MOST_EVENTS], count = 0;
+    uint32_t codes[MOST_EVENTS];
+    uint64_t count = 0;
     HERE(t);
     if (!number || *number < 0 || (*number > 0 && !events)) return PAPI_EINVAL;
     int code = kistalub_list_events(&t->library, set_number(set), codes, MOST_EVENTS, &count);
     if (code != PAPI_OK) return code;
-    for (uint32_t i = 0; i < count && (int)i < *number; i++) events[i] = (int)codes[i];
+    for (uint64_t i = 0; i < count && (int)i < *number; i++) events[i] = (int)codes[i];
     *number = (int)count;
     return PAPI_OK;
 }
@@ -352,8 +389,8 @@ static void hit(profile *p, unsigned long long address) {
     memcpy(at, &count, 8);
 }
 
-static void tell(thread_state *t, const kistalub_passing *passings, uint32_t told) {
-    for (uint32_t i = 0; i < told;) {
+static void tell(thread_state *t, const kistalub_passing *passings, uint64_t told) {
+    for (uint64_t i = 0; i < told;) {
         uint32_t set = passings[i].set;
         unsigned long long address = passings[i].address;
         long long vector = 0;
@@ -372,11 +409,11 @@ int kistalub_go(uint32_t n, uint32_t *went) {
     HERE(t);
     while (*went < n) {
         kistalub_passing passings[MOST_EVENTS];
-        uint32_t consumed = 0, told = 0;
+        uint32_t consumed = 0;
+        uint64_t told = 0;
         int code = kistalub_run(&t->library, 1, &consumed, passings, MOST_EVENTS, &told);
         *went += consumed;
-        if (code == PAPI_ENOMEM) ++*went; /* the occurrence is consumed, and not all of its passings are told */
-        tell(t, passings, told < MOST_EVENTS ? told : MOST_EVENTS);
+        tell(t, passings, told);
         if (code != PAPI_OK) return code;
         if (consumed == 0) break;
     }
@@ -447,14 +484,27 @@ int PAPI_event_name_to_code(const char *in, int *out) {
     return code;
 }
 
+/* Ends a text of this length; one that had no room is PAPI_EBUF. */
+static int ended(int code, char *text, uint64_t room, uint64_t length) {
+    if (code == PAPI_EINVAL && length > room) code = PAPI_EBUF;
+    text[code == PAPI_OK ? length : 0] = 0;
+    return code;
+}
+
 /* The name of an event in NAME_ROOM places. */
 static int name_in(int event, char *name) {
-    uint32_t length = 0;
+    uint64_t length = 0;
     HERE(t);
     int code = kistalub_code_to_name(&t->library, (uint32_t)event, (unsigned char *)name, NAME_ROOM - 1, &length);
-    if (code == PAPI_OK && length >= NAME_ROOM) code = PAPI_EBUF;
-    name[code == PAPI_OK ? length : 0] = 0;
-    return code;
+    return ended(code, name, NAME_ROOM - 1, length);
+}
+
+/* A part of what is told of an event, in so many places. */
+static int info_in(int event, uint32_t part, uint32_t place, char *text, size_t room) {
+    uint64_t length = 0;
+    HERE(t);
+    int code = kistalub_info(&t->library, (uint32_t)event, part, place, (unsigned char *)text, room - 1, &length);
+    return ended(code, text, room - 1, length);
 }
 
 int PAPI_event_code_to_name(int event, char *out) {
@@ -478,35 +528,62 @@ int PAPI_query_event(int event) {
 }
 
 int PAPI_get_event_info(int event, PAPI_event_info_t *info) {
-    char name[NAME_ROOM];
     if (!info) return PAPI_EINVAL;
-    int code = name_in(event, name);
-    if (code != PAPI_OK) return code;
     memset(info, 0, sizeof *info);
     info->event_code = (unsigned)event;
-    memcpy(info->symbol, name, strlen(name) + 1);
-    return PAPI_OK;
+    int code = info_in(event, KISTALUB_NAME, 0, info->symbol, sizeof info->symbol);
+    if (code == PAPI_OK) code = info_in(event, KISTALUB_DESCRIPTION, 0, info->long_descr, sizeof info->long_descr);
+    if (code == PAPI_OK) code = info_in(event, KISTALUB_DERIVED_TYPE, 0, info->derived, sizeof info->derived);
+    if (code == PAPI_OK) code = info_in(event, KISTALUB_FORMULA, 0, info->postfix, sizeof info->postfix);
+    while (code == PAPI_OK && info->count < PAPI_MAX_INFO_TERMS) {
+        code = info_in(event, KISTALUB_NATIVE, info->count, info->name[info->count], sizeof *info->name);
+        if (code != PAPI_OK || !info->name[info->count][0]) break;
+        code = PAPI_event_name_to_code(info->name[info->count], (int *)&info->code[info->count]);
+        if (code == PAPI_OK) info->count++;
+    }
+    return code;
 }
 
-static const int preset_codes[] = {
-    PAPI_L1_DCM, PAPI_L1_ICM, PAPI_L2_DCM, PAPI_L2_ICM, PAPI_L1_TCM, PAPI_L2_TCM,
-    PAPI_L3_TCM, PAPI_TLB_DM, PAPI_TLB_IM, PAPI_L1_LDM, PAPI_L1_STM, PAPI_BR_UCN,
-    PAPI_BR_CN, PAPI_BR_TKN, PAPI_BR_NTK, PAPI_BR_MSP, PAPI_BR_PRC, PAPI_TOT_INS,
-    PAPI_LD_INS, PAPI_SR_INS, PAPI_BR_INS, PAPI_RES_STL, PAPI_TOT_CYC, PAPI_LST_INS,
-    PAPI_FP_OPS, PAPI_REF_CYC,
-};
+/* The preset or user event after this one in the catalog's order, or the first. */
+static int next_row(thread_state *t, int *event, int modifier) {
+    uint32_t code = 0, row = 0;
+    if (modifier != PAPI_ENUM_FIRST)
+        do {
+            if (kistalub_code_in_row(&t->library, row++, &code) != PAPI_OK) return PAPI_ENOEVNT;
+        } while (code != (uint32_t)*event);
+    while (kistalub_code_in_row(&t->library, row++, &code) == PAPI_OK) {
+        int found = modifier == PAPI_PRESET_ENUM_AVAIL ? PAPI_query_event((int)code) : PAPI_OK;
+        if (found == PAPI_OK) *event = (int)code;
+        if (found == PAPI_OK || found == PAPI_ENOMEM) return found;
+    }
+    return PAPI_ENOEVNT;
+}
+
+/* The native event after this one in the order of the unit's file, or the first. An event that has no name by itself, since a umask has to
+ * be chosen, is passed over. */
+static int next_native(thread_state *t, int *event, int modifier) {
+    int past = modifier == PAPI_ENUM_FIRST;
+    for (uint32_t component = 0; kistalub_counters(&t->library, component) >= 0; component++)
+        for (uint32_t row = 0;; row++) {
+            char name[NAME_ROOM];
+            uint64_t length = 0;
+            int found, code = kistalub_native_name(&t->library, component, row, (unsigned char *)name, NAME_ROOM - 1, &length);
+            if (code == PAPI_ENOEVNT) break;
+            code = ended(code, name, NAME_ROOM - 1, length);
+            if (code != PAPI_OK) return code;
+            code = PAPI_event_name_to_code(name, &found);
+            if (code == PAPI_ENOMEM) return code;
+            if (code != PAPI_OK) continue;
+            if (past) { *event = found; return PAPI_OK; }
+            past = found == *event;
+        }
+    return PAPI_ENOEVNT;
+}
 
 int PAPI_enum_event(int *event, int modifier) {
-    int most = (int)(sizeof preset_codes / sizeof *preset_codes), i = 0;
-    if (!initialized) return PAPI_ENOINIT;
+    HERE(t);
     if (!event) return PAPI_EINVAL;
-    if ((*event & PAPI_PRESET_MASK) == 0) return PAPI_ENOSUPP;
-    if (modifier != PAPI_ENUM_FIRST)
-        while (i < most && (unsigned)preset_codes[i] <= (unsigned)*event) i++;
-    while (modifier == PAPI_PRESET_ENUM_AVAIL && i < most && PAPI_query_event(preset_codes[i]) != PAPI_OK) i++;
-    if (i == most) return PAPI_ENOEVNT;
-    *event = preset_codes[i];
-    return PAPI_OK;
+    return *event & PAPI_PRESET_MASK ? next_row(t, event, modifier) : next_native(t, event, modifier);
 }
 
 int PAPI_num_cmp_hwctrs(int component) {

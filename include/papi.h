@@ -123,11 +123,21 @@ typedef struct { int eventset; int domain; } PAPI_domain_option_t;
 typedef struct { int eventset; int ns; int flags; } PAPI_multiplex_option_t;
 typedef union { PAPI_domain_option_t domain; PAPI_domain_option_t defdomain; PAPI_multiplex_option_t multiplex; } PAPI_option_t;
 
-/* What PAPI_get_event_info fills: no description, units or terms. */
+#define PAPI_MAX_INFO_TERMS 12
+
+/* What PAPI_get_event_info fills: name and description, and of an available preset or user event the derived type, the formula and the native
+ * events. The component stays 0. */
 typedef struct {
     unsigned int event_code;
     char symbol[PAPI_HUGE_STR_LEN];
+    char short_descr[PAPI_MIN_STR_LEN];
+    char long_descr[PAPI_HUGE_STR_LEN];
     int component_index;
+    char derived[PAPI_MIN_STR_LEN];
+    char postfix[PAPI_2MAX_STR_LEN];
+    unsigned int count;
+    unsigned int code[PAPI_MAX_INFO_TERMS];
+    char name[PAPI_MAX_INFO_TERMS][PAPI_2MAX_STR_LEN];
 } PAPI_event_info_t;
 
 int PAPI_library_init(int version);
@@ -175,7 +185,8 @@ int PAPI_event_code_to_name(int EventCode, char *out);
 int PAPI_query_event(int EventCode);
 int PAPI_query_named_event(const char *EventName);
 int PAPI_get_event_info(int EventCode, PAPI_event_info_t *info);
-/* The presets, all or those that are available. PAPI_ENOSUPP for native events. */
+/* After a code with PAPI_PRESET_MASK the next preset or user event, with PAPI_PRESET_ENUM_AVAIL the next available one; after any other the next
+ * native event. With PAPI_ENUM_FIRST the first of them. PAPI_ENOEVNT after the last. */
 int PAPI_enum_event(int *EventCode, int modifier);
 int PAPI_num_components(void);
 int PAPI_num_cmp_hwctrs(int cidx);

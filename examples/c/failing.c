@@ -46,7 +46,8 @@ static size_t file(const char *path, unsigned char *into) {
 /* Makes the calls, and says how many were refused memory. Where the first is refused there is no library. */
 static int live_once(void) {
     kistalub h = KISTALUB_SHUT;
-    uint32_t set = 7, code = 0, length, consumed = 0, told = 0;
+    uint32_t set = 7, code = 0, consumed = 0, count = 0;
+    uint64_t length = 0, told = 0;
     unsigned char name[64];
     kistalub_passing passings[32];
     const unsigned char *inst = (const unsigned char *)"INST_RETIRED";
@@ -78,9 +79,10 @@ static int live_once(void) {
     if (answer != 0) {
         WANT(answer, -2);
         refusals++;
+        WANT(kistalub_run(&h, 4, &consumed, passings, 32, &told), 0);
     }
     int64_t value;
-    WANT(kistalub_stop(&h, set, &value, 1, &told), 0);
+    WANT(kistalub_stop(&h, set, &value, 1, &count), 0);
     WANT(value, 1020);
     kistalub_close(&h);
     return refusals;

@@ -3,13 +3,17 @@
 #include "wanted.h"
 
 int main(void) {
-    int set = PAPI_NULL, event;
+    int set = PAPI_NULL, cycles, event;
     unsigned short buckets[4] = { 0, 0, 0, 0 };
     WANT(PAPI_library_init(PAPI_VER_CURRENT), PAPI_VER_CURRENT);
     WANT(PAPI_create_eventset(&set), PAPI_OK);
+    WANT(PAPI_event_name_to_code("CYCLES", &cycles), PAPI_OK);
     WANT(PAPI_event_name_to_code("INST_RETIRED", &event), PAPI_OK);
+    WANT(PAPI_add_event(set, cycles), PAPI_OK);
     WANT(PAPI_add_event(set, event), PAPI_OK);
     WANT(PAPI_profil(buckets, sizeof buckets, 0x400000, 65536 / 8, set, event, 256, PAPI_PROFIL_POSIX), PAPI_OK);
+    /* The profile stays with its event when the one before it goes. */
+    WANT(PAPI_remove_event(set, cycles), PAPI_OK);
     WANT(PAPI_start(set), PAPI_OK);
     WANT(kistalub_go(100, NULL), PAPI_OK);
     WANT(PAPI_stop(set, NULL), PAPI_OK);

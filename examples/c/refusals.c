@@ -6,7 +6,7 @@
 static void handler(int set, void *address, long long vector, void *context) { (void)set; (void)address; (void)vector; (void)context; }
 
 int main(void) {
-    int set = PAPI_NULL, other = PAPI_NULL, none = 7, event, number = 1, events[2];
+    int set = PAPI_NULL, other = PAPI_NULL, none = 7, event, next, number = 1, events[2];
     long long counts[32] = { -5, -5 };
     char name[PAPI_MAX_STR_LEN];
     PAPI_option_t option;
@@ -52,7 +52,9 @@ int main(void) {
     WANT(PAPI_query_event(event), PAPI_OK);
     WANT(PAPI_query_event(event + 77), PAPI_ENOEVNT);
     WANT(PAPI_query_named_event("NOPE"), PAPI_ENOEVNT);
-    WANT(PAPI_enum_event(&event, PAPI_ENUM_EVENTS), PAPI_ENOSUPP);
+    next = event;
+    WANT(PAPI_enum_event(&next, PAPI_ENUM_EVENTS), PAPI_OK);
+    WANT(PAPI_enum_event(NULL, PAPI_ENUM_EVENTS), PAPI_EINVAL);
     WANT(PAPI_list_events(set, events, &number), PAPI_OK);
     WANT(number, 1);
     WANT(PAPI_overflow(set, event, 100, 0, handler), PAPI_EINVAL);

@@ -57,16 +57,17 @@ static int given(int (*call)(kistalub *, uint32_t, int64_t *, size_t, uint32_t *
 
 static int named(kistalub *h, uint32_t code, char *rest) {
     unsigned char name[1024];
-    uint32_t length = 0;
+    uint64_t length = 0;
     int answer = kistalub_code_to_name(h, code, name, sizeof name, &length);
     if (answer == 0) sprintf(rest, " %.*s", (int)length, (char *)name);
     return answer;
 }
 
 static int listed(kistalub *h, uint32_t set, char *rest) {
-    uint32_t codes[32], count = 0;
+    uint32_t codes[32];
+    uint64_t count = 0;
     int answer = kistalub_list_events(h, set, codes, 32, &count);
-    for (uint32_t i = 0; answer == 0 && i < count; i++) {
+    for (uint64_t i = 0; answer == 0 && i < count; i++) {
         if (named(h, codes[i], rest) != 0) return -6;
         rest += strlen(rest);
     }
@@ -76,7 +77,7 @@ static int listed(kistalub *h, uint32_t set, char *rest) {
 /* Makes the call of a line; what follows the code goes into `rest`. */
 static int make(unsigned long thread, const char *call, const char *a, const char *b, const char *c, char *rest) {
     kistalub *h = &threads[thread];
-    uint32_t set = (uint32_t)strtoul(a, NULL, 10), number = (uint32_t)strtoul(b, NULL, 10), out = 0, told = 0;
+    uint32_t set = (uint32_t)strtoul(a, NULL, 10), number = (uint32_t)strtoul(b, NULL, 10), out = 0;
     const unsigned char *name = (const unsigned char *)b;
     int code = 0;
     if (!strcmp(call, "register")) { code = kistalub_register(h); if (code == 0) registered[thread] = 1; return code; }
@@ -102,9 +103,15 @@ static int make(unsigned long thread, const char *call, const char *a, const cha
     if (!strcmp(call, "events")) return listed(h, set, rest);
     if (!strcmp(call, "state")) { code = kistalub_state(h, set, &out); if (code == 0) sprintf(rest, " 0x%02x", (unsigned)out); return code; }
     if (!strcmp(call, "run")) {
-        kistalub_passing none[1];
-        code = kistalub_run(h, set, &out, none, 0, &told);
-        sprintf(rest, " %u %u", (unsigned)out, (unsigned)told);
+        kistalub_passing passings[32];
+        uint32_t consumed = 0;
+        uint64_t told = 0, all = 0;
+        do {
+            code = kistalub_run(h, set - consumed, &out, passings, 32, &told);
+            consumed += out;
+            all += told;
+        } while (code == -20);
+        sprintf(rest, " %u %llu", (unsigned)consumed, (unsigned long long)all);
         return code;
     }
     if (!strcmp(call, "code")) {

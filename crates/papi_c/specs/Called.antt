@@ -12,7 +12,7 @@ use Rattle.session_model.specs.declared.reply.Reply.{Reply}
 use Rattle.thread_core.specs.Following.{reply_of, values_reply}
 use Rattle.papi_calls.specs.Calls as Calls
 use Rattle.papi_calls.specs.Calls.{Made}
-use Rattle.papi_calls.specs.Codes.{coded}
+use Rattle.papi_calls.specs.Codes.{code_in_row, coded}
 use Rattle.papi_calls.specs.Libraries.{LibraryView}
 
 -- the call is made as the model's step has it, and its number is that of the step's code
@@ -27,7 +27,7 @@ Called None None made number = number ≡ negsuc 15
 Called (Some old) (Some new) made number = Answered old new (made old) number
 Called old new made number = ⊥
 
--- the name is no text, PAPI_EINVAL, or memory was refused, PAPI_ENOMEM
+-- the name is not a text, PAPI_EINVAL, or memory was refused, PAPI_ENOMEM
 abbrev pub IsUnmade : ℤ → Type 0
 IsUnmade number = (number ≡ negsuc 0) ⊎ (number ≡ negsuc 1)
 
@@ -58,16 +58,6 @@ Gives None None made number count out = number ≡ negsuc 15
 Gives (Some old) (Some new) made number count out = Gave old new made number count out
 Gives old new made number count out = ⊥
 
--- a run leaves the catalog and the native events that were mentioned
-pub record Went (old new : LibraryView) : Type 0 where
-  pub catalog : new.catalog ≡ old.catalog
-  pub mentioned : new.mentioned ≡ old.mentioned
-
-abbrev pub Ran : Option LibraryView → Option LibraryView → ℤ → Type 0
-Ran None None number = number ≡ negsuc 15
-Ran (Some old) (Some new) number = Went old new
-Ran old new number = ⊥
-
 -- the code of an event is asked as the model has it: the number is that of the reply's code, and the event's code is given
 pub record Coded (old new : LibraryView) (made : Asked) (number : ℤ) (out : ℕ) : Type 0 where
   pub answer : Result ℕ Code
@@ -84,3 +74,13 @@ Codes old new made number out = ⊥
 -- the same of the event that a text names, unless it is not asked
 abbrev pub CodesName : List ℕ → Option LibraryView → Option LibraryView → ℤ → ℕ → Type 0
 CodesName name old new number out = Codes old new (λ l. asked.CodeOf (looked_up l.catalog name)) number out ⊎ ((new ≡ old) × IsUnmade number)
+
+-- the code in a row of the catalog is given, PAPI_OK; past the last row nothing is, PAPI_ENOEVNT
+abbrev pub GivesCode : Option ℕ → ℤ → ℕ → ℕ → Type 0
+GivesCode (Some code) number before after = (number ≡ pos 0) × (after ≡ code)
+GivesCode None number before after = (number ≡ negsuc 6) × (after ≡ before)
+
+-- the same through a handle
+abbrev pub IsCodeInRow : Option LibraryView → ℕ → ℤ → ℕ → ℕ → Type 0
+IsCodeInRow None row number before after = (number ≡ negsuc 15) × (after ≡ before)
+IsCodeInRow (Some l) row number before after = GivesCode (code_in_row l.catalog row) number before after

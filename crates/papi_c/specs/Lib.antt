@@ -1,5 +1,9 @@
 pub mod Held
 pub mod Opened
 pub mod Called
+pub mod Placed
+pub mod Asked
+pub mod Runs
 pub use Rattle.papi_calls.specs.Libraries
 pub use Rattle.papi_calls.specs.Calls
+pub use Rattle.papi_calls.specs.Infos

@@ -1,13 +1,14 @@
-//! Events by name and by code, and the counters of the unit.
+//! Events by their codes, and the counters of the unit.
 ghost use Rattle.std.specs.Prelude.{◌≡◌};
-ghost use Rattle.papi_c.specs.Called.{CodesName};
+ghost use Rattle.papi_c.specs.Called.{CodesName, IsCodeInRow};
+ghost use Rattle.papi_c.specs.Placed.{ArePlaced, Listed, Lists, codes_of};
 
 use crate::handle::{EINVAL, ENOINIT, ENOMEM, Handle};
 use papi_base::{Code, Events, code_number};
 use papi_calls::Library;
 use std::alloc::Global;
 
-/// PAPI_event_name_to_code(3). `code` is written where the answer is PAPI_OK. PAPI_EINVAL where the name is no UTF-8, and
+/// PAPI_event_name_to_code(3). `code` is written where the answer is PAPI_OK. PAPI_EINVAL where the name is not UTF-8, and
 /// PAPI_ENOMEM; nothing is changed then.
 #[unsafe(no_mangle)]
 pub extern "C" fn kistalub_name_to_code(
@@ -36,72 +37,74 @@ pub extern "C" fn kistalub_name_to_code(
     }
 }
 
-// The bytes, as far as there is room.
-fn spell(name: &str, out: &mut [u8], length: &mut u32) {
-    let bytes = name.as_bytes();
-    for i in 0..out.len().min(bytes.len()) {
-        out[i] = bytes[i];
-    }
-    *length = u32::try_from(bytes.len()).unwrap_or(u32::MAX);
-}
-
-/// PAPI_event_code_to_name(3). The name goes into `out` as far as there is room, and `length` has its length. PAPI_ENOMEM.
-#[unsafe(no_mangle)]
-pub extern "C" fn kistalub_code_to_name(
-    alloc: Global,
-    h: &mut Handle,
-    code: u32,
-    out: &mut [u8],
-    length: &mut u32,
-) -> i32
-    ensures kept { h.new.library ≡ h.old.library }
+// The codes of events, where there is room for all.
+fn list(library: &Library, events: &Events, out: &mut [u32], count: &mut u64) -> i32
+    ensures { ArePlaced (codes_of library.now events.now) result count.new out.old out.new }
 {
-    let Some(library) = h.take(alloc) else {
-        return ENOINIT;
-    };
-    let answer = library.name_of(alloc, code);
-    *h = Handle::of(library);
-    match answer {
-        Ok(Ok(name)) => {
-            spell(name.as_str(), out, length);
-            0
-        }
-        Ok(Err(code)) => code_number(code),
-        Err(_) => ENOMEM,
+    let n = events.len() as usize;
+    *count = n as u64;
+    if n > out.len() {
+        return EINVAL;
     }
-}
-
-// The codes of events, as far as there is room.
-fn list(library: &Library, events: &Events, out: &mut [u32], count: &mut u32) {
-    let n = out.len().min(events.len() as usize);
     for i in 0..n {
         out[i] = library.code_of_event(&events.at(i as u32)).unwrap_or(0);
     }
-    *count = events.len();
+    0
 }
 
-/// PAPI_list_events(3). The codes go into `out` as far as there is room, and `count` has their number.
+// Lists a set of a library.
+fn list_set(library: &Library, set: u32, out: &mut [u32], count: &mut u64) -> i32
+    ensures listed { Listed library.now set result count.new out.old out.new }
+{
+    match library.list_events(set) {
+        Ok(events) => list(library, &events, out, count),
+        Err(code) => code_number(code),
+    }
+}
+
+/// PAPI_list_events(3). The codes go into `out`, and `count` has their number. PAPI_EINVAL where there is no room for all, and nothing is
+/// written then but their number.
 #[unsafe(no_mangle)]
 pub extern "C" fn kistalub_list_events(
     alloc: Global,
     h: &mut Handle,
     set: u32,
     out: &mut [u32],
-    count: &mut u32,
+    count: &mut u64,
 ) -> i32
+    ensures lists { Lists h.old.library set result count.new out.old out.new }
     ensures kept { h.new.library ≡ h.old.library }
 {
     let Some(library) = h.take(alloc) else {
         return ENOINIT;
     };
-    let answer = library.list_events(set);
-    if let Ok(events) = &answer {
-        list(&library, events, out, count);
-    }
+    let number = list_set(&library, set, out, count);
+    *h = Handle::of(library);
+    number
+}
+
+/// The code of the preset or user event in a row from 0, the presets first, in the order of their table. PAPI_ENOEVNT past the last.
+#[unsafe(no_mangle)]
+pub extern "C" fn kistalub_code_in_row(
+    alloc: Global,
+    h: &mut Handle,
+    row: u32,
+    code: &mut u32,
+) -> i32
+    ensures code { IsCodeInRow h.old.library row result code.old code.new }
+    ensures kept { h.new.library ≡ h.old.library }
+{
+    let Some(library) = h.take(alloc) else {
+        return ENOINIT;
+    };
+    let answer = library.code_in_row(row);
     *h = Handle::of(library);
     match answer {
-        Ok(_) => 0,
-        Err(code) => code_number(code),
+        Some(event) => {
+            *code = event;
+            0
+        }
+        None => code_number(Code::Enoevnt),
     }
 }
 

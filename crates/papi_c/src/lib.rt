@@ -9,4 +9,6 @@ mod opened;
 mod opening;
 mod parts;
 mod refusals;
+mod running;
+mod texts;
 mod values;

@@ -1,24 +1,11 @@
-//! Opening and closing, the codes of events, and runs.
+//! Opening and closing.
 ghost use Rattle.std.specs.Prelude.{◌≡◌, ◌≢◌, Option, Some, None, pos};
-ghost use Rattle.papi_c.specs.Called.{Ran};
 ghost use Rattle.papi_c.specs.Opened.{IsOpenedBy};
 ghost use Rattle.papi_calls.specs.Libraries.{LibraryView};
 
-use crate::handle::{EINVAL, ENOINIT, ENOMEM, Handle};
+use crate::handle::{EINVAL, ENOMEM, Handle};
 use crate::opening::{OpenFault, open};
-use overflow_dispatch::{Handler, Recorder};
-use papi_base::{Code, code_number};
-use session_model::Ended;
 use std::alloc::Global;
-
-/// A passed threshold, as C sees it.
-#[repr(C)]
-#[derive(Clone, Copy, Drop)]
-pub struct Passing {
-    pub set: u32,
-    pub index: u32,
-    pub address: u64,
-}
 
 /// Opens the library of a thread over a unit, presets for a cpu or none, and a stream; one that was open in the handle is
 /// closed. PAPI_EINVAL where a file is faulty, PAPI_ENOMEM; the handle is then as it was.
@@ -57,49 +44,4 @@ pub extern "C" fn kistalub_close(alloc: Global, h: &mut Handle)
     ensures { h.new.library ≡ None }
 {
     *h = Handle::shut(alloc);
-}
-
-// The notes, as far as there is room.
-fn tell(recorder: &Recorder, out: &mut [Passing], told: &mut u32) {
-    for i in 0..out.len() {
-        if let Some(note) = recorder.note_at(i as u64) {
-            out[i] = Passing {
-                set: note.set,
-                index: note.index,
-                address: note.pc,
-            };
-        }
-    }
-    *told = u32::try_from(recorder.noted()).unwrap_or(u32::MAX);
-}
-
-/// Consumes up to `n` occurrences. Thresholds that were passed go into `out` as far as there is room, and `told` has their number.
-#[unsafe(no_mangle)]
-pub extern "C" fn kistalub_run(
-    alloc: Global,
-    h: &mut Handle,
-    n: u32,
-    consumed: &mut u32,
-    out: &mut [Passing],
-    told: &mut u32,
-) -> i32
-    ensures { Ran h.old.library h.new.library result }
-{
-    let Some(mut library) = h.take(alloc) else {
-        return ENOINIT;
-    };
-    let mut recorder = Recorder::new(alloc);
-    let ran = library.run(n, &mut recorder);
-    *h = Handle::of(library);
-    tell(&recorder, out, told);
-    match ran {
-        Ok(ran) => {
-            *consumed = ran.consumed;
-            match ran.ended {
-                Ended::Going => 0,
-                Ended::Bad { .. } | Ended::Fault => code_number(Code::Esys),
-            }
-        }
-        Err(_) => ENOMEM,
-    }
 }

@@ -1,4 +1,4 @@
-//! The catalog of a unit, with the presets for a cpu or without any, from the bytes of their files.
+//! The catalog of a unit, with the presets and user events for a cpu or without any, from the bytes of their files.
 ghost use Rattle.std.specs.Prelude.{◌≡◌, IfOk, OnOk, None};
 ghost use Rattle.component_table.specs.Catalogs as Catalogs;
 ghost use Rattle.event_tables.specs.Unit.{unit_fault, unit_tables};
@@ -7,8 +7,9 @@ ghost use Rattle.papi_c.specs.Opened.{IsOpenedBy, table_of};
 use component_table::Catalog;
 use event_tables::{TableFault, Tables, read_unit};
 use papi_calls::Library;
-use preset_csv::{PresetFault, PresetTable, read_presets};
+use preset_csv::PresetFault;
 use std::alloc::{AllocError, Global};
+use user_events::{Extended, read_extended};
 
 /// Why a library is not opened: a file is faulty, or memory is refused.
 #[derive(Clone, Copy, Debug, PartialEq, Eq)]
@@ -28,15 +29,15 @@ fn tables_of(alloc: Global, unit: &[u8]) -> Result<Tables, OpenFault>
     }
 }
 
-// The presets for a cpu, and none where there is no text of them.
-fn presets_of(alloc: Global, presets: &[u8], cpu: &str) -> Result<Option<PresetTable>, OpenFault>
+// The presets and user events for a cpu, and none where there is no text of them.
+fn presets_of(alloc: Global, presets: &[u8], cpu: &str) -> Result<Option<Extended>, OpenFault>
     ensures presets { IfOk result (λ t. t ≡ table_of presets.now cpu.now) }
 {
     if presets.is_empty() {
         return Ok(None);
     }
-    match read_presets(alloc, presets, cpu) {
-        Ok(table) => Ok(Some(table)),
+    match read_extended(alloc, presets, cpu) {
+        Ok(extended) => Ok(Some(extended)),
         Err(PresetFault::Memory) => Err(OpenFault::Memory),
         Err(PresetFault::Row { .. }) => Err(OpenFault::Faulty),
     }

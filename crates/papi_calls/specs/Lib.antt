@@ -1,5 +1,6 @@
 pub mod Libraries
 pub mod Codes
+pub mod Infos
 pub mod Calls
 pub use Rattle.component_table.specs.Catalogs
 pub use Rattle.component_table.specs.EventNames

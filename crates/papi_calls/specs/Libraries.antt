@@ -9,6 +9,7 @@ use Rattle.component_table.specs.Catalogs.{CatalogView, shape_of}
 use Rattle.thread_session.specs.SessionView.{SessionView}
 use Rattle.thread_session.specs.Stands.{IsReady, Stands}
 
+-- What contracts see of an open library: the events that there are, the native events whose codes were given, and the session of its thread.
 pub record LibraryView : Type 0 where
   pub catalog : CatalogView
   pub mentioned : List Native

@@ -60,7 +60,7 @@ impl Library {
     }
 
     /// Sets the domain of a set, user 1 and kernel 2, and zeroes its counts: PAPI_set_domain(3). ENOEVST, EISRUN, EINVAL where the
-    /// bits are no domain.
+    /// bits are not a domain.
     pub fn set_domain(&mut self, set: u32, bits: u32) -> Code
         ensures made { Made self.old self.new (call.SetDomain set bits) (plain result) }
     {

@@ -1,9 +1,9 @@
 //! The codes of events, and the calls that take an event by its code.
-ghost use Rattle.std.specs.Prelude.{◌≡◌, ◌==◌, ◌<◌, IfOk, OnErr, OnOk, position, slice_get, string_bytes, unwrap_or};
+ghost use Rattle.std.specs.Prelude.{◌≡◌, IfOk, OnErr, OnOk, string_bytes};
 ghost use Rattle.component_table.specs.Catalogs.{looked_up};
 ghost use Rattle.component_table.specs.EventNames.{event_name};
 ghost use Rattle.papi_calls.specs.Calls.{Answered, Made};
-ghost use Rattle.papi_calls.specs.Codes.{IsKnown, coded, event_code, event_coded, map_ok, preset_codes};
+ghost use Rattle.papi_calls.specs.Codes.{IsKnown, code_in_row, coded, event_code, event_coded, map_ok};
 ghost use Rattle.postfix_rules.specs.Fitting.{EventFits, IsNamed};
 ghost use Rattle.event_tables.specs.Tables.{shape_of};
 ghost use Rattle.session_model.specs.Replies.{plain};
@@ -16,32 +16,8 @@ ghost use Rattle.thread_core.specs.Following.{changed_reply, reply_of};
 use crate::library::Library;
 use event_sets::Refusal;
 use papi_base::{Code, EventRef};
-use preset_table::{preset_code, preset_count};
 use session_model::Named;
 use std::alloc::{AllocError, Global};
-
-// The code in a row of the preset table, and 0 where there is no such row.
-fn code_of_preset(row: u32) -> u32
-    ensures { result ≡ unwrap_or (slice_get preset_codes row) 0 }
-{
-    if row < preset_count() {
-        preset_code(row)
-    } else {
-        0
-    }
-}
-
-// The row of the preset with a code.
-fn preset_of_code(code: u32) -> Option<u32>
-    ensures { result ≡ position (λ x. x == code) preset_codes }
-{
-    for row in 0..preset_count() {
-        if preset_code(row) == code {
-            return Some(row);
-        }
-    }
-    None
-}
 
 impl Library {
     /// The code of the event that a text names: PAPI_event_name_to_code(3). A native event is mentioned, and has the code of its
@@ -49,25 +25,26 @@ impl Library {
     ///
     /// An `Err` comes as of a call by name; nothing is changed then.
     pub fn code_of(&mut self, name: &str) -> Result<Result<u32, Code>, AllocError>
-        ensures answered { IfOk result (λ code. Answered self.old self.new (asked.CodeOf (looked_up self.old.catalog name.now)) (reply_of (λ n. body.EventCode n) code)) }
+        ensures answered { IfOk result (λ code.
+            Answered self.old self.new (asked.CodeOf (looked_up self.old.catalog name.now)) (reply_of (λ n. body.EventCode n) code)) }
         ensures unchanged { OnErr result (self.new ≡ self.old) }
     {
         match self.catalog.lookup(name) {
             Ok(EventRef::Native(native)) => Ok(Ok(self.mention(native)?)),
-            Ok(EventRef::Preset(row)) => Ok(Ok(code_of_preset(row))),
+            Ok(EventRef::Preset(row)) => Ok(Ok(self.catalog.code_at(row))),
             Err(code) => Ok(Err(code)),
         }
     }
 
-    /// The event of a code: a row of the preset table, or a native event that was mentioned: PAPI_event_code_to_name(3). ENOEVNT
-    /// for any other code.
+    /// The event of a code: a preset, a user event, or a native event that was mentioned: PAPI_event_code_to_name(3). ENOEVNT for any
+    /// other code.
     pub fn event_of(&self, code: u32) -> Result<EventRef, Code>
         ensures answered { Answered self.now self.now (asked.NameOf code) (reply_of (λ e. body.EventName e) result) }
-        ensures event { result ≡ event_coded self.now.mentioned code }
+        ensures event { result ≡ event_coded self.now.catalog self.now.mentioned code }
         ensures known { IfOk result (IsKnown self.now.mentioned) }
         ensures fits { IfOk result (EventFits (shape_of self.now.catalog.tables)) }
     {
-        if let Some(row) = preset_of_code(code) {
+        if let Some(row) = self.catalog.row_of_code(code) {
             return Ok(EventRef::Preset(row));
         }
         match self.codes.native_of(code, self.codes.count()) {
@@ -78,17 +55,30 @@ impl Library {
 
     /// The code of an event, as `code_of` gives it, and `None` for a native event that was not mentioned.
     pub fn code_of_event(&self, event: &EventRef) -> Option<u32>
-        ensures code { result ≡ event_code self.now.mentioned event.now }
+        ensures code { result ≡ event_code self.now.catalog self.now.mentioned event.now }
     {
         match event {
-            EventRef::Preset(row) => Some(code_of_preset(*row)),
+            EventRef::Preset(row) => Some(self.catalog.code_at(*row)),
             EventRef::Native(native) => self.codes.code_of(native),
+        }
+    }
+
+    /// The code of the preset or user event in a row, from 0, and `None` past the last: PAPI_enum_event(3). The presets come first, in the
+    /// order of the preset table.
+    pub fn code_in_row(&self, row: u32) -> Option<u32>
+        ensures code { result ≡ code_in_row self.now.catalog row }
+    {
+        if row < self.catalog.rows() {
+            Some(self.catalog.code(row))
+        } else {
+            None
         }
     }
 
     /// The name of the event of a code, a symbol or a canonical name: PAPI_event_code_to_name(3). The `Err` is that memory ran out.
     pub fn name_of(&self, alloc: Global, code: u32) -> Result<Result<String, Code>, AllocError>
-        ensures name { IfOk result (λ name. map_ok string_bytes name ≡ map_ok (event_name self.now.catalog) (event_coded self.now.mentioned code)) }
+        ensures name { IfOk result (λ name.
+            map_ok string_bytes name ≡ map_ok (event_name self.now.catalog) (event_coded self.now.catalog self.now.mentioned code)) }
     {
         match self.event_of(code) {
             Ok(event) => Ok(Ok(self.catalog.event_name(alloc, &event)?)),

@@ -4,8 +4,11 @@
 
 mod calls;
 mod coded;
+mod infos;
 pub mod library;
 mod named;
 mod running;
 
+pub use infos::InfoPart;
 pub use library::Library;
+pub use thread_session::Filled;

@@ -1,4 +1,4 @@
--- A call that is no run leaves the stream alone, and notes nothing.
+-- A call that is not a run leaves the stream alone, and notes nothing.
 use Rattle.std.proofs.Common.{◌≡◌, ℕ, false, List, [], ◌++◌, refl, ap, sym, subst, ◌∙◌, ap₂, arith, append-nil, Option, Some, None}
 use Rattle.std.specs.Option.{option_map}
 use Rattle.papi_base.specs.declared.occurrence.Occ.{Occ}
@@ -39,19 +39,6 @@ shown_sound f sound (Some x) sets k e = rw e (sound x)
 
 performed_quiet : (book : Book) (shape : Widths) (a : Account) (made : Call) → is_run made ≡ false → IsQuiet a (performed book shape a made).account (performed book shape a made).reply (performed book shape a made).notes
 performed_quiet book shape a (call.Run n) e = absurd cc
-performed_quiet book shape a call.Register e = record { rest = refl; mark = refl; none = refl; sound = λ x. x }
-performed_quiet book shape a call.Unregister e = record { rest = refl; mark = refl; none = refl; sound = λ x. x }
-performed_quiet book shape a call.Create e = record { rest = refl; mark = refl; none = refl; sound = λ x. x }
-performed_quiet book shape a (call.Destroy k) e = record { rest = refl; mark = refl; none = refl; sound = λ x. x }
-performed_quiet book shape a (call.Cleanup k) e = record { rest = refl; mark = refl; none = refl; sound = λ x. x }
-performed_quiet book shape a (call.Add k x) e = record { rest = refl; mark = refl; none = refl; sound = λ x. x }
-performed_quiet book shape a (call.Remove k x) e = record { rest = refl; mark = refl; none = refl; sound = λ x. x }
-performed_quiet book shape a (call.AssignComponent k x) e = record { rest = refl; mark = refl; none = refl; sound = λ x. x }
-performed_quiet book shape a (call.SetDomain k x) e = record { rest = refl; mark = refl; none = refl; sound = λ x. x }
-performed_quiet book shape a (call.SetMultiplex k x) e = record { rest = refl; mark = refl; none = refl; sound = λ x. x }
-performed_quiet book shape a (call.Overflow k x t) e = record { rest = refl; mark = refl; none = refl; sound = λ x. x }
-performed_quiet book shape a (call.Start k) e = record { rest = refl; mark = refl; none = refl; sound = λ x. x }
-performed_quiet book shape a (call.Reset k) e = record { rest = refl; mark = refl; none = refl; sound = λ x. x }
 performed_quiet book shape a (call.Stop k) e = record { rest = refl; mark = refl; none = refl; sound = shown_sound _ (λ s x. x) _ a.sets k refl }
 performed_quiet book shape a (call.Read k) e = record { rest = refl; mark = refl; none = refl; sound = shown_sound _ (λ s x. x) _ a.sets k refl }
 performed_quiet book shape a (call.Accum k) e = record { rest = refl; mark = refl; none = refl; sound = shown_sound _ (λ s x. x) _ a.sets k refl }
@@ -59,6 +46,7 @@ performed_quiet book shape a (call.State k) e = record { rest = refl; mark = ref
 performed_quiet book shape a (call.ListEvents k) e = record { rest = refl; mark = refl; none = refl; sound = shown_sound _ (λ s x. x) _ a.sets k refl }
 performed_quiet book shape a (call.Assign k) e = record { rest = refl; mark = refl; none = refl; sound = shown_sound _ (λ s x. x) _ a.sets k refl }
 performed_quiet book shape a (call.Raw k c) e = record { rest = refl; mark = refl; none = refl; sound = shown_sound _ (λ s x. x) _ a.sets k refl }
+performed_quiet book shape a made e = record { rest = refl; mark = refl; none = refl; sound = λ x. x }
 
 refused_sound : (r : Refusal) → IsFault (refused r) → ⊥
 refused_sound (Plain c) x = x

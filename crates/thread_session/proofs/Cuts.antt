@@ -46,7 +46,7 @@ cut_at book old core core_then reader reader_then before after after_then k coun
           (g.later, g.rest ∙ append_assoc r.os (o ∷ []) g.later, g.left);
     }
 
--- a proper prefix of the middle, behind the first part, is one of the whole
+-- a proper prefix of the middle, after the first part, is one of the whole
 part_of : (before first middle last after : List Note) → PartAdded (before ++ first) middle after → PartAdded before (first ++ (middle ++ last)) after
 part_of before first middle last after (m, less, e) = (
   length first + m,
@@ -55,7 +55,7 @@ part_of before first middle last after (m, less, e) = (
       ∙ ap (λ (xs : List Note). before ++ xs) (ap (λ (xs : List Note). first ++ xs) (sym (take-append-le m middle last (omega (arith, less)))) ∙ sym (take-append-add first (middle ++ last) m)),
 )
 
--- the first of these, one more, and some of those behind
+-- the first of these, one more, and some of those after it
 take_past : (earlier later : List Occ) (o : Occ) (k : ℕ) → length earlier < k → take k (earlier ++ o ∷ later) ≡ earlier ++ (o ∷ [] ++ take (k - (length earlier + 1)) later)
 take_past earlier later o k less =
     let j : ℕ = k - (length earlier + 1) in

@@ -37,6 +37,7 @@ core_at book core a rest mark h = record {
   apart = h.apart;
   fit = h.fit;
   shape = h.shape;
+  in_limits = h.in_limits;
 }
 
 -- what was to come, and what comes later: where it is told, it is this

@@ -51,7 +51,7 @@ one_more book shape s then made reply left later replies before after after_then
       added = told ∙ ap (λ (xs : List Note). xs ++ notes) way.added ∙ append_assoc before way.so_far notes;
     }
 
--- the same items in front
+-- lists with the same items before them are equal where the whole lists are
 cancel : (before xs ys : List Note) → before ++ xs ≡ before ++ ys → xs ≡ ys
 cancel [] xs ys e = e
 cancel (b ∷ before) xs ys e = cancel before xs ys (let h : b ∷ (before ++ xs) ≡ b ∷ (before ++ ys) = e in cc)

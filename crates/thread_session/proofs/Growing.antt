@@ -1,7 +1,7 @@
 -- Told or not, notes are appended to what a handler was told, and none is taken back.
-use Rattle.std.proofs.Common.{◌≡◌, ℕ, List, [], ◌++◌, Result, Ok, Err, ap, sym, ◌∙◌, append_assoc, append-nil, take}
+use Rattle.std.proofs.Common.{ℕ, List, [], ◌++◌, Result, Ok, Err, ap, sym, ◌∙◌, append_assoc, append-nil, take}
 use Rattle.std.specs.Prelude.{IfOk, OnErr}
-use Rattle.overflow_dispatch.specs.Notes.{Grown, PartAdded}
+use Rattle.overflow_dispatch.specs.Notes.{Grown}
 use Rattle.overflow_dispatch.specs.declared.handler.Note.{Note}
 use Rattle.postfix_rules.specs.Presets.{Book}
 use Rattle.session_model.specs.declared.call.Call.{Call}

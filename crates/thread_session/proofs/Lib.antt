@@ -6,6 +6,7 @@ pub mod Cuts
 pub mod Failing
 pub mod Results
 pub mod Delivering
+pub mod Rooms
 pub mod Calling
 pub mod Opened
 pub mod Folding

@@ -25,6 +25,7 @@ FaultsRose (Some old) (Some new) = Rose old new
 FaultsRose (Some old) None = ⊥
 FaultsRose None new = ⊥
 
+-- a run that ended where the source of its stream failed
 abbrev pub IsFaultBody : Body → Type 0
 IsFaultBody (body.Ran ran) = ran.ended ≡ Fault
 IsFaultBody b = ⊥

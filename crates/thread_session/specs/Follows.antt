@@ -63,7 +63,7 @@ abbrev pub IsCutIn : Book → SessionView → SessionView → Call → List Note
 IsCutIn book old new (call.Run n) before after = IsCut book old new n before after
 IsCutIn book old new made before after = ⊥
 
--- A call that is no run does and replies what the step does, and leaves the reader.
+-- A call that is not a run does and replies what the step does, and leaves the reader.
 pub record Does (book : Book) (old new : SessionView) (made : Call) (answer : Reply) : Type 0 where
   pub kept : Follows book old.core new.core made answer
   pub reader : new.reader ≡ old.reader

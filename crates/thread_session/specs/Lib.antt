@@ -3,6 +3,7 @@ pub mod Faults
 pub mod Stands
 pub mod Follows
 pub mod Folds
+pub mod Room
 pub use Rattle.event_sets.specs.Agreement
 pub use Rattle.overflow_dispatch.specs.Notes
 pub use Rattle.papi_base.specs.Streams

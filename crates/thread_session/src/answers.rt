@@ -153,7 +153,7 @@ fn accum(core: &mut Core, book: &PresetBook, set: u32) -> Reply
     values_reply(code, values)
 }
 
-/// Makes a call that is no run.
+/// Makes a call that is not a run.
 pub(crate) fn make(core: &mut Core, book: &PresetBook, c: &Call) -> Reply
     requires agrees { AgreesWith book.now core.old }
     requires good { IsGood book.now core.old.shape c.now }

@@ -94,7 +94,7 @@ impl<S: Source> Session<S> {
     }
 
     /// Sets the domain of a set, and zeroes its counts: PAPI_set_domain(3). ENOEVST where there is no such set, EISRUN where it runs,
-    /// EINVAL where the bits are no domain.
+    /// EINVAL where the bits are not a domain.
     pub fn set_domain(&mut self, book: &PresetBook, set: u32, bits: u32) -> Code
         requires ready { IsReady book.now self.old }
         ensures { Does book.now self.old self.new (call.SetDomain set bits) (plain result) }
@@ -202,7 +202,7 @@ impl<S: Source> Session<S> {
         self.core.raw(book, set, c)
     }
 
-    // A call that is no run.
+    // A call that is not a run.
     fn make(&mut self, book: &PresetBook, c: &Call) -> Reply
         requires ready { IsReady book.now self.old }
         requires good { IsGood book.now self.old.core.shape c.now }

@@ -4,10 +4,12 @@
 mod answers;
 mod calls;
 mod delivery;
+mod filling;
 mod running;
 pub mod session;
 mod several;
 
+pub use filling::{Filled, MOST_PASSED};
 pub use session::Session;
 pub use session_model::{Assigned, Body, Call, Ended, Named, Ran, Reply};
 pub use thread_core::{Core, Taken};

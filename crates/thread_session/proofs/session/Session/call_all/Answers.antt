@@ -1,5 +1,8 @@
-use Rattle.std.proofs.Common.{drop, get_or, ◌∙◌, ◌+◌}
-use Rattle.std.proofs.lemmas.List.{drop_more}
+use Rattle.std.proofs.Common.{drop, get_or, ◌≡◌, ◌∙◌, ◌+◌, [], ap, arith, subst, sym}
+use Rattle.std.proofs.lemmas.List.{drop_all, drop_more}
+use Rattle.session_model.specs.Account.{Account}
+use Rattle.session_model.specs.Step.{account_after}
+use Rattle.thread_session.specs.Stands.{Stands}
 use Rattle.session_model.specs.declared.call.Call.TheVariants.{Register}
 use Rattle.thread_session.proofs.Folding.{begun, begun_in, one_more}
 use Rattle.thread_session.proofs.Growing.{grown_more}
@@ -44,3 +47,9 @@ returns-in_err-push-clause-begun g c a h =
 
 pub returns-clause-begun : goal.returns-clause-begun
 returns-clause-begun g c a h = begun _ _ _ _ _ _ _ a c.args.calls.now (c.loop-c.invariant.way a h)
+
+pub returns-clause-stands : goal.returns-clause-stands
+returns-clause-stands g c a h =
+    let way = c.loop-c.invariant.way a h in
+    let none : drop c.loop-c.c-index c.args.calls.now ≡ [] = drop_all c.loop-c.c-index c.args.calls.now (omega (arith, c.loop-c-test.false)) in
+    subst (λ (b : Account). Stands c.args.book.now c.loop-c.self b) (sym (ap (account_after c.args.book.now c.args.self.now.core.shape way.here) none) ∙ way.account) way.stands

@@ -1,0 +1,49 @@
+-- Runs from C: PAPI_overflow(3).
+use Rattle.std.specs.Prelude.{ℕ, ℤ, ◌≡◌, ◌<◌, ◌+◌, ◌⊎◌, Bool, true, if◌then◌else◌, List, [], drop, length, map, negsuc, take}
+use Rattle.std.specs.Prelude.{Option, Some, None}
+use Rattle.overflow_dispatch.specs.declared.handler.Note.{Note}
+use Rattle.papi_base.specs.Codes.{number_of}
+use Rattle.papi_c.specs.Placed.{IsRefused}
+use Rattle.papi_c.specs.declared.running.Passing.{Passing}
+use Rattle.papi_calls.specs.Libraries.{LibraryView}
+use Rattle.session_model.specs.declared.call.Call.TheVariants as call
+use Rattle.session_model.specs.declared.reply.Ended.{Ended}
+use Rattle.session_model.specs.Step.{code_of}
+use Rattle.thread_session.specs.Follows.{FollowsAs, run_reply}
+
+-- a note, as C sees it
+abbrev pub passing_of : Note → Passing
+passing_of note = record { set = note.set; index = note.index; address = note.pc }
+
+-- PAPI_EBUF where the run stopped early, else the code of its end
+abbrev pub run_number : Bool → Ended → ℤ
+run_number full ended = if full then negsuc 19 else number_of (code_of ended)
+
+-- The run does and tells what the model's run of n occurrences does, or where it stopped early what the model's run of those does that were
+-- consumed. Its notes stand at the first places, each of them, and what is past them stays. It stops early only before an occurrence that
+-- might have needed more room than was left.
+pub record Went (old new : LibraryView) (n : ℕ) (answer : ℤ) (consumed told : ℕ) (before after : List Passing) : Type 0 where
+  pub full : Bool
+  pub ended : Ended
+  pub notes : List Note
+  pub follows : FollowsAs old.catalog.book old.session new.session
+      (call.Run (if full then consumed else n)) (run_reply (record { consumed = consumed; notes = told; ended = ended })) [] notes
+  pub number : answer ≡ run_number full ended
+  pub counted : told ≡ length notes
+  pub written : take told after ≡ map passing_of notes
+  pub rest : drop told after ≡ drop told before
+  pub room : full ≡ true → length before < told + 32
+  pub early : full ≡ true → consumed < n
+  pub catalog : new.catalog ≡ old.catalog
+  pub mentioned : new.mentioned ≡ old.mentioned
+
+-- nothing happens, since memory is refused
+pub record IsHeld (old new : LibraryView) (number : ℤ) (before after : List Passing) : Type 0 where
+  pub same : new ≡ old
+  pub refused : IsRefused (negsuc 1) number before after
+
+-- the same through a handle
+abbrev pub Runs : Option LibraryView → Option LibraryView → ℕ → ℤ → ℕ → ℕ → List Passing → List Passing → Type 0
+Runs None None n number consumed told before after = IsRefused (negsuc 15) number before after
+Runs (Some old) (Some new) n number consumed told before after = Went old new n number consumed told before after ⊎ IsHeld old new number before after
+Runs old new n number consumed told before after = ⊥

@@ -1,0 +1,109 @@
+//! Runs.
+ghost use Rattle.std.specs.Prelude.{◌≡◌, ◌⊎◌, ◌≤◌, drop, length, map, take};
+ghost use Rattle.papi_c.specs.Runs.{IsHeld, Runs, Went, passing_of, run_number};
+ghost use Rattle.session_model.specs.Step.{code_of};
+
+use crate::handle::{ENOINIT, ENOMEM, Handle};
+use overflow_dispatch::Note;
+use papi_base::{Code, code_number};
+use papi_calls::{Filled, Library};
+use session_model::Ended;
+use std::alloc::Global;
+
+/// No room is left in an array: PAPI_EBUF.
+const EBUF: i32 = -20;
+
+/// A passed threshold, as C sees it.
+#[repr(C)]
+#[derive(Clone, Copy, Drop)]
+pub struct Passing {
+    pub set: u32,
+    pub index: u32,
+    pub address: u64,
+}
+
+// The first notes, one after another.
+fn tell(notes: &[Note], count: usize, out: &mut [Passing])
+    requires notes { count ≤ length notes.now }
+    requires room { count ≤ length out.old }
+    ensures written { take count out.new ≡ map passing_of (take count notes.now) }
+    ensures rest { drop count out.new ≡ drop count out.old }
+{
+    for i in 0..count {
+        let note = notes[i];
+        out[i] = Passing {
+            set: note.set,
+            index: note.index,
+            address: note.pc,
+        };
+    }
+}
+
+fn end_code(ended: Ended) -> Code
+    ensures { result ≡ code_of ended }
+{
+    match ended {
+        Ended::Going => Code::Ok,
+        Ended::Bad { .. } | Ended::Fault => Code::Esys,
+    }
+}
+
+// What a run answers.
+fn number_of(filled: Filled) -> i32
+    ensures { result ≡ run_number filled.full filled.ran.ended }
+{
+    if filled.full {
+        EBUF
+    } else {
+        code_number(end_code(filled.ran.ended))
+    }
+}
+
+// Runs a library into an array.
+fn run(
+    alloc: Global,
+    library: &mut Library,
+    n: u32,
+    consumed: &mut u32,
+    out: &mut [Passing],
+    told: &mut u64,
+) -> i32
+    ensures went { Went library.old library.new n result consumed.new told.new out.old out.new ⊎ IsHeld library.old library.new result out.old out.new }
+{
+    let blank = Note {
+        thread: 0,
+        set: 0,
+        index: 0,
+        pc: 0,
+    };
+    let Ok(mut notes) = vec![in alloc; blank; out.len()] else {
+        return ENOMEM;
+    };
+    let filled = library.run_into(n, notes.as_mut_slice());
+    tell(notes.as_slice(), filled.ran.notes as usize, out);
+    *consumed = filled.ran.consumed;
+    *told = filled.ran.notes;
+    number_of(filled)
+}
+
+/// Consumes up to `n` occurrences, and says how many. The thresholds that were passed go into `out`, and `told` has their number. Where
+/// fewer than 32 have room it stops before the next occurrence: PAPI_EBUF, and a further call goes on. PAPI_ESYS where the stream is
+/// faulty. PAPI_ENOMEM; nothing happens then.
+#[unsafe(no_mangle)]
+pub extern "C" fn kistalub_run(
+    alloc: Global,
+    h: &mut Handle,
+    n: u32,
+    consumed: &mut u32,
+    out: &mut [Passing],
+    told: &mut u64,
+) -> i32
+    ensures { Runs h.old.library h.new.library n result consumed.new told.new out.old out.new }
+{
+    let Some(mut library) = h.take(alloc) else {
+        return ENOINIT;
+    };
+    let number = run(alloc, &mut library, n, consumed, out, told);
+    *h = Handle::of(library);
+    number
+}

@@ -1,0 +1,148 @@
+//! The calls that give texts.
+ghost use Rattle.std.specs.Prelude.{◌≡◌, IfOk, OnErr, negsuc, string_bytes};
+ghost use Rattle.component_table.specs.EventNames.{event_name};
+ghost use Rattle.papi_c.specs.Asked.{info_asked, native_asked, part_numbered};
+ghost use Rattle.papi_c.specs.Placed.{ArePlaced, IsAnswered, IsRefused, Spells};
+ghost use Rattle.papi_calls.specs.Codes.{event_coded, map_ok};
+
+use crate::handle::{EINVAL, ENOINIT, ENOMEM, Handle};
+use papi_base::{Code, code_number};
+use papi_calls::{InfoPart, Library};
+use std::alloc::{AllocError, Global};
+
+// The bytes of a text, where there is room for all.
+fn spell(text: &str, out: &mut [u8], length: &mut u64) -> i32
+    ensures { ArePlaced text.now result length.new out.old out.new }
+{
+    let bytes = text.as_bytes();
+    *length = bytes.len() as u64;
+    if bytes.len() > out.len() {
+        return EINVAL;
+    }
+    for i in 0..bytes.len() {
+        out[i] = bytes[i];
+    }
+    0
+}
+
+// A text, or the code that refuses it.
+fn give(answer: Result<Result<String, Code>, AllocError>, out: &mut [u8], length: &mut u64) -> i32
+    ensures given { IfOk answer (λ text. IsAnswered (map_ok string_bytes text) result length.new out.old out.new) }
+    ensures refused { OnErr answer (IsRefused (negsuc 1) result out.old out.new) }
+{
+    match answer {
+        Ok(Ok(text)) => spell(text.as_str(), out, length),
+        Ok(Err(code)) => code_number(code),
+        Err(_) => ENOMEM,
+    }
+}
+
+/// PAPI_event_code_to_name(3). The name goes into `out`, and `length` has its length. PAPI_EINVAL where there is no room for it, and
+/// nothing is written then but its length, here and below. PAPI_ENOMEM.
+#[unsafe(no_mangle)]
+pub extern "C" fn kistalub_code_to_name(
+    alloc: Global,
+    h: &mut Handle,
+    code: u32,
+    out: &mut [u8],
+    length: &mut u64,
+) -> i32
+    ensures spells { Spells h.old.library (λ l. map_ok (event_name l.catalog) (event_coded l.catalog l.mentioned code)) result length.new out.old out.new }
+    ensures kept { h.new.library ≡ h.old.library }
+{
+    let Some(library) = h.take(alloc) else {
+        return ENOINIT;
+    };
+    let answer = library.name_of(alloc, code);
+    *h = Handle::of(library);
+    give(answer, out, length)
+}
+
+// The part of a number.
+fn part_of(number: u32, place: u32) -> Option<InfoPart>
+    ensures { result ≡ part_numbered number place }
+{
+    match number {
+        0 => Some(InfoPart::Name),
+        1 => Some(InfoPart::Description),
+        2 => Some(InfoPart::DerivedType),
+        3 => Some(InfoPart::Formula),
+        4 => Some(InfoPart::Native(place)),
+        _ => None,
+    }
+}
+
+// A part of what is told of the event of a code.
+fn info_text(
+    alloc: Global,
+    library: &Library,
+    code: u32,
+    part: Option<InfoPart>,
+) -> Result<Result<String, Code>, AllocError>
+    ensures { IfOk result (λ text. map_ok string_bytes text ≡ info_asked code part library.now) }
+{
+    match part {
+        Some(part) => library.info(alloc, code, part),
+        None => Ok(Err(Code::Einval)),
+    }
+}
+
+/// A part of what PAPI_get_event_info(3) tells of the event of a code: 0 the name, 1 the description, 2 the derived type, 3 the formula, 4
+/// the native event in this place from 0. The text is empty where there is no such part, and PAPI_EINVAL where none has the number.
+#[unsafe(no_mangle)]
+pub extern "C" fn kistalub_info(
+    alloc: Global,
+    h: &mut Handle,
+    code: u32,
+    number: u32,
+    place: u32,
+    out: &mut [u8],
+    length: &mut u64,
+) -> i32
+    ensures spells { Spells h.old.library (info_asked code (part_numbered number place)) result length.new out.old out.new }
+    ensures kept { h.new.library ≡ h.old.library }
+{
+    let Some(library) = h.take(alloc) else {
+        return ENOINIT;
+    };
+    let answer = info_text(alloc, &library, code, part_of(number, place));
+    *h = Handle::of(library);
+    give(answer, out, length)
+}
+
+// The name in a row of a component's native events.
+fn native_text(
+    alloc: Global,
+    library: &Library,
+    comp: u32,
+    row: u32,
+) -> Result<Result<String, Code>, AllocError>
+    ensures { IfOk result (λ text. map_ok string_bytes text ≡ native_asked comp row library.now) }
+{
+    match library.native_name(alloc, comp, row)? {
+        Some(name) => Ok(Ok(name)),
+        None => Ok(Err(Code::Enoevnt)),
+    }
+}
+
+/// The name `PMU::EVENT` of the native event in a row of a component, both from 0, as papi_native_avail lists them. PAPI_ENOEVNT where there
+/// is no such row.
+#[unsafe(no_mangle)]
+pub extern "C" fn kistalub_native_name(
+    alloc: Global,
+    h: &mut Handle,
+    comp: u32,
+    row: u32,
+    out: &mut [u8],
+    length: &mut u64,
+) -> i32
+    ensures spells { Spells h.old.library (native_asked comp row) result length.new out.old out.new }
+    ensures kept { h.new.library ≡ h.old.library }
+{
+    let Some(library) = h.take(alloc) else {
+        return ENOINIT;
+    };
+    let answer = native_text(alloc, &library, comp, row);
+    *h = Handle::of(library);
+    give(answer, out, length)
+}

@@ -1,0 +1,168 @@
+/* Each allocation of a program that makes PAPI's calls is refused in turn: that call answers PAPI_ENOMEM, the same call then answers as it does
+ * with ample memory, and after PAPI_shutdown nothing is left. Linked with --wrap=malloc, --wrap=calloc, --wrap=realloc and --wrap=free. */
+#include "papi.h"
+#include "wanted.h"
+#include <pthread.h>
+#include <string.h>
+
+void *__real_malloc(size_t n);
+void *__real_calloc(size_t n, size_t size);
+void *__real_realloc(void *p, size_t n);
+void __real_free(void *p);
+
+static long left = -1, live, refusals;
+
+static int refused(void) {
+    if (left < 0 || left-- != 0) return 0;
+    refusals++;
+    return 1;
+}
+
+static void *counted(void *p) {
+    if (p) live++;
+    return p;
+}
+
+void *__wrap_malloc(size_t n) { return refused() ? NULL : counted(__real_malloc(n)); }
+void *__wrap_calloc(size_t n, size_t size) { return refused() ? NULL : counted(__real_calloc(n, size)); }
+
+void *__wrap_realloc(void *p, size_t n) {
+    if (!p) return __wrap_malloc(n);
+    return refused() ? NULL : __real_realloc(p, n);
+}
+
+void __wrap_free(void *p) {
+    if (p) live--;
+    __real_free(p);
+}
+
+/* Makes a call, and once more where an allocation was refused in it. */
+#define MADE(call, wanted) do { \
+    long before_ = refusals, answer_ = (call); \
+    if (refusals != before_) { WANT(answer_, PAPI_ENOMEM); answer_ = (call); } \
+    WANT(answer_, wanted); \
+} while (0)
+
+static int told;
+
+static void handler(int set, void *address, long long vector, void *context) {
+    (void)set; (void)address; (void)vector; (void)context;
+    told++;
+}
+
+static unsigned long own_id(void) { return (unsigned long)pthread_self(); }
+
+/* So many occurrences happen, those of a call that was refused memory among them. */
+static void go(uint32_t n) {
+    uint32_t went;
+    for (; n > 0; n -= went) {
+        long before = refusals, answer = kistalub_go(n, &went);
+        WANT(answer, refusals != before ? PAPI_ENOMEM : PAPI_OK);
+        if (answer == PAPI_OK) WANT(went, n);
+    }
+}
+
+static void *in_a_thread(void *unused) {
+    int set = PAPI_NULL;
+    long long count;
+    MADE(PAPI_register_thread(), PAPI_OK);
+    MADE(PAPI_create_eventset(&set), PAPI_OK);
+    MADE(PAPI_add_named_event(set, "PAPI_TOT_INS"), PAPI_OK);
+    MADE(PAPI_start(set), PAPI_OK);
+    go(8);
+    MADE(PAPI_stop(set, &count), PAPI_OK);
+    WANT(count, 2040);
+    MADE(PAPI_unregister_thread(), PAPI_OK);
+    return unused;
+}
+
+static void events(void) {
+    int event = PAPI_PRESET_MASK, own;
+    static PAPI_event_info_t info;
+    char name[PAPI_MAX_STR_LEN];
+    MADE(PAPI_enum_event(&event, PAPI_ENUM_FIRST), PAPI_OK);
+    WANT(event, PAPI_L1_DCM);
+    MADE(PAPI_enum_event(&event, PAPI_PRESET_ENUM_AVAIL), PAPI_OK);
+    WANT(event, PAPI_TOT_INS);
+    MADE(PAPI_enum_event(&event, PAPI_PRESET_ENUM_AVAIL), PAPI_OK);
+    MADE(PAPI_event_name_to_code("STALL2", &own), PAPI_OK);
+    WANT(event, own);
+    MADE(PAPI_get_event_info(own, &info), PAPI_OK);
+    WANT(strcmp(info.derived, "DERIVED_POSTFIX"), 0);
+    WANT(strcmp(info.postfix, "N0|N1|-|2|*|"), 0);
+    WANT(info.count, 2);
+    WANT(strcmp(info.name[1], "lab::INST_RETIRED"), 0);
+    MADE(PAPI_enum_event(&event, PAPI_PRESET_ENUM_AVAIL), PAPI_ENOEVNT);
+    event = PAPI_NATIVE_MASK;
+    MADE(PAPI_enum_event(&event, PAPI_ENUM_FIRST), PAPI_OK);
+    MADE(PAPI_enum_event(&event, PAPI_ENUM_EVENTS), PAPI_OK);
+    MADE(PAPI_event_code_to_name(event, name), PAPI_OK);
+    WANT(strcmp(name, "lab::CYCLES"), 0);
+    MADE(PAPI_query_named_event("MISSES"), PAPI_ENOEVNT);
+    MADE(PAPI_num_components(), 2);
+}
+
+static void life(void) {
+    int set = PAPI_NULL, other = PAPI_NULL, event, status, listed[2], number = 2;
+    long long counts[2], sums[2] = { 1, 1 };
+    unsigned buckets[2] = { 0, 0 };
+    pthread_t thread;
+    PAPI_option_t option;
+    MADE(PAPI_library_init(PAPI_VER_CURRENT), PAPI_VER_CURRENT);
+    MADE(PAPI_thread_init(own_id), PAPI_OK);
+    events();
+    MADE(PAPI_create_eventset(&set), PAPI_OK);
+    MADE(PAPI_set_domain(PAPI_DOM_ALL), PAPI_OK);
+    MADE(PAPI_create_eventset(&other), PAPI_OK);
+    MADE(PAPI_add_named_event(set, "INST_RETIRED"), PAPI_OK);
+    MADE(PAPI_add_named_event(set, "INST_RETIRED"), PAPI_EINVAL);
+    MADE(PAPI_add_named_event(set, "STALL2"), PAPI_OK);
+    MADE(PAPI_add_named_event(other, "BR_INST"), PAPI_OK);
+    MADE(PAPI_add_named_event(other, "BR_MISP"), PAPI_ECNFLCT);
+    MADE(PAPI_event_name_to_code("INST_RETIRED", &event), PAPI_OK);
+    MADE(PAPI_overflow(set, event, 1000, 0, handler), PAPI_OK);
+    MADE(PAPI_start(set), PAPI_OK);
+    MADE(PAPI_start(other), PAPI_EISRUN);
+    told = 0;
+    go(4);
+    MADE(PAPI_accum(set, sums), PAPI_OK);
+    WANT(sums[0], 1021);
+    WANT(sums[1], 1 - 2040);
+    go(4);
+    MADE(PAPI_read(set, counts), PAPI_OK);
+    WANT(counts[0], 1020);
+    MADE(PAPI_state(set, &status), PAPI_OK);
+    WANT(status, PAPI_RUNNING | PAPI_OVERFLOWING);
+    MADE(PAPI_stop(set, counts), PAPI_OK);
+    WANT(counts[1], -2040);
+    WANT(told, 2);
+    MADE(PAPI_profil(buckets, sizeof buckets, 0, 2, set, event, 256, PAPI_PROFIL_BUCKET_32), PAPI_OK);
+    MADE(PAPI_list_events(set, listed, &number), PAPI_OK);
+    WANT(listed[0], event);
+    option.multiplex.eventset = other;
+    option.multiplex.ns = 2;
+    MADE(PAPI_set_opt(PAPI_MULTIPLEX, &option), PAPI_OK);
+    MADE(PAPI_add_named_event(other, "BR_MISP"), PAPI_OK);
+    MADE(PAPI_start(other), PAPI_OK);
+    MADE(PAPI_stop(other, counts), PAPI_OK);
+    MADE(PAPI_remove_event(set, event), PAPI_OK);
+    MADE(PAPI_num_events(set), 1);
+    MADE(PAPI_cleanup_eventset(set), PAPI_OK);
+    MADE(PAPI_destroy_eventset(&set), PAPI_OK);
+    WANT(pthread_create(&thread, NULL, in_a_thread, NULL), 0);
+    WANT(pthread_join(thread, NULL), 0);
+    PAPI_shutdown();
+}
+
+int main(void) {
+    long k = 0, before;
+    do {
+        before = refusals;
+        left = k++;
+        life();
+        left = -1;
+        if (live) { printf("after allocation %ld was refused, %ld are left\n", k, live); return 1; }
+    } while (refusals != before);
+    printf("each allocation refused once, and nothing is left: %s\n", refusals == k - 1 && refusals > 0 ? "yes" : "no");
+    return 0;
+}
