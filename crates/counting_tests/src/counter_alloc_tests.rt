@@ -1,3 +1,4 @@
+//! Assignments that move many places, and lists that have none.
 ghost use Rattle.std.specs.Prelude.{◌≡◌, length};
 
 use counter_alloc::{Blame, Matching};

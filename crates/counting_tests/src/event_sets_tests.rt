@@ -1,3 +1,4 @@
+//! Event sets of native events: what they take, what they refuse, and on which counters they are.
 ghost use Rattle.std.specs.Prelude.{◌≡◌, ◌<◌, ◌≤◌, ◌^◌, Some, length};
 ghost use Rattle.event_sets.specs.AtRest.{widths_at};
 ghost use Rattle.event_sets.specs.Sets.{set_view};

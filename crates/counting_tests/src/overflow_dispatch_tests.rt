@@ -1,3 +1,4 @@
+//! Notes of overflows, as a recorder keeps them.
 use overflow_dispatch::{Handler, Note, Recorder, counts_of, notes_since};
 use std::alloc::AllocGlobal;
 use std::marker::Send;
@@ -33,7 +34,7 @@ fn note(pc: u64) -> Note {
 }
 
 #[test]
-fn notes_since_are_those_behind_the_counts(rt: HostRuntime) -> Result<(), Fail> {
+fn notes_since_are_those_after_the_counts(rt: HostRuntime) -> Result<(), Fail> {
     let alloc = rt.alloc();
     let mut handlers: Vec<Box<dyn Handler + Send>> = Vec::new(alloc);
     handlers.push(Box::new(alloc, Recorder::new(alloc))?)?;

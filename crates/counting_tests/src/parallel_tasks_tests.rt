@@ -1,3 +1,4 @@
+//! Tasks that several workers share.
 use parallel_tasks::cut::cut;
 use parallel_tasks::{Task, work_tasks};
 use std::alloc::AllocError;

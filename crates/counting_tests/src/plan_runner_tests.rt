@@ -1,3 +1,4 @@
+//! Plans, run by one worker and by several.
 ghost use Rattle.std.specs.Prelude.{◌≡◌, All, IfOk, vec_len};
 ghost use Rattle.postfix_rules.specs.Presets.{Book};
 ghost use Rattle.event_sets.specs.AtRest.{Widths};

@@ -1,3 +1,4 @@
+//! Threads that register.
 use thread_registry::Registry;
 
 #[test]

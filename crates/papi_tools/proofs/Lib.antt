@@ -2,8 +2,10 @@ pub mod CarriedLemmas
 pub mod CauseLemmas
 pub mod FaultLemmas
 pub mod OpeningLemmas
+pub mod PositionLemmas
 pub mod ProfilLemmas
 pub mod QuietLemmas
+pub mod RegionLemmas
 pub mod RunLemmas
 pub mod SayingLemmas
 pub mod SettlingLemmas

@@ -205,7 +205,7 @@ unfolding run_verdict
 run_tells None words catalog script readers before after answer is each = tt
 run_tells (Some held) words catalog script readers before after answer is each = tells_by (given_under held words) words.notes catalog script readers before after answer is each
 
--- an answer that is no value
+-- an answer that is not a value
 abbrev pub IsRefusedBy : Stop → Result Given Refusal → Type 0
 IsRefusedBy s expected = AnswersBy {A = Unit {0}} (λ x e. Unit {0}) (Err s) expected
 

@@ -8,7 +8,7 @@ use Rattle.papi_tools.specs.declared.status.Outcome.{Outcome}
 use Rattle.papi_tools.specs.declared.status.Outcome.TheVariants.{Whole, No, Refused, ReadFault}
 use Rattle.papi_tools.specs.declared.said.Said.{Said}
 
--- the output whole and a front of the lines
+-- the whole output and a prefix of the lines
 pub out_whole : (said : Said) (out out' err err' : Option (List ℕ)) → out' ≡ appended out said.out → (k : ℕ) × (k ≤ length said.err) × (err' ≡ appended err (take k said.err)) → (k : ℕ) × Wrote said k out out' err err'
 out_whole said out out' err err' o (k, small, e) =
     let back : length said.out + k - length said.out ≡ k = omega arith in (

@@ -10,7 +10,7 @@ use Rattle.papi_tools.specs.Causes.{IsCaused, IsTextual, MetCause}
 use Rattle.papi_tools.specs.Steps.{Verdict}
 use Rattle.papi_tools.specs.Verdict.{AnswersSaid, IsSettled, TellsBy, command_verdict, ended, notes_in, refused_said, verdict_for}
 use Rattle.papi_tools.specs.declared.refusal.Refusal.{Refusal}
-use Rattle.papi_tools.specs.declared.refusal.Refusal.TheVariants.{BadWords, NoSuchFile, CannotRead, TooLarge, Row, PresetRow, MapRow, Line}
+use Rattle.papi_tools.specs.declared.refusal.Refusal.TheVariants.{BadWords, NoSuchFile, CannotRead, TooLarge, Row, PresetRow, MapRow, Line, RegionLine}
 use Rattle.papi_tools.specs.declared.refusal.Stop.{Stop}
 use Rattle.papi_tools.specs.declared.refusal.Stop.TheVariants as stop
 use Rattle.papi_tools.specs.declared.said.Said.{Said}
@@ -92,6 +92,7 @@ by_refusal asked before after (Row name row cause) h = inl (Row name row cause, 
 by_refusal asked before after (PresetRow name row cause) h = inl (PresetRow name row cause, refl, inr h)
 by_refusal asked before after (MapRow name row cause) h = inl (MapRow name row cause, refl, inr h)
 by_refusal asked before after (Line name line cause) h = inl (Line name line cause, refl, inr h)
+by_refusal asked before after (RegionLine name line cause) h = inl (RegionLine name line cause, refl, inr h)
 
 -- what is said by steps has its cause
 pub settled_caused : {E : Type 0} (asked : Option Command) (answer : Result Said Stop) (result : Result Said E) (before after : FilesSeen) → IfOk answer (λ said. MetCause said.outcome before after said) →

@@ -33,7 +33,7 @@ pub tells_after : {X : Type 0} (told : Option Held) (expected : Held → Result 
 tells_after None expected verdict Is before after answer is each = tt
 tells_after (Some held) expected verdict Is before after answer is each = notes_after (expected held) verdict Is before after answer is each
 
--- an answer that is no value
+-- an answer that is not a value
 abbrev pub IsRefused : {X : Type 0} → Stop → Result X Refusal → Type 0
 IsRefused s expected = AnswersBy {A = Unit {0}} (λ x e. Unit {0}) (Err s) expected
 

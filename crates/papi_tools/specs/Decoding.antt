@@ -1,11 +1,11 @@
--- What `papi_decode` comes to: the presets of a cpu as a preset file, after papi_decode(1). The text is that of docs/FORMATS.md.
+-- What `papi_decode` comes to: the presets and user events of a cpu as a preset file, after papi_decode(1). The text is that of docs/FORMATS.md.
 use Rattle.std.specs.Prelude.{ℕ, Bool, true, false, List, Result, Ok}
 use Rattle.papi_base.specs.Outside.{Held, opened}
-use Rattle.component_table.specs.Books.{available_only, book_of}
+use Rattle.component_table.specs.Books.{available_only, book_of, rows_in}
 use Rattle.event_tables.specs.Tables.{ComponentText}
-use Rattle.preset_csv.specs.Tables.{TableView}
-use Rattle.preset_csv.specs.Written.{table_text}
 use Rattle.tool_words.specs.declared.decode.DecodeWords.{DecodeWords}
+use Rattle.user_events.specs.Events.{ExtendedView}
+use Rattle.user_events.specs.Written.{extended_text}
 use Rattle.papi_tools.specs.Opening.{file_bytes}
 use Rattle.papi_tools.specs.PresetFile.{presets_of}
 use Rattle.papi_tools.specs.declared.limits.TheConstants.{TABLE_BYTES}
@@ -15,18 +15,18 @@ use Rattle.papi_tools.specs.UnitFile.{unit_under}
 use Rattle.papi_tools.specs.declared.refusal.Refusal.{Refusal}
 use Rattle.papi_tools.specs.declared.said.Said.{Said}
 
--- the presets that are shown: all of them, or the available ones alone
-abbrev pub shown_of : Bool → List ComponentText → TableView → TableView
+-- the presets and user events that are shown: all of them, or the available ones alone
+abbrev pub shown_of : Bool → List ComponentText → ExtendedView → ExtendedView
 shown_of false tables presets = presets
-shown_of true tables presets = available_only (book_of tables presets.rows) presets
+shown_of true tables presets = available_only (book_of tables (rows_in presets)) presets
 
 -- those out of the bytes of the preset file
-unfoldable pub shown_in : DecodeWords → List ComponentText → List ℕ → Result TableView Refusal
+unfoldable pub shown_in : DecodeWords → List ComponentText → List ℕ → Result ExtendedView Refusal
 shown_in words tables bytes = and_then (presets_of words.presets bytes) (λ presets. Ok (shown_of words.available tables presets))
 
--- the presets as a preset file, and yes
-abbrev pub decoded_said : TableView → Said
-decoded_said presets = text_said true (table_text presets)
+-- these as a preset file, and yes
+abbrev pub decoded_said : ExtendedView → Said
+decoded_said presets = text_said true (extended_text presets)
 
 -- the unit, then the preset file
 unfoldable pub decode_verdict : Held → DecodeWords → Result Said Refusal

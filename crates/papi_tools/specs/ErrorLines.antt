@@ -4,11 +4,12 @@ use Rattle.std.specs.Fmt.{decimal}
 use Rattle.event_tables.specs.Unit as Unit
 use Rattle.preset_csv.specs.Presets as Presets
 use Rattle.profil_hist.specs.Maps as Maps
+use Rattle.region_report.specs.Causes as Regions
 use Rattle.script_lines.specs.Causes as Causes
 use Rattle.papi_tools.specs.declared.status.Outcome.{Outcome}
 use Rattle.papi_tools.specs.declared.status.Outcome.TheVariants as outcome
 use Rattle.papi_tools.specs.declared.refusal.Refusal.{Refusal}
-use Rattle.papi_tools.specs.declared.refusal.Refusal.TheVariants.{BadWords, NoSuchFile, CannotRead, TooLarge, Row, PresetRow, MapRow, Line}
+use Rattle.papi_tools.specs.declared.refusal.Refusal.TheVariants.{BadWords, NoSuchFile, CannotRead, TooLarge, Row, PresetRow, MapRow, Line, RegionLine}
 
 -- the line that names a place in a file and its cause
 abbrev pub numbered_line : List ℕ → List ℕ → ℕ → List ℕ → List ℕ
@@ -25,6 +26,7 @@ line_of (Row name row cause) = numbered_line name (codes "row") row (Unit.cause_
 line_of (PresetRow name row cause) = numbered_line name (codes "row") row (Presets.cause_text cause)
 line_of (MapRow name row cause) = numbered_line name (codes "row") row (Maps.cause_text cause)
 line_of (Line name line cause) = numbered_line name (codes "line") line (Causes.text_of cause)
+line_of (RegionLine name line cause) = numbered_line name (codes "line") line (Regions.text_of cause)
 
 -- how a call ends that is refused so
 abbrev pub outcome_of : Refusal → Outcome
@@ -36,3 +38,4 @@ outcome_of (Row name row cause) = outcome.Refused
 outcome_of (PresetRow name row cause) = outcome.Refused
 outcome_of (MapRow name row cause) = outcome.Refused
 outcome_of (Line name line cause) = outcome.Refused
+outcome_of (RegionLine name line cause) = outcome.Refused

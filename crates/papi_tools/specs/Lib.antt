@@ -15,6 +15,8 @@ pub mod Outputs
 pub mod PresetFile
 pub mod PresetListing
 pub mod Profiling
+pub mod RegionFile
+pub mod RegionCounts
 pub mod Run
 pub mod Running
 pub mod Saying

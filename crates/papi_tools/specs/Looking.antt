@@ -3,7 +3,7 @@ use Rattle.std.specs.Prelude.{◌≡◌, ◌≤◌, ◌+◌, ℕ, Result, Ok, Er
 use Rattle.papi_base.specs.Outside.{Rose}
 use Rattle.papi_tools.specs.Seen.{FilesSeen}
 use Rattle.papi_tools.specs.declared.refusal.Refusal.{Refusal}
-use Rattle.papi_tools.specs.declared.refusal.Refusal.TheVariants.{BadWords, NoSuchFile, CannotRead, TooLarge, Row, PresetRow, MapRow, Line}
+use Rattle.papi_tools.specs.declared.refusal.Refusal.TheVariants.{BadWords, NoSuchFile, CannotRead, TooLarge, Row, PresetRow, MapRow, Line, RegionLine}
 use Rattle.papi_tools.specs.declared.refusal.Stop.{Stop}
 use Rattle.papi_tools.specs.declared.refusal.Stop.TheVariants.{Refused, Memory}
 
@@ -17,6 +17,7 @@ HasFileCause before after (Row name row cause) = Unit {0}
 HasFileCause before after (PresetRow name row cause) = Unit {0}
 HasFileCause before after (MapRow name row cause) = Unit {0}
 HasFileCause before after (Line name line cause) = Unit {0}
+HasFileCause before after (RegionLine name line cause) = Unit {0}
 
 -- a step that ends the call by a refusal has its cause
 abbrev pub StopsByFile : {A : Type 0} → Result A Stop → FilesSeen → FilesSeen → Type 0

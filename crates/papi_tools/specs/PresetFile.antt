@@ -1,35 +1,35 @@
 -- What a preset file by name gives for a cpu: docs/FORMATS.md.
 use Rattle.std.specs.Prelude.{ℕ, List, Option, Some, None, Result, Ok, Err}
 use Rattle.papi_base.specs.Outside.{Held, opened}
-use Rattle.preset_csv.specs.Presets.{preset_fault, presets_in}
-use Rattle.preset_csv.specs.Tables.{TableView}
 use Rattle.preset_csv.specs.declared.fault.PresetCause.{PresetCause}
 use Rattle.tool_words.specs.declared.presets.PresetWords.{PresetWords}
+use Rattle.user_events.specs.Events.{ExtendedView}
+use Rattle.user_events.specs.Rows.{extended_fault, extended_in}
 use Rattle.papi_tools.specs.Steps.{and_then}
 use Rattle.papi_tools.specs.Opening.{file_bytes}
 use Rattle.papi_tools.specs.declared.limits.TheConstants.{TABLE_BYTES}
 use Rattle.papi_tools.specs.declared.refusal.Refusal.{Refusal}
 use Rattle.papi_tools.specs.declared.refusal.Refusal.TheVariants.{PresetRow}
 
--- the presets of a file of this name, where it has no fault
-abbrev pub presets_unless : List ℕ → Option (ℕ × PresetCause) → TableView → Result TableView Refusal
+-- the presets and user events of a file of this name, where it has no fault
+abbrev pub presets_unless : List ℕ → Option (ℕ × PresetCause) → ExtendedView → Result ExtendedView Refusal
 presets_unless name None presets = Ok presets
 presets_unless name (Some fault) presets = Err (PresetRow name fault.0 fault.1)
 
 -- what the bytes of a preset file of this name are for a cpu
-unfoldable pub presets_of : PresetWords → List ℕ → Result TableView Refusal
-presets_of words bytes = presets_unless words.file (preset_fault words.cpu bytes) (presets_in words.cpu bytes)
+unfoldable pub presets_of : PresetWords → List ℕ → Result ExtendedView Refusal
+presets_of words bytes = presets_unless words.file (extended_fault words.cpu bytes) (extended_in words.cpu bytes)
 
 -- the presets that are asked for, of which the opening of the file is the next one
-unfoldable pub presets_under : Held → PresetWords → Result TableView Refusal
+unfoldable pub presets_under : Held → PresetWords → Result ExtendedView Refusal
 presets_under held words = and_then (file_bytes TABLE_BYTES held words.file) (presets_of words)
 
 -- presets that were asked for
-abbrev pub some_presets : TableView → Result (Option TableView) Refusal
+abbrev pub some_presets : ExtendedView → Result (Option ExtendedView) Refusal
 some_presets presets = Ok (Some presets)
 
 -- the same where presets need not be asked for
-abbrev pub presets_asked : Held → Option PresetWords → Result (Option TableView) Refusal
+abbrev pub presets_asked : Held → Option PresetWords → Result (Option ExtendedView) Refusal
 presets_asked held None = Ok None
 presets_asked held (Some words) = and_then (presets_under held words) some_presets
 

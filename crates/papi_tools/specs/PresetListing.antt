@@ -1,10 +1,9 @@
--- What `papi_avail` comes to: the presets of a cpu, or one of them, after papi_avail(1). The text is that of docs/FORMATS.md.
+-- What `papi_avail` comes to: the presets and user events of a cpu, or one of them, after papi_avail(1). The text is that of docs/FORMATS.md.
 use Rattle.std.specs.Prelude.{ℕ, Bool, true, List, Option, Some, None, is_some, Result, Ok}
 use Rattle.papi_base.specs.Outside.{Held}
-use Rattle.component_table.specs.Catalogs.{CatalogView}
+use Rattle.component_table.specs.Catalogs.{CatalogView, row_named}
 use Rattle.listing_text.specs.PresetEvents.{preset_event}
 use Rattle.listing_text.specs.PresetLists.{preset_list}
-use Rattle.preset_table.specs.Table.{row_of}
 use Rattle.tool_words.specs.declared.avail.AvailWords.{AvailWords}
 use Rattle.papi_tools.specs.Steps.{and_then}
 use Rattle.papi_tools.specs.Tables.{catalog_under}
@@ -12,11 +11,11 @@ use Rattle.papi_tools.specs.Texts.{text_said}
 use Rattle.papi_tools.specs.declared.refusal.Refusal.{Refusal}
 use Rattle.papi_tools.specs.declared.said.Said.{Said}
 
--- the list of the presets, all of them or the available ones alone; or the event of a name, where one is asked for: a name outside the
--- table is a no
+-- the list of the presets and user events, all of them or the available ones alone; or the event of a name, where one is asked for: a
+-- name that none of them has is a no
 abbrev pub presets_said : CatalogView → Bool → Option (List ℕ) → Said
-presets_said catalog available None = text_said true (preset_list catalog.book available)
-presets_said catalog available (Some name) = text_said (is_some (row_of name)) (preset_event catalog name)
+presets_said catalog available None = text_said true (preset_list catalog available)
+presets_said catalog available (Some name) = text_said (is_some (row_named catalog name)) (preset_event catalog name)
 
 -- the unit, then the preset file
 unfoldable pub avail_verdict : Held → AvailWords → Result Said Refusal

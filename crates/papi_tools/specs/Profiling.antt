@@ -46,6 +46,7 @@ pub record IsProfiled (ranges : List RangeText) (catalog : CatalogView) (script 
 abbrev pub counted_of : ProfilWords → Given → List ℕ
 counted_of words given = counted_in words.set words.index (slice_index_or (ran_notes given) words.thread [])
 
+-- what a profile comes to: the histogram of those program counters, and the notes of each thread
 unfoldable pub profiled_verdict : ProfilWords → Profiled → Verdict
 profiled_verdict words given = record {
   said = profile_said given.ranges (marks_in (ran_replies given.run)) (counted_of words given.run);

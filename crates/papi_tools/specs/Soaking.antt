@@ -1,6 +1,7 @@
 -- What `papi_soak` comes to: the summary of the run of a script over a unit and streams that are made out of a number. These and the
 -- summary are this project's own: docs/FORMATS.md.
-use Rattle.std.specs.Prelude.{◌==◌, ◌&&◌, ◌-◌, ℕ, ℤ, Bool, true, false, List, [], length, map, find, codes, slice_index, slice_index_or, Option, Some, None, Result, Ok}
+use Rattle.std.specs.Prelude.{◌==◌, ◌&&◌, ◌-◌, ℕ, ℤ, Bool, true, false, List, [], length, map, find, codes, slice_index, slice_index_or}
+use Rattle.std.specs.Prelude.{Option, Some, None, Result, Ok}
 use Rattle.std.specs.List.{range_with_len}
 use Rattle.papi_base.specs.Outside.{Tape}
 use Rattle.papi_base.specs.declared.call_name.CallName.{CallName}
@@ -38,7 +39,7 @@ soak_tape rounds thread = record { bytes = stream_text rounds thread; ending = E
 abbrev pub soak_tapes : ℕ → List Tape
 soak_tapes rounds = map (soak_tape rounds) (range_with_len 0 SOAK_THREADS)
 
--- the unit without presets, the script and the streams, each judged as one of a file is
+-- the unit without presets, the script and the streams, each checked as one of a file is
 unfoldable pub soak_given : ℕ → Result Given Refusal
 soak_given rounds =
     and_then (unit_of (codes "lab.unit") unit_text) (λ tables.

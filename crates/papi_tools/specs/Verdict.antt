@@ -5,7 +5,7 @@ use Rattle.overflow_dispatch.specs.declared.handler.Note.{Note}
 use Rattle.overflow_dispatch.specs.Notes.{EachAdded, EachBegun}
 use Rattle.tool_words.specs.Form.{form}
 use Rattle.tool_words.specs.declared.command.Command.{Command}
-use Rattle.tool_words.specs.declared.command.Command.TheVariants.{Run, Avail, NativeAvail, Decode, EventChooser, Encode, Soak, Profil}
+use Rattle.tool_words.specs.declared.command.Command.TheVariants.{Run, Avail, NativeAvail, Decode, EventChooser, Encode, Soak, Profil, Regions}
 use Rattle.papi_tools.specs.Answers.{AnswersBy}
 use Rattle.papi_tools.specs.Choosing.{chooser_verdict}
 use Rattle.papi_tools.specs.Decoding.{decode_verdict}
@@ -14,6 +14,7 @@ use Rattle.papi_tools.specs.ErrorLines.{line_of, outcome_of}
 use Rattle.papi_tools.specs.NativeListing.{native_avail_verdict}
 use Rattle.papi_tools.specs.PresetListing.{avail_verdict}
 use Rattle.papi_tools.specs.Profiling.{profil_verdict}
+use Rattle.papi_tools.specs.RegionCounts.{regions_verdict}
 use Rattle.papi_tools.specs.Run.{run_verdict}
 use Rattle.papi_tools.specs.Soaking.{soak_verdict}
 use Rattle.papi_tools.specs.Steps.{Verdict, quiet}
@@ -33,6 +34,7 @@ command_verdict held (EventChooser words) = quiet (chooser_verdict held words)
 command_verdict held (Encode words) = quiet (encode_verdict held words)
 command_verdict held (Soak words) = soak_verdict words
 command_verdict held (Profil words) = profil_verdict held words
+command_verdict held (Regions words) = quiet (regions_verdict held words)
 
 -- what the words come to, where they are a command
 abbrev pub verdict_for : Held → Option Command → Result Verdict Refusal

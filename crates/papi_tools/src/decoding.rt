@@ -1,4 +1,4 @@
-//! `papi_decode`: gives the presets of a cpu.
+//! `papi_decode`: gives the presets and user events of a cpu.
 ghost use Rattle.std.specs.Prelude.{◌≡◌, IfOk, IfSome};
 ghost use Rattle.papi_tools.specs.Answers.{Answers};
 ghost use Rattle.papi_tools.specs.Causes.{IsTextual};
@@ -12,18 +12,18 @@ use crate::{Said, Stop};
 use component_table::Catalog;
 use event_tables::Tables;
 use papi_base::{Bytes, Files};
-use preset_csv::{PresetTable, write_presets};
 use std::alloc::{AllocError, Global};
 use tool_words::DecodeWords;
+use user_events::{Extended, write_extended};
 
-// The presets that are shown, out of the bytes of the preset file.
+// The presets and user events that are shown, out of the bytes of the preset file.
 #[tactic(auto, unfolding(crate::specs::Decoding::shown_in))]
 fn shown_of(
     alloc: Global,
     words: &DecodeWords,
     tables: Tables,
     bytes: &[u8],
-) -> Result<PresetTable, Stop>
+) -> Result<Extended, Stop>
     ensures told { Answers result (shown_in words.now tables bytes.now) }
     ensures cause { (before after : FilesSeen) → StopsByFile result before after }
 {
@@ -33,20 +33,21 @@ fn shown_of(
     }
     let again = presets_in(alloc, &words.presets, bytes)?;
     let catalog = Catalog::build(alloc, tables, Some(again))?;
-    Ok(catalog.only_available(presets))
+    let shown = catalog.only_available(alloc, presets)?;
+    Ok(shown)
 }
 
-// What is said of presets.
-fn said_of(alloc: Global, presets: &PresetTable) -> Result<Said, AllocError>
+// What is said of presets and user events.
+fn said_of(alloc: Global, presets: &Extended) -> Result<Said, AllocError>
     ensures said { IfOk result (λ said. said ≡ decoded_said presets.now) }
     ensures textual { IfOk result (λ said. IsTextual said.outcome) }
 {
-    let text = write_presets(alloc, presets)?;
+    let text = write_extended(alloc, presets)?;
     Ok(Said::text(alloc, true, Bytes::new(text)))
 }
 
-/// `papi_decode`: reads the unit and the preset file, and gives the presets of a cpu as a preset file, all of them or the
-/// available ones alone.
+/// `papi_decode`: reads the unit and the preset file, and gives the presets and user events of a cpu as a preset file, all
+/// of them or the available ones alone.
 #[tactic(auto, unfolding(crate::specs::Decoding::decode_verdict))]
 pub fn decode_presets<F: Files>(
     alloc: Global,

@@ -15,6 +15,8 @@ pub mod preset_file;
 pub mod preset_listing;
 pub mod profiling;
 pub mod refusal;
+pub mod region_file;
+pub mod regions;
 pub mod run;
 pub mod running;
 pub mod said;

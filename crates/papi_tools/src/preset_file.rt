@@ -13,17 +13,18 @@ use crate::limits::TABLE_BYTES;
 use crate::opening::whole_file;
 use crate::{Refusal, Stop};
 use papi_base::{Bytes, Files, Text};
-use preset_csv::{PresetFault, PresetTable, read_presets};
+use preset_csv::PresetFault;
 use std::alloc::Global;
 use tool_words::PresetWords;
+use user_events::{Extended, read_extended};
 
-/// The presets for the asked cpu in the bytes of a preset file, or its first fault.
+/// The presets and user events for the asked cpu in the bytes of a preset file, or its first fault.
 #[tactic(auto, unfolding(crate::specs::PresetFile::presets_of))]
-pub fn presets_in(alloc: Global, words: &PresetWords, bytes: &[u8]) -> Result<PresetTable, Stop>
+pub fn presets_in(alloc: Global, words: &PresetWords, bytes: &[u8]) -> Result<Extended, Stop>
     ensures told { Answers result (presets_of words.now bytes.now) }
     ensures cause { (before after : FilesSeen) → StopsByFile result before after }
 {
-    let answer = read_presets(alloc, bytes, words.cpu.as_str());
+    let answer = read_extended(alloc, bytes, words.cpu.as_str());
     match answer {
         Ok(presets) => Ok(presets),
         Err(PresetFault::Row { row, cause }) => Err(Stop::Refused(Refusal::PresetRow {
@@ -48,13 +49,13 @@ pub fn read_preset_bytes<F: Files>(
     whole_file(alloc, files, words.file.as_str(), TABLE_BYTES)
 }
 
-/// Reads the presets that are asked for, or says why not.
+/// Reads the presets and user events that are asked for, or says why not.
 #[tactic(auto, unfolding(crate::specs::PresetFile::presets_under))]
 pub fn read_preset_file<F: Files>(
     alloc: Global,
     files: &mut F,
     words: &PresetWords,
-) -> Result<PresetTable, Stop>
+) -> Result<Extended, Stop>
     ensures told { IfSome (F.held files.old) (λ held. Answers result (presets_under held words.now)) }
     ensures held { F.held files.new ≡ option_map opened (F.held files.old) }
     ensures looked { Looked result 0 (files_seen F.held F.misses F.faults F.lent files.old) (files_seen F.held F.misses F.faults F.lent files.new) }
@@ -63,12 +64,12 @@ pub fn read_preset_file<F: Files>(
     presets_in(alloc, words, bytes.as_slice())
 }
 
-/// Reads the presets where they are asked for, or says why not.
+/// Reads the presets and user events where they are asked for, or says why not.
 pub fn read_presets_asked<F: Files>(
     alloc: Global,
     files: &mut F,
     words: &Option<PresetWords>,
-) -> Result<Option<PresetTable>, Stop>
+) -> Result<Option<Extended>, Stop>
     ensures told { IfSome (F.held files.old) (λ held. Answers result (PresetFile.presets_asked held words.now)) }
     ensures held { F.held files.new ≡ option_map (after_presets words.now) (F.held files.old) }
     ensures looked { Looked result 0 (files_seen F.held F.misses F.faults F.lent files.old) (files_seen F.held F.misses F.faults F.lent files.new) }

@@ -1,4 +1,4 @@
-//! `papi_avail`: lists the presets of a cpu, or says what one of them is.
+//! `papi_avail`: lists the presets and user events of a cpu, or says what one of them is.
 ghost use Rattle.std.specs.Prelude.{◌≡◌, IfOk, IfSome};
 ghost use Rattle.papi_tools.specs.Answers.{Answers};
 ghost use Rattle.papi_tools.specs.Causes.{IsTextual};
@@ -14,7 +14,7 @@ use papi_base::{Bytes, Files, Text};
 use std::alloc::{AllocError, Global};
 use tool_words::AvailWords;
 
-// What is said of the presets of a catalog.
+// What is said of the presets and user events of a catalog.
 fn said_of(
     alloc: Global,
     catalog: &Catalog,

@@ -1,5 +1,6 @@
 //! `papi_profil`: counts where in a program the thresholds of an event were passed.
-ghost use Rattle.std.specs.Prelude.{◌≡◌, ◌≤◌, ◌<◌, ◌-◌, ◌+◌, ◌^◌, ◌∷◌, ◌++◌, All, IfOk, IfSome, IsOkAnd, OnOk, ℕ, [], List, drop, length, map, slice_get, slice_index_or, vec_len};
+ghost use Rattle.std.specs.Prelude.{◌≡◌, ◌≤◌, ◌<◌, ◌-◌, ◌+◌, ◌^◌, ◌∷◌, ◌++◌, All, IfOk, IfSome};
+ghost use Rattle.std.specs.Prelude.{IsOkAnd, OnOk, ℕ, [], List, drop, length, map, slice_get, slice_index_or, vec_len};
 ghost use Rattle.overflow_dispatch.specs.Notes.{EachGrown};
 ghost use Rattle.profil_hist.specs.Histograms.{IsHistogram};
 ghost use Rattle.thread_session.specs.SessionView.{IsFresh};

@@ -8,6 +8,7 @@ use event_tables::{RowCause, cause_text as row_text};
 use papi_base::Text;
 use preset_csv::{PresetCause, cause_text as preset_text};
 use profil_hist::{MapCause, cause_text as map_text};
+use region_report::{RegionCause, cause_text as region_text};
 use script_lines::{ScriptCause, cause_text as line_text};
 use std::alloc::{AllocError, AllocFailed, Global};
 
@@ -45,6 +46,12 @@ pub enum Refusal {
         name: Text,
         line: u64,
         cause: ScriptCause,
+    },
+    /// A line of a region script, counted from 1.
+    RegionLine {
+        name: Text,
+        line: u64,
+        cause: RegionCause,
     },
 }
 
@@ -91,6 +98,13 @@ impl Refusal {
                 "line",
                 *line,
                 line_text(*cause),
+            ),
+            Refusal::RegionLine { name, line, cause } => numbered(
+                alloc,
+                name,
+                "line",
+                *line,
+                region_text(*cause),
             ),
         }
     }

@@ -1,4 +1,4 @@
-//! The tables of a tool: the unit, and then the presets where they are asked for.
+//! The tables of a tool: the unit, and then the presets and user events where they are asked for.
 ghost use Rattle.std.specs.Prelude.{◌≡◌, IfSome, OnOk, Some};
 ghost use Rattle.std.specs.Option.{option_map};
 ghost use Rattle.papi_tools.specs.Answers.{Answers};

@@ -14,6 +14,7 @@ use crate::encoding::encode_names;
 use crate::native_listing::list_natives;
 use crate::preset_listing::list_presets;
 use crate::profiling::profile;
+use crate::regions::count_regions;
 use crate::run::run;
 use crate::saying::say;
 use crate::settling::{refused, settled};
@@ -53,6 +54,7 @@ fn carried_out<R: Threads + Sync, F: Files>(
         Command::Encode(words) => encode_names(alloc, files, words),
         Command::Soak(words) => soak(rt, alloc, words, handlers),
         Command::Profil(words) => profile(rt, alloc, files, words, handlers),
+        Command::Regions(words) => count_regions(rt, alloc, files, words),
     }
 }
 

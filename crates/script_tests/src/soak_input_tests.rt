@@ -57,7 +57,10 @@ fn texts_are_those_of_the_format(rt: HostRuntime) -> Result<(), Fail> {
     );
     assert!(rt;
         script.as_str().ends_with(
-            "3 start 0\n0 run 100\n0 read 0\n1 run 100\n1 read 0\n2 run 100\n2 read 0\n3 run 100\n3 read 0\n0 run 100\n0 read 0\n1 run 100\n1 read 0\n2 run 100\n2 read 0\n3 run 100\n3 read 0\n0 stop 0\n1 stop 0\n2 stop 0\n3 stop 0\n"
+            "3 start 0\n\
+             0 run 100\n0 read 0\n1 run 100\n1 read 0\n2 run 100\n2 read 0\n3 run 100\n3 read 0\n\
+             0 run 100\n0 read 0\n1 run 100\n1 read 0\n2 run 100\n2 read 0\n3 run 100\n3 read 0\n\
+             0 stop 0\n1 stop 0\n2 stop 0\n3 stop 0\n"
         )
     );
     let totals = [total_of(&[1, -2, i64::MAX], 7), total_of(&[2, 0, 0], 0)];

@@ -1,41 +1,12 @@
-//! Listings over the lab unit, with one event more in its second component, and its presets.
+//! Listings over the lab unit, with one event more in its second component, and its presets and user events.
+use crate::lab::{UNIT, catalog_over};
 use chooser_list::{Candidates, choose};
 use component_table::Catalog;
-use event_tables::read_unit;
 use papi_base::Text;
-use preset_csv::read_presets;
 use std::alloc::{AllocError, Global};
 
-const UNIT: &str = "COMPONENT,cpu,lab\n\
-COUNTER,P0,16,P\n\
-COUNTER,P1,16,P\n\
-COUNTER,F0,16,F\n\
-EVENT,INST_RETIRED,c0,P0 P1 F0,Instructions retired\n\
-EVENT,CYCLES,3c,P0 P1,Core cycles\n\
-EVENT,BR_INST,c4,P0,Branch instructions\n\
-UMASK,ALL,01,dn,All branches\n\
-UMASK,TAKEN,02,n,Taken branches\n\
-EVENT,BR_MISP,c5,P0,Mispredicted branches\n\
-EVENT,CACHE,2e,P1,Cache references\n\
-EVENT,MEM,d0,P1,Memory operations\n\
-UMASK,LOADS,01,-,Loads\n\
-UMASK,STORES,02,-,Stores\n\
-EVENT,REF,00,F0,Reference cycles\n\
-COMPONENT,net,wire\n\
-COUNTER,M0,48,P\n\
-COUNTER,M1,48,P\n\
-EVENT,PACKETS,10,M0,Packets seen\n\
-EVENT,BYTES,11,M1,Bytes seen\n";
-
-const PRESETS: &str = "CPU,lab1\n\
-PRESET,PAPI_TOT_INS,NOT_DERIVED,lab::INST_RETIRED\n\
-PRESET,PAPI_TOT_CYC,NOT_DERIVED,lab::CYCLES\n\
-PRESET,PAPI_BR_INS,NOT_DERIVED,lab::BR_INST:ALL\n\
-PRESET,PAPI_BR_MSP,NOT_DERIVED,lab::BR_MISP\n\
-PRESET,PAPI_RES_STL,DERIVED_SUB,lab::CYCLES,lab::INST_RETIRED\n\
-PRESET,PAPI_LST_INS,DERIVED_ADD,lab::CACHE,lab::INST_RETIRED\n\
-PRESET,PAPI_BR_PRC,DERIVED_POSTFIX,N0|N1|-|,lab::BR_INST:ALL,lab::BR_MISP\n\
-PRESET,PAPI_L1_DCM,NOT_DERIVED,lab::NO_SUCH\n";
+// Rows below those of the lab unit: one counter and one event more in its second component.
+const MORE: &str = "COUNTER,M1,48,P\nEVENT,BYTES,11,M1,Bytes seen\n";
 
 // Candidates and given events; then what is listed, or else the refusal.
 const LISTS: [(Candidates, &str, bool, &str); 11] = [
@@ -110,10 +81,44 @@ const LISTS: [(Candidates, &str, bool, &str); 11] = [
     ),
 ];
 
-fn catalog(alloc: Global) -> Option<Catalog> {
-    let tables = read_unit(alloc, UNIT.as_bytes()).ok()?;
-    let presets = read_presets(alloc, PRESETS.as_bytes(), "lab1").ok()?;
-    Catalog::build(alloc, tables, Some(presets)).ok()
+// The same for a cpu with user events, which are looked at after the presets.
+const USER_LISTS: [(Candidates, &str, bool, &str); 6] = [
+    (
+        Candidates::Preset,
+        "REF",
+        true,
+        "PAPI_TOT_INS\nSTALL2\nCYCLES\nFOURTEEN_CHARS\nTotal events: 4\n",
+    ),
+    (
+        Candidates::Preset,
+        "STALL2",
+        true,
+        "PAPI_TOT_INS\nCYCLES\nFOURTEEN_CHARS\nTotal events: 3\n",
+    ),
+    (Candidates::Preset, "PACKETS", true, "Total events: 0\n"),
+    (
+        Candidates::Native,
+        "CYCLES CYCLES",
+        false,
+        "CYCLES: PAPI_EINVAL\n",
+    ),
+    (
+        Candidates::Native,
+        "CYCLES GONE",
+        false,
+        "GONE: PAPI_ENOEVNT\n",
+    ),
+    (
+        Candidates::Native,
+        "BRANCHES_PREDICTED",
+        false,
+        "BRANCHES_PREDICTED: PAPI_ECNFLCT lab::BR_INST:ALL lab::BR_MISP / P0\n",
+    ),
+];
+
+fn catalog(alloc: Global, cpu: &str) -> Option<Catalog> {
+    let text = format!(in alloc; "{UNIT}{MORE}").ok()?;
+    catalog_over(alloc, text.as_str(), cpu)
 }
 
 fn texts_of(alloc: Global, words: &str) -> Result<Vec<Text>, AllocError> {
@@ -124,14 +129,39 @@ fn texts_of(alloc: Global, words: &str) -> Result<Vec<Text>, AllocError> {
     Ok(texts)
 }
 
+// Whether what is said of some words over a catalog is this.
+fn is_said(
+    alloc: Global,
+    catalog: &Catalog,
+    candidates: Candidates,
+    words: &str,
+    all_taken: bool,
+    text: &str,
+) -> bool {
+    let Ok(texts) = texts_of(alloc, words) else {
+        return false;
+    };
+    match choose(alloc, catalog, candidates, texts.as_slice()) {
+        Ok(choice) => choice.all_taken == all_taken && choice.text.as_slice() == text.as_bytes(),
+        Err(_) => false,
+    }
+}
+
 #[test]
 fn lists_and_refusals(rt: HostRuntime) {
     let alloc = rt.alloc();
-    let catalog = catalog(alloc).expect(&rt, "a catalog");
+    let presets = catalog(alloc, "lab1").expect(&rt, "a catalog");
     for (candidates, words, all_taken, text) in LISTS {
-        let texts = texts_of(alloc, words).expect(&rt, "memory");
-        let choice = choose(alloc, &catalog, candidates, texts.as_slice()).expect(&rt, "memory");
-        assert!(rt; choice.all_taken == all_taken, "{words}");
-        assert!(rt; choice.text.as_slice() == text.as_bytes(), "{words}");
+        assert!(rt;
+            is_said(alloc, &presets, candidates, words, all_taken, text),
+            "{words}"
+        );
+    }
+    let events = catalog(alloc, "user").expect(&rt, "a catalog");
+    for (candidates, words, all_taken, text) in USER_LISTS {
+        assert!(rt;
+            is_said(alloc, &events, candidates, words, all_taken, text),
+            "{words}"
+        );
     }
 }

@@ -1,82 +1,64 @@
-//! Catalogs of the lab unit with its presets, and the codes of native events.
-use crate::lab::UNIT;
+//! Catalogs of the lab unit with its presets and user events, and the codes of native events.
+ghost use Rattle.std.specs.Prelude.{◌<◌};
+ghost use Rattle.component_table.specs.Catalogs.{row_count};
+
+use crate::lab::{UNIT, catalog, extended, unit};
 use component_table::{Catalog, NativeCodes};
-use event_tables::{Tables, read_unit};
 use name_encoder::encode;
 use papi_base::{Code, EventRef, Native};
-use preset_csv::{Entry, PresetTable, read_presets};
+use preset_csv::Entry;
 use std::alloc::Global;
+use user_events::{Extended, UserEvent};
 
-const PRESETS: &str = "# presets of the lab unit\n\
-CPU,lab1\n\
-CPU,lab2\n\
-PRESET,PAPI_TOT_INS,NOT_DERIVED,lab::INST_RETIRED\n\
-PRESET, PAPI_TOT_CYC, NOT_DERIVED, lab::CYCLES, NOTE, 'core, not reference'\n\
-PRESET,PAPI_BR_INS,NOT_DERIVED,lab::BR_INST:ALL\n\
-PRESET,PAPI_BR_MSP,NOT_DERIVED,lab::BR_MISP\n\
-PRESET,PAPI_RES_STL,DERIVED_SUB,lab::CYCLES,lab::INST_RETIRED\n\
-PRESET,PAPI_LST_INS,DERIVED_ADD,lab::CACHE,lab::INST_RETIRED\n\
-PRESET,PAPI_BR_PRC,DERIVED_POSTFIX,N0|N1|-|,lab::BR_INST:ALL,lab::BR_MISP\n\
-PRESET,PAPI_FP_OPS,DERIVED_PS,lab::INST_RETIRED\n\
-PRESET,PAPI_FOO,NOT_DERIVED,lab::CYCLES\n\
-PRESET,PAPI_L1_DCM,NOT_DERIVED,lab::NO_SUCH\n\
-CPU,other\n\
-PRESET,PAPI_TOT_INS,NOT_DERIVED,lab::CYCLES\n\
-CPU,two\n\
-PRESET,PAPI_TOT_CYC,DERIVED_ADD,lab::CYCLES,wire::PACKETS\n\
-PRESET,PAPI_LST_INS,DERIVED_ADD,lab::CACHE,lab::NO_SUCH\n\
-PRESET,PAPI_REF_CYC,DERIVED_SUB,lab::REF\n";
-
-// The cpus, and the rows of the preset table that are available for them and derived.
-const ROWS: [(&str, &[u32], &[u32]); 5] = [
-    ("lab1", &[15, 16, 17, 20, 21, 22, 23], &[16, 21, 23]),
-    ("lab2", &[15, 16, 17, 20, 21, 22, 23], &[16, 21, 23]),
-    ("other", &[17], &[]),
-    ("two", &[25], &[25]),
-    ("none", &[], &[]),
+// The cpus; how many rows their catalogs have, of which 26 are the presets'; which rows are available; and which derived.
+const ROWS: [(&str, u32, &[u32], &[u32]); 6] = [
+    ("lab1", 26, &[15, 16, 17, 20, 21, 22, 23], &[16, 21, 23]),
+    ("lab2", 26, &[15, 16, 17, 20, 21, 22, 23], &[16, 21, 23]),
+    ("other", 26, &[17], &[]),
+    ("two", 26, &[25], &[25]),
+    ("user", 32, &[17, 26, 28, 29, 30], &[26, 28]),
+    ("none", 26, &[], &[]),
 ];
-
-fn unit(alloc: Global) -> Option<Tables> {
-    read_unit(alloc, UNIT.as_bytes()).ok()
-}
-
-fn presets(alloc: Global, cpu: &str) -> Option<PresetTable> {
-    read_presets(alloc, PRESETS.as_bytes(), cpu).ok()
-}
-
-fn catalog(alloc: Global, cpu: &str) -> Option<Catalog> {
-    let tables = unit(alloc)?;
-    let presets = presets(alloc, cpu)?;
-    Catalog::build(alloc, tables, Some(presets)).ok()
-}
 
 fn has(rows: &[u32], row: u32) -> bool {
     rows.iter().any(|r| *r == row)
 }
 
-// Whether an entry is there exactly where its row is among these.
-fn is_kept(entries: &[Entry], rows: &[u32], row: u32) -> bool {
-    match entries.get(row as usize) {
-        Some(Entry::Def(_)) => has(rows, row),
-        Some(_) => !has(rows, row),
-        None => false,
+// Whether an event of this name is among these.
+fn has_event(events: &[UserEvent], name: &str) -> bool {
+    events.iter().any(|event| event.name.as_str() == name)
+}
+
+// Whether a preset's entry, or a user event, is kept.
+fn is_kept(kept: &Extended, catalog: &Catalog, row: u32) -> bool
+    requires { row < row_count catalog.now }
+{
+    match kept.presets().rows().get(row as usize) {
+        Some(entry) => matches!(entry, Entry::Def(_)),
+        None => has_event(kept.events(), catalog.name(row)),
     }
 }
 
 #[test]
-fn rows_of_presets(rt: HostRuntime) {
+fn rows_of_catalogs(rt: HostRuntime) {
     let alloc = rt.alloc();
-    for (cpu, available, derived) in ROWS {
+    for (cpu, count, available, derived) in ROWS {
         let catalog = catalog(alloc, cpu).expect(&rt, "a catalog");
-        let presets = presets(alloc, cpu).expect(&rt, "presets");
-        let kept = catalog.only_available(presets);
-        for row in 0..26 {
+        let extended = extended(alloc, cpu).expect(&rt, "presets");
+        let kept = catalog
+            .only_available(alloc, extended)
+            .expect(&rt, "memory");
+        assert!(rt; catalog.rows() == count, "{cpu}");
+        for row in 0..catalog.rows() {
             assert!(rt;
                 catalog.available(row) == has(available, row),
                 "{cpu} {row}"
             );
             assert!(rt; catalog.derived(row) == has(derived, row), "{cpu} {row}");
-            assert!(rt; is_kept(kept.rows(), available, row), "{cpu} {row}");
+            assert!(rt;
+                is_kept(&kept, &catalog, row) == has(available, row),
+                "{cpu} {row}"
+            );
         }
     }
 }
@@ -87,31 +69,46 @@ fn name_of(alloc: Global, catalog: &Catalog, text: &str) -> Result<String, Code>
     catalog.event_name(alloc, &event).map_err(|_| Code::Esys)
 }
 
+// Cpus, texts, and the names of the events that these name.
+const NAMES: [(&str, &str, &str); 8] = [
+    ("lab2", "br_inst", "lab::BR_INST:ALL"),
+    ("lab2", "cpu:::BR_INST:taken:u", "lab::BR_INST:TAKEN:u"),
+    ("lab2", "PAPI_TOT_INS", "PAPI_TOT_INS"),
+    ("lab2", "PAPI_BR_PRC", "PAPI_BR_PRC"),
+    ("user", "STALL2", "STALL2"),
+    // A user event stands before the native event of its name, which other texts name.
+    ("user", "CYCLES", "CYCLES"),
+    ("user", "cycles", "lab::CYCLES"),
+    ("user", "lab::CYCLES", "lab::CYCLES"),
+];
+
+// Cpus, texts, and the codes that refuse them.
+const REFUSED: [(&str, &str, Code); 11] = [
+    ("lab2", "NOPE", Code::Enoevnt),
+    ("lab2", "PAPI_FOO", Code::Enoevnt),
+    ("lab2", "PAPI_L1_DCM", Code::Enoevnt),
+    ("lab2", "PAPI_FP_OPS", Code::Enoevnt),
+    ("lab2", "PAPI_L2_DCM", Code::Enoevnt),
+    ("lab2", "papi_tot_ins", Code::Enoevnt),
+    ("lab2", "BR_INST:x", Code::Eattr),
+    ("lab2", "BR_INST:ALL:TAKEN", Code::Ecombo),
+    ("lab2", "STALL2", Code::Enoevnt),
+    ("user", "GONE", Code::Enoevnt),
+    ("user", "stall2", Code::Enoevnt),
+];
+
 #[test]
 fn names_of_events(rt: HostRuntime) {
     let alloc = rt.alloc();
-    let catalog = catalog(alloc, "lab2").expect(&rt, "a catalog");
-    for (text, name) in [
-        ("br_inst", "lab::BR_INST:ALL"),
-        ("cpu:::BR_INST:taken:u", "lab::BR_INST:TAKEN:u"),
-        ("PAPI_TOT_INS", "PAPI_TOT_INS"),
-        ("PAPI_BR_PRC", "PAPI_BR_PRC"),
-    ] {
+    for (cpu, text, name) in NAMES {
+        let catalog = catalog(alloc, cpu).expect(&rt, "a catalog");
         match name_of(alloc, &catalog, text) {
             Ok(found) => assert!(rt; found.as_str() == name, "{text}"),
             Err(_) => assert!(rt; false, "{text}"),
         }
     }
-    for (text, code) in [
-        ("NOPE", Code::Enoevnt),
-        ("PAPI_FOO", Code::Enoevnt),
-        ("PAPI_L1_DCM", Code::Enoevnt),
-        ("PAPI_FP_OPS", Code::Enoevnt),
-        ("PAPI_L2_DCM", Code::Enoevnt),
-        ("papi_tot_ins", Code::Enoevnt),
-        ("BR_INST:x", Code::Eattr),
-        ("BR_INST:ALL:TAKEN", Code::Ecombo),
-    ] {
+    for (cpu, text, code) in REFUSED {
+        let catalog = catalog(alloc, cpu).expect(&rt, "a catalog");
         match name_of(alloc, &catalog, text) {
             Ok(_) => assert!(rt; false, "{text}"),
             Err(refused) => assert!(rt; refused == code, "{text}"),
@@ -122,7 +119,7 @@ fn names_of_events(rt: HostRuntime) {
 #[test]
 fn no_presets(rt: HostRuntime) {
     let alloc = rt.alloc();
-    let tables = unit(alloc).expect(&rt, "a unit");
+    let tables = unit(alloc, UNIT).expect(&rt, "a unit");
     let catalog = Catalog::build(alloc, tables, None).expect(&rt, "memory");
     assert!(rt; catalog.lookup("PAPI_TOT_INS") == Err(Code::Enoevnt));
     assert!(rt; !catalog.available(17));
@@ -142,7 +139,7 @@ fn mentioned(codes: &mut NativeCodes, native: Native) -> Option<u32> {
 #[test]
 fn codes_of_native_events(rt: HostRuntime) {
     let alloc = rt.alloc();
-    let tables = unit(alloc).expect(&rt, "a unit");
+    let tables = unit(alloc, UNIT).expect(&rt, "a unit");
     let mut codes = NativeCodes::new(alloc);
     assert!(rt; codes.native_of(0x40000000, 1).is_none());
     for (text, code, count) in [

@@ -20,6 +20,8 @@ mod preset_csv_tests;
 #[cfg(test)]
 mod profil_hist_tests;
 #[cfg(test)]
+mod region_report_tests;
+#[cfg(test)]
 mod reply_text_tests;
 #[cfg(test)]
 mod table_rows_tests;

@@ -1,37 +1,10 @@
-//! Listings over the lab unit. The texts are those of docs/FORMATS.md.
+//! Listings over the lab unit, its presets and its user events. The texts are those of docs/FORMATS.md.
 
-use crate::lab::UNIT;
-use component_table::Catalog;
-use event_tables::{Tables, read_unit};
+use crate::lab::{UNIT, catalog, unit};
 use listing_text::{NamedEvent, avail_event, avail_list, native_event, native_list};
-use preset_csv::read_presets;
-use std::alloc::Global;
 
-const PRESETS: &str = "CPU,lab2\n\
-PRESET,PAPI_TOT_INS,NOT_DERIVED,lab::INST_RETIRED\n\
-PRESET,PAPI_TOT_CYC,NOT_DERIVED,lab::CYCLES\n\
-PRESET,PAPI_BR_INS,NOT_DERIVED,lab::BR_INST:ALL\n\
-PRESET,PAPI_BR_MSP,NOT_DERIVED,lab::BR_MISP\n\
-PRESET,PAPI_RES_STL,DERIVED_SUB,lab::CYCLES,lab::INST_RETIRED\n\
-PRESET,PAPI_LST_INS,DERIVED_ADD,lab::CACHE,lab::INST_RETIRED\n\
-PRESET,PAPI_BR_PRC,DERIVED_POSTFIX,N0|N1|-|,lab::BR_INST:ALL,lab::BR_MISP\n\
-PRESET,PAPI_FP_OPS,DERIVED_PS,lab::INST_RETIRED\n\
-PRESET,PAPI_L1_DCM,NOT_DERIVED,lab::NO_SUCH\n\
-CPU,one\n\
-PRESET,PAPI_TOT_CYC,DERIVED_ADD,CYCLES\n";
-
-fn unit(alloc: Global, text: &str) -> Option<Tables> {
-    read_unit(alloc, text.as_bytes()).ok()
-}
-
-fn catalog(alloc: Global, cpu: &str) -> Option<Catalog> {
-    let tables = unit(alloc, UNIT)?;
-    let presets = read_presets(alloc, PRESETS.as_bytes(), cpu).ok()?;
-    Catalog::build(alloc, tables, Some(presets)).ok()
-}
-
-// The cpus, and the list of their available presets.
-const AVAILABLE: [(&str, &str); 3] = [
+// The cpus, and the list of their available presets and user events.
+const AVAILABLE: [(&str, &str); 4] = [
     (
         "lab2",
         "Name          Code        Avail  Deriv  Description\n\
@@ -50,6 +23,17 @@ const AVAILABLE: [(&str, &str); 3] = [
          PAPI_TOT_CYC  0x8000003b  Yes    Yes    Total cycles\n\
          Of 26 possible events, 1 are available, of which 1 are derived.\n",
     ),
+    // A name that is as long as its column, or longer, is written whole with nothing added.
+    (
+        "user",
+        "Name          Code        Avail  Deriv  Description\n\
+         PAPI_TOT_INS  0x80000032  Yes    No     Instructions completed\n\
+         STALL2        0xc0000000  Yes    Yes    User defined event\n\
+         BRANCHES_PREDICTED0xc0000002  Yes    Yes    User defined event\n\
+         CYCLES        0xc0000003  Yes    No     User defined event\n\
+         FOURTEEN_CHARS0xc0000004  Yes    No     User defined event\n\
+         Of 32 possible events, 5 are available, of which 2 are derived.\n",
+    ),
     (
         "none",
         "Name          Code        Avail  Deriv  Description\n\
@@ -58,7 +42,7 @@ const AVAILABLE: [(&str, &str); 3] = [
 ];
 
 #[test]
-fn available_presets(rt: HostRuntime) {
+fn available_events(rt: HostRuntime) {
     let alloc = rt.alloc();
     for (cpu, expected) in AVAILABLE {
         let catalog = catalog(alloc, cpu).expect(&rt, "a catalog");
@@ -67,63 +51,108 @@ fn available_presets(rt: HostRuntime) {
     }
 }
 
+// The cpus, a line in the list of all their presets and user events, and the end of that list.
+const ALL: [(&str, &str, &str); 2] = [
+    (
+        "lab2",
+        "\nPAPI_FP_OPS   0x80000066  No     No     Floating point operations\n",
+        "\nOf 26 possible events, 7 are available, of which 3 are derived.\n",
+    ),
+    (
+        "user",
+        "\nGONE          0xc0000001  No     No     User defined event\n",
+        "\nrate          0xc0000005  No     No     User defined event\n\
+         Of 32 possible events, 5 are available, of which 2 are derived.\n",
+    ),
+];
+
 #[test]
-fn all_presets(rt: HostRuntime) {
+fn all_events(rt: HostRuntime) {
     let alloc = rt.alloc();
-    let catalog = catalog(alloc, "lab2").expect(&rt, "a catalog");
-    let text = avail_list(alloc, &catalog, false).expect(&rt, "memory");
-    let row = "\nPAPI_FP_OPS   0x80000066  No     No     Floating point operations\n";
-    assert!(rt; text.as_str().contains(row));
-    assert!(rt;
-        text.as_str().ends_with(
-            "\nOf 26 possible events, 7 are available, of which 3 are derived.\n"
-        )
-    );
+    for (cpu, line, end) in ALL {
+        let catalog = catalog(alloc, cpu).expect(&rt, "a catalog");
+        let text = avail_list(alloc, &catalog, false).expect(&rt, "memory");
+        assert!(rt; text.as_str().contains(line), "{cpu}");
+        assert!(rt; text.as_str().ends_with(end), "{cpu}");
+    }
 }
 
 fn says(event: &NamedEvent, known: bool, text: &str) -> bool {
     event.known == known && event.text.as_str() == text
 }
 
-const PRESET_EVENTS: [(&str, bool, &str); 7] = [
+// The cpus, names, whether these are known, and what is printed.
+const NAMED: [(&str, &str, bool, &str); 12] = [
     (
+        "lab2",
         "PAPI_RES_STL",
         true,
         "Name: PAPI_RES_STL\nCode: 0x80000039\nAvailable: Yes\nDerived: DERIVED_SUB\n\
          Native 0: lab::CYCLES\nNative 1: lab::INST_RETIRED\n",
     ),
     (
+        "lab2",
         "PAPI_BR_PRC",
         true,
         "Name: PAPI_BR_PRC\nCode: 0x8000002f\nAvailable: Yes\nDerived: DERIVED_POSTFIX\n\
          Formula: N0|N1|-|\nNative 0: lab::BR_INST:ALL\nNative 1: lab::BR_MISP\n",
     ),
     (
+        "lab2",
         "PAPI_LST_INS",
         true,
         "Name: PAPI_LST_INS\nCode: 0x8000003c\nAvailable: Yes\nDerived: DERIVED_ADD\n\
          Native 0: lab::CACHE\nNative 1: lab::INST_RETIRED\n",
     ),
     (
+        "lab2",
         "PAPI_BR_INS",
         true,
         "Name: PAPI_BR_INS\nCode: 0x80000037\nAvailable: Yes\nDerived: NOT_DERIVED\n\
          Native 0: lab::BR_INST:ALL\n",
     ),
     (
+        "lab2",
         "PAPI_L1_DCM",
         true,
         "Name: PAPI_L1_DCM\nCode: 0x80000000\nAvailable: No\n",
     ),
-    ("PAPI_NOPE", false, "No such event: PAPI_NOPE\n"),
-    ("papi_tot_ins", false, "No such event: papi_tot_ins\n"),
+    ("lab2", "PAPI_NOPE", false, "No such event: PAPI_NOPE\n"),
+    (
+        "lab2",
+        "papi_tot_ins",
+        false,
+        "No such event: papi_tot_ins\n",
+    ),
+    (
+        "user",
+        "STALL2",
+        true,
+        "Name: STALL2\nCode: 0xc0000000\nAvailable: Yes\nDerived: DERIVED_POSTFIX\n\
+         Formula: N0|N1|-|2|*|\nNative 0: lab::CYCLES\nNative 1: lab::INST_RETIRED\n",
+    ),
+    (
+        "user",
+        "CYCLES",
+        true,
+        "Name: CYCLES\nCode: 0xc0000003\nAvailable: Yes\nDerived: NOT_DERIVED\n\
+         Native 0: lab::INST_RETIRED\n",
+    ),
+    (
+        "user",
+        "rate",
+        true,
+        "Name: rate\nCode: 0xc0000005\nAvailable: No\n",
+    ),
+    ("user", "Rate", false, "No such event: Rate\n"),
+    ("lab2", "STALL2", false, "No such event: STALL2\n"),
 ];
 
 #[test]
-fn preset_events(rt: HostRuntime) {
+fn named_events(rt: HostRuntime) {
     let alloc = rt.alloc();
-    let catalog = catalog(alloc, "lab2").expect(&rt, "a catalog");
-    for (name, known, text) in PRESET_EVENTS {
+    for (cpu, name, known, text) in NAMED {
+        let catalog = catalog(alloc, cpu).expect(&rt, "a catalog");
         let event = avail_event(alloc, &catalog, name).expect(&rt, "memory");
         assert!(rt; says(&event, known, text), "{name}");
     }

@@ -1,27 +1,12 @@
 //! Preset files, read with memory at hand.
 
+use crate::lab::PRESETS;
 use postfix_rules::FormulaCause;
 use preset_csv::{
     Entry, Kind, PresetCause, PresetFault, PresetTable, cause_text, preset_row, read_presets,
     write_presets,
 };
 use std::alloc::Global;
-
-const LAB: &str = "# presets of the lab unit\n\
-CPU,lab1\n\
-CPU,lab2\n\
-PRESET,PAPI_TOT_INS,NOT_DERIVED,lab::INST_RETIRED\n\
-PRESET, PAPI_TOT_CYC, NOT_DERIVED, lab::CYCLES, NOTE, 'core, not reference'\n\
-PRESET,PAPI_BR_INS,NOT_DERIVED,lab::BR_INST:ALL\n\
-PRESET,PAPI_BR_MSP,NOT_DERIVED,lab::BR_MISP\n\
-PRESET,PAPI_RES_STL,DERIVED_SUB,lab::CYCLES,lab::INST_RETIRED\n\
-PRESET,PAPI_LST_INS,DERIVED_ADD,lab::CACHE,lab::INST_RETIRED\n\
-PRESET,PAPI_BR_PRC,DERIVED_POSTFIX,N0|N1|-|,lab::BR_INST:ALL,lab::BR_MISP\n\
-PRESET,PAPI_FP_OPS,DERIVED_PS,lab::INST_RETIRED\n\
-PRESET,PAPI_FOO,NOT_DERIVED,lab::CYCLES\n\
-PRESET,PAPI_L1_DCM,NOT_DERIVED,lab::NO_SUCH\n\
-CPU,other\n\
-PRESET,PAPI_TOT_INS,NOT_DERIVED,lab::CYCLES\n";
 
 const LAB2_WRITTEN: &str = "CPU,lab2\n\
 PRESET,PAPI_L1_DCM,NOT_DERIVED,lab::NO_SUCH\n\
@@ -75,19 +60,19 @@ fn lab_presets(rt: HostRuntime) {
     let alloc = rt.alloc();
     let one = Seen::Def(Kind::NotDerived, 1);
     for cpu in ["lab1", "lab2"] {
-        assert!(rt; seen_in(alloc, LAB, cpu, "PAPI_TOT_INS") == one);
-        assert!(rt; seen_in(alloc, LAB, cpu, "PAPI_TOT_CYC") == one);
-        assert!(rt; seen_in(alloc, LAB, cpu, "PAPI_L1_DCM") == one);
-        assert!(rt; seen_in(alloc, LAB, cpu, "PAPI_RES_STL") == Seen::Def(Kind::Sub, 2));
-        assert!(rt; seen_in(alloc, LAB, cpu, "PAPI_LST_INS") == Seen::Def(Kind::Add, 2));
-        assert!(rt; seen_in(alloc, LAB, cpu, "PAPI_BR_PRC") == Seen::Def(Kind::Postfix, 2));
-        assert!(rt; seen_in(alloc, LAB, cpu, "PAPI_FP_OPS") == Seen::Uncomputed);
-        assert!(rt; seen_in(alloc, LAB, cpu, "PAPI_L1_ICM") == Seen::Missing);
+        assert!(rt; seen_in(alloc, PRESETS, cpu, "PAPI_TOT_INS") == one);
+        assert!(rt; seen_in(alloc, PRESETS, cpu, "PAPI_TOT_CYC") == one);
+        assert!(rt; seen_in(alloc, PRESETS, cpu, "PAPI_L1_DCM") == one);
+        assert!(rt; seen_in(alloc, PRESETS, cpu, "PAPI_RES_STL") == Seen::Def(Kind::Sub, 2));
+        assert!(rt; seen_in(alloc, PRESETS, cpu, "PAPI_LST_INS") == Seen::Def(Kind::Add, 2));
+        assert!(rt; seen_in(alloc, PRESETS, cpu, "PAPI_BR_PRC") == Seen::Def(Kind::Postfix, 2));
+        assert!(rt; seen_in(alloc, PRESETS, cpu, "PAPI_FP_OPS") == Seen::Uncomputed);
+        assert!(rt; seen_in(alloc, PRESETS, cpu, "PAPI_L1_ICM") == Seen::Missing);
     }
-    assert!(rt; seen_in(alloc, LAB, "other", "PAPI_TOT_INS") == one);
-    assert!(rt; seen_in(alloc, LAB, "other", "PAPI_TOT_CYC") == Seen::Missing);
-    assert!(rt; seen_in(alloc, LAB, "lab3", "PAPI_TOT_INS") == Seen::Missing);
-    assert!(rt; seen_in(alloc, LAB, "LAB1", "PAPI_TOT_INS") == Seen::Missing);
+    assert!(rt; seen_in(alloc, PRESETS, "other", "PAPI_TOT_INS") == one);
+    assert!(rt; seen_in(alloc, PRESETS, "other", "PAPI_TOT_CYC") == Seen::Missing);
+    assert!(rt; seen_in(alloc, PRESETS, "lab3", "PAPI_TOT_INS") == Seen::Missing);
+    assert!(rt; seen_in(alloc, PRESETS, "LAB1", "PAPI_TOT_INS") == Seen::Missing);
 }
 
 #[test]
@@ -245,21 +230,21 @@ fn is_written(alloc: Global, file: &str, cpu: &str, text: &str) -> bool {
 #[test]
 fn written_tables(rt: HostRuntime) {
     let alloc = rt.alloc();
-    assert!(rt; is_written(alloc, LAB, "lab2", LAB2_WRITTEN));
+    assert!(rt; is_written(alloc, PRESETS, "lab2", LAB2_WRITTEN));
     assert!(rt; is_written(alloc, LAB2_WRITTEN, "lab2", LAB2_WRITTEN));
     // numbers have no leading zeros, and each token ends in a bar
     let file = "CPU,a\nPRESET,PAPI_TOT_INS,DERIVED_POSTFIX, N00 | 007|*,x\n";
     let text = "CPU,a\nPRESET,PAPI_TOT_INS,DERIVED_POSTFIX,N0|7|*|,x\n";
     assert!(rt; is_written(alloc, file, "a", text));
     // a name that can stand in no field
-    assert!(rt; is_written(alloc, LAB, "a,b", "CPU,a,b\n"));
+    assert!(rt; is_written(alloc, PRESETS, "a,b", "CPU,a,b\n"));
     assert!(rt; is_written(alloc, "CPU,a,b\n", "a,b", "CPU,a,b\n"));
 }
 
 #[test]
 fn missing_entries(rt: HostRuntime) {
     let alloc = rt.alloc();
-    let mut table = read_presets(alloc, LAB.as_bytes(), "lab1").expect(&rt, "a table");
+    let mut table = read_presets(alloc, PRESETS.as_bytes(), "lab1").expect(&rt, "a table");
     assert!(rt; table.cpu() == "lab1" && table.rows().len() == 26);
     for row in 1..26 {
         table.set_missing(row);

@@ -1,15 +1,11 @@
-//! Replies over a small unit, as text.
+//! Replies over the lab unit and a cpu with user events, as text.
+use crate::lab::catalog;
 use component_table::Catalog;
 use event_sets::Clash;
-use event_tables::read_unit;
 use overflow_dispatch::Note;
-use papi_base::{CallName, Code, EventRef, Natives, Values};
+use papi_base::{CallName, Code, EventRef, Events, Natives, Values};
 use reply_text::{push_note_line, push_reply_line};
 use session_model::{Body, Ended, Ran, Reply};
-use std::alloc::Global;
-
-const UNIT: &[u8] =
-    b"COMPONENT,cpu,lab\nCOUNTER,P0,16,P\nCOUNTER,P1,16,P\nEVENT,BR_INST,c4,P0,x\nUMASK,ALL,01,d,x\nEVENT,BR_MISP,c5,P0,x\n";
 
 const LINES: &str = "3 0 read PAPI_OK 13 -7\n\
 3 0 run PAPI_ESYS 1 0\n\
@@ -17,12 +13,9 @@ const LINES: &str = "3 0 read PAPI_OK 13 -7\n\
 3 0 state PAPI_OK 0x12\n\
 3 0 threads PAPI_OK 0 5 63\n\
 3 0 code PAPI_OK 0x40000001\n\
-3 0 name PAPI_OK lab::BR_MISP\n";
-
-fn catalog(alloc: Global) -> Option<Catalog> {
-    let tables = read_unit(alloc, UNIT).ok()?;
-    Catalog::build(alloc, tables, None).ok()
-}
+3 0 name PAPI_OK lab::BR_MISP\n\
+3 0 name PAPI_OK GONE\n\
+3 0 events PAPI_OK STALL2 lab::BR_MISP PAPI_TOT_INS\n";
 
 // The native events of some texts.
 fn natives(catalog: &Catalog, texts: [&str; 2]) -> Natives {
@@ -37,6 +30,23 @@ fn natives(catalog: &Catalog, texts: [&str; 2]) -> Natives {
     natives
 }
 
+fn event_of(catalog: &Catalog, text: &str) -> Option<EventRef> {
+    catalog.lookup(text).ok()
+}
+
+// The events of some texts.
+fn events(catalog: &Catalog, texts: [&str; 3]) -> Events {
+    let mut events = Events::new();
+    for text in texts {
+        if let Ok(event) = catalog.lookup(text)
+            && events.len() < 32
+        {
+            events.push(event);
+        }
+    }
+    events
+}
+
 // Appends the line of a reply of line 3 and thread 0.
 fn push(text: &mut String, catalog: &Catalog, word: CallName, code: Code, body: Body) -> bool {
     push_reply_line(text, catalog, 3, 0, word, &Reply { code, body }).is_ok()
@@ -45,7 +55,7 @@ fn push(text: &mut String, catalog: &Catalog, word: CallName, code: Code, body: 
 #[test]
 fn lines_of_replies(rt: HostRuntime) {
     let alloc = rt.alloc();
-    let catalog = catalog(alloc).expect(&rt, "a catalog");
+    let catalog = catalog(alloc, "user").expect(&rt, "a catalog");
     let mut text = String::new(alloc);
     let mut values = Values::new();
     values.push(13);
@@ -114,20 +124,29 @@ fn lines_of_replies(rt: HostRuntime) {
             Body::EventCode(0x40000001)
         )
     );
-    match catalog.lookup("BR_MISP") {
-        Ok(event) => {
-            assert!(rt;
-                push(
-                    &mut text,
-                    &catalog,
-                    CallName::Name,
-                    Code::Ok,
-                    Body::EventName(event)
-                )
-            );
-        }
-        Err(_) => assert!(rt; false),
+    // An event has its name whether it is available or not.
+    for event in [event_of(&catalog, "BR_MISP"), Some(EventRef::Preset(27))] {
+        let event = event.expect(&rt, "an event");
+        assert!(rt;
+            push(
+                &mut text,
+                &catalog,
+                CallName::Name,
+                Code::Ok,
+                Body::EventName(event)
+            )
+        );
     }
+    let events = events(&catalog, ["STALL2", "BR_MISP", "PAPI_TOT_INS"]);
+    assert!(rt;
+        push(
+            &mut text,
+            &catalog,
+            CallName::Events,
+            Code::Ok,
+            Body::Events(events)
+        )
+    );
     assert!(rt; text.as_str() == LINES);
 }
 

@@ -45,6 +45,34 @@ const REFUSED: [(&str, u64, PresetCause); 8] = [
     ("PRESET,PAPI_TOT_CYC,BAD,c", 3, PresetCause::BadField),
 ];
 
+// Rows below a CPU row and one EVENT row, and the names that are read.
+const TAKEN: [(&str, &str); 7] = [
+    (
+        "EVENT,A2345678901234567890123456789012,NOT_DERIVED,c",
+        "FIRST+A2345678901234567890123456789012+",
+    ),
+    ("EVENT,first,NOT_DERIVED,c", "FIRST+first+"),
+    // The same name twice in one group, in two groups of the cpu, and in another cpu's group.
+    (
+        "EVENT,A,NOT_DERIVED,c\nEVENT,FIRST,DERIVED_CMPD,c",
+        "FIRST-A+",
+    ),
+    (
+        "CPU,b\nEVENT,B,NOT_DERIVED,c\nCPU,a\nEVENT,FIRST,DERIVED_CMPD,c",
+        "FIRST-",
+    ),
+    ("CPU,b\nEVENT,FIRST,DERIVED_CMPD,c", "FIRST+"),
+    // An EVENT row ends the group of the CPU rows above it, whatever its own group is.
+    (
+        "CPU,b\nCPU,a\nEVENT,A,NOT_DERIVED,c\nCPU,b\nEVENT,B,NOT_DERIVED,c",
+        "FIRST+A+",
+    ),
+    (
+        "CPU,b\nEVENT,B,NOT_DERIVED,c\nCPU,a\nCPU,b\nEVENT,A,NOT_DERIVED,c",
+        "FIRST+A+",
+    ),
+];
+
 fn is_computed(entry: &Entry) -> bool {
     match entry {
         Entry::Def(_) => true,
@@ -98,14 +126,39 @@ fn user_events_in_order(rt: HostRuntime) {
     assert!(rt; !is_preset_computed(rt.alloc(), "other"));
 }
 
-fn fault_of(alloc: Global, row: &str) -> Option<PresetFault> {
-    let mut text = String::from_str(alloc, "CPU,a\nEVENT,FIRST,NOT_DERIVED,c\n").ok()?;
-    text.push_str(row).ok()?;
+// A file with these rows below a CPU row and one EVENT row.
+fn file_with(alloc: Global, rows: &str) -> Option<String> {
+    format!(in alloc; "CPU,a\nEVENT,FIRST,NOT_DERIVED,c\n{rows}").ok()
+}
+
+fn names_with(alloc: Global, rows: &str) -> Option<String> {
+    let text = file_with(alloc, rows)?;
+    let x = read_extended(alloc, text.as_bytes(), "a").ok()?;
+    names_of(alloc, &x)
+}
+
+fn fault_of(alloc: Global, rows: &str) -> Option<PresetFault> {
+    let text = file_with(alloc, rows)?;
     read_extended(alloc, text.as_bytes(), "a").err()
 }
 
 #[test]
+fn names_in_groups(rt: HostRuntime) {
+    for (rows, names) in TAKEN {
+        assert!(rt; is_text(names_with(rt.alloc(), rows), names), "{rows}");
+    }
+}
+
+#[test]
 fn refused_user_events(rt: HostRuntime) {
+    let before = read_extended(rt.alloc(), b"EVENT,A,NOT_DERIVED,c\nCPU,a\n", "b");
+    assert!(rt;
+        before.err()
+            == Some(PresetFault::Row {
+                row: 1,
+                cause: PresetCause::NoCpu
+            })
+    );
     for (text, row, cause) in REFUSED {
         assert!(rt;
             fault_of(rt.alloc(), text) == Some(PresetFault::Row { row, cause }),
@@ -132,4 +185,33 @@ fn written_user_events(rt: HostRuntime) {
     assert!(rt; is_written(rt.alloc(), FILE, "lab1", LAB1_WRITTEN));
     assert!(rt; is_written(rt.alloc(), LAB1_WRITTEN, "lab1", LAB1_WRITTEN));
     assert!(rt; is_written(rt.alloc(), LAB1_WRITTEN, "lab2", "CPU,lab2\n"));
+}
+
+// A file with so many names for a cpu, and the first of them again.
+fn file_of(alloc: Global, names: u32) -> Option<String> {
+    let mut text = String::from_str(alloc, "CPU,a\n").ok()?;
+    for i in 0..names {
+        let row = format!(in alloc; "EVENT,E{i},NOT_DERIVED,c\n").ok()?;
+        text.push_str(row.as_str()).ok()?;
+    }
+    text.push_str("EVENT,E0,DERIVED_CMPD,c\n").ok()?;
+    Some(text)
+}
+
+#[test]
+fn most_names(rt: HostRuntime) {
+    let text = file_of(rt.alloc(), 256).expect(&rt, "memory");
+    match read_extended(rt.alloc(), text.as_bytes(), "a") {
+        Ok(x) => assert!(rt; x.events().len() == 256),
+        Err(_) => assert!(rt; false),
+    }
+    let text = file_of(rt.alloc(), 257).expect(&rt, "memory");
+    let refused = read_extended(rt.alloc(), text.as_bytes(), "a").err();
+    assert!(rt;
+        refused
+            == Some(PresetFault::Row {
+                row: 258,
+                cause: PresetCause::OverLimit
+            })
+    );
 }

@@ -3,7 +3,7 @@ use Rattle.std.proofs.Common.{◌≡◌, ℕ, zero, suc, Bool, true, false, List
 use Rattle.clap.specs.Words.{Text}
 use Rattle.clap.proofs.OnLiterals.{clap_on_literals}
 use Rattle.tool_words.specs.declared.command.Command.{Command}
-use Rattle.tool_words.specs.declared.command.Command.TheVariants.{Avail, Decode, Encode, EventChooser, NativeAvail, Profil, Run, Soak}
+use Rattle.tool_words.specs.declared.command.Command.TheVariants.{Avail, Decode, Encode, EventChooser, NativeAvail, Profil, Regions, Run, Soak}
 use Rattle.tool_words.specs.declared.chooser.EventKind.{EventKind}
 use Rattle.tool_words.specs.declared.chooser.EventKind.TheVariants.{Native, Preset}
 use Rattle.tool_words.specs.AvailForm.{avail_rules, avail_words_in}
@@ -17,6 +17,8 @@ use Rattle.tool_words.specs.Options.{available_rule, event_rule, script_rule, un
 use Rattle.tool_words.specs.Numbers.{number_rule}
 use Rattle.tool_words.specs.Presets.{cpu_rule, is_cpu, needed_cpu_rule, needed_presets_rule, presets_rule}
 use Rattle.tool_words.specs.ProfilForm.{index_rule, map_rule, profil_rules, profil_words_in, set_rule, thread_rule}
+use Rattle.tool_words.specs.EventList.{parts_of}
+use Rattle.tool_words.specs.RegionsForm.{event_list_rule, regions_rules, regions_words_in}
 use Rattle.tool_words.specs.RunForm.{notes_rule, run_rules, run_words_in}
 use Rattle.tool_words.specs.SoakForm.{rounds_rule, soak_rules, soak_words_in}
 use Rattle.tool_words.specs.Streams.{streams_rule}
@@ -24,7 +26,7 @@ use Rattle.tool_words.specs.Words.{read_by}
 use Rattle.tool_words.specs.Workers.{workers_rule}
 
 unfoldable on_words : Unit {0}
-unfolding clap_on_literals read_by unit_rule presets_rule cpu_rule is_cpu run_words_in run_rules workers_rule notes_rule script_rule streams_rule encode_words_in encode_rules names_rule decode_words_in decode_rules needed_presets_rule needed_cpu_rule available_rule avail_words_in avail_rules event_rule native_avail_words_in native_avail_rules included_rule excluded_rule no_umasks_rule chooser_words_in chooser_rules kind_rule events_rule soak_words_in soak_rules rounds_rule profil_words_in profil_rules map_rule thread_rule set_rule index_rule number_rule
+unfolding clap_on_literals read_by unit_rule presets_rule cpu_rule is_cpu run_words_in run_rules workers_rule notes_rule script_rule streams_rule encode_words_in encode_rules names_rule decode_words_in decode_rules needed_presets_rule needed_cpu_rule available_rule avail_words_in avail_rules event_rule native_avail_words_in native_avail_rules included_rule excluded_rule no_umasks_rule chooser_words_in chooser_rules kind_rule events_rule soak_words_in soak_rules rounds_rule profil_words_in profil_rules map_rule thread_rule set_rule index_rule number_rule regions_words_in regions_rules event_list_rule parts_of
 on_words = tt
 
 abbrev lab_run : Text → List Text → Command
@@ -347,6 +349,50 @@ a_thread_too_many = refl
 pub an_index_too_many : form (profil_words_of (codes "-Mm" ∷ codes "--index=32" ∷ codes "s" ∷ [])) ≡ None
 unfolding on_words
 an_index_too_many = refl
+
+-- ---- `papi_regions`
+
+abbrev lab_regions : List Text → List Text → Option Command
+lab_regions events streams = Some (Regions (record {
+  unit = codes "lab.unit";
+  presets = None;
+  events = events;
+  workers = 1;
+  script = codes "s";
+  streams = streams;
+}))
+
+abbrev regions_words_of : List Text → List Text
+regions_words_of words = codes "papi_regions" ∷ codes "-U" ∷ codes "lab.unit" ∷ words
+
+pub two_events : form (regions_words_of (codes "--events" ∷ codes "INST_RETIRED,lab::CYCLES" ∷ codes "s" ∷ codes "t0" ∷ []))
+    ≡ lab_regions (codes "INST_RETIRED" ∷ codes "lab::CYCLES" ∷ []) (codes "t0" ∷ [])
+unfolding on_words
+two_events = refl
+
+pub no_event_list : form (regions_words_of (codes "s" ∷ [])) ≡ None
+unfolding on_words
+no_event_list = refl
+
+pub empty_list : form (regions_words_of (codes "--events=" ∷ codes "s" ∷ [])) ≡ None
+unfolding on_words
+empty_list = refl
+
+pub empty_event : form (regions_words_of (codes "--events=A,,B" ∷ codes "s" ∷ [])) ≡ None
+unfolding on_words
+empty_event = refl
+
+pub comma_last : form (regions_words_of (codes "--events=A," ∷ codes "s" ∷ [])) ≡ None
+unfolding on_words
+comma_last = refl
+
+pub space_in_an_event : form (regions_words_of (codes "--events" ∷ codes "A, B" ∷ codes "s" ∷ [])) ≡ None
+unfolding on_words
+space_in_an_event = refl
+
+pub an_event_past_the_most : form (regions_words_of (codes "--events=a,b,c,d,e,f,g,h,i,j,k,l,m,n,o,p,q,r,s,t,u,v,w,x,y,z,A,B,C,D,E,F,G" ∷ codes "s" ∷ [])) ≡ None
+unfolding on_words
+an_event_past_the_most = refl
 
 -- ---- no tool
 

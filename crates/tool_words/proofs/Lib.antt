@@ -1,4 +1,5 @@
 pub mod ArgumentLemmas
+pub mod EventListLemmas
 pub mod FormLemmas
 pub mod NumberLemmas
 pub mod Examples

@@ -7,6 +7,7 @@ use Rattle.tool_words.specs.declared.encode.EncodeWords.{EncodeWords}
 use Rattle.tool_words.specs.Options.{unit_rule}
 use Rattle.tool_words.specs.Words.{app_with}
 
+-- `NAME..`, the texts of the native events to encode, one or more
 unfoldable pub names_rule : Rule
 names_rule = record (new_rule (codes "names")) {
   required = true;

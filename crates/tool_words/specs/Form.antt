@@ -3,13 +3,14 @@ use Rattle.std.specs.Prelude.{List, [], ◌∷◌, Option, codes, find, option_a
 use Rattle.std.specs.Str.{bytes_eq}
 use Rattle.clap.specs.Words.{Row, Rule, Text}
 use Rattle.tool_words.specs.declared.command.Command.{Command}
-use Rattle.tool_words.specs.declared.command.Command.TheVariants.{Run, Avail, NativeAvail, Decode, EventChooser, Encode, Soak, Profil}
+use Rattle.tool_words.specs.declared.command.Command.TheVariants.{Run, Avail, NativeAvail, Decode, EventChooser, Encode, Soak, Profil, Regions}
 use Rattle.tool_words.specs.AvailForm.{avail_rules, avail_words_in}
 use Rattle.tool_words.specs.ChooserForm.{chooser_rules, chooser_words_in}
 use Rattle.tool_words.specs.DecodeForm.{decode_rules, decode_words_in}
 use Rattle.tool_words.specs.EncodeForm.{encode_rules, encode_words_in}
 use Rattle.tool_words.specs.NativeAvailForm.{native_avail_rules, native_avail_words_in}
 use Rattle.tool_words.specs.ProfilForm.{profil_rules, profil_words_in}
+use Rattle.tool_words.specs.RegionsForm.{regions_rules, regions_words_in}
 use Rattle.tool_words.specs.RunForm.{run_rules, run_words_in}
 use Rattle.tool_words.specs.SoakForm.{soak_rules, soak_words_in}
 use Rattle.tool_words.specs.Words.{read_by}
@@ -34,6 +35,7 @@ tools =
     ∷ tool (codes "papi_encode") Encode encode_rules encode_words_in
     ∷ tool (codes "papi_soak") Soak soak_rules soak_words_in
     ∷ tool (codes "papi_profil") Profil profil_rules profil_words_in
+    ∷ tool (codes "papi_regions") Regions regions_rules regions_words_in
     ∷ []
 
 -- the tool that the words name

@@ -7,6 +7,8 @@ pub mod Streams
 pub mod RunForm
 pub mod AvailForm
 pub mod ProfilForm
+pub mod EventList
+pub mod RegionsForm
 pub mod NativeAvailForm
 pub mod ChooserForm
 pub mod SoakForm

@@ -10,11 +10,11 @@ use Rattle.tool_words.specs.Words.{app_with}
 unfoldable pub included_rule : Rule
 included_rule = record (new_rule (codes "included")) { short = Some 105 }
 
--- `-x STR`, the events without it
+-- `-x STR`, the events without this text in their names
 unfoldable pub excluded_rule : Rule
 excluded_rule = record (new_rule (codes "excluded")) { short = Some 120 }
 
--- `--noumasks`, no umasks
+-- `--noumasks`, the events without their umasks
 unfoldable pub no_umasks_rule : Rule
 no_umasks_rule = record (new_rule (codes "noumasks")) { long = Some (codes "noumasks"); action = Some SetTrue }
 

@@ -8,7 +8,7 @@ use Rattle.clap.specs.declared.builder.ArgAction.TheVariants.{SetTrue}
 unfoldable pub unit_rule : Rule
 unit_rule = record (new_rule (codes "unit")) { short = Some 85; required = true }
 
--- `SCRIPT`
+-- `SCRIPT`, the file with the calls that are run
 unfoldable pub script_rule : Rule
 script_rule = record (new_rule (codes "script")) { required = true }
 
@@ -16,7 +16,7 @@ script_rule = record (new_rule (codes "script")) { required = true }
 unfoldable pub available_rule : Rule
 available_rule = record (new_rule (codes "available")) { short = Some 97; action = Some SetTrue }
 
--- `-e NAME`, one event
+-- `-e NAME`, one event in place of the list
 unfoldable pub event_rule : Rule
 event_rule = record (new_rule (codes "event")) { short = Some 101 }
 

@@ -1,6 +1,7 @@
 -- The presets that the words of a tool ask for, in the words of `clap`: `-P PRESETS -C CPU`. What names a cpu is this project's
 -- own: docs/FORMATS.md.
-use Rattle.std.specs.Prelude.{◌&&◌, ◌||◌, ◌==◌, ◌-◌, ℕ, Bool, true, false, not, length, slice_index, nat_le, nat_lt, Option, Some, None, if◌then◌else◌, codes, option_map}
+use Rattle.std.specs.Prelude.{◌&&◌, ◌||◌, ◌==◌, ◌-◌, ℕ, Bool, true, false, not}
+use Rattle.std.specs.Prelude.{length, slice_index, nat_le, nat_lt, Option, Some, None, if◌then◌else◌, codes, option_map}
 use Rattle.std.specs.List.{list_all}
 use Rattle.clap.specs.Words.{Rule, Text, new_rule}
 use Rattle.tool_words.specs.declared.presets.PresetWords.{PresetWords}
@@ -13,14 +14,15 @@ presets_rule = record (new_rule (codes "presets")) { short = Some 80 }
 unfoldable pub cpu_rule : Rule
 cpu_rule = record (new_rule (codes "cpu")) { short = Some 67 }
 
--- the same two, of a tool that needs them
+-- `-P PRESETS`, of a tool that needs it
 unfoldable pub needed_presets_rule : Rule
 needed_presets_rule = record presets_rule { required = true }
 
+-- `-C CPU`, of a tool that needs it
 unfoldable pub needed_cpu_rule : Rule
 needed_cpu_rule = record cpu_rule { required = true }
 
--- a character from a space to `~` that is no comma
+-- a character from a space to `~` that is not a comma
 abbrev pub is_cpu_character : ℕ → Bool
 is_cpu_character b = nat_le 32 b && nat_le b 126 && not (b == 44)
 

@@ -16,13 +16,15 @@ use Rattle.tool_words.specs.Workers.{workers_of, workers_rule}
 unfoldable pub map_rule : Rule
 map_rule = record (new_rule (codes "map")) { short = Some 77; required = true }
 
--- whose notes are counted: those of a thread, of one of its sets, and of an event of that set
+-- `--thread T`, the thread whose notes are counted
 unfoldable pub thread_rule : Rule
 thread_rule = number_rule (codes "thread") LAST_THREAD
 
+-- `--set S`, a set of that thread
 unfoldable pub set_rule : Rule
 set_rule = number_rule (codes "set") LAST_SET
 
+-- `--index I`, the place of an event in that set, from 0
 unfoldable pub index_rule : Rule
 index_rule = number_rule (codes "index") LAST_INDEX
 

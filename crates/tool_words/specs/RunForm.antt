@@ -12,6 +12,7 @@ use Rattle.tool_words.specs.Streams.{streams_asked, streams_rule}
 use Rattle.tool_words.specs.Words.{app_with}
 use Rattle.tool_words.specs.Workers.{workers_of, workers_rule}
 
+-- `--notes`: the notes of overflows are printed after the replies
 unfoldable pub notes_rule : Rule
 notes_rule = record (new_rule (codes "notes")) { long = Some (codes "notes"); action = Some SetTrue }
 

@@ -6,6 +6,7 @@ use crate::decode::DecodeWords;
 use crate::encode::EncodeWords;
 use crate::native_avail::NativeAvailWords;
 use crate::profil::ProfilWords;
+use crate::regions::RegionsWords;
 use crate::run::RunWords;
 use crate::soak::SoakWords;
 
@@ -28,4 +29,6 @@ pub enum Command {
     Soak(SoakWords),
     /// `papi_profil`: counts where in a program thresholds were passed.
     Profil(ProfilWords),
+    /// `papi_regions`: counts by region of a program.
+    Regions(RegionsWords),
 }

@@ -16,6 +16,7 @@ pub mod native_avail;
 mod options;
 pub mod presets;
 pub mod profil;
+pub mod regions;
 pub mod run;
 pub mod soak;
 pub mod streams;
@@ -32,6 +33,7 @@ pub use fault::WordsFault;
 pub use native_avail::NativeAvailWords;
 pub use presets::PresetWords;
 pub use profil::{LAST_INDEX, LAST_SET, LAST_THREAD, ProfilWords};
+pub use regions::{EventTexts, RegionsWords};
 pub use run::RunWords;
 pub use soak::{MOST_ROUNDS, Rounds, SoakWords};
 use std::alloc::Global;
@@ -42,7 +44,7 @@ pub use workers::{MOST_WORKERS, Workers};
 
 /// What a program's words after its own name ask for: the first is a tool's name, the others are that tool's words.
 ///
-/// Each tool's words are those of a simple command of `clap`. A name that is no tool's, words outside the tool's form,
+/// Each tool's words are those of a simple command of `clap`. A name that is not a tool's, words outside the tool's form,
 /// and a request for help or for the version are bad words.
 pub fn read_words(alloc: Global, words: &[String]) -> Result<Command, WordsFault>
     ensures { Answers result (form (map string_bytes words.now)) }
@@ -56,6 +58,7 @@ pub fn read_words(alloc: Global, words: &[String]) -> Result<Command, WordsFault
         "papi_encode" => Ok(Command::Encode(read_tool(alloc, words)?)),
         "papi_soak" => Ok(Command::Soak(read_tool(alloc, words)?)),
         "papi_profil" => Ok(Command::Profil(read_tool(alloc, words)?)),
+        "papi_regions" => Ok(Command::Regions(read_tool(alloc, words)?)),
         _ => Err(WordsFault::BadWords),
     }
 }

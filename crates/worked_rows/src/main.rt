@@ -21,7 +21,13 @@ use std::thread::Threads;
 use std::{env, fs, io};
 
 // The names of the files that all rows have.
-const SHARED: [&str; 4] = ["lab.unit", "lab.presets", "full.unit", "several.unit"];
+const SHARED: [&str; 5] = [
+    "lab.unit",
+    "lab.presets",
+    "user.presets",
+    "full.unit",
+    "several.unit",
+];
 
 // What came of the rows of a file: how many there are, and what is said of those that differ.
 #[derive(Drop)]

@@ -64,6 +64,15 @@ returns-in-Encode-clause-grown g c = none_grown _
 pub returns-in-Encode-clause-met : goal.returns-in-Encode-clause-met
 returns-in-Encode-clause-met g c = textual_met c.encode_names.result _ _ c.encode_names.ensures.textual
 
+pub returns-in-Regions-clause-told : goal.returns-in-Regions-clause-told
+returns-in-Regions-clause-told g c = rw c.in-Regions.is (quiet_said _ c.count_regions.result _ c.count_regions.ensures.told)
+
+pub returns-in-Regions-clause-tells : goal.returns-in-Regions-clause-tells
+returns-in-Regions-clause-tells g c = rw c.in-Regions.is (quiet_tells _ c.count_regions.result _ _)
+
+pub returns-in-Regions-clause-grown : goal.returns-in-Regions-clause-grown
+returns-in-Regions-clause-grown g c = none_grown _
+
 pub returns-in-Soak-clause-told : goal.returns-in-Soak-clause-told
 returns-in-Soak-clause-told g c = rw c.in-Soak.is (whatever _ c.soak.ensures.told)
 

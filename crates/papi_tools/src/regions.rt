@@ -1,0 +1,229 @@
+//! `papi_regions`: counts by region of a program.
+ghost use Rattle.std.specs.Prelude.{◌≡◌, ◌≤◌, ◌-◌, ◌++◌, ◌∷◌, [], All, IfOk, IfSome, IsOkAnd, Ok, OnOk, length, vec_len};
+ghost use Rattle.papi_base.specs.Outside.{Rose};
+ghost use Rattle.region_laws.specs.Nesting.{AreBegun};
+ghost use Rattle.region_laws.specs.Spans.{AllFit};
+ghost use Rattle.region_report.specs.CallLines.{AreEvents, asked, numbered};
+ghost use Rattle.region_report.specs.Reports.{report_text};
+ghost use Rattle.region_report.specs.Spans.{reading_values, spans_from};
+ghost use Rattle.thread_session.specs.SessionView.{IsFresh};
+ghost use Rattle.papi_tools.specs.Answers.{Answers, AnswersBy};
+ghost use Rattle.papi_tools.specs.Causes.{MetCause};
+ghost use Rattle.papi_tools.specs.Looking.{Looked, StopsByFile, out_with};
+ghost use Rattle.papi_tools.specs.Marks.{marked_said};
+ghost use Rattle.papi_tools.specs.RegionCounts.{Counted, IsCounted, counted_under, readings_in, regions_said, regions_verdict};
+ghost use Rattle.papi_tools.specs.Seen.{FilesSeen, files_seen};
+ghost use Rattle.papi_tools.specs.Streams.{SomeFailed, sources_in};
+
+use crate::marks::{lines_of, outcome_of};
+use crate::region_file::read_region_file;
+use crate::running::{Ran, run_script};
+use crate::script_file::script_in;
+use crate::streams::{close_readers, open_readers};
+use crate::tables::read_catalog;
+use crate::{Output, Said, Stop};
+use chooser_list::{Candidates, choose};
+use component_table::Catalog;
+use overflow_dispatch::{Handler, Recorder};
+use papi_base::{Bytes, Files, Source, THREADS, Text};
+use plan_runner::ReplyLine;
+use region_laws::{readings_fit, script_law, span_law};
+use region_report::{Reading, Regions, report, script_of};
+use script_lines::Script;
+use session_model::Body;
+use std::alloc::{AllocError, Global};
+use std::marker::{Send, Sync};
+use std::thread::Threads;
+use stream_reader::StreamReader;
+use tool_words::RegionsWords;
+
+// ---- what was read
+
+// Appends the values that a reply shows, where it shows some.
+fn push_reading(readings: &mut Vec<Reading>, line: &ReplyLine) -> Result<(), AllocError>
+    ensures { OnOk result (reading_values readings.new.items ≡ reading_values readings.old.items ++ readings_in (line.now ∷ [])) }
+{
+    if let Body::Values(values) = &line.reply.body {
+        readings.push(Reading {
+            thread: line.thread,
+            values: values.copy(),
+        })?;
+    }
+    Ok(())
+}
+
+// What was read, in the order of the script.
+fn readings_of(alloc: Global, lines: &[ReplyLine]) -> Result<Vec<Reading>, AllocError>
+    ensures { IfOk result (λ readings. reading_values readings.items ≡ readings_in lines.now) }
+{
+    let mut readings = Vec::new(alloc);
+    for line in lines {
+        push_reading(&mut readings, line)?;
+    }
+    Ok(readings)
+}
+
+// What is said of a run.
+fn said_of(alloc: Global, regions: &Regions, events: &[Text], ran: &Ran) -> Result<Said, Stop>
+    requires { length events.now ≤ 32 }
+    ensures said { Answers result (Ok (marked_said ran.now.marks
+        (report_text (length events.now) (spans_from (readings_in ran.now.lines.items) 0 regions.now)))) }
+    ensures fit { IfOk result (λ _. AllFit (readings_in ran.now.lines.items)) }
+    ensures cause { (before after : FilesSeen) → StopsByFile result before after }
+{
+    let readings = readings_of(alloc, ran.lines.as_slice())?;
+    let read = readings.as_slice();
+    readings_fit(read);
+    let text = report(alloc, regions, events.len() as u32, read)?;
+    let err = lines_of(alloc, &ran.marks)?;
+    Ok(Said {
+        outcome: outcome_of(&ran.marks),
+        out: Output::text(Bytes::new(text.into_bytes())),
+        err,
+    })
+}
+
+// ---- the run
+
+// The script of calls that a region script stands for.
+fn calls_of(alloc: Global, regions: &Regions, events: &[Text]) -> Result<Script, Stop>
+    requires { AreEvents events.now }
+    ensures told { Answers result (Ok (numbered 1 (asked regions.now events.now))) }
+    ensures cause { (before after : FilesSeen) → StopsByFile result before after }
+{
+    let text = script_of(alloc, regions, events)?;
+    script_in(alloc, "regions", text.as_bytes())
+}
+
+// Runs the script of calls over the readers, where a set takes the events, and says what came of it.
+fn count<R: Threads + Sync, S: Source + Send>(
+    rt: &R,
+    alloc: Global,
+    catalog: &Catalog,
+    regions: &Regions,
+    words: &RegionsWords,
+    readers: &mut Vec<StreamReader<S>>,
+) -> Result<Said, Stop>
+    requires readers { vec_len readers.old ≡ THREADS }
+    requires fresh { All IsFresh readers.old.items }
+    requires begun { AreBegun regions.now }
+    ensures told { (given : Counted) → IsCounted catalog.now regions.now readers.old.items given → Answers result (Ok (regions_said words.now.events given)) }
+    ensures met { (before after : FilesSeen) → (SomeFailed readers.new.items → Rose before.faults after.faults)
+        → IfOk result (λ said. MetCause said.outcome before after said) }
+    ensures cause { (before after : FilesSeen) → StopsByFile result before after }
+    ensures sources { sources_in readers.new.items ≡ sources_in readers.old.items }
+{
+    script_law();
+    span_law();
+    // Their threads are those that there are.
+    let _lines = regions.lines();
+    let events = words.events.as_slice();
+    let choice = choose(alloc, catalog, Candidates::Preset, events)?;
+    if !choice.all_taken {
+        return Ok(Said::text(alloc, false, choice.text));
+    }
+    let script = calls_of(alloc, regions, events)?;
+    // Nobody reads what these are told.
+    let mut handlers: Vec<Box<dyn Handler + Send>> = Vec::new(alloc);
+    for _thread in 0..THREADS {
+        handlers.push(Box::new(alloc, Recorder::new(alloc))?)?;
+    }
+    let answer = run_script(
+        rt,
+        alloc,
+        &script,
+        catalog,
+        readers,
+        &mut handlers,
+        words.workers.get(),
+    );
+    match answer {
+        Ok(ran) => said_of(alloc, regions, events, &ran),
+        Err(_) => Err(Stop::Memory),
+    }
+}
+
+// ---- the tool
+
+// What is counted: the catalog, the region script, and the readers of all threads.
+#[derive(Drop)]
+struct RegionsInput<S: Source> {
+    catalog: Catalog,
+    regions: Regions,
+    readers: Vec<StreamReader<S>>,
+}
+
+// Reads the tables and the region script, and opens the streams, or says why not.
+#[tactic(auto, unfolding(crate::specs::RegionCounts::counted_under))]
+fn open_input<F: Files>(
+    alloc: Global,
+    files: &mut F,
+    words: &RegionsWords,
+) -> Result<RegionsInput<F::S>, Stop>
+    ensures told { IfSome (F.held files.old) (λ held.
+        AnswersBy (λ input given. IsOkAnd given (IsCounted input.catalog input.regions input.readers.items)) result (counted_under held words.now)) }
+    ensures begun { IfOk result (λ input. AreBegun input.regions) }
+    ensures len { IfOk result (λ input. vec_len input.readers ≡ THREADS) }
+    ensures fresh { IfOk result (λ input. All IsFresh input.readers.items) }
+    ensures looked { Looked result (out_with (λ input. sources_in input.readers.items) result)
+        (files_seen F.held F.misses F.faults F.lent files.old) (files_seen F.held F.misses F.faults F.lent files.new) }
+{
+    let catalog = read_catalog(alloc, files, &words.unit, &words.presets)?;
+    let regions = read_region_file(alloc, files, words.script.as_str())?;
+    let readers = open_readers(alloc, files, words.streams.as_slice())?;
+    Ok(RegionsInput {
+        catalog,
+        regions,
+        readers,
+    })
+}
+
+// Counts over the readers, and closes them.
+fn carry_out<R: Threads + Sync, F: Files>(
+    rt: &R,
+    alloc: Global,
+    files: &mut F,
+    words: &RegionsWords,
+    input: RegionsInput<F::S>,
+) -> Result<Said, Stop>
+    requires readers { vec_len input.readers ≡ THREADS }
+    requires fresh { All IsFresh input.readers.items }
+    requires begun { AreBegun input.regions }
+    ensures told { (given : Counted) → IsCounted input.catalog input.regions input.readers.items given
+        → Answers result (Ok (regions_said words.now.events given)) }
+    ensures met { IfOk result (λ said. MetCause said.outcome
+        (files_seen F.held F.misses F.faults F.lent files.old) (files_seen F.held F.misses F.faults F.lent files.new) said) }
+    ensures cause { (before after : FilesSeen) → StopsByFile result before after }
+    ensures lent { F.lent files.new ≡ F.lent files.old - sources_in input.readers.items }
+    ensures misses_stay { F.misses files.old ≤ F.misses files.new }
+    ensures faults_stay { F.faults files.old ≤ F.faults files.new }
+{
+    let RegionsInput {
+        catalog,
+        regions,
+        mut readers,
+    } = input;
+    let answer = count(rt, alloc, &catalog, &regions, words, &mut readers);
+    close_readers(files, readers);
+    answer
+}
+
+/// `papi_regions`: reads the unit, the presets and the region script, opens the streams, counts the events in a set of each thread that
+/// has lines, and reports what each region counted. Where a set does not take the events, the first that is refused is said, and no
+/// stream is read. No handler is told anything.
+pub fn count_regions<R: Threads + Sync, F: Files>(
+    rt: &R,
+    alloc: Global,
+    files: &mut F,
+    words: &RegionsWords,
+) -> Result<Said, Stop>
+    ensures told { IfSome (F.held files.old) (λ held. Answers result (regions_verdict held words.now)) }
+    ensures met { IfOk result (λ said. MetCause said.outcome
+        (files_seen F.held F.misses F.faults F.lent files.old) (files_seen F.held F.misses F.faults F.lent files.new) said) }
+    ensures looked { Looked result 0 (files_seen F.held F.misses F.faults F.lent files.old) (files_seen F.held F.misses F.faults F.lent files.new) }
+{
+    match open_input(alloc, files, words) {
+        Ok(input) => carry_out(rt, alloc, files, words, input),
+        Err(stop) => Err(stop),
+    }
+}

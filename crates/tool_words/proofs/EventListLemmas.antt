@@ -1,0 +1,14 @@
+-- The texts between the commas of a list.
+use Rattle.std.proofs.Common.{◌≡◌, ◌≤◌, ◌==◌, ◌∙◌, List, length, map, sym, ap, arith}
+use Rattle.std.proofs.lemmas.List.{length-map}
+use Rattle.std.proofs.lemmas.List.Splits.{length-slice_split}
+use Rattle.clap.specs.Words.{Text}
+use Rattle.tool_words.specs.EventList.{parts_of}
+
+some_part : (list : Text) → 1 ≤ length (parts_of list)
+unfolding parts_of
+some_part list = omega (arith, length-slice_split (λ b. b == 44) list)
+
+-- there is one at least
+pub one_part : {X : Type 0} (view : X → Text) (parts : List X) (list : Text) → map view parts ≡ parts_of list → 1 ≤ length parts
+one_part view parts list e = omega (arith, some_part list, length-map parts view, ap (λ (ps : List Text). length ps) e)

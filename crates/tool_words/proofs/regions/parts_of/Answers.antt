@@ -1,0 +1,9 @@
+use Rattle.std.proofs.Common.{◌<◌, arith}
+use Rattle.std.proofs.lemmas.Iterator.Consumers.{map_from_collect}
+use Rattle.std.proofs.lemmas.Iterator.Splits.{YieldsList-from_str_split}
+use Rattle.tool_words.specs.EventList.{parts_of}
+use Rattle.tool_words.proofs.regions.parts_of.Goals as goal
+
+pub returns : goal.returns
+unfolding parts_of
+returns c = map_from_collect _ c.collect.ensures.ran (YieldsList-from_str_split 44 c.args.list.now (let small : 44 < 128 = omega arith in small) c.split.ensures.text c.split.ensures.has_more c.split.ensures.pattern)

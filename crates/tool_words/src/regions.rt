@@ -1,0 +1,197 @@
+//! The words of `papi_regions`:
+//! `-U UNIT [-P PRESETS -C CPU] --events LIST [--workers N] REGIONS [STREAM..]`.
+
+ghost use Rattle.std.specs.Prelude.{◌≡◌, ◌≤◌, Some, IfOk, length, map, option_and_then, option_map};
+ghost use Rattle.std.specs.List.{list_all};
+ghost use Rattle.clap.specs.Words.{rule_of};
+ghost use Rattle.tool_words.specs.EventList as EventList;
+ghost use Rattle.tool_words.specs.EventList.{AreEvents, events_among, events_of, is_event_character};
+ghost use Rattle.tool_words.specs.RegionsForm.{event_list_rule, regions_rules, regions_rules-defined, regions_words, regions_words_in};
+ghost use Rattle.tool_words.specs.Words.{Answers};
+
+use crate::chooser::MOST_EVENTS;
+use crate::fault::WordsFault;
+use crate::matches::{copied, number_of, text_of, texts_of};
+use crate::options::{script_argument, unit_argument};
+use crate::presets::{PresetWords, cpu_argument, presets_argument, presets_asked};
+use crate::streams::{StreamNames, streams_argument, streams_asked};
+use crate::texts::Texts;
+use crate::tool::ToolWords;
+use crate::workers::{Workers, workers_argument, workers_asked};
+use clap::{Arg, ArgMatches};
+use papi_base::Text;
+use std::alloc::{AllocError, Global};
+use std::marker::Model;
+
+/// The texts of the events that are counted, in order: from 1 to [`MOST_EVENTS`], each of one or more characters from `!` to `~`.
+/// Contracts see the list of the texts.
+#[derive(Drop)]
+pub struct EventTexts {
+    events: Texts,
+}
+
+impl Model for EventTexts {
+    ghost use Rattle.std.specs.Prelude.{List, ℕ};
+    ghost use Rattle.tool_words.specs.EventList.{AreEvents};
+
+    ghost Value = { List (List ℕ) };
+
+    ghost view = { λ e. e.events };
+
+    ghost invariant = { λ e. AreEvents e.events };
+}
+
+impl EventTexts {
+    // A copy of these texts, where each is an event and a set can have as many.
+    fn copy_of(alloc: Global, parts: &[&str]) -> Result<EventTexts, WordsFault>
+        requires { 1 ≤ length parts.now }
+        ensures { Answers result (events_among (map (λ s. s.now) parts.now)) }
+    {
+        if parts.len() > MOST_EVENTS as usize || !are_events(parts) {
+            return Err(WordsFault::BadWords);
+        }
+        Ok(EventTexts {
+            events: copied(alloc, parts)?,
+        })
+    }
+
+    /// The texts as a slice.
+    pub fn as_slice(&self) -> &[Text]
+        ensures texts { result.now ≡ self.now }
+        ensures events { AreEvents self.now }
+    {
+        self.events.as_slice()
+    }
+}
+
+/// What the words of `papi_regions` ask for: the name of the unit file, the presets where they are asked for, the events that are
+/// counted, how many workers, the name of the region script, and the names of the streams.
+#[derive(Drop)]
+pub struct RegionsWords {
+    pub unit: Text,
+    pub presets: Option<PresetWords>,
+    pub events: EventTexts,
+    pub workers: Workers,
+    pub script: Text,
+    pub streams: StreamNames,
+}
+
+// ---- the arguments
+
+// `--events LIST`.
+#[tactic(auto, unfolding(crate::specs::RegionsForm::event_list_rule))]
+fn event_list_argument<'a>(alloc: Global) -> Arg<'a>
+    ensures { rule_of result ≡ event_list_rule }
+{
+    Arg::new(alloc, "events").long("events").required(true)
+}
+
+// ---- the values
+
+// Whether each byte may stand in an event's text.
+fn are_event_characters(bytes: &[u8]) -> bool
+    ensures { result ≡ list_all is_event_character bytes.now }
+{
+    for b in bytes {
+        if *b < b'!' || *b > b'~' {
+            return false;
+        }
+    }
+    true
+}
+
+fn is_event(text: &str) -> bool
+    ensures { result ≡ EventList.is_event text.now }
+{
+    text.len() > 0 && are_event_characters(text.as_bytes())
+}
+
+fn are_events(texts: &[&str]) -> bool
+    ensures { result ≡ list_all EventList.is_event (map (λ s. s.now) texts.now) }
+{
+    for text in texts {
+        if !is_event(*text) {
+            return false;
+        }
+    }
+    true
+}
+
+// The texts between the commas of a list.
+#[tactic(auto, unfolding(crate::specs::EventList::parts_of))]
+fn parts_of<'a>(alloc: Global, list: &'a str) -> Result<Vec<&'a str>, AllocError>
+    ensures { IfOk result (λ parts. map (λ s. s.now) parts.items ≡ EventList.parts_of list.now) }
+{
+    list.split(',').collect(alloc)
+}
+
+// The events of a list.
+fn events_asked(alloc: Global, list: Option<&str>) -> Result<EventTexts, WordsFault>
+    ensures { Answers result (option_and_then events_of (option_map (λ s. s.now) list.entry)) }
+{
+    let Some(list) = list else {
+        return Err(WordsFault::BadWords);
+    };
+    let parts = parts_of(alloc, list)?;
+    EventTexts::copy_of(alloc, parts.as_slice())
+}
+
+// What the values of the arguments ask for.
+fn asked(
+    alloc: Global,
+    unit: Option<&str>,
+    presets: Option<PresetWords>,
+    events: EventTexts,
+    workers: Workers,
+    script: Option<&str>,
+    streams: StreamNames,
+) -> Result<RegionsWords, WordsFault>
+    ensures { Answers result (regions_words (option_map (λ s. s.now) unit.entry) (Some presets) (Some events) (Some workers)
+        (option_map (λ s. s.now) script.entry) (Some streams)) }
+{
+    let (Some(unit), Some(script)) = (unit, script) else {
+        return Err(WordsFault::BadWords);
+    };
+    Ok(RegionsWords {
+        unit: Text::copy_of(alloc, unit)?,
+        presets,
+        events,
+        workers,
+        script: Text::copy_of(alloc, script)?,
+        streams,
+    })
+}
+
+// ---- the tool
+
+impl ToolWords for RegionsWords {
+    ghost rules = { regions_rules };
+
+    ghost asked = { regions_words_in };
+
+    ghost defined = { regions_rules-defined };
+
+    #[tactic(auto, unfolding(crate::specs::RegionsForm::regions_rules))]
+    fn arguments<'a>(alloc: Global) -> Result<Vec<Arg<'a>>, AllocError> {
+        Ok(vec![in alloc;
+            unit_argument(alloc),
+            presets_argument(alloc),
+            cpu_argument(alloc),
+            event_list_argument(alloc),
+            workers_argument(alloc),
+            script_argument(alloc),
+            streams_argument(alloc),
+        ]?)
+    }
+
+    #[tactic(auto, unfolding(crate::specs::RegionsForm::regions_words_in))]
+    fn asked_by(alloc: Global, matches: &ArgMatches<'_>) -> Result<RegionsWords, WordsFault> {
+        let unit = text_of(matches, "unit");
+        let presets = presets_asked(alloc, text_of(matches, "presets"), text_of(matches, "cpu"))?;
+        let events = events_asked(alloc, text_of(matches, "events"))?;
+        let workers = workers_asked(number_of(matches, "workers"))?;
+        let script = text_of(matches, "script");
+        let streams = streams_asked(alloc, texts_of(matches, "streams"))?;
+        asked(alloc, unit, presets, events, workers, script, streams)
+    }
+}
