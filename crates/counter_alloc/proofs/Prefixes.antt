@@ -76,7 +76,7 @@ module _ (counters count mask : ℕ) (kept allowed chosen : List ℕ) (is : IsMa
   kept_count : length kept ≡ count
   kept_count = ap length (sym view) ∙ length-take-le count allowed (let few = is.few_places in let slots = is.allowed_slots in omega arith)
 
-  -- the slots with the mask written behind the list
+  -- the slots with the mask written after the list
   pub kept_pushed : take (count + 1) (set allowed count mask) ≡ kept ++ mask ∷ []
   kept_pushed =
       let within : count < length allowed = let slots = is.allowed_slots in let same = kept_count in omega arith in

@@ -1,5 +1,6 @@
 -- A place taken out of the lists, the later ones moved down.
-use Rattle.std.proofs.Common.{◌≡◌, ◌≢◌, ℕ, ◌+◌, ◌-◌, ◌<◌, ◌≤◌, inl, inr, refl, sym, ap, ◌∙◌, arith, List, length, get_or, set, take, get_or-set_same, get_or-set_other, length-set, length-take-le, get_or-take}
+use Rattle.std.proofs.Common.{◌≡◌, ◌≢◌, ℕ, ◌+◌, ◌-◌, ◌<◌, ◌≤◌, inl, inr, refl, sym, ap, ◌∙◌, arith, List, length, get_or, set, take}
+use Rattle.std.proofs.Common.{get_or-set_same, get_or-set_other, length-set, length-take-le, get_or-take}
 use Rattle.std.specs.Prelude.{remove}
 use Rattle.std.proofs.lemmas.Bool.{cases_eq, cases_lt}
 use Rattle.std.proofs.lemmas.List.{ext_get_or}
@@ -7,7 +8,7 @@ use Rattle.std.proofs.lemmas.List.Edits.{length-remove, get_or-remove_below, get
 use Rattle.counter_alloc.specs.Assignments.{IsAssignment}
 use Rattle.counter_alloc.specs.Matchings.{IsMatching}
 
--- the items behind the place, below this index, have moved down by one
+-- the items after the place, below this index, have moved down by one
 pub record Closing (old new : List ℕ) (place upto : ℕ) : Type 0 where
   pub slots : length new ≡ length old
   pub below : (k : ℕ) → k < place → get_or new k 0 ≡ get_or old k 0

@@ -1,6 +1,7 @@
 -- Assignments of distinct allowed counters to the places of a list of native events, and the sets of places that rule
 -- one out, after Hall's theorem. A set that has none is PAPI_ECNFLCT of PAPI_add_event(3).
-use Rattle.std.specs.Prelude.{◌≡◌, ℕ, ◌+◌, ◌^◌, ◌<◌, ◌≤◌, ◌==◌, if◌then◌else◌, List, [], ◌∷◌, length, take, slice_index, bit_or, count_ones}
+use Rattle.std.specs.Prelude.{◌≡◌, ℕ, ◌+◌, ◌^◌, ◌<◌, ◌≤◌, ◌==◌, if◌then◌else◌, List}
+use Rattle.std.specs.Prelude.{[], ◌∷◌, length, take, slice_index, bit_or, count_ones}
 use Rattle.std.specs.Int.{bit_at}
 
 -- k is a member of the bit set
@@ -13,6 +14,7 @@ pub record IsAssignment (allowed chosen : List ℕ) : Type 0 where
   pub is_allowed : (i : ℕ) → i < length allowed → Has (slice_index allowed i) (slice_index chosen i)
   pub distinct : (i j : ℕ) → i < length allowed → j < length allowed → slice_index chosen i ≡ slice_index chosen j → i ≡ j
 
+-- some choice of counters is an assignment
 abbrev pub Assignable : List ℕ → Type 0
 Assignable allowed = (chosen : List ℕ) × IsAssignment allowed chosen
 

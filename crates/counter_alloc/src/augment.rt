@@ -1,4 +1,4 @@
-// Alternating paths from a place without a counter.
+//! Alternating paths from a place without a counter.
 ghost use Rattle.std.specs.Prelude.{◌≡◌, ◌≢◌, ◌<◌, ◌≤◌, ◌⊎◌, ◌↔◌, ◌+◌, ℕ, List, length, slice_index, IfSome, IfNone, IfErr, OnOk, OnErr, IsTrue};
 ghost use Rattle.counter_alloc.specs.Assignments.{Has, IsAssignment, IsLeastDeficient};
 ghost use Rattle.counter_alloc.specs.Search.{Holds, IsTrail, CanWalk, Grows, Reaches, IsFree, AreHeld};
@@ -13,6 +13,7 @@ pub struct Trail {
     places: u32,
 }
 
+/// Whether a place or a counter is in a set, which is kept as bits.
 pub fn has(set: u32, k: usize) -> bool
     requires { k < 32 }
     ensures { IsTrue result ↔ Has set k }

@@ -1,4 +1,4 @@
-// The laws of the definitions.
+//! The laws of the definitions.
 ghost use Rattle.counter_alloc.specs.Laws.{ListsEach, ListsInOrder, ListsSome, ListsLeastFirst, OneLeast, OneBlame, BlameStays, ComputesBlame};
 
 /// The definitions of assignments and blames are as they are meant: these laws hold of them.

@@ -1,4 +1,4 @@
-// The assignment that comes first.
+//! The assignment that comes first.
 ghost use Rattle.std.specs.Prelude.{◌≡◌, ◌<◌, ◌≤◌, length};
 ghost use Rattle.counter_alloc.specs.Assignments.{IsAssignment, IsLeast};
 ghost use Rattle.counter_alloc.specs.Settling.{Settles};

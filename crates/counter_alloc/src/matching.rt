@@ -1,4 +1,4 @@
-// Native events on counters of their own.
+//! Native events on counters of their own.
 ghost use Rattle.std.specs.Prelude.{◌≡◌, ◌<◌, ◌≤◌, ◌+◌, ◌^◌, ◌∷◌, ◌++◌, ◌↔◌, [], ℕ, List, length, remove, slice_index, EachIndex, IfErr, OnOk, OnErr, IsTrue};
 ghost use Rattle.counter_alloc.specs.Assignments.{Assignable, IsLeast, Deficient, counters_of as counters_allowed};
 ghost use Rattle.counter_alloc.specs.Matchings.{MatchingView};

@@ -1,5 +1,6 @@
 -- An event that is added to a set.
-use Rattle.std.proofs.Common.{◌≡◌, ◌≢◌, ◌⊎◌, inl, inr, ℕ, zero, suc, ◌<◌, ◌≤◌, ◌^◌, Bool, true, false, ◌||◌, ◌==◌, List, [], ◌∷◌, ◌++◌, length, take, drop, refl, ap, ap₂, sym, subst, ◌∙◌, arith, slice_get, Option, Some, None, length-append, get_or, IsSomeAnd}
+use Rattle.std.proofs.Common.{◌≡◌, ◌≢◌, ◌⊎◌, inl, inr, ℕ, zero, suc, ◌<◌, ◌≤◌, ◌^◌, Bool, true, false, ◌||◌, ◌==◌, List, [], ◌∷◌, ◌++◌, length, take, drop}
+use Rattle.std.proofs.Common.{refl, ap, ap₂, sym, subst, ◌∙◌, arith, slice_get, Option, Some, None, length-append, get_or, IsSomeAnd}
 use Rattle.std.specs.Prelude.{All, find, is_some, if◌then◌else◌, nat_le, nat_lt}
 use Rattle.std.specs.Option.{option_map, option_map_or}
 use Rattle.std.proofs.lemmas.Bool.{lt-ltb, le-ltb}
@@ -47,7 +48,8 @@ one_component book (event.Preset row) n held first = go (entry book row) held fi
 none_without : (ns : List Native) → option_map alone (find (λ m. m.allowed == 0) ns) ≡ None → All (λ m. 0 < m.allowed) ns
 none_without [] h = λ k m below. absurd (omega arith)
 none_without (x ∷ ns) h = at (none_without ns) (x.allowed == 0) refl h where
-  at : (option_map alone (find (λ m. m.allowed == 0) ns) ≡ None → All (λ m. 0 < m.allowed) ns) → (b : Bool) → (x.allowed == 0) ≡ b → option_map alone (if b then Some x else find (λ m. m.allowed == 0) ns) ≡ None
+  at : (option_map alone (find (λ m. m.allowed == 0) ns) ≡ None → All (λ m. 0 < m.allowed) ns) → (b : Bool) → (x.allowed == 0) ≡ b
+      → option_map alone (if b then Some x else find (λ m. m.allowed == 0) ns) ≡ None
       → All (λ m. 0 < m.allowed) (x ∷ ns)
   at rest true is h k m below = cc
   at rest false is h zero m below = let isnt : x.allowed ≢ 0 = grind (arith, nat_tests, is) in omega arith
@@ -159,7 +161,8 @@ module _ (book : Book) (shape : Widths) (e : EventRef) (s : SetView) (n : Native
         go None is = refl
         go (Some c) is = matched.counters ∙ same_counters (elim fixed [ inl none ↦ let both : Some c ≡ None = sym is ∙ none in cc | inr some ↦ some ])
 
-      pub begun_allowed : (kept : MatchingView) → IsMatched s kept → s.rest.slice ≡ None → (if is_some s.rest.component then kept else record { counters = counters; allowed = [] }).allowed ≡ masks_of s.natives
+      pub begun_allowed : (kept : MatchingView) → IsMatched s kept → s.rest.slice ≡ None
+          → (if is_some s.rest.component then kept else record { counters = counters; allowed = [] }).allowed ≡ masks_of s.natives
       begun_allowed kept matched unshared = go s.rest.component refl where
         go : (o : Option ℕ) → s.rest.component ≡ o → (let m : MatchingView = if is_some o then kept else record { counters = counters; allowed = [] } in m.allowed) ≡ masks_of s.natives
         go None is = ap masks_of (sym (no_natives is))

@@ -1,5 +1,7 @@
 -- The agreement of a set with the book is kept by its changes.
-use Rattle.std.proofs.Common.{◌≡◌, ◌≢◌, inl, inr, ℕ, zero, suc, ◌+◌, Bool, true, false, not, ◌||◌, ◌==◌, List, [], ◌∷◌, ◌++◌, length, min, ◌-◌, take, drop, remove, refl, sym, ◌∙◌, ap, cond, subst, arith, slice_get, Option, Some, None, ◌<◌, IsSomeAnd, get_or, length-append, length-take, length-drop}
+use Rattle.std.proofs.Common.{◌≡◌, ◌≢◌, inl, inr, ℕ, zero, suc, ◌+◌, Bool, true, false, not, ◌||◌, ◌==◌, List, [], ◌∷◌}
+use Rattle.std.proofs.Common.{◌++◌, length, min, ◌-◌, take, drop, remove, refl, sym, ◌∙◌, ap, cond, subst, arith, slice_get}
+use Rattle.std.proofs.Common.{Option, Some, None, ◌<◌, IsSomeAnd, get_or, length-append, length-take, length-drop}
 use Rattle.std.proofs.Math.ListN.{length-set}
 use Rattle.std.specs.Prelude.{All, nat_lt, if◌then◌else◌}
 use Rattle.std.specs.Option.{option_map, option_map_or}
@@ -91,7 +93,7 @@ event_owned book (event.Native m) h zero n e = let same : m ≡ n = cc in ap (λ
 event_owned book (event.Native m) h (suc i) n e = cc
 event_owned book (event.Preset row) h i n e = one_of (entry book row) h i n e
 
--- a component that is no other is the same
+-- a component that is not another one is the same
 same_component : (a : Option ℕ) (g c : ℕ) → is_other a (Some g) ≡ false → a ≡ Some c → Some g ≡ Some c
 same_component None g c h e = cc
 same_component (Some f) g c h e =
@@ -111,7 +113,8 @@ moved_owner book old new es same h = λ k d below. by_number (λ n. Some new ≡
 pub held_component : (book : Book) (e : EventRef) → IsHeld book e → (g : ℕ) × (component_of_event book e ≡ Some g)
 held_component book e h = let first = held_have_natives book e h in (first.0.comp, ap (option_map (λ n. n.comp)) first.1)
 
-added_owner : (book : Book) (old : Option ℕ) (e : EventRef) (es : List EventRef) → IsHeld book e → is_other old (component_of_event book e) ≡ false → All (IsOwned book old) es → All (IsOwned book (component_of_event book e)) es
+added_owner : (book : Book) (old : Option ℕ) (e : EventRef) (es : List EventRef) → IsHeld book e → is_other old (component_of_event book e) ≡ false
+    → All (IsOwned book old) es → All (IsOwned book (component_of_event book e)) es
 added_owner book old e es given same h =
     let c = held_component book e given in
     subst (λ o. All (IsOwned book o) es) (sym c.1) (moved_owner book old c.0 es (subst (λ o. is_other old o ≡ false) c.1 same) h)
@@ -240,12 +243,14 @@ joined_each : (P : Native → Type 0) (seen more : List Native) → Each P seen 
 joined_each P seen [] h k = h
 joined_each P seen (n ∷ more) h k = joined_each P (if among n seen then seen else seen ++ n ∷ []) more (next_each P (among n seen) n seen (k 0 n refl) h) (λ i m e. k (suc i) m e)
 
-after_each : (P : Native → Type 0) (book : Book) (seen : List Native) (es : List EventRef) → Each P seen → ((i : ℕ) (e : EventRef) → slice_get es i ≡ Some e → Each P (natives_of_event book e)) → Each P (natives_after book seen es)
+after_each : (P : Native → Type 0) (book : Book) (seen : List Native) (es : List EventRef) → Each P seen
+    → ((i : ℕ) (e : EventRef) → slice_get es i ≡ Some e → Each P (natives_of_event book e)) → Each P (natives_after book seen es)
 after_each P book seen [] h k = h
 after_each P book seen (e ∷ es) h k = after_each P book (joined_by seen (natives_of_event book e)) es (joined_each P seen (natives_of_event book e) h (k 0 e refl)) (λ i f q. k (suc i) f q)
 
 -- what holds of each native of each event holds of the natives of the events
-pub natives_each : (P : Native → Type 0) (book : Book) (es : List EventRef) → ((i : ℕ) (e : EventRef) → slice_get es i ≡ Some e → (j : ℕ) (n : Native) → slice_get (natives_of_event book e) j ≡ Some n → P n)
+pub natives_each : (P : Native → Type 0) (book : Book) (es : List EventRef)
+    → ((i : ℕ) (e : EventRef) → slice_get es i ≡ Some e → (j : ℕ) (n : Native) → slice_get (natives_of_event book e) j ≡ Some n → P n)
     → (i : ℕ) (n : Native) → slice_get (natives_of book es) i ≡ Some n → P n
 natives_each P book es h = after_each P book [] es (λ i n e. cc) h
 

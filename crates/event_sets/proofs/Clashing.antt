@@ -64,7 +64,7 @@ a_clash slice from natives blame e masks isnt is =
     ap told (computes_blame (masks_of natives) blame masks is)
     ∙ sym (ap (λ s. clash_of s from natives) e ∙ ap (λ b. blamed_unless b natives) (is_assignable_false (masks_of natives) masks isnt))
 
--- one place more that is a member, and one that is none
+-- one place more that is a member, and one that is not
 pub member_joins : (places i : ℕ) (n : Native) (members natives all : List Native) → slice_get natives i ≡ Some n → (bit_at places i == 1) ≡ true
     → members ++ members_from places i (drop i natives) ≡ all → (members ++ n ∷ []) ++ members_from places (i + 1) (drop (i + 1) natives) ≡ all
 member_joins places i n members natives all e is h =

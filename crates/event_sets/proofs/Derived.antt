@@ -29,7 +29,9 @@ bools_same false false = refl
 
 pub natives_same : (m n : Native) → native.eq-value.it m n ≡ same_native m n
 natives_same m n =
-    in_row (m.comp == n.comp) (m.event == n.event) (m.select == n.select) (m.masks == n.masks) (m.umask == n.umask) (beq m.mods.user n.mods.user) (beq m.mods.kernel n.mods.kernel) (beq m.mods.edge n.mods.edge) (beq m.mods.invert n.mods.invert) (m.mods.cmask == n.mods.cmask) (m.allowed == n.allowed)
+    in_row (m.comp == n.comp) (m.event == n.event) (m.select == n.select) (m.masks == n.masks) (m.umask == n.umask) (beq m.mods.user n.mods.user)
+    (beq m.mods.kernel n.mods.kernel) (beq m.mods.edge n.mods.edge) (beq m.mods.invert n.mods.invert) (m.mods.cmask == n.mods.cmask)
+    (m.allowed == n.allowed)
     ∙ (λ i. (m.comp == n.comp) && (m.event == n.event) && (m.select == n.select) && (m.masks == n.masks) && (m.umask == n.umask) && bools_same m.mods.user n.mods.user i && bools_same m.mods.kernel n.mods.kernel i && bools_same m.mods.edge n.mods.edge i && bools_same m.mods.invert n.mods.invert i && (m.mods.cmask == n.mods.cmask) && (m.allowed == n.allowed))
 
 pub events_same : (e f : EventRef) → event_ref.eq-value.it e f ≡ same_event e f

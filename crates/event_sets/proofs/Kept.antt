@@ -100,7 +100,8 @@ not_other (Some c) comp h = let same : c ≡ comp = grind (arith, nat_tests, h) 
 abbrev pub assigned : ℕ → ℕ → SetView → SetView
 assigned comp counters s = record s { rest = record (s.rest) { component = Some comp }; counters = counters }
 
-pub assigned_sound : (comp counters : ℕ) (s : SetView) → is_other s.rest.component (Some comp) ≡ false → counters ≤ 32 → (s.rest.component ≡ Some comp → s.counters ≡ counters) → IsSound s → IsSound (assigned comp counters s)
+pub assigned_sound : (comp counters : ℕ) (s : SetView) → is_other s.rest.component (Some comp) ≡ false → counters ≤ 32
+    → (s.rest.component ≡ Some comp → s.counters ≡ counters) → IsSound s → IsSound (assigned comp counters s)
 assigned_sound comp counters s own few same h = record {
   few_events = h.few_events;
   few_natives = h.few_natives;
@@ -122,10 +123,12 @@ assigned_sound comp counters s own few same h = record {
   in_range (inr is) = subst (λ c. All (λ n. n.allowed < 2 ^ c) s.natives) (same is) h.in_range
 
 -- its matching is the one that is kept, or a new one where no component was fixed
-pub assigned_matched : (comp counters : ℕ) (s : SetView) (kept : MatchingView) → is_other s.rest.component (Some comp) ≡ false → (s.rest.component ≡ Some comp → s.counters ≡ counters) → IsSound s → IsMatched s kept
+pub assigned_matched : (comp counters : ℕ) (s : SetView) (kept : MatchingView) → is_other s.rest.component (Some comp) ≡ false
+    → (s.rest.component ≡ Some comp → s.counters ≡ counters) → IsSound s → IsMatched s kept
     → IsMatched (assigned comp counters s) (if is_some s.rest.component then kept else record { counters = counters; allowed = [] })
 assigned_matched comp counters s kept own same h matched = go s.rest.component refl (not_other s.rest.component comp own) where
-  go : (o : Option ℕ) → s.rest.component ≡ o → (s.rest.component ≡ None) ⊎ (s.rest.component ≡ Some comp) → IsMatched (assigned comp counters s) (if is_some o then kept else record { counters = counters; allowed = [] })
+  go : (o : Option ℕ) → s.rest.component ≡ o → (s.rest.component ≡ None) ⊎ (s.rest.component ≡ Some comp)
+      → IsMatched (assigned comp counters s) (if is_some o then kept else record { counters = counters; allowed = [] })
   go None is which = record { counters = refl; natives = λ unshared. ap masks_of (sym (no_natives s h is)) }
   go (Some c) is (inl none) = let both : Some c ≡ None = sym is ∙ none in cc
   go (Some c) is (inr some) = record { counters = matched.counters ∙ same some; natives = matched.natives }

@@ -18,7 +18,8 @@ use Rattle.event_sets.specs.declared.refusal.Clash.{Clash}
 use Rattle.event_sets.specs.declared.refusal.Refusal.TheVariants.{Plain, Conflict}
 use Rattle.postfix_rules.specs.Fitting.{Fits}
 use Rattle.event_sets.specs.Assigning.{blamed_unless, clash_of}
-use Rattle.event_sets.specs.AtRest.{Widths, cannot_arm, cannot_take, clash_with, has_event, is_armed, is_bad_domain, is_bad_slice, is_bad_threshold, is_full, is_other, natives_with, new_set, place_of, shares_native, widths_at}
+use Rattle.event_sets.specs.AtRest.{Widths, cannot_arm, cannot_take, clash_with, has_event, is_armed, is_bad_domain, is_bad_slice, is_bad_threshold}
+use Rattle.event_sets.specs.AtRest.{is_full, is_other, natives_with, new_set, place_of, shares_native, widths_at}
 use Rattle.event_sets.specs.Sets.{IsSound, set_view}
 use Rattle.event_sets.specs.Soundness.{AddedIsSound, ArmedIsSound, AssignedIsSound, EmptiedIsSound, HeldFit, NewIsSound, RemovedIsSound, WithDomainIsSound, WithSliceIsSound}
 use Rattle.event_sets.proofs.Agreeing.{held_have_natives, neither, numbered}
@@ -106,7 +107,8 @@ added_is_sound book shape e s held fits few taken sound =
     let lead = held_have_natives book e held in
     let n = lead.0 in
     let view = set_view book shape s in
-    let owner : is_other s.component (Some n.comp) ≡ false = ap (is_other s.component) (sym (ap (option_map (λ (m : Native). m.comp)) lead.1)) ∙ (neither (is_other s.component _) (has_event e s) rows.0).0 in
+    let owner : is_other s.component (Some n.comp) ≡ false = ap (is_other s.component) (sym (ap (option_map (λ (m : Native). m.comp)) lead.1))
+    ∙ (neither (is_other s.component _) (has_event e s) rows.0).0 in
     let ready : Ready book shape e view n = record {
       held = held;
       fits = fits;

@@ -88,11 +88,14 @@ sub_assignable ns all apart h a = (
     is_allowed = λ i below.
         let at = one i below in
         let mask : slice_index (masks_of ns) i ≡ slice_index (masks_of all) (place at.0 all) = mask_at ns i at.0 at.1 ∙ sym (mask_at all (place at.0 all) at.0 (spot i at.0 at.1)) in
-        subst (λ m. Has m (slice_index chosen i)) (sym mask) (subst (λ c. Has (slice_index (masks_of all) (place at.0 all)) c) (sym (chosen_at i at.0 at.1)) (a.1.is_allowed (place at.0 all) (inside i at.0 at.1)));
+        subst (λ m. Has m (slice_index chosen i)) (sym mask)
+        (subst (λ c. Has (slice_index (masks_of all) (place at.0 all)) c) (sym (chosen_at i at.0 at.1))
+        (a.1.is_allowed (place at.0 all) (inside i at.0 at.1)));
     distinct = λ i j below under e.
         let at = one i below in
         let to = one j under in
-        let spots : place at.0 all ≡ place to.0 all = a.1.distinct (place at.0 all) (place to.0 all) (inside i at.0 at.1) (inside j to.0 to.1) (sym (chosen_at i at.0 at.1) ∙ (e ∙ chosen_at j to.0 to.1)) in
+        let spots : place at.0 all ≡ place to.0 all = a.1.distinct (place at.0 all) (place to.0 all) (inside i at.0 at.1) (inside j to.0 to.1)
+        (sym (chosen_at i at.0 at.1) ∙ (e ∙ chosen_at j to.0 to.1)) in
         let both : Some at.0 ≡ Some to.0 = sym (spot i at.0 at.1) ∙ (ap (slice_get all) spots ∙ spot j to.0 to.1) in
         let same : at.0 ≡ to.0 = cc both in
         apart i j at.0 at.1 (to.1 ∙ ap Some (sym same));

@@ -10,7 +10,8 @@ use Rattle.event_sets.specs.AtRest.{AtRest, is_plain}
 abbrev pub IsOwned : Book → Option ℕ → EventRef → Type 0
 IsOwned book component e = All (λ n. component ≡ Some n.comp) (natives_of_event book e)
 
--- The set agrees with the book: its presets are held, its natives are of its component, no event stands twice, an event with a threshold is plain, and no two of these count the same native.
+-- The set agrees with the book: its presets are held, its natives are of its component, no event stands twice, an event
+-- with a threshold is plain, and no two of these count the same native.
 pub record Agrees (book : Book) (s : AtRest) : Type 0 where
   pub held : All (IsHeld book) s.events
   pub owned : All (IsOwned book s.component) s.events

@@ -21,6 +21,7 @@ members_from members place (n ∷ ns) = (if bit_at members place == 1 then n ∷
 abbrev pub blamed : List Native → Clash
 blamed natives = record { natives = members_from (blame_of (masks_of natives)).members 0 natives; counters = (blame_of (masks_of natives)).counters }
 
+-- the conflict of the natives, unless they are allowed
 abbrev pub blamed_unless : Bool → List Native → Option Clash
 blamed_unless true natives = None
 blamed_unless false natives = Some (blamed natives)
@@ -29,7 +30,8 @@ blamed_unless false natives = Some (blamed natives)
 abbrev pub alone : Native → Clash
 alone n = record { natives = n ∷ []; counters = 0 }
 
--- What stands in the way of the natives, of which so many were there before. Not multiplexed, they need an assignment; multiplexed, each new one needs an allowed counter.
+-- What stands in the way of the natives, of which so many were there before. Not multiplexed, they need an assignment;
+-- multiplexed, each new one needs an allowed counter.
 abbrev pub clash_of : Option ℕ → ℕ → List Native → Option Clash
 clash_of None before natives = blamed_unless (is_assignable (masks_of natives)) natives
 clash_of (Some slice) before natives = option_map alone (find (λ n. n.allowed == 0) (drop before natives))

@@ -1,5 +1,6 @@
 -- A set that does not run: what it holds, what its calls look at, and what they change.
-use Rattle.std.specs.Prelude.{ℕ, ◌^◌, min, Bool, true, false, ◌||◌, ◌&&◌, not, ◌==◌, nat_le, nat_lt, List, [], ◌∷◌, ◌++◌, length, remove, Option, Some, None, slice_set}
+use Rattle.std.specs.Prelude.{ℕ, ◌^◌, min, Bool, true, false, ◌||◌, ◌&&◌, not, ◌==◌, nat_le, nat_lt, List, [], ◌∷◌, ◌++◌}
+use Rattle.std.specs.Prelude.{length, remove, Option, Some, None, slice_set}
 use Rattle.std.specs.Option.{option_map_or}
 use Rattle.std.specs.List.{list_any, position_or_len}
 use Rattle.papi_base.specs.declared.bits.Domain.{Domain}
@@ -25,12 +26,15 @@ pub record AtRest : Type 0 where
 abbrev pub new_set : AtRest
 new_set = record { events = []; thresholds = []; component = None; domain = record { 0 = 1 }; slice = None }
 
+-- the event is in the set
 abbrev pub has_event : EventRef → AtRest → Bool
 has_event e s = list_any (same_event e) s.events
 
+-- the event's index in the set, or the number of its events
 abbrev pub place_of : EventRef → AtRest → ℕ
 place_of e s = position_or_len (same_event e) s.events
 
+-- the natives of the set's events, each once
 abbrev pub set_natives : Book → AtRest → List Native
 set_natives book s = natives_of book s.events
 
@@ -52,6 +56,7 @@ cannot_take book e s = is_other s.component (component_of_event book e) || has_e
 abbrev pub is_full : Book → EventRef → AtRest → Bool
 is_full book e s = nat_le 32 (length s.events) || nat_lt 32 (length (natives_with book e s))
 
+-- the conflict of the set's natives with those of one more event, if there is one
 abbrev pub clash_with : Book → EventRef → AtRest → Option Clash
 clash_with book e s = clash_of s.slice (length (set_natives book s)) (natives_with book e s)
 
@@ -59,6 +64,7 @@ clash_with book e s = clash_of s.slice (length (set_natives book s)) (natives_wi
 abbrev pub is_armed : AtRest → Bool
 is_armed s = list_any (λ t. nat_lt 0 t) s.thresholds
 
+-- the value is the count of one native
 abbrev pub is_plain : Rule → Bool
 is_plain rule.Plain = true
 is_plain rule.Sum = false
@@ -69,6 +75,7 @@ is_plain (rule.Postfix f) = false
 abbrev pub cannot_arm : Book → EventRef → AtRest → Bool
 cannot_arm book e s = not (has_event e s) || not (is_plain (rule_of_event book e))
 
+-- the least of some widths, and 0 of none
 abbrev pub least_width : List ℕ → ℕ
 least_width [] = 0
 least_width (w ∷ []) = w
@@ -88,22 +95,23 @@ armed_elsewhere book e n [] ts = false
 armed_elsewhere book e n (x ∷ xs) [] = false
 armed_elsewhere book e n (x ∷ xs) (t ∷ ts) = (not (same_event e x) && nat_lt 0 t && leads book n x) || armed_elsewhere book e n xs ts
 
+-- a threshold above 0 on the event, where another event has one on the same native
 abbrev pub shares_native : Book → EventRef → ℕ → AtRest → Bool
 shares_native book e t s = not (t == 0) && option_map_or (λ n. armed_elsewhere book e n s.events s.thresholds) (lead book e) false
 
--- PAPI_set_domain(3): USER, KERNEL or both
+-- PAPI_set_domain(3): the domain is not USER, KERNEL or both
 abbrev pub is_bad_domain : ℕ → Bool
 is_bad_domain bits = (bits == 0) || nat_lt 3 bits
 
--- the slice is from 1 to 1,000,000 ticks
+-- the slice is not from 1 to 1,000,000 ticks
 abbrev pub is_bad_slice : ℕ → Bool
 is_bad_slice slice = (slice == 0) || nat_lt 1000000 slice
 
--- PAPI_add_event(3)
+-- PAPI_add_event(3): the event comes last, without a threshold, and its component is fixed
 abbrev pub with_event : Book → EventRef → AtRest → AtRest
 with_event book e s = record s { events = s.events ++ e ∷ []; thresholds = s.thresholds ++ 0 ∷ []; component = component_of_event book e }
 
--- PAPI_remove_event(3)
+-- PAPI_remove_event(3): the event goes with its threshold; the component stays
 abbrev pub without_event : EventRef → AtRest → AtRest
 without_event e s = record s { events = remove s.events (place_of e s); thresholds = remove s.thresholds (place_of e s) }
 
@@ -111,6 +119,6 @@ without_event e s = record s { events = remove s.events (place_of e s); threshol
 abbrev pub emptied : AtRest → AtRest
 emptied s = record new_set { domain = s.domain }
 
--- PAPI_overflow(3)
+-- PAPI_overflow(3): the event has this threshold, or none where it is 0
 abbrev pub with_threshold : EventRef → ℕ → AtRest → AtRest
 with_threshold e t s = record s { thresholds = slice_set s.thresholds (place_of e s) t }

@@ -6,30 +6,31 @@ use Rattle.papi_base.specs.declared.native.Native.{Native}
 use Rattle.papi_base.specs.declared.native.EventRef.{EventRef}
 use Rattle.postfix_rules.specs.Presets.{Book, lead, natives_of, natives_of_event, rule_of_event}
 use Rattle.postfix_rules.specs.Sameness.{same_native}
-use Rattle.event_sets.specs.AtRest.{AtRest, cannot_take, emptied, has_event, is_other, is_plain, set_natives, shares_native, with_event, with_threshold, without_event}
+use Rattle.event_sets.specs.AtRest.{AtRest, cannot_take, emptied, has_event, is_other, is_plain, set_natives, shares_native}
+use Rattle.event_sets.specs.AtRest.{with_event, with_threshold, without_event}
 use Rattle.event_sets.specs.Agreement.{Agrees}
 use Rattle.postfix_rules.specs.Fitting.{IsHeld}
 
--- with all events gone
+-- a set agrees with the book after all its events are removed: PAPI_cleanup_eventset(3)
 abbrev pub EmptiedAgrees : Type 0
 EmptiedAgrees = (book : Book) (s : AtRest) → Agrees book (emptied s)
 
--- with one more event
+-- a set agrees after one more event that it can take is added: PAPI_add_event(3)
 abbrev pub AddedAgrees : Type 0
 AddedAgrees = (book : Book) (e : EventRef) (s : AtRest) → IsHeld book e → cannot_take book e s ≡ false
     → Agrees book s → Agrees book (with_event book e s)
 
--- with another component, where the set has no other one
+-- a set agrees after a component is assigned, where it has no other one: PAPI_assign_eventset_component(3)
 abbrev pub AssignedAgrees : Type 0
 AssignedAgrees = (book : Book) (comp : ℕ) (s : AtRest)
     → is_other s.component (Some comp) ≡ false
     → Agrees book s → Agrees book (record s { component = Some comp })
 
--- with an event gone
+-- a set agrees after an event is removed: PAPI_remove_event(3)
 abbrev pub RemovedAgrees : Type 0
 RemovedAgrees = (book : Book) (e : EventRef) (s : AtRest) → Agrees book s → Agrees book (without_event e s)
 
--- with a threshold on an event of the set
+-- a set agrees after a threshold is set on a plain event of it: PAPI_overflow(3)
 abbrev pub ArmedAgrees : Type 0
 ArmedAgrees = (book : Book) (e : EventRef) (t : ℕ) (s : AtRest)
     → has_event e s ≡ true → is_plain (rule_of_event book e) ≡ true → shares_native book e t s ≡ false

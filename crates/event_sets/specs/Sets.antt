@@ -24,7 +24,8 @@ pub record IsShared (slice : ℕ) (s : SetView) : Type 0 where
   pub some_counter : All (λ n. 0 < n.allowed) s.natives
   pub no_thresholds : All (λ t. t ≡ 0) s.rest.thresholds
 
--- What each set keeps: no event stands twice, the natives are of the set's component and allowed only its counters, and not multiplexed they have counters of their own.
+-- What each set keeps: no event stands twice, the natives are of the set's component and allowed only its counters, and not
+-- multiplexed they have counters of their own.
 pub record IsSound (s : SetView) : Type 0 where
   pub few_events : length s.rest.events ≤ 32
   pub few_natives : length s.natives ≤ 32

@@ -8,44 +8,44 @@ use Rattle.event_sets.specs.Changing.{assign_refusal, multiplex_refusal, thresho
 use Rattle.postfix_rules.specs.Fitting.{BookFits, EventFits, Fits, IsHeld}
 use Rattle.event_sets.specs.Sets.{IsSound, set_view}
 
--- a new set
+-- a new set is sound: PAPI_create_eventset(3)
 abbrev pub NewIsSound : Type 0
 NewIsSound = (book : Book) (shape : Widths) → IsSound (set_view book shape new_set)
 
--- a set with one more event
+-- a sound set stays sound where an event is added: PAPI_add_event(3)
 abbrev pub AddedIsSound : Type 0
 AddedIsSound = (book : Book) (shape : Widths) (e : EventRef) (s : AtRest)
     → IsHeld book e → All (Fits shape) (natives_of_event book e) → All (λ widths. length widths ≤ 32) shape
     → add_refusal book e s ≡ None → IsSound (set_view book shape s) → IsSound (set_view book shape (with_event book e s))
 
--- a set with all events gone
+-- a sound set stays sound where all its events are removed: PAPI_cleanup_eventset(3)
 abbrev pub EmptiedIsSound : Type 0
 EmptiedIsSound = (book : Book) (shape : Widths) (s : AtRest) → IsSound (set_view book shape s) → IsSound (set_view book shape (emptied s))
 
--- with an event gone
+-- a sound set stays sound where an event is removed: PAPI_remove_event(3)
 abbrev pub RemovedIsSound : Type 0
 RemovedIsSound = (book : Book) (shape : Widths) (e : EventRef) (s : AtRest)
     → IsSound (set_view book shape s) → IsSound (set_view book shape (without_event e s))
 
--- with a component
+-- a sound set stays sound where a component is assigned: PAPI_assign_eventset_component(3)
 abbrev pub AssignedIsSound : Type 0
 AssignedIsSound = (book : Book) (shape : Widths) (comp : ℕ) (s : AtRest)
     → All (λ widths. length widths ≤ 32) shape → assign_refusal shape comp s ≡ None
     → IsSound (set_view book shape s) → IsSound (set_view book shape (record s { component = Some comp }))
 
--- with a domain
+-- a sound set stays sound where its domain is set: PAPI_set_domain(3)
 abbrev pub WithDomainIsSound : Type 0
 WithDomainIsSound = (book : Book) (shape : Widths) (bits : ℕ) (s : AtRest)
     → is_bad_domain bits ≡ false
     → IsSound (set_view book shape s) → IsSound (set_view book shape (record s { domain = record { 0 = bits } }))
 
--- with a slice
+-- a sound set stays sound where it is multiplexed: PAPI_set_multiplex(3)
 abbrev pub WithSliceIsSound : Type 0
 WithSliceIsSound = (book : Book) (shape : Widths) (slice : ℕ) (s : AtRest)
     → multiplex_refusal slice s ≡ None
     → IsSound (set_view book shape s) → IsSound (set_view book shape (record s { slice = Some slice }))
 
--- with a threshold
+-- a sound set stays sound where a threshold is set: PAPI_overflow(3)
 abbrev pub ArmedIsSound : Type 0
 ArmedIsSound = (book : Book) (shape : Widths) (e : EventRef) (t : ℕ) (s : AtRest)
     → threshold_refusal book shape e t s ≡ None

@@ -1,12 +1,14 @@
 //! Event sets that do not run.
-ghost use Rattle.std.specs.Prelude.{◌≡◌, false, true, ◌<◌, ◌≤◌, ◌↔◌, if◌then◌else◌, [], All, IfErr, IfSome, IsNone, IsSome, OnErr, OnOk, None, Some, is_some, length, slice_index};
+ghost use Rattle.std.specs.Prelude.{◌≡◌, false, true, ◌<◌, ◌≤◌, ◌↔◌, if◌then◌else◌, [], All, IfErr, IfSome, IsNone, IsSome};
+ghost use Rattle.std.specs.Prelude.{OnErr, OnOk, None, Some, is_some, length, slice_index};
 ghost use Rattle.papi_base.specs.declared.code.Code.TheVariants.{Einval};
 ghost use Rattle.counter_alloc.specs.Listing.{least};
 ghost use Rattle.counter_alloc.specs.Masks.{masks_of};
 ghost use Rattle.postfix_rules.specs.Presets.{natives_of_event};
 ghost use Rattle.event_sets.specs.Adding.{add_refusal};
 ghost use Rattle.postfix_rules.specs.Fitting.{Fits, IsHeld};
-ghost use Rattle.event_sets.specs.AtRest.{emptied, has_event as has_event_in, is_armed, is_bad_domain, is_other, new_set, set_natives, widths_at, with_event, with_threshold, without_event};
+ghost use Rattle.event_sets.specs.AtRest.{emptied, has_event as has_event_in, is_armed, is_bad_domain, is_other, new_set};
+ghost use Rattle.event_sets.specs.AtRest.{set_natives, widths_at, with_event, with_threshold, without_event};
 ghost use Rattle.event_sets.specs.Changing.{assign_refusal, multiplex_refusal, threshold_refusal};
 ghost use Rattle.event_sets.specs.Sets.{IsSound, SetView, set_view};
 

@@ -1,6 +1,8 @@
 //! Laws of the definitions, each the contract of a function that does nothing.
-ghost use Rattle.event_sets.specs.Laws.{AddedAgrees, ArmedAgrees, AssignedAgrees, EmptiedAgrees, HeldHaveNatives, NativesAreFirsts, NativesAreOwned, RemovedAgrees};
-ghost use Rattle.event_sets.specs.Soundness.{AddedIsSound, ArmedIsSound, AssignedIsSound, EmptiedIsSound, HeldFit, NewIsSound, RemovedIsSound, WithDomainIsSound, WithSliceIsSound};
+ghost use Rattle.event_sets.specs.Laws.{AddedAgrees, ArmedAgrees, AssignedAgrees, EmptiedAgrees, HeldHaveNatives};
+ghost use Rattle.event_sets.specs.Laws.{NativesAreFirsts, NativesAreOwned, RemovedAgrees};
+ghost use Rattle.event_sets.specs.Soundness.{AddedIsSound, ArmedIsSound, AssignedIsSound, EmptiedIsSound, HeldFit};
+ghost use Rattle.event_sets.specs.Soundness.{NewIsSound, RemovedIsSound, WithDomainIsSound, WithSliceIsSound};
 
 /// The changes of a set keep its agreement with the book, where the tests of refusals fail.
 pub fn agreement_laws()

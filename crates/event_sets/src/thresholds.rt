@@ -3,7 +3,8 @@ ghost use Rattle.std.specs.Prelude.{◌≡◌, ◌≤◌, ◌^◌, ◌&&◌, not
 ghost use Rattle.std.specs.List.{list_any};
 ghost use Rattle.postfix_rules.specs.Presets.{rule_of_event};
 ghost use Rattle.postfix_rules.specs.Sameness.{same_event};
-ghost use Rattle.event_sets.specs.AtRest.{armed_elsewhere, is_bad_threshold as is_bad, is_plain as is_plain_rule, leads as leads_in, least_width as least_of, shares_native as shares, widths_at};
+ghost use Rattle.event_sets.specs.AtRest.{armed_elsewhere, is_bad_threshold as is_bad, is_plain as is_plain_rule};
+ghost use Rattle.event_sets.specs.AtRest.{leads as leads_in, least_width as least_of, shares_native as shares, widths_at};
 
 use crate::EventSet;
 use crate::joining::natives_of;

@@ -11,7 +11,7 @@ unfoldable on_units : Unit {0}
 unfolding csv_on_literals rows_of decimal_in hex_in is_decimal is_name is_numeral text_at trimmed without_front flags_of line_of words_of cause_in components_in counters_in events_in fault_from masks_in unit_fault unit_tables
 on_units = tt
 
--- the rows of the file are numbered, and a blank line or a comment is none; a quote is a plain byte
+-- the rows of the file are numbered, and a blank line or a comment is not one; a quote is a plain byte
 numbers : rows_of (codes "a\n\n# b\n\r\n ,c\n # d\n\"e,f\"\n")
     ≡ (codes "a" ∷ []) ∷ (codes " " ∷ codes "c" ∷ []) ∷ (codes " # d" ∷ []) ∷ (codes "\"e" ∷ codes "f\"" ∷ []) ∷ []
 unfolding on_units
@@ -52,7 +52,7 @@ orphan_mask : unit_fault (codes "COMPONENT,a,b\nCOUNTER,P,16,P\nEVENT,E,1,P,\nCO
 unfolding on_units
 orphan_mask = refl
 
--- a repeated counter goes before its width
+-- a repeated counter takes precedence over its width
 again : unit_fault (codes "COMPONENT,cpu,lab\nCOUNTER,P0,16,P\nCOUNTER,P0,8,P\n") ≡ Some (3, cause.RepeatedName)
 unfolding on_units
 again = refl

@@ -9,7 +9,8 @@ use Rattle.table_rows.specs.Texts.{Text, is_empty, is_name}
 use Rattle.table_rows.proofs.Texts.{all-append, all-map}
 use Rattle.event_tables.specs.Tables.{ComponentText, CounterText, EventText, MaskText, same_name}
 use Rattle.event_tables.specs.Lines.{Line, skipped, bad, component, counter, event, umask}
-use Rattle.event_tables.specs.Unit.{bits_of, cause_in, component_cause, component_of, counter_cause, counter_place, counter_row, counters_in, event_cause, event_row, events_in, inner_mask_cause, is_modifier, last_of, mask_cause, modifier_words}
+use Rattle.event_tables.specs.Unit.{bits_of, cause_in, component_cause, component_of, counter_cause, counter_place, counter_row, counters_in, event_cause}
+use Rattle.event_tables.specs.Unit.{event_row, events_in, inner_mask_cause, is_modifier, last_of, mask_cause, modifier_words}
 use Rattle.event_tables.specs.Steps.{grown, on_last, with_counter, with_event, with_inner_mask, with_line, with_mask}
 use Rattle.event_tables.specs.Kept.{IsComponent, IsCounter, IsEvent, IsEventLine, IsLine, IsMask, IsTables, IsWidth, NoRepeats}
 use Rattle.event_tables.specs.declared.fault.RowCause.TheVariants as cause

@@ -5,7 +5,8 @@ use Rattle.std.specs.Str.{bytes_eq}
 use Rattle.table_rows.specs.Texts.{Text, decimal_in, hex_in, is_decimal, is_name, is_skipped, text_at}
 use Rattle.table_rows.proofs.Numerals.{both}
 use Rattle.table_rows.proofs.Ranges.{decimal_in-range, hex_in-range}
-use Rattle.event_tables.specs.Lines.{Line, skipped, bad, component, counter, event, umask, are_names, component_line, counter_line, event_line, flags_of, is_description, line_of, mask_of, umask_line, words_of}
+use Rattle.event_tables.specs.Lines.{Line, skipped, bad, component, counter, event, umask, are_names, component_line, counter_line, event_line}
+use Rattle.event_tables.specs.Lines.{flags_of, is_description, line_of, mask_of, umask_line, words_of}
 use Rattle.event_tables.specs.declared.row.Flags.{Flags}
 use Rattle.event_tables.specs.Kept.{IsLine, IsWidth}
 

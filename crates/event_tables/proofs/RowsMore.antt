@@ -63,7 +63,7 @@ events_after (event n s ns t) counters events = events ++ event_row counters n s
 events_after (umask m) counters events = on_last (with_mask m) events
 events_after _ counters events = events
 
--- an event in front, with its umasks, where a row joins those behind it
+-- an event in front, with its umasks, where a row joins those after it
 front : (above : List CounterText) (rows : List Line) (line : Line) (n : Text) (s : ℕ) (ns : List Text) (t : Text) (counters : List CounterText) → components_in rows ≡ []
     → events_in above (rows ++ line ∷ []) ≡ events_after line counters (events_in above rows)
     → event_row above n s ns t (masks_in (rows ++ line ∷ [])) ∷ events_in above (rows ++ line ∷ [])
@@ -90,7 +90,8 @@ front above rows line n s ns t counters e more = go line (events_in above rows) 
     go (event a b c d) (x ∷ xs) q m = ap₂ (λ (ms : List MaskText) (t : List EventText). row ms ∷ t) (masks-later above rows _ x xs q) m
     go (umask k) (x ∷ xs) q m = ap₂ (λ (ms : List MaskText) (t : List EventText). row ms ∷ t) (masks-later above rows _ x xs q) m
 
-events-first : (above : List CounterText) (rows : List Line) (line : Line) → components_in rows ≡ [] → events_in above (rows ++ line ∷ []) ≡ events_after line (above ++ counters_in rows) (events_in above rows)
+events-first : (above : List CounterText) (rows : List Line) (line : Line) → components_in rows ≡ []
+    → events_in above (rows ++ line ∷ []) ≡ events_after line (above ++ counters_in rows) (events_in above rows)
 unfolding components_in counters_in events_in masks_in on_last
 events-first above [] skipped e = refl
 events-first above [] bad e = refl
@@ -107,7 +108,7 @@ events-first above (counter n w f ∷ rows) line e =
 events-first above (event n s ns t ∷ rows) line e = front above rows line n s ns t (above ++ counters_in rows) e (events-first above rows line e)
 events-first above (umask m ∷ rows) line e = events-first above rows line e
 
--- rows behind another component
+-- rows after another component
 counters-later : (rows more : List Line) (c : ComponentText) (cs : List ComponentText) → components_in rows ≡ c ∷ cs → counters_in (rows ++ more) ≡ counters_in rows
 unfolding components_in counters_in
 counters-later [] more c cs e = cc e
@@ -118,15 +119,15 @@ counters-later (counter n w f ∷ rows) more c cs e = ap (λ (t : List CounterTe
 counters-later (event n s ns t ∷ rows) more c cs e = counters-later rows more c cs e
 counters-later (umask m ∷ rows) more c cs e = counters-later rows more c cs e
 
-masks-behind : (rows more : List Line) (c : ComponentText) (cs : List ComponentText) → components_in rows ≡ c ∷ cs → masks_in (rows ++ more) ≡ masks_in rows
+masks-after : (rows more : List Line) (c : ComponentText) (cs : List ComponentText) → components_in rows ≡ c ∷ cs → masks_in (rows ++ more) ≡ masks_in rows
 unfolding components_in masks_in
-masks-behind [] more c cs e = cc e
-masks-behind (skipped ∷ rows) more c cs e = masks-behind rows more c cs e
-masks-behind (bad ∷ rows) more c cs e = masks-behind rows more c cs e
-masks-behind (component n p ∷ rows) more c cs e = refl
-masks-behind (counter n w f ∷ rows) more c cs e = masks-behind rows more c cs e
-masks-behind (event n s ns t ∷ rows) more c cs e = refl
-masks-behind (umask m ∷ rows) more c cs e = ap (λ (t : List MaskText). m ∷ t) (masks-behind rows more c cs e)
+masks-after [] more c cs e = cc e
+masks-after (skipped ∷ rows) more c cs e = masks-after rows more c cs e
+masks-after (bad ∷ rows) more c cs e = masks-after rows more c cs e
+masks-after (component n p ∷ rows) more c cs e = refl
+masks-after (counter n w f ∷ rows) more c cs e = masks-after rows more c cs e
+masks-after (event n s ns t ∷ rows) more c cs e = refl
+masks-after (umask m ∷ rows) more c cs e = ap (λ (t : List MaskText). m ∷ t) (masks-after rows more c cs e)
 
 events-later : (above : List CounterText) (rows more : List Line) (c : ComponentText) (cs : List ComponentText) → components_in rows ≡ c ∷ cs → events_in above (rows ++ more) ≡ events_in above rows
 unfolding components_in events_in
@@ -136,7 +137,7 @@ events-later above (bad ∷ rows) more c cs e = events-later above rows more c c
 events-later above (component n p ∷ rows) more c cs e = refl
 events-later above (counter n w f ∷ rows) more c cs e = events-later _ rows more c cs e
 events-later above (event n s ns t ∷ rows) more c cs e =
-    ap₂ (λ (ms : List MaskText) (t' : List EventText). event_row above n s ns t ms ∷ t') (masks-behind rows more c cs e) (events-later above rows more c cs e)
+    ap₂ (λ (ms : List MaskText) (t' : List EventText). event_row above n s ns t ms ∷ t') (masks-after rows more c cs e) (events-later above rows more c cs e)
 events-later above (umask m ∷ rows) more c cs e = events-later above rows more c cs e
 
 component_with : Text → Text → List CounterText → List EventText → ComponentText
@@ -155,7 +156,7 @@ grown-later : (n p : Text) (rows more : List Line) (c : ComponentText) (cs : Lis
 unfolding component_with
 grown-later n p rows more c cs e = ap₂ (component_with n p) (counters-later rows more c cs e) (events-later [] rows more c cs e)
 
--- a row that is no component
+-- a row that is not a component
 inner-more : (rows : List Line) (line : Line) → components_in (line ∷ []) ≡ [] → components_in (rows ++ line ∷ []) ≡ on_last (grown line) (components_in rows)
 unfolding components_in on_last
 inner-more [] line k = k

@@ -13,11 +13,13 @@ abbrev pub NoRepeats : {X : Type 0} → (X → X → Bool) → List X → Type 0
 NoRepeats same [] = ⊤
 NoRepeats same (x ∷ xs) = AllByRecursion (λ y. same x y ≡ false) xs × NoRepeats same xs
 
+-- a counter with a name, of 16 to 48 bits
 pub record IsCounter (k : CounterText) : Type 0 where
   pub named : is_name k.name ≡ true
   pub narrow : 16 ≤ k.width
   pub wide : k.width ≤ 48
 
+-- a umask with a name that is not a modifier's, and bits of one byte
 pub record IsMask (m : MaskText) : Type 0 where
   pub named : is_name m.name ≡ true
   pub no_modifier : AllByRecursion (λ w. same_name m.name w ≡ false) modifier_words
@@ -34,6 +36,7 @@ pub record IsEvent (counters : ℕ) (e : EventText) : Type 0 where
   pub distinct : NoRepeats (λ (a b : MaskText). same_name a.name b.name) e.masks
   pub one_default : NoRepeats (λ (a b : MaskText). a.preset_choice && b.preset_choice) e.masks
 
+-- a component within its limits, with names and no name twice
 pub record IsComponent (c : ComponentText) : Type 0 where
   pub named : is_name c.name ≡ true
   pub pmu_named : is_name c.pmu ≡ true
@@ -44,6 +47,7 @@ pub record IsComponent (c : ComponentText) : Type 0 where
   pub events : AllByRecursion (IsEvent (length c.counters)) c.events
   pub events_distinct : NoRepeats (λ (a b : EventText). same_name a.name b.name) c.events
 
+-- the tables of a unit: its components within the limits, and no name twice
 pub record IsTables (tables : List ComponentText) : Type 0 where
   pub few : length tables ≤ MOST_COMPONENTS
   pub each : AllByRecursion IsComponent tables
@@ -52,14 +56,17 @@ pub record IsTables (tables : List ComponentText) : Type 0 where
 
 -- ---- what a row by itself keeps
 
+-- the widths of a counter
 abbrev pub IsWidth : ℕ → Type 0
 IsWidth w = (16 ≤ w) × (w ≤ 48)
 
+-- what an EVENT row says: a name, a select code of one byte, and one counter or more
 pub record IsEventLine (name : Text) (select : ℕ) (names : List Text) : Type 0 where
   pub named : is_name name ≡ true
   pub byte : select < 2 ^ 8
   pub some : is_empty names ≡ false
 
+-- what a row says is of its form
 abbrev pub IsLine : Line → Type 0
 IsLine skipped = ⊤
 IsLine bad = ⊤

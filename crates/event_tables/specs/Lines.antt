@@ -30,6 +30,7 @@ are_names words = not (is_empty words) && list_all is_name words
 abbrev pub is_description : Text → Bool
 is_description t = is_printable t && nat_le (length t) 200
 
+-- the flags of a umask: whether it is the default, and whether it excludes all others
 abbrev pub flags : Bool → Bool → Flags
 flags preset_choice alone = record { preset_choice = preset_choice; alone = alone }
 
@@ -42,14 +43,17 @@ flags_of t =
     else if bytes_eq t (codes "dn") || bytes_eq t (codes "nd") then Some (flags true true)
     else None
 
+-- a COMPONENT row with these fields
 abbrev pub component_line : Text → Text → Line
 component_line name pmu = if is_name name && is_name pmu then component name pmu else bad
 
+-- a COUNTER row with these fields
 abbrev pub counter_line : Text → Text → Text → Line
 counter_line name width kind =
     if is_name name && is_decimal width && (bytes_eq kind (codes "P") || bytes_eq kind (codes "F"))
     then counter name (decimal_in 16 48 width) (bytes_eq kind (codes "F")) else bad
 
+-- an EVENT row with these fields
 abbrev pub event_line : Text → Text → Text → Text → Line
 event_line name select counters text = go (hex_in 1 2 select)
   where
@@ -57,9 +61,11 @@ event_line name select counters text = go (hex_in 1 2 select)
     go None = bad
     go (Some n) = if is_name name && are_names (words_of counters) && is_description text then event name n (words_of counters) text else bad
 
+-- a umask with this name, these bits and flags
 abbrev pub mask_of : Text → ℕ → Flags → Text → MaskText
 mask_of name bits f text = record { name = name; bits = bits; preset_choice = f.preset_choice; alone = f.alone; text = text }
 
+-- a UMASK row with these fields
 abbrev pub umask_line : Text → Text → Text → Text → Line
 umask_line name bits letters text = go (hex_in 1 2 bits) (flags_of letters)
   where
@@ -68,6 +74,7 @@ umask_line name bits letters text = go (hex_in 1 2 bits) (flags_of letters)
     go (Some n) None = bad
     go (Some n) (Some f) = if is_name name && is_description text then umask (mask_of name n f text) else bad
 
+-- what a row with these fields says
 unfoldable pub line_of : List Text → Line
 line_of fields =
     let first = text_at fields 0 in

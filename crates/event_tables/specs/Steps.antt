@@ -19,16 +19,19 @@ on_last f (x ∷ y ∷ rest) = x ∷ on_last f (y ∷ rest)
 abbrev pub with_counter : CounterText → ComponentText → ComponentText
 with_counter k c = record c { counters = c.counters ++ k ∷ [] }
 
+-- the component with one event more
 abbrev pub with_event : EventText → ComponentText → ComponentText
 with_event e c = record c { events = c.events ++ e ∷ [] }
 
+-- the event with one umask more
 abbrev pub with_mask : MaskText → EventText → EventText
 with_mask m e = record e { masks = e.masks ++ m ∷ [] }
 
+-- the component whose last event has one umask more
 abbrev pub with_inner_mask : MaskText → ComponentText → ComponentText
 with_inner_mask m c = record c { events = on_last (with_mask m) c.events }
 
--- a component with a row of its own, that is no component
+-- a component with a row of its own, that is not a component
 abbrev pub grown : Line → ComponentText → ComponentText
 grown skipped c = c
 grown bad c = c
@@ -43,6 +46,7 @@ CanGrow (event name select names text) c = list_any (λ e. same_name e.name name
 CanGrow (umask m) c = 0 < length c.events
 CanGrow line c = ⊤
 
+-- the components with one row more
 abbrev pub with_line : List ComponentText → Line → List ComponentText
 with_line above (component name pmu) = above ++ component_of name pmu [] ∷ []
 with_line above line = on_last (grown line) above

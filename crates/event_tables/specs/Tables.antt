@@ -27,6 +27,7 @@ pub record CounterText : Type 0 where
   pub width : ℕ
   pub fixed : Bool
 
+-- a component: its name and that of its pmu, its counters and its events
 pub record ComponentText : Type 0 where
   pub name : Text
   pub pmu : Text
@@ -41,6 +42,7 @@ same_name a b = str_eq_ignore_ascii_case a b
 abbrev pub row_of_lower : List EventText → Text → Option ℕ
 row_of_lower events lower = position_from (λ e. bytes_eq (str_to_ascii_lowercase e.name) lower) 0 events
 
+-- the row of the event in the component whose name in lower case is this
 abbrev pub event_of_lower : List ComponentText → ℕ → Text → Option ℕ
 event_of_lower tables comp lower = option_and_then (λ c. row_of_lower c.events lower) (slice_get tables comp)
 
@@ -48,6 +50,7 @@ event_of_lower tables comp lower = option_and_then (λ c. row_of_lower c.events 
 abbrev pub event_at : List ComponentText → ℕ → ℕ → Option EventText
 event_at tables comp row = option_and_then (λ c. slice_get c.events row) (slice_get tables comp)
 
+-- a counter of a component, if they are there
 abbrev pub counter_at : List ComponentText → ℕ → ℕ → Option CounterText
 counter_at tables comp k = option_and_then (λ c. slice_get c.counters k) (slice_get tables comp)
 
@@ -59,5 +62,6 @@ component_of_name tables name = position_from (λ c. same_name c.name name) 0 ta
 abbrev pub widths_of : ComponentText → List ℕ
 widths_of c = map (λ k. k.width) c.counters
 
+-- the widths of all counters, component by component
 abbrev pub shape_of : List ComponentText → List (List ℕ)
 shape_of tables = map widths_of tables

@@ -18,6 +18,7 @@ use Rattle.event_tables.specs.declared.limits.TheConstants.{MOST_COMPONENTS, MOS
 
 -- ---- the tables of some rows: each row under the row to which it belongs
 
+-- the counter that a row gives
 abbrev pub counter_row : Text → Option ℕ → Bool → CounterText
 counter_row name width fixed = record { name = name; width = unwrap_or width 0; fixed = fixed }
 
@@ -25,7 +26,7 @@ counter_row name width fixed = record { name = name; width = unwrap_or width 0; 
 abbrev pub counter_place : List CounterText → Text → Option ℕ
 counter_place counters name = position_from (λ k. bytes_eq k.name name) 0 counters
 
--- a counter as a bit
+-- the counter in a place as one bit of a set of counters, and no bit where the unit does not have it
 abbrev pub place_bit : Option ℕ → ℕ
 place_bit None = 0
 place_bit (Some p) = 2 ^ p
@@ -34,6 +35,7 @@ place_bit (Some p) = 2 ^ p
 abbrev pub bits_of : List CounterText → List Text → ℕ
 bits_of counters names = fold (λ bits name. bit_or bits (place_bit (counter_place counters name))) 0 names
 
+-- the event that a row gives, with its umasks
 abbrev pub event_row : List CounterText → Text → ℕ → List Text → Text → List MaskText → EventText
 event_row counters name select names text masks = record { name = name; select = select; allowed = bits_of counters names; text = text; masks = masks }
 
@@ -67,6 +69,7 @@ events_in above (counter name width fixed ∷ rest) = events_in (above ++ counte
 events_in above (event name select names text ∷ rest) = event_row above name select names text (masks_in rest) ∷ events_in above rest
 events_in above (umask m ∷ rest) = events_in above rest
 
+-- the component that a row gives, with what the rows below it give
 abbrev pub component_of : Text → Text → List Line → ComponentText
 component_of name pmu rest = record { name = name; pmu = pmu; counters = counters_in rest; events = events_in [] rest }
 
@@ -82,12 +85,14 @@ components_in (umask m ∷ rest) = components_in rest
 
 -- ---- the cause of a row, in view of the tables of the rows above it; the causes are tried in the order of `RowCause`
 
+-- why a COMPONENT row is refused below these components, if it is
 abbrev pub component_cause : List ComponentText → Text → Text → Option RowCause
 component_cause above name pmu =
     if nat_le MOST_COMPONENTS (length above) then Some cause.OverLimit
     else if list_any (λ c. same_name c.name name || same_name c.pmu pmu) above then Some cause.RepeatedName
     else None
 
+-- why a COUNTER row is refused below these counters, if it is
 abbrev pub counter_cause : List CounterText → Text → Option ℕ → Option RowCause
 counter_cause above name width =
     if nat_le MOST_COUNTERS (length above) then Some cause.OverLimit
@@ -95,6 +100,7 @@ counter_cause above name width =
     else if is_some width then None
     else Some cause.BadWidth
 
+-- why an EVENT row is refused in this component, if it is
 abbrev pub event_cause : ComponentText → Text → List Text → Option RowCause
 event_cause above name names =
     if nat_le MOST_EVENTS (length above.events) then Some cause.OverLimit
@@ -106,6 +112,7 @@ event_cause above name names =
 abbrev pub modifier_words : List Text
 modifier_words = codes "u" ∷ codes "k" ∷ codes "e" ∷ codes "i" ∷ codes "c" ∷ []
 
+-- the name is that of a modifier: `u`, `k`, `e`, `i` or `c`
 abbrev pub is_modifier : Text → Bool
 is_modifier name = list_any (λ w. same_name name w) modifier_words
 
@@ -117,12 +124,15 @@ mask_cause above name preset_choice =
     else if is_modifier name || list_any (λ o. same_name o.name name) above then Some cause.RepeatedName
     else None
 
+-- the last item, if there is one
 abbrev pub last_of : {X : Type 0} → List X → Option X
 last_of xs = slice_get xs (length xs - 1)
 
+-- why a UMASK row is refused in this component, if it is
 abbrev pub inner_mask_cause : ComponentText → Text → Bool → Option RowCause
 inner_mask_cause above name preset_choice = option_map_or (λ e. mask_cause e.masks name preset_choice) (last_of above.events) (Some cause.BadRow)
 
+-- why a row is refused below these components, if it is
 unfoldable pub cause_in : List ComponentText → Line → Option RowCause
 cause_in above skipped = None
 cause_in above bad = Some cause.BadRow
@@ -137,6 +147,7 @@ fault_from above [] = None
 fault_from above (line ∷ rest) =
     option_map_or (λ cause. Some (length above + 1, cause)) (cause_in (components_in above) line) (fault_from (above ++ line ∷ []) rest)
 
+-- what each row of a unit file says
 abbrev pub lines_of : List ℕ → List Line
 lines_of bytes = map line_of (rows_of bytes)
 

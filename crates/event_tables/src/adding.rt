@@ -1,4 +1,4 @@
-// The tables, row by row.
+//! The tables, row by row.
 
 ghost use Rattle.std.specs.Prelude.{◌≡◌, ◌<◌, ◌≤◌, ◌-◌, ◌^◌, false, [], Some, map, OnOk, IfOk, length, string_bytes, vec_len};
 ghost use Rattle.std.specs.HashMap.{get_by_text};
@@ -139,7 +139,8 @@ fn note_row(
     name: &str,
     row: u32,
 ) -> Result<(), AllocError>
-    ensures { OnOk result ((lower : Text) → get_by_text rows.new lower ≡ update bytes_eq (get_by_text rows.old) (str_to_ascii_lowercase name.now) (Some row) lower) }
+    ensures { OnOk result ((lower : Text)
+        → get_by_text rows.new lower ≡ update bytes_eq (get_by_text rows.old) (str_to_ascii_lowercase name.now) (Some row) lower) }
 {
     let mut lower = String::from_str(alloc, name)?;
     lower.make_ascii_lowercase();

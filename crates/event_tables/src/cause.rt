@@ -1,4 +1,4 @@
-// Why a row is refused, in view of the tables of the rows above it.
+//! Why a row is refused, in view of the tables of the rows above it.
 
 ghost use Rattle.std.specs.Prelude.{◌≡◌, ◌||◌, true, map, is_some, string_bytes};
 ghost use Rattle.std.specs.List.{AllByRecursion, list_all, list_any};

@@ -1,4 +1,4 @@
-// The rows of a unit's tables.
+//! The rows of a unit's tables.
 
 use std::collections::HashMap;
 

@@ -1,4 +1,4 @@
-// Why a unit file is refused.
+//! Why a unit file is refused.
 
 ghost use Rattle.std.specs.Prelude.{◌≡◌};
 ghost use Rattle.event_tables.specs.Unit as Unit;

@@ -1,4 +1,4 @@
-// How much a unit file may have.
+//! How much a unit file may have.
 
 /// The components of a unit.
 pub const MOST_COMPONENTS: usize = 16;

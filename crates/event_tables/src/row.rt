@@ -1,4 +1,4 @@
-// One row of a unit file, by itself.
+//! One row of a unit file, by itself.
 
 ghost use Rattle.std.specs.Prelude.{◌≡◌, ◌&&◌, not, true, if◌then◌else◌, option_map, Some, None};
 ghost use Rattle.std.specs.List.{list_all};

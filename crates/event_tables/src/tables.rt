@@ -1,4 +1,4 @@
-// The tables of a unit.
+//! The tables of a unit.
 
 ghost use Rattle.std.specs.Prelude.{◌≡◌, ◌≤◌, map, length, slice_get, option_map};
 ghost use Rattle.std.specs.List.{AllByRecursion};

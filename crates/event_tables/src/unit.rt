@@ -1,4 +1,4 @@
-// A whole unit file.
+//! A whole unit file.
 
 ghost use Rattle.event_tables.specs.Unit.{ReadsUnit};
 

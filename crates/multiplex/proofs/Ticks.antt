@@ -88,8 +88,8 @@ before d g s r l b =
     let t : (d == g) ≡ false = grind (arith, nat_tests, b) in
     rw t (omega (arith, next_slice d g s b))
 
-behind : (d g s r : ℕ) → d * s ≤ r → g < d → min (r - g * s) s + one_if (d == g) ≡ min (suc r - g * s) s
-behind d g s r h b =
+after : (d g s r : ℕ) → d * s ≤ r → g < d → min (r - g * s) s + one_if (d == g) ≡ min (suc r - g * s) s
+after d g s r h b =
     let t : (d == g) ≡ false = grind (arith, nat_tests, b) in
     rw t (omega (arith, next_slice g d s b))
 
@@ -97,7 +97,7 @@ behind d g s r h b =
 part_grows : (d g s r : ℕ) → d * s ≤ r → r < d * s + s → min (r - g * s) s + one_if (d == g) ≡ min (suc r - g * s) s
 part_grows d g s r h l = elim (cases_order d g) [
   | inl e ↦ same d g s r h l e
-  | inr o ↦ elim o [ inl b ↦ before d g s r l b | inr b ↦ behind d g s r h b ]
+  | inr o ↦ elim o [ inl b ↦ before d g s r l b | inr b ↦ after d g s r h b ]
 ]
 
 -- a tick of turn q
@@ -108,7 +108,8 @@ tick_in_turn t group q r h l =
     let few : r / t.slice < t.count = (div-lt_iff_lt-mul h).1 (let e : r < t.count * t.slice = omega arith in e) in
     ap (λ k. k % t.count == group) (ap (λ k. k / t.slice) place ∙ slice) ∙ ap (λ k. k == group) (mod-mul-add q t.count (r / t.slice) few)
 
-ticks_in_turn : (t : Turns) (group q r : ℕ) → 0 < t.slice → r ≤ t.slice * t.count → active t group (q * (t.slice * t.count) + r) ≡ active t group (q * (t.slice * t.count)) + min (r - group * t.slice) t.slice
+ticks_in_turn : (t : Turns) (group q r : ℕ) → 0 < t.slice → r ≤ t.slice * t.count
+    → active t group (q * (t.slice * t.count) + r) ≡ active t group (q * (t.slice * t.count)) + min (r - group * t.slice) t.slice
 ticks_in_turn t group q r h l = blocks (has_turn t group) (λ k. min (k - group * t.slice) t.slice) (q * (t.slice * t.count)) (t.slice * t.count) (omega arith)
     (λ k below. ap (λ b. min (k - group * t.slice) t.slice + one_if b) (tick_in_turn t group q k h below)
     ∙ part_grows (k / t.slice) group t.slice k (div-mul-le_self k t.slice) (lt-div-mul-add h))

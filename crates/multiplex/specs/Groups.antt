@@ -16,7 +16,7 @@ groups_from group number (mask ∷ masks) =
 abbrev pub groups : List ℕ → List ℕ
 groups masks = groups_from [] 0 masks
 
--- how many groups there are
+-- how many groups the natives of a set are in
 abbrev pub group_count : List ℕ → ℕ
 group_count [] = 0
 group_count (g ∷ []) = g + 1

@@ -1,5 +1,6 @@
 -- Laws of groups and their turns.
-use Rattle.std.specs.Prelude.{ℕ, ◌+◌, ◌-◌, ◌*◌, ◌/◌, ◌%◌, ◌≡◌, ◌≤◌, ◌<◌, ◌==◌, All, true, false, min, count_by, List, [], ◌∷◌, ◌++◌, length, replicate}
+use Rattle.std.specs.Prelude.{ℕ, ◌+◌, ◌-◌, ◌*◌, ◌/◌, ◌%◌, ◌≡◌, ◌≤◌, ◌<◌, ◌==◌, All, true}
+use Rattle.std.specs.Prelude.{false, min, count_by, List, [], ◌∷◌, ◌++◌, length, replicate}
 use Rattle.std.specs.List.{concat, range_with_len}
 use Rattle.counter_alloc.specs.Listing.{is_assignable}
 use Rattle.counter_alloc.specs.Masks.{AreMasks}
@@ -19,19 +20,19 @@ abbrev pub ActiveInTurns : Type 0
 ActiveInTurns = (t : Turns) (group total : ℕ) → 0 < t.slice → group < t.count
     → active t group total ≡ total / (t.slice * t.count) * t.slice + min (total % (t.slice * t.count) - group * t.slice) t.slice
 
--- a group has no more ticks than there are
+-- a group counts in at most as many ticks as there were
 abbrev pub ActiveWithin : Type 0
 ActiveWithin = (t : Turns) (group total : ℕ) → active t group total ≤ total
 
--- one group has every tick
+-- where all natives are in one group, it counts in every tick
 abbrev pub OneGroupActive : Type 0
 OneGroupActive = (t : Turns) (total : ℕ) → t.count ≡ 1 → active t 0 total ≡ total
 
--- of one group the estimate is the count
+-- where all natives are in one group, an estimate is the count itself
 abbrev pub OneGroupEstimate : Type 0
 OneGroupEstimate = (t : Turns) (count total : ℕ) → t.count ≡ 1 → (total ≡ 0 → count ≡ 0) → estimate count total (active t 0 total) ≡ count
 
--- each place has a group
+-- each native of the set has a group
 abbrev pub EachHasGroup : Type 0
 EachHasGroup = (masks : List ℕ) → length (groups masks) ≡ length masks
 

@@ -1,4 +1,4 @@
-// The laws of the definitions.
+//! The laws of the definitions.
 ghost use Rattle.multiplex.specs.Laws.{RunsEvenly, ActiveInTurns, ActiveWithin, OneGroupActive, OneGroupEstimate, EachHasGroup, GroupsAreParts};
 
 /// Groups are consecutive parts, each as long as it can be, they take turns evenly, and one group counts all: these

@@ -1,4 +1,4 @@
-// The groups of a multiplexed set, and which of them runs.
+//! The groups of a multiplexed set, and which of them runs.
 ghost use Rattle.std.specs.Prelude.{◌≡◌, ℕ, ◌+◌, ◌*◌, ◌/◌, ◌%◌, ◌<◌, ◌≤◌, ◌^◌, ◌∷◌, ◌++◌, [], All, length, slice_index, true};
 ghost use Rattle.counter_alloc.specs.Listing.{is_assignable};
 ghost use Rattle.counter_alloc.specs.Masks.{AreMasks, masks_of};

@@ -1,5 +1,6 @@
 -- A canonical name names its native.
-use Rattle.std.proofs.Common.{◌≡◌, ◌∙◌, ◌+◌, ◌<◌, ◌≤◌, ◌∷◌, ◌++◌, ℕ, Bool, true, false, List, [], Option, Some, None, Ok, length, slice_get, refl, sym, ap, ap₂, subst, arith, codes, decimal, nat_lt, tests}
+use Rattle.std.proofs.Common.{◌≡◌, ◌∙◌, ◌+◌, ◌<◌, ◌≤◌, ◌∷◌, ◌++◌, ℕ, Bool, true, false, List, [], Option, Some, None, Ok, length}
+use Rattle.std.proofs.Common.{slice_get, refl, sym, ap, ap₂, subst, arith, codes, decimal, nat_lt, tests}
 use Rattle.std.specs.List.{AllByRecursion}
 use Rattle.std.proofs.lemmas.List.{map-append}
 use Rattle.event_tables.specs.Kept.{IsEvent, IsMask, IsTables, NoRepeats}
@@ -59,7 +60,8 @@ mods-plain m lt =
 
 -- ---- what the attributes of the canonical name are judged as
 
-own-saids : (masks : List MaskText) (flags : List Bool) (mods : Mods) → AllByRecursion IsMask masks → NoRepeats (λ (a b : MaskText). str_eq_ignore_ascii_case a.name b.name) masks → length flags ≡ length masks
+own-saids : (masks : List MaskText) (flags : List Bool) (mods : Mods) → AllByRecursion IsMask masks
+    → NoRepeats (λ (a b : MaskText). str_eq_ignore_ascii_case a.name b.name) masks → length flags ≡ length masks
     → saids_of masks (chosen_words flags masks ++ mod_words mods) ≡ mask_saids 0 flags ++ mod_saids mods
 own-saids masks flags mods h d n =
     map-append (λ (a : Text). said_of masks (attribute_of a)) (chosen_words flags masks) (mod_words mods)
@@ -79,7 +81,9 @@ own-event : (counters : ℕ) (f : Found) (flags : List Bool) (mods : Mods) → m
     → named_event f (saids_of f.event.masks (own_words f flags mods)) ≡ Ok (native_of f flags mods)
 own-event counters f flags mods lt e c =
     let masks = f.event.masks in
-    rw (own-saids masks flags mods e.each e.distinct c.len) (rw (own-faultless masks flags mods lt c, named-own flags mods masks c.len, c.again) (ap (λ (m : Mods). Ok (native_of f flags m)) (mods-own flags mods lt)))
+    rw (own-saids masks flags mods e.each e.distinct c.len)
+    (rw (own-faultless masks flags mods lt c, named-own flags mods masks c.len, c.again)
+    (ap (λ (m : Mods). Ok (native_of f flags m)) (mods-own flags mods lt)))
 
 -- the canonical name of what an event and a choice of umasks and modifiers give
 own-back : (tables : List ComponentText) (s : Split) (f : Found) (flags : List Bool) (mods : Mods) → IsTables tables → found_from s 0 tables ≡ Some f → mods.cmask < 256 → Choice f.event.masks flags

@@ -1,5 +1,7 @@
 -- What the attributes of a canonical name choose, and what those of any name may choose.
-use Rattle.std.proofs.Common.{◌≡◌, ◌∙◌, ◌+◌, ◌<◌, ◌≤◌, ◌==◌, ◌&&◌, ◌||◌, ◌∷◌, ◌++◌, ◌⊎◌, ℕ, zero, suc, Bool, true, false, List, [], Option, Some, None, length, find, slice_get, refl, sym, ap, ap₂, subst, arith, tests, nat_lt, decimal, inl, inr, unwrap_or, is_none, append_assoc, append-nil}
+use Rattle.std.proofs.Common.{◌≡◌, ◌∙◌, ◌+◌, ◌<◌, ◌≤◌, ◌==◌, ◌&&◌, ◌||◌, ◌∷◌, ◌++◌, ◌⊎◌, ℕ, zero, suc, Bool, true}
+use Rattle.std.proofs.Common.{false, List, [], Option, Some, None, length, find, slice_get, refl, sym, ap, ap₂, subst}
+use Rattle.std.proofs.Common.{arith, tests, nat_lt, decimal, inl, inr, unwrap_or, is_none, append_assoc, append-nil}
 use Rattle.std.specs.Prelude.{if◌then◌else◌}
 use Rattle.std.specs.List.{AllByRecursion, list_any}
 use Rattle.std.specs.Option.{option_map_or, option_or}
@@ -12,7 +14,9 @@ use Rattle.table_rows.specs.Texts.{Text}
 use Rattle.papi_base.specs.declared.native.Mods.{Mods}
 use Rattle.name_encoder.specs.declared.fault.NameFault.{NameFault}
 use Rattle.name_encoder.specs.declared.fault.NameFault.TheVariants as name_fault
-use Rattle.name_encoder.specs.Names.{Meaning, Modifier, Said, choices, chosen, clashes, cmask, edge, fault_from, flag_value, has_true, invert, kernel, mask, meaning_fault, means, mods_of, modifier, named_from, names_alone, names_mask, rank, row_alone, said_fault, same_meaning, set_to, user, value_of}
+use Rattle.name_encoder.specs.Names.{Meaning, Modifier, Said, choices, chosen, clashes, cmask, edge, fault_from, flag_value}
+use Rattle.name_encoder.specs.Names.{has_true, invert, kernel, mask, meaning_fault, means, mods_of, modifier, named_from}
+use Rattle.name_encoder.specs.Names.{names_alone, names_mask, rank, row_alone, said_fault, same_meaning, set_to, user, value_of}
 use Rattle.name_encoder.proofs.Faultless.{AllFlags, Combine, cmask-back}
 use Rattle.name_encoder.proofs.Saids.{mask_saids, mod_said, mod_saids, said_if}
 
@@ -79,7 +83,8 @@ find-other : (m n : Modifier) (b : Bool) (v : Option Text) (rest : List Said) �
 find-other m n true v rest e = rw e refl
 find-other m n false v rest e = refl
 
-find-own : (m : Modifier) (b : Bool) (v : Option Text) (rest : List Said) → find (means (modifier m)) rest ≡ None → find (means (modifier m)) (said_if b m v ++ rest) ≡ (if b then Some (mod_said m v) else None)
+find-own : (m : Modifier) (b : Bool) (v : Option Text) (rest : List Said) → find (means (modifier m)) rest ≡ None
+    → find (means (modifier m)) (said_if b m v ++ rest) ≡ (if b then Some (mod_said m v) else None)
 find-own m true v rest e = rw (eq-eqb (rank m) (rank m) refl) refl
 find-own m false v rest e = e
 
@@ -91,7 +96,8 @@ last-own : (b : Bool) (v : Option Text) → find (means (modifier cmask)) (said_
 last-own true v = refl
 last-own false v = refl
 
-flag-set : (m : Modifier) (b : Bool) → value_of (modifier m) None ≡ Some 1 → nat_lt 0 (option_map_or (λ s. unwrap_or (value_of (modifier m) s.value) 0) (if b then Some (mod_said m None) else None) 0) ≡ b
+flag-set : (m : Modifier) (b : Bool) → value_of (modifier m) None ≡ Some 1
+    → nat_lt 0 (option_map_or (λ s. unwrap_or (value_of (modifier m) s.value) 0) (if b then Some (mod_said m None) else None) 0) ≡ b
 flag-set m true e = rw e refl
 flag-set m false e = refl
 
@@ -110,7 +116,8 @@ mods-own flags m lt =
     let f3 = said_if m.edge edge None ++ f4 in
     let f2 = said_if m.kernel kernel None ++ f3 in
     let u = find-masks user 0 flags (mod_saids m)
-    ∙ find-own user m.user None f2 (find-other user kernel m.kernel None f3 refl ∙ find-other user edge m.edge None f4 refl ∙ find-other user invert m.invert None tail refl ∙ last-other user (nat_lt 0 m.cmask) _ refl) in
+    ∙ find-own user m.user None f2 (find-other user kernel m.kernel None f3 refl ∙ find-other user edge m.edge None f4 refl
+    ∙ find-other user invert m.invert None tail refl ∙ last-other user (nat_lt 0 m.cmask) _ refl) in
     let k = find-masks kernel 0 flags (mod_saids m) ∙ find-other kernel user m.user None f2 refl
     ∙ find-own kernel m.kernel None f3 (find-other kernel edge m.edge None f4 refl ∙ find-other kernel invert m.invert None tail refl ∙ last-other kernel (nat_lt 0 m.cmask) _ refl) in
     let e = find-masks edge 0 flags (mod_saids m) ∙ find-other edge user m.user None f2 refl ∙ find-other edge kernel m.kernel None f3 refl
@@ -158,7 +165,8 @@ mask-clear masks above s i e is = go (list_any (means (mask i)) above) (is_none 
     go false false true q = cc q
     go false false false q = refl
 
-free-after : (masks : List MaskText) (above : List Said) (s : Said) (i j : ℕ) → said_fault masks above s ≡ None → s.meaning ≡ Some (mask j) → Named above i → list_any (names_alone masks) (above ++ s ∷ []) ≡ false
+free-after : (masks : List MaskText) (above : List Said) (s : Said) (i j : ℕ) → said_fault masks above s ≡ None → s.meaning ≡ Some (mask j) → Named above i
+    → list_any (names_alone masks) (above ++ s ∷ []) ≡ false
 free-after masks above s i j e is n =
     let clear = mask-clear masks above s j e is in
     let own : names_mask s ≡ true = rw is refl in

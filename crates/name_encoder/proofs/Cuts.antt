@@ -1,5 +1,6 @@
 -- A text that is cut at a mark.
-use Rattle.std.proofs.Common.{◌≡◌, ◌∙◌, ◌+◌, ◌<◌, ◌≤◌, ◌∷◌, ◌++◌, ℕ, List, [], Option, Some, None, Bool, true, false, length, get_or, drop, take, refl, sym, ap, nat_eq, option_map, append_assoc, append-nil}
+use Rattle.std.proofs.Common.{◌≡◌, ◌∙◌, ◌+◌, ◌<◌, ◌≤◌, ◌∷◌, ◌++◌, ℕ, List, [], Option, Some, None, Bool, true, false, length, get_or}
+use Rattle.std.proofs.Common.{drop, take, refl, sym, ap, nat_eq, option_map, append_assoc, append-nil}
 use Rattle.std.proofs.lemmas.List.{drop_more, drop_all, take_more}
 use Rattle.std.specs.Prelude.{◌==◌, ◌&&◌, if◌then◌else◌}
 use Rattle.std.proofs.lemmas.Bool.{eq-eqb, eqb-true, ne_eqb}
@@ -7,20 +8,20 @@ use Rattle.std.specs.List.{onto_first, slice_split, starts_with}
 use Rattle.table_rows.specs.Texts.{Text}
 use Rattle.name_encoder.specs.Split.{cut_at}
 
--- the parts of a text behind a front
-abbrev pub behind : Text → Option (Text × Text) → Option (Text × Text)
-behind front o = option_map (λ p. (front ++ p.0, p.1)) o
+-- the parts of a text after a front
+abbrev pub with_front : Text → Option (Text × Text) → Option (Text × Text)
+with_front front o = option_map (λ p. (front ++ p.0, p.1)) o
 
-behind-byte : (front : Text) (b : ℕ) (o : Option (Text × Text)) → behind front (option_map (λ p. (b ∷ p.0, p.1)) o) ≡ behind (front ++ b ∷ []) o
-behind-byte front b None = refl
-behind-byte front b (Some p) = ap (λ (t : Text). Some (t, p.1)) (sym (append_assoc front (b ∷ []) p.0))
+with_front-byte : (front : Text) (b : ℕ) (o : Option (Text × Text)) → with_front front (option_map (λ p. (b ∷ p.0, p.1)) o) ≡ with_front (front ++ b ∷ []) o
+with_front-byte front b None = refl
+with_front-byte front b (Some p) = ap (λ (t : Text). Some (t, p.1)) (sym (append_assoc front (b ∷ []) p.0))
 
-pub behind-none : (o : Option (Text × Text)) → behind [] o ≡ o
-behind-none None = refl
-behind-none (Some p) = refl
+pub with_front-none : (o : Option (Text × Text)) → with_front [] o ≡ o
+with_front-none None = refl
+with_front-none (Some p) = refl
 
 pub cut-here : (mark text : Text) (i : ℕ) → i < length text → starts_with nat_eq (drop i text) mark ≡ true
-    → behind (take i text) (cut_at mark (drop i text)) ≡ Some (take i text, drop (length mark) (drop i text))
+    → with_front (take i text) (cut_at mark (drop i text)) ≡ Some (take i text, drop (length mark) (drop i text))
 unfolding cut_at
 cut-here mark text i lt e =
     let d = drop_more text i 0 lt in
@@ -28,15 +29,15 @@ cut-here mark text i lt e =
     rw (d, here) (ap (λ (t : Text). Some (t, drop (length mark) (get_or text i 0 ∷ drop (i + 1) text))) (append-nil (take i text)))
 
 pub cut-later : (mark text : Text) (i : ℕ) → i < length text → starts_with nat_eq (drop i text) mark ≡ false
-    → behind (take i text) (cut_at mark (drop i text)) ≡ behind (take (i + 1) text) (cut_at mark (drop (i + 1) text))
+    → with_front (take i text) (cut_at mark (drop i text)) ≡ with_front (take (i + 1) text) (cut_at mark (drop (i + 1) text))
 unfolding cut_at
 cut-later mark text i lt e =
     let d = drop_more text i 0 lt in
     let here : starts_with nat_eq (get_or text i 0 ∷ drop (i + 1) text) mark ≡ false = rw d at e in
     let t = take_more text i 0 lt in
-    rw (d, here, t) (behind-byte (take i text) (get_or text i 0) (cut_at mark (drop (i + 1) text)))
+    rw (d, here, t) (with_front-byte (take i text) (get_or text i 0) (cut_at mark (drop (i + 1) text)))
 
-pub cut-never : (mark text : Text) (i : ℕ) → length text ≤ i → behind (take i text) (cut_at mark (drop i text)) ≡ None
+pub cut-never : (mark text : Text) (i : ℕ) → length text ≤ i → with_front (take i text) (cut_at mark (drop i text)) ≡ None
 unfolding cut_at
 cut-never mark text i le = rw (drop_all i text le) refl
 
@@ -64,7 +65,7 @@ onto : (b : ℕ) (t : Text) (o : Option (Text × Text)) → onto_first b (parts_
 onto b t None = refl
 onto b t (Some p) = refl
 
--- the first part, and those behind it
+-- the first part, and those after it
 pub parts-first : (t : Text) → slice_split (λ b. b == 58) t ≡ parts_after t (cut_at (58 ∷ []) t)
 unfolding cut_at
 parts-first [] = refl

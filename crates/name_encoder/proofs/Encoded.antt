@@ -13,7 +13,8 @@ use Rattle.papi_base.specs.declared.native.Native.{Native}
 use Rattle.name_encoder.specs.declared.fault.NameFault.{NameFault}
 use Rattle.name_encoder.specs.declared.fault.NameFault.TheVariants as name_fault
 use Rattle.name_encoder.specs.Split.{Split, split}
-use Rattle.name_encoder.specs.Names.{FitsShape, Found, allowed_with, chosen, fault_from, found_from, mods_of, named_event, named_found, named_from, names, native_of, native_or, programmable, saids_of, Said}
+use Rattle.name_encoder.specs.Names.{FitsShape, Found, allowed_with, chosen, fault_from, found_from, mods_of, named_event, named_found}
+use Rattle.name_encoder.specs.Names.{named_from, names, native_of, native_or, programmable, saids_of, Said}
 use Rattle.name_encoder.specs.declared.attribute.Given.{Given}
 use Rattle.name_encoder.specs.Judged.{all_given, native_next, nothing}
 use Rattle.name_encoder.proofs.Judging.{named-given}
@@ -48,7 +49,8 @@ allowed-less mods counters allowed = go (mods.edge || (mods.invert || nat_lt 0 m
     go true = and_le_l allowed (programmable counters)
     go false = omega arith
 
-event-fits : (tables : List ComponentText) (s : Split) (f : Found) (flags : List Bool) (mods : Mods) → IsTables tables → found_from s 0 tables ≡ Some f → FitsShape (shape_of tables) (native_of f flags mods)
+event-fits : (tables : List ComponentText) (s : Split) (f : Found) (flags : List Bool) (mods : Mods) → IsTables tables → found_from s 0 tables ≡ Some f
+    → FitsShape (shape_of tables) (native_of f flags mods)
 event-fits tables s f flags mods t found =
     let kept = found-kept s 0 tables f found t.each in
     let places = component-found s 0 tables f found in

@@ -1,5 +1,6 @@
 -- The attributes of a canonical name have no fault, and choose what the native has.
-use Rattle.std.proofs.Common.{◌≡◌, ◌∙◌, ◌+◌, ◌<◌, ◌≤◌, ◌==◌, ◌&&◌, ◌∷◌, ◌++◌, ℕ, Bool, true, false, List, [], Option, Some, None, refl, sym, ap, subst, arith, nat_lt, nat_eq, decimal, append_assoc, append-nil, is_none}
+use Rattle.std.proofs.Common.{◌≡◌, ◌∙◌, ◌+◌, ◌<◌, ◌≤◌, ◌==◌, ◌&&◌, ◌∷◌, ◌++◌, ℕ, Bool, true, false, List, [], Option, Some, None, refl, sym, ap}
+use Rattle.std.proofs.Common.{subst, arith, nat_lt, nat_eq, decimal, append_assoc, append-nil, is_none}
 use Rattle.std.specs.Prelude.{⊤}
 use Rattle.std.specs.List.{AllByRecursion, list_any}
 use Rattle.std.specs.Option.{option_map_or}
@@ -8,7 +9,8 @@ use Rattle.event_tables.specs.Tables.{MaskText}
 use Rattle.table_rows.specs.Texts.{Text, decimal_in, hex_in, is_decimal, is_numeral}
 use Rattle.table_rows.proofs.Texts.{all-append, all-map}
 use Rattle.papi_base.specs.declared.native.Mods.{Mods}
-use Rattle.name_encoder.specs.Names.{Meaning, Modifier, Said, clashes, cmask, cmask_value, edge, fault_from, flag_value, invert, kernel, mask, means, modifier, names_alone, names_mask, rank, row_alone, said_fault, same_meaning, user, value_of}
+use Rattle.name_encoder.specs.Names.{Meaning, Modifier, Said, clashes, cmask, cmask_value, edge, fault_from, flag_value, invert, kernel, mask, means}
+use Rattle.name_encoder.specs.Names.{modifier, names_alone, names_mask, rank, row_alone, said_fault, same_meaning, user, value_of}
 use Rattle.name_encoder.proofs.Saids.{mask_saids, mod_said, mod_saids, said_if}
 use Rattle.std.specs.Fmt.{digits}
 
@@ -58,7 +60,8 @@ no-clash masks F [] k pairs h flag = refl
 no-clash masks F (a ∷ above) k pairs h flag =
     let ne : (k == h.0.row) ≡ false = ne_eqb k h.0.row (λ e. absurd (omega (arith, e, h.0.less))) in
     let own : names_alone masks (mask_said k) ≡ false = pairs k h.0.row ne flag h.0.flagged in
-    let all = all-append (λ s. names_alone masks s ≡ false) (a ∷ above) (mask_said k ∷ []) (all-map (RowSaid F k) (λ s. names_alone masks s ≡ false) (a ∷ above) (λ s r. row-free masks F k s pairs flag r) h) (own, tt) in
+    let all = all-append (λ s. names_alone masks s ≡ false) (a ∷ above) (mask_said k ∷ [])
+    (all-map (RowSaid F k) (λ s. names_alone masks s ≡ false) (a ∷ above) (λ s r. row-free masks F k s pairs flag r) h) (own, tt) in
     let free : list_any (names_alone masks) ((a ∷ above) ++ mask_said k ∷ []) ≡ false = any-none (names_alone masks) ((a ∷ above) ++ mask_said k ∷ []) all in
     rw free (and-false (list_any names_mask (a ∷ above)))
   where
@@ -72,7 +75,8 @@ mask-faultless masks F above k pairs h flag =
     let free = no-clash masks F above k pairs h flag in
     rw (apart, free) refl
 
-pub masks-faultless : (masks : List MaskText) (F : ℕ → Type 0) (above : List Said) (k : ℕ) (flags : List Bool) (tail : List Said) → Combine masks F → AllByRecursion (RowSaid F k) above → AllFlags F k flags
+pub masks-faultless : (masks : List MaskText) (F : ℕ → Type 0) (above : List Said) (k : ℕ) (flags : List Bool) (tail : List Said) → Combine masks F
+    → AllByRecursion (RowSaid F k) above → AllFlags F k flags
     → fault_from masks above (mask_saids k flags ++ tail) ≡ fault_from masks (above ++ mask_saids k flags) tail
 unfolding AllFlags mask_saids fault_from
 masks-faultless masks F above k [] tail pairs h a = ap (λ (t : List Said). fault_from masks t tail) (sym (append-nil above))
@@ -103,9 +107,11 @@ lower-more r None h = h
 lower-more r (Some (mask row)) h = h
 lower-more r (Some (modifier n)) h = omega (arith, h)
 
-mod-faultless : (masks : List MaskText) (above : List Said) (m : Modifier) (v : Option Text) → is_none (value_of (modifier m) v) ≡ false → AllByRecursion (Lower (rank m)) above → said_fault masks above (mod_said m v) ≡ None
+mod-faultless : (masks : List MaskText) (above : List Said) (m : Modifier) (v : Option Text) → is_none (value_of (modifier m) v) ≡ false
+    → AllByRecursion (Lower (rank m)) above → said_fault masks above (mod_said m v) ≡ None
 mod-faultless masks above m v e h =
-    let apart : list_any (means (modifier m)) above ≡ false = any-none (means (modifier m)) above (all-map (Lower (rank m)) (λ s. means (modifier m) s ≡ false) above (λ s l. lower-other m s.meaning l) h) in
+    let apart : list_any (means (modifier m)) above ≡ false = any-none (means (modifier m)) above
+    (all-map (Lower (rank m)) (λ s. means (modifier m) s ≡ false) above (λ s l. lower-other m s.meaning l) h) in
     rw (apart, e) refl
 
 pub record ModStep (masks : List MaskText) (above : List Said) (b : Bool) (m : Modifier) (v : Option Text) (rest : List Said) : Type 0 where

@@ -116,7 +116,8 @@ component-all P s comp (c ∷ tables) f e h = go (choice s comp c) refl e (λ q.
     go None o_is q more = more q
 
 -- what holds of each event of each component
-pub found-kept : (s : Split) (comp : ℕ) (tables : List ComponentText) (f : Found) → found_from s comp tables ≡ Some f → AllByRecursion IsComponent tables → IsComponent f.component × IsEvent (length f.component.counters) f.event
+pub found-kept : (s : Split) (comp : ℕ) (tables : List ComponentText) (f : Found) → found_from s comp tables ≡ Some f → AllByRecursion IsComponent tables
+    → IsComponent f.component × IsEvent (length f.component.counters) f.event
 unfolding found_from
 found-kept s comp [] f e h = cc e
 found-kept s comp (c ∷ tables) f e h = go (choice s comp c) refl e (λ q. found-kept s (comp + 1) tables f q h.1)
@@ -126,8 +127,11 @@ found-kept s comp (c ∷ tables) f e h = go (choice s comp c) refl e (λ q. foun
     go (Some g) o_is q more =
         let is : g ≡ f = cc q in
         let from = choice-event s comp c f (o_is ∙ ap (λ (x : Found). Some x) is) in
-        let found = event-found comp c s.event 0 c.events f from in
-        (subst IsComponent (sym found.component_is) h.0, subst (λ (k : ComponentText). IsEvent (length k.counters) f.event) (sym found.component_is) (event-all (IsEvent (length c.counters)) comp c s.event 0 c.events f from h.0.events))
+        let found = event-found comp c s.event 0 c.events f from in (
+          subst IsComponent (sym found.component_is) h.0,
+          subst (λ (k : ComponentText). IsEvent (length k.counters) f.event) (sym found.component_is)
+              (event-all (IsEvent (length c.counters)) comp c s.event 0 c.events f from h.0.events),
+        )
     go None o_is q more = more q
 
 abbrev pub own_split : Found → List Text → Split

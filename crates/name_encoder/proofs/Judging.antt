@@ -1,5 +1,7 @@
 -- Attributes that are judged one by one give what the definition says of all of them.
-use Rattle.std.proofs.Common.{◌≡◌, ◌∙◌, ◌+◌, ◌<◌, ◌≤◌, ◌==◌, ◌&&◌, ◌||◌, ◌∷◌, ◌++◌, ℕ, zero, suc, Bool, true, false, List, [], Option, Some, None, Ok, Err, Result, length, find, take, option_map, slice_get, refl, sym, ap, ap₂, subst, arith, nat_lt, unwrap_or, is_none, append_assoc, append-nil}
+use Rattle.std.proofs.Common.{◌≡◌, ◌∙◌, ◌+◌, ◌<◌, ◌≤◌, ◌==◌, ◌&&◌, ◌||◌, ◌∷◌, ◌++◌, ℕ, zero, suc, Bool, true, false}
+use Rattle.std.proofs.Common.{List, [], Option, Some, None, Ok, Err, Result, length, find, take, option_map, slice_get}
+use Rattle.std.proofs.Common.{refl, sym, ap, ap₂, subst, arith, nat_lt, unwrap_or, is_none, append_assoc, append-nil}
 use Rattle.std.proofs.Math.ListN.{set}
 use Rattle.std.proofs.Math.Seq.{take-set-lt}
 use Rattle.std.proofs.lemmas.Bool.{eq-eqb, eqb-true, ne_eqb}
@@ -14,10 +16,13 @@ use Rattle.papi_base.specs.declared.native.Mods.{Mods}
 use Rattle.name_encoder.specs.declared.attribute.Given.{Given}
 use Rattle.name_encoder.specs.declared.fault.NameFault.{NameFault}
 use Rattle.name_encoder.specs.declared.fault.NameFault.TheVariants as name_fault
-use Rattle.name_encoder.specs.Names.{Found, Meaning, Modifier, Said, chosen, clashes, cmask, edge, fault_from, invert, is_set, kernel, mask, meaning_of, means, mods_of, modifier, named_event, named_from, names_alone, names_mask, native_or, rank, row_alone, said_fault, saids_of, set_to, user, value_of}
+use Rattle.name_encoder.specs.Names.{Found, Meaning, Modifier, Said, chosen, clashes, cmask, edge, fault_from, invert, is_set}
+use Rattle.name_encoder.specs.Names.{kernel, mask, meaning_of, means, mods_of, modifier, named_event, named_from, names_alone}
+use Rattle.name_encoder.specs.Names.{names_mask, native_or, rank, row_alone, said_fault, saids_of, set_to, user, value_of}
 use Rattle.name_encoder.specs.Split.{attribute_of}
 use Rattle.name_encoder.proofs.Steps.{meaning-row}
-use Rattle.name_encoder.specs.Judged.{all_given, flags_given, given_next, is_named, mask_given, mods_given, modifier_given, native_chosen, native_next, nothing, said_given, value_given, with_mask, with_value}
+use Rattle.name_encoder.specs.Judged.{all_given, flags_given, given_next, is_named, mask_given, mods_given, modifier_given, native_chosen}
+use Rattle.name_encoder.specs.Judged.{native_next, nothing, said_given, value_given, with_mask, with_value}
 
 abbrev said : Option Meaning → Option Text → Said
 said o v = record { meaning = o; value = v }
@@ -258,7 +263,8 @@ value-more masks xs g m v k is unseen h n = value-with g m n k ∙ go (rank n ==
         let same : find (means (modifier n)) (xs ++ s ∷ []) ≡ find (means (modifier n)) xs = find-more (means (modifier n)) xs s ∙ rw e (or-none (find (means (modifier n)) xs)) in
         h.values n ∙ sym (ap (λ (o : Option Said). option_map (of n) o) same)
 
-modifier-more : (masks : List MaskText) (xs : List Said) (g : Given) (m : Modifier) (v : Option Text) (k : ℕ) → value_of (modifier m) v ≡ Some k → is_some (value_given g m) ≡ false → IsGiven masks xs g
+modifier-more : (masks : List MaskText) (xs : List Said) (g : Given) (m : Modifier) (v : Option Text) (k : ℕ) → value_of (modifier m) v ≡ Some k
+    → is_some (value_given g m) ≡ false → IsGiven masks xs g
     → IsGiven masks (xs ++ said (Some (modifier m)) v ∷ []) (with_value g m k)
 modifier-more masks xs g m v k is unseen h =
     let s = stays g m k in

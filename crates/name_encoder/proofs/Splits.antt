@@ -13,7 +13,7 @@ abbrev pub IsWord : Text → Type 0
 IsWord [] = ⊥
 IsWord (b ∷ w) = AllByRecursion InWord (b ∷ w)
 
--- words, each behind a colon
+-- words, each after a colon
 unfoldable pub tail_text : List Text → Text
 tail_text [] = []
 tail_text (w ∷ ws) = 58 ∷ (w ++ tail_text ws)
@@ -63,7 +63,7 @@ one-colon b y n h = colon-step b y n ∙ ap (ahead 58) h
 two-colons : (b : ℕ) (y : Text) → nat_eq 58 b ≡ false → cut_at Three (b ∷ y) ≡ None → cut_at Three (58 ∷ 58 ∷ b ∷ y) ≡ None
 two-colons b y n h = colons-step b y n ∙ ap (ahead 58) (one-colon b y n h)
 
--- words behind colons have no three colons
+-- words after colons have no three colons
 tail-none : (ws : List Text) → AllByRecursion IsWord ws → cut_at (58 ∷ 58 ∷ 58 ∷ []) (tail_text ws) ≡ None
 unfolding cut_at tail_text
 tail-none [] h = refl

@@ -14,13 +14,16 @@ unfoldable pub masks_text : ℕ → List MaskText → Text
 masks_text bits [] = []
 masks_text bits (m ∷ rest) = (if bits % 2 == 1 then 58 ∷ m.name else []) ++ masks_text (bits / 2) rest
 
+-- the text, or an empty one
 abbrev pub text_if : Bool → Text → Text
 text_if on t = if on then t else []
 
+-- the modifiers that are set, each after a colon, in the order `u`, `k`, `e`, `i`, `c`
 unfoldable pub mods_text : Mods → Text
 mods_text m = text_if m.user (codes ":u") ++ (text_if m.kernel (codes ":k") ++ (text_if m.edge (codes ":e") ++ (text_if m.invert (codes ":i")
     ++ text_if (nat_lt 0 m.cmask) (codes ":c=" ++ decimal m.cmask))))
 
+-- the canonical name of a native of this event
 abbrev pub event_text : Text → EventText → Native → Text
 event_text pmu e n = pmu ++ (codes "::" ++ (e.name ++ (masks_text n.masks e.masks ++ mods_text n.mods)))
 

@@ -18,6 +18,7 @@ use Rattle.name_encoder.specs.Names.{Said, has_true, names_alone, names_mask, ro
 
 -- ---- the code's kinds of meaning, as those of the definitions
 
+-- a modifier of an event's text: `u`, `k`, `e`, `i` or `c`
 abbrev pub modifier_text : Modifier → Names.Modifier
 modifier_text modifier.User = Names.user
 modifier_text modifier.Kernel = Names.kernel
@@ -25,6 +26,7 @@ modifier_text modifier.Edge = Names.edge
 modifier_text modifier.Invert = Names.invert
 modifier_text modifier.Cmask = Names.cmask
 
+-- what an attribute names
 abbrev pub meaning_text : Meaning → Names.Meaning
 meaning_text (means_as.Mask row) = Names.mask row
 meaning_text (means_as.Modifier m) = Names.modifier (modifier_text m)
@@ -39,6 +41,7 @@ value_given g Names.edge = g.edge
 value_given g Names.invert = g.invert
 value_given g Names.cmask = g.cmask
 
+-- one modifier more has its value
 abbrev pub with_value : Given → Names.Modifier → ℕ → Given
 with_value g Names.user v = record g { user = Some v }
 with_value g Names.kernel v = record g { kernel = Some v }
@@ -46,12 +49,15 @@ with_value g Names.edge v = record g { edge = Some v }
 with_value g Names.invert v = record g { invert = Some v }
 with_value g Names.cmask v = record g { cmask = Some v }
 
+-- one umask more is named
 abbrev pub with_mask : Given → ℕ → Bool → Given
 with_mask g row alone = record g { named = slice_set g.named row true; some = true; alone = g.alone || alone }
 
+-- the umask of this row was named before
 abbrev pub is_named : Given → ℕ → Bool
 is_named g row = unwrap_or (slice_get g.named row) false
 
+-- one attribute more that is the umask of this row
 abbrev pub mask_given : List MaskText → Given → ℕ → Option Text → Result Given NameFault
 mask_given masks g row value =
     if is_named g row then Err name_fault.AttrSet
@@ -59,18 +65,22 @@ mask_given masks g row value =
     else if g.some && (g.alone || row_alone masks row) then Err name_fault.FeatComb
     else Ok (with_mask g row (row_alone masks row))
 
+-- one attribute more that is this modifier: each may be given once, with a value that it can have
 abbrev pub modifier_given : Given → Names.Modifier → Option Text → Result Given NameFault
 modifier_given g m value =
     if is_some (value_given g m) then Err name_fault.AttrSet
     else option_map_or (λ v. Ok (with_value g m v)) (Names.value_of (Names.modifier m) value) (Err name_fault.AttrVal)
 
+-- one attribute more that names this
 abbrev pub meaning_given : List MaskText → Given → Option Text → Names.Meaning → Result Given NameFault
 meaning_given masks g value (Names.mask row) = mask_given masks g row value
 meaning_given masks g value (Names.modifier m) = modifier_given g m value
 
+-- one attribute more
 abbrev pub said_given : List MaskText → Given → Said → Result Given NameFault
 said_given masks g s = option_map_or (meaning_given masks g s.value) s.meaning (Err name_fault.Attr)
 
+-- the attributes after those that gave this
 abbrev pub given_next : (Given → Result Given NameFault) → Result Given NameFault → Result Given NameFault
 given_next go (Ok g) = go g
 given_next go (Err f) = Err f
@@ -95,9 +105,11 @@ nothing = record {
 
 -- ---- what was given in the end
 
+-- a modifier has a value above 0
 abbrev pub is_on : Option ℕ → Bool
 is_on o = nat_lt 0 (unwrap_or o 0)
 
+-- the modifiers of the native event; a flag that was not given is off, and a counter mask that was not given is 0
 abbrev pub mods_given : Given → Mods
 mods_given g = record { user = is_on g.user; kernel = is_on g.kernel; edge = is_on g.edge; invert = is_on g.invert; cmask = unwrap_or g.cmask 0 }
 
@@ -110,9 +122,11 @@ abbrev pub native_chosen : Names.Found → Mods → Option (List Bool) → Resul
 native_chosen f mods None = Err name_fault.Umask
 native_chosen f mods (Some flags) = Ok (Names.native_of f flags mods)
 
+-- the native of the event with what all attributes give
 abbrev pub native_given : Names.Found → Given → Result Native NameFault
 native_given f g = native_chosen f (mods_given g) (Names.chosen f.event.masks (flags_given f.event.masks g))
 
+-- that native, or the fault of an attribute
 abbrev pub native_next : Names.Found → Result Given NameFault → Result Native NameFault
 native_next f (Ok g) = native_given f g
 native_next f (Err fault) = Err fault

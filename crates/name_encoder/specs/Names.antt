@@ -1,5 +1,6 @@
 -- What an event's text names, or why it names nothing.
-use Rattle.std.specs.Prelude.{◌&&◌, ◌||◌, ◌==◌, ◌<◌, ◌^◌, ◌+◌, length, ℕ, Bool, true, false, not, List, [], ◌∷◌, ◌++◌, drop, map, Option, Some, None, Result, Ok, Err}
+use Rattle.std.specs.Prelude.{◌&&◌, ◌||◌, ◌==◌, ◌<◌, ◌^◌, ◌+◌, length, ℕ, Bool, true, false, not, List, [], ◌∷◌, ◌++◌, drop, map}
+use Rattle.std.specs.Prelude.{Option, Some, None, Result, Ok, Err}
 use Rattle.std.specs.Prelude.{if◌then◌else◌, nat_eq, nat_lt, codes, bytes_eq, slice_get, is_none, option_map, unwrap_or, find}
 use Rattle.std.specs.Int.RustNames.{bit_and, bit_or}
 use Rattle.std.specs.List.{list_any, position_from, starts_with}
@@ -25,6 +26,7 @@ pub record Found : Type 0 where
   pub component : ComponentText
   pub event : EventText
 
+-- the name is that of the prefix, without regard to ASCII case; without a prefix each name is
 abbrev pub agrees : Option Text → Text → Bool
 agrees None name = true
 agrees (Some prefix) name = str_eq_ignore_ascii_case name prefix
@@ -48,6 +50,7 @@ found_from s comp (c ∷ rest) =
 
 -- ---- what an attribute says
 
+-- the modifiers `u`, `k`, `e`, `i` and `c`
 pub data Modifier : Type 0 where
   user : Modifier
   kernel : Modifier
@@ -55,10 +58,12 @@ pub data Modifier : Type 0 where
   invert : Modifier
   cmask : Modifier
 
+-- what an attribute names: a umask by its row, or a modifier
 pub data Meaning : Type 0 where
   mask : ℕ → Meaning
   modifier : Modifier → Meaning
 
+-- a modifier's place among the five
 abbrev pub rank : Modifier → ℕ
 rank user = 0
 rank kernel = 1
@@ -66,6 +71,7 @@ rank edge = 2
 rank invert = 3
 rank cmask = 4
 
+-- two attributes name the same
 abbrev pub same_meaning : Meaning → Meaning → Bool
 same_meaning (mask a) (mask b) = a == b
 same_meaning (mask a) (modifier m) = false
@@ -97,6 +103,7 @@ pub record Said : Type 0 where
   pub meaning : Option Meaning
   pub value : Option Text
 
+-- what an attribute of an event says
 abbrev pub said_of : List MaskText → Attribute → Said
 said_of masks a = record { meaning = meaning_of masks a.name; value = a.value }
 
@@ -104,10 +111,12 @@ said_of masks a = record { meaning = meaning_of masks a.name; value = a.value }
 abbrev pub means : Meaning → Said → Bool
 means what s = option_map_or (same_meaning what) s.meaning false
 
+-- a umask is named
 abbrev pub is_mask : Meaning → Bool
 is_mask (mask row) = true
 is_mask (modifier m) = false
 
+-- the attribute names a umask
 abbrev pub names_mask : Said → Bool
 names_mask s = option_map_or is_mask s.meaning false
 
@@ -115,10 +124,12 @@ names_mask s = option_map_or is_mask s.meaning false
 abbrev pub row_alone : List MaskText → ℕ → Bool
 row_alone masks row = option_map_or (λ m. m.alone) (slice_get masks row) false
 
+-- a umask is named that excludes all others
 abbrev pub is_alone : List MaskText → Meaning → Bool
 is_alone masks (mask row) = row_alone masks row
 is_alone masks (modifier m) = false
 
+-- the attribute names a umask that excludes all others
 abbrev pub names_alone : List MaskText → Said → Bool
 names_alone masks s = option_map_or (is_alone masks) s.meaning false
 
@@ -136,6 +147,7 @@ unfoldable pub cmask_value : Option Text → Option ℕ
 cmask_value None = None
 cmask_value (Some v) = if starts_with nat_eq v (codes "0x") then hex_in 1 2 (drop 2 v) else decimal_in 0 255 v
 
+-- the value of an attribute that names this, or nothing where it is out of its form
 abbrev pub value_of : Meaning → Option Text → Option ℕ
 value_of (mask row) None = Some 1
 value_of (mask row) (Some v) = None
@@ -151,6 +163,7 @@ value_of (modifier cmask) v = cmask_value v
 abbrev pub clashes : List MaskText → List Said → Said → Bool
 clashes masks above s = names_mask s && (list_any names_mask above && list_any (names_alone masks) (above ++ s ∷ []))
 
+-- why an attribute that names this is refused after those above, if it is
 abbrev pub meaning_fault : List MaskText → List Said → Said → Meaning → Option NameFault
 meaning_fault masks above s what =
     if list_any (means what) above then Some name_fault.AttrSet
@@ -174,9 +187,11 @@ unfoldable pub named_from : List Said → ℕ → List MaskText → List Bool
 named_from said row [] = []
 named_from said row (m ∷ rest) = list_any (means (mask row)) said ∷ named_from said (row + 1) rest
 
+-- one of the flags is set
 abbrev pub has_true : List Bool → Bool
 has_true flags = list_any (λ b. b) flags
 
+-- which umasks are the default
 abbrev pub choices : List MaskText → List Bool
 choices masks = map (λ m. m.preset_choice) masks
 
@@ -198,9 +213,11 @@ values_of (b ∷ flags) (m ∷ masks) = bit_or (if b then m.bits else 0) (values
 unfoldable pub set_to : List Said → Modifier → ℕ
 set_to said m = option_map_or (λ s. unwrap_or (value_of (modifier m) s.value) 0) (find (means (modifier m)) said) 0
 
+-- the modifier has a value above 0
 abbrev pub is_set : List Said → Modifier → Bool
 is_set said m = nat_lt 0 (set_to said m)
 
+-- the modifiers that the attributes ask for: modes, edge, inversion and the counter mask
 abbrev pub mods_of : List Said → Mods
 mods_of said = record { user = is_set said user; kernel = is_set said kernel; edge = is_set said edge; invert = is_set said invert; cmask = set_to said cmask }
 
@@ -212,6 +229,7 @@ programmable counters = bits_of (map (λ k. not k.fixed) counters)
 abbrev pub allowed_with : Mods → List CounterText → ℕ → ℕ
 allowed_with mods counters allowed = if mods.edge || (mods.invert || nat_lt 0 mods.cmask) then bit_and allowed (programmable counters) else allowed
 
+-- the native of an event with these umasks and modifiers
 abbrev pub native_of : Found → List Bool → Mods → Native
 native_of f flags mods = record {
   comp = f.comp;
@@ -223,17 +241,21 @@ native_of f flags mods = record {
   allowed = allowed_with mods f.component.counters f.event.allowed;
 }
 
+-- the native, or the first fault; without a umask where one is needed it is UMASK
 abbrev pub native_or : Found → Mods → Option NameFault → Option (List Bool) → Result Native NameFault
 native_or f mods (Some fault) flags = Err fault
 native_or f mods None None = Err name_fault.Umask
 native_or f mods None (Some flags) = Ok (native_of f flags mods)
 
+-- what an event with these attributes names
 abbrev pub named_event : Found → List Said → Result Native NameFault
 named_event f said = native_or f (mods_of said) (fault_from f.event.masks [] said) (chosen f.event.masks (named_from said 0 f.event.masks))
 
+-- what each attribute of an event says
 abbrev pub saids_of : List MaskText → List Text → List Said
 saids_of masks attributes = map (λ a. said_of masks (attribute_of a)) attributes
 
+-- what the text names, where its event was found or not
 abbrev pub named_found : Split → Option Found → Result Native NameFault
 named_found s None = Err name_fault.NotFound
 named_found s (Some f) = named_event f (saids_of f.event.masks s.attributes)
@@ -244,6 +266,7 @@ names tables text = named_found (split text) (found_from (split text) 0 tables)
 
 -- ---- what a fault is called, and which code it has
 
+-- libpfm4's word for a fault
 abbrev pub word_of : NameFault → Text
 word_of name_fault.NotFound = codes "NOTFOUND"
 word_of name_fault.Umask = codes "UMASK"
@@ -252,6 +275,7 @@ word_of name_fault.Attr = codes "ATTR"
 word_of name_fault.AttrVal = codes "ATTR_VAL"
 word_of name_fault.AttrSet = codes "ATTR_SET"
 
+-- PAPI's code for a fault: PAPI_add_named_event(3)
 abbrev pub code_of : NameFault → Code
 code_of name_fault.NotFound = code.Enoevnt
 code_of name_fault.Umask = code.Eattr

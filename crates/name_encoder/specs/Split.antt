@@ -18,33 +18,40 @@ prefix_of mark text = go (cut_at mark text)
     go None = (None, text)
     go (Some p) = (Some p.0, p.1)
 
+-- an event's text in parts
 pub record Split : Type 0 where
   pub comp : Option Text
   pub pmu : Option Text
   pub event : Text
   pub attributes : List Text
 
+-- the parts of a text that colons cut into these pieces
 abbrev pub split_at : Option Text → Option Text → List Text → Split
 split_at comp pmu [] = record { comp = comp; pmu = pmu; event = []; attributes = [] }
 split_at comp pmu (event ∷ attributes) = record { comp = comp; pmu = pmu; event = event; attributes = attributes }
 
-abbrev pub split_behind : Option Text → Option Text × Text → Split
-split_behind comp p = split_at comp p.0 (slice_split (λ b. b == 58) p.1)
+-- the parts of a text, of which the component is known
+abbrev pub split_after : Option Text → Option Text × Text → Split
+split_after comp p = split_at comp p.0 (slice_split (λ b. b == 58) p.1)
 
+-- the parts of an event's text
 unfoldable pub split : Text → Split
-split text = split_behind (prefix_of (codes ":::") text).0 (prefix_of (codes "::") (prefix_of (codes ":::") text).1)
+split text = split_after (prefix_of (codes ":::") text).0 (prefix_of (codes "::") (prefix_of (codes ":::") text).1)
 
 -- an attribute: a name, and a value where a `=` stands
 pub record Attribute : Type 0 where
   pub name : Text
   pub value : Option Text
 
+-- an attribute with a name, and a value where `=` stands
 abbrev pub attribute : Text → Option Text → Attribute
 attribute name value = record { name = name; value = value }
 
+-- an attribute that was cut at `=`, or one without it
 abbrev pub attribute_at : Text → Option (Text × Text) → Attribute
 attribute_at text None = attribute text None
 attribute_at text (Some p) = attribute p.0 (Some p.1)
 
+-- an attribute by its text
 unfoldable pub attribute_of : Text → Attribute
 attribute_of text = attribute_at text (cut_at (codes "=") text)

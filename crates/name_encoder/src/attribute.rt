@@ -1,4 +1,4 @@
-// The attributes of an event's text, one by one.
+//! The attributes of an event's text, one by one.
 
 ghost use Rattle.std.specs.Prelude.{◌≡◌, ◌<◌, ◌≤◌, ◌==◌, map, length, option_map, codes, bytes_eq, Some, [], ◌∷◌};
 ghost use Rattle.std.specs.Str.{str_eq_ignore_ascii_case, str_to_ascii_lowercase};
@@ -259,7 +259,8 @@ fn name_and_value(attribute: &[u8]) -> (&[u8], Option<&[u8]>)
 /// What all attributes give, or the fault of the first that has one in view of those before it.
 pub fn given_by(masks: &[UmaskRow], attributes: Option<&[u8]>) -> Result<Given, NameFault>
     requires { length masks.now ≤ MOST_UMASKS }
-    ensures { result ≡ Judged.all_given (map mask_text masks.now) Judged.nothing (Names.saids_of (map mask_text masks.now) (between_colons (text_of attributes.entry))) }
+    ensures { result ≡ Judged.all_given (map mask_text masks.now) Judged.nothing
+        (Names.saids_of (map mask_text masks.now) (between_colons (text_of attributes.entry))) }
 {
     let mut given = Given::nothing();
     let mut rest = attributes;

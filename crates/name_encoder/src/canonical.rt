@@ -1,4 +1,4 @@
-// The canonical name of a native event.
+//! The canonical name of a native event.
 
 ghost use Rattle.std.specs.Prelude.{◌≡◌, ◌++◌, ◌∷◌, List, ℕ, IfOk, OnOk, Ok, codes, decimal, map, nat_lt, string_bytes, if◌then◌else◌, []};
 ghost use Rattle.event_tables.specs.Kept.{IsTables};

@@ -1,4 +1,4 @@
-// The code of a native event.
+//! The code of a native event.
 
 ghost use Rattle.std.specs.Prelude.{◌≡◌};
 ghost use Rattle.name_encoder.specs.Canonical as Canonical;

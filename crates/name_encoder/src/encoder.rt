@@ -1,4 +1,4 @@
-// The native event that a text names.
+//! The native event that a text names.
 
 ghost use Rattle.std.specs.Prelude.{◌≡◌, IfOk};
 ghost use Rattle.event_tables.specs.Tables.{shape_of};

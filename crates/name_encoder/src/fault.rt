@@ -1,4 +1,4 @@
-// Why a text names no native event.
+//! Why a text names no native event.
 
 ghost use Rattle.std.specs.Prelude.{◌≡◌};
 ghost use Rattle.name_encoder.specs.Names as Names;

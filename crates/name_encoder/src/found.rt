@@ -1,4 +1,4 @@
-// The event that a text names.
+//! The event that a text names.
 
 ghost use Rattle.std.specs.Prelude.{◌≡◌, ◌&&◌, option_map, slice_get};
 ghost use Rattle.std.specs.Option.{option_and_then};
@@ -32,7 +32,8 @@ fn agrees(prefix: Option<&[u8]>, name: &str) -> bool
 
 // Whether a component agrees with the prefixes.
 fn is_meant(parts: &Parts<'_>, component: &Component) -> bool
-    ensures { result ≡ (Names.agrees (parts_split parts.now).comp (component_text component.now).name && Names.agrees (parts_split parts.now).pmu (component_text component.now).pmu) }
+    ensures { result ≡ (Names.agrees (parts_split parts.now).comp (component_text component.now).name
+        && Names.agrees (parts_split parts.now).pmu (component_text component.now).pmu) }
 {
     agrees(parts.comp, component.name.as_str()) && agrees(parts.pmu, component.pmu.as_str())
 }

@@ -1,4 +1,4 @@
-// The native event of faultless attributes.
+//! The native event of faultless attributes.
 
 ghost use Rattle.std.specs.Prelude.{◌≡◌, ◌≤◌, ◌<◌, ◌^◌, List, Bool, map, not, take, length, option_map, vec_len, if◌then◌else◌, Some, None};
 ghost use Rattle.event_tables.specs.Views.{counter_text, event_text, mask_text};
@@ -35,7 +35,8 @@ fn has_true(flags: &[bool]) -> bool
 // The umasks that are named, else the default one, and `None` where the event has umasks and there is neither.
 fn chosen(masks: &[UmaskRow], named: [bool; MOST_UMASKS]) -> Option<[bool; MOST_UMASKS]>
     requires { length masks.now ≤ MOST_UMASKS }
-    ensures { option_map (λ (flags : List Bool). take (length masks.now) flags) result ≡ Names.chosen (map mask_text masks.now) (take (length masks.now) named) }
+    ensures { option_map (λ (flags : List Bool). take (length masks.now) flags) result
+        ≡ Names.chosen (map mask_text masks.now) (take (length masks.now) named) }
 {
     if masks.is_empty() || has_true(&named[..masks.len()]) {
         return Some(named);

@@ -1,4 +1,4 @@
-// The parts of an event's text: `[component:::][pmu::]event[:attribute]..`, after libpfm4(3).
+//! The parts of an event's text: `[component:::][pmu::]event[:attribute]..`, after libpfm4(3).
 
 ghost use Rattle.std.specs.Prelude.{◌≡◌, ◌==◌, ◌∷◌, codes, option_map};
 ghost use Rattle.std.specs.List.{slice_split};

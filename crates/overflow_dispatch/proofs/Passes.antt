@@ -10,14 +10,16 @@ drop_at [] i x e = cc
 drop_at (y ∷ xs) zero x e = let same : y ≡ x = cc in ap (λ z. z ∷ xs) same
 drop_at (y ∷ xs) (suc i) x e = drop_at xs i x e
 
-pub passed-none : (carry : ℕ) (counters : List (Option ℕ)) (i : ℕ) (done all : List ℕ) → slice_get counters i ≡ Some None → done ++ passed_from i carry (drop i counters) ≡ all → done ++ passed_from (i + 1) carry (drop (i + 1) counters) ≡ all
+pub passed-none : (carry : ℕ) (counters : List (Option ℕ)) (i : ℕ) (done all : List ℕ) → slice_get counters i ≡ Some None
+    → done ++ passed_from i carry (drop i counters) ≡ all → done ++ passed_from (i + 1) carry (drop (i + 1) counters) ≡ all
 passed-none carry counters i done all e h =
     let g : done ++ passed_from (i + 1) carry (drop (suc i) counters) ≡ all = sym (ap (λ xs. done ++ passed_from i carry xs) (drop_at counters i None e)) ∙ h in
     let P : ℕ → Type 0 = λ k. done ++ passed_from (i + 1) carry (drop k counters) ≡ all in
     let e1 : suc i ≡ i + 1 = omega arith in
     subst P e1 g
 
-pub passed-not : (carry : ℕ) (counters : List (Option ℕ)) (i c : ℕ) (done all : List ℕ) → slice_get counters i ≡ Some (Some c) → (bit_at carry c ≡ 1 → ⊥) → done ++ passed_from i carry (drop i counters) ≡ all → done ++ passed_from (i + 1) carry (drop (i + 1) counters) ≡ all
+pub passed-not : (carry : ℕ) (counters : List (Option ℕ)) (i c : ℕ) (done all : List ℕ) → slice_get counters i ≡ Some (Some c) → (bit_at carry c ≡ 1 → ⊥)
+    → done ++ passed_from i carry (drop i counters) ≡ all → done ++ passed_from (i + 1) carry (drop (i + 1) counters) ≡ all
 passed-not carry counters i c done all e isnt h =
     let f = cond-false (bit_at carry c == 1) (i ∷ passed_from (i + 1) carry (drop (suc i) counters)) (passed_from (i + 1) carry (drop (suc i) counters)) (ne_eqb (bit_at carry c) 1 isnt) in
     let g : done ++ passed_from (i + 1) carry (drop (suc i) counters) ≡ all = ap (λ xs. done ++ xs) (sym f) ∙ sym (ap (λ xs. done ++ passed_from i carry xs) (drop_at counters i (Some c) e)) ∙ h in
@@ -25,10 +27,12 @@ passed-not carry counters i c done all e isnt h =
     let e1 : suc i ≡ i + 1 = omega arith in
     subst P e1 g
 
-pub passed-yes : (carry : ℕ) (counters : List (Option ℕ)) (i c : ℕ) (done all : List ℕ) → slice_get counters i ≡ Some (Some c) → bit_at carry c ≡ 1 → done ++ passed_from i carry (drop i counters) ≡ all → (done ++ i ∷ []) ++ passed_from (i + 1) carry (drop (i + 1) counters) ≡ all
+pub passed-yes : (carry : ℕ) (counters : List (Option ℕ)) (i c : ℕ) (done all : List ℕ) → slice_get counters i ≡ Some (Some c) → bit_at carry c ≡ 1
+    → done ++ passed_from i carry (drop i counters) ≡ all → (done ++ i ∷ []) ++ passed_from (i + 1) carry (drop (i + 1) counters) ≡ all
 passed-yes carry counters i c done all e is h =
     let f = cond-true (bit_at carry c == 1) (i ∷ passed_from (i + 1) carry (drop (suc i) counters)) (passed_from (i + 1) carry (drop (suc i) counters)) (eq-eqb (bit_at carry c) 1 is) in
-    let g : done ++ (i ∷ passed_from (i + 1) carry (drop (suc i) counters)) ≡ all = ap (λ xs. done ++ xs) (sym f) ∙ sym (ap (λ xs. done ++ passed_from i carry xs) (drop_at counters i (Some c) e)) ∙ h in
+    let g : done ++ (i ∷ passed_from (i + 1) carry (drop (suc i) counters)) ≡ all = ap (λ xs. done ++ xs) (sym f)
+    ∙ sym (ap (λ xs. done ++ passed_from i carry xs) (drop_at counters i (Some c) e)) ∙ h in
     let P : ℕ → Type 0 = λ k. (done ++ i ∷ []) ++ passed_from (i + 1) carry (drop k counters) ≡ all in
     let e1 : suc i ≡ i + 1 = omega arith in
     subst P e1 (rw append_assoc g)

@@ -88,7 +88,8 @@ passed_one bits wanted place index inside is apart h =
     let less : wanted - place ≡ suc (wanted - (place + 1)) = omega arith in
     record {
       before = omega arith;
-      rest = sym (ap₂ (λ n k. slice_get (places_from bits index n) k) (one_less index inside) less ∙ ap (λ places. slice_get places (suc (wanted - (place + 1)))) (set_place bits index left is)) ∙ h.rest;
+      rest = sym (ap₂ (λ n k. slice_get (places_from bits index n) k) (one_less index inside) less
+          ∙ ap (λ places. slice_get places (suc (wanted - (place + 1)))) (set_place bits index left is)) ∙ h.rest;
     }
 
 pub passed_none : (bits wanted place index : ℕ) → index < 32 → (bit_at bits index ≡ 1 → ⊥) → Looking bits wanted place index → Looking bits wanted place (index + 1)
@@ -96,7 +97,8 @@ passed_none bits wanted place index inside isnt h =
     let left = places_from bits (index + 1) (32 - (index + 1)) in
     record {
       before = h.before;
-      rest = sym (ap (λ n. slice_get (places_from bits index n) (wanted - place)) (one_less index inside) ∙ ap (λ places. slice_get places (wanted - place)) (clear_place bits index left isnt)) ∙ h.rest;
+      rest = sym (ap (λ n. slice_get (places_from bits index n) (wanted - place)) (one_less index inside)
+          ∙ ap (λ places. slice_get places (wanted - place)) (clear_place bits index left isnt)) ∙ h.rest;
     }
 
 pub not_found : (bits wanted place index : ℕ) → 32 ≤ index → Looking bits wanted place index → None ≡ slice_get (places_from bits 0 32) wanted

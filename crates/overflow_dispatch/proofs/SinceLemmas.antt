@@ -32,7 +32,9 @@ none_more done told i e =
 pub all_done : {X : Type 0} (done told : List X) (i : ℕ) → length told ≤ i → done ≡ done ++ drop i told
 all_done done told i h = sym (ap (λ xs. done ++ xs) (drop_past told i h) ∙ append-nil done)
 
-pub one_list_more : {X : Type 0} (told : X → List Note) (done all : List Note) (counts : List ℕ) (xs : List X) (i k : ℕ) (x : X) → slice_get counts i ≡ Some k → slice_get xs i ≡ Some x → done ++ told_since (drop i counts) (drop i (map told xs)) ≡ all → (done ++ drop k (told x)) ++ told_since (drop (i + 1) counts) (drop (i + 1) (map told xs)) ≡ all
+pub one_list_more : {X : Type 0} (told : X → List Note) (done all : List Note) (counts : List ℕ) (xs : List X) (i k : ℕ) (x : X) → slice_get counts i ≡ Some k
+    → slice_get xs i ≡ Some x → done ++ told_since (drop i counts) (drop i (map told xs)) ≡ all
+    → (done ++ drop k (told x)) ++ told_since (drop (i + 1) counts) (drop (i + 1) (map told xs)) ≡ all
 one_list_more told done all counts xs i k x e f h =
     let P : ℕ → Type 0 = λ j. (done ++ drop k (told x)) ++ told_since (drop j counts) (drop j (map told xs)) ≡ done ++ told_since (drop i counts) (drop i (map told xs)) in
     let next : suc i ≡ i + 1 = omega arith in

@@ -38,4 +38,5 @@ told_since (k ∷ ks) (notes ∷ lists) = drop k notes ++ told_since ks lists
 
 -- Where each list has the notes of its place appended, these are what was told since the lists had their lengths before.
 abbrev pub AddedIsTold : Type 0
-AddedIsTold = (before given after : List (List Note)) → length given ≡ length before → EachAdded before given after → told_since (map (λ notes. length notes) before) after ≡ flat_map (λ notes. notes) given
+AddedIsTold = (before given after : List (List Note)) → length given ≡ length before → EachAdded before given after
+    → told_since (map (λ notes. length notes) before) after ≡ flat_map (λ notes. notes) given

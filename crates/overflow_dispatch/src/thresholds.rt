@@ -1,5 +1,5 @@
 //! The armed events of a set (PAPI_overflow(3)).
-ghost use Rattle.std.specs.Prelude.{◌≡◌, ℕ, ◌+◌, ◌<◌, ◌≤◌, slice_get, slice_index, slice_set, replicate, None, Some};
+ghost use Rattle.std.specs.Prelude.{◌≡◌, ◌<◌, slice_set, replicate, None, Some};
 ghost use Rattle.overflow_dispatch.specs.Passing.{passed_from};
 
 use crate::passed::Passed;
@@ -37,8 +37,6 @@ impl Thresholds {
     pub fn arm(&mut self, c: u32, index: u32)
         requires counter { c < 32 }
         requires index { index < 32 }
-        requires free { slice_get self.old index ≡ Some None }
-        requires apart { (k : ℕ) → slice_get self.old k ≡ Some (Some c) → ⊥ }
         ensures { self.new ≡ slice_set self.old index (Some c) }
     {
         self.counters[index as usize] = Some(c as u8);

@@ -3,7 +3,8 @@ use Rattle.std.specs.Prelude.{ℕ, ◌≤◌, ◌-◌, ◌+◌, ◌*◌, List, l
 use Rattle.std.specs.Int.{abs_diff}
 use Rattle.std.specs.List.{sum_by}
 
--- How uneven the cut after k tasks is: what the first workers have is compared with their share of all. Both are multiplied by the number of workers, so that nothing is divided.
+-- How uneven the cut after k tasks is: what the first workers have is compared with their share of all. Both are multiplied
+-- by the number of workers, so that nothing is divided.
 abbrev pub unevenness : {X : Type 0} → (X → ℕ) → List X → ℕ → ℕ → ℕ → ℕ
 unevenness load tasks low workers k = abs_diff (workers * sum_by load (take k tasks)) (low * sum_by load tasks)
 

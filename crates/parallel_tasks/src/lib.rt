@@ -13,10 +13,13 @@ use std::thread::{Threads, join_mut};
 
 /// One piece of work. `B` is what all workers look at.
 pub trait Task<B> {
+    /// What must hold of the book and the task before the task is worked.
     ghost ready: { B → Self → Type 0 };
 
+    /// What holds of the book, the task before it was worked, and the task after it.
     ghost done: { B → Self → Self → Type 0 };
 
+    /// How much work the task asks for, in a unit of its own.
     ghost load: { Self → ℕ };
 
     /// How much work the task asks for, in a unit of its own. The tasks are dealt by it.

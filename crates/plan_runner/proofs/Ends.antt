@@ -13,7 +13,7 @@ last-cut xs ys zs x m n e f p h d =
     let len : length zs ≡ n = omega (arith, length-append zs (x ∷ []), ap length f, ap length e, length-take-le m xs h) in
     sym (get_or-take m xs n d (omega arith)) ∙ (ap (λ l. get_or l n d) (sym e ∙ f) ∙ get_or_push zs x d n len)
 
--- what is left behind the cut begins with what was cut off
+-- what is left after the cut begins with what was cut off
 pub drop-cut : {X : Type 0} (xs ys zs : List X) (x : X) (m n : ℕ) → ys ≡ take m xs → ys ≡ zs ++ x ∷ [] → m ≡ n + 1 → m ≤ length xs → drop n xs ≡ x ∷ drop m xs
 drop-cut xs ys zs x m n e f p h =
     drop_more xs n x (omega arith) ∙ ap₂ (λ y k. y ∷ drop k xs) (last-cut xs ys zs x m n e f p h x) (omega arith)

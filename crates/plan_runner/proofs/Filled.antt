@@ -1,5 +1,6 @@
 -- Places that are filled from a list, one after another.
-use Rattle.std.proofs.Common.{◌≡◌, ℕ, ◌<◌, ◌||◌, Bool, false, true, zero, suc, List, [], ◌∷◌, ◌++◌, All, length, map, reverse, refl, sym, ◌∙◌, ap, ap₂, subst, arith, append_assoc, Option, Some, None, slice_index_or}
+use Rattle.std.proofs.Common.{◌≡◌, ℕ, ◌<◌, ◌||◌, Bool, false, true, zero, suc, List, [], ◌∷◌, ◌++◌, All, length, map, reverse, refl, sym}
+use Rattle.std.proofs.Common.{◌∙◌, ap, ap₂, subst, arith, append_assoc, Option, Some, None, slice_index_or}
 use Rattle.std.specs.Option.{option_map}
 use Rattle.std.proofs.lemmas.List.{reverse-append, map-append}
 use Rattle.std.proofs.lemmas.List.Elements.{All-append, All-push, All-tail}

@@ -1,5 +1,6 @@
 -- Jobs that are made from the end, and the threads without calls that are kept.
-use Rattle.std.proofs.Common.{◌≡◌, ℕ, ◌+◌, ◌<◌, ◌≤◌, zero, suc, false, List, [], ◌∷◌, ◌++◌, length, map, reverse, drop, get_or, refl, sym, ◌∙◌, ap, ap₂, subst, arith, append-nil, Option, Some, None, slice_get}
+use Rattle.std.proofs.Common.{◌≡◌, ℕ, ◌+◌, ◌<◌, ◌≤◌, zero, suc, false, List, [], ◌∷◌, ◌++◌, length, map, reverse, drop, get_or, refl, sym}
+use Rattle.std.proofs.Common.{◌∙◌, ap, ap₂, subst, arith, append-nil, Option, Some, None, slice_get}
 use Rattle.std.specs.Option.{option_map}
 use Rattle.std.proofs.lemmas.List.{reverse-append, map-append, drop_all, drop_more}
 use Rattle.overflow_dispatch.specs.declared.handler.Note.{Note}
@@ -34,7 +35,7 @@ befores-few k shape (r ∷ rs) [] css = omega arith
 befores-few k shape (r ∷ rs) (ns ∷ nss) [] = omega arith
 befores-few k shape (r ∷ rs) (ns ∷ nss) (cs ∷ css) = let h = befores-few (k + 1) shape rs nss css in omega (arith, h)
 
--- the thread at a place, and those behind
+-- the thread at a place, and those after it
 pub before-drop : (shape : Widths) (rs : List ReaderView) (nss : List (List Note)) (css : List (List Call)) (n m : ℕ) (r : ReaderView) (ns : List Note) (cs : List Call)
     → n < length rs → length nss ≡ length rs → length css ≡ length rs → m ≡ n + 1 → get_or rs n r ≡ r → get_or nss n [] ≡ ns → get_or css n [] ≡ cs
     → drop n (befores_from 0 shape rs nss css) ≡ before shape n r ns cs ∷ drop m (befores_from 0 shape rs nss css)

@@ -1,5 +1,6 @@
 -- The marks of a list of replies and of one reply more, and their lines.
-use Rattle.std.proofs.Common.{◌≡◌, ◌<◌, ◌≤◌, ◌+◌, ◌==◌, ℕ, zero, suc, Bool, true, false, List, [], ◌∷◌, ◌++◌, length, take, map, filter, set, get_or, if◌then◌else◌, Option, Some, None, refl, sym, ap, ◌∙◌, arith, replicate, tests}
+use Rattle.std.proofs.Common.{◌≡◌, ◌<◌, ◌≤◌, ◌+◌, ◌==◌, ℕ, zero, suc, Bool, true, false, List, [], ◌∷◌, ◌++◌, length, take, map, filter}
+use Rattle.std.proofs.Common.{set, get_or, if◌then◌else◌, Option, Some, None, refl, sym, ap, ◌∙◌, arith, replicate, tests}
 use Rattle.std.proofs.lemmas.List.{map-append}
 use Rattle.std.proofs.lemmas.List.Elements.{filter-append}
 use Rattle.std.proofs.lemmas.List.FromFn.{get_or-map-range_with_len}

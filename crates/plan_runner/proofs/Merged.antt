@@ -43,10 +43,10 @@ merged-more f xs v w flags flags' lines lines' whole reply plan k l below here o
     let flags_are : flags' ≡ flags_by flags (get_or (map f xs) l.thread []) l.thread l.planned = g ∙ ap (λ rs. flags_by flags rs l.thread l.planned) (sym own) in
     let lists_are : map f (set xs l.thread w) ≡ set (map f xs) l.thread (rest_by (get_or (map f xs) l.thread []) l.planned) =
     map-set f xs l.thread w ∙ ap (set (map f xs) l.thread) (s ∙ ap (λ rs. rest_by rs l.planned) (sym own)) in
-    let behind = ap₂ (λ a b. lines_by (record { flags = a; replies = b }) (drop (k + 1) plan)) flags_are lists_are in
+    let those_after = ap₂ (λ a b. lines_by (record { flags = a; replies = b }) (drop (k + 1) plan)) flags_are lists_are in
     ap (λ z. z ++ lines_by (record { flags = flags'; replies = map f (set xs l.thread w) }) (drop (k + 1) plan)) p
     ∙ (append_assoc lines (one reply ∷ []) _
-    ∙ (ap₂ (λ a b. lines ++ one a ∷ b) reply_is behind
+    ∙ (ap₂ (λ a b. lines ++ one a ∷ b) reply_is those_after
     ∙ (sym (ap (λ ls. lines ++ lines_by x ls) left) ∙ old)))
 
 rest-length : (rs : List Reply) (p : Planned) → length (rest_by rs p) ≡ length rs - length (calls_in p)

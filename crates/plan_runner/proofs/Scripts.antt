@@ -1,5 +1,6 @@
 -- The plan of a script, and its lines answered as those of the script.
-use Rattle.std.proofs.Common.{◌≡◌, ℕ, zero, suc, ◌<◌, Bool, ◌==◌, if◌then◌else◌, List, [], ◌∷◌, ◌++◌, All, length, map, get_or, set, refl, sym, ◌∙◌, ap, ap₂, subst, arith, Option, Some, None, Ok, Err, position, slice_set}
+use Rattle.std.proofs.Common.{◌≡◌, ℕ, zero, suc, ◌<◌, Bool, ◌==◌, if◌then◌else◌, List, [], ◌∷◌, ◌++◌, All, length, map, get_or, set, refl}
+use Rattle.std.proofs.Common.{sym, ◌∙◌, ap, ap₂, subst, arith, Option, Some, None, Ok, Err, position, slice_set}
 use Rattle.std.proofs.lemmas.List.{set-get_or}
 use Rattle.std.proofs.lemmas.List.Elements.{All-drop, All-tail}
 use Rattle.papi_base.specs.declared.native.EventRef.TheVariants as event
@@ -17,7 +18,7 @@ use Rattle.plan_runner.specs.declared.plan.Planned.TheVariants as planned
 use Rattle.plan_runner.specs.declared.plan.PlanLine.{PlanLine}
 use Rattle.plan_runner.specs.declared.result.ReplyLine.{ReplyLine}
 use Rattle.plan_runner.specs.Plans.{Ask, ask_of, asks_from, calls_in, event_by, looked_up, planned_at}
-use Rattle.plan_runner.specs.Merges.{ahead_behind, lines_by, reply_by, rest_by}
+use Rattle.plan_runner.specs.Merges.{ahead_then, lines_by, reply_by, rest_by}
 use Rattle.plan_runner.specs.Runs.{AreInOrder, reply_lines}
 use Rattle.plan_runner.proofs.Filled.{all-none, all-cons}
 
@@ -75,7 +76,7 @@ reply-same at m x t asked.Threads = refl
 unchanged : (x : Ahead) (t : ℕ) → record { flags = x.flags; replies = slice_set x.replies t (get_or x.replies t []) } ≡ x
 unchanged x t = ap {A = List (List Reply)} {B = Ahead} (λ rs. record { flags = x.flags; replies = rs }) (set-get_or x.replies t [])
 
-ahead-same : (at : Setting) (m : List Native) (x : Ahead) (t : ℕ) (a : Asked) → ahead_behind x t (looked_up at m a) ≡ ahead_after x t a
+ahead-same : (at : Setting) (m : List Native) (x : Ahead) (t : ℕ) (a : Asked) → ahead_then x t (looked_up at m a) ≡ ahead_after x t a
 ahead-same at m x t (asked.Call c) = refl
 ahead-same at m x t (asked.CodeOf (Ok (event.Native n))) = unchanged x t
 ahead-same at m x t (asked.CodeOf (Ok (event.Preset row))) = unchanged x t
@@ -92,7 +93,7 @@ merged-same at m (l ∷ ls) (p ∷ ps) x e =
     let one : ask_of p ≡ record { thread = l.thread; planned = looked_up at now l.asked } = firsts _ _ _ _ e in
     ap₂ ◌∷◌
     (ap (λ (k : Ask). reply_by x.flags (get_or x.replies k.thread []) k.planned) one ∙ reply-same at now x l.thread l.asked)
-    (ap (λ (k : Ask). map (λ (z : ReplyLine). z.reply) (lines_by (ahead_behind x k.thread k.planned) ps)) one
+    (ap (λ (k : Ask). map (λ (z : ReplyLine). z.reply) (lines_by (ahead_then x k.thread k.planned) ps)) one
     ∙ (ap (λ z. map (λ (y : ReplyLine). y.reply) (lines_by z ps)) (ahead-same at now x l.thread l.asked)
     ∙ merged-same at now ls ps (ahead_after x l.thread l.asked) (others _ _ _ _ e)))
 
@@ -102,19 +103,19 @@ pub lines-told : (plan : List PlanLine) (x : Ahead) (told : List Told) → map (
 lines-told [] x told e = refl
 lines-told (l ∷ ls) x [] e = absurd (omega (arith, ap length e))
 lines-told (l ∷ ls) x (y ∷ ys) e =
-    ap₂ ◌∷◌ (ap {A = Reply} {B = ReplyLine} (λ r. record { line = l.number; thread = l.thread; word = l.word; reply = r }) (firsts _ _ _ _ e)) (lines-told ls (ahead_behind x l.thread l.planned) ys (others _ _ _ _ e))
+    ap₂ ◌∷◌ (ap {A = Reply} {B = ReplyLine} (λ r. record { line = l.number; thread = l.thread; word = l.word; reply = r }) (firsts _ _ _ _ e)) (lines-told ls (ahead_then x l.thread l.planned) ys (others _ _ _ _ e))
 
 numbers : (plan : List PlanLine) (x : Ahead) → map (λ (l : ReplyLine). l.line) (lines_by x plan) ≡ map (λ (l : PlanLine). l.number) plan
 numbers [] x = refl
-numbers (l ∷ ls) x = ap (λ u. l.number ∷ u) (numbers ls (ahead_behind x l.thread l.planned))
+numbers (l ∷ ls) x = ap (λ u. l.number ∷ u) (numbers ls (ahead_then x l.thread l.planned))
 
 threads : (plan : List PlanLine) (x : Ahead) → map (λ (l : ReplyLine). l.thread) (lines_by x plan) ≡ map (λ (l : PlanLine). l.thread) plan
 threads [] x = refl
-threads (l ∷ ls) x = ap (λ u. l.thread ∷ u) (threads ls (ahead_behind x l.thread l.planned))
+threads (l ∷ ls) x = ap (λ u. l.thread ∷ u) (threads ls (ahead_then x l.thread l.planned))
 
 words : (plan : List PlanLine) (x : Ahead) → map (λ (l : ReplyLine). l.word) (lines_by x plan) ≡ map (λ (l : PlanLine). l.word) plan
 words [] x = refl
-words (l ∷ ls) x = ap (λ u. l.word ∷ u) (words ls (ahead_behind x l.thread l.planned))
+words (l ∷ ls) x = ap (λ u. l.word ∷ u) (words ls (ahead_then x l.thread l.planned))
 
 pub lines-order : (plan : List PlanLine) (x : Ahead) → AreInOrder plan (lines_by x plan)
 lines-order plan x = record { numbers = numbers plan x; threads = threads plan x; words = words plan x }
@@ -153,7 +154,7 @@ lines-speak before after [] x h = all-none (λ (l : ReplyLine). IsFault l.reply 
 lines-speak before after (l ∷ ls) x h =
     all-cons (λ (k : ReplyLine). IsFault k.reply → FaultsRose (get_or before k.thread None) (get_or after k.thread None)) _ _
     (reply-speaks (get_or before l.thread None) (get_or after l.thread None) x.flags (get_or x.replies l.thread []) l.planned (h l.thread))
-    (lines-speak before after ls (ahead_behind x l.thread l.planned)
+    (lines-speak before after ls (ahead_then x l.thread l.planned)
     (λ t.
     set-all (λ rs. All (λ r. IsFault r → FaultsRose (get_or before t None) (get_or after t None)) rs) x.replies l.thread (rest_by (get_or x.replies l.thread []) l.planned) t
     (λ e.
@@ -164,4 +165,4 @@ lines-speak before after (l ∷ ls) x h =
 -- the threads are those of the plan
 pub lines-threads : (plan : List PlanLine) (x : Ahead) → All (λ l. l.thread < 64) plan → All (λ l. l.thread < 64) (lines_by x plan)
 lines-threads [] x all = all-none (λ (l : ReplyLine). l.thread < 64)
-lines-threads (l ∷ ls) x all = all-cons (λ (k : ReplyLine). k.thread < 64) _ _ (all 0 l (omega arith)) (lines-threads ls (ahead_behind x l.thread l.planned) (All-tail (λ (k : PlanLine). k.thread < 64) l ls all))
+lines-threads (l ∷ ls) x all = all-cons (λ (k : ReplyLine). k.thread < 64) _ _ (all 0 l (omega arith)) (lines-threads ls (ahead_then x l.thread l.planned) (All-tail (λ (k : PlanLine). k.thread < 64) l ls all))

@@ -17,13 +17,14 @@ use Rattle.plan_runner.specs.Works.{calls_of}
 abbrev pub before : Widths → ℕ → ReaderView → List Note → List Call → Seen
 before shape t r ns cs = seen_of (record { core = opening_core t shape; reader = r }) ns cs [] false
 
--- so of each thread
+-- so of each thread, from this thread on
 abbrev pub befores_from : ℕ → Widths → List ReaderView → List (List Note) → List (List Call) → List Seen
 befores_from t shape (r ∷ rs) (ns ∷ nss) (cs ∷ css) = before shape t r ns cs ∷ befores_from (t + 1) shape rs nss css
 befores_from t shape [] nss css = []
 befores_from t shape (r ∷ rs) [] css = []
 befores_from t shape (r ∷ rs) (ns ∷ nss) [] = []
 
+-- what is seen of all threads before their work, from thread 0 on
 abbrev pub befores : Widths → List ReaderView → List (List Note) → List (List Call) → List Seen
 befores shape readers notes lists = befores_from 0 shape readers notes lists
 
@@ -31,6 +32,7 @@ befores shape readers notes lists = befores_from 0 shape readers notes lists
 abbrev pub before_work : Widths → ℕ → ReaderView → List Note → Option Work → Seen
 before_work shape t reader notes work = before shape t reader notes (calls_of work)
 
+-- so of all threads, where each has this work or none
 abbrev pub befores_of : Widths → List ReaderView → List (List Note) → List (Option Work) → List Seen
 befores_of shape readers notes works = befores shape readers notes (map calls_of works)
 
@@ -39,6 +41,7 @@ abbrev pub job_where : List Call → Seen → List Seen
 job_where [] x = []
 job_where (c ∷ cs) x = x ∷ []
 
+-- the job of a thread, as a list of one, or of none where the thread has no calls
 abbrev pub job_of : Seen → List Seen
 job_of x = job_where x.calls x
 
@@ -52,6 +55,7 @@ abbrev pub idle_where : List Call → Seen → Option Seen
 idle_where [] x = Some x
 idle_where (c ∷ cs) x = None
 
+-- a thread that has no calls, for which no job is made
 abbrev pub idle_of : Seen → Option Seen
 idle_of x = idle_where x.calls x
 
@@ -59,6 +63,7 @@ idle_of x = idle_where x.calls x
 abbrev pub idle_notes : Seen → Option (List Note)
 idle_notes x = option_map (λ y. y.notes) (idle_of x)
 
+-- the reader of a thread without calls, from which nothing was read
 abbrev pub idle_reader : Seen → Option ReaderView
 idle_reader x = option_map (λ y. y.session.reader) (idle_of x)
 
@@ -89,6 +94,7 @@ abbrev pub RanWhere : List Call → Book → Seen → Seen → Type 0
 RanWhere [] book x y = y ≡ x
 RanWhere (c ∷ cs) book x y = Worked book x y
 
+-- how a thread is seen before and after the run of a plan
 abbrev pub Ran : Book → Seen → Seen → Type 0
 Ran book x y = RanWhere x.calls book x y
 

@@ -33,8 +33,9 @@ flags_by flags replies t (planned.Code c) = flags
 flags_by flags replies t (planned.Name e) = flags
 flags_by flags replies t planned.Threads = flags
 
-abbrev pub ahead_behind : Ahead → ℕ → Planned → Ahead
-ahead_behind x t p = record {
+-- what is left after a line: its thread's further replies, and which threads are registered
+abbrev pub ahead_then : Ahead → ℕ → Planned → Ahead
+ahead_then x t p = record {
   flags = flags_by x.flags (slice_index_or x.replies t []) t p;
   replies = slice_set x.replies t (rest_by (slice_index_or x.replies t []) p);
 }
@@ -44,4 +45,4 @@ abbrev pub lines_by : Ahead → List PlanLine → List ReplyLine
 lines_by x [] = []
 lines_by x (l ∷ ls) =
     record { line = l.number; thread = l.thread; word = l.word; reply = reply_by x.flags (slice_index_or x.replies l.thread []) l.planned }
-    ∷ lines_by (ahead_behind x l.thread l.planned) ls
+    ∷ lines_by (ahead_then x l.thread l.planned) ls

@@ -41,6 +41,7 @@ pub record Ask : Type 0 where
   pub thread : ℕ
   pub planned : Planned
 
+-- a line of a plan without its number and word, which no reply depends on
 abbrev pub ask_of : PlanLine → Ask
 ask_of l = record { thread = l.thread; planned = l.planned }
 
@@ -78,5 +79,6 @@ IsGoodFor book shape (planned.Code c) = ⊤
 IsGoodFor book shape (planned.Name e) = ⊤
 IsGoodFor book shape planned.Threads = ⊤
 
+-- each call of a plan can be made over this book and shape
 pub record AreGood (book : Book) (shape : Widths) (plan : List PlanLine) : Type 0 where
   pub each : All (λ l. IsGoodFor book shape l.planned) plan

@@ -56,7 +56,8 @@ fresh-counts ranges rows is = record {
       ap (λ (x : List RowText). bucket_in x k i) is ∙ ap (option_and_then (λ (row : RowText). slice_get row.buckets i)) (slice_get-map (λ (r : RangeText). no_hits r.buckets) ranges k)
       ∙ bucket i (slice_get ranges k);
   hits = λ k.
-      ap (λ (x : List RowText). option_map (λ (row : RowText). row.hits) (slice_get x k)) is ∙ ap (option_map (λ (row : RowText). row.hits)) (slice_get-map (λ (r : RangeText). no_hits r.buckets) ranges k)
+      ap (λ (x : List RowText). option_map (λ (row : RowText). row.hits) (slice_get x k)) is
+      ∙ ap (option_map (λ (row : RowText). row.hits)) (slice_get-map (λ (r : RangeText). no_hits r.buckets) ranges k)
       ∙ hit (slice_get ranges k);
   outside = refl;
   total = refl;

@@ -1,5 +1,6 @@
 -- One program counter more in a histogram.
-use Rattle.std.proofs.Common.{◌≡◌, ◌∙◌, ◌+◌, ◌*◌, ◌<◌, ◌≤◌, ◌^◌, ◌∷◌, ◌++◌, ℕ, zero, suc, List, [], Option, Some, None, Bool, true, false, map, length, get_or, refl, sym, ap, subst, arith, eq-eqb, length-append}
+use Rattle.std.proofs.Common.{◌≡◌, ◌∙◌, ◌+◌, ◌*◌, ◌<◌, ◌≤◌, ◌^◌, ◌∷◌, ◌++◌, ℕ, zero, suc, List, [], Option, Some, None, Bool, true, false}
+use Rattle.std.proofs.Common.{map, length, get_or, refl, sym, ap, subst, arith, eq-eqb, length-append}
 use Rattle.std.proofs.Math.ListN.{set, length-set}
 use Rattle.std.proofs.Math.Nat.{mul_comm, mul-le-mul_right}
 use Rattle.std.proofs.lemmas.Bool.{eqb-true, ltb-false, le-leb, leb-true, lt-ltb, ltb-true}

@@ -1,5 +1,6 @@
 -- The text of a histogram, range by range and bucket by bucket.
-use Rattle.std.proofs.Common.{◌≡◌, ◌∙◌, ◌<◌, ◌+◌, ◌∷◌, ◌++◌, ℕ, zero, suc, List, [], Option, Some, None, Result, Ok, Err, IfOk, length, map, sym, ap, ap₂, refl, arith, option_map, count_by, lt-ltb, codes, decimal}
+use Rattle.std.proofs.Common.{◌≡◌, ◌∙◌, ◌<◌, ◌+◌, ◌∷◌, ◌++◌, ℕ, zero, suc, List, [], Option, Some, None, Result, Ok, Err, IfOk, length, map}
+use Rattle.std.proofs.Common.{sym, ap, ap₂, refl, arith, option_map, count_by, lt-ltb, codes, decimal}
 use Rattle.std.proofs.lemmas.List.{flat_map_more}
 use Rattle.std.proofs.lemmas.List.FromFn.{map-range_with_len_more}
 use Rattle.std.specs.Prelude.{slice_get, unwrap_or}
@@ -57,7 +58,8 @@ lines_are h pcs k r is there =
     rw there (
     ap (λ n. range_lines r n (count_or_none h k)) (hits_are h pcs k r is there)
     ∙ ap (λ (t : Text). codes "range " ++ (r.name ++ (codes " " ++ (decimal (count_by (in_range r) pcs) ++ (codes "\n" ++ t)))))
-    (same_lines (λ i. bucket_line r i (count_or_none h k i)) (λ i. bucket_line r i (count_by (in_bucket r i) pcs)) 0 r.buckets (λ i small. ap (bucket_line r i) (counts_are h pcs k r i is there (omega arith))))
+    (same_lines (λ i. bucket_line r i (count_or_none h k i)) (λ i. bucket_line r i (count_by (in_bucket r i) pcs)) 0 r.buckets
+    (λ i small. ap (bucket_line r i) (counts_are h pcs k r i is there (omega arith))))
     )
 
 -- what a histogram has is the text of what it counts
@@ -68,6 +70,7 @@ profiled h pcs is =
     (by_place h.map (lines_at h) (λ r. range_lines r (count_by (in_range r) pcs) (λ i. count_by (in_bucket r i) pcs)) 0 (λ k r there. ap (lines_at h) (let e : 0 + k ≡ k = omega arith in e) ∙ lines_are h pcs k r is there))
     (ap₂ last_lines is.outside is.total)
 
-pub profiled_text : {A : Type 0} (view : A → Text) {E : Type 0} (h : HistText) (pcs : List ℕ) (answer : Result A E) → IsHistogram h pcs → IfOk answer (λ a. view a ≡ hist_lines h) → IfOk answer (λ a. view a ≡ profile_text h.map pcs)
+pub profiled_text : {A : Type 0} (view : A → Text) {E : Type 0} (h : HistText) (pcs : List ℕ) (answer : Result A E) → IsHistogram h pcs
+    → IfOk answer (λ a. view a ≡ hist_lines h) → IfOk answer (λ a. view a ≡ profile_text h.map pcs)
 profiled_text view h pcs (Ok a) is e = e ∙ profiled h pcs is
 profiled_text view h pcs (Err error) is e = tt

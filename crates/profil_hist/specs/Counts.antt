@@ -10,15 +10,19 @@ pub record RowText : Type 0 where
   pub hits : ℕ
   pub buckets : List ℕ
 
+-- how often a range and each of its buckets were met
 abbrev pub counts_text : RangeCounts → RowText
 counts_text c = record { hits = c.hits; buckets = c.buckets.items }
 
+-- how often each range and each of its buckets were met
 abbrev pub rows_text : List RangeCounts → List RowText
 rows_text rows = map counts_text rows
 
+-- a range of so many buckets that was never met
 abbrev pub no_hits : ℕ → RowText
 no_hits buckets = record { hits = 0; buckets = replicate buckets 0 }
 
+-- ranges that were never met
 abbrev pub no_counts : List RangeText → List RowText
 no_counts ranges = map (λ r. no_hits r.buckets) ranges
 
@@ -30,12 +34,14 @@ bucket_in rows k i = option_and_then (λ row. slice_get row.buckets i) (slice_ge
 abbrev pub met : List RowText → ℕ
 met rows = sum_by (λ row. sum row.buckets) rows
 
+-- the bucket is met once more
 abbrev pub with_hit : ℕ → RowText → RowText
 with_hit bucket row = record { hits = row.hits + 1; buckets = slice_set row.buckets bucket (slice_index row.buckets bucket + 1) }
 
+-- the bucket at this place is met once more
 abbrev pub with_note : Place → List RowText → List RowText
 with_note p rows = option_map_or (λ row. slice_set rows p.range (with_hit p.bucket row)) (slice_get rows p.range) rows
 
--- there is such a bucket
+-- a place is that of a bucket which the rows have
 abbrev pub IsThere : Place → List RowText → Type 0
 IsThere p rows = option_map (λ row. nat_lt p.bucket (length row.buckets)) (slice_get rows p.range) ≡ Some true

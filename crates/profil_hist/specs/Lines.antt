@@ -18,12 +18,15 @@ pub data Line : Type 0 where
 unfoldable pub address_in : Text → Option ℕ
 address_in t = if starts_with nat_eq t (codes "0x") then hex_in 1 16 (drop 2 t) else None
 
+-- the range ends at most at 2^64
 abbrev pub fits : ℕ → ℕ → ℕ → Bool
 fits start width buckets = nat_le (start + width * buckets) (2 ^ 64)
 
+-- a range of these parts
 abbrev pub range_of : Text → ℕ → ℕ → ℕ → RangeText
 range_of name start width buckets = record { name = name; start = start; width = width; buckets = buckets }
 
+-- a RANGE row with these fields
 abbrev pub range_line : Text → Text → Text → Text → Line
 range_line name start width buckets = go (address_in start) (decimal_in 1 MOST_WIDTH width) (decimal_in 1 MOST_BUCKETS buckets)
   where
@@ -33,6 +36,7 @@ range_line name start width buckets = go (address_in start) (decimal_in 1 MOST_W
     go (Some s) (Some w) None = bad
     go (Some s) (Some w) (Some b) = if fits s w b && is_name name then range (range_of name s w b) else bad
 
+-- what a row with these fields says
 unfoldable pub line_of : List Text → Line
 line_of fields =
     let first = text_at fields 0 in

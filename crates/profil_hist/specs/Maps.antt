@@ -1,5 +1,6 @@
 -- The ranges of a map's rows, and the first fault. The file format is this project's own.
-use Rattle.std.specs.Prelude.{◌≡◌, ◌||◌, ◌+◌, ℕ, List, [], ◌∷◌, ◌++◌, length, map, Option, Some, None, Result, Ok, Err, if◌then◌else◌, nat_le, nat_lt, codes}
+use Rattle.std.specs.Prelude.{◌≡◌, ◌||◌, ◌+◌, ℕ, List, [], ◌∷◌, ◌++◌, length, map, Option, Some}
+use Rattle.std.specs.Prelude.{None, Result, Ok, Err, if◌then◌else◌, nat_le, nat_lt, codes}
 use Rattle.std.specs.List.{list_any}
 use Rattle.std.specs.Option.{option_map_or}
 use Rattle.std.specs.Str.{bytes_eq}
@@ -14,6 +15,7 @@ use Rattle.profil_hist.specs.declared.fault.MapFault.TheVariants as fault
 use Rattle.profil_hist.specs.declared.map.Map.{Map}
 use Rattle.profil_hist.specs.declared.limits.TheConstants.{MOST_BUCKETS, MOST_RANGES}
 
+-- the ranges of some rows
 unfoldable pub ranges_in : List Line → List RangeText
 ranges_in [] = []
 ranges_in (skipped ∷ rest) = ranges_in rest
@@ -28,6 +30,7 @@ range_cause above r =
     else if list_any (λ o. overlaps o r) above then Some cause.Overlap
     else None
 
+-- why a row is refused below these ranges, if it is
 abbrev pub cause_in : List RangeText → Line → Option MapCause
 cause_in above skipped = None
 cause_in above bad = Some cause.BadRow
@@ -39,6 +42,7 @@ fault_from above [] = None
 fault_from above (line ∷ rest) =
     option_map_or (λ cause. Some (length above + 1, cause)) (cause_in (ranges_in above) line) (fault_from (above ++ line ∷ []) rest)
 
+-- what each row of a map says
 abbrev pub lines_of : List ℕ → List Line
 lines_of bytes = map line_of (rows_of bytes)
 

@@ -6,7 +6,7 @@ use Rattle.profil_hist.specs.Ranges.{RangeText, in_bucket, in_range}
 use Rattle.profil_hist.specs.declared.placing.Place.{Place}
 use Rattle.profil_hist.specs.declared.placing.Placed.{Placed}
 
--- it stands with the first address of its range
+-- a placed range stands with its own first address
 abbrev pub IsPlaced : List RangeText → Placed → Type 0
 IsPlaced ranges p = option_map (λ r. r.start) (slice_get ranges p.range) ≡ Some p.start
 

@@ -19,6 +19,7 @@ bucket_lines r counts = flat_map (λ i. bucket_line r i (counts i)) (range_with_
 abbrev pub range_lines : RangeText → ℕ → (ℕ → ℕ) → Text
 range_lines r hits counts = codes "range " ++ (r.name ++ (codes " " ++ (decimal hits ++ (codes "\n" ++ bucket_lines r counts))))
 
+-- the lines of the hits outside of all ranges, and of all hits
 abbrev pub last_lines : ℕ → ℕ → Text
 last_lines outside total = codes "outside " ++ (decimal outside ++ (codes "\ntotal " ++ (decimal total ++ codes "\n")))
 
@@ -29,14 +30,18 @@ profile_text ranges pcs =
 
 -- ---- the same by what a histogram has
 
+-- how often range k was met, or 0
 abbrev pub hits_or_none : HistText → ℕ → ℕ
 hits_or_none h k = unwrap_or (hits_at h k) 0
 
+-- how often bucket i of range k was met, or 0
 abbrev pub count_or_none : HistText → ℕ → ℕ → ℕ
 count_or_none h k i = unwrap_or (bucket_at h k i) 0
 
+-- the lines of range k
 abbrev pub lines_at : HistText → ℕ → Text
 lines_at h k = option_map_or (λ r. range_lines r (hits_or_none h k) (count_or_none h k)) (slice_get h.map k) []
 
+-- what papi_profil prints: the ranges in the order of the map, and the lines that end the text
 abbrev pub hist_lines : HistText → Text
 hist_lines h = flat_map (lines_at h) (range_with_len 0 (length h.map)) ++ last_lines h.outside h.total

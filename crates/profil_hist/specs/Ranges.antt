@@ -16,6 +16,7 @@ pub record RangeText : Type 0 where
 abbrev pub end_of : RangeText → ℕ
 end_of r = r.start + r.width * r.buckets
 
+-- the program counter lies in the range
 abbrev pub in_range : RangeText → ℕ → Bool
 in_range r pc = nat_le r.start pc && nat_lt pc (end_of r)
 
@@ -27,6 +28,7 @@ in_bucket r i pc = nat_le (r.start + i * r.width) pc && nat_lt pc (r.start + (i 
 abbrev pub overlaps : RangeText → RangeText → Bool
 overlaps a b = nat_lt a.start (end_of b) && nat_lt b.start (end_of a)
 
+-- the number of buckets of all ranges
 abbrev pub buckets_in_all : List RangeText → ℕ
 buckets_in_all ranges = sum_by (λ r. r.buckets) ranges
 
@@ -37,6 +39,7 @@ abbrev pub NoTwo : {X : Type 0} → (X → X → Bool) → List X → Type 0
 NoTwo together [] = ⊤
 NoTwo together (x ∷ xs) = AllByRecursion (λ y. together x y ≡ false) xs × NoTwo together xs
 
+-- a range within the limits
 pub record IsRange (r : RangeText) : Type 0 where
   pub named : is_name r.name ≡ true
   pub some_width : 1 ≤ r.width
@@ -45,6 +48,7 @@ pub record IsRange (r : RangeText) : Type 0 where
   pub few_buckets : r.buckets ≤ MOST_BUCKETS
   pub ends : end_of r ≤ 2 ^ 64
 
+-- the ranges of a map within the limits: no name twice, and no two that overlap
 pub record IsMap (ranges : List RangeText) : Type 0 where
   pub few : length ranges ≤ MOST_RANGES
   pub few_buckets : buckets_in_all ranges ≤ MOST_BUCKETS

@@ -8,6 +8,7 @@ use Rattle.profil_hist.specs.declared.fault.MapFault.TheVariants as fault
 use Rattle.profil_hist.specs.declared.adding.Refusal.{Refusal}
 use Rattle.profil_hist.specs.declared.adding.Refusal.TheVariants as refusal
 
+-- the ranges with one row more
 abbrev pub with_line : List RangeText → Line → List RangeText
 with_line above skipped = above
 with_line above bad = above

@@ -1,4 +1,4 @@
-// The ranges of a map, row by row.
+//! The ranges of a map, row by row.
 
 ghost use Rattle.std.specs.Prelude.{◌≡◌, ◌<◌, ◌-◌, ◌^◌, map};
 ghost use Rattle.profil_hist.specs.Lines.{IsLine, row_line};

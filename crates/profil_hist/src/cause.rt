@@ -1,4 +1,4 @@
-// Why a row is refused, in view of the ranges above it.
+//! Why a row is refused, in view of the ranges above it.
 
 ghost use Rattle.std.specs.Prelude.{◌≡◌, ◌≤◌, map, sum_by};
 ghost use Rattle.std.specs.List.{list_any};

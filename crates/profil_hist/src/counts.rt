@@ -1,4 +1,4 @@
-// How often the ranges of a map were met.
+//! How often the ranges of a map were met.
 
 ghost use Rattle.std.specs.Prelude.{◌≡◌, ◌<◌, ◌^◌, map, length, slice_index, sum_by, vec_len, IfOk};
 ghost use Rattle.profil_hist.specs.Counts as Counts;

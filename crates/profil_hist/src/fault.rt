@@ -1,4 +1,4 @@
-// Why a map is refused.
+//! Why a map is refused.
 
 ghost use Rattle.std.specs.Prelude.{◌≡◌};
 ghost use Rattle.profil_hist.specs.Maps as Maps;

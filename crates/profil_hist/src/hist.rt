@@ -1,4 +1,4 @@
-// A histogram of program counters.
+//! A histogram of program counters.
 
 ghost use Rattle.std.specs.Prelude.{◌≡◌, ◌+◌, ◌<◌, ◌^◌, [], ◌∷◌, ◌++◌, List, ℕ, IfOk, is_some};
 ghost use Rattle.profil_hist.specs.Counts.{met};

@@ -1,4 +1,4 @@
-// How much a map may have.
+//! How much a map may have.
 
 /// The ranges of a map.
 pub const MOST_RANGES: usize = 1024;

@@ -1,4 +1,4 @@
-// A map of program counters.
+//! A map of program counters.
 
 ghost use Rattle.std.specs.Prelude.{◌≡◌, map, length, slice_get, option_map, IfOk};
 ghost use Rattle.profil_hist.specs.Counts.{counts_text, no_counts};

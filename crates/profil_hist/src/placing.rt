@@ -1,4 +1,4 @@
-// The ranges of a map in the order of their addresses, and where an address falls.
+//! The ranges of a map in the order of their addresses, and where an address falls.
 
 ghost use Rattle.std.specs.Prelude.{◌≡◌, ◌<◌, ◌≤◌, ◌&&◌, true, map, length, nat_lt, IfOk};
 ghost use Rattle.std.specs.List.Sorted.{IsNonDecreasingBy, IsPartitionPoint};

@@ -1,4 +1,4 @@
-// The text of a histogram.
+//! The text of a histogram.
 
 ghost use Rattle.std.specs.Prelude.{◌≡◌, ◌<◌, ◌++◌, ℕ, List, Some, IfOk, OnOk, string_bytes, slice_get};
 ghost use Rattle.profil_hist.specs.Histograms.{IsHistogram};

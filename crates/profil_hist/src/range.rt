@@ -1,4 +1,4 @@
-// The ranges of a map.
+//! The ranges of a map.
 
 ghost use Rattle.std.specs.Prelude.{◌≡◌, ◌*◌, nat_lt};
 ghost use Rattle.profil_hist.specs.Ranges as Ranges;

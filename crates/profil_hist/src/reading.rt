@@ -1,4 +1,4 @@
-// A whole map.
+//! A whole map.
 
 ghost use Rattle.profil_hist.specs.Maps.{ReadsMap};
 

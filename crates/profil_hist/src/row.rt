@@ -1,4 +1,4 @@
-// One row of a map, by itself.
+//! One row of a map, by itself.
 
 ghost use Rattle.std.specs.Prelude.{◌≡◌};
 ghost use Rattle.csv.specs.Records.{fields_of};

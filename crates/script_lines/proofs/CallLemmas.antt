@@ -46,7 +46,7 @@ pub answers_cause : {A : Type 0} (answer : Result A LineFault) (read : Result A 
 answers_cause (Ok value) read cause h e = let no : false ≡ true = h.0 in cc no
 answers_cause (Err fault) read cause h e = rw (h.1, e) refl
 
--- a word with a byte that is not printable is none of the words
+-- a word with a byte that is not printable is not one of the words
 pub others_unprintable : (word : Text) (rows : List CallRow) → is_printable word ≡ false → list_all (λ row. is_printable (word_of row.name)) rows ≡ true → AreOthers word rows
 others_unprintable word [] h all = tt
 others_unprintable word (row ∷ rows) h all = (λ same. let a : is_printable word ≡ true = ap is_printable same ∙ both.0 in cc, others_unprintable word rows h both.1)

@@ -1,4 +1,4 @@
--- The first line of some bytes, and those behind it.
+-- The first line of some bytes, and those after it.
 use Rattle.std.proofs.Common.{◌≡◌, ◌∙◌, ◌<◌, ◌+◌, ◌-◌, ◌∷◌, ℕ, Bool, true, false, List, [], None, Some, cond, length, take, drop, refl, sym, ap, arith, length-drop}
 use Rattle.std.proofs.lemmas.List.{take_all}
 use Rattle.std.proofs.lemmas.Bool.{ltb-true, ltb-false, lt-ltb, le-ltb, ne_eqb}
@@ -29,7 +29,7 @@ lines-cut bytes n h = go (nat_lt (position_or_len is_newline bytes) (length byte
         ap lines_of_parts parts ∙ before_parts (before_first is_newline bytes) (after_first is_newline bytes) ∙ ap (λ (k : ℕ). strip_carriage_return (take k bytes) ∷ lines (drop (k + 1) bytes)) at
     go false e s = cc s
 
--- the same, the bytes behind the line as a slice to the end gives them
+-- the same, the bytes after the line as a slice to the end gives them
 pub lines-cut_rest : (bytes : List ℕ) (n : ℕ) → position is_newline bytes ≡ Some n
     → lines bytes ≡ strip_carriage_return (take n bytes) ∷ lines (take (length bytes - (n + 1)) (drop (n + 1) bytes))
 lines-cut_rest bytes n h =

@@ -15,25 +15,25 @@ use Rattle.script_lines.specs.Answers.{Answers}
 use Rattle.script_lines.specs.Causes.{fault_at}
 use Rattle.script_lines.specs.Kept.{IsScript}
 use Rattle.script_lines.specs.Lines.{call_line, is_skipped}
-use Rattle.script_lines.specs.Scripts.{ReadsScript, Refused, behind, onto, script_from, script_of}
+use Rattle.script_lines.specs.Scripts.{ReadsScript, Refused, put_before, onto, script_from, script_of}
 
--- The script is what was read, and what is left gives behind it.
+-- The script is what was read, and what is left gives after it.
 pub record Reads (bytes rest : List ℕ) (number : ℕ) (calls : List ScriptLine) : Type 0 where
-  pub same : script_of bytes ≡ behind calls (script_from (number + 1) (length calls) (lines rest))
+  pub same : script_of bytes ≡ put_before calls (script_from (number + 1) (length calls) (lines rest))
   pub small : number + length rest ≤ length bytes
   pub kept : IsScript calls
 
-behind-nothing : (r : Result (List ScriptLine) Refused) → r ≡ behind [] r
-behind-nothing (Ok below) = refl
-behind-nothing (Err refused) = refl
+put_before-nothing : (r : Result (List ScriptLine) Refused) → r ≡ put_before [] r
+put_before-nothing (Ok below) = refl
+put_before-nothing (Err refused) = refl
 
-behind-behind : (above more : List ScriptLine) (r : Result (List ScriptLine) Refused) → behind above (behind more r) ≡ behind (above ++ more) r
-behind-behind above more (Ok below) = ap Ok (sym (append_assoc above more below))
-behind-behind above more (Err refused) = refl
+put_before-twice : (above more : List ScriptLine) (r : Result (List ScriptLine) Refused) → put_before above (put_before more r) ≡ put_before (above ++ more) r
+put_before-twice above more (Ok below) = ap Ok (sym (append_assoc above more below))
+put_before-twice above more (Err refused) = refl
 
 pub reads-start : (bytes : List ℕ) → Reads bytes bytes 0 []
 unfolding script_of
-reads-start bytes = record { same = behind-nothing (script_from 1 0 (lines bytes)); small = omega arith; kept = record { few = omega arith; threads = All-nil (λ l. l.thread < THREADS) } }
+reads-start bytes = record { same = put_before-nothing (script_from 1 0 (lines bytes)); small = omega arith; kept = record { few = omega arith; threads = All-nil (λ l. l.thread < THREADS) } }
 
 skipped : (number above : ℕ) (line : Text) (rest : List Text) → is_skipped line ≡ true → script_from number above (line ∷ rest) ≡ script_from (number + 1) above rest
 unfolding script_from
@@ -47,7 +47,7 @@ called number above line rest s = rw s refl
 pub reads-skipped : (bytes rest rest' line : List ℕ) (number : ℕ) (calls : List ScriptLine) → lines rest ≡ line ∷ lines rest' → length rest' < length rest → is_skipped line ≡ true
     → Reads bytes rest number calls → Reads bytes rest' (number + 1) calls
 reads-skipped bytes rest rest' line number calls cut less s r = record {
-  same = r.same ∙ ap (λ (ls : List Text). behind calls (script_from (number + 1) (length calls) ls)) cut ∙ ap (behind calls) (skipped (number + 1) (length calls) line (lines rest') s);
+  same = r.same ∙ ap (λ (ls : List Text). put_before calls (script_from (number + 1) (length calls) ls)) cut ∙ ap (put_before calls) (skipped (number + 1) (length calls) line (lines rest') s);
   small = omega (arith, r.small);
   kept = r.kept;
 }
@@ -58,10 +58,10 @@ pub reads-call : (bytes rest rest' line : List ℕ) (number : ℕ) (calls : List
 reads-call bytes rest rest' line number calls call cut less s is more r =
     let below = script_from (number + 1 + 1) (length calls + 1) (lines rest') in
     let one : length (calls ++ call ∷ []) ≡ length calls + 1 = length-append calls (call ∷ []) in record {
-      same = r.same ∙ ap (λ (ls : List Text). behind calls (script_from (number + 1) (length calls) ls)) cut
-          ∙ ap (behind calls) (called (number + 1) (length calls) line (lines rest') s ∙ ap (λ (l : Result ScriptLine ScriptCause). onto (number + 1) l below) is)
-          ∙ behind-behind calls (call ∷ []) below
-          ∙ ap (λ (n : ℕ). behind (calls ++ call ∷ []) (script_from (number + 1 + 1) n (lines rest'))) (sym one);
+      same = r.same ∙ ap (λ (ls : List Text). put_before calls (script_from (number + 1) (length calls) ls)) cut
+          ∙ ap (put_before calls) (called (number + 1) (length calls) line (lines rest') s ∙ ap (λ (l : Result ScriptLine ScriptCause). onto (number + 1) l below) is)
+          ∙ put_before-twice calls (call ∷ []) below
+          ∙ ap (λ (n : ℕ). put_before (calls ++ call ∷ []) (script_from (number + 1 + 1) n (lines rest'))) (sym one);
       small = omega (arith, r.small);
       kept = record { few = omega (arith, one, more.0); threads = All-push (λ l. l.thread < THREADS) calls call r.kept.threads more.1 };
     }
@@ -69,8 +69,8 @@ reads-call bytes rest rest' line number calls call cut less s is more r =
 pub reads-refused : (bytes rest rest' line : List ℕ) (number : ℕ) (calls : List ScriptLine) (cause : ScriptCause) → lines rest ≡ line ∷ lines rest' → is_skipped line ≡ false
     → call_line (number + 1) (length calls) line ≡ Err cause → Reads bytes rest number calls → script_of bytes ≡ Err (record { line = number + 1; cause = cause })
 reads-refused bytes rest rest' line number calls cause cut s is r =
-    r.same ∙ ap (λ (ls : List Text). behind calls (script_from (number + 1) (length calls) ls)) cut
-    ∙ ap (behind calls) (called (number + 1) (length calls) line (lines rest') s
+    r.same ∙ ap (λ (ls : List Text). put_before calls (script_from (number + 1) (length calls) ls)) cut
+    ∙ ap (put_before calls) (called (number + 1) (length calls) line (lines rest') s
     ∙ ap (λ (l : Result ScriptLine ScriptCause). onto (number + 1) l (script_from (number + 1 + 1) (length calls + 1) (lines rest'))) is)
 
 ended : (rest : List ℕ) (number above : ℕ) → length rest ≤ 0 → script_from number above (lines rest) ≡ Ok []
@@ -79,7 +79,7 @@ ended [] number above e = refl
 ended (b ∷ rest) number above e = absurd (omega arith)
 
 pub reads-end : (bytes rest : List ℕ) (number : ℕ) (calls : List ScriptLine) → length rest ≤ 0 → Reads bytes rest number calls → script_of bytes ≡ Ok calls
-reads-end bytes rest number calls e r = r.same ∙ ap (behind calls) (ended rest (number + 1) (length calls) e) ∙ ap Ok (append-nil calls)
+reads-end bytes rest number calls e r = r.same ∙ ap (put_before calls) (ended rest (number + 1) (length calls) e) ∙ ap Ok (append-nil calls)
 
 -- The answer where a line has a fault.
 pub reads-fault : (bytes rest rest' line : List ℕ) (number : ℕ) (calls : List ScriptLine) (fault : LineFault) → lines rest ≡ line ∷ lines rest' → is_skipped line ≡ false

@@ -34,7 +34,7 @@ word-ends b (c ∷ w) rest p e =
     let next = plain-blank c _ here.1 in
     words-plain b ((c ∷ w) ++ rest) here.0 next.0 ∙ ap (in_first b) (word-ends c w rest here.1 e)
 
--- a blank in front counts for nothing
+-- a blank before a text changes none of its words
 pub words-blank : (s : List ℕ) (i : ℕ) → i < length s → is_blank (get_or s i 0) ≡ true → words_of (drop i s) ≡ words_of (drop (i + 1) s)
 unfolding words_of
 words-blank s i lt b = rw (drop_more s i 0 lt, b) refl

@@ -27,9 +27,11 @@ pub record CallRow : Type 0 where
   pub name : CallName
   pub form : Form
 
+-- a call with the form of its arguments
 abbrev pub row : CallName → Form → CallRow
 row name form = record { name = name; form = form }
 
+-- all calls with their forms, in the order of the table of calls
 unfoldable pub call_rows : List CallRow
 call_rows =
     row name.Register (Nothing call.Register)
@@ -78,5 +80,6 @@ call_by (Some (SetEventAndThreshold make)) arguments = made_of (λ p. make p.0 p
 call_by (Some (Event make)) arguments = made_of make (one_event arguments)
 call_by (Some (Code make)) arguments = made_of make (one_code arguments)
 
+-- the call of a word with these arguments, or the cause of its refusal
 abbrev pub call_of : Text → List Text → Result ScriptCall ScriptCause
 call_of word arguments = call_by (form_of word call_rows) arguments

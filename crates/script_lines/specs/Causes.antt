@@ -7,6 +7,7 @@ use Rattle.script_lines.specs.declared.fault.ScriptFault.TheVariants as script
 use Rattle.script_lines.specs.declared.fault.ScriptCause.{ScriptCause}
 use Rattle.script_lines.specs.declared.fault.ScriptCause.TheVariants as cause
 
+-- a cause in words
 abbrev pub text_of : ScriptCause → List ℕ
 text_of cause.OverLimit = codes "over a limit"
 text_of cause.BadThread = codes "bad thread"

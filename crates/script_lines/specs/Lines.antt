@@ -21,6 +21,7 @@ is_skipped line = (length line == 0) || (slice_index line 0 == 35)
 abbrev pub thread_in : Text → Result ℕ ScriptCause
 thread_in word = number_or BadThread (decimal_in 0 (THREADS - 1) word)
 
+-- a line of a script, by its number
 abbrev pub line_with : ℕ → ℕ → ScriptCall → ScriptLine
 line_with number thread call = record { line = number; thread = thread; call = call }
 

@@ -4,6 +4,7 @@ use Rattle.papi_base.specs.declared.call_name.CallName.TheVariants as name
 use Rattle.script_lines.specs.declared.call.ScriptCall.{ScriptCall}
 use Rattle.script_lines.specs.declared.call.ScriptCall.TheVariants as call
 
+-- the name of a call
 abbrev pub name_of : ScriptCall → CallName
 name_of call.Register = name.Register
 name_of call.Unregister = name.Unregister

@@ -15,13 +15,13 @@ pub record Refused : Type 0 where
   pub cause : ScriptCause
 
 -- call lines before those that are read further on
-abbrev pub behind : List ScriptLine → Result (List ScriptLine) Refused → Result (List ScriptLine) Refused
-behind above (Ok below) = Ok (above ++ below)
-behind above (Err refused) = Err refused
+abbrev pub put_before : List ScriptLine → Result (List ScriptLine) Refused → Result (List ScriptLine) Refused
+put_before above (Ok below) = Ok (above ++ below)
+put_before above (Err refused) = Err refused
 
 -- a call line before those that are read further on, or the line that is refused
 abbrev pub onto : ℕ → Result ScriptLine ScriptCause → Result (List ScriptLine) Refused → Result (List ScriptLine) Refused
-onto number (Ok line) below = behind (line ∷ []) below
+onto number (Ok line) below = put_before (line ∷ []) below
 onto number (Err cause) below = Err (record { line = number; cause = cause })
 
 -- the call lines of some lines, the first of this number, where so many call lines stand above them

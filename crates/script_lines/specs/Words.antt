@@ -7,12 +7,12 @@ abbrev pub ends_here : List ℕ → Bool
 ends_here [] = true
 ends_here (b ∷ rest) = is_blank b
 
--- a byte more in front of the first word
+-- a byte more before the first word
 abbrev pub in_first : ℕ → List (List ℕ) → List (List ℕ)
 in_first b [] = (b ∷ []) ∷ []
 in_first b (word ∷ words) = (b ∷ word) ∷ words
 
--- the longest runs of bytes that are no spaces or tabs, in order
+-- the longest runs of bytes that are not spaces or tabs, in order
 unfoldable pub words_of : List ℕ → List (List ℕ)
 words_of [] = []
 words_of (b ∷ rest) =

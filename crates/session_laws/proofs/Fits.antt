@@ -1,5 +1,6 @@
 -- A set goes on to fit, whichever way a call changes it.
-use Rattle.std.proofs.Common.{◌≡◌, ◌∙◌, ◌∷◌, ◌^◌, ◌<◌, ◌≤◌, ◌==◌, ◌&&◌, ◌⊎◌, inl, inr, not, ℕ, zero, suc, Bool, true, false, List, [], length, refl, sym, ap, subst, arith, slice_get, unwrap_or, Option, Some, None, is_some}
+use Rattle.std.proofs.Common.{◌≡◌, ◌∙◌, ◌∷◌, ◌^◌, ◌<◌, ◌≤◌, ◌==◌, ◌&&◌, ◌⊎◌, inl, inr, not, ℕ, zero, suc, Bool, true, false, List, []}
+use Rattle.std.proofs.Common.{length, refl, sym, ap, subst, arith, slice_get, unwrap_or, Option, Some, None, is_some}
 use Rattle.std.specs.Prelude.{All, IsSomeAnd, nat_le, nat_lt}
 use Rattle.std.specs.Option.{ForSome, option_map, option_map_or}
 use Rattle.std.proofs.lemmas.List.Elements.{All-push, All-set}
@@ -11,7 +12,9 @@ use Rattle.postfix_rules.specs.Rules.{DerivedView, IsDerived}
 use Rattle.postfix_rules.specs.Presets.{Book, component_of_event, entry, natives_of_event, rule_of_event}
 use Rattle.event_sets.specs.declared.refusal.Refusal.TheVariants.{Conflict}
 use Rattle.event_sets.specs.Adding.{add_refusal}
-use Rattle.event_sets.specs.AtRest.{AtRest, Widths, cannot_take, clash_with, emptied, has_event, is_armed, is_bad_domain, is_bad_slice, is_bad_threshold, is_full, is_other, is_plain, least_width, new_set, place_of, shares_native, widths_at, with_event, with_threshold, without_event}
+use Rattle.event_sets.specs.AtRest.{AtRest, Widths, cannot_take, clash_with, emptied, has_event, is_armed, is_bad_domain, is_bad_slice}
+use Rattle.event_sets.specs.AtRest.{is_bad_threshold, is_full, is_other, is_plain, least_width, new_set, place_of, shares_native, widths_at}
+use Rattle.event_sets.specs.AtRest.{with_event, with_threshold, without_event}
 use Rattle.event_sets.specs.Agreement.{Agrees}
 use Rattle.postfix_rules.specs.Fitting.{BookFits, EventFits, Fits, IsHeld}
 use Rattle.event_sets.specs.Sets.{set_view}

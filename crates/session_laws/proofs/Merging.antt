@@ -1,5 +1,7 @@
 -- The replies of the threads, merged in the script's order.
-use Rattle.std.proofs.Common.{◌≡◌, ◌≢◌, ◌∙◌, ◌∷◌, ◌++◌, ◌+◌, ◌*◌, ◌<◌, ◌==◌, inl, inr, ℕ, zero, suc, Bool, true, false, not, List, [], drop, length, map, refl, sym, ap, ap₂, subst, arith, slice_get, slice_index_or, slice_set, unwrap_or, Option, Some, None, Result, Ok, Err}
+use Rattle.std.proofs.Common.{◌≡◌, ◌≢◌, ◌∙◌, ◌∷◌, ◌++◌, ◌+◌, ◌*◌, ◌<◌, ◌==◌, inl, inr, ℕ, zero, suc, Bool, true, false, not, List, [], drop}
+use Rattle.std.proofs.Common.{length, map, refl, sym, ap, ap₂, subst, arith, slice_get, slice_index_or, slice_set, unwrap_or, Option, Some}
+use Rattle.std.proofs.Common.{None, Result, Ok, Err}
 use Rattle.std.specs.Prelude.{All, if◌then◌else◌}
 use Rattle.std.specs.List.{list_any}
 use Rattle.std.proofs.Math.ListN.{length-set}
@@ -109,7 +111,7 @@ record Goes (at : Setting) (accounts : List Account) (m : List Native) (t : ℕ)
   replied : merged_reply at m q t x ≡ (turn at accounts m t x).reply
   ahead : IsAhead at (turn at accounts m t x).accounts ls (ahead_after q t x)
 
--- nothing changes for a line that is no call
+-- nothing changes for a line that is not a call
 stays : (at : Setting) (accounts : List Account) (m : List Native) (t : ℕ) (ls : List Line) (q : Ahead) (l : Line) → ((s : ℕ) → calls_at s (l ∷ ls) ≡ calls_at s ls) → IsAhead at accounts (l ∷ ls) q → IsAhead at accounts ls q
 stays at accounts m t ls q l none h = record {
   registered = h.registered;

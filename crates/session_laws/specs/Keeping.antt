@@ -23,6 +23,7 @@ AgreementStays = (book : Book) (shape : Widths) (a : Account) (call : Call)
     → IsGood book shape call → AllAgree book (faces_of a.sets)
     → AllAgree book (faces_of (step book shape a call).account.sets)
 
+-- the window of each set of an opening account lies in the past: it has no sets
 abbrev pub OpeningWithin : Type 0
 OpeningWithin = (thread : ℕ) (rest : List Occ) (mark : Mark) → AllWithin 0 (opening thread rest mark).sets
 
@@ -36,6 +37,7 @@ abbrev pub RiseStays : Type 0
 RiseStays = (book : Book) (shape : Widths) (a : Account) (call : Call) → Rises 0 (a.past ++ a.rest)
     → Rises 0 (step book shape a call).account.past × Rises 0 ((step book shape a call).account.past ++ (step book shape a call).account.rest)
 
+-- in an opening account no two sets run on one component: it has no sets
 abbrev pub OpeningApart : Type 0
 OpeningApart = (thread : ℕ) (rest : List Occ) (mark : Mark) → AreApart (faces_of (opening thread rest mark).sets)
 
@@ -48,6 +50,7 @@ ApartStays = (book : Book) (shape : Widths) (a : Account) (call : Call)
 abbrev pub PlacesStay : Type 0
 PlacesStay = (book : Book) (shape : Widths) (a : Account) (call : Call) → length (step book shape a call).account.sets ≡ length a.sets
 
+-- in an opening account each set has a caller's value for each event: it has no sets
 abbrev pub OpeningValued : Type 0
 OpeningValued = (thread : ℕ) (rest : List Occ) (mark : Mark) → AllValued (opening thread rest mark).sets
 
@@ -55,6 +58,7 @@ OpeningValued = (thread : ℕ) (rest : List Occ) (mark : Mark) → AllValued (op
 abbrev pub ValuesStay : Type 0
 ValuesStay = (book : Book) (shape : Widths) (a : Account) (call : Call) → AllValued a.sets → AllValued (step book shape a call).account.sets
 
+-- the sets of an opening account fit each book and each shape: it has none
 abbrev pub OpeningFits : Type 0
 OpeningFits = (book : Book) (shape : Widths) (thread : ℕ) (rest : List Occ) (mark : Mark) → AreFit book shape (opening thread rest mark).sets
 

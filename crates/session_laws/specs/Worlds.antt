@@ -1,5 +1,6 @@
 -- The world looked at on one thread is the fold of its steps, and the replies of all threads' calls, merged, are the world's.
-use Rattle.std.specs.Prelude.{ℕ, ◌+◌, ◌*◌, ◌≡◌, ◌<◌, Bool, true, false, if◌then◌else◌, List, [], ◌∷◌, All, drop, length, map, Some, slice_get, slice_index_or, slice_set}
+use Rattle.std.specs.Prelude.{ℕ, ◌+◌, ◌*◌, ◌≡◌, ◌<◌, Bool, true, false, if◌then◌else◌, List, [], ◌∷◌, All, drop, length, map}
+use Rattle.std.specs.Prelude.{Some, slice_get, slice_index_or, slice_set}
 use Rattle.papi_base.specs.declared.code.Code.{Code}
 use Rattle.papi_base.specs.declared.code.Code.TheVariants as code
 use Rattle.papi_base.specs.declared.native.Native.{Native}
@@ -46,6 +47,7 @@ registered_after call.Unregister code.Ok on = false
 registered_after call.Unregister c on = on
 registered_after made c on = on
 
+-- whether a thread is registered after a call follows from the call and the code of its reply: PAPI_register_thread(3), PAPI_unregister_thread(3)
 abbrev pub RegisteredFollows : Type 0
 RegisteredFollows = (book : Book) (shape : Widths) (a : Account) (made : Call)
     → (step book shape a made).account.registered ≡ registered_after made (step book shape a made).reply.code a.registered
@@ -55,7 +57,7 @@ abbrev pub bits_from : ℕ → List Bool → ℕ
 bits_from bit [] = 0
 bits_from bit (on ∷ flags) = (if on then bit else 0) + bits_from (2 * bit) flags
 
--- what a line replies that is no session's call, where these natives are mentioned and these threads are registered
+-- what a line that is not a session's call replies, where these natives are mentioned and these threads are registered
 abbrev pub answer_by : Setting → List Native → List Bool → Asked → Reply
 answer_by at mentioned flags asked.Threads = done (body.Threads (bits_from 1 flags))
 answer_by at mentioned flags (asked.CodeOf e) = answer at [] mentioned (asked.CodeOf e)
@@ -72,6 +74,7 @@ pub record Ahead : Type 0 where
   pub flags : List Bool
   pub replies : List (List Reply)
 
+-- a call takes the first of its thread's further replies, which says whether the thread is registered then; other lines change nothing
 abbrev pub ahead_after : Ahead → ℕ → Asked → Ahead
 ahead_after x t (asked.Call c) = record {
   flags = slice_set x.flags t (registered_after c (next_reply (slice_index_or x.replies t [])).code (slice_index_or x.flags t false));
@@ -81,6 +84,7 @@ ahead_after x t (asked.CodeOf e) = x
 ahead_after x t (asked.NameOf c) = x
 ahead_after x t asked.Threads = x
 
+-- the reply to a line: the next one of its thread where it is a session's call, and else what the registered threads and mentions answer
 abbrev pub merged_reply : Setting → List Native → Ahead → ℕ → Asked → Reply
 merged_reply at mentioned x t (asked.Call c) = next_reply (slice_index_or x.replies t [])
 merged_reply at mentioned x t (asked.CodeOf e) = answer_by at mentioned x.flags (asked.CodeOf e)

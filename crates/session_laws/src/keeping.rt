@@ -1,5 +1,6 @@
 //! What calls keep.
-ghost use Rattle.session_laws.specs.Keeping.{AgreementStays, ApartStays, FitStays, OpeningAgrees, OpeningApart, OpeningFits, OpeningValued, OpeningWithin, PlacesStay, RiseStays, ValuesStay, WithinStays};
+ghost use Rattle.session_laws.specs.Keeping.{AgreementStays, ApartStays, FitStays, OpeningAgrees, OpeningApart, OpeningFits};
+ghost use Rattle.session_laws.specs.Keeping.{OpeningValued, OpeningWithin, PlacesStay, RiseStays, ValuesStay, WithinStays};
 
 /// The agreement of the sets with the book holds at the beginning and is kept by each good call.
 pub fn agreement_laws()

@@ -9,7 +9,9 @@ use Rattle.papi_base.specs.declared.native.EventRef.TheVariants as event
 use Rattle.papi_base.specs.declared.code.Code.TheVariants as code
 use Rattle.papi_base.specs.declared.occurrence.LineCause.TheVariants.{Field}
 use Rattle.papi_base.specs.declared.native.Native.{Native}
-use Rattle.session_model.specs.declared.call.Call.TheVariants.{Register, Unregister, Create, Destroy, Cleanup, Add, Remove, AssignComponent, SetDomain, SetMultiplex, Overflow, Start, Stop, Read, Accum, Reset, State, ListEvents, Assign, Raw, Run}
+use Rattle.session_model.specs.declared.call.Call.TheVariants.{Register, Unregister, Create, Destroy, Cleanup, Add, Remove, AssignComponent}
+use Rattle.session_model.specs.declared.call.Call.TheVariants.{SetDomain, SetMultiplex, Overflow, Start, Stop, Read, Accum, Reset, State}
+use Rattle.session_model.specs.declared.call.Call.TheVariants.{ListEvents, Assign, Raw, Run}
 use Rattle.session_model.specs.declared.line.Asked.TheVariants as asked
 use Rattle.session_model.specs.declared.reply.Body.TheVariants as body
 use Rattle.session_model.specs.declared.reply.Ended.TheVariants as ended

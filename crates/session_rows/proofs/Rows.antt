@@ -14,7 +14,9 @@ use Rattle.papi_base.specs.declared.occurrence.LineCause.TheVariants.{Stamp}
 use Rattle.papi_base.specs.declared.occurrence.Occ.{Occ}
 use Rattle.overflow_dispatch.specs.declared.handler.Note.{Note}
 use Rattle.session_model.specs.declared.call.Call.{Call}
-use Rattle.session_model.specs.declared.call.Call.TheVariants.{Register, Unregister, Create, Destroy, Cleanup, Add, Remove, AssignComponent, SetDomain, SetMultiplex, Overflow, Start, Stop, Read, Accum, Reset, State, ListEvents, Assign, Raw, Run}
+use Rattle.session_model.specs.declared.call.Call.TheVariants.{Register, Unregister, Create, Destroy, Cleanup, Add, Remove, AssignComponent}
+use Rattle.session_model.specs.declared.call.Call.TheVariants.{SetDomain, SetMultiplex, Overflow, Start, Stop, Read, Accum, Reset, State}
+use Rattle.session_model.specs.declared.call.Call.TheVariants.{ListEvents, Assign, Raw, Run}
 use Rattle.session_model.specs.declared.line.Asked.TheVariants as asked
 use Rattle.session_model.specs.declared.reply.Ended.TheVariants as ended
 use Rattle.session_model.specs.declared.reply.Reply.{Reply}
@@ -23,7 +25,10 @@ use Rattle.session_model.specs.Account.{opening}
 use Rattle.session_model.specs.Replies.{plain}
 use Rattle.session_model.specs.Step.{replies_to, notes_to}
 use Rattle.session_rows.specs.FirstRun.{FirstRun, replies}
-use Rattle.session_rows.specs.Lab.{inst, inst_k, cycles, br_inst, br_misp, cache, ref_cycles, packets, masked, inverted, edged, no_fixed, shape, no_book, book, stall2, named, preset, occ_at, occ, kernel_occ, steady, times, masked_adds, thread_of, ok, number, values, ran, met, register, clash, assigned, events, state, note, event_code, event_name, threads, script, dry, on, asks}
+use Rattle.session_rows.specs.Lab.{inst, inst_k, cycles, br_inst, br_misp, cache, ref_cycles, packets, masked, inverted, edged, no_fixed}
+use Rattle.session_rows.specs.Lab.{shape, no_book, book, stall2, named, preset, occ_at, occ, kernel_occ, steady, times, masked_adds}
+use Rattle.session_rows.specs.Lab.{thread_of, ok, number, values, ran, met, register, clash, assigned, events, state, note, event_code}
+use Rattle.session_rows.specs.Lab.{event_name, threads, script, dry, on, asks}
 
 abbrev replies_by_book : List Occ → List Call → List Reply
 replies_by_book os calls = replies_to book shape (thread_of os) calls

@@ -11,6 +11,7 @@ use Rattle.session_rows.specs.Lab.{inst, named, no_book, number, occ_at, ok, ran
 abbrev pub replies : List Occ → List Call → List Reply
 replies os calls = replies_to no_book shape (thread_of os) calls
 
+-- a set with one event counts two occurrences
 abbrev pub FirstRun : Type 0
 FirstRun = replies (occ_at 0xc0 0 1 0x400000 0 ∷ occ_at 0xc0 0 1 0x400004 1 ∷ [])
     (Create ∷ Add 0 (named inst) ∷ Start 0 ∷ Run 3 ∷ Read 0 ∷ Run 1 ∷ Stop 0 ∷ [])

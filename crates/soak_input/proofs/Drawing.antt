@@ -28,7 +28,8 @@ low_byte n =
     ap₂ (λ h l. digit_glyph false h ∷ digit_glyph false l ∷ []) high low
 
 -- six digits, two at a time
-pub six_in_pairs : (start first second third : Text) (n : ℕ) → first ≡ start ++ two_digits (n / 65536 % 256) → second ≡ first ++ two_digits (n / 256 % 256) → third ≡ second ++ two_digits (n % 256) → third ≡ start ++ six_digits n
+pub six_in_pairs : (start first second third : Text) (n : ℕ) → first ≡ start ++ two_digits (n / 65536 % 256) → second ≡ first ++ two_digits (n / 256 % 256)
+    → third ≡ second ++ two_digits (n % 256) → third ≡ start ++ six_digits n
 six_in_pairs start first second third n a b c =
     both start first third (two_digits (n / 65536)) (two_digits (n / 256) ++ two_digits n)
     (a ∙ ap (λ (t : Text). start ++ t) (low_byte (n / 65536)))

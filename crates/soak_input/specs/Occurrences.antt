@@ -7,15 +7,19 @@ use Rattle.soak_input.specs.declared.occurrence.Occurrence.{Occurrence}
 abbrev pub select_of : ℕ → ℕ
 select_of a = slice_index (0xc0 ∷ 0x3c ∷ 0xc4 ∷ 0xc5 ∷ 0x2e ∷ []) (a % 5)
 
+-- the umask, that of `ALL` or that of `TAKEN`: the two of BR_INST
 abbrev pub umask_of : ℕ → ℕ
 umask_of b = if b % 2 == 0 then 0x01 else 0x02
 
+-- kernel mode for one draw in four, else user mode
 abbrev pub is_kernel : ℕ → Bool
 is_kernel c = c % 4 == 0
 
+-- the amount, from 1 to the 255 that a line of a stream can say
 abbrev pub amount_of : ℕ → ℕ
 amount_of d = 1 + d % 255
 
+-- the program counter, one of the 4,096 addresses from 0x400000 on
 abbrev pub counter_of : ℕ → ℕ
 counter_of e = 0x400000 + e % 4096
 

@@ -22,6 +22,7 @@ opening_lines thread =
 abbrev pub round_lines : ℕ → Text
 round_lines thread = call_line (codes "run 100") thread ++ call_line (codes "read 0") thread
 
+-- the call that stops the set of a thread; its reply gives the values that are summed up
 abbrev pub stop_line : ℕ → Text
 stop_line thread = call_line (codes "stop 0") thread
 

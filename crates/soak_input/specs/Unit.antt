@@ -3,6 +3,7 @@ use Rattle.std.specs.Prelude.{List, [], ◌∷◌, ◌++◌, codes}
 use Rattle.std.specs.List.{flat_map}
 use Rattle.soak_input.specs.Streams.{Text}
 
+-- the rows of examples/lab.unit: `cpu` with three counters and seven events, and `net` with one of each
 unfoldable pub unit_rows : List Text
 unit_rows =
     codes "COMPONENT,cpu,lab"

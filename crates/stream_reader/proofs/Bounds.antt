@@ -1,5 +1,6 @@
 -- The stamps of a stream rise, and it has at most 5,162,220 occurrences.
-use Rattle.std.proofs.Common.{◌≡◌, ◌∙◌, ◌+◌, ◌*◌, ◌<◌, ◌≤◌, ◌==◌, ◌&&◌, ◌∷◌, ℕ, Bool, true, false, List, [], Option, Some, None, length, refl, sym, ap, subst, arith, nat_lt, nat_le, codes, bytes_eq, IfSome, ◌⊎◌, inl, inr}
+use Rattle.std.proofs.Common.{◌≡◌, ◌∙◌, ◌+◌, ◌*◌, ◌<◌, ◌≤◌, ◌==◌, ◌&&◌, ◌∷◌, ℕ, Bool, true, false, List, [], Option, Some, None, length}
+use Rattle.std.proofs.Common.{refl, sym, ap, subst, arith, nat_lt, nat_le, codes, bytes_eq, IfSome, ◌⊎◌, inl, inr}
 use Rattle.std.specs.Prelude.{if◌then◌else◌, cond}
 use Rattle.std.specs.List.{list_all, slice_split, onto_first}
 use Rattle.std.specs.Option.{option_map, option_map_or}

@@ -1,5 +1,6 @@
 -- The number of a field of hexadecimal digits, byte by byte.
-use Rattle.std.proofs.Common.{◌≡◌, ◌∙◌, ◌+◌, ◌*◌, ◌^◌, ◌<◌, ◌≤◌, ◌≢◌, ◌==◌, ◌&&◌, ◌∷◌, ℕ, Bool, true, false, List, [], Option, Some, None, length, drop, get_or, refl, sym, subst, arith, nat_le, add-one, min, ◌⊎◌, inl, inr}
+use Rattle.std.proofs.Common.{◌≡◌, ◌∙◌, ◌+◌, ◌*◌, ◌^◌, ◌<◌, ◌≤◌, ◌≢◌, ◌==◌, ◌&&◌, ◌∷◌, ℕ, Bool, true, false, List, [], Option, Some, None}
+use Rattle.std.proofs.Common.{length, drop, get_or, refl, sym, subst, arith, nat_le, add-one, min, ◌⊎◌, inl, inr}
 use Rattle.std.specs.Prelude.{if◌then◌else◌, cond}
 use Rattle.std.specs.List.{list_all}
 use Rattle.std.specs.Char.{digit_value}
@@ -119,7 +120,7 @@ digit-none b e = go (is_hex_digit b) refl e
 pub digit-no-space : (b : ℕ) → is_hex_digit b ≡ true → b ≢ 32
 digit-no-space b h e = cc (subst (λ x. is_hex_digit x ≡ true) e h)
 
--- Digits were read up to here: there is none more, or they are as many as are looked at.
+-- Digits were read up to here: there are no more, or they are as many as are looked at.
 abbrev pub Stops : List ℕ → ℕ → ℕ → Type 0
 Stops t many i = (is_hex_digit (get_or t i 0) ≡ false) ⊎ (min (length t) many ≤ i)
 

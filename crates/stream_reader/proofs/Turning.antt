@@ -1,5 +1,6 @@
 -- What a line, a piece or the end of the source says of what is to come.
-use Rattle.std.proofs.Common.{◌≡◌, ◌∙◌, ◌+◌, ◌<◌, ◌≤◌, ◌++◌, ◌∷◌, ℕ, Bool, true, false, List, [], length, take, drop, refl, sym, ap, subst, arith, append_assoc, Option, Some, None, Result, Ok, Err, IfSome, inl, inr, ◌⊎◌, IfNone}
+use Rattle.std.proofs.Common.{◌≡◌, ◌∙◌, ◌+◌, ◌<◌, ◌≤◌, ◌++◌, ◌∷◌, ℕ, Bool, true, false, List, [], length, take, drop, refl, sym, ap, subst}
+use Rattle.std.proofs.Common.{arith, append_assoc, Option, Some, None, Result, Ok, Err, IfSome, inl, inr, ◌⊎◌, IfNone}
 use Rattle.std.specs.Prelude.{if◌then◌else◌, unwrap_or}
 use Rattle.std.specs.Option.{option_map}
 use Rattle.std.proofs.lemmas.Bool.{le-ltb}

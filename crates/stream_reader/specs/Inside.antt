@@ -43,6 +43,7 @@ FindsNewline text (Some n) = (n < length text) × IsOneLine (take n text) × (te
 abbrev pub line_at : ReaderView → ℕ → Bool → Line
 line_at v size ended = record { bytes = take size v.held; ended = ended }
 
+-- what a line of this number gives to a caller: its cause or its occurrence, and nothing where it is skipped or gives the version
 abbrev pub answer_of : ℕ → Judgement → Option Next
 answer_of number (judgement.Bad c) = Some (next.Bad number c)
 answer_of number (judgement.Occurs o) = Some (next.Occ o)

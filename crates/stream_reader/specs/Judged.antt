@@ -1,5 +1,6 @@
 -- What one line of a stream says: this project's own stream format, docs/FORMATS.md.
-use Rattle.std.specs.Prelude.{◌==◌, ◌+◌, ◌&&◌, ℕ, Bool, true, false, List, [], ◌∷◌, length, slice_get, unwrap_or, Option, Some, None, if◌then◌else◌, nat_lt, codes, bytes_eq}
+use Rattle.std.specs.Prelude.{◌==◌, ◌+◌, ◌&&◌, ℕ, Bool, true, false, List, [], ◌∷◌, length, slice_get, unwrap_or, Option, Some, None}
+use Rattle.std.specs.Prelude.{if◌then◌else◌, nat_lt, codes, bytes_eq}
 use Rattle.std.specs.List.{slice_split}
 use Rattle.std.specs.Option.{option_map_or}
 use Rattle.papi_base.specs.Numerals.{decimal_in, flag_bit, hex_in}
@@ -26,6 +27,7 @@ abbrev pub is_skipped : List ℕ → Bool
 is_skipped [] = true
 is_skipped (b ∷ rest) = b == 35
 
+-- whether an occurrence fell in kernel mode: `k` where it did, `u` where it fell in user mode
 unfoldable pub mode_of : List ℕ → Option Bool
 mode_of t = if bytes_eq t (codes "u") then Some false else if bytes_eq t (codes "k") then Some true else None
 
@@ -34,6 +36,7 @@ abbrev pub given : {X Y : Type 0} → Option X → (X → Option Y) → Option Y
 given None next = None
 given (Some x) next = next x
 
+-- a field by its place from 0, empty where the line has fewer
 abbrev pub field : List (List ℕ) → ℕ → List ℕ
 field fields i = unwrap_or (slice_get fields i) []
 
@@ -58,6 +61,7 @@ abbrev pub is_above : Option ℕ → ℕ → Bool
 is_above None stamp = true
 is_above (Some last) stamp = nat_lt last stamp
 
+-- a single space ends a field, so that two in a row have an empty one between them
 abbrev pub fields_of : List ℕ → List (List ℕ)
 fields_of text = slice_split (λ b. b == 32) text
 
@@ -65,21 +69,25 @@ fields_of text = slice_split (λ b. b == 32) text
 abbrev pub has_fields : Bool → List (List ℕ) → Bool
 has_fields stamped fields = length fields == (6 + flag_bit stamped)
 
+-- the fields write an occurrence; in version 2 its stamp must also be above the last one
 abbrev pub occurrence_judged : LineStart → Occ → Judgement
 occurrence_judged start o = if start.stamped then if is_above start.last o.stamp then Occurs o else Bad cause.Stamp else Occurs o
 
+-- a line with too few or too many fields is bad for that alone; else the fields must write an occurrence
 unfoldable pub fields_judged : LineStart → List (List ℕ) → Judgement
 fields_judged start fields =
     if has_fields start.stamped fields then
     option_map_or (occurrence_judged start) (occ_of start.stamped start.given fields) (Bad cause.Field)
     else Bad cause.Fields
 
+-- only the first line can give the version; empty lines and comments are skipped
 unfoldable pub text_judged : LineStart → List ℕ → Judgement
 text_judged start text =
     if (start.number == 1) && bytes_eq text (codes "version 2") then Version
     else if is_skipped text then Skipped
     else fields_judged start (fields_of text)
 
+-- a line by itself: the limits of its length and of the stream take precedence over what its text says
 unfoldable pub judged : LineStart → Line → Judgement
 judged start line =
     if nat_lt LONGEST_LINE (length line.bytes) then Bad cause.Long

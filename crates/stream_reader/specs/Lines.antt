@@ -16,11 +16,13 @@ abbrev pub is_last : Ending → List ℕ → Bool
 is_last ending.End last = not (is_empty last)
 is_last ending.Fault last = nat_lt LONGEST_LINE (length last)
 
+-- the pieces between newlines as lines: all but the last are ended by a newline
 unfoldable pub lines_of : Ending → List (List ℕ) → List Line
 lines_of e [] = []
 lines_of e (last ∷ []) = if is_last e last then record { bytes = last; ended = false } ∷ [] else []
 lines_of e (first ∷ second ∷ rest) = record { bytes = first; ended = true } ∷ lines_of e (second ∷ rest)
 
+-- a tape is cut at each newline
 unfoldable pub tape_lines : Ending → List ℕ → List Line
 tape_lines e bytes = lines_of e (slice_split (λ b. b == 10) bytes)
 

@@ -11,12 +11,14 @@ use Rattle.stream_reader.specs.declared.line.Judgement.TheVariants as judgement
 use Rattle.stream_reader.specs.Lines.{Line, tape_lines}
 use Rattle.stream_reader.specs.Judged.{is_above, judged}
 
+-- a line after which the stream gives nothing more
 abbrev pub is_bad : Judgement → Bool
 is_bad (judgement.Bad c) = true
 is_bad judgement.Skipped = false
 is_bad judgement.Version = false
 is_bad (judgement.Occurs o) = false
 
+-- what a run meets after the last occurrence, where no line is bad: the end, or the fault of the source
 abbrev pub end_mark : Ending → Mark
 end_mark ending.End = Dry
 end_mark ending.Fault = Fault
@@ -25,6 +27,7 @@ end_mark ending.Fault = Fault
 abbrev pub line_passed : LineStart → Line → LineStart
 line_passed start line = record start { number = start.number + 1; passed = start.passed + length line.bytes + flag_bit line.ended }
 
+-- where the next line begins: a version line has the lines after it read with stamps, and an occurrence leaves its stamp as the last one
 abbrev pub after : LineStart → Line → Judgement → LineStart
 after start line (judgement.Bad c) = line_passed start line
 after start line judgement.Skipped = line_passed start line

@@ -36,6 +36,7 @@ pub record ReaderView : Type 0 where
 abbrev pub tape_of : ReaderView → Option Tape
 tape_of v = option_and_then (λ (s : SourceView). s.tape) v.source
 
+-- how often its source has failed so far, 0 where it has no source
 abbrev pub faults_of : ReaderView → ℕ
 faults_of v = option_map_or (λ (s : SourceView). s.faults) v.source 0
 
@@ -47,6 +48,7 @@ given_by v = v.start.given
 abbrev pub new_view : Option SourceView → Bool → ReaderView
 new_view source over = record { start = first_start; held = []; over = over; asked = false; source = source }
 
+-- no occurrence, and the end: what is to come after the last answer
 abbrev pub nothing : Coming
 nothing = record { rest = []; mark = Dry }
 
@@ -60,11 +62,13 @@ coming v = if v.over then Some nothing else option_map (λ (t : Tape). comes v t
 
 -- ---- told: the next occurrence, or the mark
 
+-- how a reader answers where a stream has no further occurrence
 abbrev pub at_mark : Mark → Next
 at_mark Dry = next.End
 at_mark (Bad n c) = next.Bad n c
 at_mark Fault = next.ReadFault
 
+-- the answer of `next`: the first of the occurrences that are to come, or else the mark
 abbrev pub gives_of : List Occ → Mark → Next
 gives_of [] mark = at_mark mark
 gives_of (o ∷ rest) mark = next.Occ o
@@ -109,6 +113,7 @@ pub record Takes (old : ReaderView) (answer : Next) (new : ReaderView) : Type 0 
   pub tape : tape_of old ≡ option_map (before_rest taken) (tape_of new)
   pub judged : GoesOn old taken answer new ⊎ Closes old taken answer new
 
+-- a line for which `next` gives nothing, and goes on to the next one: an empty line, a comment, or the version
 abbrev pub is_passed_over : Judgement → Bool
 is_passed_over (judgement.Bad c) = false
 is_passed_over (judgement.Occurs o) = false

@@ -1,5 +1,6 @@
 //! Readers: a piece of the source, and the lines in it.
-ghost use Rattle.std.specs.Prelude.{◌≡◌, ◌<◌, ◌≤◌, ◌+◌, ◌-◌, ◌++◌, take, drop, length, Option, Some, None, IfSome, IfNone, IfOk, OnErr, Bool, true, false, [], Result, is_some};
+ghost use Rattle.std.specs.Prelude.{◌≡◌, ◌<◌, ◌≤◌, ◌+◌, ◌-◌, ◌++◌, take, drop, length, Option, Some, None, IfSome, IfNone, IfOk, OnErr};
+ghost use Rattle.std.specs.Prelude.{Bool, true, false, [], Result, is_some};
 ghost use Rattle.std.specs.Option.{option_map, option_map_or, option_and_then};
 ghost use Rattle.papi_base.specs.Numerals.{flag_bit};
 ghost use Rattle.papi_base.specs.Outside.{Gives, Rose, tape_after};
@@ -105,7 +106,8 @@ impl<S: Source> StreamReader<S> {
     ghost use Rattle.stream_reader.specs.Lines.{IsOneLine};
     ghost use Rattle.stream_reader.specs.Judged.{judged};
     ghost use Rattle.stream_reader.specs.Occurs.{occurs_of};
-    ghost use Rattle.stream_reader.specs.Reader.{ReaderView, Gave, IsWithin, NextGives, Takes, coming, faults_of, has_answer, is_last, new_view, nothing, tape_of};
+    ghost use Rattle.stream_reader.specs.Reader.{ReaderView, Gave, IsWithin, NextGives, Takes, coming, faults_of, has_answer, is_last};
+    ghost use Rattle.stream_reader.specs.Reader.{new_view, nothing, tape_of};
     ghost use Rattle.stream_reader.specs.CommonLines.{HoldsLine};
     ghost use Rattle.stream_reader.specs.Inside.{FindsNewline, Passes, Refills, answer_of, left_of, line_at, line_taken};
 

@@ -86,7 +86,7 @@ decimal-numeral t e = (both _ _ e).0
 pub hex-numeral : (t : List ℕ) → list_all is_hex_digit t ≡ true → 0 < length t → IsNumeral 16 t
 hex-numeral t e f = (f, digits-sixteen t e)
 
--- a `+` is no digit
+-- a `+` is not a digit
 plain : (p : ℕ → Bool) (t : List ℕ) → p 43 ≡ false → list_all p t ≡ true → without_leading_plus t ≡ t
 plain p [] f e = refl
 plain p (b ∷ t) f e =

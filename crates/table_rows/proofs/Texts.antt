@@ -21,7 +21,7 @@ pub all-map : {X : Type 0} (P Q : X → Type 0) (xs : List X) → ((x : X) → P
 all-map P Q [] f h = h
 all-map P Q (x ∷ xs) f h = (f x h.0, all-map P Q xs f h.1)
 
--- every byte is none of the blanks
+-- no byte is a blank
 abbrev pub NoBlanks : Text → Type 0
 NoBlanks t = AllByRecursion (λ b. is_blank b ≡ false) t
 

@@ -28,6 +28,7 @@ abbrev pub rows_from : State → Option (List ℕ) → List (List (List ℕ))
 rows_from s None = []
 rows_from s (Some bytes) = records_from table_config (length bytes + 1) s bytes
 
+-- the rows that a reader still gives, from its state and the bytes that it has not taken yet
 abbrev pub bytes_left : Reader (Bor (List ℕ)) → List (List (List ℕ))
 bytes_left r = rows_from (reader_state r) (source r)
 
@@ -44,6 +45,7 @@ abbrev pub rows_left : Bool → Reader (Bor (List ℕ)) → List (List (List ℕ
 rows_left true r = []
 rows_left false r = bytes_left r
 
+-- a reader that has not ended stands between two rows; nothing is asked of one that has ended
 abbrev pub IsAtRow : Bool → Reader (Bor (List ℕ)) → Type 0
 IsAtRow true r = ⊤
 IsAtRow false r = IsBetweenRows r

@@ -5,7 +5,7 @@ use Rattle.std.specs.List.{list_all, slice_get}
 pub use Rattle.papi_base.specs.Numerals.{is_digit, is_empty, is_hex_digit}
 unfoldable pub use Rattle.papi_base.specs.Numerals.{decimal_in, hex_in, is_decimal, is_numeral}
 
--- bytes
+-- the bytes of a text
 abbrev pub Text : Type 0
 Text = List ℕ
 
@@ -13,7 +13,7 @@ Text = List ℕ
 abbrev pub is_blank : ℕ → Bool
 is_blank b = (b == 32) || (b == 9)
 
--- a text with no space or tab in front
+-- a text without the spaces and tabs that it begins with
 unfoldable pub without_front : Text → Text
 without_front [] = []
 without_front (b ∷ rest) = if is_blank b then without_front rest else b ∷ rest
@@ -32,6 +32,7 @@ is_skipped first = (length first == 0) || (slice_index first 0 == 35)
 
 -- ---- names
 
+-- a letter, a digit, `_` or `-`
 abbrev pub is_name_byte : ℕ → Bool
 is_name_byte b = (nat_le 48 b && nat_le b 57) || ((nat_le 65 b && nat_le b 90) || ((nat_le 97 b && nat_le b 122) || ((b == 95) || (b == 45))))
 
@@ -39,9 +40,10 @@ is_name_byte b = (nat_le 48 b && nat_le b 57) || ((nat_le 65 b && nat_le b 90) |
 unfoldable pub is_name : Text → Bool
 is_name t = nat_le 1 (length t) && (nat_le (length t) 64 && list_all is_name_byte t)
 
+-- a byte from a space to `~`
 abbrev pub is_printable_byte : ℕ → Bool
 is_printable_byte b = nat_le 32 b && nat_le b 126
 
--- from a space to `~`
+-- all bytes are from a space to `~`
 abbrev pub is_printable : Text → Bool
 is_printable t = list_all is_printable_byte t

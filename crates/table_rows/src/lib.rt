@@ -1,6 +1,6 @@
 //! Rows of a table of comma-separated fields, and what its fields say: names, numbers and printable texts.
 //!
-//! Unit files, preset files and maps are such tables. Fields have no quotes, a line that begins with `#` is no row,
+//! Unit files, preset files and maps are such tables. Fields have no quotes, a line that begins with `#` is not a row,
 //! and a field is taken without the spaces and tabs at its ends.
 #![tactic(auto)]
 

@@ -37,7 +37,7 @@ pub fn is_printable(bytes: &[u8]) -> bool
     bytes.iter().all(|&b| is_printable_byte(b))
 }
 
-/// The text of bytes that are a name, and `None` where they are none.
+/// The text of bytes that are a name, and `None` where they are not.
 pub fn name_text(bytes: &[u8]) -> Option<&str>
     ensures { option_map (λ s. s.now) result ≡ (if Texts.is_name bytes.now then Some bytes.now else None) }
 {

@@ -10,7 +10,8 @@ returns-then-is_armed_on c =
     let same = c.events-events.ensures.events in
     let one = c.events-events.ensures.sound.one_threshold_each in
     let event : slice_get s.events c.loop-i.i ≡ Some c.at.result = sym (ap (λ es. slice_get es c.loop-i.i) same) ∙ c.at.ensures.item in
-    let threshold : slice_get s.thresholds c.loop-i.i ≡ Some c.threshold.result = number_at s.thresholds c.loop-i.i (omega (arith, one, ap length same, c.len-i-end.ensures.length, c.loop-i-test.true)) ∙ ap Some (sym c.threshold.ensures) in
+    let threshold : slice_get s.thresholds c.loop-i.i ≡ Some c.threshold.result = number_at s.thresholds c.loop-i.i
+    (omega (arith, one, ap length same, c.len-i-end.ensures.length, c.loop-i-test.true)) ∙ ap Some (sym c.threshold.ensures) in
     let at = armed_at c.args.book.now c.args.e.now c.args.n.now s.events s.thresholds c.loop-i.i c.threshold.result c.at.result event threshold in
     let rest = armed_elsewhere c.args.book.now c.args.e.now c.args.n.now (drop (c.loop-i.i + 1) s.events) (drop (c.loop-i.i + 1) s.thresholds) in
     sym (sym c.loop-i.invariant ∙ (at ∙ ap (λ b. b || rest) (sym c.is_armed_on.ensures ∙ c.if-is_armed_on.true)))
@@ -21,7 +22,8 @@ loop-i-preserved c =
     let same = c.events-events.ensures.events in
     let one = c.events-events.ensures.sound.one_threshold_each in
     let event : slice_get s.events c.loop-i.i ≡ Some c.at.result = sym (ap (λ es. slice_get es c.loop-i.i) same) ∙ c.at.ensures.item in
-    let threshold : slice_get s.thresholds c.loop-i.i ≡ Some c.threshold.result = number_at s.thresholds c.loop-i.i (omega (arith, one, ap length same, c.len-i-end.ensures.length, c.loop-i-test.true)) ∙ ap Some (sym c.threshold.ensures) in
+    let threshold : slice_get s.thresholds c.loop-i.i ≡ Some c.threshold.result = number_at s.thresholds c.loop-i.i
+    (omega (arith, one, ap length same, c.len-i-end.ensures.length, c.loop-i-test.true)) ∙ ap Some (sym c.threshold.ensures) in
     let at = armed_at c.args.book.now c.args.e.now c.args.n.now s.events s.thresholds c.loop-i.i c.threshold.result c.at.result event threshold in
     let rest = armed_elsewhere c.args.book.now c.args.e.now c.args.n.now (drop (c.loop-i.i + 1) s.events) (drop (c.loop-i.i + 1) s.thresholds) in
     sym (at ∙ ap (λ b. b || rest) (sym c.is_armed_on.ensures ∙ c.if-is_armed_on.false)) ∙ c.loop-i.invariant

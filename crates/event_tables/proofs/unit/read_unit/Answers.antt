@@ -39,7 +39,9 @@ returns-in-Err c =
     let inv = c.loop-components.invariant in
     let read : c.loop-components.reader ≡ fields_of c.read_row.new.row ∷ c.read_row.new.self = rw c.if-branch.true at c.in_ok-read_row.ensures.next in
     let next = next-row rows c.loop-components.place (fields_of c.read_row.new.row) c.read_row.new.self (sym inv.left ∙ read) in
-    rw c.fault_at.ensures (refused c.args.bytes.now (map line_of rows) c.loop-components.place (row_line c.row_of.result) (map component_text c.loop-components.components.items) (map component_text c.add_row.new.components.items) c.in-Err.refusal refl next.inside (next.line ∙ sym c.row_of.ensures) inv.added c.in-Err.ensures.adds)
+    rw c.fault_at.ensures (refused c.args.bytes.now (map line_of rows) c.loop-components.place (row_line c.row_of.result)
+    (map component_text c.loop-components.components.items) (map component_text c.add_row.new.components.items) c.in-Err.refusal refl next.inside
+    (next.line ∙ sym c.row_of.ensures) inv.added c.in-Err.ensures.adds)
 
 pub returns : goal.returns
 returns c =

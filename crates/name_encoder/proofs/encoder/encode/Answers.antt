@@ -31,7 +31,8 @@ returns-in_err-given-clause-names c =
     let kept = found-kept (parts_split c.parts_of-parts.result) 0 c.args.t.now (found_text c.in-Some.found) found c.find.ensures.kept.each in
     let given = rw c.as_slice.ensures.value at c.given_by.ensures in
     let same : c.from_residual.result ≡ Err c.in_err-given.field-0.0 = search rules in
-    same ∙ ap (native_next (found_text c.in-Some.found)) (sym c.in_err-given.was) ∙ encoded c.args.t.now c.args.text.now (parts_split c.parts_of-parts.result) f c.given_by.result is found kept.1.few given
+    same ∙ ap (native_next (found_text c.in-Some.found)) (sym c.in_err-given.was)
+    ∙ encoded c.args.t.now c.args.text.now (parts_split c.parts_of-parts.result) f c.given_by.result is found kept.1.few given
 
 pub native_of-requires-clause-few_counters : goal.native_of-requires-clause-few_counters
 native_of-requires-clause-few_counters c =

@@ -6,7 +6,9 @@ use Rattle.name_encoder.proofs.Unnamed.{given-none, unnamed}
 use Rattle.name_encoder.proofs.found.find.Goals as goal
 
 pub returns-in-Some-clause-found : goal.returns-in-Some-clause-found
-returns-in-Some-clause-found c = sym (c.loop-comp.invariant ∙ component-here (parts_split c.args.parts.now) c.args.tables.now c.loop-comp.comp (found_text c.in-Some.found) (omega arith) (sym (rw c.in-Some.is at c.found_at.ensures)))
+returns-in-Some-clause-found c = sym (c.loop-comp.invariant
+    ∙ component-here (parts_split c.args.parts.now) c.args.tables.now c.loop-comp.comp (found_text c.in-Some.found) (omega arith)
+    (sym (rw c.in-Some.is at c.found_at.ensures)))
 
 pub loop-comp-preserved : goal.loop-comp-preserved
 loop-comp-preserved c = c.loop-comp.invariant ∙ component-later (parts_split c.args.parts.now) c.args.tables.now c.loop-comp.comp (omega arith) (sym (rw c.in_default.is at c.found_at.ensures))

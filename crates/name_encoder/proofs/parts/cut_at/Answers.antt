@@ -1,11 +1,11 @@
 use Rattle.std.proofs.Common.{◌≡◌, ◌∙◌, ◌-◌, true, false, length, take, drop, sym, arith, nat_eq, length-drop}
 use Rattle.std.proofs.lemmas.List.{take_all}
 use Rattle.std.specs.List.{starts_with}
-use Rattle.name_encoder.proofs.Cuts.{behind-none, cut-here, cut-later, cut-never}
+use Rattle.name_encoder.proofs.Cuts.{with_front-none, cut-here, cut-later, cut-never}
 use Rattle.name_encoder.proofs.parts.cut_at.Goals as goal
 
 pub loop-i-init : goal.loop-i-init
-loop-i-init c = sym (behind-none _)
+loop-i-init c = sym (with_front-none _)
 
 pub returns-then-starts_with : goal.returns-then-starts_with
 returns-then-starts_with c =

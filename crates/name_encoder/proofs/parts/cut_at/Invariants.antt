@@ -1,7 +1,7 @@
 use Rattle.std.proofs.Common.{◌≡◌, drop, take}
 use Rattle.name_encoder.specs.Split.{cut_at}
-use Rattle.name_encoder.proofs.Cuts.{behind}
+use Rattle.name_encoder.proofs.Cuts.{with_front}
 use Rattle.name_encoder.proofs.parts.cut_at.Given as goal
 
 abbrev pub invariant-loop-i : goal.invariant-loop-i
-invariant-loop-i l = cut_at l.mark l.text ≡ behind (take l.i l.text) (cut_at l.mark (drop l.i l.text))
+invariant-loop-i l = cut_at l.mark l.text ≡ with_front (take l.i l.text) (cut_at l.mark (drop l.i l.text))

@@ -13,4 +13,5 @@ loop-range-preserved c =
     let at = at-range c.args.ranges.now c.loop-range.range c.index-ranges-range.result c.index-ranges-range.is lt in
     let new : Placed = record { start = (get_or c.args.ranges.now c.loop-range.range c.index-ranges-range.result).start; range = c.loop-range.range } in
     rw c.in_ok-push.ensures.items
-    (places-more (map range_text c.args.ranges.now) c.loop-range.range c.loop-range.places.items new c.loop-range.invariant (ap (option_map (λ (r : RangeText). r.start)) at ∙ ap (λ (r : MapRange). Some r.start) c.index-ranges-range.is) refl)
+    (places-more (map range_text c.args.ranges.now) c.loop-range.range c.loop-range.places.items new c.loop-range.invariant
+    (ap (option_map (λ (r : RangeText). r.start)) at ∙ ap (λ (r : MapRange). Some r.start) c.index-ranges-range.is) refl)

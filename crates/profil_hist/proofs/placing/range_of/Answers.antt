@@ -19,7 +19,8 @@ returns-then-below-eq0 c =
 
 pub offset_bounds-ranges-range : goal.offset_bounds-ranges-range
 offset_bounds-ranges-range c =
-    let lt = placed-within c.args.ranges.now (get_or c.args.order.now (c.count_below-below.result - 1) any_place) (c.requires.ordered.all.right (c.count_below-below.result - 1) any_place (omega arith)) in
+    let lt = placed-within c.args.ranges.now (get_or c.args.order.now (c.count_below-below.result - 1) any_place)
+    (c.requires.ordered.all.right (c.count_below-below.result - 1) any_place (omega arith)) in
     omega (arith, lt, c.requires.kept.few, length-map c.args.ranges.now range_text)
 
 pub bounds-ranges-range : goal.bounds-ranges-range

@@ -33,7 +33,9 @@ returns-in-Err c =
     let inv = c.loop-ranges.invariant in
     let read : c.loop-ranges.reader ≡ fields_of c.read_row.new.row ∷ c.read_row.new.self = rw c.if-branch.true at c.in_ok-read_row.ensures.next in
     let next = next-row rows c.loop-ranges.place (fields_of c.read_row.new.row) c.read_row.new.self (sym inv.left ∙ read) in
-    rw c.fault_at.ensures (refused c.args.bytes.now (map line_of rows) c.loop-ranges.place (row_line c.row_of.result) (map range_text c.loop-ranges.ranges.items) (map range_text c.add_row.new.ranges.items) c.in-Err.refusal refl next.inside (next.line ∙ sym c.row_of.ensures) inv.added c.in-Err.ensures)
+    rw c.fault_at.ensures (refused c.args.bytes.now (map line_of rows) c.loop-ranges.place (row_line c.row_of.result)
+    (map range_text c.loop-ranges.ranges.items) (map range_text c.add_row.new.ranges.items) c.in-Err.refusal refl next.inside
+    (next.line ∙ sym c.row_of.ensures) inv.added c.in-Err.ensures)
 
 pub returns : goal.returns
 returns c =

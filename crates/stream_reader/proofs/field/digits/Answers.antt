@@ -1,7 +1,8 @@
 use Rattle.std.proofs.Common.{◌∙◌, ◌<◌, IfSome, subst, sym, arith, inl, inr}
 use Rattle.stream_reader.proofs.FieldSteps.{at-space, at-end, at-other, at-digit, too-large}
 use Rattle.stream_reader.proofs.field.digits.Goals as goal
-use Rattle.stream_reader.proofs.field.digits.Goals.{then-byte-lt48-via-then-byte-lt48, then-byte-lt48-via-else-byte-lt48+then-byte-gt57, then-byte-lt48-via-else-byte-lt48+else-byte-gt57+then-value-greatest}
+use Rattle.stream_reader.proofs.field.digits.Goals.{then-byte-lt48-via-then-byte-lt48, then-byte-lt48-via-else-byte-lt48+then-byte-gt57}
+use Rattle.stream_reader.proofs.field.digits.Goals.{then-byte-lt48-via-else-byte-lt48+else-byte-gt57+then-value-greatest}
 
 pub returns-then-byte-eq32-clause-value : goal.returns-then-byte-eq32-clause-value
 returns-then-byte-eq32-clause-value c =

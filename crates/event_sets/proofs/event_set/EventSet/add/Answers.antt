@@ -234,7 +234,8 @@ invariant_of-self c =
     let size = ap (λ (m : MatchingView). m.counters) begun ∙ begun_counters book shape e s n ready all joins counters counted c.self.inside.matching matched in
     let few_counters : counters ≤ 32 = omega (arith, c.counters-counters.ensures.length, c.counters-counters.ensures.short) in
     rw (c.push.ensures.pushed, c.push-2.ensures.pushed) (
-      subst IsSound (ap (λ (v : SetView). pushed v e n.comp all counters) (sym view)) (added_sound book shape e s n ready all joins counters counted few_events c.in-Some.ensures.few few_counters assignable unclashed),
+      subst IsSound (ap (λ (v : SetView). pushed v e n.comp all counters) (sym view))
+          (added_sound book shape e s n ready all joins counters counted few_events c.in-Some.ensures.few few_counters assignable unclashed),
       record {
         counters = c.clash.ensures.counters none_told ∙ size;
         natives = λ unshared. c.clash.ensures.given unshared none_told;

@@ -20,5 +20,6 @@ invariant_of-self c =
     let same : s.component ≡ Some comp → s.counters ≡ counters = λ is.
     ap (λ (v : SetView). v.counters) view ∙ (c.requires.counters ∙ (ap (λ o. length (widths_at shape o)) (sym (ap (λ (v : SetView). v.rest.component) view) ∙ is) ∙ sym counted)) in (
       assigned_sound comp counters was own few same c.self.invariant.0,
-      subst (λ (m : MatchingView). IsMatched (assigned comp counters was) m) (sym c.begun-self-inside.ensures) (assigned_matched comp counters was s.matching own same c.self.invariant.0 c.self.invariant.1),
+      subst (λ (m : MatchingView). IsMatched (assigned comp counters was) m) (sym c.begun-self-inside.ensures)
+          (assigned_matched comp counters was s.matching own same c.self.invariant.0 c.self.invariant.1),
     )

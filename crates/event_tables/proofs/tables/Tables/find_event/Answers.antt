@@ -11,7 +11,8 @@ use Rattle.event_tables.proofs.tables.Tables.find_event.Goals as goal
 
 pub returns-in-Some : goal.returns-in-Some
 returns-in-Some c =
-    let at : slice_get c.self.inside.components.items c.args.comp ≡ Some c.in-Some.c.now = rw c.as_slice.ensures.value at (item-some c.as_slice.result.now c.args.comp c.in-Some.c.now c.in-Some.ensures.lookup.1 c.in-Some.ensures.lookup.3.0) in
+    let at : slice_get c.self.inside.components.items c.args.comp ≡ Some c.in-Some.c.now = rw c.as_slice.ensures.value at
+    (item-some c.as_slice.result.now c.args.comp c.in-Some.c.now c.in-Some.ensures.lookup.1 c.in-Some.ensures.lookup.3.0) in
     let indexed = all-found IsIndexed c.self.inside.components.items c.args.comp c.in-Some.c.now c.self.invariant.indexed at in
     let view : slice_get c.args.self.now c.args.comp ≡ Some (component_text c.in-Some.c.now) =
     sym (ap (λ (t : List ComponentText). slice_get t c.args.comp) c.self.view_is) ∙ slice_get-map component_text c.self.inside.components.items c.args.comp ∙ ap (option_map component_text) at in

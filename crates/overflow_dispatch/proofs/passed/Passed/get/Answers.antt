@@ -14,8 +14,11 @@ pub loop-index-preserved : goal.loop-index-preserved
 loop-index-preserved c =
     let bits = c.self.inside.bits in
     elim c.if-self-index-eq1.branch [
-      | then-self-index-eq1+else-place-i w ↦ rw w.place-is (passed_one bits c.args.i c.loop-index.place c.loop-index.index (omega arith) (sym (shr_and_one bits c.loop-index.index) ∙ w.if-self-index-eq1.true) w.if-place-i.false c.loop-index.invariant)
-      | else-self-index-eq1 w ↦ rw w.place-is (passed_none bits c.args.i c.loop-index.place c.loop-index.index (omega arith) (λ is. w.if-self-index-eq1.false (shr_and_one bits c.loop-index.index ∙ is)) c.loop-index.invariant)
+      | then-self-index-eq1+else-place-i w ↦ rw w.place-is
+          (passed_one bits c.args.i c.loop-index.place c.loop-index.index (omega arith)
+          (sym (shr_and_one bits c.loop-index.index) ∙ w.if-self-index-eq1.true) w.if-place-i.false c.loop-index.invariant)
+      | else-self-index-eq1 w ↦ rw w.place-is (passed_none bits c.args.i c.loop-index.place c.loop-index.index (omega arith)
+          (λ is. w.if-self-index-eq1.false (shr_and_one bits c.loop-index.index ∙ is)) c.loop-index.invariant)
     ]
 
 pub returns : goal.returns

@@ -15,7 +15,9 @@ invariant_of-self c =
     let bits = c.self.inside.bits in
     let index = c.args.index in
     let above : All (λ k. k < index) (places_from bits 0 32) = rw c.self.view_is c.requires.above in
-    let more = place_more bits _ index 0 32 (bit_at_set_same w32 bits index c.requires.below) (λ k apart. bit_at_set_other w32 bits index c.requires.below k apart) (none_above bits index (omega arith) above) (omega arith) (omega (arith, c.requires.below)) in
+    let more = place_more bits _ index 0 32 (bit_at_set_same w32 bits index c.requires.below)
+    (λ k apart. bit_at_set_other w32 bits index c.requires.below k apart) (none_above bits index (omega arith) above) (omega arith)
+    (omega (arith, c.requires.below)) in
     record { many = ap (λ n. n + 1) c.self.invariant.many ∙ sym (ap length more ∙ length-append (places_from bits 0 32) (index ∷ [])) }
 
 pub returns : goal.returns
@@ -23,5 +25,6 @@ returns c =
     let bits = c.self.inside.bits in
     let index = c.args.index in
     let above : All (λ k. k < index) (places_from bits 0 32) = rw c.self.view_is c.requires.above in
-    place_more bits _ index 0 32 (bit_at_set_same w32 bits index c.requires.below) (λ k apart. bit_at_set_other w32 bits index c.requires.below k apart) (none_above bits index (omega arith) above) (omega arith) (omega (arith, c.requires.below))
+    place_more bits _ index 0 32 (bit_at_set_same w32 bits index c.requires.below) (λ k apart. bit_at_set_other w32 bits index c.requires.below k apart)
+    (none_above bits index (omega arith) above) (omega arith) (omega (arith, c.requires.below))
     ∙ ap (λ places. places ++ index ∷ []) c.self.view_is
