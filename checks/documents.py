@@ -20,9 +20,10 @@ class Shown:
 
 @dataclass
 class Block:
-    """A fenced block: the line where it begins, its marks (`file=NAME`, `part=NAME`), its text, and its commands."""
+    """A fenced block: the line where it begins, its kind, its marks (`file=NAME`, `part=NAME`, `needs=NAME,..`), its text, and its commands."""
 
     line: int
+    kind: str
     marks: dict[str, str]
     text: str = ""
     examples: list[Shown] = field(default_factory=list)
@@ -39,7 +40,7 @@ def blocks_of(path: Path) -> list[Block]:
         kind, *marks = lines[number][3:].split() or [""]
         end = lines.index("```", number + 1)
         body = lines[number + 1 : end]
-        block = Block(number + 1, dict(mark.split("=", 1) for mark in marks), "".join(f"{line}\n" for line in body))
+        block = Block(number + 1, kind, dict(mark.split("=", 1) for mark in marks), "".join(f"{line}\n" for line in body))
         if kind == "console":
             block.examples = commands_in(body)
         blocks.append(block)
@@ -110,13 +111,26 @@ def lines_with_names(path: Path) -> list[tuple[int, list[Path], list[str]]]:
 
 
 def names_in(files: list[Path]) -> set[str]:
-    """All words of these files, or of the sources and definitions of these crates."""
+    """The functions that these files define, or all words of the sources and definitions of these crates."""
     return set().union(*(_names(file) for file in files))
 
 
+def crates_in(path: Path) -> set[str]:
+    """The crates in the first cells of the tables whose second column is headed `Holds`."""
+    found: set[str] = set()
+    is_inside = False
+    for _, line in prose_of(path):
+        cells = [cell.strip() for cell in line.strip().strip("|").split("|")]
+        is_inside = line.startswith("|") and (is_inside or cells[1:] == ["Holds"])
+        if is_inside:
+            found.update(re.findall(r"`(\w+)`", cells[0]))
+    return found
+
+
 @lru_cache(maxsize=None)
-def _names(file: Path) -> frozenset[str]:
+def _names(file: Path, is_alone: bool = True) -> frozenset[str]:
     if file.is_dir():
         inside = [*file.glob("src/*.rt"), *file.glob("specs/*.antt")]
-        return frozenset().union(*(_names(path) for path in inside))
-    return frozenset(re.findall(r"\w+", file.read_text(encoding="utf-8"))) if file.exists() else frozenset()
+        return frozenset().union(*(_names(path, False) for path in inside))
+    text = file.read_text(encoding="utf-8") if file.exists() else ""
+    return frozenset(re.findall(r"\bfn (\w+)" if is_alone else r"\w+", text))

@@ -1,11 +1,11 @@
-"""Unit files, preset files, scripts, streams, names and words at random: mostly in their form, and then changed here and there."""
+"""Unit files, preset files, scripts, region scripts, streams, names and words at random: mostly in their form, and then changed here and there."""
 
 from __future__ import annotations
 
 from dataclasses import dataclass, field
 from random import Random
 
-from running import EXAMPLES
+from running import EXAMPLES, RUNNING
 
 NUMBERS = [
     "0", "1", "2", "3", "5", "8", "31", "32", "33", "63", "64", "65", "255", "256", "500", "1000", "65535", "65536", "1000000", "1000001",
@@ -21,10 +21,14 @@ SYMBOLS = [
     "PAPI_LD_INS", "PAPI_SR_INS", "PAPI_BR_INS", "PAPI_RES_STL", "PAPI_TOT_CYC", "PAPI_LST_INS", "PAPI_FP_OPS", "PAPI_REF_CYC",
     "PAPI_TOT_INS", "PAPI_BR_INS", "PAPI_RES_STL", "PAPI_BR_PRC", "papi_tot_ins", "PAPI_NOPE", "PAPI_",
 ]  # fmt: skip
-TYPES = ["NOT_DERIVED", "DERIVED_ADD", "DERIVED_SUB", "DERIVED_POSTFIX"] * 3 + [
-    "DERIVED_INFIX", "DERIVED_PS", "DERIVED_ADD_PS", "DERIVED_CMPD", "not_derived", "DERIVED_X", "",
+TYPES = ["NOT_DERIVED", "DERIVED_ADD", "DERIVED_SUB", "DERIVED_POSTFIX", "DERIVED_INFIX"] * 3 + [
+    "DERIVED_PS", "DERIVED_ADD_PS", "DERIVED_CMPD", "not_derived", "DERIVED_X", "",
 ]  # fmt: skip
 TOKENS = ["N0", "N1", "N0", "N1", "+", "-", "*", "/", "0", "1", "2", "1000000", "N2", "N7", "N8", "#", "x", "", " ", "-1", "9223372036854775808"]
+OPERANDS = ["N0", "N1", "N0", "N1", "0", "1", "2", "7", "1000000", "N2", "N7", "9223372036854775807"]
+INFIX = [*OPERANDS, "+", "-", "*", "/", "(", ")", "(", ")", " ", "\t", "N", "N8", "#", "x", "00", "01", "-1", "9223372036854775808", "N0N1", "|"]
+USER_EVENTS = ["OWN", "W1", "own", "STALL2", "CYCLES", "2", "_", "u", "U" * 32]
+ODD_USER_EVENTS = ["U" * 33, "PAPI_X", "PAPI_TOT_INS", "papi_x", "a-b", "", "a b", "\u00e9", "PAPI_"]
 CALLS = {
     "register": "", "unregister": "", "threads": "", "create": "", "destroy": "s", "cleanup": "s", "add": "se", "remove": "se",
     "component": "sn", "domain": "sd", "multiplex": "sn", "overflow": "seo", "start": "s", "stop": "s", "read": "s", "accum": "s",
@@ -36,7 +40,7 @@ MODIFIERS = ["u", "k", "e", "i", "u=0", "k=1", "e=y", "i=n", "c=0", "c=1", "c=2"
 
 
 ODD_FILES = ["absent", "folder", "unit/x", "/dev/null", "/dev/zero", "/proc/self/mem", ""]
-ODD_WORDS = ["", "-", "--", "-U", "-P", "-C", "-a", "-e", "-x", "--notes", "--workers", "--help", "-h", "--version", "-Uunit", "x" * 5000]
+ODD_WORDS = ["", "-", "--", "-U", "-P", "-C", "-a", "-e", "-x", "--notes", "--workers", "--events", "--help", "-h", "--version", "-Uunit", "x" * 5000]
 
 
 @dataclass
@@ -103,7 +107,7 @@ def component(rng: Random, number: int) -> str:
 def name(rng: Random, drawn: Drawn) -> str:
     """The name of an event, or of a preset, or a text that is like one."""
     if rarely(rng, 6):
-        return rng.choice(SYMBOLS)
+        return rng.choice(SYMBOLS + USER_EVENTS)
     text = rng.choice(drawn.prefixes) if drawn.prefixes and rarely(rng, 3) else ""
     text += rng.choice(drawn.events) if drawn.events and not rarely(rng, 15) else rng.choice(NAMES)
     for _ in range(rng.choice([0, 0, 0, 1, 1, 2, 3])):
@@ -123,7 +127,7 @@ def presets(rng: Random, drawn: Drawn) -> str:
     if kind < 2:
         return example("lab.presets")
     if kind == 2:
-        return changed(rng, example("lab.presets"))
+        return changed(rng, example(rng.choice(["lab.presets", "user_events.presets"])))
     rows = ["CPU,lab1" if not rarely(rng, 20) else "# none"]
     fault = rarely(rng, 3)
     for _ in range(rng.randint(0, 30)):
@@ -133,12 +137,17 @@ def presets(rng: Random, drawn: Drawn) -> str:
 
 
 def preset(rng: Random, drawn: Drawn, fault: bool) -> str:
-    derived = rng.choice(TYPES if fault else TYPES[:12])
+    """A row of a preset or of a user event."""
+    derived = rng.choice(TYPES if fault else TYPES[:15])
     count = rng.choice([1, 1, 2, 2, 3, 8, 9]) if fault else 1 if derived == "NOT_DERIVED" else rng.randint(2, 8)
     natives = [name(rng, drawn) if fault else printable(name(rng, drawn)) or "x" for _ in range(count)]
     fields = ["PRESET", rng.choice(SYMBOLS), derived]
-    if derived in ("DERIVED_POSTFIX", "DERIVED_INFIX"):
+    if rarely(rng, 3):
+        fields[:2] = ["EVENT", rng.choice(USER_EVENTS + ODD_USER_EVENTS if fault else USER_EVENTS)]
+    if derived == "DERIVED_POSTFIX":
         fields.append("|".join(rng.choice(TOKENS) for _ in range(rng.randint(0, 40))) if fault else formula(rng, len(natives)))
+    elif derived == "DERIVED_INFIX":
+        fields.append("".join(rng.choice(INFIX) for _ in range(rng.randint(0, 40))) if fault else infix(rng, len(natives), rng.randint(0, 6)))
     return rng.choice([",", ",", ", "]).join(fields + natives + rng.choice([[], [], ["NOTE", "a note"]]))
 
 
@@ -152,6 +161,19 @@ def formula(rng: Random, natives: int) -> str:
             tokens.append(rng.choice([f"N{rng.randrange(natives)}", f"N{rng.randrange(natives)}", str(rng.randrange(100)), "9223372036854775807"]))
             waiting += 1
     return "|".join(tokens + [rng.choice("+-*/") for _ in range(waiting - 1)]) + "|"
+
+
+def infix(rng: Random, natives: int, depth: int) -> str:
+    """A formula in infix order, with parentheses at most so deep."""
+    blank = rng.choice(["", "", " ", "\t"])
+    parts = []
+    for _ in range(rng.randint(1, 4)):
+        if depth and rarely(rng, 3):
+            parts.append(f"({infix(rng, natives, depth - 1)})")
+        else:
+            parts.append(rng.choice([f"N{rng.randrange(natives)}", f"N{rng.randrange(natives)}", str(rng.randrange(100)), "9223372036854775807"]))
+        parts.append(f"{blank}{rng.choice('+-*/')}{blank}")
+    return "".join(parts[:-1])
 
 
 def script(rng: Random, drawn: Drawn) -> str:
@@ -194,6 +216,63 @@ def argument(rng: Random, kind: str, drawn: Drawn, fault: bool) -> str:
     return rng.choice(["0", "1", "2", "3", "15", "16", "1000", "1000000", "1000001", "4294967295"])
 
 
+REGIONS = ["outer", "inner", "loop", "a", "b", "A", "x_2", "1-2", "-", "r" * 64]
+MOST_OPEN = 32
+
+
+def regions(rng: Random) -> str:
+    """A region script of papi_regions."""
+    kind = rng.randrange(10)
+    if kind == 0:
+        return changed(rng, example("regions.script"))
+    if kind == 1 and rarely(rng, 10):
+        return rng.choice(["0 run 0\n", "63 run 1\n", "# none\n", "0 begin a\n0 end a\n"]) * rng.choice([44_999, 45_000, 45_001, 89_999, 90_000, 90_001])
+    threads = rng.choice([["0"], ["0"], ["0", "1"], ["0", "1", "2"], ["3", "0", "63"], [str(thread) for thread in range(64)]])
+    opened: dict[str, list[str]] = {thread: [] for thread in threads}
+    fault, begins = rarely(rng, 8), ["begin"] * (40 if rarely(rng, 12) else 2)
+    lines = []
+    for _ in range(rng.choice([0, 5, 20, 60, 300])):
+        thread = rng.choice(threads)
+        lines.append(region_line(rng, thread, opened[thread], rng.choice([*begins, "run", "run", "read", "end", "end"]), fault and rarely(rng, 60)))
+    for thread, names in opened.items():
+        lines += [f"{thread} end {inner}" for inner in reversed(names) if not rarely(rng, 400)]
+    text = "\n".join(lines) + rng.choice(ENDS)
+    return changed(rng, text) if rarely(rng, 6) else text
+
+
+def region_line(rng: Random, thread: str, opened: list[str], call: str, fault: bool) -> str:
+    """A line of a thread with these open regions, of which it may begin or end one."""
+    if call in ("read", "end") and not opened or call == "begin" and len(opened) >= MOST_OPEN and not rarely(rng, 50):
+        call = "run"
+    if call == "run":
+        argument = rng.choice(["0", "1", "2", "5", "20", "100", "4294967295"])
+    elif call == "begin":
+        argument = rng.choice(REGIONS)
+        opened.append(argument)
+    else:
+        argument = opened[-1] if call == "read" else opened.pop()
+    words = [thread, call, argument]
+    if fault:
+        words[rng.randrange(3)] = rng.choice(NUMBERS + NAMES + REGIONS + ["begin", "read", "end", "run", "BEGIN", "start", "r" * 65])
+    if fault and rarely(rng, 4):
+        words.append(rng.choice(NUMBERS))
+    return rng.choice([" ", " ", " ", "  ", "\t", " \t "]).join(words)
+
+
+def event_list(rng: Random, drawn: Drawn) -> str:
+    """The events of papi_regions, with commas between them."""
+    count = rng.choice([31, 32, 33]) if rarely(rng, 30) else rng.choice([1, 1, 2, 2, 3, 5])
+    if drawn.events and not rarely(rng, 3):
+        plain = rng.sample(drawn.events, min(count, len(drawn.events)))
+        names = [(printable(event) or "x") + rng.choice(["", "", ":u", ":k", ":e", ":c=2"]) for event in plain]
+        names += rng.sample(SYMBOLS + USER_EVENTS, rng.choice([0, 0, 1]))
+    else:
+        names = [printable(name(rng, drawn)) or "x" for _ in range(count)]
+    if rarely(rng, 15):
+        names.insert(rng.randint(0, len(names)), rng.choice(["", " ", "a b", "\u00e9", "\x7f", names[0]]))
+    return ",".join(names)
+
+
 def address_map(rng: Random) -> str:
     """A map file of papi_profil."""
     if rarely(rng, 4):
@@ -214,7 +293,7 @@ def address_map(rng: Random) -> str:
 def stream(rng: Random, drawn: Drawn) -> str:
     kind = rng.randrange(10)
     if kind == 0:
-        return changed(rng, example(rng.choice(["overflow.stream", "threads.0.stream", "turns.stream", "presets.stream"])))
+        return changed(rng, example(rng.choice(["overflow.stream", "threads.0.stream", "turns.stream", "presets.stream", "regions.stream"])))
     stamped = rarely(rng, 3)
     lines, stamp = (["version 2"], rng.randrange(3)) if stamped else ([], 0)
     selects = drawn.selects or ["c0"]
@@ -281,7 +360,7 @@ def with_bytes_changed(rng: Random, text: str) -> str:
 
 
 def file(rng: Random, name: str) -> str:
-    """The name of a file, or now and then of one that is no plain file."""
+    """The name of a file, or now and then of one that is not a plain file."""
     return rng.choice(ODD_FILES) if rarely(rng, 50) else name
 
 
@@ -290,7 +369,7 @@ def words_of(rng: Random, tool: str, drawn: Drawn) -> list[str]:
     options = [["-U", file(rng, "unit")]]
     table = [["-P", file(rng, "presets")], ["-C", rng.choice(["lab1", "lab1", "lab2", "other", "none"])]]
     others: list[str] = []
-    if tool in ("papi_decode", "papi_avail") or tool in ("papi_run", "papi_profil", "papi_event_chooser") and rng.randrange(2):
+    if tool in ("papi_decode", "papi_avail") or tool in (*RUNNING, "papi_event_chooser") and rng.randrange(2):
         options += table
     if tool in ("papi_decode", "papi_avail") and rng.randrange(2):
         options.append(["-a"])
@@ -304,7 +383,9 @@ def words_of(rng: Random, tool: str, drawn: Drawn) -> list[str]:
         options += [[option, rng.choice(["0", "0", "1", "31", "63", "64"])] for option in ("--thread", "--set", "--index") if rarely(rng, 3)]
     if tool == "papi_run":
         options += [["--notes"]] * rng.randrange(2)
-    if tool in ("papi_run", "papi_profil"):
+    if tool == "papi_regions":
+        options += [["--events", event_list(rng, drawn)]]
+    if tool in RUNNING:
         options += [["--workers", rng.choice(["1", "2", "3", "64", "0", "65", "02"])]] * rarely(rng, 3)
         others = [file(rng, "script")] + [file(rng, f"stream{index}") for index in range(rng.randint(0, 3))]
         others += ["stream0"] * (rng.choice([60, 61, 62]) if rarely(rng, 20) else 0)

@@ -13,7 +13,7 @@ from dataclasses import dataclass, replace
 from pathlib import Path
 from typing import Callable, Iterator
 
-from running import BAD_WORDS, EXAMPLE_OF, EXAMPLES, READ_FAULT, REFUSED, Example, Program, Run, Tally, differs
+from running import BAD_WORDS, EXAMPLE_OF, EXAMPLES, NO, READ_FAULT, REFUSED, Example, Program, Run, Tally, differs
 
 NOBODY = 65534
 TABLE_LIMIT = 1_048_576
@@ -33,6 +33,10 @@ BROKEN_OFF = {
 range loop 0
 outside 0
 total 0
+""",
+    "papi_regions": b"""5 0 inner 0 0
+0 outer 1 0 0
+0 inner 2 0 0
 """,
 }
 
@@ -297,7 +301,7 @@ def check_files(tally: Tally, program: Program, tools: list[str]) -> None:
 
 @dataclass(frozen=True)
 class Several:
-    """Words of papi_run over the folder of `check_several`, and what is wanted."""
+    """Words over the folder of `check_several`, and what is wanted."""
 
     said: str
     words: str
@@ -320,6 +324,8 @@ BOTH_BROKEN = (
     .replace("note 1 0 0 0x500004\n", "")
 )
 RUN_THREADS = "papi_run -U lab.unit --notes threads.script"
+REGIONS_OF = "papi_regions --events INST_RETIRED,CYCLES -U"
+REFUSED_REGIONS = "papi_regions --events INST_RETIRED,PACKETS -U lab.unit regions.script"
 SEVERAL = [
     Several("the unit file before the script", "papi_run -U no folder", refused("papi: no such file: no\n")),
     Several("the unit file before the presets", "papi_run -U folder -P no -C lab1 first.script", refused("papi: cannot read: folder\n", READ_FAULT)),
@@ -339,6 +345,17 @@ SEVERAL = [
         "a stream fails and one is bad",
         f"{RUN_THREADS} bad.stream folder",
         refused("papi: stream 0: line 1: wrong number of fields\npapi: stream 1: read failed\n", READ_FAULT, BOTH_BROKEN),
+    ),
+    Several("the unit file before the region script", f"{REGIONS_OF} no.unit no", refused("papi: no such file: no.unit\n")),
+    Several("a bad region script, no stream", f"{REGIONS_OF} lab.unit regions_wrong.script no", refused("papi: regions_wrong.script: line 3: wrong region\n")),
+    Several("a region that is not ended, no stream", f"{REGIONS_OF} lab.unit open.script no", refused("papi: open.script: line 2: region not ended\n")),
+    Several("the stream of regions that is not opened", f"{REGIONS_OF} lab.unit regions.script no", refused("papi: no such file: no\n")),
+    Several("the events of regions before the stream is read", f"{REFUSED_REGIONS} folder", Run(NO, b"PACKETS: PAPI_EINVAL\n", b"")),
+    Several("the stream of regions is opened before the events are looked up", f"{REFUSED_REGIONS} no", refused("papi: no such file: no\n")),
+    Several(
+        "the stream of regions is bad at its second line",
+        f"{REGIONS_OF} lab.unit regions.script half.stream",
+        refused("papi: stream 0: line 2: bad field\n", out="5 0 inner 0 0\n0 outer 1 3 0\n0 inner 2 0 0\n"),
     ),
     Several("a stream that no run asks for", "papi_run -U lab.unit conflict.script folder", Example.named("conflict").wanted),
     Several("one file as both streams", "papi_run -U lab.unit first.script first.stream first.stream", Example.named("first").wanted),
@@ -371,7 +388,7 @@ def check_long_stream(tally: Tally, program: Program, folder: Path) -> None:
     tally.judge("a stream one byte above its limit", differs(program.run(words, folder), wanted))
 
 
-def check_several(tally: Tally, program: Program) -> None:
+def check_several(tally: Tally, program: Program, tools: list[str]) -> None:
     with tempfile.TemporaryDirectory() as made:
         folder = Path(made)
         copy_examples(folder)
@@ -380,7 +397,12 @@ def check_several(tally: Tally, program: Program) -> None:
         (folder / "bad.presets").write_text("PRESET,PAPI_TOT_INS,NOT_DERIVED,lab::CYCLES\n")
         (folder / "bad.script").write_text("0\n")
         (folder / "bad.stream").write_text("0  c0 00 u 1 1\n")
+        (folder / "half.stream").write_text("0 c0 00 u 3 1\n0 3c 00 u 256 1\n0 3c 00 u 1 1\n")
+        (folder / "open.script").write_text("0 begin a\n")
         for case in SEVERAL:
-            tally.judge(case.said, differs(program.run(case.words.split(), folder), case.wanted))
+            if case.words.split()[0] in tools:
+                tally.judge(case.said, differs(program.run(case.words.split(), folder), case.wanted))
+        if "papi_run" not in tools:
+            return
         check_descriptors(tally, program, folder)
         check_long_stream(tally, program, folder)

@@ -75,7 +75,7 @@ WAYS = {
 }
 
 # (the first of each tool, and what writes on standard error)
-OUTPUT_EXAMPLES = [*EXAMPLE_OF.values(), "overflow", "threads", "event_chooser_refused", "avail_unknown", "bad_line", "bad_width", "bad_words"]
+OUTPUT_EXAMPLES = [*EXAMPLE_OF.values(), "overflow", "threads", "event_chooser_refused", "avail_unknown", "regions_wrong", "bad_line", "bad_width", "bad_words"]
 
 
 def wanted_of(example: Example, output: str, takes: int) -> Run:

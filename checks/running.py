@@ -29,8 +29,12 @@ EXAMPLE_OF = {
     "papi_event_chooser": "event_chooser_presets",
     "papi_soak": "soak",
     "papi_profil": "profil",
+    "papi_regions": "regions_presets",
 }
 TOOLS = tuple(EXAMPLE_OF)
+
+# Those that run a script over streams.
+RUNNING = ("papi_run", "papi_profil", "papi_regions")
 
 WHOLE, NO, REFUSED, READ_FAULT, MEMORY, WRITE_FAULT = range(6)
 BAD_WORDS = b"papi: bad words\n"
@@ -161,6 +165,7 @@ UNIT_CAUSES = ["bad row", "over a limit", "repeated name", "width out of range",
 PRESET_CAUSES = ["preset before cpu", "bad field", "over a limit", "broken formula"]
 MAP_CAUSES = ["bad row", "over a limit", "repeated name", "ranges overlap"]
 SCRIPT_CAUSES = ["over a limit", "bad thread", "unknown call", "wrong arguments", "bad number"]
+REGION_CAUSES = ["wrong region", "region not ended"]
 STREAM_CAUSES = ["line too long", "stream too long", "wrong number of fields", "bad field", "stamp does not rise"]
 
 
@@ -175,13 +180,13 @@ ENDINGS = [
     (rf"papi: cannot read: (?P<name>.*)\n", READ_FAULT),
     (rf"papi: (?P<name>.*): too large\n", REFUSED),
     (rf"papi: (?P<name>.*): row [1-9][0-9]*: {_any(UNIT_CAUSES + PRESET_CAUSES + MAP_CAUSES)}\n", REFUSED),
-    (rf"papi: (?P<name>.*): line [1-9][0-9]*: {_any(SCRIPT_CAUSES)}\n", REFUSED),
+    (rf"papi: (?P<name>.*): line [1-9][0-9]*: {_any(SCRIPT_CAUSES + REGION_CAUSES)}\n", REFUSED),
 ]
 STREAM_LINE = rf"papi: stream ([0-9]|[1-5][0-9]|6[0-3]): (?:line [1-9][0-9]*: {_any(STREAM_CAUSES)}|(read failed))\n"
 
 
 def _ending(err: bytes, words: list[Word]) -> int | None:
-    """The status of the line that ended a call, or none where this is no such line."""
+    """The status of the line that ended a call, or None where this is not such a line."""
     for pattern, status in ENDINGS:
         match = re.fullmatch(pattern.encode(), err, re.DOTALL)
         if match:
@@ -226,7 +231,7 @@ def check_program(name: str, about: str, work: Callable[[argparse.Namespace, Pro
         parser.add_argument(option, **how)
     words = parser.parse_args()
     if not os.access(words.program, os.X_OK):
-        print(f"{name}: {words.program} is not built (cd crates/papi && rt run)")
+        print(f"{name}: {words.program} is not built (cd crates/papi && rt run -- papi_soak 1)")
         print("0 passed, 1 failed")
         sys.exit(1)
     try:

@@ -36,7 +36,7 @@ def preset_value(row: str, replies: list[str]) -> str:
     """The value where the row is about a value, and else whether the preset counts."""
     if len(replies) < 5 or not replies[1].startswith("PAPI_OK"):
         return "not available"
-    return replies[4].removeprefix("PAPI_OK ") if row.endswith("in a formula") else "counts"
+    return replies[4].removeprefix("PAPI_OK ") if row.endswith(" formula") else "counts"
 
 
 def code_words(replies: list[str]) -> str:
@@ -94,7 +94,7 @@ class Here:
 
     def __init__(self, program: Path):
         if not program.exists():
-            raise Missing(f"{program} is not built (cd crates/papi && rt run)")
+            raise Missing(f"{program} is not built (cd crates/papi && rt run -- papi_soak 1)")
         self.program = str(program)
         self.folder = tempfile.TemporaryDirectory()
         self._write("unit", UNIT)

@@ -9,6 +9,7 @@ from __future__ import annotations
 import os
 import shutil
 import subprocess
+import time
 from typing import IO, Iterator, NamedTuple
 
 from parts.command import Fault
@@ -19,6 +20,8 @@ LOAD = "L"
 STORE = "S"
 MODIFY = "M"
 TOTAL_LABEL = "guest instrs:"
+PAGE = 4096
+LONGEST_WAIT = 60.0  # seconds until the program is loaded
 
 
 class Access(NamedTuple):
@@ -30,7 +33,7 @@ class Access(NamedTuple):
 
 
 class TracedRun:
-    """A program that runs under lackey. Its trace comes by a pipe, so it waits for who reads."""
+    """A program that runs under lackey. Its trace comes by a pipe that is full at first, so it waits for who reads before it does anything."""
 
     def __init__(self, program: str, arguments: list[str], output: IO[str] | None):
         if shutil.which("valgrind") is None:
@@ -41,6 +44,7 @@ class TracedRun:
         self.path = os.path.realpath(path)
         self.total_instructions: int | None = None  # lackey's own count, known at the end
         reader, writer = os.pipe()
+        fill_with_blank_lines(writer)
         words = ["valgrind", "--tool=lackey", "--trace-mem=yes", f"--log-fd={writer}", path, *arguments]
         self._process = subprocess.Popen(words, pass_fds=[writer], stdout=output)
         os.close(writer)
@@ -56,13 +60,16 @@ class TracedRun:
                 self.total_instructions = int(line.split(TOTAL_LABEL)[1].replace(",", ""))
 
     def base(self) -> int:
-        """Where the program was loaded. It runs still: its trace was not read to the end."""
+        """Where the program was loaded, or 0 where its symbols have whole addresses. Asked before its trace is read, since it may end after that."""
         if not is_loaded_anywhere(self.path):
             return 0
-        with open(f"/proc/{self._process.pid}/maps", encoding="utf-8") as maps:
-            for line in maps:
-                if line.rstrip("\n").endswith(" " + self.path):
-                    return int(line.split("-")[0], 16)
+        end = time.monotonic() + LONGEST_WAIT
+        while self._process.poll() is None and time.monotonic() < end:
+            with open(f"/proc/{self._process.pid}/maps", encoding="utf-8") as maps:
+                for line in maps:
+                    if line.rstrip("\n").endswith(" " + self.path):
+                        return int(line.split("-")[0], 16)
+            time.sleep(0.01)
         raise Fault(f"{self.path}: where it was loaded is not known")
 
     def stop(self) -> None:
@@ -75,3 +82,12 @@ class TracedRun:
         """Waits for the end, and gives the program's status, or the number of a signal below zero."""
         self._trace.close()
         return self._process.wait()
+
+
+def fill_with_blank_lines(pipe: int) -> None:
+    os.set_blocking(pipe, False)
+    try:
+        while True:
+            os.write(pipe, b"\n" * PAGE)
+    except BlockingIOError:
+        os.set_blocking(pipe, True)

@@ -34,7 +34,7 @@ class Profile:
 
 def read_profile(lines: Iterable[str]) -> Profile:
     profile = Profile()
-    ended = ""  # the word of the last line that is no range's
+    ended = ""  # the word of the last line that is not a range's
     for number, line in enumerate(lines, start=1):
         try:
             ended = _take(profile, line.split(), ended)

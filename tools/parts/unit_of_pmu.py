@@ -54,7 +54,7 @@ class Account:
             lacking = counted(self.lacking_modifiers, "event")
             lines.append(f"taken all the same: the modifiers {' '.join(SAYABLE_MODIFIERS)}, of which libpfm4 lacks some for {lacking}")
         if with_files:
-            lines.append(f"counters: {self.counters_known:,} of {self.codes:,} codes are in the event files")
+            lines.append(f"counters: {self.counters_known:,} of {self.codes:,} codes have theirs in the event files")
         return lines
 
 
