@@ -1,35 +1,9 @@
 /* Each allocation of a library's life is refused in turn: the calls answer PAPI_ENOMEM, the handle can be used on, and nothing
- * leaks. Linked with --wrap=malloc, --wrap=realloc and --wrap=free. */
+ * leaks. */
 #include "kistalub.h"
+#include "refusing.h"
 #include "wanted.h"
 #include <string.h>
-
-void *__real_malloc(size_t n);
-void *__real_realloc(void *p, size_t n);
-void __real_free(void *p);
-
-static long left = -1, live;
-
-static int refused(void) {
-    if (left < 0) return 0;
-    return left-- == 0;
-}
-
-void *__wrap_malloc(size_t n) {
-    void *p = refused() ? NULL : __real_malloc(n);
-    if (p) live++;
-    return p;
-}
-
-void *__wrap_realloc(void *p, size_t n) {
-    if (!p) return __wrap_malloc(n);
-    return refused() ? NULL : __real_realloc(p, n);
-}
-
-void __wrap_free(void *p) {
-    if (p) live--;
-    __real_free(p);
-}
 
 static unsigned char unit[65536], presets[65536];
 static size_t unit_length, presets_length;
