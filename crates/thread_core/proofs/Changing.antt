@@ -3,20 +3,21 @@ use Rattle.thread_core.proofs.Words.{Option, Occ, ℕ, List, Kept, ◌≡◌, fa
 use Rattle.thread_core.proofs.Words.{measured, None, weight_of, Some, Turns, estimated_in, ap₂, estimate, active, weight_in_turn, map, replicate, [], ◌∷◌}
 use Rattle.thread_core.proofs.Words.{set_natives, Widths, slot_of, Slot, kept_after, Err, map_same, CoreView, Account, at, slot_faces, Bool, Face, Code}
 use Rattle.thread_core.proofs.Words.{code_before, refusal_of, Plain, is_absent, Enoevst, nat_le, runs, Ok, AtRest, option_map, here, not, Einval, Ecombo}
-use Rattle.thread_core.proofs.Words.{is_multiplexed, EventRef, if◌then◌else◌, is_some, CoreStands, AgreesWith, ◌<◌, is_on_sets, true, IsFor, IsGood, sets_after}
+use Rattle.thread_core.proofs.Words.{is_multiplexed, EventRef, if◌then◌else◌, is_some, AgreesWith, ◌<◌, is_on_sets, true, IsFor, IsGood, sets_after}
 use Rattle.thread_core.proofs.Words.{new_kept, change, reply_over, sight_of_kept, plain, Follows, Result, slice_set, subst, rest_code, Refusal, IsNamed, added}
 use Rattle.thread_core.proofs.Words.{refused, list_all, free, slice_get, ◌+◌, suc, done, map_put, slot_after, call_of, change_refusal, lacks_component, Enocmp}
 use Rattle.thread_core.proofs.Words.{Eisrun, Ecount, has_event, is_other, is_bad_domain, is_bad_slice, is_armed, cannot_arm, is_bad_threshold, shares_native}
 use Rattle.thread_core.proofs.Words.{cannot_take, is_full, clash_with, conflict_of, Conflict, ⊤, OnOk, IfErr, OnErr, changed_reply, new_slot, free_map}
-use Rattle.thread_core.proofs.Words.{slot_with_event, face_of}
+use Rattle.thread_core.proofs.Words.{slot_with_event, slot_with, counting_by, set-same, at-some, face_of}
 use Rattle.session_model.specs.declared.reply.Body.TheVariants as body
 use Rattle.session_model.specs.declared.call.Call.TheVariants as call
 use Rattle.papi_base.specs.declared.code.Code.TheVariants as code
 use Rattle.thread_slots.specs.declared.changing.Change.TheVariants as made
 use Rattle.event_sets.specs.Sets.{set_view}
-use Rattle.thread_core.proofs.Squares.{slot_of-stopped, stopped_slot}
+use Rattle.thread_core.proofs.Squares.{slot_of-stopped}
 use Rattle.thread_slots.specs.declared.changing.Change.{Change}
-use Rattle.thread_core.proofs.Looking.{Rests, rests, put_follows, units_rest, under, row_off}
+use Rattle.thread_core.proofs.Looking.{Has, has_slot, named, Under, under, runs_as, put_follows, units_rest, row_off}
+use Rattle.thread_slots.specs.declared.slot.Counting.TheVariants as counting
 use Rattle.thread_core.proofs.Following.{faces_stand, check_comes, codes_refuse, check_fails, none_comes, all_some_of_map, refused_follows, with_both, Goes}
 use Rattle.thread_core.proofs.Following.{done_follows}
 use Rattle.event_sets.specs.Adding.{add_refusal}
@@ -48,13 +49,11 @@ counted_none book past t stopped same =
     splat_is_map (set_natives book t.set) (length (set_natives book t.set)) 0 refl
     ∙ map_same (λ n. 0) (measured t.set.slice book past t) (λ n. sym (measured_empty book past t t.set.slice n stopped same)) (set_natives book t.set)
 
--- what is held of a stopped set, with another set at rest, other values and other counts, is what is held of the stopped set that has these
-pub put_stopped : (book : Book) (shape : Widths) (past : List Occ) (s t : Kept) (ks : List ℕ) → s.running ≡ false → t.running ≡ false → ks ≡ map (measured t.set.slice book past t) (set_natives book t.set)
-    → record (slot_of book shape past s) { set = set_view book shape t.set; running = t.running; values = t.values; kept = ks } ≡ slot_of book shape past t
-put_stopped book shape past s t ks stopped still same =
-    ap (λ (x : Slot). record x { set = set_view book shape t.set; running = t.running; values = t.values; kept = ks }) (slot_of-stopped book shape past s stopped)
-    ∙ ap (λ (xs : List ℕ). record (stopped_slot book shape past t) { kept = xs }) same
-    ∙ sym (slot_of-stopped book shape past t still)
+-- what is held of a stopped set, by its counts
+pub put_stopped : (book : Book) (shape : Widths) (past : List Occ) (t : Kept) (ks : List ℕ) → t.running ≡ false
+    → ks ≡ map (measured t.set.slice book past t) (set_natives book t.set) → slot_with book shape t (counting.Stopped ks) ≡ slot_of book shape past t
+put_stopped book shape past t ks still same =
+    ap (λ (xs : List ℕ). slot_with book shape t (counting.Stopped xs)) same ∙ sym (slot_of-stopped book shape past t still)
 
 -- the component does not show in what was counted
 measured_same : (book : Book) (past : List Occ) (s : Kept) (comp : ℕ) (m : Option ℕ) (n : Native)
@@ -70,20 +69,16 @@ slot_is book shape past k (made.Remove (Err x)) s stopped = (refl, stopped)
 slot_is book shape past k (made.Overflow (Err x) t) s stopped = (refl, stopped)
 slot_is book shape past k (made.Component comp) s stopped =
     let t : Kept = record s { set = record (s.set) { component = Some comp } } in
-    let same = map_same (measured s.set.slice book past s) (measured s.set.slice book past t) (measured_same book past s comp s.set.slice) in (
-      put_stopped book shape past s t (slot_of book shape past s).kept stopped stopped
-          (ap (λ (x : Slot). x.kept) (slot_of-stopped book shape past s stopped) ∙ same (set_natives book s.set)),
+    let counts = map_same (measured s.set.slice book past s) (measured s.set.slice book past t) (measured_same book past s comp s.set.slice) in (
+      ap (λ (b : Bool). slot_with book shape t (counting_by book past s b s.set.slice)) stopped
+          ∙ put_stopped book shape past t _ stopped (counts (set_natives book s.set)),
       stopped,
     )
 slot_is book shape past k m s stopped =
     let t : Kept = kept_after book past (call_of k m) s in
-    (put_stopped book shape past s t (replicate (length (set_natives book t.set)) 0) stopped stopped (counted_none book past t stopped refl), stopped)
+    (put_stopped book shape past t _ stopped (counted_none book past t stopped refl), stopped)
 
 -- ---- refusals
-
--- the face of a set that does not run
-face_rests : (book : Book) (core : CoreView) (a : Account) (k : ℕ) (r : Rests book core a k) → at (slot_faces core.slots) k ≡ Some (record { set = r.present.set.set; running = false })
-face_rests book core a k r = r.present.at_face ∙ ap (λ (b : Bool). Some (record { set = r.present.set.set; running = b })) r.stopped
 
 -- where a code comes before the set is asked, the table says so
 pub before_refuses : (book : Book) (shape : Widths) (registered : Bool) (faces : List (Option Face)) (k : ℕ) (m : Change) (c : Code)
@@ -111,20 +106,28 @@ add_rows book shape registered faces k e r here = rw here (ap (λ c. if cannot_t
 -- ---- changes
 
 -- where no code comes, the set is there and does not run
-ready : (book : Book) (core : CoreView) (a : Account) (k : ℕ) (m : Change) → CoreStands book core a → code_before core.shape (slot_faces core.slots) k m ≡ None → Rests book core a k
-ready book core a k m h none =
-    let checks : List (Bool × Code) = (is_absent (slot_faces core.slots) k, Enoevst) ∷ (lacks_component core.shape m, Enocmp) ∷ (runs (slot_faces core.slots) k, Eisrun) ∷ [] in
-    rests book core a k h (check_fails checks 0 none) (check_fails checks 2 none)
+pub change_there : (shape : Widths) (slots : List (Option Slot)) (k : ℕ) (m : Change) → code_before shape (slot_faces slots) k m ≡ None → Has slots k
+change_there shape slots k m none = has_slot slots k (check_fails
+    ((is_absent (slot_faces slots) k, Enoevst) ∷ (lacks_component shape m, Enocmp) ∷ (runs (slot_faces slots) k, Eisrun) ∷ []) 0 none)
 
-pub change_inside : (book : Book) (core : CoreView) (k : ℕ) (m : Change) → AgreesWith book core → code_before core.shape (slot_faces core.slots) k m ≡ None → k < length core.slots
-change_inside book core k m agrees none = (ready book core agrees.account k m agrees.stands none).present.inside
+change_rests : (core : CoreView) (k : ℕ) (m : Change) → code_before core.shape (slot_faces core.slots) k m ≡ None → runs (slot_faces core.slots) k ≡ false
+change_rests core k m none = check_fails
+    ((is_absent (slot_faces core.slots) k, Enoevst) ∷ (lacks_component core.shape m, Enocmp) ∷ (runs (slot_faces core.slots) k, Eisrun) ∷ []) 2 none
+
+-- the face of a set that does not run
+face_rests : (book : Book) (core : CoreView) (a : Account) (k : ℕ) (slot : Slot) (u : Under book core a k slot) → runs (slot_faces core.slots) k ≡ false
+    → at (slot_faces core.slots) k ≡ Some (record { set = slot.set.rest; running = false })
+face_rests book core a k slot u still =
+    u.at_face ∙ ap₂ (λ (r : AtRest) (b : Bool). Some (record { set = r; running = b })) (ap (λ (x : Slot). x.set.rest) u.is) (runs_as u ∙ still)
 
 -- what the table says, where the core's set is asked
-says : (book : Book) (core : CoreView) (k : ℕ) (m : Change) (r : Option Code) → AgreesWith book core → code_before core.shape (slot_faces core.slots) k m ≡ None → ((slot : Slot) → at core.slots k ≡ Some slot → change_refusal book core.shape m slot.set.rest ≡ r)
+says : (book : Book) (core : CoreView) (k : ℕ) (m : Change) (r : Option Code) (slot : Slot) → AgreesWith book core
+    → code_before core.shape (slot_faces core.slots) k m ≡ None → at core.slots k ≡ Some slot → change_refusal book core.shape m slot.set.rest ≡ r
     → refusal_of book core.shape core.registered (slot_faces core.slots) (call_of k m) ≡ option_map Plain r
-says book core k m r agrees none asks =
-    let rest = ready book core agrees.account k m agrees.stands none in
-    change_rows book core.shape core.registered (slot_faces core.slots) k m rest.present.set.set (face_rests book core agrees.account k rest) ∙ ap (option_map Plain) (asks _ rest.present.at_slot)
+says book core k m r slot agrees none here asks =
+    let u = under book core agrees.account k slot agrees.stands here in
+    change_rows book core.shape core.registered (slot_faces core.slots) k m slot.set.rest
+    (face_rests book core agrees.account k slot u (change_rests core k m none)) ∙ ap (option_map Plain) asks
 
 -- the call changes the set alone, and replies a code alone
 record IsAlone (book : Book) (shape : Widths) (a : Account) (k : ℕ) (m : Change) : Type 0 where
@@ -142,35 +145,42 @@ abbrev pub code_after : Result ⊤ Code → Code
 code_after (Ok u) = code.Ok
 code_after (Err c) = c
 
-pub change_follows : (book : Book) (core : CoreView) (k : ℕ) (m : Change) (result : Result ⊤ Code) (new : List (Option Slot)) → AgreesWith book core → IsFor book core.shape m → code_before core.shape (slot_faces core.slots) k m ≡ None
-    → ((slot : Slot) → at core.slots k ≡ Some slot → OnOk result (new ≡ slice_set core.slots k (Some (slot_after book core.shape m slot))))
-    → ((slot : Slot) → at core.slots k ≡ Some slot → OnOk result (change_refusal book core.shape m slot.set.rest ≡ None))
-    → ((slot : Slot) → at core.slots k ≡ Some slot → IfErr result (λ c. change_refusal book core.shape m slot.set.rest ≡ Some c))
-    → OnErr result (new ≡ core.slots)
-    → Follows book core (with_both core core.units new) (call_of k m) (plain (code_after result))
-change_follows book core k m (Err c) new agrees named none changed taken refuses same =
-    subst (λ (xs : List (Option Slot)). Follows book core (with_both core core.units xs) (call_of k m) (plain c)) (sym same) (refused_follows book core (call_of k m) (Plain c) (plain c) agrees (says book core k m (Some c) agrees none refuses) refl)
-change_follows book core k m (Ok u) new agrees named none changed taken refuses same =
+-- the core where a set says no
+same_slot : (slots : List (Option Slot)) (k : ℕ) (slot new : Slot) → at slots k ≡ Some slot → new ≡ slot → slice_set slots k (Some new) ≡ slots
+same_slot slots k slot new there same = ap (λ (x : Slot). slice_set slots k (Some x)) same ∙ set-same slots k (Some slot) (at-some slots k slot there)
+
+pub change_follows : (book : Book) (core : CoreView) (k : ℕ) (m : Change) (result : Result ⊤ Code) (slot new : Slot) → AgreesWith book core
+    → IsFor book core.shape m → code_before core.shape (slot_faces core.slots) k m ≡ None → at core.slots k ≡ Some slot
+    → OnOk result (new ≡ slot_after book core.shape m slot)
+    → OnOk result (change_refusal book core.shape m slot.set.rest ≡ None)
+    → IfErr result (λ c. change_refusal book core.shape m slot.set.rest ≡ Some c)
+    → OnErr result (new ≡ slot)
+    → Follows book core (with_both core core.units (slice_set core.slots k (Some new))) (call_of k m) (plain (code_after result))
+change_follows book core k m (Err c) slot new agrees named none here changed taken refuses same =
+    subst (λ (xs : List (Option Slot)). Follows book core (with_both core core.units xs) (call_of k m) (plain c))
+    (sym (same_slot core.slots k slot new here same))
+    (refused_follows book core (call_of k m) (Plain c) (plain c) agrees (says book core k m (Some c) slot agrees none here refuses) refl)
+change_follows book core k m (Ok u) slot new agrees named none here changed taken refuses same =
     let one = alone book core.shape agrees.account k m in
-    put_follows book core core.units new (call_of k m) (plain code.Ok) k (record { agrees = agrees; allowed = says book core k m None agrees none taken }) (one.good named) one.on_sets (λ a. (alone book core.shape a k m).sets) (λ a h.
-    let rest = ready book core a k m h none in
-    let p = rest.present in
-    let t = kept_after book a.past (call_of k m) p.set in
-    let is = slot_is book core.shape a.past k m p.set rest.stopped in
+    let g : Goes book core (call_of k m) = record { agrees = agrees; allowed = says book core k m None slot agrees none here taken } in
+    put_follows book core core.units slot new (call_of k m) (plain code.Ok) k g (one.good named) one.on_sets (λ a. (alone book core.shape a k m).sets) here
+    (λ a h u.
+    let rests = runs_as u ∙ change_rests core k m none in
+    let t = kept_after book a.past (call_of k m) u.set in
+    let is = slot_is book core.shape a.past k m u.set rests in
     record {
-      set = p.set;
-      at_set = p.at_set;
-      slots = changed _ p.at_slot ∙ ap (λ (x : Slot). slice_set core.slots k (Some x)) is.0;
-      units = λ apart. units_rest book core a k (Some t) (Some p.set) h apart p.place (λ c. quiet_stopped p.set c rest.stopped) (λ c. quiet_stopped t c is.1);
+      slot = changed ∙ ap (slot_after book core.shape m) (sym u.is) ∙ is.0;
+      units = λ apart. units_rest book core a k (Some t) (Some u.set) h apart u.place (λ c. quiet_stopped u.set c rests) (λ c. quiet_stopped t c is.1);
       reply = sym (alone book core.shape a k m).reply;
     })
 
 -- ---- one more event
 
-rests_now : (book : Book) (core : CoreView) (a : Account) (k : ℕ) → CoreStands book core a → rest_code (slot_faces core.slots) k ≡ None → Rests book core a k
-rests_now book core a k h none =
-    let checks : List (Bool × Code) = (is_absent (slot_faces core.slots) k, Enoevst) ∷ (runs (slot_faces core.slots) k, Eisrun) ∷ [] in
-    rests book core a k h (check_fails checks 0 none) (check_fails checks 1 none)
+pub rest_there : (slots : List (Option Slot)) (k : ℕ) → rest_code (slot_faces slots) k ≡ None → Has slots k
+rest_there slots k none = has_slot slots k (check_fails ((is_absent (slot_faces slots) k, Enoevst) ∷ (runs (slot_faces slots) k, Eisrun) ∷ []) 0 none)
+
+now_rests : (core : CoreView) (k : ℕ) → rest_code (slot_faces core.slots) k ≡ None → runs (slot_faces core.slots) k ≡ false
+now_rests core k none = check_fails ((is_absent (slot_faces core.slots) k, Enoevst) ∷ (runs (slot_faces core.slots) k, Eisrun) ∷ []) 1 none
 
 pub rest_refuses : (book : Book) (shape : Widths) (registered : Bool) (faces : List (Option Face)) (k : ℕ) (e : Result EventRef Code) (c : Code) → rest_code faces k ≡ Some c → refusal_of book shape registered faces (call.Add k e) ≡ Some (Plain c)
 rest_refuses book shape registered faces k (Ok e) c h = check_comes ((is_absent faces k, Enoevst) ∷ (runs faces k, Eisrun) ∷ []) _ c h
@@ -180,40 +190,44 @@ rest_refuses book shape registered faces k (Err x) c h = check_comes ((is_absent
 pub name_refuses : (book : Book) (shape : Widths) (registered : Bool) (faces : List (Option Face)) (k : ℕ) (code : Code) → rest_code faces k ≡ None → refusal_of book shape registered faces (call.Add k (Err code)) ≡ Some (Plain code)
 name_refuses book shape registered faces k code h = none_comes ((is_absent faces k, Enoevst) ∷ (runs faces k, Eisrun) ∷ []) (Some (Plain code)) h
 
-pub add_follows : (book : Book) (core : CoreView) (k : ℕ) (e : EventRef) (result : Result ⊤ Refusal) (new : List (Option Slot)) → AgreesWith book core → IsNamed book core.shape (Ok e) → rest_code (slot_faces core.slots) k ≡ None
-    → ((slot : Slot) → at core.slots k ≡ Some slot → OnOk result (new ≡ slice_set core.slots k (Some (slot_with_event book core.shape e slot))))
-    → ((slot : Slot) → at core.slots k ≡ Some slot → OnOk result (add_refusal book e slot.set.rest ≡ None))
-    → ((slot : Slot) → at core.slots k ≡ Some slot → IfErr result (λ r. add_refusal book e slot.set.rest ≡ Some r))
-    → OnErr result (new ≡ core.slots)
-    → Follows book core (with_both core core.units new) (call.Add k (Ok e)) (changed_reply result)
-add_follows book core k e result new agrees named none = go result where
-  table : (r : Option Refusal) → ((slot : Slot) → at core.slots k ≡ Some slot → add_refusal book e slot.set.rest ≡ r) → refusal_of book core.shape core.registered (slot_faces core.slots) (call.Add k (Ok e)) ≡ r
+pub add_follows : (book : Book) (core : CoreView) (k : ℕ) (e : EventRef) (result : Result ⊤ Refusal) (slot new : Slot) → AgreesWith book core
+    → IsNamed book core.shape (Ok e) → rest_code (slot_faces core.slots) k ≡ None → at core.slots k ≡ Some slot
+    → OnOk result (new ≡ slot_with_event book core.shape e slot)
+    → OnOk result (add_refusal book e slot.set.rest ≡ None)
+    → IfErr result (λ r. add_refusal book e slot.set.rest ≡ Some r)
+    → OnErr result (new ≡ slot)
+    → Follows book core (with_both core core.units (slice_set core.slots k (Some new))) (call.Add k (Ok e)) (changed_reply result)
+add_follows book core k e result slot new agrees named none here = go result where
+  table : (r : Option Refusal) → add_refusal book e slot.set.rest ≡ r
+      → refusal_of book core.shape core.registered (slot_faces core.slots) (call.Add k (Ok e)) ≡ r
   table r says =
-      let rest = rests_now book core agrees.account k agrees.stands none in
-      add_rows book core.shape core.registered (slot_faces core.slots) k e rest.present.set.set (face_rests book core agrees.account k rest) ∙ says _ rest.present.at_slot
+      let u = under book core agrees.account k slot agrees.stands here in
+      add_rows book core.shape core.registered (slot_faces core.slots) k e slot.set.rest
+      (face_rests book core agrees.account k slot u (now_rests core k none)) ∙ says
 
-  go : (result : Result ⊤ Refusal)
-      → ((slot : Slot) → at core.slots k ≡ Some slot → OnOk result (new ≡ slice_set core.slots k (Some (slot_with_event book core.shape e slot))))
-      → ((slot : Slot) → at core.slots k ≡ Some slot → OnOk result (add_refusal book e slot.set.rest ≡ None))
-      → ((slot : Slot) → at core.slots k ≡ Some slot → IfErr result (λ r. add_refusal book e slot.set.rest ≡ Some r))
-      → OnErr result (new ≡ core.slots) → Follows book core (with_both core core.units new) (call.Add k (Ok e)) (changed_reply result)
-  go (Err r) added taken refuses same = subst (λ (xs : List (Option Slot)). Follows book core (with_both core core.units xs) (call.Add k (Ok e)) (refused r)) (sym same) (refused_follows book core (call.Add k (Ok e)) r (refused r) agrees (table (Some r) refuses) refl)
+  go : (result : Result ⊤ Refusal) → OnOk result (new ≡ slot_with_event book core.shape e slot) → OnOk result (add_refusal book e slot.set.rest ≡ None)
+      → IfErr result (λ r. add_refusal book e slot.set.rest ≡ Some r) → OnErr result (new ≡ slot)
+      → Follows book core (with_both core core.units (slice_set core.slots k (Some new))) (call.Add k (Ok e)) (changed_reply result)
+  go (Err r) added taken refuses same =
+      subst (λ (xs : List (Option Slot)). Follows book core (with_both core core.units xs) (call.Add k (Ok e)) (refused r))
+      (sym (same_slot core.slots k slot new here same))
+      (refused_follows book core (call.Add k (Ok e)) r (refused r) agrees (table (Some r) refuses) refl)
   go (Ok u) added taken refuses same =
-      put_follows book core core.units new (call.Add k (Ok e)) (plain code.Ok) k (record { agrees = agrees; allowed = table None taken }) named refl (λ a. refl) (λ a h.
-      let rest = rests_now book core a k h none in
-      let p = rest.present in
-      let t : Kept = kept_after book a.past (call.Add k (Ok e)) p.set in
+      let g : Goes book core (call.Add k (Ok e)) = record { agrees = agrees; allowed = table None taken } in
+      put_follows book core core.units slot new (call.Add k (Ok e)) (plain code.Ok) k g named refl (λ a. refl) here (λ a h u.
+      let rests = runs_as u ∙ now_rests core k none in
+      let t : Kept = kept_after book a.past (call.Add k (Ok e)) u.set in
       record {
-        set = p.set;
-        at_set = p.at_set;
-        slots = added _ p.at_slot ∙ ap (λ (x : Slot). slice_set core.slots k (Some x)) (put_stopped book core.shape a.past p.set t _ rest.stopped rest.stopped (counted_none book a.past t rest.stopped refl));
-        units = λ apart. units_rest book core a k (Some t) (Some p.set) h apart p.place (λ c. quiet_stopped p.set c rest.stopped) (λ c. quiet_stopped t c rest.stopped);
+        slot = added ∙ ap (slot_with_event book core.shape e) (sym u.is)
+            ∙ put_stopped book core.shape a.past t _ rests (counted_none book a.past t rests refl);
+        units = λ apart. units_rest book core a k (Some t) (Some u.set) h apart u.place (λ c. quiet_stopped u.set c rests) (λ c. quiet_stopped t c rests);
         reply = refl;
       })
 
 -- the set of a slot, by the book and the shape
-pub slot_view : (book : Book) (core : CoreView) (k : ℕ) (slot : Slot) → AgreesWith book core → at core.slots k ≡ Some slot → slot.set ≡ set_view book core.shape slot.set.rest
-slot_view book core k slot agrees here =
+pub slot_view : {book : Book} {core : CoreView} (k : ℕ) {slot : Slot} → AgreesWith book core → at core.slots k ≡ Some slot
+    → slot.set ≡ set_view book core.shape slot.set.rest
+slot_view {book} {core} k {slot} agrees here =
     let u = under book core agrees.account k slot agrees.stands here in
     subst (λ (x : Slot). x.set ≡ set_view book core.shape x.set.rest) u.is refl
 
@@ -245,13 +259,17 @@ create_follows book core number g is = done_follows book core core.units (slice_
       reply = ap (λ (k : ℕ). done (body.SetNumber k)) at;
     })
 
-pub destroy_follows : (book : Book) (core : CoreView) (k : ℕ) → Goes book core (call.Destroy k) → Follows book core (with_both core core.units (slice_set core.slots k None)) (call.Destroy k) (plain code.Ok)
-destroy_follows book core k g = done_follows book core core.units (slice_set core.slots k None) (call.Destroy k) (plain code.Ok) g.agrees tt refl g.allowed (λ a h apart.
-    let rest = rests book core a k h (row_off book core (call.Destroy k) 0 g.allowed) (row_off book core (call.Destroy k) 1 g.allowed) in
+pub destroy_follows : (book : Book) (core : CoreView) (k : ℕ) → Goes book core (call.Destroy k)
+    → Follows book core (with_both core core.units (slice_set core.slots k None)) (call.Destroy k) (plain code.Ok)
+destroy_follows book core k g =
+    done_follows book core core.units (slice_set core.slots k None) (call.Destroy k) (plain code.Ok) g.agrees tt refl g.allowed (λ a h apart.
+    let s = named k g refl in
+    let u = under book core a k s.slot h s.at_slot in
+    let rests = runs_as u ∙ row_off book core (call.Destroy k) 1 g.allowed in
     record {
       sets = slice_set a.sets k None;
       after = refl;
       slots = ap (λ (xs : List (Option Slot)). slice_set xs k None) h.slots ∙ map_put (option_map (slot_of book core.shape a.past)) a.sets k None;
-      units = units_rest book core a k None (Some rest.present.set) h apart rest.present.place (λ c. quiet_stopped rest.present.set c rest.stopped) (λ c. refl);
+      units = units_rest book core a k None (Some u.set) h apart u.place (λ c. quiet_stopped u.set c rests) (λ c. refl);
       reply = refl;
     })

@@ -9,6 +9,8 @@ use Rattle.papi_base.specs.declared.code.Code.TheVariants as code
 use Rattle.session_model.specs.declared.call.Call.TheVariants as call
 use Rattle.thread_core.proofs.Owners.{faces_same}
 use Rattle.session_laws.proofs.Counted.{places_stay}
+use Rattle.thread_core.specs.CoreView.{core_of}
+use Rattle.thread_core.specs.declared.thread.Core.TheInside.{Inside}
 
 -- ---- tables of refusals: the first check that holds, and what is known where none does
 
@@ -197,6 +199,10 @@ agrees_now {book} same agrees = subst (AgreesWith book) (sym same) agrees
 
 pub time_is : {core now : CoreView} {t : ℕ} → core ≡ now → t ≡ time_after now.last → t ≡ time_after core.last
 time_is same is = is ∙ ap (λ (v : CoreView). time_after v.last) (sym same)
+
+-- what contracts see of a core
+abbrev pub seen : Inside → CoreView
+seen c = core_of c.thread c.registered c.shape c.slots.items c.units.items c.taken c.last
 
 -- a call that sets whether the thread is registered, and is not refused
 pub registration : (book : Book) (core : CoreView) (made : Call) (b : Bool) → Goes book core made → IsGood book core.shape made

@@ -2,7 +2,7 @@
 use Rattle.thread_core.proofs.Words.{Outcome, List, Option, ℕ, Slot, ◌≡◌, replicate, None, sym, ap, slice_get, ◌∙◌, Some, zero, suc, Book, CoreView, Account}
 use Rattle.thread_core.proofs.Words.{CoreStands, faces_of, owner_from, Occ, CountedAll, ◌≤◌, time_after, AgreesWith, counted_all, consumed, refl, slot_faces}
 use Rattle.thread_core.proofs.Words.{◌<◌, length, arith, Kept, face_of, change, [], ◌∷◌, option_map, Call, Reply, is_on_sets, true, sets_after, new_kept}
-use Rattle.thread_core.proofs.Words.{kept_after, Follows, step}
+use Rattle.thread_core.proofs.Words.{kept_after, Follows, step, subst}
 use Rattle.thread_core.specs.Running.{AreKnown}
 use Rattle.thread_core.proofs.Following.{faces_stand, Goes, step_is}
 use Rattle.thread_core.proofs.Taking.{after_taking, taken_stands, countable}
@@ -38,10 +38,14 @@ change_faces f (None ∷ sets) zero same = refl
 change_faces f (Some s ∷ sets) zero same = ap (λ x. Some x ∷ faces_of sets) (same s)
 change_faces f (place ∷ sets) (suc k) same = ap (λ fs. option_map face_of place ∷ fs) (change_faces f sets k same)
 
-pub counts_known : (book : Book) (core new : CoreView) (made : Call) (k : ℕ) (given : Reply) (known : List (Option (Option ℕ))) → Goes book core made → is_on_sets made ≡ true → ((a : Account) → sets_after new_kept (kept_after book a.past) made a.sets ≡ change (kept_after book a.past made) a.sets k)
-    → ((a : Account) (s : Kept) → face_of (kept_after book a.past made s) ≡ face_of s) → Follows book core new made given → AreKnown known core.slots → AreKnown known new.slots
-counts_known book core new made k given known g on one same f h =
+pub counts_known : {book : Book} {core now new : CoreView} {made : Call} {given : Reply} {known : List (Option (Option ℕ))} (k : ℕ) → core ≡ now
+    → Goes book core made → is_on_sets made ≡ true
+    → ((a : Account) → sets_after new_kept (kept_after book a.past) made a.sets ≡ change (kept_after book a.past made) a.sets k)
+    → ((a : Account) (s : Kept) → face_of (kept_after book a.past made s) ≡ face_of s)
+    → Follows book now new made given → AreKnown known core.slots → AreKnown known new.slots
+counts_known {book} {core} {now} {new} {made} {given} {known} k is g on one same f h =
     let a = g.agrees.account in
+    let follows = subst (λ (v : CoreView). Follows book v new made given) (sym is) f in
     let faces = ap (λ (x : Outcome). faces_of x.account.sets) (step_is book core a made on g.allowed g.agrees.stands) ∙ ap faces_of (one a)
     ∙ change_faces (kept_after book a.past made) a.sets k (same a) in
-    known_with book core new a (step book core.shape a made).account known g.agrees.stands (f.account a g.agrees.stands) faces h
+    known_with book core new a (step book core.shape a made).account known g.agrees.stands (follows.account a g.agrees.stands) faces h

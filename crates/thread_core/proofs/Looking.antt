@@ -4,9 +4,10 @@ use Rattle.thread_core.proofs.Words.{Call, option_map_or, slice_get, slot_faces,
 use Rattle.thread_core.proofs.Words.{Face, is_none, here, slice_get_within, runs, Slot, same_some, AgreesWith, arith, Widths, AtRest, List, widths_at}
 use Rattle.thread_core.proofs.Words.{get_at, unwrap_or, [], unit_at, UnitView, registers_by, Reply, IsGood, is_on_sets, sets_after, new_kept, kept_after}
 use Rattle.thread_core.proofs.Words.{reply_over, sight_of_kept, Follows, done, slice_set, AreApart, faces_of, units_of, change, map_put, subst, runner, ap₂}
-use Rattle.thread_core.proofs.Words.{time_after, clock}
+use Rattle.thread_core.proofs.Words.{Code, IsRefusedWith, time_after, clock, face_of_slot, get_or, get-set_same}
+use Rattle.thread_slots.proofs.Lists.{at_read, place_is}
 use Rattle.session_model.specs.declared.reply.Body.TheVariants as body
-use Rattle.thread_core.proofs.Following.{Allowed, faces_stand, done_follows, Goes, with_both}
+use Rattle.thread_core.proofs.Following.{Allowed, faces_stand, done_follows, Goes, goes, with_both}
 use Rattle.session_model.specs.Refusals.{rows}
 use Rattle.session_laws.proofs.Sets.{row_fails}
 use Rattle.thread_core.proofs.Owners.{length-units, get-units, unit_by-runner, units_same, unit_stays, units_put, runner_is, runs_there, IsQuiet, quiet_other}
@@ -14,8 +15,9 @@ use Rattle.session_model.specs.declared.reply.Body.{Body}
 use Rattle.session_model.specs.Replies.{shown}
 use Rattle.session_laws.proofs.Pushing.{clock_now}
 
-pub slot_at : (book : Book) (core : CoreView) (a : Account) (k : ℕ) → CoreStands book core a → at core.slots k ≡ option_map (slot_of book core.shape a.past) (at a.sets k)
-slot_at book core a k h = ap (λ xs. at xs k) h.slots ∙ at_map (slot_of book core.shape a.past) a.sets k
+pub slot_at : (book : Book) (core : CoreView) (a : Account) (k : ℕ) → CoreStands book core a
+    → at core.slots k ≡ option_map (slot_of book core.shape a.past) (at a.sets k)
+slot_at book core a k h = ap (λ (xs : List (Option Slot)). at xs k) h.slots ∙ at_map (slot_of book core.shape a.past) a.sets k
 
 pub fit_of : (book : Book) (core : CoreView) (a : Account) (k : ℕ) (s : Kept) → CoreStands book core a → at a.sets k ≡ Some s → IsFit book core.shape s.set
 fit_of book core a k s h e = h.fit.fit k s (at-some a.sets k s e)
@@ -24,47 +26,72 @@ fit_of book core a k s h e = h.fit.fit k s (at-some a.sets k s e)
 pub row_off : (book : Book) (core : CoreView) (made : Call) (i : ℕ) → Allowed book core made → option_map_or (λ r. r.0) (slice_get (rows book core.shape core.registered (slot_faces core.slots) made) i) false ≡ false
 row_off book core made i none = row_fails (rows book core.shape core.registered (slot_faces core.slots) made) i none
 
--- the set that a call names
-pub record Present (book : Book) (core : CoreView) (a : Account) (k : ℕ) : Type 0 where
-  pub set : Kept
-  pub at_set : at a.sets k ≡ Some set
-  pub place : slice_get a.sets k ≡ Some (Some set)
-  pub at_slot : at core.slots k ≡ Some (slot_of book core.shape a.past set)
-  pub at_face : at (slot_faces core.slots) k ≡ Some (face_of set)
-  pub inside : k < length core.slots
+-- ---- the set that a call names
 
-pub present : (book : Book) (core : CoreView) (a : Account) (k : ℕ) → CoreStands book core a → is_absent (slot_faces core.slots) k ≡ false → Present book core a k
-present book core a k h there = go (at a.sets k) refl where
-  face : (o : Option Kept) → at a.sets k ≡ o → at (slot_faces core.slots) k ≡ option_map face_of o
-  face o e = ap (λ fs. at fs k) (faces_stand book core a h) ∙ at_map face_of a.sets k ∙ ap (option_map face_of) e
+-- under the number there is a set
+pub record Has (slots : List (Option Slot)) (k : ℕ) : Type 0 where
+  pub slot : Slot
+  pub at_slot : at slots k ≡ Some slot
+  pub inside : k < length slots
 
-  go : (o : Option Kept) → at a.sets k ≡ o → Present book core a k
-  go None e = let gone : true ≡ false = sym (ap (λ (o : Option Face). is_none o) (face None e)) ∙ there in cc
-  go (Some s) e =
-      let here = slot_at book core a k h ∙ ap (option_map (slot_of book core.shape a.past)) e in
-      record { set = s; at_set = e; place = at-some a.sets k s e; at_slot = here; at_face = face (Some s) e; inside = slice_get_within core.slots k _ (at-some core.slots k _ here) }
+pub has_slot : (slots : List (Option Slot)) (k : ℕ) → is_absent (slot_faces slots) k ≡ false → Has slots k
+has_slot slots k there = go (at slots k) refl where
+  go : (o : Option Slot) → at slots k ≡ o → Has slots k
+  go None e = let gone : true ≡ false = sym (ap (λ (o : Option Face). is_none o) (at_map face_of_slot slots k ∙ ap (option_map face_of_slot) e)) ∙ there in cc
+  go (Some slot) e = record { slot = slot; at_slot = e; inside = slice_get_within slots k _ (at-some slots k slot e) }
 
--- one that does not run
-pub record Rests (book : Book) (core : CoreView) (a : Account) (k : ℕ) : Type 0 where
-  pub present : Present book core a k
-  pub stopped : present.set.running ≡ false
+-- so it is where a call is not refused whose table begins with that test
+pub named : {book : Book} {core : CoreView} {made : Call} (k : ℕ) → Goes book core made
+    → option_map_or (λ r. r.0) (slice_get (rows book core.shape core.registered (slot_faces core.slots) made) 0) false ≡ is_absent (slot_faces core.slots) k
+    → Has core.slots k
+named {book} {core} {made} k g first = has_slot core.slots k (sym first ∙ row_off book core made 0 g.allowed)
 
-pub rests : (book : Book) (core : CoreView) (a : Account) (k : ℕ) → CoreStands book core a → is_absent (slot_faces core.slots) k ≡ false → runs (slot_faces core.slots) k ≡ false → Rests book core a k
-rests book core a k h there still =
-    let p = present book core a k h there in
-    record { present = p; stopped = sym (ap (λ (o : Option Face). option_map_or (λ f. f.running) o false) p.at_face) ∙ still }
+-- a call on it that is not refused
+pub record Calls (book : Book) (core : CoreView) (made : Call) (k : ℕ) : Type 0 where
+  pub goes : Goes book core made
+  pub has : Has core.slots k
 
--- the set of a slot
+pub calls : {book : Book} {core now : CoreView} {made : Call} {result : Option Code} (k : ℕ) → core ≡ now → AgreesWith book now
+    → IsRefusedWith now made result → result ≡ None
+    → option_map_or (λ r. r.0) (slice_get (rows book core.shape core.registered (slot_faces core.slots) made) 0) false ≡ is_absent (slot_faces core.slots) k
+    → Calls book core made k
+calls k same agrees refused none first = let g = goes same agrees refused none in record { goes = g; has = named k g first }
+
+-- what the code reads there is that set
+pub reads : {slots : List (Option Slot)} {k : ℕ} {place : Option Slot} {slot : Slot} → Has slots k → place ≡ get_or slots k place → place ≡ Some slot
+    → at slots k ≡ Some slot
+reads {slots} {k} {place} {slot} h is some = at_read slots k place slot h.inside is some
+
+-- the code reads a set there
+pub reads_some : {slots : List (Option Slot)} {k : ℕ} {place : Option Slot} → Has slots k → place ≡ get_or slots k place → place ≡ None → ⊥
+reads_some {slots} {k} {place} h is none = let some = place_is slots k place h.slot h.inside is h.at_slot in cc
+
+-- the set of the account that a slot is of
 pub record Under (book : Book) (core : CoreView) (a : Account) (k : ℕ) (slot : Slot) : Type 0 where
   pub set : Kept
   pub at_set : at a.sets k ≡ Some set
+  pub place : slice_get a.sets k ≡ Some (Some set)
+  pub at_face : at (slot_faces core.slots) k ≡ Some (face_of set)
   pub is : slot_of book core.shape a.past set ≡ slot
 
-pub under : (book : Book) (core : CoreView) (a : Account) (k : ℕ) (slot : Slot) → CoreStands book core a → at core.slots k ≡ Some slot → Under book core a k slot
+pub under : (book : Book) (core : CoreView) (a : Account) (k : ℕ) (slot : Slot) → CoreStands book core a → at core.slots k ≡ Some slot
+    → Under book core a k slot
 under book core a k slot h here = go (at a.sets k) refl where
   go : (o : Option Kept) → at a.sets k ≡ o → Under book core a k slot
   go None e = let none : Some slot ≡ None = sym here ∙ slot_at book core a k h ∙ ap (option_map (slot_of book core.shape a.past)) e in cc
-  go (Some s) e = record { set = s; at_set = e; is = same_some (slot_of book core.shape a.past s) slot (sym (slot_at book core a k h ∙ ap (option_map (slot_of book core.shape a.past)) e) ∙ here) }
+  go (Some s) e = record {
+    set = s;
+    at_set = e;
+    place = at-some a.sets k s e;
+    at_face = ap (λ (fs : List (Option Face)). at fs k) (faces_stand book core a h) ∙ at_map face_of a.sets k ∙ ap (option_map face_of) e;
+    is = same_some (slot_of book core.shape a.past s) slot
+        (sym (slot_at book core a k h ∙ ap (option_map (slot_of book core.shape a.past)) e) ∙ here);
+  }
+
+-- it runs where the table says so
+pub runs_as : {book : Book} {core : CoreView} {a : Account} {k : ℕ} {slot : Slot} (u : Under book core a k slot)
+    → u.set.running ≡ runs (slot_faces core.slots) k
+runs_as u = sym (ap (λ (o : Option Face). option_map_or (λ f. f.running) o false) u.at_face)
 
 -- the component of a set under a number is one of the shape's
 pub comp_below : (book : Book) (core : CoreView) (k comp : ℕ) (slot : Slot) → AgreesWith book core → at core.slots k ≡ Some slot → slot.set.rest.component ≡ Some comp → (comp < length core.shape) × (comp < length core.units)
@@ -96,52 +123,87 @@ pub looks_follows : (book : Book) (core : CoreView) (made : Call) (reply : Reply
 looks_follows book core made reply agrees good on none stay says = done_follows book core core.units core.slots made reply agrees good on none (λ a h apart. record { sets = a.sets; after = stay a; slots = h.slots; units = h.units; reply = says a h })
 
 -- one that shows something of the set under a number
-pub shows_follows : (book : Book) (core : CoreView) (made : Call) (k : ℕ) (f : Account → Kept → Body) (given : Body) → Goes book core made → IsGood book core.shape made → is_on_sets made ≡ true → is_absent (slot_faces core.slots) k ≡ false
-    → ((a : Account) → sets_after new_kept (kept_after book a.past) made a.sets ≡ a.sets) → ((a : Account) → reply_over book (sight_of_kept book core.shape a.past) a.sets made ≡ shown (f a) a.sets k)
-    → ((a : Account) → CoreStands book core a → (p : Present book core a k) → given ≡ f a p.set) → Follows book core core made (done given)
-shows_follows book core made k f given g good on there stay reply same = looks_follows book core made (done given) g.agrees good on g.allowed stay (λ a h.
-    let p = present book core a k h there in
-    ap done (same a h p) ∙ sym (ap (λ (o : Option Kept). done (option_map_or (f a) o body.Nothing)) p.at_set) ∙ sym (reply a))
+pub shows_follows : (book : Book) (core : CoreView) (made : Call) (k : ℕ) (slot : Slot) (f : Account → Kept → Body) (given : Body) → Goes book core made
+    → IsGood book core.shape made → is_on_sets made ≡ true → at core.slots k ≡ Some slot
+    → ((a : Account) → sets_after new_kept (kept_after book a.past) made a.sets ≡ a.sets)
+    → ((a : Account) → reply_over book (sight_of_kept book core.shape a.past) a.sets made ≡ shown (f a) a.sets k)
+    → ((a : Account) → CoreStands book core a → (u : Under book core a k slot) → given ≡ f a u.set) → Follows book core core made (done given)
+shows_follows book core made k slot f given g good on here stay reply same = looks_follows book core made (done given) g.agrees good on g.allowed stay (λ a h.
+    let u = under book core a k slot h here in
+    ap done (same a h u) ∙ sym (ap (λ (o : Option Kept). done (option_map_or (f a) o body.Nothing)) u.at_set) ∙ sym (reply a))
 
 -- what a call does that puts one set anew, for one account
-pub record Puts (book : Book) (core : CoreView) (new_units : List UnitView) (new_slots : List (Option Slot)) (made : Call) (given : Reply) (a : Account) (k : ℕ) : Type 0 where
-  pub set : Kept
-  pub at_set : at a.sets k ≡ Some set
-  pub slots : new_slots ≡ slice_set core.slots k (Some (slot_of book core.shape a.past (kept_after book a.past made set)))
-  pub units : AreApart (faces_of (slice_set a.sets k (Some (kept_after book a.past made set)))) → new_units ≡ units_of book core.shape a.past (slice_set a.sets k (Some (kept_after book a.past made set)))
+pub record Puts (book : Book) (core : CoreView) (new_units : List UnitView) (new : Slot) (made : Call) (given : Reply) (a : Account) (k : ℕ) (s : Kept)
+    : Type 0 where
+  pub slot : new ≡ slot_of book core.shape a.past (kept_after book a.past made s)
+  pub units : AreApart (faces_of (slice_set a.sets k (Some (kept_after book a.past made s))))
+      → new_units ≡ units_of book core.shape a.past (slice_set a.sets k (Some (kept_after book a.past made s)))
   pub reply : given ≡ reply_over book (sight_of_kept book core.shape a.past) a.sets made
 
-pub put_follows : (book : Book) (core : CoreView) (units : List UnitView) (slots : List (Option Slot)) (made : Call) (reply : Reply) (k : ℕ) → Goes book core made → IsGood book core.shape made → is_on_sets made ≡ true
-    → ((a : Account) → sets_after new_kept (kept_after book a.past) made a.sets ≡ change (kept_after book a.past made) a.sets k) → ((a : Account) → CoreStands book core a → Puts book core units slots made reply a k)
-    → Follows book core (with_both core units slots) made reply
-put_follows book core units slots made reply k g good on one puts = done_follows book core units slots made reply g.agrees good on g.allowed (λ a h apart.
-    let p = puts a h in
-    let t : Kept = kept_after book a.past made p.set in
-    let after : sets_after new_kept (kept_after book a.past) made a.sets ≡ slice_set a.sets k (Some t) = one a ∙ ap (λ x. slice_set a.sets k (option_map (kept_after book a.past made) x)) p.at_set in
+pub put_follows : (book : Book) (core : CoreView) (units : List UnitView) (slot new : Slot) (made : Call) (reply : Reply) (k : ℕ) → Goes book core made
+    → IsGood book core.shape made → is_on_sets made ≡ true
+    → ((a : Account) → sets_after new_kept (kept_after book a.past) made a.sets ≡ change (kept_after book a.past made) a.sets k)
+    → at core.slots k ≡ Some slot
+    → ((a : Account) → CoreStands book core a → (u : Under book core a k slot) → Puts book core units new made reply a k u.set)
+    → Follows book core (with_both core units (slice_set core.slots k (Some new))) made reply
+put_follows book core units slot new made reply k g good on one here puts =
+    done_follows book core units (slice_set core.slots k (Some new)) made reply g.agrees good on g.allowed (λ a h apart.
+    let u = under book core a k slot h here in
+    let p = puts a h u in
+    let t : Kept = kept_after book a.past made u.set in
+    let after : sets_after new_kept (kept_after book a.past) made a.sets ≡ slice_set a.sets k (Some t) =
+    one a ∙ ap (λ (x : Option Kept). slice_set a.sets k (option_map (kept_after book a.past made) x)) u.at_set in
     record {
       sets = slice_set a.sets k (Some t);
       after = after;
-      slots = p.slots ∙ ap (λ (xs : List (Option Slot)). slice_set xs k (Some (slot_of book core.shape a.past t))) h.slots ∙ map_put (option_map (slot_of book core.shape a.past)) a.sets k (Some t);
-      units = p.units (subst (λ xs. AreApart (faces_of xs)) after apart);
+      slots = ap₂ (λ (xs : List (Option Slot)) (x : Slot). slice_set xs k (Some x)) h.slots p.slot
+          ∙ map_put (option_map (slot_of book core.shape a.past)) a.sets k (Some t);
+      units = p.units (subst (λ (xs : List (Option Kept)). AreApart (faces_of xs)) after apart);
       reply = p.reply;
     })
 
 -- where neither the set that was in a place nor what comes there runs, the units stay
-pub units_rest : (book : Book) (core : CoreView) (a : Account) (k : ℕ) (t place : Option Kept) → CoreStands book core a → AreApart (faces_of (slice_set a.sets k t)) → slice_get a.sets k ≡ Some place → ((c : ℕ) → IsQuiet c place) → ((c : ℕ) → IsQuiet c t)
+pub units_rest : (book : Book) (core : CoreView) (a : Account) (k : ℕ) (t place : Option Kept) → CoreStands book core a
+    → AreApart (faces_of (slice_set a.sets k t)) → slice_get a.sets k ≡ Some place → ((c : ℕ) → IsQuiet c place) → ((c : ℕ) → IsQuiet c t)
     → core.units ≡ units_of book core.shape a.past (slice_set a.sets k t)
-units_rest book core a k t place h apart e quiet new = h.units ∙ units_same book core.shape a.past a.past a.sets (slice_set a.sets k t) (λ c. unit_stays book a.past a.sets k c t place apart e (quiet c) (new c))
+units_rest book core a k t place h apart e quiet new =
+    h.units
+    ∙ units_same book core.shape a.past a.past a.sets (slice_set a.sets k t) (λ c. unit_stays book a.past a.sets k c t place apart e (quiet c) (new c))
+
+-- so they do where a set is put anew that has no component
+pub units_without : (book : Book) (core : CoreView) (a : Account) (k : ℕ) (s t : Kept) → CoreStands book core a
+    → AreApart (faces_of (slice_set a.sets k (Some t))) → slice_get a.sets k ≡ Some (Some s) → s.set.component ≡ None → t.set.component ≡ None
+    → core.units ≡ units_of book core.shape a.past (slice_set a.sets k (Some t))
+units_without book core a k s t h apart place none still = units_rest book core a k (Some t) (Some s) h apart place (quiet s none) (quiet t still) where
+  quiet : (x : Kept) → x.set.component ≡ None → (c : ℕ) → IsQuiet c (Some x)
+  quiet x is c = quiet_other x c (λ on. let both : None ≡ Some c = sym is ∙ on in cc)
 
 -- a set is quiet on each component but its own
 pub quiet_but : (s : Kept) (comp c : ℕ) → s.set.component ≡ Some comp → (c ≡ comp → ⊥) → IsQuiet c (Some s)
 quiet_but s comp c is other = quiet_other s c (λ on. other (same_some c comp (sym on ∙ is)))
 
 -- where a set is put that runs on no other component, and the one before it did not, the unit of this component alone changes
-pub units_one : (book : Book) (core : CoreView) (a : Account) (k comp : ℕ) (ws : List ℕ) (s t : Kept) (unit : UnitView) (found : Option Kept) → CoreStands book core a → AreApart (faces_of (slice_set a.sets k (Some t))) → slice_get a.sets k ≡ Some (Some s)
-    → slice_get core.shape comp ≡ Some ws → s.set.component ≡ Some comp → t.set.component ≡ Some comp → runner comp (slice_set a.sets k (Some t)) ≡ found → unit ≡ record { widths = ws; registers = registers_by book ws a.past found }
+pub units_one : (book : Book) (core : CoreView) (a : Account) (k comp : ℕ) (ws : List ℕ) (s t : Kept) (unit : UnitView) (found : Option Kept)
+    → CoreStands book core a → AreApart (faces_of (slice_set a.sets k (Some t))) → slice_get a.sets k ≡ Some (Some s) → slice_get core.shape comp ≡ Some ws
+    → s.set.component ≡ Some comp → t.set.component ≡ Some comp → runner comp (slice_set a.sets k (Some t)) ≡ found
+    → unit ≡ record { widths = ws; registers = registers_by book ws a.past found }
     → slice_set core.units comp unit ≡ units_of book core.shape a.past (slice_set a.sets k (Some t))
 units_one book core a k comp ws s t unit found h apart place at_comp on still runs is =
-    ap₂ (λ (us : List UnitView) (u : UnitView). slice_set us comp u) h.units (is ∙ sym (unit_by-runner book a.past (slice_set a.sets k (Some t)) comp ws found runs))
-    ∙ units_put book core.shape a.past a.past a.sets (slice_set a.sets k (Some t)) comp ws at_comp (λ c other. unit_stays book a.past a.sets k c (Some t) (Some s) apart place (quiet_but s comp c on other) (quiet_but t comp c still other))
+    ap₂ (λ (us : List UnitView) (u : UnitView). slice_set us comp u) h.units
+    (is ∙ sym (unit_by-runner book a.past (slice_set a.sets k (Some t)) comp ws found runs))
+    ∙ units_put book core.shape a.past a.past a.sets (slice_set a.sets k (Some t)) comp ws at_comp
+    (λ c other. unit_stays book a.past a.sets k c (Some t) (Some s) apart place (quiet_but s comp c on other) (quiet_but t comp c still other))
+
+-- and it is the unit of the set that is put, where this one runs
+pub units_run : (book : Book) (core : CoreView) (a : Account) (k comp : ℕ) (ws : List ℕ) (s t : Kept) (unit : UnitView) → CoreStands book core a
+    → AreApart (faces_of (slice_set a.sets k (Some t))) → slice_get a.sets k ≡ Some (Some s) → slice_get core.shape comp ≡ Some ws
+    → s.set.component ≡ Some comp → t.set.component ≡ Some comp → t.running ≡ true
+    → unit ≡ record { widths = ws; registers = registers_by book ws a.past (Some t) }
+    → slice_set core.units comp unit ≡ units_of book core.shape a.past (slice_set a.sets k (Some t))
+units_run book core a k comp ws s t unit h apart place at_comp on still run is =
+    let put = get-set_same a.sets k (Some t) (slice_get_within a.sets k (Some s) place) in
+    units_one book core a k comp ws s t unit (Some t) h apart place at_comp on still
+    (runner_is (slice_set a.sets k (Some t)) k comp t apart put (runs_there t comp run still)) is
 
 -- the time is the clock after all occurrences
 pub now_is : (book : Book) (core : CoreView) (a : Account) → CoreStands book core a → time_after core.last ≡ clock a.past (length a.past)

@@ -4,13 +4,24 @@ use Rattle.thread_core.proofs.Words.{Some, face_of, ℕ, runs_on, false, option_
 use Rattle.thread_core.proofs.Words.{if◌then◌else◌, Face, owner_from, slice_get, zero, sym, suc, ◌+◌, cond-false, cases_Bool, inl, cond-true, arith, inr}
 use Rattle.thread_core.proofs.Words.{sum_by-append, ◌≤◌, at, same_some, get-map_some, AreApart, runner, option_and_then, some-at, slice_set, cases_eq}
 use Rattle.thread_core.proofs.Words.{get-set_same, slice_get_within, subst, get-set_other, runs, count_by, cond, ◌<◌, length, units_from, unit_at, units_of}
-use Rattle.thread_core.proofs.Words.{registers_by, same_items}
+use Rattle.thread_core.proofs.Words.{registers_by, same_items, is_counting, counting_by, slot_of}
+
+-- a set runs in the core where it does in the account
+runs_same : (book : Book) (past : List Occ) (s : Kept) (b : Bool) (m : Option ℕ) → is_counting (counting_by book past s b m) ≡ b
+runs_same book past s false m = refl
+runs_same book past s true None = refl
+runs_same book past s true (Some slice) = refl
+
+pub face_same : (book : Book) (shape : Widths) (past : List Occ) (s : Kept) → face_of_slot (slot_of book shape past s) ≡ face_of s
+face_same book shape past s = ap (λ (b : Bool). record (face_of s) { running = b }) (runs_same book past s s.running s.set.slice)
 
 -- what refusals look at is the same in the core and in the account
-pub faces_same : (book : Book) (shape : Widths) (past : List Occ) (sets : List (Option Kept)) → map (option_map face_of_slot) (slots_of book shape past sets) ≡ faces_of sets
+pub faces_same : (book : Book) (shape : Widths) (past : List Occ) (sets : List (Option Kept))
+    → map (option_map face_of_slot) (slots_of book shape past sets) ≡ faces_of sets
 faces_same book shape past [] = refl
 faces_same book shape past (None ∷ sets) = ap (λ fs. None ∷ fs) (faces_same book shape past sets)
-faces_same book shape past (Some s ∷ sets) = ap (λ fs. Some (face_of s) ∷ fs) (faces_same book shape past sets)
+faces_same book shape past (Some s ∷ sets) =
+    ap₂ (λ (f : Face) (fs : List (Option Face)). Some f ∷ fs) (face_same book shape past s) (faces_same book shape past sets)
 
 -- what is in a place does not run on the component
 abbrev pub IsQuiet : ℕ → Option Kept → Type 0

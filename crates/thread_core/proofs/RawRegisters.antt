@@ -6,16 +6,17 @@ use Rattle.thread_core.proofs.Words.{Occ, Kept, Native, IsFit, widths_at, set_na
 use Rattle.thread_core.proofs.Words.{threshold_among, count, plain, Pin, ArePinned, pins_of, pinned, Register, programs-at, replicate, length}
 use Rattle.thread_core.proofs.Words.{length-replicate, get-pins_from, slice_get_within, get_at, placed, pin_made, at_place-replicate, CoreView, Account}
 use Rattle.thread_core.proofs.Words.{CoreStands, at, face_of, cases_Bool, option_and_then, ap₂, ◌⊎◌, inl, inr, nat_le, UnitView, cond-true}
-use Rattle.thread_core.proofs.Words.{cond-false, account_refusal, reply_over, sight_of_kept, register_under, Slot, option_map, at_map, slot_of, subst₂}
-use Rattle.thread_core.proofs.Words.{AgreesWith, Follows, refusal_of, slot_faces, refused}
+use Rattle.thread_core.proofs.Words.{cond-false, account_refusal, reply_over, sight_of_kept, Slot, option_map, at_map, subst₂}
+use Rattle.thread_core.proofs.Words.{AgreesWith, Follows, refusal_of, slot_faces, refused, face_of_slot, IsRefusedWith, is_absent}
 use Rattle.session_model.specs.declared.reply.Body.TheVariants as body
 use Rattle.session_model.specs.declared.call.Call.TheVariants as call
+use Rattle.thread_core.proofs.Owners.{face_same}
 use Rattle.thread_core.proofs.Starting.{none_any}
 use Rattle.session_model.specs.Refusals.{has_counter, leaves_free, leaves_free_by}
 use Rattle.thread_slots.specs.RawRegister.{register_value, register_shown, register_on, register_by}
 use Rattle.session_model.specs.Registers.{register_of}
 use Rattle.thread_slots.proofs.Programs.{programs-other}
-use Rattle.thread_core.proofs.Looking.{fit_of, widths_on, unit_on, slot_at, looks_follows}
+use Rattle.thread_core.proofs.Looking.{fit_of, widths_on, unit_on, under, looks_follows}
 use Rattle.session_model.specs.Faces.{has}
 use Rattle.std.proofs.lemmas.Bool.{le-leb}
 use Rattle.thread_core.specs.Following.{reply_of}
@@ -139,34 +140,49 @@ tells_set book core a k c s h e = go (cases_Bool s.running) s.set.component refl
     by (inr has) = subst (Tells T R) (sym (found ∙ cond-false (nat_le (length ws.0) c) (Err Einval) (register_by s.set.slice unit c) has))
         (counted ws.0 s.set.slice run refl ws.2 (ap (λ (w : List ℕ). not (nat_le (length w) c)) (sym ws.2) ∙ ap not has))
 
-tells : (book : Book) (core : CoreView) (a : Account) (k c : ℕ) → CoreStands book core a
-    → Tells (account_refusal book core.shape a (call.Raw k c)) (reply_over book (sight_of_kept book core.shape a.past) a.sets (call.Raw k c)) (register_under core.units (at core.slots k) c)
-tells book core a k c h = subst (λ (x : Option Slot). Tells T R (register_under core.units x c)) (sym (slot_at book core a k h)) (go (at a.sets k) refl) where
-  T : Option Refusal
-  T = account_refusal book core.shape a (call.Raw k c)
+tells : (book : Book) (core : CoreView) (a : Account) (k c : ℕ) (slot : Slot) → CoreStands book core a → at core.slots k ≡ Some slot
+    → Tells (account_refusal book core.shape a (call.Raw k c)) (reply_over book (sight_of_kept book core.shape a.past) a.sets (call.Raw k c))
+    (register_shown core.units (face_of_slot slot) c)
+tells book core a k c slot h there =
+    let u = under book core a k slot h there in
+    let s = u.set in
+    let table = ap (table_by book core.shape c) (at_map face_of a.sets k ∙ ap (option_map face_of) u.at_set) in
+    let reply = ap (λ (o : Option Kept). done (option_map_or (λ x. body.Register (register_of book core.shape a.past x c)) o body.Nothing)) u.at_set in
+    let face = ap face_of_slot (sym u.is) ∙ face_same book core.shape a.past s in
+    let shown : Face → Result ℕ Code = λ f. register_shown core.units f c in
+    subst₂ (λ (t : Option Refusal) (r : Reply). Tells t r (shown (face_of_slot slot))) (sym table) (sym reply)
+    (subst (λ (f : Face). Tells (table_by book core.shape c (Some (face_of s))) (done (body.Register (register_of book core.shape a.past s c))) (shown f))
+    (sym face) (tells_set book core a k c s h u.at_set))
 
-  R : Reply
-  R = reply_over book (sight_of_kept book core.shape a.past) a.sets (call.Raw k c)
+pub raw_follows : (book : Book) (core : CoreView) (k c : ℕ) (result : Result ℕ Code) (slot : Slot) → AgreesWith book core → at core.slots k ≡ Some slot
+    → result ≡ register_shown core.units (face_of_slot slot) c → Follows book core core (call.Raw k c) (reply_of (λ v. body.Register v) result)
+raw_follows book core k c result slot agrees there is =
+    go result (λ a h. subst (Tells (refusal a) (reply a)) (sym is) (tells book core a k c slot h there)) where
+      refusal : Account → Option Refusal
+      refusal a = account_refusal book core.shape a (call.Raw k c)
 
-  table : (o : Option Kept) → at a.sets k ≡ o → T ≡ table_by book core.shape c (option_map face_of o)
-  table o e = ap (table_by book core.shape c) (at_map face_of a.sets k ∙ ap (option_map face_of) e)
+      reply : Account → Reply
+      reply a = reply_over book (sight_of_kept book core.shape a.past) a.sets (call.Raw k c)
 
-  go : (o : Option Kept) → at a.sets k ≡ o → Tells T R (register_under core.units (option_map (slot_of book core.shape a.past) (at a.sets k)) c)
-  go None e = subst (λ (x : Option Kept). Tells T R (register_under core.units (option_map (slot_of book core.shape a.past) x) c)) (sym e) (table None e)
-  go (Some s) e =
-      let reply : R ≡ done (body.Register (register_of book core.shape a.past s c)) = ap (λ (o : Option Kept). done (option_map_or (λ x. body.Register (register_of book core.shape a.past x c)) o body.Nothing)) e in
-      subst (λ (x : Option Kept). Tells T R (register_under core.units (option_map (slot_of book core.shape a.past) x) c)) (sym e)
-      (subst₂ (λ (t : Option Refusal) (r : Reply). Tells t r (register_shown core.units (face_of s) c)) (sym (table (Some s) e)) (sym reply) (tells_set book core a k c s h e))
+      stands : (r : Option Refusal) → refusal agrees.account ≡ r → refusal_of book core.shape core.registered (slot_faces core.slots) (call.Raw k c) ≡ r
+      stands r says = refusal_stands book core agrees.account (call.Raw k c) agrees.stands ∙ says
 
-pub raw_follows : (book : Book) (core : CoreView) (k c : ℕ) (result : Result ℕ Code) → AgreesWith book core → result ≡ register_under core.units (at core.slots k) c
-    → Follows book core core (call.Raw k c) (reply_of (λ v. body.Register v) result)
-raw_follows book core k c (Ok v) agrees is = looks_follows book core (call.Raw k c) (done (body.Register v)) agrees tt refl none (λ a. refl) (λ a h. (told a h).1) where
-  told : (a : Account) → CoreStands book core a → Tells (account_refusal book core.shape a (call.Raw k c)) (reply_over book (sight_of_kept book core.shape a.past) a.sets (call.Raw k c)) (Ok v)
-  told a h = subst (Tells (account_refusal book core.shape a (call.Raw k c)) (reply_over book (sight_of_kept book core.shape a.past) a.sets (call.Raw k c))) (sym is) (tells book core a k c h)
+      go : (result : Result ℕ Code) → ((a : Account) → CoreStands book core a → Tells (refusal a) (reply a) result)
+          → Follows book core core (call.Raw k c) (reply_of (λ v. body.Register v) result)
+      go (Ok v) told =
+          let none = stands None (told agrees.account agrees.stands).0 in
+          looks_follows book core (call.Raw k c) (done (body.Register v)) agrees tt refl none (λ a. refl) (λ a h. (told a h).1)
+      go (Err e) told =
+          let some = stands (Some (Plain e)) (told agrees.account agrees.stands) in
+          refused_follows book core (call.Raw k c) (Plain e) (refused (Plain e)) agrees some refl
 
-  none : refusal_of book core.shape core.registered (slot_faces core.slots) (call.Raw k c) ≡ None
-  none = refusal_stands book core agrees.account (call.Raw k c) agrees.stands ∙ (told agrees.account agrees.stands).0
-raw_follows book core k c (Err e) agrees is =
-    let a = agrees.account in
-    let told : account_refusal book core.shape a (call.Raw k c) ≡ Some (Plain e) = subst (Tells (account_refusal book core.shape a (call.Raw k c)) (reply_over book (sight_of_kept book core.shape a.past) a.sets (call.Raw k c))) (sym is) (tells book core a k c agrees.stands) in
-    refused_follows book core (call.Raw k c) (Plain e) (refused (Plain e)) agrees (refusal_stands book core a (call.Raw k c) agrees.stands ∙ told) refl
+-- where there is no set
+pub raw_refused : {book : Book} {core : CoreView} {k c : ℕ} {result : Option Code} {code : Code} → AgreesWith book core
+    → IsRefusedWith core (call.Read k) result → result ≡ Some code → Follows book core core (call.Raw k c) (plain code)
+raw_refused {book} {core} {k} {c} {result} {code} agrees e is =
+    refused_follows book core (call.Raw k c) (Plain code) (plain code) agrees
+    (first (is_absent (slot_faces core.slots) k) _ (sym (ap (option_map Plain) is) ∙ e book)) refl where
+      first : (b : Bool) (more : Option Refusal) → Some (Plain code) ≡ (if b then Some (Plain Enoevst) else None)
+          → (if b then Some (Plain Enoevst) else more) ≡ Some (Plain code)
+      first true more h = sym h
+      first false more h = cc

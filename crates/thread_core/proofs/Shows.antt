@@ -6,14 +6,15 @@ use Rattle.thread_core.proofs.Words.{subst, ArePinned, pinned, Register, at_plac
 use Rattle.thread_core.proofs.Words.{cond-true, slot_of, measured, false, inr, cond-false, inl, numbers_of, turns_of, rotation_of, turned, get_or}
 use Rattle.thread_core.proofs.Words.{position_or_len, same_native, AtRest, EventRef, event_value, number_in, map_same_on, get_position, get_or_from_slice_get}
 use Rattle.thread_core.proofs.Words.{get-map_some, values_shown, values_of, ◌*◌, estimate, cases_eq, ◌==◌, ◌/◌, eq-eqb, ne_eqb, ◌+◌, ◌<◌, ◌^◌, IsWithin}
-use Rattle.thread_core.proofs.Words.{weight_of, groups, masks_of, weighed, weight_in_turn, active, Turns, AgreesWith, length-map, option_map, at-some, end}
-use Rattle.thread_core.proofs.Words.{IsCountable, same_some, RotationView, subst₂, ℤ, Follows, done, Face, option_map_or, is_multiplexed, unit_numbers}
-use Rattle.thread_core.proofs.Words.{turn_numbers, IsTellable, IsInTurns, position_is, rule_of_event, natives_of_event, pos, state_bits, assigned, Call, rows}
-use Rattle.thread_core.proofs.Words.{slot_faces, is_absent}
+use Rattle.thread_core.proofs.Words.{weight_of, groups, masks_of, weighed, weight_in_turn, active, Turns, AgreesWith, length-map, at-some, end}
+use Rattle.thread_core.proofs.Words.{same_some, RotationView, subst₂, ℤ, Follows, done, Face, option_map_or, is_multiplexed, unit_numbers}
+use Rattle.thread_core.proofs.Words.{turn_numbers, IsTellable, IsInTurns, position_is, rule_of_event, natives_of_event, pos, state_bits, assigned}
+use Rattle.thread_core.proofs.Words.{face_of_slot, is_counting, AreOnUnit, HasUnit, AreWidths, IsFit, widths_at, get_at, unwrap_or}
 use Rattle.session_model.specs.declared.reply.Body.TheVariants as body
 use Rattle.session_model.specs.declared.call.Call.TheVariants as call
-use Rattle.thread_core.proofs.Squares.{running_slot, numbers-length, kept_as, kept_cases}
-use Rattle.thread_core.proofs.Looking.{fit_of, widths_on, unit_on, now_is, comp_below, slot_at, under, row_off, present, shows_follows}
+use Rattle.thread_core.proofs.Squares.{numbers-length, kept_as, kept_cases}
+use Rattle.thread_core.proofs.Looking.{fit_of, widths_on, unit_on, unit_of, now_is, under, row_off, shows_follows}
+use Rattle.thread_slots.specs.declared.slot.Counting.TheVariants as counting
 use Rattle.event_sets.proofs.Clashing.{none_of}
 use Rattle.thread_slots.proofs.Telling.{pins_show, pins_natives, turns_show}
 use Rattle.postfix_rules.specs.Rules.{rule_value}
@@ -22,7 +23,8 @@ use Rattle.std.proofs.Math.Nat.{div-le_of_le-mul}
 use Rattle.thread_core.proofs.Weighing.{weighed-le, weight_small, within_at, count_fits}
 use Rattle.session_laws.proofs.CountsInTurns.{counts_per_tick}
 use Rattle.std.proofs.lemmas.List.Elements.{All-map}
-use Rattle.thread_core.proofs.Taking.{past_short, running_countable, length-turned}
+use Rattle.thread_core.proofs.Taking.{past_short, by_turns, length-turned}
+use Rattle.thread_core.proofs.Owners.{length-units, face_same}
 use Rattle.thread_core.proofs.Following.{Goes}
 use Rattle.session_model.specs.declared.reply.Assigned.{Assigned}
 
@@ -43,26 +45,27 @@ abbrev the_numbers : Book → CoreView → Slot → List ℕ
 the_numbers book core slot = numbers_shown core.units (time_after core.last) slot
 
 -- what is shown of a set are its counts, or its estimates
-plain_numbers : (book : Book) (core : CoreView) (a : Account) (k : ℕ) (s : Kept) (component : Option ℕ) → CoreStands book core a → at a.sets k ≡ Some s → s.running ≡ true → s.set.slice ≡ None → s.set.component ≡ component
-    → unit_numbers (option_and_then (slice_get core.units) s.set.component) (running_slot book core.shape a.past s None) ≡ map (count a.past s) (set_natives book s.set)
+plain_numbers : (book : Book) (core : CoreView) (a : Account) (k : ℕ) (s : Kept) (component : Option ℕ) → CoreStands book core a → at a.sets k ≡ Some s
+    → s.running ≡ true → s.set.slice ≡ None → s.set.component ≡ component
+    → unit_numbers (option_and_then (slice_get core.units) s.set.component) (pins_of book s.set) ≡ map (count a.past s) (set_natives book s.set)
 plain_numbers book core a k s None h e run plain is =
     let fit = fit_of book core a k s h e in
     let none = no_natives s.set.component (set_natives book s.set) is fit.sound.owned in
-    ap (λ (c : Option ℕ). unit_numbers (option_and_then (slice_get core.units) c) (running_slot book core.shape a.past s None)) is
-    ∙ ap (λ (ns : List Native). replicate (length ns) 0) none
-    ∙ sym (ap (map (count a.past s)) none)
+    ap (λ (c : Option ℕ). unit_numbers (option_and_then (slice_get core.units) c) (pins_of book s.set)) is ∙ sym (ap (map (count a.past s)) none)
 plain_numbers book core a k s (Some comp) h e run plain is =
     let fit = fit_of book core a k s h e in
     let ws = widths_on book core.shape s.set comp fit is in
-    let same = ws.2 in
     let unit : UnitView = record { widths = ws.0; registers = registers_by book ws.0 a.past (Some s) } in
     let registers = ap (λ (m : Option ℕ). running_registers book ws.0 a.past s m) plain in
     let found = ap (option_and_then (slice_get core.units)) is ∙ unit_on book core a k comp s ws.0 h e run is ws.1 in
     let pins = pins_of book s.set in
     let counts : Native → ℕ = count a.past s in
-    let at_pins = subst (λ (w : List ℕ). ArePinned w (pins_of book s.set)) (sym same) (pinned book core.shape s.set fit plain) in
-    ap (λ (u : Option UnitView). unit_numbers u (running_slot book core.shape a.past s None)) found
-    ∙ pins_show unit s.set.domain counts pins (count_fits book core a s h) (λ i p f. ap (λ (rs : List (Option Register)). at_place rs p.counter) registers ∙ programs-at ws.0 s.set.domain counts pins (replicate (length ws.0) None) i p at_pins (length-replicate (length ws.0) (let none : Option Register = None in none)) f)
+    let none : Option Register = None in
+    let at_pins = subst (λ (w : List ℕ). ArePinned w (pins_of book s.set)) (sym ws.2) (pinned book core.shape s.set fit plain) in
+    ap (λ (u : Option UnitView). unit_numbers u pins) found
+    ∙ pins_show unit s.set.domain counts pins (count_fits book core a s h) (λ i p f.
+    ap (λ (rs : List (Option Register)). at_place rs p.counter) registers
+    ∙ programs-at ws.0 s.set.domain counts pins (replicate (length ws.0) none) i p at_pins (length-replicate (length ws.0) none) f)
     ∙ pins_natives book s.set (set_natives book s.set) (counters_for (set_natives book s.set)) counts (placed book core.shape s.set fit plain).one_each
 
 -- the time in the window of a running set
@@ -129,28 +132,65 @@ turned_le t past s lasts (n ∷ ns) (g ∷ gs) h (suc k) below = turned_le t pas
 
 -- a running set whose natives take turns counted no more than its ticks allow
 in_turns : (book : Book) (core : CoreView) (a : Account) → CoreStands book core a → time_after core.last ≤ 4294967295 → (s : Kept) → IsWithin (length a.past) s
-    → (r : RotationView) → s.running ≡ true → (slot_of book core.shape a.past s).rotation ≡ Some r
-    → IsInTurns (slot_of book core.shape a.past s) (time_after core.last) r
+    → (r : RotationView) (begun : ℕ) (kept : List ℕ) → (slot_of book core.shape a.past s).counting ≡ counting.InTurns r begun kept
+    → IsInTurns (time_after core.last) r begun kept
 in_turns book core a h in_time = kept_cases _
-    (λ s within r run is. cc)
-    (λ s within r run is. cc)
-    (λ s slice within r run is.
+    (λ s within r begun kept is. cc)
+    (λ s within r begun kept is. cc)
+    (λ s slice within r begun kept is.
     let t = kept_as s true (Some slice) in
     let ns = set_natives book t.set in
     let gs = numbers_of book t.set in
     let u = turns_of slice gs a.past t in
     let last = ap time_after h.last in
-    let begun = clock_rises None t.from a.past h.rises in
+    let began = clock_rises None t.from a.past h.rises in
     let lasts = total_now book core a t h refl in
     let counts = turned_le u a.past t (total a.past t) ns gs (λ g n. counts_per_tick a.past t slice gs g n h.rises within) in
-    subst (IsInTurns (running_slot book core.shape a.past t (Some slice)) (time_after core.last)) (same_some (rotation_of gs slice) r is) (record {
-      begun = omega arith;
+    let new = turned u a.past t ns gs in
+    by_turns (IsInTurns (time_after core.last)) (rotation_of gs slice) r (clock a.past t.from) begun new kept is (record {
+      began = omega arith;
       short = omega arith;
       same_length = length-turned u a.past t ns gs (numbers-length book t.set) ∙ sym (numbers-length book t.set);
       counts = λ j below. subst (λ (x : ℕ). get_or (turned u a.past t ns gs) j 0 ≤ 255 * active u (get_or gs j 0) x) (sym lasts) (counts j below);
     }))
 
--- what the code asks for when it tells of a set
+-- the pins of a set that is on its unit are on counters of it
+on_counters : (book : Book) (core : CoreView) (a : Account) (s : Kept) → CoreStands book core a → IsFit book core.shape s.set → s.set.slice ≡ None
+    → AreOnUnit core.units s.set.component (pins_of book s.set)
+on_counters book core a s h fit plain = record {
+  has_unit = λ comp is.
+      let below = fit.has_component comp is in
+      omega (arith, ap length h.units, length-units book a.past a.sets 0 core.shape);
+  widths = λ comp unit is there. let ws = found comp unit is there in subst AreWidths ws.2 (h.shape.widths comp ws.0 ws.1);
+  pinned = λ comp unit is there.
+      let ws = found comp unit is there in
+      let same = ap (widths_at core.shape) is ∙ ap (λ (o : Option (List ℕ)). unwrap_or o []) ws.1 ∙ ws.2 in
+      subst (λ (w : List ℕ). ArePinned w (pins_of book s.set)) same (pinned book core.shape s.set fit plain);
+} where
+  found : (comp : ℕ) (unit : UnitView) → s.set.component ≡ Some comp → slice_get core.units comp ≡ Some unit
+      → (ws : List ℕ) × (slice_get core.shape comp ≡ Some ws) × (ws ≡ unit.widths)
+  found comp unit is there =
+      let ws = get_at core.shape comp (fit.has_component comp is) in
+      (ws.0, ws.1, ap (λ (x : UnitView). x.widths) (same_some _ unit (sym (unit_of book core a comp ws.0 h ws.1) ∙ there)))
+
+slot_has_unit : (book : Book) (core : CoreView) (a : Account) → CoreStands book core a → (s : Kept) → IsFit book core.shape s.set
+    → HasUnit core.units (slot_of book core.shape a.past s)
+slot_has_unit book core a h = kept_cases _
+    (λ s fit pins armed is. cc)
+    (λ s fit pins armed is.
+    let t = kept_as s true None in
+    let same : pins_of book t.set ≡ pins = cc in
+    subst (AreOnUnit core.units t.set.component) same (on_counters book core a t h fit refl))
+    (λ s slice fit pins armed is. cc)
+
+-- what the code asks for when it zeroes a set
+pub has_unit : (book : Book) (core : CoreView) (k : ℕ) (slot : Slot) → AgreesWith book core → at core.slots k ≡ Some slot → HasUnit core.units slot
+has_unit book core k slot agrees there =
+    let u = under book core agrees.account k slot agrees.stands there in
+    let fit = fit_of book core agrees.account k u.set agrees.stands u.at_set in
+    subst (HasUnit core.units) u.is (slot_has_unit book core agrees.account agrees.stands u.set fit)
+
+-- what it asks for when it tells of one
 pub tellable : {book : Book} {core : CoreView} (k : ℕ) {now : ℕ} {slot : Slot} → now ≡ time_after core.last → AgreesWith book core → at core.slots k ≡ Some slot
     → IsTellable book core.units now slot
 tellable {book} {core} k {slot = slot} time agrees given =
@@ -158,7 +198,6 @@ tellable {book} {core} k {slot = slot} time agrees given =
     let h = agrees.stands in
     let u = under book core a k slot h given in
     let s = u.set in
-    let here = slot_at book core a k h ∙ ap (option_map (slot_of book core.shape a.past)) u.at_set in
     let fit = fit_of book core a k s h u.at_set in
     let within = within_at (length a.past) a.sets k s h.within (at-some a.sets k s u.at_set) in
     let numbers = numbers_are book core a k h s u.at_set in
@@ -169,12 +208,7 @@ tellable {book} {core} k {slot = slot} time agrees given =
     let short : total a.past s < 2 ^ 32 = omega arith in
     subst₂ (IsTellable book core.units) (sym time) u.is (record {
       measurable = record {
-        has_unit = λ comp run is. (comp_below book core k comp (slot_of book core.shape a.past s) agrees here is).1;
-        on_unit = λ comp unit run is at_comp. (
-            let ws = widths_on book core.shape s.set comp fit is in
-            let same = same_some _ unit (sym (unit_on book core a k comp s ws.0 h u.at_set run is ws.1) ∙ at_comp) in
-            let counts = running_countable book core.shape a.past s ws.0 fit run few h.rises ws.2 in
-            subst (λ (x : UnitView). IsCountable x (slot_of book core.shape a.past s)) same counts);
+        has_unit = slot_has_unit book core a h s fit;
         in_turns = in_turns book core a h agrees.in_time s within;
       };
       same_length = ap length numbers ∙ length-map (set_natives book s.set) (measured s.set.slice book a.past s);
@@ -185,30 +219,31 @@ tellable {book} {core} k {slot = slot} time agrees given =
 
 -- ---- calls that show something of a set
 
--- the set that a call names is there, where its table begins with that test
-pub inside : {book : Book} {core : CoreView} {made : Call} (k : ℕ) → Goes book core made
-    → option_map_or (λ r. r.0) (slice_get (rows book core.shape core.registered (slot_faces core.slots) made) 0) false ≡ is_absent (slot_faces core.slots) k
-    → k < length core.slots
-inside {book} {core} {made} k g first = (present book core g.agrees.account k g.agrees.stands (sym first ∙ row_off book core made 0 g.allowed)).inside
+pub read_follows : (book : Book) (core : CoreView) (k : ℕ) (values : List ℤ) (slot : Slot) → Goes book core (call.Read k) → at core.slots k ≡ Some slot
+    → values ≡ values_shown book core.units (time_after core.last) slot → Follows book core core (call.Read k) (done (body.Values values))
+read_follows book core k values slot g here is =
+    shows_follows book core (call.Read k) k slot (λ a s. body.Values (values_of book a.past s)) (body.Values values) g tt refl here (λ a. refl) (λ a. refl)
+    (λ a h u. ap body.Values (is ∙ ap (values_shown book core.units (time_after core.last)) (sym u.is) ∙ values_are book core a k u.set h u.at_set))
 
-pub read_follows : (book : Book) (core : CoreView) (k : ℕ) (values : List ℤ) → Goes book core (call.Read k) → ((slot : Slot) → at core.slots k ≡ Some slot → values ≡ values_shown book core.units (time_after core.last) slot)
-    → Follows book core core (call.Read k) (done (body.Values values))
-read_follows book core k values g is = shows_follows book core (call.Read k) k (λ a s. body.Values (values_of book a.past s)) (body.Values values)
-    g tt refl (row_off book core (call.Read k) 0 g.allowed) (λ a. refl) (λ a. refl) (λ a h p. ap body.Values (is _ p.at_slot ∙ values_are book core a k p.set h p.at_set))
+pub list_follows : (book : Book) (core : CoreView) (k : ℕ) (events : List EventRef) (slot : Slot) → Goes book core (call.ListEvents k)
+    → at core.slots k ≡ Some slot → events ≡ slot.set.rest.events → Follows book core core (call.ListEvents k) (done (body.Events events))
+list_follows book core k events slot g here is =
+    shows_follows book core (call.ListEvents k) k slot (λ a s. body.Events s.set.events) (body.Events events) g tt refl here (λ a. refl) (λ a. refl)
+    (λ a h u. ap body.Events (is ∙ ap (λ (x : Slot). x.set.rest.events) (sym u.is)))
 
-pub list_follows : (book : Book) (core : CoreView) (k : ℕ) (events : List EventRef) → Goes book core (call.ListEvents k) → ((slot : Slot) → at core.slots k ≡ Some slot → events ≡ slot.set.rest.events)
-    → Follows book core core (call.ListEvents k) (done (body.Events events))
-list_follows book core k events g is = shows_follows book core (call.ListEvents k) k (λ a s. body.Events s.set.events) (body.Events events)
-    g tt refl (row_off book core (call.ListEvents k) 0 g.allowed) (λ a. refl) (λ a. refl) (λ a h p. ap body.Events (is _ p.at_slot))
+pub state_follows : (book : Book) (core : CoreView) (k bits : ℕ) (slot : Slot) → Goes book core (call.State k) → at core.slots k ≡ Some slot
+    → bits ≡ state_bits (is_counting slot.counting) slot.set.rest → Follows book core core (call.State k) (done (body.State bits))
+state_follows book core k bits slot g here is =
+    shows_follows book core (call.State k) k slot (λ a s. body.State (state_bits s.running s.set)) (body.State bits) g tt refl here (λ a. refl) (λ a. refl)
+    (λ a h u. ap body.State (is ∙ ap (λ (f : Face). state_bits f.running f.set) (ap face_of_slot (sym u.is) ∙ face_same book core.shape a.past u.set)))
 
-pub state_follows : (book : Book) (core : CoreView) (k bits : ℕ) → Goes book core (call.State k) → ((slot : Slot) → at core.slots k ≡ Some slot → bits ≡ state_bits slot.running slot.set.rest)
-    → Follows book core core (call.State k) (done (body.State bits))
-state_follows book core k bits g is = shows_follows book core (call.State k) k (λ a s. body.State (state_bits s.running s.set)) (body.State bits)
-    g tt refl (row_off book core (call.State k) 0 g.allowed) (λ a. refl) (λ a. refl) (λ a h p. ap body.State (is _ p.at_slot))
-
-pub assign_follows : (book : Book) (core : CoreView) (k : ℕ) (given : Assigned) → Goes book core (call.Assign k)
-    → ((slot : Slot) → at core.slots k ≡ Some slot → slot.set.rest.slice ≡ None → given ≡ record { natives = slot.set.natives; counters = counters_for slot.set.natives }) → Follows book core core (call.Assign k) (done (body.Assigned given))
-assign_follows book core k given g is = shows_follows book core (call.Assign k) k (λ a s. body.Assigned (assigned book s.set)) (body.Assigned given) g tt refl (row_off book core (call.Assign k) 0 g.allowed) (λ a. refl) (λ a. refl) (λ a h p.
-    let plain = none_of p.set.set.slice (sym (ap (λ (o : Option Face). option_map_or (λ f. is_multiplexed f.set) o false) p.at_face)
+pub assign_follows : (book : Book) (core : CoreView) (k : ℕ) (given : Assigned) (slot : Slot) → Goes book core (call.Assign k) → at core.slots k ≡ Some slot
+    → (slot.set.rest.slice ≡ None → given ≡ record { natives = slot.set.natives; counters = counters_for slot.set.natives })
+    → Follows book core core (call.Assign k) (done (body.Assigned given))
+assign_follows book core k given slot g here is =
+    shows_follows book core (call.Assign k) k slot (λ a s. body.Assigned (assigned book s.set)) (body.Assigned given) g tt refl here (λ a. refl) (λ a. refl)
+    (λ a h u.
+    let plain = none_of u.set.set.slice (sym (ap (λ (o : Option Face). option_map_or (λ f. is_multiplexed f.set) o false) u.at_face)
     ∙ row_off book core (call.Assign k) 1 g.allowed) in
-    ap body.Assigned (is _ p.at_slot plain))
+    ap body.Assigned (is (ap (λ (x : Slot). x.set.rest.slice) (sym u.is) ∙ plain)
+    ∙ ap (λ (x : Slot). record { natives = x.set.natives; counters = counters_for x.set.natives }) (sym u.is)))

@@ -4,11 +4,12 @@ use Rattle.thread_core.proofs.Words.{zero, suc, ◌+◌, Book, Native, Occ, Kept
 use Rattle.thread_core.proofs.Words.{ap, ◌∙◌, if◌then◌else◌, Bool, true, false, ◌≤◌, length, IsFit, last_after, count, pins_of, runs, plain, ◌-◌, set_natives}
 use Rattle.thread_core.proofs.Words.{counters_for, held_have_natives, all_at, IsHeld, position_or_len, same_native, get_position, lead_among, slice_get_within}
 use Rattle.thread_core.proofs.Words.{placed, get_at, option_map_or, get_or_from_slice_get, get-pins_from, Pin, period, weight_of, pinned, nat_lt, ◌/◌, sym}
-use Rattle.thread_core.proofs.Words.{UnitView, running_registers, Counted, slot_of, Slot, slot_with, held_by, ap₂, Register, Turns, turned, weighed_running}
+use Rattle.thread_core.proofs.Words.{UnitView, running_registers, Counted, slot_of, Slot, slot_with, counting_by, ap₂, Register, Turns, turned, weighed_running}
 use Rattle.thread_core.proofs.Words.{weight_in_turn, weighed, AtRest, numbers_of, masks_of, length-map, counted, length-replicate, programs, programs-same}
 use Rattle.thread_core.proofs.Words.{clock, clock_stays, turns_of, IsWithin, map_same, measured, runs_on, face_of, ◌&&◌, eq-eqb, Domain, set, register_at}
 use Rattle.thread_core.proofs.Words.{pin_made, place_of_lead, armed_from, armed_event, armed_of, threshold_is, period_some, with_turn, carry_of, group_at}
-use Rattle.thread_core.proofs.Words.{all_moved, all_moved-programs, all_moved-none, le-ltb}
+use Rattle.thread_core.proofs.Words.{all_moved, all_moved-programs, all_moved-none, le-ltb, rotation_of}
+use Rattle.thread_slots.specs.declared.slot.Counting.TheVariants as counting
 use Rattle.overflow_dispatch.specs.Passing.{passed_from}
 use Rattle.std.specs.Int.{bit_at}
 use Rattle.thread_slots.proofs.Carries.{AreTold, pin_passes, pin_carries}
@@ -91,16 +92,13 @@ after book shape past o s = record { unit = unit_by book shape (past ++ o ∷ []
 
 -- what is held of a running set, and of a stopped one
 abbrev pub running_slot : Book → Widths → List Occ → Kept → Option ℕ → Slot
-running_slot book shape past s m = slot_with book shape s (held_by book shape past s true m)
+running_slot book shape past s m = slot_with book shape s (counting_by book past s true m)
 
 abbrev pub stopped_slot : Book → Widths → List Occ → Kept → Slot
-stopped_slot book shape past s = slot_with book shape s (held_by book shape past s false s.set.slice)
-
-pub slot_of-running : (book : Book) (shape : Widths) (past : List Occ) (s : Kept) (m : Option ℕ) → s.running ≡ true → s.set.slice ≡ m → slot_of book shape past s ≡ running_slot book shape past s m
-slot_of-running book shape past s m runs is = ap₂ (λ (b : Bool) (x : Option ℕ). slot_with book shape s (held_by book shape past s b x)) runs is
+stopped_slot book shape past s = slot_with book shape s (counting_by book past s false s.set.slice)
 
 pub slot_of-stopped : (book : Book) (shape : Widths) (past : List Occ) (s : Kept) → s.running ≡ false → slot_of book shape past s ≡ stopped_slot book shape past s
-slot_of-stopped book shape past s stopped = ap (λ (b : Bool). slot_with book shape s (held_by book shape past s b s.set.slice)) stopped
+slot_of-stopped book shape past s stopped = ap (λ (b : Bool). slot_with book shape s (counting_by book past s b s.set.slice)) stopped
 
 -- what holds of each stopped set, of each that runs on its unit, and of each whose natives take turns, holds of all
 abbrev pub kept_as : Kept → Bool → Option ℕ → Kept
@@ -176,7 +174,7 @@ counted_follows book shape past o s shapely = kept_cases (λ s. IsFit book shape
     ap (passes past t o (lead book e)) (all_at (λ y. y ≡ 0) t.set.thresholds k x zeros at)) in
     λ i. record {
       unit = unit_by book shape past t;
-      slot = record (running_slot book shape past t (Some slice)) { kept = kept i; begun = begun i };
+      slot = slot_with book shape t (counting.InTurns (rotation_of numbers slice) (begun i) (kept i));
       passed = (sym silent) i;
     })
     s
@@ -185,7 +183,9 @@ counted_follows book shape past o s shapely = kept_cases (λ s. IsFit book shape
 pub stopped_stays : (book : Book) (shape : Widths) (past : List Occ) (o : Occ) (s : Kept) → s.running ≡ false → IsWithin (length past) s → slot_of book shape (past ++ o ∷ []) s ≡ slot_of book shape past s
 stopped_stays book shape past o s stopped w =
     slot_of-stopped book shape (past ++ o ∷ []) s stopped
-    ∙ ap (λ (ks : List ℕ). record (stopped_slot book shape past s) { kept = ks }) (map_same (measured s.set.slice book (past ++ o ∷ []) s) (measured s.set.slice book past s) (λ n. measured_stopped book past o s s.set.slice n stopped w) (set_natives book s.set))
+    ∙ ap (λ (ks : List ℕ). slot_with book shape s (counting.Stopped ks))
+    (map_same (measured s.set.slice book (past ++ o ∷ []) s) (measured s.set.slice book past s)
+    (λ n. measured_stopped book past o s s.set.slice n stopped w) (set_natives book s.set))
     ∙ sym (slot_of-stopped book shape past s stopped)
 
 -- ---- a set that runs on another component is kept as it is, and notes nothing
@@ -241,7 +241,7 @@ slot_elsewhere book shape past o = kept_cases _
     let turns = turns_of slice numbers past t in
     let same : turns ≡ turns_of slice numbers (past ++ o ∷ []) t = ap (λ (c : ℕ). record turns { start = c }) (sym begun) in
     let kept = turned_elsewhere past o t turns (turns_of slice numbers (past ++ o ∷ []) t) (set_natives book t.set) numbers same h.running inside h.natives in
-    λ i. record (running_slot book shape past t (Some slice)) { kept = kept i; begun = begun i })
+    λ i. slot_with book shape t (counting.InTurns (rotation_of numbers slice) (begun i) (kept i)))
 
 -- it passes no threshold
 pub passing_elsewhere : (book : Book) (shape : Widths) (past : List Occ) (o : Occ) (s : Kept) → IsElsewhere book o s → s.from ≤ length past → passing_from book past s o 0 s.set.events s.set.thresholds ≡ []

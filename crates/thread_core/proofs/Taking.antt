@@ -1,17 +1,19 @@
 -- What holds of a core for which there is an account, and what a core is after an occurrence.
 use Rattle.thread_core.proofs.Words.{Turns, List, Occ, Kept, Native, ℕ, length, ◌≡◌, turned, [], refl, ◌∷◌, arith, ap, suc, ◌≤◌, Rises, All, ◌<◌, ◌^◌}
-use Rattle.thread_core.proofs.Words.{weighed, weight_in_turn, Book, Widths, IsFit, true, widths_at, IsCountable, registers_by, Some, slot_of, runs}
-use Rattle.thread_core.proofs.Words.{Option, running_registers, subst₂, sym, None, plain, pins_of, pinned, subst, ArePinned}
-use Rattle.thread_core.proofs.Words.{set_natives, numbers_of, RotationView, rotation_of, turns_of, ◌∙◌, CoreView, AgreesWith, owner_from, map, option_map}
-use Rattle.thread_core.proofs.Words.{face_of_slot, length-map, slice_get_within, slice_get, at, Account, faces_of, UnitView, Slot, units_of, slots_of}
-use Rattle.thread_core.proofs.Words.{unit_at, same_some, unwrap_or, get-map_some, CountedAll, ◌+◌, counted_all, time_after, CoreStands, consumed}
-use Rattle.thread_core.proofs.Words.{last_after, ap₂, ◌++◌, notes_at, note, counted_over, counted_at, cond-true, counted_place, ◌==◌, eq-eqb, set}
+use Rattle.thread_core.proofs.Words.{weighed, weight_in_turn, Book, Widths, IsFit, true, IsCountable, Some, slot_of}
+use Rattle.thread_core.proofs.Words.{Option, sym, None, subst, IsTurn, Counting, ⊤}
+use Rattle.thread_core.proofs.Words.{set_natives, numbers_of, RotationView, turns_of, ◌∙◌, CoreView, AgreesWith, owner_from, map, option_map}
+use Rattle.thread_core.proofs.Words.{face_of_slot, length-map, slice_get_within, Account, faces_of, UnitView, Slot, units_of, slots_of}
+use Rattle.thread_core.proofs.Words.{CountedAll, ◌+◌, counted_all, time_after, CoreStands, consumed}
+use Rattle.thread_core.proofs.Words.{last_after, ap₂, ◌++◌, notes_at, note, set}
 use Rattle.std.proofs.lemmas.List.Elements.{All-nil, All-cons}
 use Rattle.thread_core.proofs.Weighing.{weighed-le, turn_small}
-use Rattle.thread_core.proofs.Squares.{running_slot, slot_of-running, numbers-length}
+use Rattle.thread_slots.specs.declared.slot.Counting.TheVariants as counting
+use Rattle.thread_core.proofs.Squares.{numbers-length, kept_as, kept_cases}
 use Rattle.thread_slots.specs.Countable.{AreCountable}
-use Rattle.thread_core.proofs.Owners.{length-units, get-units, unit_by-runner, faces_same, Runs, runs_by, runner-some}
-use Rattle.thread_core.proofs.Looking.{widths_on}
+use Rattle.thread_core.proofs.Owners.{length-units, Runs, runs_by}
+use Rattle.thread_core.proofs.Looking.{under}
+use Rattle.thread_core.proofs.Following.{faces_stand}
 use Rattle.thread_core.proofs.Occurring.{all_follow}
 use Rattle.std.proofs.Common.{length-append}
 use Rattle.session_laws.proofs.Pushing.{last_after-append}
@@ -29,64 +31,58 @@ turned-room t past s (n ∷ ns) (g ∷ gs) few r =
     All-cons (λ t. t < 2 ^ 32) (weighed (weight_in_turn t g n s.set.domain) past s) (turned t past s ns gs)
     (let most = weighed-le (weight_in_turn t g n s.set.domain) past s (turn_small t g n s.set.domain) r in omega arith) (turned-room t past s ns gs few r)
 
--- a running set of a core can be counted on the unit of its component
-pub running_countable : (book : Book) (shape : Widths) (past : List Occ) (s : Kept) (ws : List ℕ) → IsFit book shape s.set → s.running ≡ true → length past ≤ 5200000 → Rises 0 past → ws ≡ widths_at shape s.set.component
-    → IsCountable (record { widths = ws; registers = registers_by book ws past (Some s) }) (slot_of book shape past s)
-running_countable book shape past s ws fit runs few r same = go s.set.slice refl where
-  countable_by : (m : Option ℕ) → s.set.slice ≡ m → IsCountable (record { widths = ws; registers = running_registers book ws past s m }) (running_slot book shape past s m) → IsCountable (record { widths = ws; registers = registers_by book ws past (Some s) }) (slot_of book shape past s)
-  countable_by m is h = subst₂ IsCountable (ap (λ (x : Option ℕ). record { widths = ws; registers = running_registers book ws past s x }) (sym is)) (sym (slot_of-running book shape past s m runs is)) h
+-- what holds of natives that take turns, by how their set counts
+pub by_turns : (P : RotationView → ℕ → List ℕ → Type 0) (r q : RotationView) (begun time : ℕ) (kept counts : List ℕ)
+    → counting.InTurns r begun kept ≡ counting.InTurns q time counts → P r begun kept → P q time counts
+by_turns P r q begun time kept counts same holds = subst of same holds where
+  of : Counting → Type 0
+  of (counting.Stopped ks) = ⊤
+  of (counting.OnUnit pins armed) = ⊤
+  of (counting.InTurns x now ks) = P x now ks
 
-  go : (m : Option ℕ) → s.set.slice ≡ m → IsCountable (record { widths = ws; registers = registers_by book ws past (Some s) }) (slot_of book shape past s)
-  go None plain = countable_by None plain record {
-    pinned = λ e. subst (λ (w : List ℕ). ArePinned w (pins_of book s.set)) (sym same) (pinned book shape s.set fit plain);
-    turning = λ r e. cc;
-  }
-  go (Some slice) turns =
-      let ns = set_natives book s.set in
-      let numbers = numbers_of book s.set in
-      let one = numbers-length book s.set in
-      let r' : RotationView = rotation_of numbers slice in
-      countable_by (Some slice) turns record {
-        pinned = λ e. absurd (cc);
-        turning = λ v e. let is : r' ≡ v = cc in record {
-          room = turned-room (turns_of slice numbers past s) past s ns numbers few r;
-          same_length = length-turned (turns_of slice numbers past s) past s ns numbers one;
-          grouped = ap (λ (x : RotationView). length x.numbers) (sym is) ∙ one;
-        };
-      }
+-- a set of a core can be counted
+slot_countable : (book : Book) (shape : Widths) (past : List Occ) → length past ≤ 5200000 → Rises 0 past → (s : Kept) → IsCountable (slot_of book shape past s)
+slot_countable book shape past few rises = kept_cases _
+    (λ s. record { turning = λ r begun kept e. cc })
+    (λ s. record { turning = λ r begun kept e. cc })
+    (λ s slice.
+    let t = kept_as s true (Some slice) in
+    let ns = set_natives book t.set in
+    let gs = numbers_of book t.set in
+    let u = turns_of slice gs past t in
+    let one = numbers-length book t.set in
+    record {
+      turning = λ r begun kept e. by_turns (λ x now ks. IsTurn ns x ks) _ r _ begun _ kept e (record {
+        room = turned-room u past t ns gs few rises;
+        same_length = length-turned u past t ns gs one;
+        grouped = one;
+      });
+    })
 
 pub past_short : (book : Book) (core : CoreView) (h : AgreesWith book core) → length h.account.past ≤ 5200000
 past_short book core h = let t = h.stands.taken in let l = h.stands.in_limits in omega arith
 
 -- the set that runs on the occurrence's component can be counted
-pub countable : (book : Book) (core : CoreView) (comp k : ℕ) → AgreesWith book core → owner_from comp 0 (map (option_map face_of_slot) core.slots) ≡ Some k → AreCountable core.units core.slots comp k
+pub countable : (book : Book) (core : CoreView) (comp k : ℕ) → AgreesWith book core
+    → owner_from comp 0 (map (option_map face_of_slot) core.slots) ≡ Some k → AreCountable core.units core.slots comp k
 countable book core comp k h e = record {
-  has_unit = rw (h.stands.units, length-units book a.past a.sets 0 core.shape) below;
+  has_unit = rw (h.stands.units, length-units book a.past a.sets 0 core.shape) (fit.has_component comp r.component);
   has_place = rw (h.stands.slots, length-map a.sets (option_map (slot_of book core.shape a.past))) (slice_get_within a.sets k (Some r.set) r.at);
-  countable = λ unit slot e f. of_slot unit slot (sym (ap (λ us. slice_get us comp) h.stands.units) ∙ e) (sym (ap (λ ss. at ss k) h.stands.slots) ∙ f);
+  countable = λ slot here.
+      let u = under book core h.account k slot h.stands here in
+      subst IsCountable u.is (slot_countable book core.shape h.account.past (past_short book core h) h.stands.rises u.set);
 } where
   a : Account
   a = h.account
 
   owns : owner_from comp 0 (faces_of h.account.sets) ≡ Some k
-  owns = sym (ap (λ ss. owner_from comp 0 (map (option_map face_of_slot) ss)) h.stands.slots ∙ ap (owner_from comp 0) (faces_same book core.shape h.account.past h.account.sets)) ∙ e
+  owns = sym (ap (owner_from comp 0) (faces_stand book core h.account h.stands)) ∙ e
 
   r : Runs h.account.sets comp k
   r = runs_by h.account.sets comp k owns
 
   fit : IsFit book core.shape r.set.set
   fit = h.stands.fit.fit k r.set r.at
-
-  below : comp < length core.shape
-  below = fit.has_component comp r.component
-
-  of_slot : (unit : UnitView) (slot : Slot) → slice_get (units_of book core.shape h.account.past h.account.sets) comp ≡ Some unit → at (slots_of book core.shape h.account.past h.account.sets) k ≡ Some slot → IsCountable unit slot
-  of_slot unit slot f g =
-      let ws = widths_on book core.shape r.set.set comp fit r.component in
-      let is_unit = sym f ∙ get-units book core.shape h.account.past h.account.sets comp ∙ ap (option_map (unit_at book h.account.past h.account.sets comp)) ws.1
-      ∙ ap Some (unit_by-runner book h.account.past h.account.sets comp ws.0 (Some r.set) (runner-some h.account.sets comp k r.set owns r.at)) in
-      let is_slot = same_some _ slot (sym (ap (λ x. unwrap_or x None) (get-map_some (option_map (slot_of book core.shape h.account.past)) h.account.sets k (Some r.set) r.at)) ∙ g) in
-      subst₂ IsCountable (sym (same_some unit _ is_unit)) is_slot (running_countable book core.shape h.account.past r.set ws.0 fit r.running (past_short book core h) h.stands.rises ws.2)
 
 -- the core after an occurrence
 abbrev pub after_taking : CoreView → Occ → CountedAll → CoreView
@@ -129,16 +125,6 @@ taken_agrees book core o c is small rises stamp few h = record {
   stands = taken_stands book core h.account o c is small rises few h.stands;
   in_time = omega arith;
 }
-
--- where no threshold is passed the number is 0
-pub none_is_zero : (before : Option Occ) (o : Occ) (units : List UnitView) (slots : List (Option Slot)) → (counted_all before o units slots).passed ≡ [] → (counted_all before o units slots).set ≡ 0
-none_is_zero before o units slots = over (owner_from o.comp 0 (map (option_map face_of_slot) slots)) where
-  over : (m : Option ℕ) → (counted_over before o units slots m).passed ≡ [] → (counted_over before o units slots m).set ≡ 0
-  over None e = refl
-  over (Some k) e = from (slice_get units o.comp) e where
-    from : (u : Option UnitView) → (counted_at before o units slots k u).passed ≡ [] → (counted_at before o units slots k u).set ≡ 0
-    from None e = refl
-    from (Some u) e = cond-true (length (counted_place before o u (at slots k)).passed == 0) 0 k (eq-eqb (length (counted_place before o u (at slots k)).passed) 0 (ap length e))
 
 -- what the code computed, part by part
 pub counted_is : (before last : Option Occ) (o : Occ) (units new_units : List UnitView) (slots new_slots : List (Option Slot)) (set : ℕ) (passed : List ℕ) → before ≡ last

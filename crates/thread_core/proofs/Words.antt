@@ -60,7 +60,7 @@ pub use Rattle.std.specs.Option.{option_map_or, option_and_then}
 pub use Rattle.std.specs.Prelude.{nat_le, ◌==◌, ◌&&◌, is_none, nat_lt, ◌||◌, All, sum, slice_index, ⊤, OnOk, IfErr, OnErr, count_by}
 pub use Rattle.thread_core.specs.CoreView.{CoreView, opening_core}
 pub use Rattle.thread_core.specs.Following.{Follows, values_reply, is_on_sets, changed_reply}
-pub use Rattle.thread_core.specs.Holding.{slot_of, slots_of, held_by, slot_with}
+pub use Rattle.thread_core.specs.Holding.{slot_of, slots_of, counting_by, slot_with}
 pub use Rattle.thread_core.specs.Refusing.{slot_faces, rest_code, first_code, IsRefusedWith}
 pub use Rattle.thread_core.specs.Registers.{start}
 pub use Rattle.thread_core.specs.Stands.{AgreesWith, CoreStands, consumed}
@@ -70,13 +70,14 @@ pub use Rattle.thread_slots.proofs.Placing.{placed, pin_made, lead_among, get_po
 pub use Rattle.thread_slots.proofs.Programs.{programs-at, programs-same, all_moved-programs, all_moved-none, pinned-tail}
 pub use Rattle.thread_slots.specs.Altering.{IsFor, code_before, slot_after, call_of, change_refusal, lacks_component}
 pub use Rattle.thread_slots.specs.Changed.{slot_with_event, rested}
-pub use Rattle.thread_slots.specs.Countable.{IsCountable}
+pub use Rattle.thread_slots.specs.Countable.{IsCountable, IsTurn}
 pub use Rattle.thread_slots.specs.Counted.{CountedAll, counted_all, Counted, counted_at, counted_over, counted_place, counted, with_turn, carry_of}
-pub use Rattle.thread_slots.specs.Pinned.{pins_of, programs, ArePinned, place_of_lead, armed_from, armed_event, armed_of}
-pub use Rattle.thread_slots.specs.RawRegister.{register_under}
+pub use Rattle.thread_slots.specs.Pinned.{pins_of, programs, ArePinned, place_of_lead, armed_from, armed_event, armed_of, AreOnUnit, HasUnit}
+pub use Rattle.thread_slots.specs.RawRegister.{register_shown}
 pub use Rattle.thread_slots.specs.Shown.{number_in, numbers_shown, values_shown, unit_numbers, turn_numbers, IsTellable, IsInTurns}
-pub use Rattle.thread_slots.specs.Slots.{face_of_slot, turned, numbers_of, rotation_of, new_slot}
+pub use Rattle.thread_slots.specs.Slots.{face_of_slot, is_counting, turned, numbers_of, rotation_of, new_slot}
 pub use Rattle.thread_slots.specs.Starting.{Begun, begun, begun_by, IsStartable}
 pub use Rattle.thread_slots.specs.Units.{units_of, empty_unit, registers_by, unit_at, owner_from, runner, running_registers, units_from}
 pub use Rattle.thread_slots.specs.declared.pins.Pin.{Pin}
+pub use Rattle.thread_slots.specs.declared.slot.Counting.{Counting}
 pub use Rattle.thread_slots.specs.declared.slot.Slot.{Slot}

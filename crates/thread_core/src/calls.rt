@@ -15,10 +15,7 @@ use event_sets::Refusal;
 use papi_base::{Code, Events, Values};
 use postfix_rules::PresetBook;
 use session_model::{Assigned, Named};
-use thread_slots::{
-    Change, accumulate_under, add_under, assigned_under, begin_under, bits_under, change_under,
-    events_under, free_number, new_slot, register_under, stop_under, values_under, zero_under,
-};
+use thread_slots::{Change, Slot, free_number};
 
 impl Core {
     /// Registers the thread, which may be registered already: PAPI_register_thread(3).
@@ -53,7 +50,7 @@ impl Core {
         }
         let number = free_number(&self.slots);
         self.running.forget();
-        self.slots[number as usize] = Some(new_slot());
+        self.slots[number as usize] = Some(Slot::new());
         Ok(number)
     }
 
@@ -92,13 +89,15 @@ impl Core {
         if let Some(code) = self.add_refusal(set) {
             return Err(Refusal::Plain(code));
         }
-        match e {
-            Err(code) => Err(Refusal::Plain(*code)),
-            Ok(e) => {
-                self.running.forget();
-                add_under(&mut self.slots, book, &self.shape, set, e)
-            }
-        }
+        let e = match e {
+            Ok(e) => e,
+            Err(code) => return Err(Refusal::Plain(*code)),
+        };
+        self.running.forget();
+        let Some(slot) = &mut self.slots[set as usize] else {
+            return Err(Refusal::Plain(Code::Enoevst));
+        };
+        slot.add(book, &self.shape, e)
     }
 
     /// Takes an event away from a set, and zeroes its counts: PAPI_remove_event(3). ENOEVST where there is no such set,
@@ -165,7 +164,10 @@ impl Core {
         }
         let now = self.time();
         self.running.forget();
-        begin_under(&mut self.units, &mut self.slots, book, set, now);
+        let Some(slot) = &mut self.slots[set as usize] else {
+            return Code::Enoevst;
+        };
+        slot.begin(&mut self.units, book, now);
         Code::Ok
     }
 
@@ -180,9 +182,12 @@ impl Core {
             return code;
         }
         let now = self.time();
-        *into = values_under(&self.slots, &self.units, book, set, now);
         self.running.forget();
-        stop_under(&mut self.units, &mut self.slots, &self.shape, set, now);
+        let Some(slot) = &mut self.slots[set as usize] else {
+            return Code::Enoevst;
+        };
+        *into = slot.read(&self.units, book, now);
+        slot.stop(&mut self.units, &self.shape, now);
         Code::Ok
     }
 
@@ -196,8 +201,10 @@ impl Core {
         if let Some(code) = self.read_refusal(set) {
             return code;
         }
-        let now = self.time();
-        *into = values_under(&self.slots, &self.units, book, set, now);
+        let Some(slot) = &self.slots[set as usize] else {
+            return Code::Enoevst;
+        };
+        *into = slot.read(&self.units, book, self.time());
         Code::Ok
     }
 
@@ -212,9 +219,12 @@ impl Core {
             return code;
         }
         let now = self.time();
-        let more = values_under(&self.slots, &self.units, book, set, now);
-        zero_under(&mut self.units, &mut self.slots, set, now);
-        *into = accumulate_under(&mut self.slots, set, &more);
+        let Some(slot) = &mut self.slots[set as usize] else {
+            return Code::Enoevst;
+        };
+        let more = slot.read(&self.units, book, now);
+        slot.zero(&mut self.units, now);
+        *into = slot.accumulate(&more);
         Code::Ok
     }
 
@@ -227,7 +237,10 @@ impl Core {
             return code;
         }
         let ticks = self.time();
-        zero_under(&mut self.units, &mut self.slots, set, ticks);
+        let Some(slot) = &mut self.slots[set as usize] else {
+            return Code::Enoevst;
+        };
+        slot.zero(&mut self.units, ticks);
         Code::Ok
     }
 
@@ -240,7 +253,10 @@ impl Core {
         if let Some(code) = self.read_refusal(set) {
             return Err(code);
         }
-        Ok(bits_under(&self.slots, set))
+        let Some(slot) = &self.slots[set as usize] else {
+            return Err(Code::Enoevst);
+        };
+        Ok(slot.state())
     }
 
     /// The events of a set in the order in which they were added: PAPI_list_events(3). ENOEVST where there is no such set.
@@ -251,7 +267,10 @@ impl Core {
         if let Some(code) = self.read_refusal(set) {
             return Err(code);
         }
-        Ok(events_under(&self.slots, set))
+        let Some(slot) = &self.slots[set as usize] else {
+            return Err(Code::Enoevst);
+        };
+        Ok(slot.set.events().copy())
     }
 
     /// The native events of a set, and the counter of each, as they are when the set starts. ENOEVST where there is no such
@@ -263,7 +282,10 @@ impl Core {
         if let Some(code) = self.assign_refusal(set) {
             return Err(code);
         }
-        Ok(assigned_under(&self.slots, set))
+        let Some(slot) = &self.slots[set as usize] else {
+            return Err(Code::Enoevst);
+        };
+        Ok(slot.assigned())
     }
 
     /// The register of a counter of a running set, as the hardware holds it. ENOEVST where there is no such set, ENOTRUN
@@ -273,7 +295,13 @@ impl Core {
         requires { AgreesWith _book.now self.now }
         ensures { Follows _book.now self.now self.now (call.Raw set c) (reply_of (λ value. body.Register value) result) }
     {
-        register_under(&self.slots, &self.units, set, c)
+        if let Some(code) = self.read_refusal(set) {
+            return Err(code);
+        }
+        let Some(slot) = &self.slots[set as usize] else {
+            return Err(Code::Enoevst);
+        };
+        slot.register(&self.units, c)
     }
 
     /// Makes a change of a set that does not run.
@@ -286,7 +314,10 @@ impl Core {
             return code;
         }
         self.running.forget();
-        match change_under(&mut self.slots, book, &self.shape, set, change) {
+        let Some(slot) = &mut self.slots[set as usize] else {
+            return Code::Enoevst;
+        };
+        match slot.change(book, &self.shape, change) {
             Ok(()) => Code::Ok,
             Err(code) => code,
         }

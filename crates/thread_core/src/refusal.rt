@@ -26,7 +26,7 @@ pub(crate) fn is_absent(slots: &[Option<Slot>], set: u32) -> bool
 pub(crate) fn runs(slots: &[Option<Slot>], set: u32) -> bool
     ensures { result ≡ runs (slot_faces slots.now) set }
 {
-    matches!(slots.get(set as usize), Some(Some(slot)) if slot.running)
+    matches!(slots.get(set as usize), Some(Some(slot)) if slot.is_running())
 }
 
 /// Whether the set under the number has events.
@@ -55,7 +55,7 @@ pub(crate) fn runs_on(component: Option<u32>, place: &Option<Slot>) -> bool
     ensures { result ≡ runs_on component (option_map face_of_slot place.now) }
 {
     match (component, place) {
-        (Some(comp), Some(slot)) => slot.running && slot.set.component() == Some(comp),
+        (Some(comp), Some(slot)) => slot.is_running() && slot.set.component() == Some(comp),
         _ => false,
     }
 }
@@ -84,7 +84,7 @@ fn some_is_running(slots: &[Option<Slot>]) -> bool
     ensures { result ≡ list_any is_running (slot_faces slots.now) }
 {
     for place in slots {
-        if matches!(place, Some(slot) if slot.running) {
+        if matches!(place, Some(slot) if slot.is_running()) {
             return true;
         }
     }
@@ -189,7 +189,7 @@ impl Core {
         ])
     }
 
-    /// `read`, `accum`, `reset`, `state` and `list_events`.
+    /// `read`, `accum`, `reset`, `state` and `list_events`, and `raw` before the set is asked.
     #[inline]
     pub(crate) fn read_refusal(&self, set: u32) -> Option<Code>
         ensures { IsRefusedWith self.now (call.Read set) result }

@@ -65,8 +65,5 @@ set-same xs k x e = ap (set xs k) (sym (get_or_from_slice_get xs k x x e)) ∙ s
 pub at_read : {X : Type 0} (places : List (Option X)) (k : ℕ) (place : Option X) (x : X) → k < length places → place ≡ get_or places k place → place ≡ Some x → at places k ≡ Some x
 at_read places k place x below reads is = some-at places k x (slice_get_read places (length places) k place refl below reads ∙ ap Some is)
 
-pub item_read : {X : Type 0} (xs : List X) (k : ℕ) (x y : X) → k < length xs → y ≡ get_or xs k y → slice_get xs k ≡ Some x → y ≡ x
-item_read xs k x y below reads e = let both : Some y ≡ Some x = sym (slice_get_read xs (length xs) k y refl below reads) ∙ e in cc
-
 pub same_some : {X : Type 0} (x y : X) → Some x ≡ Some y → x ≡ y
 same_some x y e = cc

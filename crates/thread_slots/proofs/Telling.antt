@@ -1,17 +1,17 @@
 -- The numbers that are shown are those of the account.
-use Rattle.thread_slots.proofs.Words.{◌≡◌, ℕ, suc, List, [], ◌∷◌, length, get_or, map, refl, ap, ap₂, sym, ◌∙◌, arith, Option, Some, None, slice_get}
-use Rattle.thread_slots.proofs.Words.{option_map_or, cond-true, slice_get_read, Native, Domain, Occ, Register, at_place, count_on, register_at, active}
+use Rattle.thread_slots.proofs.Words.{◌≡◌, ℕ, suc, List, [], ◌∷◌, length, get_or, map, refl, ap, ap₂, sym, ◌∙◌, arith, Option, Some, slice_get}
+use Rattle.thread_slots.proofs.Words.{option_map_or, Native, Domain, Occ, Register, at_place, count_on, register_at, active}
 use Rattle.thread_slots.proofs.Words.{estimate, Book, AtRest, Pin, pins_from, Slot, pin_numbers, turn_numbers}
 use Rattle.std.specs.Option.{option_and_then}
-use Rattle.std.specs.Prelude.{◌^◌, ◌<◌, true}
+use Rattle.std.specs.Prelude.{◌^◌, ◌<◌}
 use Rattle.counter_unit.specs.Counting.{UnitView, whole}
 use Rattle.counter_unit.proofs.Counts.{exact_is}
 use Rattle.multiplex.specs.Turns.{Turns, weight_in_turn}
 use Rattle.session_model.specs.Account.{Kept}
 use Rattle.session_model.specs.Counts.{weighed}
 use Rattle.session_model.specs.Estimates.{estimated_in, total}
-use Rattle.thread_slots.specs.Countable.{IsCountable}
-use Rattle.thread_slots.specs.Shown.{IsMeasurable, numbers_shown, running_numbers, unit_numbers}
+use Rattle.thread_slots.specs.declared.slot.Counting.TheVariants as counting
+use Rattle.thread_slots.specs.Shown.{numbers_in, numbers_shown, unit_numbers}
 use Rattle.thread_slots.specs.Slots.{turned}
 use Rattle.thread_slots.proofs.Lists.{map_same_on}
 
@@ -40,13 +40,11 @@ turns_show past s t u group (n ∷ ns) (g ∷ gs) same e h =
     ap₂ ◌∷◌ (ap (λ (a : ℕ). estimate (weighed (weight_in_turn u g n s.set.domain) past s) (total past s) a) (same g) ∙ ap (λ (k : ℕ). estimated_in past s u k n) is)
     (turns_show past s t u group ns gs same (omega arith) (λ i m f. h (suc i) m f))
 
--- what is known of the unit on which a set runs
-pub counts_on : (units : List UnitView) (slot : Slot) (time comp : ℕ) (component : Option ℕ) (unit : UnitView) → IsMeasurable units slot time → slot.running ≡ true → component ≡ Some comp → component ≡ slot.set.rest.component → unit ≡ get_or units comp unit → (comp < length units) × (slice_get units comp ≡ Some unit) × IsCountable unit slot
-counts_on units slot time comp component unit h runs is same reads =
-    let c : slot.set.rest.component ≡ Some comp = sym same ∙ is in
-    let below = h.has_unit comp runs c in
-    let at = slice_get_read units (length units) comp unit refl below reads in
-    (below, at, h.on_unit comp unit runs c at)
-
-pub shown_on : (units : List UnitView) (slot : Slot) (time comp : ℕ) (unit : UnitView) → slot.running ≡ true → slot.rotation ≡ None → slot.set.rest.component ≡ Some comp → slice_get units comp ≡ Some unit → pin_numbers unit slot.pins ≡ numbers_shown units time slot
-shown_on units slot time comp unit runs none comp_is at = sym (cond-true slot.running (running_numbers units time slot slot.rotation) slot.kept runs ∙ ap (running_numbers units time slot) none ∙ ap (λ (c : Option ℕ). unit_numbers (option_and_then (slice_get units) c) slot) comp_is ∙ ap (λ (u : Option UnitView). unit_numbers u slot) at)
+-- the counts of a set on its unit are what is shown
+pub shown_on : (units : List UnitView) (slot : Slot) (time comp : ℕ) (unit : UnitView) (pins : List Pin) (armed : List (Option ℕ))
+    → slot.counting ≡ counting.OnUnit pins armed → slot.set.rest.component ≡ Some comp → slice_get units comp ≡ Some unit
+    → pin_numbers unit pins ≡ numbers_shown units time slot
+shown_on units slot time comp unit pins armed is on at = sym (
+    ap (numbers_in units time slot) is
+    ∙ ap (λ (c : Option ℕ). unit_numbers (option_and_then (slice_get units) c) pins) on
+    ∙ ap (λ (u : Option UnitView). unit_numbers u pins) at)

@@ -1,7 +1,7 @@
 -- What calls change of a set that does not run: PAPI_cleanup_eventset(3), PAPI_remove_event(3),
 -- PAPI_assign_eventset_component(3), PAPI_set_domain(3), PAPI_set_multiplex(3), PAPI_overflow(3). That all but one zero its
 -- counts is a choice of this project.
-use Rattle.std.specs.Prelude.{ℕ, Bool, false, not, nat_le, if◌then◌else◌, length, replicate, List, Option, Some, None, Ok, Err, ⊤}
+use Rattle.std.specs.Prelude.{ℕ, Bool, false, not, nat_le, if◌then◌else◌, length, List, Option, Some, None, Ok, Err, ⊤}
 use Rattle.papi_base.specs.declared.code.Code.{Code}
 use Rattle.papi_base.specs.declared.code.Code.TheVariants.{Einval, Eisrun, Enocmp, Enoevst}
 use Rattle.postfix_rules.specs.Presets.{Book}
@@ -15,7 +15,7 @@ use Rattle.session_model.specs.Faces.{Face, is_absent, runs}
 use Rattle.thread_slots.specs.declared.changing.Change.{Change}
 use Rattle.thread_slots.specs.declared.changing.Change.TheVariants as change
 use Rattle.thread_slots.specs.declared.slot.Slot.{Slot}
-use Rattle.thread_slots.specs.Changed.{renewed}
+use Rattle.thread_slots.specs.Changed.{at_zero, renewed}
 
 -- the call that makes the change
 abbrev pub call_of : ℕ → Change → Call
@@ -58,12 +58,12 @@ change_refusal book shape (change.Overflow (Err code) t) s = Some code
 
 -- another set at rest, that has counted nothing
 abbrev pub recounted : Book → Widths → AtRest → Slot → Slot
-recounted book shape s slot = record slot { set = set_view book shape s; kept = replicate (length (set_natives book s)) 0 }
+recounted book shape s slot = record slot { set = set_view book shape s; counting = at_zero (length (set_natives book s)) }
 
 -- what is kept of the set after it
 abbrev pub slot_after : Book → Widths → Change → Slot → Slot
-slot_after book shape change.Cleanup slot = renewed book shape (emptied slot.set.rest) slot
-slot_after book shape (change.Remove (Ok e)) slot = renewed book shape (without_event e slot.set.rest) slot
+slot_after book shape change.Cleanup slot = renewed book shape (emptied slot.set.rest)
+slot_after book shape (change.Remove (Ok e)) slot = renewed book shape (without_event e slot.set.rest)
 slot_after book shape (change.Remove (Err code)) slot = slot
 slot_after book shape (change.Component comp) slot = record slot { set = set_view book shape (record slot.set.rest { component = Some comp }) }
 slot_after book shape (change.Domain bits) slot = recounted book shape (record slot.set.rest { domain = record { 0 = bits } }) slot

@@ -1,24 +1,24 @@
 -- When a running set can be counted on a unit.
-use Rattle.std.specs.Prelude.{ℕ, ◌^◌, ◌≡◌, ◌<◌, All, length, List, Option, Some, None, slice_get}
+use Rattle.std.specs.Prelude.{ℕ, ◌^◌, ◌≡◌, ◌<◌, All, length, List, Option, Some}
+use Rattle.papi_base.specs.declared.native.Native.{Native}
 use Rattle.counter_unit.specs.Counting.{UnitView}
 use Rattle.multiplex.specs.Rotations.{RotationView}
 use Rattle.session_model.specs.Faces.{at}
+use Rattle.thread_slots.specs.declared.slot.Counting.TheVariants as counting
 use Rattle.thread_slots.specs.declared.slot.Slot.{Slot}
-use Rattle.thread_slots.specs.Pinned.{ArePinned}
 
--- a set whose natives take turns: every count has room for one weight more
-pub record IsTurn (slot : Slot) (r : RotationView) : Type 0 where
-  pub room : All (λ t. t < 2 ^ 32) slot.kept
-  pub same_length : length slot.kept ≡ length slot.set.natives
-  pub grouped : length r.numbers ≡ length slot.set.natives
+-- natives that take turns: every count has room for one weight more
+pub record IsTurn (natives : List Native) (r : RotationView) (kept : List ℕ) : Type 0 where
+  pub room : All (λ t. t < 2 ^ 32) kept
+  pub same_length : length kept ≡ length natives
+  pub grouped : length r.numbers ≡ length natives
 
--- on its unit, or in turns
-pub record IsCountable (unit : UnitView) (slot : Slot) : Type 0 where
-  pub pinned : slot.rotation ≡ None → ArePinned unit.widths slot.pins
-  pub turning : (r : RotationView) → slot.rotation ≡ Some r → IsTurn slot r
+-- a set whose natives take turns
+pub record IsCountable (slot : Slot) : Type 0 where
+  pub turning : (r : RotationView) (begun : ℕ) (kept : List ℕ) → slot.counting ≡ counting.InTurns r begun kept → IsTurn slot.set.natives r kept
 
 -- the set under a number, on its component's unit
 pub record AreCountable (units : List UnitView) (slots : List (Option Slot)) (comp number : ℕ) : Type 0 where
   pub has_unit : comp < length units
   pub has_place : number < length slots
-  pub countable : (unit : UnitView) (slot : Slot) → slice_get units comp ≡ Some unit → at slots number ≡ Some slot → IsCountable unit slot
+  pub countable : (slot : Slot) → at slots number ≡ Some slot → IsCountable slot

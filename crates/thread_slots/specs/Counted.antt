@@ -5,11 +5,12 @@ use Rattle.papi_base.specs.declared.occurrence.Occ.{Occ}
 use Rattle.papi_base.specs.declared.native.Native.{Native}
 use Rattle.papi_base.specs.declared.bits.Domain.{Domain}
 use Rattle.papi_base.specs.Weight.{weight_of}
-use Rattle.multiplex.specs.Rotations.{RotationView}
 use Rattle.multiplex.specs.Turns.{group_at}
 use Rattle.counter_unit.specs.Counting.{UnitView, all_moved, all_carries, bits_of}
 use Rattle.overflow_dispatch.specs.Passing.{passed_from}
 use Rattle.session_model.specs.Faces.{at}
+use Rattle.thread_slots.specs.declared.slot.Counting.{Counting}
+use Rattle.thread_slots.specs.declared.slot.Counting.TheVariants as counting
 use Rattle.thread_slots.specs.declared.slot.Slot.{Slot}
 use Rattle.thread_slots.specs.Slots.{face_of_slot}
 use Rattle.thread_slots.specs.Units.{owner_from}
@@ -24,14 +25,6 @@ pub record Counted : Type 0 where
 abbrev pub carry_of : Option Occ → Occ → UnitView → ℕ
 carry_of before o unit = bits_of (all_carries before o unit.widths unit.registers)
 
--- a set that counts on the unit
-abbrev pub on_unit : Option Occ → Occ → UnitView → Slot → Counted
-on_unit before o unit slot = record {
-  unit = record unit { registers = all_moved before o unit.widths unit.registers };
-  slot = slot;
-  passed = passed_from 0 (carry_of before o unit) slot.armed;
-}
-
 -- each count and what its native adds, where its group is the one that runs
 abbrev pub with_turn : Domain → Option Occ → Occ → ℕ → List Native → List ℕ → List ℕ → List ℕ
 with_turn d before o group [] numbers counts = []
@@ -39,22 +32,25 @@ with_turn d before o group (n ∷ ns) [] counts = []
 with_turn d before o group (n ∷ ns) (g ∷ gs) [] = []
 with_turn d before o group (n ∷ ns) (g ∷ gs) (k ∷ ks) = (k + (if group == g then weight_of n d before o else 0)) ∷ with_turn d before o group ns gs ks
 
--- a set whose natives take turns
-abbrev pub in_rotation : Option Occ → Occ → UnitView → Slot → RotationView → Counted
-in_rotation before o unit slot r = record {
+-- a stopped set counts nothing, another on the unit, or in its turns
+abbrev pub counted_in : Option Occ → Occ → UnitView → Slot → Counting → Counted
+counted_in before o unit slot (counting.Stopped kept) = record { unit = unit; slot = slot; passed = [] }
+counted_in before o unit slot (counting.OnUnit pins armed) = record {
+  unit = record unit { registers = all_moved before o unit.widths unit.registers };
+  slot = slot;
+  passed = passed_from 0 (carry_of before o unit) armed;
+}
+counted_in before o unit slot (counting.InTurns r begun kept) = record {
   unit = unit;
-  slot = record slot { kept = with_turn slot.set.rest.domain before o (group_at r.turns (o.stamp - slot.begun)) slot.set.natives r.numbers slot.kept };
+  slot = record slot {
+    counting = counting.InTurns r begun (with_turn slot.set.rest.domain before o (group_at r.turns (o.stamp - begun)) slot.set.natives r.numbers kept);
+  };
   passed = [];
 }
 
--- on the unit, or in turns
-abbrev pub counted_by : Option Occ → Occ → UnitView → Slot → Option RotationView → Counted
-counted_by before o unit slot None = on_unit before o unit slot
-counted_by before o unit slot (Some r) = in_rotation before o unit slot r
-
--- a running set, on the unit of its component
+-- a set, on the unit of its component
 abbrev pub counted : Option Occ → Occ → UnitView → Slot → Counted
-counted before o unit slot = counted_by before o unit slot slot.rotation
+counted before o unit slot = counted_in before o unit slot slot.counting
 
 -- what is under a number
 pub record CountedPlace : Type 0 where

@@ -7,13 +7,16 @@ use Rattle.papi_base.specs.declared.native.Native.{Native}
 use Rattle.papi_base.specs.declared.native.EventRef.{EventRef}
 use Rattle.papi_base.specs.declared.bits.Domain.{Domain}
 use Rattle.counter_unit.specs.declared.registers.Register.{Register}
-use Rattle.counter_unit.specs.Counting.{IsThreshold, register_at}
+use Rattle.papi_base.specs.Widths.{AreWidths}
+use Rattle.counter_unit.specs.Counting.{IsThreshold, UnitView, register_at}
 use Rattle.postfix_rules.specs.Presets.{Book, lead}
 use Rattle.postfix_rules.specs.Sameness.{same_native}
 use Rattle.event_sets.specs.Assigning.{counters_for}
 use Rattle.event_sets.specs.AtRest.{AtRest, set_natives}
 use Rattle.session_model.specs.Registers.{threshold_among}
 use Rattle.thread_slots.specs.declared.pins.Pin.{Pin}
+use Rattle.thread_slots.specs.declared.slot.Counting.TheVariants as counting
+use Rattle.thread_slots.specs.declared.slot.Slot.{Slot}
 
 -- each native with its counter and its threshold
 abbrev pub pins_from : Book → AtRest → List Native → List ℕ → List Pin
@@ -55,3 +58,13 @@ pub record ArePinned (widths : List ℕ) (pins : List Pin) : Type 0 where
   pub exist : (k : ℕ) (p : Pin) → slice_get pins k ≡ Some p → p.counter < length widths
   pub fit : (k : ℕ) (p : Pin) → slice_get pins k ≡ Some p → IsThreshold (slice_index widths p.counter) p.threshold
   pub apart : (j k : ℕ) (p q : Pin) → slice_get pins j ≡ Some p → slice_get pins k ≡ Some q → p.counter ≡ q.counter → j ≡ k
+
+-- the component has a unit, and the pins are on counters of it
+pub record AreOnUnit (units : List UnitView) (component : Option ℕ) (pins : List Pin) : Type 0 where
+  pub has_unit : (comp : ℕ) → component ≡ Some comp → comp < length units
+  pub widths : (comp : ℕ) (unit : UnitView) → component ≡ Some comp → slice_get units comp ≡ Some unit → AreWidths unit.widths
+  pub pinned : (comp : ℕ) (unit : UnitView) → component ≡ Some comp → slice_get units comp ≡ Some unit → ArePinned unit.widths pins
+
+-- a set on its unit is on counters of it
+abbrev pub HasUnit : List UnitView → Slot → Type 0
+HasUnit units slot = (pins : List Pin) (armed : List (Option ℕ)) → slot.counting ≡ counting.OnUnit pins armed → AreOnUnit units slot.set.rest.component pins

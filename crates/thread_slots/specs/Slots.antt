@@ -1,5 +1,5 @@
 -- What a core keeps of a set of the account.
-use Rattle.std.specs.Prelude.{ℕ, false, List, [], ◌∷◌, replicate, None}
+use Rattle.std.specs.Prelude.{ℕ, Bool, true, false, List, [], ◌∷◌}
 use Rattle.papi_base.specs.declared.occurrence.Occ.{Occ}
 use Rattle.papi_base.specs.declared.native.Native.{Native}
 use Rattle.counter_alloc.specs.Masks.{masks_of}
@@ -11,6 +11,8 @@ use Rattle.event_sets.specs.AtRest.{AtRest, new_set, set_natives}
 use Rattle.session_model.specs.Account.{Kept}
 use Rattle.session_model.specs.Counts.{weighed}
 use Rattle.session_model.specs.Faces.{Face}
+use Rattle.thread_slots.specs.declared.slot.Counting.{Counting}
+use Rattle.thread_slots.specs.declared.slot.Counting.TheVariants as counting
 use Rattle.thread_slots.specs.declared.slot.Slot.{Slot}
 
 -- what each native counted in the turns of its group
@@ -27,19 +29,20 @@ numbers_of book s = groups (masks_of (set_natives book s))
 abbrev pub rotation_of : List ℕ → ℕ → RotationView
 rotation_of numbers slice = record { numbers = numbers; turns = record { slice = slice; count = group_count numbers; start = 0 }; time = 0 }
 
+-- a set counts unless it is stopped
+abbrev pub is_counting : Counting → Bool
+is_counting (counting.Stopped kept) = false
+is_counting (counting.OnUnit pins armed) = true
+is_counting (counting.InTurns rotation begun kept) = true
+
 -- what refusals look at
 abbrev pub face_of_slot : Slot → Face
-face_of_slot k = record { set = k.set.rest; running = k.running }
+face_of_slot k = record { set = k.set.rest; running = is_counting k.counting }
 
 -- what is kept of a new set
 abbrev pub new_slot : Slot
 new_slot = record {
   set = record { rest = new_set; natives = []; counters = 0 };
-  running = false;
   values = [];
-  pins = [];
-  armed = replicate 32 None;
-  rotation = None;
-  begun = 0;
-  kept = [];
+  counting = counting.Stopped [];
 }

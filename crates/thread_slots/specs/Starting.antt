@@ -1,11 +1,12 @@
 -- What is kept of a set that starts: PAPI_start(3).
-use Rattle.std.specs.Prelude.{ℕ, suc, ◌≡◌, ◌<◌, ◌≤◌, true, List, length, replicate, slice_get, slice_index, Option, Some, None}
+use Rattle.std.specs.Prelude.{ℕ, suc, ◌≡◌, ◌<◌, ◌≤◌, List, length, replicate, slice_get, slice_index, Option, Some, None}
 use Rattle.papi_base.specs.declared.native.Native.{Native}
 use Rattle.papi_base.specs.declared.native.EventRef.{EventRef}
 use Rattle.counter_alloc.specs.Masks.{masks_of}
 use Rattle.counter_unit.specs.Counting.{UnitView}
 use Rattle.multiplex.specs.Groups.{groups}
 use Rattle.postfix_rules.specs.Presets.{Book}
+use Rattle.thread_slots.specs.declared.slot.Counting.TheVariants as counting
 use Rattle.thread_slots.specs.declared.slot.Slot.{Slot}
 use Rattle.papi_base.specs.Widths.{AreWidths}
 use Rattle.event_sets.specs.Assigning.{counters_for}
@@ -22,16 +23,11 @@ pub record Begun : Type 0 where
 abbrev pub begun_by : Book → ℕ → UnitView → Slot → Option ℕ → Begun
 begun_by book now unit slot None = record {
   unit = record unit { registers = programs unit.widths slot.set.rest.domain (λ n. 0) (pins_of book slot.set.rest) unit.registers };
-  slot = record slot { running = true; pins = pins_of book slot.set.rest; armed = armed_of book slot.set.rest; kept = replicate (length slot.set.natives) 0 };
+  slot = record slot { counting = counting.OnUnit (pins_of book slot.set.rest) (armed_of book slot.set.rest) };
 }
 begun_by book now unit slot (Some slice) = record {
   unit = unit;
-  slot = record slot {
-    running = true;
-    rotation = Some (rotation_of (groups (masks_of slot.set.natives)) slice);
-    begun = now;
-    kept = replicate (length slot.set.natives) 0;
-  };
+  slot = record slot { counting = counting.InTurns (rotation_of (groups (masks_of slot.set.natives)) slice) now (replicate (length slot.set.natives) 0) };
 }
 
 -- by whether its natives take turns

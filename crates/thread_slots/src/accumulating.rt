@@ -1,10 +1,7 @@
 //! Values that are added to the caller's (PAPI_accum(3)).
-ghost use Rattle.std.specs.Prelude.{◌≡◌, ◌<◌, Some, length, slice_set};
+ghost use Rattle.std.specs.Prelude.{◌≡◌, length};
 ghost use Rattle.std.specs.Int.{int_wrapping_add, w64};
-ghost use Rattle.session_model.specs.Faces.{at};
 ghost use Rattle.session_model.specs.Values.{sums};
-ghost use Rattle.thread_slots.specs.Accumulated.{slot_with_sums};
-ghost use Rattle.thread_slots.specs.declared.slot.Slot.{Slot};
 
 use crate::slot::Slot;
 use papi_base::Values;
@@ -28,20 +25,17 @@ fn sums(values: &Values, more: &Values) -> Values
     added
 }
 
-/// Adds these values to the caller's of the set under a number, and gives the sums.
-#[tactic(auto, using(crate::proofs::Lists::at_read, crate::proofs::Lists::place_is))]
-pub fn accumulate_under(slots: &mut Vec<Option<Slot>>, set: u32, more: &Values) -> Values
-    requires inside { set < length slots.old.items }
-    requires same_length { (slot : Slot) → at slots.old.items set ≡ Some slot → length more.now ≡ length slot.values }
-    ensures sums { (slot : Slot) → at slots.old.items set ≡ Some slot → result ≡ sums slot.values more.now }
-    ensures slots { (slot : Slot) → at slots.old.items set ≡ Some slot → slots.new.items ≡ slice_set slots.old.items set (Some (slot_with_sums more.now slot)) }
-{
-    match &mut slots[set as usize] {
-        Some(slot) => {
-            let added = sums(&slot.values, more);
-            slot.values = added.copy();
-            added
-        }
-        None => Values::new(),
+impl Slot {
+    ghost use Rattle.thread_slots.specs.Accumulated.{slot_with_sums};
+
+    /// Adds these values to the caller's, and gives the sums.
+    pub fn accumulate(&mut self, more: &Values) -> Values
+        requires { length more.now ≡ length self.old.values }
+        ensures sums { result ≡ sums self.old.values more.now }
+        ensures slot { self.new ≡ slot_with_sums more.now self.old }
+    {
+        let added = sums(&self.values, more);
+        self.values = added.copy();
+        added
     }
 }

@@ -1,67 +1,18 @@
 //! What calls change in a set that does not run.
-ghost use Rattle.std.specs.Prelude.{◌≡◌, ◌<◌, All, IfErr, OnErr, OnOk, Some, None, length, pos, replicate, slice_set};
+ghost use Rattle.std.specs.Prelude.{◌≡◌, All, IfErr, OnErr, OnOk, Some, None, length, pos, replicate};
 ghost use Rattle.event_sets.specs.Adding.{add_refusal};
 ghost use Rattle.postfix_rules.specs.Fitting.{Fits, IsHeld};
 ghost use Rattle.event_sets.specs.Sets.{set_view};
 ghost use Rattle.postfix_rules.specs.Presets.{natives_of_event};
-ghost use Rattle.session_model.specs.Faces.{at};
-ghost use Rattle.thread_slots.specs.declared.slot.Slot.{Slot};
 ghost use Rattle.thread_slots.specs.Altering.{change_refusal, lacks_component, slot_after};
-ghost use Rattle.thread_slots.specs.Changed.{slot_with_event};
+ghost use Rattle.thread_slots.specs.Changed.{at_zero, slot_with_event};
 ghost use Rattle.thread_slots.specs.declared.changing.Change.TheVariants as change;
 
-use crate::slot::Slot;
+use crate::slot::{Counting, Slot};
 use event_sets::Refusal;
 use papi_base::{Code, Counts, EventRef, Shape, Values};
 use postfix_rules::PresetBook;
 use session_model::Named;
-
-/// The set has counted nothing.
-fn recount(slot: &mut Slot)
-    ensures { slot.new ≡ record slot.old { kept = replicate (length slot.old.set.natives) 0 } }
-{
-    let natives = slot.set.natives().len();
-    slot.kept = Counts::zeros(natives);
-}
-
-/// The set has counted nothing, and the caller's values are 0.
-fn renew(slot: &mut Slot)
-    ensures { slot.new ≡ record slot.old { values = replicate (length slot.old.set.rest.events) (pos 0); kept = replicate (length slot.old.set.natives) 0 } }
-{
-    let events = slot.set.events().len();
-    slot.values = Values::zeros(events);
-    recount(slot);
-}
-
-/// Adds an event to the set under a number.
-#[tactic(auto, using(crate::proofs::Lists::at_read, crate::proofs::Lists::place_is))]
-pub fn add_under(
-    slots: &mut Vec<Option<Slot>>,
-    book: &PresetBook,
-    shape: &Shape,
-    set: u32,
-    e: &EventRef,
-) -> Result<(), Refusal>
-    requires held { IsHeld book.now e.now }
-    requires fits { All (Fits shape.now) (natives_of_event book.now e.now) }
-    requires inside { set < length slots.old.items }
-    requires view { (slot : Slot) → at slots.old.items set ≡ Some slot → slot.set ≡ set_view book.now shape.now slot.set.rest }
-    ensures added { (slot : Slot)
-        → at slots.old.items set ≡ Some slot
-        → OnOk result (slots.new.items ≡ slice_set slots.old.items set (Some (slot_with_event book.now shape.now e.now slot))) }
-    ensures taken { (slot : Slot) → at slots.old.items set ≡ Some slot → OnOk result (add_refusal book.now e.now slot.set.rest ≡ None) }
-    ensures refused { (slot : Slot) → at slots.old.items set ≡ Some slot → IfErr result (λ r. add_refusal book.now e.now slot.set.rest ≡ Some r) }
-    ensures unchanged { OnErr result (slots.new.items ≡ slots.old.items) }
-{
-    match &mut slots[set as usize] {
-        Some(slot) => {
-            slot.set.add(book, shape, e)?;
-            renew(slot);
-            Ok(())
-        }
-        None => Ok(()),
-    }
-}
 
 /// A change of a set that does not run, other than by one event more.
 #[derive(Clone, Copy)]
@@ -90,71 +41,80 @@ pub fn lacks_component(shape: &Shape, change: &Change) -> bool
     }
 }
 
-/// Changes a set.
-fn change_slot(
-    slot: &mut Slot,
-    book: &PresetBook,
-    shape: &Shape,
-    change: &Change,
-) -> Result<(), Code>
-    requires view { slot.old.set ≡ set_view book.now shape.now slot.old.set.rest }
-    ensures changed { OnOk result (slot.new ≡ slot_after book.now shape.now change.now slot.old) }
-    ensures taken { OnOk result (change_refusal book.now shape.now change.now slot.old.set.rest ≡ None) }
-    ensures refused { IfErr result (λ c. change_refusal book.now shape.now change.now slot.old.set.rest ≡ Some c) }
-    ensures unchanged { OnErr result (slot.new ≡ slot.old) }
-{
-    match change {
-        Change::Cleanup => {
-            slot.set.cleanup();
-            renew(slot);
-            Ok(())
-        }
-        Change::Remove(Ok(e)) => {
-            slot.set.remove(book, e)?;
-            renew(slot);
-            Ok(())
-        }
-        Change::Remove(Err(code)) | Change::Overflow { e: Err(code), .. } => Err(*code),
-        Change::Component(comp) => slot.set.assign_component(*comp, shape),
-        Change::Domain(bits) => {
-            slot.set.set_domain(*bits)?;
-            recount(slot);
-            Ok(())
-        }
-        Change::Multiplex(slice) => {
-            slot.set.set_multiplex(*slice)?;
-            recount(slot);
-            Ok(())
-        }
-        Change::Overflow { e: Ok(e), t } => {
-            slot.set.set_threshold(book, shape, e, *t)?;
-            recount(slot);
-            Ok(())
-        }
+impl Slot {
+    /// It is stopped, and has counted nothing.
+    fn recount(&mut self)
+        ensures { self.new ≡ record self.old { counting = at_zero (length self.old.set.natives) } }
+    {
+        let natives = self.set.natives().len();
+        self.counting = Counting::Stopped {
+            kept: Counts::zeros(natives),
+        };
     }
-}
 
-/// Changes the set under a number.
-pub fn change_under(
-    slots: &mut Vec<Option<Slot>>,
-    book: &PresetBook,
-    shape: &Shape,
-    set: u32,
-    change: &Change,
-) -> Result<(), Code>
-    requires inside { set < length slots.old.items }
-    requires view { (slot : Slot) → at slots.old.items set ≡ Some slot → slot.set ≡ set_view book.now shape.now slot.set.rest }
-    ensures changed { (slot : Slot)
-        → at slots.old.items set ≡ Some slot
-        → OnOk result (slots.new.items ≡ slice_set slots.old.items set (Some (slot_after book.now shape.now change.now slot))) }
-    ensures taken { (slot : Slot) → at slots.old.items set ≡ Some slot → OnOk result (change_refusal book.now shape.now change.now slot.set.rest ≡ None) }
-    ensures refused { (slot : Slot)
-        → at slots.old.items set ≡ Some slot
-        → IfErr result (λ c. change_refusal book.now shape.now change.now slot.set.rest ≡ Some c) }
-    ensures unchanged { OnErr result (slots.new.items ≡ slots.old.items) }
-{
-    match &mut slots[set as usize] {
-        Some(slot) => change_slot(slot, book, shape, change),
-        None => Ok(()),
+    /// It is stopped, has counted nothing, and the caller's values are 0.
+    fn renew(&mut self)
+        ensures { self.new ≡ record self.old {
+          values = replicate (length self.old.set.rest.events) (pos 0);
+          counting = at_zero (length self.old.set.natives);
+        } }
+    {
+        let events = self.set.events().len();
+        self.values = Values::zeros(events);
+        self.recount();
+    }
+
+    /// Adds an event: PAPI_add_event(3).
+    pub fn add(&mut self, book: &PresetBook, shape: &Shape, e: &EventRef) -> Result<(), Refusal>
+        requires held { IsHeld book.now e.now }
+        requires fits { All (Fits shape.now) (natives_of_event book.now e.now) }
+        requires view { self.old.set ≡ set_view book.now shape.now self.old.set.rest }
+        ensures added { OnOk result (self.new ≡ slot_with_event book.now shape.now e.now self.old) }
+        ensures taken { OnOk result (add_refusal book.now e.now self.old.set.rest ≡ None) }
+        ensures refused { IfErr result (λ r. add_refusal book.now e.now self.old.set.rest ≡ Some r) }
+        ensures unchanged { OnErr result (self.new ≡ self.old) }
+    {
+        self.set.add(book, shape, e)?;
+        self.renew();
+        Ok(())
+    }
+
+    /// Makes a change.
+    pub fn change(&mut self, book: &PresetBook, shape: &Shape, change: &Change) -> Result<(), Code>
+        requires view { self.old.set ≡ set_view book.now shape.now self.old.set.rest }
+        ensures changed { OnOk result (self.new ≡ slot_after book.now shape.now change.now self.old) }
+        ensures taken { OnOk result (change_refusal book.now shape.now change.now self.old.set.rest ≡ None) }
+        ensures refused { IfErr result (λ c. change_refusal book.now shape.now change.now self.old.set.rest ≡ Some c) }
+        ensures unchanged { OnErr result (self.new ≡ self.old) }
+    {
+        match change {
+            Change::Cleanup => {
+                self.set.cleanup();
+                self.renew();
+                Ok(())
+            }
+            Change::Remove(Ok(e)) => {
+                self.set.remove(book, e)?;
+                self.renew();
+                Ok(())
+            }
+            Change::Remove(Err(code)) | Change::Overflow { e: Err(code), .. } => Err(*code),
+            Change::Component(comp) => self.set.assign_component(*comp, shape),
+            Change::Domain(bits) => {
+                self.set.set_domain(*bits)?;
+                self.recount();
+                Ok(())
+            }
+            Change::Multiplex(slice) => {
+                self.set.set_multiplex(*slice)?;
+                self.recount();
+                Ok(())
+            }
+            Change::Overflow { e: Ok(e), t } => {
+                self.set.set_threshold(book, shape, e, *t)?;
+                self.recount();
+                Ok(())
+            }
+        }
     }
 }

@@ -7,7 +7,7 @@ ghost use Rattle.thread_slots.specs.Counted.{counted_all, counted_place, with_tu
 ghost use Rattle.thread_slots.specs.Slots.{face_of_slot};
 ghost use Rattle.thread_slots.specs.Units.{owner_from};
 
-use crate::slot::Slot;
+use crate::slot::{Counting, Slot};
 use counter_unit::Unit;
 use multiplex::Rotation;
 use overflow_dispatch::Passed;
@@ -51,7 +51,7 @@ fn count_turn(
 #[inline(always)]
 #[tactic(auto, using(crate::proofs::Carries::passed_none))]
 fn count_place(unit: &mut Unit, place: &mut Option<Slot>, before: Option<&Occ>, o: &Occ) -> Passed
-    requires { (slot : Slot) → place.old ≡ Some slot → IsCountable unit.old slot }
+    requires { (slot : Slot) → place.old ≡ Some slot → IsCountable slot }
     ensures unit { unit.new ≡ (counted_place (option_copied before.entry) o.now unit.old place.old).unit }
     ensures place { place.new ≡ (counted_place (option_copied before.entry) o.now unit.old place.old).place }
     ensures passed { result ≡ (counted_place (option_copied before.entry) o.now unit.old place.old).passed }
@@ -59,21 +59,26 @@ fn count_place(unit: &mut Unit, place: &mut Option<Slot>, before: Option<&Occ>, 
     let Some(slot) = place else {
         return Passed::new();
     };
-    match &mut slot.rotation {
-        Some(rotation) => {
-            let group = rotation.running_group(o.stamp.saturating_sub(slot.begun));
-            let natives = slot.set.natives();
-            let domain = slot.set.domain();
-            count_turn(&mut slot.kept, natives, domain, rotation, group, before, o);
-            Passed::new()
-        }
-        None => {
+    match &mut slot.counting {
+        Counting::OnUnit { armed, .. } => {
             let carry = unit.step(before, o);
             if carry == 0 {
                 return Passed::new();
             }
-            slot.armed.passed(carry)
+            armed.passed(carry)
         }
+        Counting::InTurns {
+            rotation,
+            begun,
+            kept,
+        } => {
+            let group = rotation.running_group(o.stamp.saturating_sub(*begun));
+            let natives = slot.set.natives();
+            let domain = slot.set.domain();
+            count_turn(kept, natives, domain, rotation, group, before, o);
+            Passed::new()
+        }
+        Counting::Stopped { .. } => Passed::new(),
     }
 }
 

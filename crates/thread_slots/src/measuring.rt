@@ -5,7 +5,7 @@ ghost use Rattle.thread_slots.specs.Pinned.{ArePinned};
 ghost use Rattle.thread_slots.specs.Shown.{IsMeasurable, numbers_shown, pin_numbers, turn_numbers};
 
 use crate::pins::Pins;
-use crate::slot::Slot;
+use crate::slot::{Counting, Slot};
 use counter_unit::Unit;
 use multiplex::{Rotation, estimate};
 use papi_base::Counts;
@@ -38,19 +38,23 @@ fn numbers_in_turns(rotation: &Rotation, total: u64, counts: &Counts) -> Counts
     numbers
 }
 
-/// What each native event of the set counted, or is estimated to have, at this time in ticks.
-pub fn numbers_of(units: &Vec<Unit>, slot: &Slot, time: u64) -> Counts
-    requires { IsMeasurable units.now.items slot.now time }
-    ensures { result ≡ numbers_shown units.now.items time slot.now }
-{
-    if !slot.running {
-        return slot.kept.copy();
-    }
-    match &slot.rotation {
-        Some(rotation) => numbers_in_turns(rotation, time - slot.begun, &slot.kept),
-        None => match slot.set.component() {
-            Some(comp) => numbers_on_unit(&units[comp as usize], &slot.pins),
-            None => slot.kept.copy(),
-        },
+impl Slot {
+    /// What each native event of the set counted, or is estimated to have, at this time in ticks.
+    pub(crate) fn numbers(&self, units: &[Unit], time: u64) -> Counts
+        requires { IsMeasurable units.now self.now time }
+        ensures { result ≡ numbers_shown units.now time self.now }
+    {
+        match &self.counting {
+            Counting::Stopped { kept } => kept.copy(),
+            Counting::OnUnit { pins, .. } => match self.set.component() {
+                Some(comp) => numbers_on_unit(&units[comp as usize], pins),
+                None => Counts::new(),
+            },
+            Counting::InTurns {
+                rotation,
+                begun,
+                kept,
+            } => numbers_in_turns(rotation, time - *begun, kept),
+        }
     }
 }

@@ -1,7 +1,7 @@
 //! The register of a counter of a running set.
 ghost use Rattle.std.specs.Prelude.{◌≡◌, Some};
-ghost use Rattle.session_model.specs.Faces.{at};
-ghost use Rattle.thread_slots.specs.RawRegister.{register_on, register_under};
+ghost use Rattle.thread_slots.specs.RawRegister.{register_on, register_shown};
+ghost use Rattle.thread_slots.specs.Slots.{face_of_slot};
 
 use crate::slot::Slot;
 use counter_unit::Unit;
@@ -23,22 +23,21 @@ fn register_on(unit: &Unit, slice: Option<u32>, c: u32) -> Result<u64, Code>
     }
 }
 
-/// The register of a counter, for the set under a number: ENOEVST where there is none, ENOTRUN where it does not run, EINVAL
-/// where its component lacks the counter or none of its native events is on it, ECOMBO where they take turns.
-pub fn register_under(slots: &[Option<Slot>], units: &[Unit], set: u32, c: u32) -> Result<u64, Code>
-    ensures { result ≡ register_under units.now (at slots.now set) c }
-{
-    let Some(Some(slot)) = slots.get(set as usize) else {
-        return Err(Code::Enoevst);
-    };
-    if !slot.running {
-        return Err(Code::Enotrun);
-    }
-    match slot.set.component() {
-        Some(comp) => match units.get(comp as usize) {
-            Some(unit) => register_on(unit, slot.set.slice(), c),
+impl Slot {
+    /// The register of a counter: ENOTRUN where the set does not run, EINVAL where its component lacks the counter or none of
+    /// its native events is on it, ECOMBO where they take turns.
+    pub fn register(&self, units: &[Unit], c: u32) -> Result<u64, Code>
+        ensures { result ≡ register_shown units.now (face_of_slot self.now) c }
+    {
+        if !self.is_running() {
+            return Err(Code::Enotrun);
+        }
+        match self.set.component() {
+            Some(comp) => match units.get(comp as usize) {
+                Some(unit) => register_on(unit, self.set.slice(), c),
+                None => Err(Code::Einval),
+            },
             None => Err(Code::Einval),
-        },
-        None => Err(Code::Einval),
+        }
     }
 }

@@ -1,7 +1,7 @@
 //! An event set under its number, and what is kept of it.
-ghost use Rattle.std.specs.Prelude.{◌≡◌, ◌<◌, ◌≤◌, IfOk, None, length, replicate};
+ghost use Rattle.std.specs.Prelude.{◌≡◌, ◌≤◌, IfOk, None, length, replicate};
 ghost use Rattle.session_model.specs.Faces.{free};
-ghost use Rattle.thread_slots.specs.Slots.{new_slot};
+ghost use Rattle.thread_slots.specs.Slots.{is_counting, new_slot};
 
 use crate::pins::Pins;
 use event_sets::EventSet;
@@ -10,38 +10,56 @@ use overflow_dispatch::Thresholds;
 use papi_base::{Counts, Values};
 use std::alloc::{AllocError, Global};
 
-/// An event set, and what is kept of it: what each native event counted before a set stopped, and in the turns of its group
-/// where they take turns. While a set is on its unit, the unit has the counts.
+/// How a set counts.
+#[derive(Drop)]
+pub enum Counting {
+    /// It is stopped: what each native event counted, or is estimated to have.
+    Stopped {
+        kept: Counts,
+    },
+    /// It is on the unit of its component, which has the counts: its native events on their counters, and its events with
+    /// thresholds.
+    OnUnit {
+        pins: Pins,
+        armed: Thresholds,
+    },
+    /// Its native events take turns, which began at a time in ticks: what each counted in the turns of its group.
+    InTurns {
+        rotation: Rotation,
+        begun: u64,
+        kept: Counts,
+    },
+}
+
+/// An event set, and what is kept of it.
 #[derive(Drop)]
 pub struct Slot {
     pub set: EventSet,
-    pub running: bool,
     /// The caller's value of each event, PAPI_accum(3).
     pub values: Values,
-    /// The native events on their counters, while the set runs and is not multiplexed.
-    pub pins: Pins,
-    /// The events with thresholds, while it does.
-    pub armed: Thresholds,
-    /// The turns of the native events, while the set runs and is multiplexed.
-    pub rotation: Option<Rotation>,
-    /// The time at which these turns began, in ticks.
-    pub begun: u64,
-    pub kept: Counts,
+    pub counting: Counting,
 }
 
-/// A new set.
-pub fn new_slot() -> Slot
-    ensures { result ≡ new_slot }
-{
-    Slot {
-        set: EventSet::new(),
-        running: false,
-        values: Values::new(),
-        pins: Pins::new(),
-        armed: Thresholds::new(),
-        rotation: None,
-        begun: 0,
-        kept: Counts::new(),
+impl Slot {
+    /// A new set.
+    pub fn new() -> Slot
+        ensures { result ≡ new_slot }
+    {
+        Slot {
+            set: EventSet::new(),
+            values: Values::new(),
+            counting: Counting::Stopped {
+                kept: Counts::new(),
+            },
+        }
+    }
+
+    /// Whether the set runs.
+    #[inline]
+    pub fn is_running(&self) -> bool
+        ensures { result ≡ is_counting self.now.counting }
+    {
+        !matches!(self.counting, Counting::Stopped { .. })
     }
 }
 

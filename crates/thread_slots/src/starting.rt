@@ -1,6 +1,5 @@
 //! What starts with a set (PAPI_start(3)).
-ghost use Rattle.std.specs.Prelude.{◌≡◌, ℕ, ◌-◌, ◌<◌, ◌++◌, true, length, replicate, slice_get, slice_set, None, Some};
-ghost use Rattle.std.specs.Option.{option_and_then};
+ghost use Rattle.std.specs.Prelude.{◌≡◌, ℕ, ◌-◌, ◌<◌, ◌++◌, length, replicate, slice_get, slice_set, None, Some};
 ghost use Rattle.papi_base.specs.Widths.{AreWidths};
 ghost use Rattle.counter_alloc.specs.Masks.{masks_of};
 ghost use Rattle.event_sets.specs.AtRest.{leads, set_natives};
@@ -10,13 +9,12 @@ ghost use Rattle.thread_slots.specs.Starting.{IsArmable, IsStartable, begun, beg
 ghost use Rattle.counter_unit.specs.Counting.{UnitView};
 ghost use Rattle.event_sets.specs.Assigning.{counters_for};
 ghost use Rattle.multiplex.specs.Groups.{groups};
-ghost use Rattle.session_model.specs.Faces.{at};
 ghost use Rattle.thread_slots.specs.Slots.{rotation_of};
-ghost use Rattle.thread_slots.specs.declared.slot.Slot.{Slot};
+ghost use Rattle.thread_slots.specs.declared.slot.Counting.TheVariants as counting;
 
 use crate::pins::{Pin, Pins};
 use crate::places::place_of;
-use crate::slot::Slot;
+use crate::slot::{Counting, Slot};
 use counter_unit::Unit;
 use event_sets::{EventSet, leads, natives_of};
 use multiplex::Rotation;
@@ -96,96 +94,71 @@ pub fn program_all(unit: &mut Unit, pins: &Pins, domain: Domain)
     }
 }
 
-/// The set begins on the unit, its native events on these counters.
-fn begin_on_unit(unit: &mut Unit, slot: &mut Slot, book: &PresetBook, counters: &Places)
-    requires startable { IsStartable book.now unit.old slot.old }
-    requires plain { slot.old.set.rest.slice ≡ None }
-    requires counters { counters.now ≡ counters_for (set_natives book.now slot.old.set.rest) }
-    ensures unit { unit.new ≡ (begun_by book.now 0 unit.old slot.old None).unit }
-    ensures slot { slot.new ≡ (begun_by book.now 0 unit.old slot.old None).slot }
-{
-    let domain = slot.set.domain();
-    let natives = slot.set.natives().len();
-    slot.pins = pins_on(book, &slot.set, counters);
-    slot.armed = armed_on(book, &slot.set, counters);
-    program_all(unit, &slot.pins, domain);
-    slot.running = true;
-    slot.kept = Counts::zeros(natives);
-}
+impl Slot {
+    /// It begins on the unit, its native events on these counters.
+    fn begin_on(&mut self, unit: &mut Unit, book: &PresetBook, counters: &Places)
+        requires startable { IsStartable book.now unit.old self.old }
+        requires plain { self.old.set.rest.slice ≡ None }
+        requires counters { counters.now ≡ counters_for (set_natives book.now self.old.set.rest) }
+        ensures unit { unit.new ≡ (begun_by book.now 0 unit.old self.old None).unit }
+        ensures slot { self.new ≡ (begun_by book.now 0 unit.old self.old None).slot }
+    {
+        let pins = pins_on(book, &self.set, counters);
+        let armed = armed_on(book, &self.set, counters);
+        program_all(unit, &pins, self.set.domain());
+        self.counting = Counting::OnUnit { pins, armed };
+    }
 
-/// The set begins at this time, its native events taking turns.
-fn begin_in_turns(slot: &mut Slot, counters: u32, slice: u32, now: u64)
-    requires some { 0 < length slot.old.set.natives }
-    requires counters { slot.old.set.counters ≡ counters }
-    requires slice { slot.old.set.rest.slice ≡ Some slice }
-    ensures { slot.new ≡ record slot.old {
-      running = true;
-      rotation = Some (rotation_of (groups (masks_of slot.old.set.natives)) slice);
-      begun = now;
-      kept = replicate (length slot.old.set.natives) 0;
-    } }
-{
-    let natives = slot.set.natives();
-    let count = natives.len();
-    let rotation = Rotation::make(natives, counters, slice);
-    slot.rotation = Some(rotation);
-    slot.begun = now;
-    slot.running = true;
-    slot.kept = Counts::zeros(count);
-}
+    /// It begins at this time, its native events taking turns of so many ticks.
+    fn begin_in_turns(&mut self, counters: u32, slice: u32, now: u64)
+        requires some { 0 < length self.old.set.natives }
+        requires counters { self.old.set.counters ≡ counters }
+        requires slice { self.old.set.rest.slice ≡ Some slice }
+        ensures { self.new ≡ record self.old {
+          counting = counting.InTurns (rotation_of (groups (masks_of self.old.set.natives)) slice) now (replicate (length self.old.set.natives) 0);
+        } }
+    {
+        let natives = self.set.natives();
+        let kept = Counts::zeros(natives.len());
+        let rotation = Rotation::make(natives, counters, slice);
+        self.counting = Counting::InTurns {
+            rotation,
+            begun: now,
+            kept,
+        };
+    }
 
-/// The set begins at this time, on the unit of its component.
-fn begin_slot(unit: &mut Unit, slot: &mut Slot, book: &PresetBook, now: u64)
-    requires { IsStartable book.now unit.old slot.old }
-    ensures unit { unit.new ≡ (begun book.now now unit.old slot.old).unit }
-    ensures slot { slot.new ≡ (begun book.now now unit.old slot.old).slot }
-{
-    match slot.set.slice() {
-        Some(slice) => begin_in_turns(slot, unit.shape().counters(), slice, now),
-        None => {
-            if let Some(counters) = slot.set.assignment() {
-                begin_on_unit(unit, slot, book, &counters);
+    /// It begins at this time, on the unit of its component.
+    fn begin_with(&mut self, unit: &mut Unit, book: &PresetBook, now: u64)
+        requires { IsStartable book.now unit.old self.old }
+        ensures unit { unit.new ≡ (begun book.now now unit.old self.old).unit }
+        ensures slot { self.new ≡ (begun book.now now unit.old self.old).slot }
+    {
+        match self.set.slice() {
+            Some(slice) => self.begin_in_turns(unit.shape().counters(), slice, now),
+            None => {
+                if let Some(counters) = self.set.assignment() {
+                    self.begin_on(unit, book, &counters);
+                }
             }
         }
     }
-}
 
-/// The component of the set under a number.
-pub fn component_under(slots: &[Option<Slot>], set: u32) -> Option<u32>
-    ensures { result ≡ option_and_then (λ k. k.set.rest.component) (at slots.now set) }
-{
-    match slots.get(set as usize) {
-        Some(Some(slot)) => slot.set.component(),
-        _ => None,
-    }
-}
-
-/// The set under a number begins at this time, on the unit of its component.
-#[tactic(auto, using(crate::proofs::Lists::at_read, crate::proofs::Lists::place_is, crate::proofs::Lists::item_read))]
-pub fn begin_under(
-    units: &mut Vec<Unit>,
-    slots: &mut Vec<Option<Slot>>,
-    book: &PresetBook,
-    set: u32,
-    now: u64,
-)
-    requires inside { set < length slots.old.items }
-    requires has_unit { (comp : ℕ) (slot : Slot) → at slots.old.items set ≡ Some slot → slot.set.rest.component ≡ Some comp → comp < length units.old.items }
-    requires startable { (comp : ℕ) (unit : UnitView) (slot : Slot)
-        → at slots.old.items set ≡ Some slot → slot.set.rest.component ≡ Some comp
-        → slice_get units.old.items comp ≡ Some unit → IsStartable book.now unit slot }
-    ensures units { (comp : ℕ) (unit : UnitView) (slot : Slot)
-        → at slots.old.items set ≡ Some slot → slot.set.rest.component ≡ Some comp
-        → slice_get units.old.items comp ≡ Some unit
-        → units.new.items ≡ slice_set units.old.items comp (begun book.now now unit slot).unit }
-    ensures slots { (comp : ℕ) (unit : UnitView) (slot : Slot)
-        → at slots.old.items set ≡ Some slot → slot.set.rest.component ≡ Some comp
-        → slice_get units.old.items comp ≡ Some unit
-        → slots.new.items ≡ slice_set slots.old.items set (Some (begun book.now now unit slot).slot) }
-{
-    if let Some(slot) = &mut slots[set as usize] {
-        if let Some(comp) = slot.set.component() {
-            begin_slot(&mut units[comp as usize], slot, book, now);
+    /// It begins at this time in ticks, on the unit of its component: PAPI_start(3).
+    pub fn begin(&mut self, units: &mut [Unit], book: &PresetBook, now: u64)
+        requires has_unit { (comp : ℕ) → self.old.set.rest.component ≡ Some comp → comp < length units.old }
+        requires startable { (comp : ℕ) (unit : UnitView)
+            → self.old.set.rest.component ≡ Some comp → slice_get units.old comp ≡ Some unit
+            → IsStartable book.now unit self.old }
+        ensures units { (comp : ℕ) (unit : UnitView)
+            → self.old.set.rest.component ≡ Some comp → slice_get units.old comp ≡ Some unit
+            → units.new ≡ slice_set units.old comp (begun book.now now unit self.old).unit }
+        ensures slot { (comp : ℕ) (unit : UnitView)
+            → self.old.set.rest.component ≡ Some comp → slice_get units.old comp ≡ Some unit
+            → self.new ≡ (begun book.now now unit self.old).slot }
+    {
+        if let Some(comp) = self.set.component() {
+            self.begin_with(&mut units[comp as usize], book, now);
         }
     }
 }

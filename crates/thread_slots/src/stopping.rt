@@ -1,67 +1,39 @@
 //! What is left of a set that stops (PAPI_stop(3)).
 ghost use Rattle.std.specs.Prelude.{◌≡◌, ℕ, ◌<◌, List, slice_get, slice_set, length, None, Some};
-ghost use Rattle.session_model.specs.Faces.{at};
 ghost use Rattle.thread_slots.specs.Units.{empty_unit};
 ghost use Rattle.thread_slots.specs.Changed.{rested};
 ghost use Rattle.thread_slots.specs.Shown.{IsMeasurable, numbers_shown};
-ghost use Rattle.thread_slots.specs.declared.slot.Slot.{Slot};
 
-use crate::measuring::numbers_of;
-use crate::pins::Pins;
-use crate::slot::Slot;
-use crate::starting::component_under;
+use crate::slot::{Counting, Slot};
 use counter_unit::Unit;
-use overflow_dispatch::Thresholds;
-use papi_base::{Counts, Shape};
-
-/// The set keeps these numbers, and runs no more.
-fn rest(slot: &mut Slot, numbers: Counts)
-    ensures { slot.new ≡ rested numbers slot.old }
-{
-    slot.running = false;
-    slot.pins = Pins::new();
-    slot.armed = Thresholds::new();
-    slot.rotation = None;
-    slot.begun = 0;
-    slot.kept = numbers;
-}
+use papi_base::Shape;
 
 /// Nothing is programmed on the unit of a component any more.
-fn empty_unit_of(units: &mut Vec<Unit>, shape: &Shape, comp: u32)
-    requires unit { comp < length units.old.items }
+fn empty_unit_of(units: &mut [Unit], shape: &Shape, comp: u32)
+    requires unit { comp < length units.old }
     requires shape { comp < length shape.now }
-    ensures { (widths : List ℕ) → slice_get shape.now comp ≡ Some widths → units.new.items ≡ slice_set units.old.items comp (empty_unit widths) }
+    ensures { (widths : List ℕ) → slice_get shape.now comp ≡ Some widths → units.new ≡ slice_set units.old comp (empty_unit widths) }
 {
     units[comp as usize] = Unit::new(shape.comp(comp));
 }
 
-/// The set under a number stops at this time, in ticks.
-pub fn stop_under(
-    units: &mut Vec<Unit>,
-    slots: &mut Vec<Option<Slot>>,
-    shape: &Shape,
-    set: u32,
-    time: u64,
-)
-    requires inside { set < length slots.old.items }
-    requires has_unit { (comp : ℕ) (slot : Slot) → at slots.old.items set ≡ Some slot → slot.set.rest.component ≡ Some comp → comp < length units.old.items }
-    requires has_widths { (comp : ℕ) (slot : Slot) → at slots.old.items set ≡ Some slot → slot.set.rest.component ≡ Some comp → comp < length shape.now }
-    requires measurable { (slot : Slot) → at slots.old.items set ≡ Some slot → IsMeasurable units.old.items slot time }
-    ensures units { (comp : ℕ) (widths : List ℕ) (slot : Slot)
-        → at slots.old.items set ≡ Some slot → slot.set.rest.component ≡ Some comp
-        → slice_get shape.now comp ≡ Some widths
-        → units.new.items ≡ slice_set units.old.items comp (empty_unit widths) }
-    ensures same_units { (slot : Slot) → at slots.old.items set ≡ Some slot → slot.set.rest.component ≡ None → units.new.items ≡ units.old.items }
-    ensures slots { (slot : Slot)
-        → at slots.old.items set ≡ Some slot
-        → slots.new.items ≡ slice_set slots.old.items set (Some (rested (numbers_shown units.old.items time slot) slot)) }
-{
-    let component = component_under(slots, set);
-    if let Some(slot) = &mut slots[set as usize] {
-        let numbers = numbers_of(units, slot, time);
-        rest(slot, numbers);
-    }
-    if let Some(comp) = component {
-        empty_unit_of(units, shape, comp);
+impl Slot {
+    /// It stops at this time, in ticks, and keeps its counts or estimates; nothing is programmed on the unit of its component
+    /// any more: PAPI_stop(3).
+    pub fn stop(&mut self, units: &mut [Unit], shape: &Shape, time: u64)
+        requires has_unit { (comp : ℕ) → self.old.set.rest.component ≡ Some comp → comp < length units.old }
+        requires has_widths { (comp : ℕ) → self.old.set.rest.component ≡ Some comp → comp < length shape.now }
+        requires measurable { IsMeasurable units.old self.old time }
+        ensures units { (comp : ℕ) (widths : List ℕ)
+            → self.old.set.rest.component ≡ Some comp → slice_get shape.now comp ≡ Some widths
+            → units.new ≡ slice_set units.old comp (empty_unit widths) }
+        ensures same_units { self.old.set.rest.component ≡ None → units.new ≡ units.old }
+        ensures slot { self.new ≡ rested (numbers_shown units.old time self.old) self.old }
+    {
+        let kept = self.numbers(units, time);
+        self.counting = Counting::Stopped { kept };
+        if let Some(comp) = self.set.component() {
+            empty_unit_of(units, shape, comp);
+        }
     }
 }

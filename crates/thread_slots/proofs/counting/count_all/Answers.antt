@@ -13,9 +13,8 @@ index_mut-requires-in-Some c = let h = c.requires.countable c.in-Some.number (sy
 pub count_place-passed-requires : goal.count_place-passed-requires
 count_place-passed-requires c slot is =
     let h = c.requires.countable c.in-Some.number (sym c.requires.runner ∙ c.in-Some.is) in
-    h.countable c.index_mut.result.now slot
-    (ap (slice_get c.args.units.now.items) (sym c.from-comp.ensures) ∙ slice_get_read c.args.units.now.items _ c.from-comp.result c.index_mut.result.now refl (let lt = h.has_unit in let e = c.from-comp.ensures in omega arith) c.index_mut.ensures.value)
-    (some-at c.args.slots.now.items c.in-Some.number slot (slice_get_read c.args.slots.now.items _ c.in-Some.number c.index_mut-in-Some.result.now refl h.has_place c.index_mut-in-Some.ensures.value ∙ ap Some is))
+    let place = slice_get_read c.args.slots.now.items _ c.in-Some.number c.index_mut-in-Some.result.now refl h.has_place c.index_mut-in-Some.ensures.value in
+    h.countable slot (some-at c.args.slots.now.items c.in-Some.number slot (place ∙ ap Some is))
 
 -- the set that runs on the occurrence's component is counted on its unit
 all : (c : After-noting_set)

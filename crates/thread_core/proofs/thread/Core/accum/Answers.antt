@@ -1,42 +1,59 @@
-use Rattle.thread_core.proofs.Answering.{is_absent, slot_faces, false, refl, here, values_refused, goes, time_is, agrees_now, tellable, on_unit, inside, Read}
-use Rattle.thread_core.proofs.Answering.{accum_inside, accum_lengths, accum_follows, counts_known, Accum}
+use Rattle.thread_core.proofs.Answering.{refl, arith, ap, ◌∙◌, List, UnitView, values_shown, is_absent, slot_faces, false, values_refused, at, ◌≡◌, Some}
+use Rattle.thread_core.proofs.Answering.{seen, Calls, calls, reads, reads_some, time_is, tellable, has_unit, zeroed_units, accum_lengths, accum_follows}
+use Rattle.thread_core.proofs.Answering.{counts_known, with_items_is, Accum}
 use Rattle.thread_core.proofs.thread.Core.accum.Goals as goal
+use Rattle.thread_core.proofs.thread.Core.accum.Goals.{In_default, In-Some-index_mut, After-read-more}
+
+-- the call, and the set that it names
+call : (c : In_default) → Calls c.args.book.now (seen c.self.inside) (Accum c.args.set) c.args.set
+call c = calls c.args.set c.self.view_is c.requires c.read_refusal.ensures c.in_default.is refl
+
+lent : (c : In-Some-index_mut) → at c.self.inside.slots.items c.args.set ≡ Some c.in-Some-index_mut.slot
+lent c = reads (call (goal.at.In-Some-index_mut c).In_default).has c.index_mut.ensures.value c.in-Some-index_mut.is
+
+-- what is added
+told : (c : After-read-more) → c.read-more.result ≡ values_shown c.args.book.now c.self.inside.units.items c.time-now.result c.in-Some-index_mut.slot
+told c =
+    c.read-more.ensures
+    ∙ ap (λ (us : List UnitView). values_shown c.args.book.now us c.time-now.result c.in-Some-index_mut.slot) c.deref.ensures.value
 
 pub returns-in-Some-clause-follows : goal.returns-in-Some-clause-follows
 returns-in-Some-clause-follows c =
     values_refused (is_absent (slot_faces c.args.self.now.slots) c.args.set) false _ c.requires c.read_refusal.ensures refl c.in-Some.is
 
-pub values_under-more-requires-clause-inside : goal.values_under-more-requires-clause-inside
-values_under-more-requires-clause-inside c =
-    inside c.args.set (goes {made = Read c.args.set} c.self.view_is c.requires c.read_refusal.ensures c.in_default.is) refl
+pub index_mut-requires : goal.index_mut-requires
+index_mut-requires c = let below = (call (goal.at.index_mut-requires c).In_default).has.inside in omega (arith, c.self.inside.slots.ok.0, below)
 
-pub values_under-more-requires-clause-tellable : goal.values_under-more-requires-clause-tellable
-values_under-more-requires-clause-tellable c slot here = tellable c.args.set (time_is c.self.view_is c.time-now.ensures) (agrees_now c.self.view_is c.requires) here
+pub returns-in_default-index_mut : goal.returns-in_default-index_mut
+returns-in_default-index_mut c =
+    absurd (reads_some (call (goal.at.returns-in_default-index_mut c).In_default).has c.index_mut.ensures.value c.in_default-index_mut.is)
 
-pub zero_under-requires-clause-inside : goal.zero_under-requires-clause-inside
-zero_under-requires-clause-inside c = inside c.args.set (goes {made = Read c.args.set} c.self.view_is c.requires c.read_refusal.ensures c.in_default.is) refl
+pub read-more-requires : goal.read-more-requires
+read-more-requires c =
+    let w = goal.at.read-more-requires c in
+    rw c.deref.ensures.value
+    (tellable c.args.set (time_is c.self.view_is c.time-now.ensures) (call w.In_default).goes.agrees (lent w.In-Some-index_mut))
 
-pub zero_under-requires-clause-on_unit : goal.zero_under-requires-clause-on_unit
-zero_under-requires-clause-on_unit c slot here = on_unit c.args.book.now _ c.args.set slot (agrees_now c.self.view_is c.requires) here
+pub zero-requires : goal.zero-requires
+zero-requires c =
+    let w = goal.at.zero-requires c in
+    rw c.deref_mut.ensures.value (has_unit c.args.book.now _ c.args.set _ (call w.In_default).goes.agrees (lent w.In-Some-index_mut))
 
-pub accumulate_under-requires-clause-inside : goal.accumulate_under-requires-clause-inside
-accumulate_under-requires-clause-inside c =
-    accum_inside _ _ c.args.set _ _ (goes c.self.view_is c.requires c.read_refusal.ensures c.in_default.is) c.zero_under.ensures.slots
-
-pub accumulate_under-requires-clause-same_length : goal.accumulate_under-requires-clause-same_length
-accumulate_under-requires-clause-same_length c slot here =
-    accum_lengths _ _ c.args.set _ _ _ slot (goes c.self.view_is c.requires c.read_refusal.ensures c.in_default.is)
-    c.values_under-more.ensures c.zero_under.ensures.slots here
-
-pub invariant_of-self : goal.invariant_of-self
-invariant_of-self c =
-    let g = goes {made = Accum c.args.set} c.self.view_is c.requires c.read_refusal.ensures c.in_default.is in
-    let f = accum_follows _ _ c.args.set _ _ _ _ _ _ g (time_is c.self.view_is c.time-now.ensures) c.values_under-more.ensures
-    c.zero_under.ensures.units c.zero_under.ensures.slots c.accumulate_under.ensures.sums c.accumulate_under.ensures.slots in
-    (record { book = _; agrees = f.agrees }, counts_known _ _ _ _ c.args.set _ _ g refl (λ a. refl) (λ a s. refl) f c.self.invariant.1)
+pub accumulate-requires : goal.accumulate-requires
+accumulate-requires c =
+    let w = goal.at.accumulate-requires c in
+    accum_lengths c.args.set _ (call w.In_default).goes.agrees (lent w.In-Some-index_mut) (told w.After-read-more) c.zero.ensures.slot
 
 pub returns-clause-follows : goal.returns-clause-follows
 returns-clause-follows c =
-    let g = goes {made = Accum c.args.set} c.self.view_is c.requires c.read_refusal.ensures c.in_default.is in
-    rw (← c.self.view_is) (accum_follows _ _ c.args.set _ _ _ _ _ _ g (time_is c.self.view_is c.time-now.ensures) c.values_under-more.ensures
-    c.zero_under.ensures.units c.zero_under.ensures.slots c.accumulate_under.ensures.sums c.accumulate_under.ensures.slots)
+    let w = goal.at.returns-clause-follows c in
+    let units = with_items_is c.self.inside.units c.zero.new.units (omega arith) ∙ c.zero.ensures.units
+    ∙ ap (zeroed_units c.in-Some-index_mut.slot) c.deref_mut.ensures.value in
+    rw (← c.self.view_is) (accum_follows _ _ c.args.set _ _ _ _ _ _ _ (call w.In_default).goes (time_is c.self.view_is c.time-now.ensures)
+    (lent w.In-Some-index_mut) (told w.After-read-more) units c.zero.ensures.slot c.accumulate.ensures.sums c.accumulate.ensures.slot)
+
+pub invariant_of-self-2 : goal.invariant_of-self-2
+invariant_of-self-2 c =
+    let f = returns-clause-follows c in
+    let g = (call (goal.at.invariant_of-self-2 c).In_default).goes in
+    (record { book = _; agrees = f.agrees }, counts_known c.args.set c.self.view_is g refl (λ a. refl) (λ a s. refl) f c.self.invariant.1)

@@ -1,9 +1,24 @@
-use Rattle.thread_core.proofs.Answering.{refl, ◌∙◌, ap, CoreView, code_follows, goes, assign_follows}
+use Rattle.thread_core.proofs.Answering.{refl, arith, at, ◌≡◌, Some, seen, Calls, calls, reads, reads_some, code_follows, assign_follows, Assign}
 use Rattle.thread_core.proofs.thread.Core.assign.Goals as goal
+use Rattle.thread_core.proofs.thread.Core.assign.Goals.{After-self, In-Some-index}
+
+-- the call, and the set that it names
+call : (c : After-self) → Calls c.args._book.now (seen c.self.inside) (Assign c.args.set) c.args.set
+call c = calls c.args.set c.self.view_is c.requires c.assign_refusal.ensures c.in_default.is refl
+
+lent : (c : In-Some-index) → at c.self.inside.slots.items c.args.set ≡ Some c.in-Some-index.slot
+lent c = reads (call (goal.at.In-Some-index c).After-self).has c.index.ensures c.in-Some-index.is
 
 pub returns-in-Some : goal.returns-in-Some
 returns-in-Some c = code_follows c.requires c.assign_refusal.ensures c.in-Some.is
 
+pub index-requires : goal.index-requires
+index-requires c = let below = (call (goal.at.index-requires c).After-self).has.inside in omega (arith, c.self.inside.slots.ok.0, below)
+
+pub returns-in_default-index : goal.returns-in_default-index
+returns-in_default-index c = absurd (reads_some (call (goal.at.returns-in_default-index c).After-self).has c.index.ensures c.in_default-index.is)
+
 pub returns : goal.returns
-returns c = assign_follows _ _ c.args.set _ (goes refl c.requires c.assign_refusal.ensures c.in_default.is)
-    (rw (c.deref.ensures.value ∙ ap (λ (v : CoreView). v.slots) c.self.view_is) at c.assigned_under.ensures)
+returns c =
+    let w = goal.at.returns c in
+    rw (← c.self.view_is) (assign_follows _ _ c.args.set _ _ (call w.After-self).goes (lent w.In-Some-index) c.assigned.ensures)

@@ -1,36 +1,48 @@
-use Rattle.thread_core.proofs.Answering.{refused_follows, Plain, refl, sym, ◌∙◌, ap, CoreView, code_before, slot_faces, subst, IsFor, ◌≡◌, before_refuses}
-use Rattle.thread_core.proofs.Answering.{change_inside, slot_view, change_follows, code_after, agrees_now, forgotten}
+use Rattle.thread_core.proofs.Answering.{refused_follows, Has, at, Some, Plain, refl, sym, ◌∙◌, ap, arith, None, CoreView, code_before, slot_faces, subst}
+use Rattle.thread_core.proofs.Answering.{IsFor, ◌≡◌, before_refuses, change_there, reads, reads_some, slot_view, change_follows, code_after, agrees_now}
+use Rattle.thread_core.proofs.Answering.{forgotten}
 use Rattle.thread_core.proofs.thread.Core.change.Goals as goal
-use Rattle.thread_core.proofs.thread.Core.change.Goals.{in-Ok, in-Err}
+use Rattle.thread_core.proofs.thread.Core.change.Goals.{In_default, In-Some-index_mut, in-Ok, in-Err}
 
 pub returns-in-Some : goal.returns-in-Some
 returns-in-Some c = refused_follows _ _ _ (Plain _) _ c.requires.agrees
     (before_refuses _ _ _ _ _ c.args.change.now _ (sym c.change_refusal.ensures ∙ c.in-Some.is)) refl
 
-pub change_under-requires-clause-inside : goal.change_under-requires-clause-inside
-change_under-requires-clause-inside c =
-    let none = ap (λ (v : CoreView). code_before v.shape (slot_faces v.slots) c.args.set c.args.change.now) c.self.view_is ∙ sym c.change_refusal.ensures ∙ c.in_default.is in
-    change_inside c.args.book.now _ c.args.set c.args.change.now (agrees_now c.self.view_is c.requires.agrees) none
+-- the set that the call names, which does not run
+none : (c : In_default) → code_before c.self.inside.shape (slot_faces c.self.inside.slots.items) c.args.set c.args.change.now ≡ None
+none c =
+    ap (λ (v : CoreView). code_before v.shape (slot_faces v.slots) c.args.set c.args.change.now) c.self.view_is
+    ∙ sym c.change_refusal.ensures ∙ c.in_default.is
 
-pub change_under-requires-clause-view : goal.change_under-requires-clause-view
-change_under-requires-clause-view c slot e = slot_view c.args.book.now _ c.args.set slot (agrees_now c.self.view_is c.requires.agrees) e
+there : (c : In_default) → Has c.self.inside.slots.items c.args.set
+there c = change_there _ _ c.args.set c.args.change.now (none c)
 
-pub invariant_of-self : goal.invariant_of-self
-invariant_of-self c =
-    let agrees = agrees_now c.self.view_is c.requires.agrees in
-    let named = subst (λ (v : CoreView). IsFor c.args.book.now v.shape c.args.change.now) (sym c.self.view_is) c.requires.named in
-    let none = ap (λ (v : CoreView). code_before v.shape (slot_faces v.slots) c.args.set c.args.change.now) c.self.view_is ∙ sym c.change_refusal.ensures ∙ c.in_default.is in
-    let f = change_follows _ _ c.args.set c.args.change.now _ _ agrees named none c.change_under.ensures.changed c.change_under.ensures.taken c.change_under.ensures.refused c.change_under.ensures.unchanged in
-    (record { book = _; agrees = f.agrees }, forgotten _ _ c.forget.ensures)
+lent : (c : In-Some-index_mut) → at c.self.inside.slots.items c.args.set ≡ Some c.in-Some-index_mut.slot
+lent c = reads (there (goal.at.In-Some-index_mut c).In_default) c.index_mut.ensures.value c.in-Some-index_mut.is
+
+pub index_mut-requires : goal.index_mut-requires
+index_mut-requires c = let below = (there (goal.at.index_mut-requires c).In_default).inside in omega (arith, c.self.inside.slots.ok.0, below)
+
+pub returns-in_default-index_mut : goal.returns-in_default-index_mut
+returns-in_default-index_mut c =
+    absurd (reads_some (there (goal.at.returns-in_default-index_mut c).In_default) c.index_mut.ensures.value c.in_default-index_mut.is)
+
+pub change-requires : goal.change-requires
+change-requires c = record {
+  view = slot_view c.args.set (agrees_now c.self.view_is c.requires.agrees) (lent (goal.at.change-requires c).In-Some-index_mut);
+}
 
 pub returns : goal.returns
 returns c =
-    let agrees = agrees_now c.self.view_is c.requires.agrees in
+    let w = goal.at.returns c in
+    let e = c.change.ensures in
     let named = subst (λ (v : CoreView). IsFor c.args.book.now v.shape c.args.change.now) (sym c.self.view_is) c.requires.named in
-    let none = ap (λ (v : CoreView). code_before v.shape (slot_faces v.slots) c.args.set c.args.change.now) c.self.view_is ∙ sym c.change_refusal.ensures ∙ c.in_default.is in
-    let f = change_follows _ _ c.args.set c.args.change.now _ _ agrees named none c.change_under.ensures.changed c.change_under.ensures.taken c.change_under.ensures.refused c.change_under.ensures.unchanged in
-    let said : code_after c.change_under.result ≡ c.match-change_under.result = elim c.match-change_under.branch [
+    let said : code_after c.change.result ≡ c.match-change.result = elim c.match-change.branch [
       | in-Ok w ↦ ap code_after w.in-Ok.is ∙ sym w.result-is
       | in-Err w ↦ ap code_after w.in-Err.is ∙ sym w.result-is
     ] in
-    rw (← said, ← c.self.view_is) f
+    rw (← said, ← c.self.view_is) (change_follows _ _ c.args.set c.args.change.now _ _ _ (agrees_now c.self.view_is c.requires.agrees) named
+    (none w.In_default) (lent w.In-Some-index_mut) e.changed e.taken e.refused e.unchanged)
+
+pub invariant_of-self-2 : goal.invariant_of-self-2
+invariant_of-self-2 c = let f = returns c in (record { book = _; agrees = f.agrees }, forgotten _ _ c.forget.ensures)

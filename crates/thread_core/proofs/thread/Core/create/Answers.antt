@@ -9,13 +9,10 @@ index_mut-requires c =
     let below = free_is (goes c.self.view_is c.requires c.create_refusal.ensures c.in_default.is) (c.free_number-number.ensures ∙ ap free c.deref.ensures.value) in
     omega (arith, c.self.inside.slots.ok.0, below)
 
-pub invariant_of-self : goal.invariant_of-self
-invariant_of-self c =
-    let f = create_follows _ _ _ (goes c.self.view_is c.requires c.create_refusal.ensures c.in_default.is)
-    (c.free_number-number.ensures ∙ ap free c.deref.ensures.value) in
-    (record { book = c.args._book.now; agrees = rw c.new_slot.ensures f.agrees }, forgotten _ _ c.forget.ensures)
-
 pub returns : goal.returns
 returns c =
-    rw (c.new_slot.ensures, ← c.self.view_is) (create_follows _ _ _ (goes c.self.view_is c.requires c.create_refusal.ensures c.in_default.is)
+    rw (c.new.ensures, ← c.self.view_is) (create_follows _ _ _ (goes c.self.view_is c.requires c.create_refusal.ensures c.in_default.is)
     (c.free_number-number.ensures ∙ ap free c.deref.ensures.value))
+
+pub invariant_of-self : goal.invariant_of-self
+invariant_of-self c = let f = returns c in (record { book = _; agrees = f.agrees }, forgotten _ _ c.forget.ensures)

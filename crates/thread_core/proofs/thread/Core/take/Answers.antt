@@ -1,7 +1,6 @@
 use Rattle.thread_core.proofs.Answering.{CoreView, arith, time_after, ◌≤◌, ◌≡◌, subst, sym, ap, CoreStands, counted_all, agrees_now, runner_below}
-use Rattle.thread_core.proofs.Answering.{counted_known}
+use Rattle.thread_core.proofs.Answering.{counted_known, seen}
 use Rattle.thread_core.proofs.Taking.{countable, counted_is, taken_agrees, taken_stands, taken_notes}
-use Rattle.thread_core.specs.CoreView.{core_of}
 use Rattle.thread_core.proofs.thread.Core.take.Goals as goal
 use Rattle.thread_core.proofs.thread.Core.take.Goals.{After-count_all-taken}
 
@@ -13,7 +12,7 @@ on-runner-requires-clause-within c k e = omega (arith, runner_below c.self.invar
 
 -- the core as it was
 abbrev core : After-count_all-taken → CoreView
-core c = let q = c.self.inside in core_of q.thread q.registered q.shape q.slots.items q.units.items q.taken q.last
+core c = seen c.self.inside
 
 -- what was computed is what is counted
 counts : (c : After-count_all-taken)

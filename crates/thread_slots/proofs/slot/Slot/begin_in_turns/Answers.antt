@@ -1,7 +1,7 @@
 use Rattle.thread_slots.proofs.Words.{List, sym, subst, All, Native}
 use Rattle.std.proofs.Common.{◌<◌}
 use Rattle.thread_slots.proofs.Beginning.{slice_some}
-use Rattle.thread_slots.proofs.starting.begin_in_turns.Goals as goal
+use Rattle.thread_slots.proofs.slot.Slot.begin_in_turns.Goals as goal
 
 pub make-rotation-requires-clause-allowed : goal.make-rotation-requires-clause-allowed
 make-rotation-requires-clause-allowed c =
