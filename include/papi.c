@@ -23,6 +23,7 @@ typedef struct { unsigned char *buckets; unsigned size; unsigned long long offse
 typedef struct {
     kistalub library;
     uint32_t number;
+    uint32_t owed; /* what is left of a step in which memory was refused */
     int domain;
     PAPI_overflow_handler_t handlers[MOST_SETS];
     profile profiles[MOST_SETS][MOST_EVENTS];
@@ -420,9 +421,13 @@ int kistalub_go(uint32_t n, uint32_t *went) {
     return PAPI_OK;
 }
 
-static int goes_on(void) {
-    uint32_t went;
-    return step ? kistalub_go(step, &went) : PAPI_OK;
+/* The step before a call that reads, or what is left of it where memory was refused in it and the call is made again. */
+static int goes_on(thread_state *t) {
+    uint32_t n = t->owed ? t->owed : step, went = 0;
+    if (n == 0) return PAPI_OK;
+    int code = kistalub_go(n, &went);
+    t->owed = code == PAPI_ENOMEM ? n - went : 0;
+    return code;
 }
 
 int PAPI_start(int set) { HERE(t); return kistalub_start(&t->library, set_number(set)); }
@@ -434,7 +439,7 @@ static int given(giving call, int set, long long *values, int adding) {
     int64_t all[MOST_EVENTS];
     uint32_t count = 0;
     HERE(t);
-    if (goes_on() == PAPI_ENOMEM) return PAPI_ENOMEM;
+    if (goes_on(t) == PAPI_ENOMEM) return PAPI_ENOMEM;
     int code = call(&t->library, set_number(set), all, MOST_EVENTS, &count);
     for (uint32_t i = 0; code == PAPI_OK && values && i < count; i++)
         values[i] = adding ? (long long)((unsigned long long)values[i] + (unsigned long long)all[i]) : all[i];

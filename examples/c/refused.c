@@ -4,6 +4,7 @@
 #include "refusing.h"
 #include "wanted.h"
 #include <pthread.h>
+#include <stdlib.h>
 #include <string.h>
 
 /* Makes a call, and once more where an allocation was refused in it. */
@@ -124,15 +125,38 @@ static void life(void) {
     PAPI_shutdown();
 }
 
-int main(void) {
-    long k = 0, before;
+/* A step in which memory was refused goes on where it stopped. */
+static void steps(void) {
+    int set = PAPI_NULL;
+    long long count;
+    setenv("KISTALUB_STEP", "4", 1);
+    MADE(PAPI_library_init(PAPI_VER_CURRENT), PAPI_VER_CURRENT);
+    MADE(PAPI_create_eventset(&set), PAPI_OK);
+    MADE(PAPI_add_named_event(set, "PAPI_TOT_INS"), PAPI_OK);
+    MADE(PAPI_start(set), PAPI_OK);
+    MADE(PAPI_read(set, &count), PAPI_OK);
+    WANT(count, 1020);
+    MADE(PAPI_stop(set, &count), PAPI_OK);
+    WANT(count, 2040);
+    PAPI_shutdown();
+    unsetenv("KISTALUB_STEP");
+}
+
+/* Lives with each allocation refused in turn, until one has none that is. */
+static int each_refused(void (*lives)(void)) {
+    long k = 0, before, first = refusals;
     do {
         before = refusals;
         left = k++;
-        life();
+        lives();
         left = -1;
-        if (live) { printf("after allocation %ld was refused, %ld are left\n", k, live); return 1; }
+        if (live) { printf("after allocation %ld was refused, %ld are left\n", k, live); return 0; }
     } while (refusals != before);
-    printf("each allocation refused once, and nothing is left: %s\n", refusals == k - 1 && refusals > 0 ? "yes" : "no");
-    return 0;
+    return refusals - first == k - 1 && refusals > first;
+}
+
+int main(void) {
+    int all = each_refused(life) && each_refused(steps);
+    printf("each allocation refused once, and nothing is left: %s\n", all ? "yes" : "no");
+    return !all;
 }
