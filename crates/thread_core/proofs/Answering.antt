@@ -5,8 +5,9 @@ pub use Rattle.thread_core.proofs.Changing.{rest_refuses, slot_view, name_refuse
 pub use Rattle.thread_core.proofs.Changing.{free_is, create_follows, destroy_follows, change_there, rest_there}
 pub use Rattle.thread_core.proofs.Following.{values_refused, goes, time_is, agrees_now, refused_follows, code_follows, Goes, registration, seen}
 pub use Rattle.thread_core.proofs.Known.{counts_known, forgotten, runner_below, counted_known}
-pub use Rattle.thread_core.proofs.Looking.{comp_below, Has, Calls, calls, named, reads, reads_some}
-pub use Rattle.thread_core.proofs.Shows.{has_unit, tellable, assign_follows, list_follows, read_follows, state_follows}
+pub use Rattle.thread_core.proofs.Looking.{absent_follows, comp_below, goes_there, Has, Calls, calls, named, reads, reads_some}
+pub use Rattle.std.specs.Option.{option_copied}
+pub use Rattle.thread_core.proofs.Shows.{has_unit, tellable, assign_follows, assign_refused, list_follows, read_follows, state_follows}
 pub use Rattle.thread_core.proofs.Starting.{accum_lengths, accum_follows, reset_follows, start_ready, start_follows, stop_follows}
 pub use Rattle.thread_core.proofs.Words.{is_absent, slot_faces, false, refl, here, sym, ◌∙◌, Plain, Err, subst, CoreView, IsNamed, Ok, ap, rest_code}
 pub use Rattle.thread_core.proofs.Words.{code_before, IsFor, ◌≡◌, free, arith, [], ap₂, List, UnitView, Option, Slot, register_shown, face_of_slot, at, ℕ}

@@ -1,13 +1,13 @@
 -- The set under a number, in the core and in the account, and calls that show something of it or put it anew.
-use Rattle.thread_core.proofs.Words.{Book, CoreView, Account, ℕ, CoreStands, at, ◌≡◌, option_map, slot_of, ap, ◌∙◌, at_map, Kept, Some, IsFit, at-some}
-use Rattle.thread_core.proofs.Words.{Call, option_map_or, slice_get, slot_faces, false, face_of, ◌<◌, length, is_absent, refl, Option, None, true, sym}
-use Rattle.thread_core.proofs.Words.{Face, is_none, here, slice_get_within, runs, Slot, same_some, AgreesWith, arith, Widths, AtRest, List, widths_at}
-use Rattle.thread_core.proofs.Words.{get_at, unwrap_or, [], unit_at, UnitView, registers_by, Reply, IsGood, is_on_sets, sets_after, new_kept, kept_after}
-use Rattle.thread_core.proofs.Words.{reply_over, sight_of_kept, Follows, done, slice_set, AreApart, faces_of, units_of, change, map_put, subst, runner, ap₂}
-use Rattle.thread_core.proofs.Words.{Code, IsRefusedWith, time_after, clock, face_of_slot, get_or, get-set_same}
+use Rattle.thread_core.proofs.Words.{Book, CoreView, Account, ℕ, CoreStands, at, ◌≡◌, option_map, slot_of, ap, ◌∙◌, at_map, Kept, Some, IsFit, at-some, Call}
+use Rattle.thread_core.proofs.Words.{option_map_or, slice_get, slot_faces, false, face_of, ◌<◌, length, is_absent, refl, Option, None, true, sym, Face, is_none}
+use Rattle.thread_core.proofs.Words.{here, slice_get_within, runs, Slot, same_some, AgreesWith, arith, Widths, AtRest, List, widths_at, get_at, unwrap_or, []}
+use Rattle.thread_core.proofs.Words.{unit_at, UnitView, registers_by, Reply, IsGood, is_on_sets, sets_after, new_kept, kept_after, reply_over, sight_of_kept}
+use Rattle.thread_core.proofs.Words.{Follows, done, slice_set, AreApart, faces_of, units_of, change, map_put, subst, runner, ap₂, Code, IsRefusedWith}
+use Rattle.thread_core.proofs.Words.{time_after, clock, face_of_slot, get_or, get-set_same, Refusal, refusal_of, if◌then◌else◌, Plain, Enoevst, plain}
 use Rattle.thread_slots.proofs.Lists.{at_read, place_is}
 use Rattle.session_model.specs.declared.reply.Body.TheVariants as body
-use Rattle.thread_core.proofs.Following.{Allowed, faces_stand, done_follows, Goes, goes, with_both}
+use Rattle.thread_core.proofs.Following.{Allowed, faces_stand, done_follows, Goes, goes, with_both, refused_follows}
 use Rattle.session_model.specs.Refusals.{rows}
 use Rattle.session_laws.proofs.Sets.{row_fails}
 use Rattle.thread_core.proofs.Owners.{length-units, get-units, unit_by-runner, units_same, unit_stays, units_put, runner_is, runs_there, IsQuiet, quiet_other}
@@ -28,6 +28,10 @@ row_off book core made i none = row_fails (rows book core.shape core.registered 
 
 -- ---- the set that a call names
 
+-- what refusals look at under a number
+pub face_at : (slots : List (Option Slot)) (k : ℕ) (place : Option Slot) → at slots k ≡ place → at (slot_faces slots) k ≡ option_map face_of_slot place
+face_at slots k place is = at_map face_of_slot slots k ∙ ap (option_map face_of_slot) is
+
 -- under the number there is a set
 pub record Has (slots : List (Option Slot)) (k : ℕ) : Type 0 where
   pub slot : Slot
@@ -37,7 +41,7 @@ pub record Has (slots : List (Option Slot)) (k : ℕ) : Type 0 where
 pub has_slot : (slots : List (Option Slot)) (k : ℕ) → is_absent (slot_faces slots) k ≡ false → Has slots k
 has_slot slots k there = go (at slots k) refl where
   go : (o : Option Slot) → at slots k ≡ o → Has slots k
-  go None e = let gone : true ≡ false = sym (ap (λ (o : Option Face). is_none o) (at_map face_of_slot slots k ∙ ap (option_map face_of_slot) e)) ∙ there in cc
+  go None e = let gone : true ≡ false = sym (ap (λ (o : Option Face). is_none o) (face_at slots k None e)) ∙ there in cc
   go (Some slot) e = record { slot = slot; at_slot = e; inside = slice_get_within slots k _ (at-some slots k slot e) }
 
 -- so it is where a call is not refused whose table begins with that test
@@ -45,6 +49,23 @@ pub named : {book : Book} {core : CoreView} {made : Call} (k : ℕ) → Goes boo
     → option_map_or (λ r. r.0) (slice_get (rows book core.shape core.registered (slot_faces core.slots) made) 0) false ≡ is_absent (slot_faces core.slots) k
     → Has core.slots k
 named {book} {core} {made} k g first = has_slot core.slots k (sym first ∙ row_off book core made 0 g.allowed)
+
+-- a call whose table begins with that test is refused where there is no set
+pub absent_follows : {book : Book} {core : CoreView} {made : Call} (k : ℕ) (more : Option Refusal) → AgreesWith book core → at core.slots k ≡ None
+    → refusal_of book core.shape core.registered (slot_faces core.slots) made ≡ (if is_absent (slot_faces core.slots) k then Some (Plain Enoevst) else more)
+    → Follows book core core made (plain Enoevst)
+absent_follows {book} {core} {made} k more agrees none table =
+    refused_follows book core made (Plain Enoevst) _ agrees
+    (table ∙ ap (λ (o : Option Face). if is_none o then Some (Plain Enoevst) else more) (face_at core.slots k None none)) refl
+
+-- and goes on where there is one, if that test is all
+pub goes_there : {book : Book} {core : CoreView} {made : Call} (k : ℕ) (slot : Slot) → AgreesWith book core → at core.slots k ≡ Some slot
+    → refusal_of book core.shape core.registered (slot_faces core.slots) made ≡ (if is_absent (slot_faces core.slots) k then Some (Plain Enoevst) else None)
+    → Goes book core made
+goes_there {book} {core} {made} k slot agrees lent table = record {
+  agrees = agrees;
+  allowed = table ∙ ap (λ (o : Option Face). if is_none o then Some (Plain Enoevst) else None) (face_at core.slots k (Some slot) lent);
+}
 
 -- a call on it that is not refused
 pub record Calls (book : Book) (core : CoreView) (made : Call) (k : ℕ) : Type 0 where

@@ -1,13 +1,12 @@
 -- A core that shows the register of a counter.
-use Rattle.thread_core.proofs.Words.{ℕ, List, list_any, ◌==◌, ◌≡◌, true, slice_get, position_or_len, Some, [], ◌∷◌, refl, Bool, ap, eqb-true, false, ◌+◌}
-use Rattle.thread_core.proofs.Words.{suc, arith, ◌||◌, subst, sym, eq-eqb, ◌∙◌, Option, Refusal, Reply, Result, Code, Ok, None, done, Err, Plain}
-use Rattle.thread_core.proofs.Words.{free, if◌then◌else◌, not, Enotrun, Einval, Ecombo, Book, Widths, Face, is_none, Enoevst, option_map_or, is_multiplexed}
-use Rattle.thread_core.proofs.Words.{Occ, Kept, Native, IsFit, widths_at, set_natives, counters_for, at_place, running_registers, register_at, get_or}
-use Rattle.thread_core.proofs.Words.{threshold_among, count, plain, Pin, ArePinned, pins_of, pinned, Register, programs-at, replicate, length}
-use Rattle.thread_core.proofs.Words.{length-replicate, get-pins_from, slice_get_within, get_at, placed, pin_made, at_place-replicate, CoreView, Account}
-use Rattle.thread_core.proofs.Words.{CoreStands, at, face_of, cases_Bool, option_and_then, ap₂, ◌⊎◌, inl, inr, nat_le, UnitView, cond-true}
-use Rattle.thread_core.proofs.Words.{cond-false, account_refusal, reply_over, sight_of_kept, Slot, option_map, at_map, subst₂}
-use Rattle.thread_core.proofs.Words.{AgreesWith, Follows, refusal_of, slot_faces, refused, face_of_slot, IsRefusedWith, is_absent}
+use Rattle.thread_core.proofs.Words.{ℕ, List, list_any, ◌==◌, ◌≡◌, true, slice_get, position_or_len, Some, [], ◌∷◌, refl, Bool, ap, eqb-true, false, ◌+◌, suc}
+use Rattle.thread_core.proofs.Words.{arith, ◌||◌, subst, sym, eq-eqb, ◌∙◌, Option, Refusal, Reply, Result, Code, Ok, None, done, Err, Plain, free}
+use Rattle.thread_core.proofs.Words.{if◌then◌else◌, not, Enotrun, Einval, Ecombo, Book, Widths, Face, is_none, Enoevst, option_map_or, is_multiplexed, Occ}
+use Rattle.thread_core.proofs.Words.{Kept, Native, IsFit, widths_at, set_natives, counters_for, at_place, running_registers, register_at, get_or}
+use Rattle.thread_core.proofs.Words.{threshold_among, count, plain, Pin, ArePinned, pins_of, pinned, Register, programs-at, replicate, length, length-replicate}
+use Rattle.thread_core.proofs.Words.{get-pins_from, slice_get_within, get_at, placed, pin_made, at_place-replicate, CoreView, Account, CoreStands, at, face_of}
+use Rattle.thread_core.proofs.Words.{cases_Bool, option_and_then, ap₂, ◌⊎◌, inl, inr, nat_le, UnitView, cond-true, cond-false, account_refusal, reply_over}
+use Rattle.thread_core.proofs.Words.{sight_of_kept, Slot, option_map, at_map, subst₂, AgreesWith, Follows, refusal_of, slot_faces, refused, face_of_slot}
 use Rattle.session_model.specs.declared.reply.Body.TheVariants as body
 use Rattle.session_model.specs.declared.call.Call.TheVariants as call
 use Rattle.thread_core.proofs.Owners.{face_same}
@@ -175,14 +174,3 @@ raw_follows book core k c result slot agrees there is =
       go (Err e) told =
           let some = stands (Some (Plain e)) (told agrees.account agrees.stands) in
           refused_follows book core (call.Raw k c) (Plain e) (refused (Plain e)) agrees some refl
-
--- where there is no set
-pub raw_refused : {book : Book} {core : CoreView} {k c : ℕ} {result : Option Code} {code : Code} → AgreesWith book core
-    → IsRefusedWith core (call.Read k) result → result ≡ Some code → Follows book core core (call.Raw k c) (plain code)
-raw_refused {book} {core} {k} {c} {result} {code} agrees e is =
-    refused_follows book core (call.Raw k c) (Plain code) (plain code) agrees
-    (first (is_absent (slot_faces core.slots) k) _ (sym (ap (option_map Plain) is) ∙ e book)) refl where
-      first : (b : Bool) (more : Option Refusal) → Some (Plain code) ≡ (if b then Some (Plain Enoevst) else None)
-          → (if b then Some (Plain Enoevst) else more) ≡ Some (Plain code)
-      first true more h = sym h
-      first false more h = cc

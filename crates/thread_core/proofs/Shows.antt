@@ -9,13 +9,13 @@ use Rattle.thread_core.proofs.Words.{get-map_some, values_shown, values_of, ◌*
 use Rattle.thread_core.proofs.Words.{weight_of, groups, masks_of, weighed, weight_in_turn, active, Turns, AgreesWith, length-map, at-some, end}
 use Rattle.thread_core.proofs.Words.{same_some, RotationView, subst₂, ℤ, Follows, done, Face, option_map_or, is_multiplexed, unit_numbers}
 use Rattle.thread_core.proofs.Words.{turn_numbers, IsTellable, IsInTurns, position_is, rule_of_event, natives_of_event, pos, state_bits, assigned}
-use Rattle.thread_core.proofs.Words.{face_of_slot, is_counting, AreOnUnit, HasUnit, AreWidths, IsFit, widths_at, get_at, unwrap_or}
+use Rattle.thread_core.proofs.Words.{face_of_slot, is_counting, AreOnUnit, HasUnit, AreWidths, IsFit, widths_at, get_at, unwrap_or, is_none, is_some, Refusal}
+use Rattle.thread_core.proofs.Words.{if◌then◌else◌, Plain, Enoevst, Ecombo, Bool, refusal_of, slot_faces}
 use Rattle.session_model.specs.declared.reply.Body.TheVariants as body
 use Rattle.session_model.specs.declared.call.Call.TheVariants as call
 use Rattle.thread_core.proofs.Squares.{numbers-length, kept_as, kept_cases}
-use Rattle.thread_core.proofs.Looking.{fit_of, widths_on, unit_on, unit_of, now_is, under, row_off, shows_follows}
+use Rattle.thread_core.proofs.Looking.{face_at, fit_of, widths_on, unit_on, unit_of, now_is, under, shows_follows}
 use Rattle.thread_slots.specs.declared.slot.Counting.TheVariants as counting
-use Rattle.event_sets.proofs.Clashing.{none_of}
 use Rattle.thread_slots.proofs.Telling.{pins_show, pins_natives, turns_show}
 use Rattle.postfix_rules.specs.Rules.{rule_value}
 use Rattle.postfix_rules.proofs.Joined.{each_is_among, is_among}
@@ -25,7 +25,7 @@ use Rattle.session_laws.proofs.CountsInTurns.{counts_per_tick}
 use Rattle.std.proofs.lemmas.List.Elements.{All-map}
 use Rattle.thread_core.proofs.Taking.{past_short, by_turns, length-turned}
 use Rattle.thread_core.proofs.Owners.{length-units, face_same}
-use Rattle.thread_core.proofs.Following.{Goes}
+use Rattle.thread_core.proofs.Following.{Goes, refused_follows}
 use Rattle.session_model.specs.declared.reply.Assigned.{Assigned}
 
 -- no clock of the past is above that of now
@@ -237,13 +237,25 @@ state_follows book core k bits slot g here is =
     shows_follows book core (call.State k) k slot (λ a s. body.State (state_bits s.running s.set)) (body.State bits) g tt refl here (λ a. refl) (λ a. refl)
     (λ a h u. ap body.State (is ∙ ap (λ (f : Face). state_bits f.running f.set) (ap face_of_slot (sym u.is) ∙ face_same book core.shape a.past u.set)))
 
-pub assign_follows : (book : Book) (core : CoreView) (k : ℕ) (given : Assigned) (slot : Slot) → Goes book core (call.Assign k) → at core.slots k ≡ Some slot
-    → (slot.set.rest.slice ≡ None → given ≡ record { natives = slot.set.natives; counters = counters_for slot.set.natives })
+-- what refuses `assign`, by what is under the number
+abbrev assign_refusal : Option Face → Option Refusal
+assign_refusal face = if is_none face then Some (Plain Enoevst) else if option_map_or (λ f. is_multiplexed f.set) face false then Some (Plain Ecombo) else None
+
+assign_row : (book : Book) (core : CoreView) (k : ℕ) (slot : Slot) (slice : Option ℕ) → at core.slots k ≡ Some slot → slot.set.rest.slice ≡ slice
+    → refusal_of book core.shape core.registered (slot_faces core.slots) (call.Assign k) ≡ (if is_some slice then Some (Plain Ecombo) else None)
+assign_row book core k slot slice lent is =
+    ap assign_refusal (face_at core.slots k (Some slot) lent) ∙ ap (λ (o : Option ℕ). if is_some o then Some (Plain Ecombo) else None) is
+
+pub assign_refused : {book : Book} {core : CoreView} (k : ℕ) (slot : Slot) → AgreesWith book core → at core.slots k ≡ Some slot
+    → is_some slot.set.rest.slice ≡ true → Follows book core core (call.Assign k) (plain Ecombo)
+assign_refused {book} {core} k slot agrees lent is =
+    refused_follows book core (call.Assign k) (Plain Ecombo) _ agrees
+    (assign_row book core k slot slot.set.rest.slice lent refl ∙ ap (λ (b : Bool). if b then Some (Plain Ecombo) else None) is) refl
+
+pub assign_follows : (book : Book) (core : CoreView) (k : ℕ) (given : Assigned) (slot : Slot) → AgreesWith book core → at core.slots k ≡ Some slot
+    → slot.set.rest.slice ≡ None → given ≡ record { natives = slot.set.natives; counters = counters_for slot.set.natives }
     → Follows book core core (call.Assign k) (done (body.Assigned given))
-assign_follows book core k given slot g here is =
-    shows_follows book core (call.Assign k) k slot (λ a s. body.Assigned (assigned book s.set)) (body.Assigned given) g tt refl here (λ a. refl) (λ a. refl)
-    (λ a h u.
-    let plain = none_of u.set.set.slice (sym (ap (λ (o : Option Face). option_map_or (λ f. is_multiplexed f.set) o false) u.at_face)
-    ∙ row_off book core (call.Assign k) 1 g.allowed) in
-    ap body.Assigned (is (ap (λ (x : Slot). x.set.rest.slice) (sym u.is) ∙ plain)
-    ∙ ap (λ (x : Slot). record { natives = x.set.natives; counters = counters_for x.set.natives }) (sym u.is)))
+assign_follows book core k given slot agrees here plain is =
+    shows_follows book core (call.Assign k) k slot (λ a s. body.Assigned (assigned book s.set)) (body.Assigned given)
+    (record { agrees = agrees; allowed = assign_row book core k slot None here plain }) tt refl here (λ a. refl) (λ a. refl)
+    (λ a h u. ap body.Assigned (is ∙ ap (λ (x : Slot). record { natives = x.set.natives; counters = counters_for x.set.natives }) (sym u.is)))

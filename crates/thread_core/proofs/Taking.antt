@@ -1,11 +1,9 @@
 -- What holds of a core for which there is an account, and what a core is after an occurrence.
-use Rattle.thread_core.proofs.Words.{Turns, List, Occ, Kept, Native, ℕ, length, ◌≡◌, turned, [], refl, ◌∷◌, arith, ap, suc, ◌≤◌, Rises, All, ◌<◌, ◌^◌}
-use Rattle.thread_core.proofs.Words.{weighed, weight_in_turn, Book, Widths, IsFit, true, IsCountable, Some, slot_of}
-use Rattle.thread_core.proofs.Words.{Option, sym, None, subst, IsTurn, Counting, ⊤}
-use Rattle.thread_core.proofs.Words.{set_natives, numbers_of, RotationView, turns_of, ◌∙◌, CoreView, AgreesWith, owner_from, map, option_map}
-use Rattle.thread_core.proofs.Words.{face_of_slot, length-map, slice_get_within, Account, faces_of, UnitView, Slot, units_of, slots_of}
-use Rattle.thread_core.proofs.Words.{CountedAll, ◌+◌, counted_all, time_after, CoreStands, consumed}
-use Rattle.thread_core.proofs.Words.{last_after, ap₂, ◌++◌, notes_at, note, set}
+use Rattle.thread_core.proofs.Words.{Turns, List, Occ, Kept, Native, ℕ, length, ◌≡◌, turned, [], refl, ◌∷◌, arith, ap, suc, ◌≤◌, Rises, All, ◌<◌, ◌^◌, weighed}
+use Rattle.thread_core.proofs.Words.{weight_in_turn, Book, Widths, IsFit, true, IsCountable, Some, slot_of, Option, sym, None, subst, IsTurn, Counting, ⊤}
+use Rattle.thread_core.proofs.Words.{set_natives, numbers_of, RotationView, turns_of, ◌∙◌, CoreView, AgreesWith, owner_from, map, option_map, face_of_slot}
+use Rattle.thread_core.proofs.Words.{length-map, slice_get_within, Account, faces_of, UnitView, Slot, units_of, slots_of, CountedAll, ◌+◌, counted_all}
+use Rattle.thread_core.proofs.Words.{time_after, CoreStands, consumed, last_after, ap₂, ◌++◌, notes_at, note, set}
 use Rattle.std.proofs.lemmas.List.Elements.{All-nil, All-cons}
 use Rattle.thread_core.proofs.Weighing.{weighed-le, turn_small}
 use Rattle.thread_slots.specs.declared.slot.Counting.TheVariants as counting

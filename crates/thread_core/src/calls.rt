@@ -1,8 +1,10 @@
 //! The calls on a thread's event sets, in the order of their manual pages' table: registering, making and filling sets,
 //! counting, and looking.
 ghost use Rattle.std.specs.Prelude.{◌≡◌, ◌≢◌};
+ghost use Rattle.std.specs.Option.{option_copied};
 ghost use Rattle.papi_base.specs.declared.code.Code.TheVariants as code;
 ghost use Rattle.postfix_rules.specs.Fitting.{IsNamed};
+ghost use Rattle.session_model.specs.Faces.{at};
 ghost use Rattle.session_model.specs.Replies.{plain};
 ghost use Rattle.session_model.specs.declared.call.Call.TheVariants as call;
 ghost use Rattle.session_model.specs.declared.reply.Body.TheVariants as body;
@@ -198,10 +200,7 @@ impl Core {
         ensures follows { Follows book.now self.now self.now (call.Read set) (values_reply result into.new) }
         ensures kept { result ≢ code.Ok → into.new ≡ into.old }
     {
-        if let Some(code) = self.read_refusal(set) {
-            return code;
-        }
-        let Some(slot) = &self.slots[set as usize] else {
+        let Some(slot) = self.set(set) else {
             return Code::Enoevst;
         };
         *into = slot.read(&self.units, book, self.time());
@@ -215,7 +214,7 @@ impl Core {
         ensures follows { Follows book.now self.old self.new (call.Accum set) (values_reply result into.new) }
         ensures kept { result ≢ code.Ok → into.new ≡ into.old }
     {
-        if let Some(code) = self.read_refusal(set) {
+        if let Some(code) = self.zero_refusal(set) {
             return code;
         }
         let now = self.time();
@@ -233,7 +232,7 @@ impl Core {
         requires { AgreesWith _book.now self.old }
         ensures { Follows _book.now self.old self.new (call.Reset set) (plain result) }
     {
-        if let Some(code) = self.read_refusal(set) {
+        if let Some(code) = self.zero_refusal(set) {
             return code;
         }
         let ticks = self.time();
@@ -250,10 +249,7 @@ impl Core {
         requires { AgreesWith _book.now self.now }
         ensures { Follows _book.now self.now self.now (call.State set) (reply_of (λ bits. body.State bits) result) }
     {
-        if let Some(code) = self.read_refusal(set) {
-            return Err(code);
-        }
-        let Some(slot) = &self.slots[set as usize] else {
+        let Some(slot) = self.set(set) else {
             return Err(Code::Enoevst);
         };
         Ok(slot.state())
@@ -264,10 +260,7 @@ impl Core {
         requires { AgreesWith _book.now self.now }
         ensures { Follows _book.now self.now self.now (call.ListEvents set) (reply_of (λ events. body.Events events) result) }
     {
-        if let Some(code) = self.read_refusal(set) {
-            return Err(code);
-        }
-        let Some(slot) = &self.slots[set as usize] else {
+        let Some(slot) = self.set(set) else {
             return Err(Code::Enoevst);
         };
         Ok(slot.set.events().copy())
@@ -279,12 +272,12 @@ impl Core {
         requires { AgreesWith _book.now self.now }
         ensures { Follows _book.now self.now self.now (call.Assign set) (reply_of (λ assigned. body.Assigned assigned) result) }
     {
-        if let Some(code) = self.assign_refusal(set) {
-            return Err(code);
-        }
-        let Some(slot) = &self.slots[set as usize] else {
+        let Some(slot) = self.set(set) else {
             return Err(Code::Enoevst);
         };
+        if slot.set.slice().is_some() {
+            return Err(Code::Ecombo);
+        }
         Ok(slot.assigned())
     }
 
@@ -295,13 +288,21 @@ impl Core {
         requires { AgreesWith _book.now self.now }
         ensures { Follows _book.now self.now self.now (call.Raw set c) (reply_of (λ value. body.Register value) result) }
     {
-        if let Some(code) = self.read_refusal(set) {
-            return Err(code);
-        }
-        let Some(slot) = &self.slots[set as usize] else {
+        let Some(slot) = self.set(set) else {
             return Err(Code::Enoevst);
         };
         slot.register(&self.units, c)
+    }
+
+    /// The set under the number.
+    #[inline]
+    fn set(&self, set: u32) -> Option<&Slot>
+        ensures { option_copied result ≡ at self.now.slots set }
+    {
+        match self.slots.get(set as usize) {
+            Some(place) => place.as_ref(),
+            None => None,
+        }
     }
 
     /// Makes a change of a set that does not run.

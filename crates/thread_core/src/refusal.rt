@@ -1,11 +1,12 @@
-//! Which calls are refused. For each call its checks stand in their order, each with its code; the first that holds refuses.
+//! Which calls that change a thread's sets are refused. For each call its checks stand in their order, each with its code; the
+//! first that holds refuses.
 ghost use Rattle.std.specs.Prelude.{◌≡◌, ℕ, ◌==◌, Bool, length, map, is_none, is_some, not, None};
 ghost use Rattle.std.specs.Option.{option_map};
 ghost use Rattle.std.specs.List.{list_all, list_any};
 ghost use Rattle.event_sets.specs.AtRest.{Widths};
 ghost use Rattle.event_sets.specs.declared.refusal.Refusal.TheVariants.{Plain};
 ghost use Rattle.session_model.specs.Faces.{component_runs, has, is_absent, is_running, runs, runs_on};
-ghost use Rattle.session_model.specs.Refusals.{first_of, has_events, is_multiplexed, row};
+ghost use Rattle.session_model.specs.Refusals.{first_of, has_events, row};
 ghost use Rattle.session_model.specs.declared.call.Call.TheVariants as call;
 ghost use Rattle.thread_core.specs.Refusing.{IsRefusedWith, first_code, rest_code, slot_faces};
 ghost use Rattle.thread_slots.specs.Altering.{code_before};
@@ -41,13 +42,6 @@ fn lacks_events(slots: &[Option<Slot>], set: u32) -> bool
     ensures { result ≡ has (λ s. not (has_events s)) (slot_faces slots.now) set }
 {
     matches!(slots.get(set as usize), Some(Some(slot)) if slot.set.events().len() == 0)
-}
-
-/// Whether the set under the number is multiplexed.
-fn is_multiplexed(slots: &[Option<Slot>], set: u32) -> bool
-    ensures { result ≡ has is_multiplexed (slot_faces slots.now) set }
-{
-    matches!(slots.get(set as usize), Some(Some(slot)) if slot.set.slice().is_some())
 }
 
 /// Whether what is in a place is a set that runs on the component.
@@ -189,21 +183,11 @@ impl Core {
         ])
     }
 
-    /// `read`, `accum`, `reset`, `state` and `list_events`, and `raw` before the set is asked.
+    /// `accum` and `reset`.
     #[inline]
-    pub(crate) fn read_refusal(&self, set: u32) -> Option<Code>
-        ensures { IsRefusedWith self.now (call.Read set) result }
+    pub(crate) fn zero_refusal(&self, set: u32) -> Option<Code>
+        ensures { IsRefusedWith self.now (call.Reset set) result }
     {
         first_of(&[(is_absent(&self.slots, set), Code::Enoevst)])
-    }
-
-    /// `assign`.
-    pub(crate) fn assign_refusal(&self, set: u32) -> Option<Code>
-        ensures { IsRefusedWith self.now (call.Assign set) result }
-    {
-        first_of(&[
-            (is_absent(&self.slots, set), Code::Enoevst),
-            (is_multiplexed(&self.slots, set), Code::Ecombo),
-        ])
     }
 }

@@ -2,12 +2,10 @@
 use Rattle.std.specs.Prelude.{ℕ, nat_le, if◌then◌else◌, List, length, slice_get, Option, Some, None, Result, Ok, Err}
 use Rattle.std.specs.Option.{option_and_then}
 use Rattle.papi_base.specs.declared.code.Code.{Code}
-use Rattle.papi_base.specs.declared.code.Code.TheVariants.{Ecombo, Einval, Enoevst, Enotrun}
+use Rattle.papi_base.specs.declared.code.Code.TheVariants.{Ecombo, Einval, Enotrun}
 use Rattle.counter_unit.specs.declared.registers.Register.{Register}
 use Rattle.counter_unit.specs.Counting.{UnitView, at_place}
 use Rattle.session_model.specs.Faces.{Face}
-use Rattle.thread_slots.specs.declared.slot.Slot.{Slot}
-use Rattle.thread_slots.specs.Slots.{face_of_slot}
 
 -- what is programmed on the counter
 abbrev pub register_value : Option Register → Result ℕ Code
@@ -27,8 +25,3 @@ register_on slice (Some unit) c = if nat_le (length unit.widths) c then Err Einv
 -- the set runs
 abbrev pub register_shown : List UnitView → Face → ℕ → Result ℕ Code
 register_shown units f c = if f.running then register_on f.set.slice (option_and_then (slice_get units) f.set.component) c else Err Enotrun
-
--- there is a set
-abbrev pub register_under : List UnitView → Option Slot → ℕ → Result ℕ Code
-register_under units None c = Err Enoevst
-register_under units (Some slot) c = register_shown units (face_of_slot slot) c

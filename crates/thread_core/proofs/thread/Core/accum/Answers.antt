@@ -6,7 +6,7 @@ use Rattle.thread_core.proofs.thread.Core.accum.Goals.{In_default, In-Some-index
 
 -- the call, and the set that it names
 call : (c : In_default) → Calls c.args.book.now (seen c.self.inside) (Accum c.args.set) c.args.set
-call c = calls c.args.set c.self.view_is c.requires c.read_refusal.ensures c.in_default.is refl
+call c = calls c.args.set c.self.view_is c.requires c.zero_refusal.ensures c.in_default.is refl
 
 lent : (c : In-Some-index_mut) → at c.self.inside.slots.items c.args.set ≡ Some c.in-Some-index_mut.slot
 lent c = reads (call (goal.at.In-Some-index_mut c).In_default).has c.index_mut.ensures.value c.in-Some-index_mut.is
@@ -19,7 +19,7 @@ told c =
 
 pub returns-in-Some-clause-follows : goal.returns-in-Some-clause-follows
 returns-in-Some-clause-follows c =
-    values_refused (is_absent (slot_faces c.args.self.now.slots) c.args.set) false _ c.requires c.read_refusal.ensures refl c.in-Some.is
+    values_refused (is_absent (slot_faces c.args.self.now.slots) c.args.set) false _ c.requires c.zero_refusal.ensures refl c.in-Some.is
 
 pub index_mut-requires : goal.index_mut-requires
 index_mut-requires c = let below = (call (goal.at.index_mut-requires c).In_default).has.inside in omega (arith, c.self.inside.slots.ok.0, below)

@@ -1,24 +1,25 @@
-use Rattle.thread_core.proofs.Answering.{refl, arith, at, ◌≡◌, Some, seen, Calls, calls, reads, reads_some, code_follows, assign_follows, Assign}
+use Rattle.thread_core.proofs.Answering.{refl, sym, ◌∙◌, ap, at, ◌≡◌, Some, Option, ℕ, option_copied, absent_follows, assign_follows, assign_refused}
+use Rattle.std.specs.Prelude.{is_some}
+use Rattle.event_sets.proofs.Clashing.{none_of}
 use Rattle.thread_core.proofs.thread.Core.assign.Goals as goal
-use Rattle.thread_core.proofs.thread.Core.assign.Goals.{After-self, In-Some-index}
+use Rattle.thread_core.proofs.thread.Core.assign.Goals.{After-is_some, In-Some}
 
--- the call, and the set that it names
-call : (c : After-self) → Calls c.args._book.now (seen c.self.inside) (Assign c.args.set) c.args.set
-call c = calls c.args.set c.self.view_is c.requires c.assign_refusal.ensures c.in_default.is refl
+lent : (c : In-Some) → at c.args.self.now.slots c.args.set ≡ Some c.in-Some.slot.now
+lent c = sym c.set.ensures ∙ ap option_copied c.in-Some.is
 
-lent : (c : In-Some-index) → at c.self.inside.slots.items c.args.set ≡ Some c.in-Some-index.slot
-lent c = reads (call (goal.at.In-Some-index c).After-self).has c.index.ensures c.in-Some-index.is
+turns : (c : After-is_some) → is_some c.in-Some.slot.now.set.rest.slice ≡ c.is_some.result
+turns c = ap (λ (o : Option ℕ). is_some o) (sym c.slice.ensures) ∙ sym c.is_some.ensures
 
-pub returns-in-Some : goal.returns-in-Some
-returns-in-Some c = code_follows c.requires c.assign_refusal.ensures c.in-Some.is
+pub returns-in_default : goal.returns-in_default
+returns-in_default c = absent_follows c.args.set _ c.requires (sym c.set.ensures ∙ ap option_copied c.in_default.is) refl
 
-pub index-requires : goal.index-requires
-index-requires c = let below = (call (goal.at.index-requires c).After-self).has.inside in omega (arith, c.self.inside.slots.ok.0, below)
-
-pub returns-in_default-index : goal.returns-in_default-index
-returns-in_default-index c = absurd (reads_some (call (goal.at.returns-in_default-index c).After-self).has c.index.ensures c.in_default-index.is)
+pub returns-then-is_some : goal.returns-then-is_some
+returns-then-is_some c =
+    let w = goal.at.returns-then-is_some c in
+    assign_refused c.args.set _ c.requires (lent w.In-Some) (turns w.After-is_some ∙ c.if-is_some.true)
 
 pub returns : goal.returns
 returns c =
     let w = goal.at.returns c in
-    rw (← c.self.view_is) (assign_follows _ _ c.args.set _ _ (call w.After-self).goes (lent w.In-Some-index) c.assigned.ensures)
+    let plain = none_of _ (turns w.After-is_some ∙ c.if-is_some.false) in
+    assign_follows _ _ c.args.set _ _ c.requires (lent w.In-Some) plain (c.assigned.ensures plain)

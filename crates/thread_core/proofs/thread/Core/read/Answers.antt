@@ -1,34 +1,24 @@
-use Rattle.thread_core.proofs.Answering.{refl, arith, ap₂, ◌∙◌, List, UnitView, ℕ, values_shown, is_absent, slot_faces, false, values_refused, at, ◌≡◌}
-use Rattle.thread_core.proofs.Answering.{Some, seen, Calls, calls, reads, reads_some, time_is, tellable, read_follows, Read}
+use Rattle.thread_core.proofs.Answering.{refl, sym, ◌∙◌, ap, ap₂, at, ◌≡◌, Some, option_copied, absent_follows, goes_there, CoreView, List, UnitView}
+use Rattle.thread_core.proofs.Answering.{values_shown, ℕ, tellable, read_follows}
 use Rattle.thread_core.proofs.thread.Core.read.Goals as goal
-use Rattle.thread_core.proofs.thread.Core.read.Goals.{After-self, In-Some-index}
+use Rattle.thread_core.proofs.thread.Core.read.Goals.{In-Some, After-deref}
 
--- the call, and the set that it names
-call : (c : After-self) → Calls c.args.book.now (seen c.self.inside) (Read c.args.set) c.args.set
-call c = calls c.args.set c.self.view_is c.requires c.read_refusal.ensures c.in_default.is refl
+lent : (c : In-Some) → at c.args.self.now.slots c.args.set ≡ Some c.in-Some.slot.now
+lent c = sym c.set.ensures ∙ ap option_copied c.in-Some.is
 
-lent : (c : In-Some-index) → at c.self.inside.slots.items c.args.set ≡ Some c.in-Some-index.slot
-lent c = reads (call (goal.at.In-Some-index c).After-self).has c.index.ensures c.in-Some-index.is
+units : (c : After-deref) → c.deref.result.now ≡ c.args.self.now.units
+units c = c.deref.ensures.value ∙ ap (λ (v : CoreView). v.units) c.self.view_is
 
-pub returns-in-Some-clause-follows : goal.returns-in-Some-clause-follows
-returns-in-Some-clause-follows c =
-    values_refused (is_absent (slot_faces c.args.self.now.slots) c.args.set) false _ c.requires c.read_refusal.ensures refl c.in-Some.is
-
-pub index-requires : goal.index-requires
-index-requires c = let below = (call (goal.at.index-requires c).After-self).has.inside in omega (arith, c.self.inside.slots.ok.0, below)
-
-pub returns-in_default-index : goal.returns-in_default-index
-returns-in_default-index c = absurd (reads_some (call (goal.at.returns-in_default-index c).After-self).has c.index.ensures c.in_default-index.is)
+pub returns-in_default-clause-follows : goal.returns-in_default-clause-follows
+returns-in_default-clause-follows c = absent_follows c.args.set _ c.requires (sym c.set.ensures ∙ ap option_copied c.in_default.is) refl
 
 pub read-requires : goal.read-requires
 read-requires c =
     let w = goal.at.read-requires c in
-    rw c.deref.ensures.value (tellable c.args.set (time_is c.self.view_is c.time.ensures) (call w.After-self).goes.agrees (lent w.In-Some-index))
+    rw (units w.After-deref) (tellable c.args.set c.time.ensures c.requires (lent w.In-Some))
 
 pub returns-clause-follows : goal.returns-clause-follows
 returns-clause-follows c =
     let w = goal.at.returns-clause-follows c in
-    let told = c.read.ensures
-    ∙ ap₂ (λ (us : List UnitView) (t : ℕ). values_shown c.args.book.now us t c.in-Some-index.slot)
-    c.deref.ensures.value (time_is c.self.view_is c.time.ensures) in
-    rw (← c.self.view_is) (read_follows _ _ c.args.set _ _ (call w.After-self).goes (lent w.In-Some-index) told)
+    read_follows _ _ c.args.set _ _ (goes_there c.args.set _ c.requires (lent w.In-Some) refl) (lent w.In-Some)
+    (c.read.ensures ∙ ap₂ (λ (us : List UnitView) (t : ℕ). values_shown c.args.book.now us t c.in-Some.slot.now) (units w.After-deref) c.time.ensures)

@@ -5,13 +5,13 @@ use Rattle.thread_core.proofs.thread.Core.reset.Goals.{In_default, In-Some-index
 
 -- the call, and the set that it names
 call : (c : In_default) → Calls c.args._book.now (seen c.self.inside) (Reset c.args.set) c.args.set
-call c = calls c.args.set c.self.view_is c.requires c.read_refusal.ensures c.in_default.is refl
+call c = calls c.args.set c.self.view_is c.requires c.zero_refusal.ensures c.in_default.is refl
 
 lent : (c : In-Some-index_mut) → at c.self.inside.slots.items c.args.set ≡ Some c.in-Some-index_mut.slot
 lent c = reads (call (goal.at.In-Some-index_mut c).In_default).has c.index_mut.ensures.value c.in-Some-index_mut.is
 
 pub returns-in-Some : goal.returns-in-Some
-returns-in-Some c = code_follows c.requires c.read_refusal.ensures c.in-Some.is
+returns-in-Some c = code_follows c.requires c.zero_refusal.ensures c.in-Some.is
 
 pub index_mut-requires : goal.index_mut-requires
 index_mut-requires c = let below = (call (goal.at.index_mut-requires c).In_default).has.inside in omega (arith, c.self.inside.slots.ok.0, below)
