@@ -1,1 +1,1 @@
-pub mod Symbols
+pub mod Searching

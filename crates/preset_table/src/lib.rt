@@ -125,38 +125,14 @@ pub fn preset_text(row: u32) -> &'static str
 }
 
 /// The row of a symbol, compared exactly, which is below [`PRESETS`], and `None` where the text is not a symbol of the table.
-#[tactic(auto, unfolding(crate::specs::Table::preset_rows, crate::specs::Table::row_of))]
 pub fn preset_row(symbol: &str) -> Option<u32>
     ensures row { result ≡ Table.row_of symbol.now }
     ensures within { IfSome result (λ row. row < PRESETS) }
 {
-    match symbol {
-        "PAPI_L1_DCM" => Some(0),
-        "PAPI_L1_ICM" => Some(1),
-        "PAPI_L2_DCM" => Some(2),
-        "PAPI_L2_ICM" => Some(3),
-        "PAPI_L1_TCM" => Some(4),
-        "PAPI_L2_TCM" => Some(5),
-        "PAPI_L3_TCM" => Some(6),
-        "PAPI_TLB_DM" => Some(7),
-        "PAPI_TLB_IM" => Some(8),
-        "PAPI_L1_LDM" => Some(9),
-        "PAPI_L1_STM" => Some(10),
-        "PAPI_BR_UCN" => Some(11),
-        "PAPI_BR_CN" => Some(12),
-        "PAPI_BR_TKN" => Some(13),
-        "PAPI_BR_NTK" => Some(14),
-        "PAPI_BR_MSP" => Some(15),
-        "PAPI_BR_PRC" => Some(16),
-        "PAPI_TOT_INS" => Some(17),
-        "PAPI_LD_INS" => Some(18),
-        "PAPI_SR_INS" => Some(19),
-        "PAPI_BR_INS" => Some(20),
-        "PAPI_RES_STL" => Some(21),
-        "PAPI_TOT_CYC" => Some(22),
-        "PAPI_LST_INS" => Some(23),
-        "PAPI_FP_OPS" => Some(24),
-        "PAPI_REF_CYC" => Some(25),
-        _ => None,
+    for row in 0..PRESETS {
+        if preset_symbol(row) == symbol {
+            return Some(row);
+        }
     }
+    None
 }

@@ -1,8 +1,21 @@
-use Rattle.std.proofs.Common.{sym}
-use Rattle.preset_table.proofs.Symbols.{no_row}
-use Rattle.preset_table.specs.Table.{preset_rows, row_of}
+use Rattle.std.proofs.Common.{rules, sym, arith}
+use Rattle.preset_table.proofs.Searching.{passes_over, stops_at, finds_none, rows_counted}
 use Rattle.preset_table.proofs.preset_row.Goals as goal
+use Rattle.preset_table.specs.Table.{preset_rows, row_of, symbol_at}
 
-pub returns-in_default-clause-row : goal.returns-in_default-clause-row
-unfolding preset_rows row_of
-returns-in_default-clause-row c = sym (no_row c.args.symbol.now preset_rows (λ e. c.in_default.not-PAPI_L1_DCM (sym e), (λ e. c.in_default.not-PAPI_L1_ICM (sym e), (λ e. c.in_default.not-PAPI_L2_DCM (sym e), (λ e. c.in_default.not-PAPI_L2_ICM (sym e), (λ e. c.in_default.not-PAPI_L1_TCM (sym e), (λ e. c.in_default.not-PAPI_L2_TCM (sym e), (λ e. c.in_default.not-PAPI_L3_TCM (sym e), (λ e. c.in_default.not-PAPI_TLB_DM (sym e), (λ e. c.in_default.not-PAPI_TLB_IM (sym e), (λ e. c.in_default.not-PAPI_L1_LDM (sym e), (λ e. c.in_default.not-PAPI_L1_STM (sym e), (λ e. c.in_default.not-PAPI_BR_UCN (sym e), (λ e. c.in_default.not-PAPI_BR_CN (sym e), (λ e. c.in_default.not-PAPI_BR_TKN (sym e), (λ e. c.in_default.not-PAPI_BR_NTK (sym e), (λ e. c.in_default.not-PAPI_BR_MSP (sym e), (λ e. c.in_default.not-PAPI_BR_PRC (sym e), (λ e. c.in_default.not-PAPI_TOT_INS (sym e), (λ e. c.in_default.not-PAPI_LD_INS (sym e), (λ e. c.in_default.not-PAPI_SR_INS (sym e), (λ e. c.in_default.not-PAPI_BR_INS (sym e), (λ e. c.in_default.not-PAPI_RES_STL (sym e), (λ e. c.in_default.not-PAPI_TOT_CYC (sym e), (λ e. c.in_default.not-PAPI_LST_INS (sym e), (λ e. c.in_default.not-PAPI_FP_OPS (sym e), (λ e. c.in_default.not-PAPI_REF_CYC (sym e), tt)))))))))))))))))))))))))))
+pub loop-row-init : goal.loop-row-init
+loop-row-init c i below = absurd (omega (arith, below))
+
+pub returns-then-eq-clause-row : goal.returns-then-eq-clause-row
+unfolding row_of symbol_at
+returns-then-eq-clause-row c =
+    sym (stops_at c.args.symbol.now preset_rows c.loop-row.row c.loop-row.invariant (omega (arith, c.loop-row-test.true, rows_counted)) (search (rules, c.preset_symbol.ensures.symbol, c.if-eq.ensures)))
+
+pub loop-row-preserved : goal.loop-row-preserved
+unfolding symbol_at
+loop-row-preserved c =
+    passes_over c.args.symbol.now preset_rows c.loop-row.row c.loop-row.invariant (omega (arith, c.loop-row-test.true, rows_counted)) (search (rules, c.preset_symbol.ensures.symbol, c.if-eq.ensures))
+
+pub returns-clause-row : goal.returns-clause-row
+unfolding row_of
+returns-clause-row c = sym (finds_none c.args.symbol.now preset_rows (λ i below. c.loop-row.invariant i (omega (arith, below, c.loop-row-test.false, rows_counted))))
