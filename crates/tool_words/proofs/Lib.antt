@@ -2,4 +2,5 @@ pub mod ArgumentLemmas
 pub mod EventListLemmas
 pub mod FormLemmas
 pub mod NumberLemmas
+pub mod ScriptLemmas
 pub mod Examples

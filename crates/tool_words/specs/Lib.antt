@@ -4,6 +4,7 @@ pub mod Numbers
 pub mod Presets
 pub mod Workers
 pub mod Streams
+pub mod ScriptForm
 pub mod RunForm
 pub mod AvailForm
 pub mod ProfilForm

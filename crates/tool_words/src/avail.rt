@@ -1,13 +1,10 @@
 //! The words of `papi_avail`: `-U UNIT -P PRESETS -C CPU [-a] [-e NAME]`.
 
-ghost use Rattle.std.specs.Prelude.{◌≡◌, Some, map, option_map};
-ghost use Rattle.clap.specs.Words.{rule_of};
-ghost use Rattle.tool_words.specs.AvailForm.{avail_rules, avail_rules-defined, avail_words, avail_words_in};
-ghost use Rattle.tool_words.specs.Words.{Answers};
+ghost use Rattle.tool_words.specs.AvailForm.{avail_rules, avail_rules-defined, avail_words_in};
 
 use crate::fault::WordsFault;
-use crate::matches::text_of;
-use crate::options::{available_argument, event_argument, is_set, text_asked, unit_argument};
+use crate::matches::{text_asked, text_needed};
+use crate::options::{available_argument, event_argument, is_set, unit_argument};
 use crate::presets::{PresetWords, needed_cpu_argument, needed_presets_argument, presets_needed};
 use crate::tool::ToolWords;
 use clap::{Arg, ArgMatches};
@@ -23,29 +20,6 @@ pub struct AvailWords {
     pub available: bool,
     pub event: Option<Text>,
 }
-
-// What the values of the arguments ask for.
-fn asked(
-    alloc: Global,
-    unit: Option<&str>,
-    presets: PresetWords,
-    available: bool,
-    event: Option<&str>,
-) -> Result<AvailWords, WordsFault>
-    ensures { Answers result (avail_words (option_map (λ s. s.now) unit.entry) (Some presets) available (option_map (λ s. s.now) event.entry)) }
-{
-    let Some(unit) = unit else {
-        return Err(WordsFault::BadWords);
-    };
-    Ok(AvailWords {
-        unit: Text::copy_of(alloc, unit)?,
-        presets,
-        available,
-        event: text_asked(alloc, event)?,
-    })
-}
-
-// ---- the tool
 
 impl ToolWords for AvailWords {
     ghost rules = { avail_rules };
@@ -67,10 +41,11 @@ impl ToolWords for AvailWords {
 
     #[tactic(auto, unfolding(crate::specs::AvailForm::avail_words_in))]
     fn asked_by(alloc: Global, matches: &ArgMatches<'_>) -> Result<AvailWords, WordsFault> {
-        let unit = text_of(matches, "unit");
-        let presets = presets_needed(alloc, text_of(matches, "presets"), text_of(matches, "cpu"))?;
-        let available = is_set(text_of(matches, "available"));
-        let event = text_of(matches, "event");
-        asked(alloc, unit, presets, available, event)
+        Ok(AvailWords {
+            unit: text_needed(alloc, matches, "unit")?,
+            presets: presets_needed(alloc, matches)?,
+            available: is_set(matches, "available"),
+            event: text_asked(alloc, matches, "event")?,
+        })
     }
 }

@@ -1,14 +1,14 @@
 //! The words of `papi_event_chooser`: `-U UNIT [-P PRESETS -C CPU] NATIVE EVENT..`, or `PRESET` in place of `NATIVE`.
 
-ghost use Rattle.std.specs.Prelude.{◌≡◌, Some, map, option_and_then, option_map};
-ghost use Rattle.clap.specs.Words.{rule_of};
+ghost use Rattle.std.specs.Prelude.{◌≡◌, codes, map, option_and_then};
+ghost use Rattle.clap.specs.Words.{all_of, first_of, found_of, rows_of, rule_of};
 ghost use Rattle.tool_words.specs.ChooserForm as ChooserForm;
 ghost use Rattle.tool_words.specs.ChooserForm.{events_rule, few_events, kind_rule};
-ghost use Rattle.tool_words.specs.ChooserForm.{chooser_rules, chooser_rules-defined, chooser_words, chooser_words_in};
+ghost use Rattle.tool_words.specs.ChooserForm.{chooser_rules, chooser_rules-defined, chooser_words_in};
 ghost use Rattle.tool_words.specs.Words.{Answers};
 
 use crate::fault::WordsFault;
-use crate::matches::{copied, text_of, texts_of};
+use crate::matches::{copied, text_needed, text_of, texts_of};
 use crate::options::unit_argument;
 use crate::presets::{PresetWords, cpu_argument, presets_argument, presets_asked};
 use crate::texts::Texts;
@@ -62,11 +62,11 @@ fn events_argument<'a>(alloc: Global) -> Arg<'a>
 
 // ---- the values
 
-// Which events a word lists.
-fn kind_of(word: Option<&str>) -> Result<EventKind, WordsFault>
-    ensures { Answers result (option_and_then ChooserForm.kind_of (option_map (λ s. s.now) word.entry)) }
+// Which events are listed.
+fn kind_asked(matches: &ArgMatches<'_>) -> Result<EventKind, WordsFault>
+    ensures { Answers result (option_and_then ChooserForm.kind_of (first_of (codes "kind") (rows_of (found_of matches.now)))) }
 {
-    match word {
+    match text_of(matches, "kind") {
         Some("NATIVE") => Ok(EventKind::Native),
         Some("PRESET") => Ok(EventKind::Preset),
         _ => Err(WordsFault::BadWords),
@@ -74,37 +74,16 @@ fn kind_of(word: Option<&str>) -> Result<EventKind, WordsFault>
 }
 
 // The texts of the events that are given.
-fn events_of(alloc: Global, events: Option<&[&str]>) -> Result<Texts, WordsFault>
-    ensures { Answers result (option_and_then few_events (option_map (λ s. map (λ v. v.now) s.now) events.entry)) }
+fn events_asked(alloc: Global, matches: &ArgMatches<'_>) -> Result<Texts, WordsFault>
+    ensures { Answers result (option_and_then few_events (all_of (codes "events") (rows_of (found_of matches.now)))) }
 {
-    let Some(events) = events else {
+    let Some(events) = texts_of(matches, "events") else {
         return Err(WordsFault::BadWords);
     };
     if events.len() > MOST_EVENTS as usize {
         return Err(WordsFault::BadWords);
     }
     Ok(copied(alloc, events)?)
-}
-
-// What the values of the arguments ask for.
-fn asked(
-    alloc: Global,
-    unit: Option<&str>,
-    presets: Option<PresetWords>,
-    kind: EventKind,
-    events: Texts,
-) -> Result<ChooserWords, WordsFault>
-    ensures { Answers result (chooser_words (option_map (λ s. s.now) unit.entry) (Some presets) (Some kind) (Some events)) }
-{
-    let Some(unit) = unit else {
-        return Err(WordsFault::BadWords);
-    };
-    Ok(ChooserWords {
-        unit: Text::copy_of(alloc, unit)?,
-        presets,
-        kind,
-        events,
-    })
 }
 
 // ---- the tool
@@ -129,10 +108,15 @@ impl ToolWords for ChooserWords {
 
     #[tactic(auto, unfolding(crate::specs::ChooserForm::chooser_words_in))]
     fn asked_by(alloc: Global, matches: &ArgMatches<'_>) -> Result<ChooserWords, WordsFault> {
-        let unit = text_of(matches, "unit");
-        let presets = presets_asked(alloc, text_of(matches, "presets"), text_of(matches, "cpu"))?;
-        let kind = kind_of(text_of(matches, "kind"))?;
-        let events = events_of(alloc, texts_of(matches, "events"))?;
-        asked(alloc, unit, presets, kind, events)
+        let kind = kind_asked(matches)?;
+        let unit = text_needed(alloc, matches, "unit")?;
+        let events = events_asked(alloc, matches)?;
+        let presets = presets_asked(alloc, matches)?;
+        Ok(ChooserWords {
+            unit,
+            presets,
+            kind,
+            events,
+        })
     }
 }

@@ -1,12 +1,11 @@
 //! The words of `papi_encode`: `-U UNIT NAME..`.
 
-ghost use Rattle.std.specs.Prelude.{◌≡◌, map, option_map};
+ghost use Rattle.std.specs.Prelude.{◌≡◌};
 ghost use Rattle.clap.specs.Words.{rule_of};
-ghost use Rattle.tool_words.specs.EncodeForm.{encode_rules, encode_rules-defined, encode_words, encode_words_in, names_rule};
-ghost use Rattle.tool_words.specs.Words.{Answers};
+ghost use Rattle.tool_words.specs.EncodeForm.{encode_rules, encode_rules-defined, encode_words_in, names_rule};
 
 use crate::fault::WordsFault;
-use crate::matches::{copied, text_of, texts_of};
+use crate::matches::{text_needed, texts_needed};
 use crate::options::unit_argument;
 use crate::texts::Texts;
 use crate::tool::ToolWords;
@@ -34,25 +33,6 @@ fn names_argument<'a>(alloc: Global) -> Arg<'a>
         .num_args(1..)
 }
 
-// ---- the values
-
-// What the values of the arguments ask for.
-fn asked(
-    alloc: Global,
-    unit: Option<&str>,
-    names: Option<&[&str]>,
-) -> Result<EncodeWords, WordsFault>
-    ensures { Answers result (encode_words (option_map (λ s. s.now) unit.entry) (option_map (λ s. map (λ v. v.now) s.now) names.entry)) }
-{
-    let (Some(unit), Some(names)) = (unit, names) else {
-        return Err(WordsFault::BadWords);
-    };
-    Ok(EncodeWords {
-        unit: Text::copy_of(alloc, unit)?,
-        names: copied(alloc, names)?,
-    })
-}
-
 // ---- the tool
 
 impl ToolWords for EncodeWords {
@@ -69,8 +49,9 @@ impl ToolWords for EncodeWords {
 
     #[tactic(auto, unfolding(crate::specs::EncodeForm::encode_words_in))]
     fn asked_by(alloc: Global, matches: &ArgMatches<'_>) -> Result<EncodeWords, WordsFault> {
-        let unit = text_of(matches, "unit");
-        let names = texts_of(matches, "names");
-        asked(alloc, unit, names)
+        Ok(EncodeWords {
+            unit: text_needed(alloc, matches, "unit")?,
+            names: texts_needed(alloc, matches, "names")?,
+        })
     }
 }

@@ -18,6 +18,7 @@ pub mod presets;
 pub mod profil;
 pub mod regions;
 pub mod run;
+mod script;
 pub mod soak;
 pub mod streams;
 pub mod texts;

@@ -3,7 +3,7 @@
 ghost use Rattle.std.specs.Prelude.{◌≡◌, IfOk, map, option_map, string_bytes, true};
 ghost use Rattle.clap.specs.Words.{all_of, app_of, first_of, found_of, is_simple_and_free, rows_of, rule_of};
 ghost use Rattle.tool_words.specs.Numbers as Numbers;
-ghost use Rattle.tool_words.specs.Words.{IsMatched, app_with};
+ghost use Rattle.tool_words.specs.Words.{Answers, IsMatched, app_with};
 
 use crate::fault::{WordsFault, fault_by};
 use crate::texts::Texts;
@@ -55,6 +55,48 @@ pub(crate) fn texts_of<'m, 'a>(matches: &'m ArgMatches<'a>, id: &str) -> Option<
     ensures { option_map (λ s. map (λ v. v.now) s.now) result ≡ all_of id.now (rows_of (found_of matches.now)) }
 {
     matches.get_strs(id)
+}
+
+// A copy of the first value of an argument that has one.
+pub(crate) fn text_needed(
+    alloc: Global,
+    matches: &ArgMatches<'_>,
+    id: &str,
+) -> Result<Text, WordsFault>
+    ensures { Answers result (first_of id.now (rows_of (found_of matches.now))) }
+{
+    let Some(text) = text_of(matches, id) else {
+        return Err(WordsFault::BadWords);
+    };
+    Ok(Text::copy_of(alloc, text)?)
+}
+
+// A copy of the first value of an argument, where it has one.
+pub(crate) fn text_asked(
+    alloc: Global,
+    matches: &ArgMatches<'_>,
+    id: &str,
+) -> Result<Option<Text>, AllocError>
+    ensures { IfOk result (λ text. text ≡ first_of id.now (rows_of (found_of matches.now))) }
+{
+    match text_of(matches, id) {
+        Some(text) => Ok(Some(Text::copy_of(alloc, text)?)),
+        None => Ok(None),
+    }
+}
+
+// Copies of all values of an argument that has some.
+pub(crate) fn texts_needed(
+    alloc: Global,
+    matches: &ArgMatches<'_>,
+    id: &str,
+) -> Result<Texts, WordsFault>
+    ensures { Answers result (all_of id.now (rows_of (found_of matches.now))) }
+{
+    let Some(texts) = texts_of(matches, id) else {
+        return Err(WordsFault::BadWords);
+    };
+    Ok(copied(alloc, texts)?)
 }
 
 // The texts, copied.

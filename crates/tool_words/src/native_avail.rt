@@ -1,14 +1,13 @@
 //! The words of `papi_native_avail`: `-U UNIT [-e NAME] [-i STR] [-x STR] [--noumasks]`.
 
-ghost use Rattle.std.specs.Prelude.{◌≡◌, map, option_map};
+ghost use Rattle.std.specs.Prelude.{◌≡◌};
 ghost use Rattle.clap.specs.Words.{rule_of};
 ghost use Rattle.tool_words.specs.NativeAvailForm.{excluded_rule, included_rule, no_umasks_rule};
-ghost use Rattle.tool_words.specs.NativeAvailForm.{native_avail_rules, native_avail_rules-defined, native_avail_words, native_avail_words_in};
-ghost use Rattle.tool_words.specs.Words.{Answers};
+ghost use Rattle.tool_words.specs.NativeAvailForm.{native_avail_rules, native_avail_rules-defined, native_avail_words_in};
 
 use crate::fault::WordsFault;
-use crate::matches::text_of;
-use crate::options::{event_argument, is_set, text_asked, unit_argument};
+use crate::matches::{text_asked, text_needed};
+use crate::options::{event_argument, is_set, unit_argument};
 use crate::tool::ToolWords;
 use clap::{Arg, ArgAction, ArgMatches};
 use papi_base::Text;
@@ -53,32 +52,6 @@ fn no_umasks_argument<'a>(alloc: Global) -> Arg<'a>
         .action(ArgAction::SetTrue)
 }
 
-// ---- the values
-
-// What the values of the arguments ask for.
-fn asked(
-    alloc: Global,
-    unit: Option<&str>,
-    event: Option<&str>,
-    included: Option<&str>,
-    excluded: Option<&str>,
-    umasks: bool,
-) -> Result<NativeAvailWords, WordsFault>
-    ensures { Answers result (native_avail_words (option_map (λ s. s.now) unit.entry) (option_map (λ s. s.now) event.entry)
-        (option_map (λ s. s.now) included.entry) (option_map (λ s. s.now) excluded.entry) umasks) }
-{
-    let Some(unit) = unit else {
-        return Err(WordsFault::BadWords);
-    };
-    Ok(NativeAvailWords {
-        unit: Text::copy_of(alloc, unit)?,
-        event: text_asked(alloc, event)?,
-        included: text_asked(alloc, included)?,
-        excluded: text_asked(alloc, excluded)?,
-        umasks,
-    })
-}
-
 // ---- the tool
 
 impl ToolWords for NativeAvailWords {
@@ -101,11 +74,12 @@ impl ToolWords for NativeAvailWords {
 
     #[tactic(auto, unfolding(crate::specs::NativeAvailForm::native_avail_words_in))]
     fn asked_by(alloc: Global, matches: &ArgMatches<'_>) -> Result<NativeAvailWords, WordsFault> {
-        let unit = text_of(matches, "unit");
-        let event = text_of(matches, "event");
-        let included = text_of(matches, "included");
-        let excluded = text_of(matches, "excluded");
-        let umasks = !is_set(text_of(matches, "noumasks"));
-        asked(alloc, unit, event, included, excluded, umasks)
+        Ok(NativeAvailWords {
+            unit: text_needed(alloc, matches, "unit")?,
+            event: text_asked(alloc, matches, "event")?,
+            included: text_asked(alloc, matches, "included")?,
+            excluded: text_asked(alloc, matches, "excluded")?,
+            umasks: !is_set(matches, "noumasks"),
+        })
     }
 }

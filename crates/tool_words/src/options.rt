@@ -1,14 +1,14 @@
 //! The options that several tools have.
 
-ghost use Rattle.std.specs.Prelude.{◌≡◌, IfOk, option_map};
-ghost use Rattle.clap.specs.Words.{rule_of};
+ghost use Rattle.std.specs.Prelude.{◌≡◌};
+ghost use Rattle.clap.specs.Words.{first_of, found_of, rows_of, rule_of};
 ghost use Rattle.tool_words.specs.Options.{available_rule, event_rule, script_rule, unit_rule};
 ghost use Rattle.tool_words.specs.Numbers.{number_rule};
 ghost use Rattle.tool_words.specs.Options as Options;
 
-use clap::{Arg, ArgAction, value_parser};
-use papi_base::Text;
-use std::alloc::{AllocError, Global};
+use crate::matches::text_of;
+use clap::{Arg, ArgAction, ArgMatches, value_parser};
+use std::alloc::Global;
 
 // ---- the arguments
 
@@ -60,21 +60,11 @@ pub(crate) fn event_argument<'a>(alloc: Global) -> Arg<'a>
 // ---- the values
 
 // Whether the value of a flag is there, and set.
-pub(crate) fn is_set(value: Option<&str>) -> bool
-    ensures { result ≡ Options.is_set (option_map (λ s. s.now) value.entry) }
+pub(crate) fn is_set(matches: &ArgMatches<'_>, id: &str) -> bool
+    ensures { result ≡ Options.is_set (first_of id.now (rows_of (found_of matches.now))) }
 {
-    match value {
+    match text_of(matches, id) {
         Some(value) => value == "true",
         None => false,
-    }
-}
-
-// The value of an option, copied where it is there.
-pub(crate) fn text_asked(alloc: Global, value: Option<&str>) -> Result<Option<Text>, AllocError>
-    ensures { IfOk result (λ text. text ≡ option_map (λ s. s.now) value.entry) }
-{
-    match value {
-        Some(value) => Ok(Some(Text::copy_of(alloc, value)?)),
-        None => Ok(None),
     }
 }

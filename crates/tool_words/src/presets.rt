@@ -1,14 +1,15 @@
 //! The presets that the words of a tool ask for: `-P PRESETS -C CPU`.
 
-ghost use Rattle.std.specs.Prelude.{◌≡◌, option_map};
+ghost use Rattle.std.specs.Prelude.{◌≡◌, codes};
 ghost use Rattle.std.specs.List.{list_all};
-ghost use Rattle.clap.specs.Words.{rule_of};
+ghost use Rattle.clap.specs.Words.{first_of, found_of, rows_of, rule_of};
 ghost use Rattle.tool_words.specs.Presets.{cpu_rule, is_cpu_character, needed_cpu_rule, needed_presets_rule, presets_rule};
 ghost use Rattle.tool_words.specs.Presets as Presets;
 ghost use Rattle.tool_words.specs.Words.{Answers};
 
 use crate::fault::WordsFault;
-use clap::Arg;
+use crate::matches::text_of;
+use clap::{Arg, ArgMatches};
 use papi_base::Text;
 use std::alloc::Global;
 
@@ -100,12 +101,12 @@ fn presets_of(alloc: Global, file: &str, cpu: &str) -> Result<PresetWords, Words
 // The presets that are asked for, where they are.
 pub(crate) fn presets_asked(
     alloc: Global,
-    file: Option<&str>,
-    cpu: Option<&str>,
+    matches: &ArgMatches<'_>,
 ) -> Result<Option<PresetWords>, WordsFault>
-    ensures { Answers result (Presets.presets_asked (option_map (λ s. s.now) file.entry) (option_map (λ s. s.now) cpu.entry)) }
+    ensures { let rows = rows_of (found_of matches.now) in
+        Answers result (Presets.presets_asked (first_of (codes "presets") rows) (first_of (codes "cpu") rows)) }
 {
-    match (file, cpu) {
+    match (text_of(matches, "presets"), text_of(matches, "cpu")) {
         (None, None) => Ok(None),
         (Some(file), Some(cpu)) => Ok(Some(presets_of(alloc, file, cpu)?)),
         _ => Err(WordsFault::BadWords),
@@ -115,12 +116,12 @@ pub(crate) fn presets_asked(
 // The presets of a tool that needs them.
 pub(crate) fn presets_needed(
     alloc: Global,
-    file: Option<&str>,
-    cpu: Option<&str>,
+    matches: &ArgMatches<'_>,
 ) -> Result<PresetWords, WordsFault>
-    ensures { Answers result (Presets.presets_needed (option_map (λ s. s.now) file.entry) (option_map (λ s. s.now) cpu.entry)) }
+    ensures { let rows = rows_of (found_of matches.now) in
+        Answers result (Presets.presets_needed (first_of (codes "presets") rows) (first_of (codes "cpu") rows)) }
 {
-    match (file, cpu) {
+    match (text_of(matches, "presets"), text_of(matches, "cpu")) {
         (Some(file), Some(cpu)) => presets_of(alloc, file, cpu),
         _ => Err(WordsFault::BadWords),
     }

@@ -1,18 +1,18 @@
 //! The words of `papi_profil`:
 //! `-U UNIT -M MAP [-P PRESETS -C CPU] [--thread T] [--set S] [--index I] [--workers N] SCRIPT [STREAM..]`.
 
-ghost use Rattle.std.specs.Prelude.{◌≡◌, Some, option_map};
+ghost use Rattle.std.specs.Prelude.{◌≡◌};
 ghost use Rattle.clap.specs.Words.{rule_of};
-ghost use Rattle.tool_words.specs.ProfilForm.{index_rule, map_rule, profil_rules, profil_rules-defined, profil_words, profil_words_in, set_rule, thread_rule};
-ghost use Rattle.tool_words.specs.Words.{Answers};
+ghost use Rattle.tool_words.specs.ProfilForm.{index_rule, map_rule, profil_rules, profil_rules-defined, profil_words_in, set_rule, thread_rule};
 
 use crate::fault::WordsFault;
-use crate::matches::{number_of, text_of, texts_of};
+use crate::matches::{number_of, text_needed};
 use crate::options::{number_argument, script_argument, unit_argument};
-use crate::presets::{PresetWords, cpu_argument, presets_argument, presets_asked};
-use crate::streams::{StreamNames, streams_argument, streams_asked};
+use crate::presets::{PresetWords, cpu_argument, presets_argument};
+use crate::script::script_asked;
+use crate::streams::{StreamNames, streams_argument};
 use crate::tool::ToolWords;
-use crate::workers::{Workers, workers_argument, workers_asked};
+use crate::workers::{Workers, workers_argument};
 use clap::{Arg, ArgMatches};
 use papi_base::Text;
 use std::alloc::{AllocError, Global};
@@ -76,43 +76,6 @@ fn index_argument<'a>(alloc: Global) -> Arg<'a>
     number_argument(alloc, "index", LAST_INDEX)
 }
 
-// ---- the values
-
-// What the values of the arguments ask for.
-fn asked(
-    alloc: Global,
-    unit: Option<&str>,
-    map: Option<&str>,
-    presets: Option<PresetWords>,
-    thread: Option<u32>,
-    set: Option<u32>,
-    index: Option<u32>,
-    workers: Workers,
-    script: Option<&str>,
-    streams: StreamNames,
-) -> Result<ProfilWords, WordsFault>
-    ensures { Answers result (profil_words (option_map (λ s. s.now) unit.entry) (option_map (λ s. s.now) map.entry) (Some presets)
-        thread set index (Some workers) (option_map (λ s. s.now) script.entry) (Some streams)) }
-{
-    let (Some(unit), Some(map), Some(script)) = (unit, map, script) else {
-        return Err(WordsFault::BadWords);
-    };
-    let (Some(thread), Some(set), Some(index)) = (thread, set, index) else {
-        return Err(WordsFault::BadWords);
-    };
-    Ok(ProfilWords {
-        unit: Text::copy_of(alloc, unit)?,
-        map: Text::copy_of(alloc, map)?,
-        presets,
-        thread,
-        set,
-        index,
-        workers,
-        script: Text::copy_of(alloc, script)?,
-        streams,
-    })
-}
-
 // ---- the tool
 
 impl ToolWords for ProfilWords {
@@ -140,17 +103,24 @@ impl ToolWords for ProfilWords {
 
     #[tactic(auto, unfolding(crate::specs::ProfilForm::profil_words_in))]
     fn asked_by(alloc: Global, matches: &ArgMatches<'_>) -> Result<ProfilWords, WordsFault> {
-        let unit = text_of(matches, "unit");
-        let map = text_of(matches, "map");
-        let presets = presets_asked(alloc, text_of(matches, "presets"), text_of(matches, "cpu"))?;
         let thread = number_of(matches, "thread");
         let set = number_of(matches, "set");
         let index = number_of(matches, "index");
-        let workers = workers_asked(number_of(matches, "workers"))?;
-        let script = text_of(matches, "script");
-        let streams = streams_asked(alloc, texts_of(matches, "streams"))?;
-        asked(
-            alloc, unit, map, presets, thread, set, index, workers, script, streams,
-        )
+        let (Some(thread), Some(set), Some(index)) = (thread, set, index) else {
+            return Err(WordsFault::BadWords);
+        };
+        let map = text_needed(alloc, matches, "map")?;
+        let asked = script_asked(alloc, matches)?;
+        Ok(ProfilWords {
+            unit: asked.unit,
+            map,
+            presets: asked.presets,
+            thread,
+            set,
+            index,
+            workers: asked.workers,
+            script: asked.script,
+            streams: asked.streams,
+        })
     }
 }

@@ -1,23 +1,24 @@
 //! The words of `papi_regions`:
 //! `-U UNIT [-P PRESETS -C CPU] --events LIST [--workers N] REGIONS [STREAM..]`.
 
-ghost use Rattle.std.specs.Prelude.{◌≡◌, ◌≤◌, Some, IfOk, length, map, option_and_then, option_map};
+ghost use Rattle.std.specs.Prelude.{◌≡◌, ◌≤◌, IfOk, codes, length, map, option_and_then};
 ghost use Rattle.std.specs.List.{list_all};
-ghost use Rattle.clap.specs.Words.{rule_of};
+ghost use Rattle.clap.specs.Words.{first_of, found_of, rows_of, rule_of};
 ghost use Rattle.tool_words.specs.EventList as EventList;
 ghost use Rattle.tool_words.specs.EventList.{AreEvents, events_among, events_of, is_event_character};
-ghost use Rattle.tool_words.specs.RegionsForm.{event_list_rule, regions_rules, regions_rules-defined, regions_words, regions_words_in};
+ghost use Rattle.tool_words.specs.RegionsForm.{event_list_rule, regions_rules, regions_rules-defined, regions_words_in};
 ghost use Rattle.tool_words.specs.Words.{Answers};
 
 use crate::chooser::MOST_EVENTS;
 use crate::fault::WordsFault;
-use crate::matches::{copied, number_of, text_of, texts_of};
+use crate::matches::{copied, text_of};
 use crate::options::{script_argument, unit_argument};
-use crate::presets::{PresetWords, cpu_argument, presets_argument, presets_asked};
-use crate::streams::{StreamNames, streams_argument, streams_asked};
+use crate::presets::{PresetWords, cpu_argument, presets_argument};
+use crate::script::script_asked;
+use crate::streams::{StreamNames, streams_argument};
 use crate::texts::Texts;
 use crate::tool::ToolWords;
-use crate::workers::{Workers, workers_argument, workers_asked};
+use crate::workers::{Workers, workers_argument};
 use clap::{Arg, ArgMatches};
 use papi_base::Text;
 use std::alloc::{AllocError, Global};
@@ -126,40 +127,14 @@ fn parts_of<'a>(alloc: Global, list: &'a str) -> Result<Vec<&'a str>, AllocError
 }
 
 // The events of a list.
-fn events_asked(alloc: Global, list: Option<&str>) -> Result<EventTexts, WordsFault>
-    ensures { Answers result (option_and_then events_of (option_map (λ s. s.now) list.entry)) }
+fn events_asked(alloc: Global, matches: &ArgMatches<'_>) -> Result<EventTexts, WordsFault>
+    ensures { Answers result (option_and_then events_of (first_of (codes "events") (rows_of (found_of matches.now)))) }
 {
-    let Some(list) = list else {
+    let Some(list) = text_of(matches, "events") else {
         return Err(WordsFault::BadWords);
     };
     let parts = parts_of(alloc, list)?;
     EventTexts::copy_of(alloc, parts.as_slice())
-}
-
-// What the values of the arguments ask for.
-fn asked(
-    alloc: Global,
-    unit: Option<&str>,
-    presets: Option<PresetWords>,
-    events: EventTexts,
-    workers: Workers,
-    script: Option<&str>,
-    streams: StreamNames,
-) -> Result<RegionsWords, WordsFault>
-    ensures { Answers result (regions_words (option_map (λ s. s.now) unit.entry) (Some presets) (Some events) (Some workers)
-        (option_map (λ s. s.now) script.entry) (Some streams)) }
-{
-    let (Some(unit), Some(script)) = (unit, script) else {
-        return Err(WordsFault::BadWords);
-    };
-    Ok(RegionsWords {
-        unit: Text::copy_of(alloc, unit)?,
-        presets,
-        events,
-        workers,
-        script: Text::copy_of(alloc, script)?,
-        streams,
-    })
 }
 
 // ---- the tool
@@ -186,12 +161,15 @@ impl ToolWords for RegionsWords {
 
     #[tactic(auto, unfolding(crate::specs::RegionsForm::regions_words_in))]
     fn asked_by(alloc: Global, matches: &ArgMatches<'_>) -> Result<RegionsWords, WordsFault> {
-        let unit = text_of(matches, "unit");
-        let presets = presets_asked(alloc, text_of(matches, "presets"), text_of(matches, "cpu"))?;
-        let events = events_asked(alloc, text_of(matches, "events"))?;
-        let workers = workers_asked(number_of(matches, "workers"))?;
-        let script = text_of(matches, "script");
-        let streams = streams_asked(alloc, texts_of(matches, "streams"))?;
-        asked(alloc, unit, presets, events, workers, script, streams)
+        let events = events_asked(alloc, matches)?;
+        let asked = script_asked(alloc, matches)?;
+        Ok(RegionsWords {
+            unit: asked.unit,
+            presets: asked.presets,
+            events,
+            workers: asked.workers,
+            script: asked.script,
+            streams: asked.streams,
+        })
     }
 }

@@ -1,17 +1,16 @@
 //! The words of `papi_run`: `-U UNIT [-P PRESETS -C CPU] [--workers N] [--notes] SCRIPT [STREAM..]`.
 
-ghost use Rattle.std.specs.Prelude.{◌≡◌, Some, map, option_map};
+ghost use Rattle.std.specs.Prelude.{◌≡◌};
 ghost use Rattle.clap.specs.Words.{rule_of};
-ghost use Rattle.tool_words.specs.RunForm.{notes_rule, run_rules, run_rules-defined, run_words, run_words_in};
-ghost use Rattle.tool_words.specs.Words.{Answers};
+ghost use Rattle.tool_words.specs.RunForm.{notes_rule, run_rules, run_rules-defined, run_words_in};
 
 use crate::fault::WordsFault;
-use crate::matches::{number_of, text_of, texts_of};
 use crate::options::{is_set, script_argument, unit_argument};
-use crate::presets::{PresetWords, cpu_argument, presets_argument, presets_asked};
-use crate::streams::{StreamNames, streams_argument, streams_asked};
+use crate::presets::{PresetWords, cpu_argument, presets_argument};
+use crate::script::script_asked;
+use crate::streams::{StreamNames, streams_argument};
 use crate::tool::ToolWords;
-use crate::workers::{Workers, workers_argument, workers_asked};
+use crate::workers::{Workers, workers_argument};
 use clap::{Arg, ArgAction, ArgMatches};
 use papi_base::Text;
 use std::alloc::{AllocError, Global};
@@ -41,32 +40,6 @@ fn notes_argument<'a>(alloc: Global) -> Arg<'a>
 
 // ---- the values
 
-// What the values of the arguments ask for.
-fn asked(
-    alloc: Global,
-    unit: Option<&str>,
-    presets: Option<PresetWords>,
-    workers: Workers,
-    notes: bool,
-    script: Option<&str>,
-    streams: StreamNames,
-) -> Result<RunWords, WordsFault>
-    ensures { Answers result (run_words (option_map (λ s. s.now) unit.entry) (Some presets) (Some workers) notes
-        (option_map (λ s. s.now) script.entry) (Some streams)) }
-{
-    let (Some(unit), Some(script)) = (unit, script) else {
-        return Err(WordsFault::BadWords);
-    };
-    Ok(RunWords {
-        unit: Text::copy_of(alloc, unit)?,
-        presets,
-        workers,
-        notes,
-        script: Text::copy_of(alloc, script)?,
-        streams,
-    })
-}
-
 // ---- the tool
 
 impl ToolWords for RunWords {
@@ -91,12 +64,14 @@ impl ToolWords for RunWords {
 
     #[tactic(auto, unfolding(crate::specs::RunForm::run_words_in))]
     fn asked_by(alloc: Global, matches: &ArgMatches<'_>) -> Result<RunWords, WordsFault> {
-        let unit = text_of(matches, "unit");
-        let presets = presets_asked(alloc, text_of(matches, "presets"), text_of(matches, "cpu"))?;
-        let workers = workers_asked(number_of(matches, "workers"))?;
-        let notes = is_set(text_of(matches, "notes"));
-        let script = text_of(matches, "script");
-        let streams = streams_asked(alloc, texts_of(matches, "streams"))?;
-        asked(alloc, unit, presets, workers, notes, script, streams)
+        let asked = script_asked(alloc, matches)?;
+        Ok(RunWords {
+            unit: asked.unit,
+            presets: asked.presets,
+            workers: asked.workers,
+            notes: is_set(matches, "notes"),
+            script: asked.script,
+            streams: asked.streams,
+        })
     }
 }

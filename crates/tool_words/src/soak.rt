@@ -1,8 +1,9 @@
 //! The words of `papi_soak`: `N [--workers N]`.
 
-ghost use Rattle.std.specs.Prelude.{◌≡◌, ◌≤◌, Some, map, option_and_then};
-ghost use Rattle.clap.specs.Words.{rule_of};
-ghost use Rattle.tool_words.specs.SoakForm.{rounds_of, rounds_rule, soak_rules, soak_rules-defined, soak_words, soak_words_in};
+ghost use Rattle.std.specs.Prelude.{◌≡◌, ◌≤◌, codes, option_and_then};
+ghost use Rattle.clap.specs.Words.{found_of, rows_of, rule_of};
+ghost use Rattle.tool_words.specs.Numbers.{number_of};
+ghost use Rattle.tool_words.specs.SoakForm.{rounds_of, rounds_rule, soak_rules, soak_rules-defined, soak_words_in};
 ghost use Rattle.tool_words.specs.Words.{Answers};
 
 use crate::fault::WordsFault;
@@ -78,10 +79,10 @@ fn rounds_argument<'a>(alloc: Global) -> Arg<'a>
 // ---- the values
 
 // The rounds that are asked for.
-fn rounds_asked(count: Option<u32>) -> Result<Rounds, WordsFault>
-    ensures { Answers result (option_and_then rounds_of count) }
+fn rounds_asked(matches: &ArgMatches<'_>) -> Result<Rounds, WordsFault>
+    ensures { Answers result (option_and_then rounds_of (number_of (codes "rounds") (rows_of (found_of matches.now)))) }
 {
-    let Some(count) = count else {
+    let Some(count) = number_of(matches, "rounds") else {
         return Err(WordsFault::BadWords);
     };
     match Rounds::new(count) {
@@ -106,8 +107,8 @@ impl ToolWords for SoakWords {
 
     #[tactic(auto, unfolding(crate::specs::SoakForm::soak_words_in))]
     fn asked_by(_alloc: Global, matches: &ArgMatches<'_>) -> Result<SoakWords, WordsFault> {
-        let rounds = rounds_asked(number_of(matches, "rounds"))?;
-        let workers = workers_asked(number_of(matches, "workers"))?;
+        let rounds = rounds_asked(matches)?;
+        let workers = workers_asked(matches)?;
         Ok(SoakWords { rounds, workers })
     }
 }

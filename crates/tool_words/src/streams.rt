@@ -1,15 +1,15 @@
 //! The streams that the words of a tool name: `STREAM..`, none or more.
 
-ghost use Rattle.std.specs.Prelude.{◌≡◌, ◌≤◌, [], length, map, option_map};
-ghost use Rattle.clap.specs.Words.{rule_of};
+ghost use Rattle.std.specs.Prelude.{◌≡◌, ◌≤◌, [], codes, length, map};
+ghost use Rattle.clap.specs.Words.{all_of, found_of, rows_of, rule_of};
 ghost use Rattle.tool_words.specs.Streams.{streams_of, streams_rule};
 ghost use Rattle.tool_words.specs.Streams as Streams;
 ghost use Rattle.tool_words.specs.Words.{Answers};
 
 use crate::fault::WordsFault;
-use crate::matches::copied;
+use crate::matches::{copied, texts_of};
 use crate::texts::Texts;
-use clap::{Arg, ArgAction};
+use clap::{Arg, ArgAction, ArgMatches};
 use papi_base::{THREADS, Text};
 use std::alloc::Global;
 use std::marker::Model;
@@ -76,11 +76,11 @@ pub(crate) fn streams_argument<'a>(alloc: Global) -> Arg<'a>
 // The streams that are named.
 pub(crate) fn streams_asked(
     alloc: Global,
-    names: Option<&[&str]>,
+    matches: &ArgMatches<'_>,
 ) -> Result<StreamNames, WordsFault>
-    ensures { Answers result (Streams.streams_asked (option_map (λ s. map (λ v. v.now) s.now) names.entry)) }
+    ensures { Answers result (Streams.streams_asked (all_of (codes "streams") (rows_of (found_of matches.now)))) }
 {
-    match names {
+    match texts_of(matches, "streams") {
         None => Ok(StreamNames::none(alloc)),
         Some(names) => StreamNames::copy_of(alloc, names),
     }

@@ -1,12 +1,14 @@
 //! The workers that the words of a tool ask for: `--workers N`.
 
-ghost use Rattle.std.specs.Prelude.{◌≡◌, ◌≤◌, option_and_then};
-ghost use Rattle.clap.specs.Words.{rule_of};
+ghost use Rattle.std.specs.Prelude.{◌≡◌, ◌≤◌, codes, option_and_then};
+ghost use Rattle.clap.specs.Words.{found_of, rows_of, rule_of};
+ghost use Rattle.tool_words.specs.Numbers.{number_of};
 ghost use Rattle.tool_words.specs.Words.{Answers};
 ghost use Rattle.tool_words.specs.Workers.{workers_of, workers_rule};
 
 use crate::fault::WordsFault;
-use clap::{Arg, value_parser};
+use crate::matches::number_of;
+use clap::{Arg, ArgMatches, value_parser};
 use std::alloc::Global;
 use std::marker::Model;
 
@@ -72,10 +74,10 @@ pub(crate) fn workers_argument<'a>(alloc: Global) -> Arg<'a>
 }
 
 // The workers that are asked for.
-pub(crate) fn workers_asked(count: Option<u32>) -> Result<Workers, WordsFault>
-    ensures { Answers result (option_and_then workers_of count) }
+pub(crate) fn workers_asked(matches: &ArgMatches<'_>) -> Result<Workers, WordsFault>
+    ensures { Answers result (option_and_then workers_of (number_of (codes "workers") (rows_of (found_of matches.now)))) }
 {
-    let Some(count) = count else {
+    let Some(count) = number_of(matches, "workers") else {
         return Err(WordsFault::BadWords);
     };
     match Workers::new(count) {
