@@ -3,7 +3,7 @@
 ghost use Rattle.tool_words.specs.AvailForm.{avail_rules, avail_rules-defined, avail_words_in};
 
 use crate::fault::WordsFault;
-use crate::matches::{text_asked, text_needed};
+use crate::matches::{in_order, text_asked, text_needed};
 use crate::options::{available_argument, event_argument, is_set, unit_argument};
 use crate::presets::{PresetWords, needed_cpu_argument, needed_presets_argument, presets_needed};
 use crate::tool::ToolWords;
@@ -30,13 +30,16 @@ impl ToolWords for AvailWords {
 
     #[tactic(auto, unfolding(crate::specs::AvailForm::avail_rules))]
     fn arguments<'a>(alloc: Global) -> Result<Vec<Arg<'a>>, AllocError> {
-        Ok(vec![in alloc;
-            unit_argument(alloc),
-            needed_presets_argument(alloc),
-            needed_cpu_argument(alloc),
-            available_argument(alloc),
-            event_argument(alloc),
-        ]?)
+        in_order(
+            alloc,
+            [
+                unit_argument(alloc),
+                needed_presets_argument(alloc),
+                needed_cpu_argument(alloc),
+                available_argument(alloc),
+                event_argument(alloc),
+            ],
+        )
     }
 
     #[tactic(auto, unfolding(crate::specs::AvailForm::avail_words_in))]

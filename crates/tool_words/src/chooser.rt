@@ -1,19 +1,19 @@
 //! The words of `papi_event_chooser`: `-U UNIT [-P PRESETS -C CPU] NATIVE EVENT..`, or `PRESET` in place of `NATIVE`.
 
-ghost use Rattle.std.specs.Prelude.{◌≡◌, codes, map, option_and_then};
-ghost use Rattle.clap.specs.Words.{all_of, first_of, found_of, rows_of, rule_of};
+ghost use Rattle.std.specs.Prelude.{codes, option_and_then};
+ghost use Rattle.clap.specs.Words.{all_of, first_of, found_of, rows_of};
 ghost use Rattle.tool_words.specs.ChooserForm as ChooserForm;
-ghost use Rattle.tool_words.specs.ChooserForm.{events_rule, few_events, kind_rule};
+ghost use Rattle.tool_words.specs.ChooserForm.{few_events};
 ghost use Rattle.tool_words.specs.ChooserForm.{chooser_rules, chooser_rules-defined, chooser_words_in};
 ghost use Rattle.tool_words.specs.Words.{Answers};
 
 use crate::fault::WordsFault;
-use crate::matches::{copied, text_needed, text_of, texts_of};
-use crate::options::unit_argument;
+use crate::matches::{copied, in_order, text_needed, text_of, texts_of};
+use crate::options::{list_argument, unit_argument};
 use crate::presets::{PresetWords, cpu_argument, presets_argument, presets_asked};
 use crate::texts::Texts;
 use crate::tool::ToolWords;
-use clap::{Arg, ArgAction, ArgMatches};
+use clap::{Arg, ArgMatches};
 use papi_base::Text;
 use std::alloc::{AllocError, Global};
 
@@ -37,27 +37,6 @@ pub struct ChooserWords {
     pub presets: Option<PresetWords>,
     pub kind: EventKind,
     pub events: Texts,
-}
-
-// ---- the arguments
-
-// `NATIVE` or `PRESET`.
-#[tactic(auto, unfolding(crate::specs::ChooserForm::kind_rule))]
-fn kind_argument<'a>(alloc: Global) -> Arg<'a>
-    ensures { rule_of result ≡ kind_rule }
-{
-    Arg::new(alloc, "kind").required(true)
-}
-
-// `EVENT..`.
-#[tactic(auto, unfolding(crate::specs::ChooserForm::events_rule))]
-fn events_argument<'a>(alloc: Global) -> Arg<'a>
-    ensures { rule_of result ≡ events_rule }
-{
-    Arg::new(alloc, "events")
-        .required(true)
-        .action(ArgAction::Append)
-        .num_args(1..)
 }
 
 // ---- the values
@@ -95,15 +74,18 @@ impl ToolWords for ChooserWords {
 
     ghost defined = { chooser_rules-defined };
 
-    #[tactic(auto, unfolding(crate::specs::ChooserForm::chooser_rules))]
+    #[tactic(auto, unfolding(crate::specs::ChooserForm::chooser_rules, crate::specs::ChooserForm::kind_rule, crate::specs::ChooserForm::events_rule, crate::specs::Options::list_rule))]
     fn arguments<'a>(alloc: Global) -> Result<Vec<Arg<'a>>, AllocError> {
-        Ok(vec![in alloc;
-            unit_argument(alloc),
-            presets_argument(alloc),
-            cpu_argument(alloc),
-            kind_argument(alloc),
-            events_argument(alloc),
-        ]?)
+        in_order(
+            alloc,
+            [
+                unit_argument(alloc),
+                presets_argument(alloc),
+                cpu_argument(alloc),
+                Arg::new(alloc, "kind").required(true),
+                list_argument(alloc, "events"),
+            ],
+        )
     }
 
     #[tactic(auto, unfolding(crate::specs::ChooserForm::chooser_words_in))]

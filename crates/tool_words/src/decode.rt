@@ -3,7 +3,7 @@
 ghost use Rattle.tool_words.specs.DecodeForm.{decode_rules, decode_rules-defined, decode_words_in};
 
 use crate::fault::WordsFault;
-use crate::matches::text_needed;
+use crate::matches::{in_order, text_needed};
 use crate::options::{available_argument, is_set, unit_argument};
 use crate::presets::{PresetWords, needed_cpu_argument, needed_presets_argument, presets_needed};
 use crate::tool::ToolWords;
@@ -29,12 +29,15 @@ impl ToolWords for DecodeWords {
 
     #[tactic(auto, unfolding(crate::specs::DecodeForm::decode_rules))]
     fn arguments<'a>(alloc: Global) -> Result<Vec<Arg<'a>>, AllocError> {
-        Ok(vec![in alloc;
-            unit_argument(alloc),
-            needed_presets_argument(alloc),
-            needed_cpu_argument(alloc),
-            available_argument(alloc),
-        ]?)
+        in_order(
+            alloc,
+            [
+                unit_argument(alloc),
+                needed_presets_argument(alloc),
+                needed_cpu_argument(alloc),
+                available_argument(alloc),
+            ],
+        )
     }
 
     #[tactic(auto, unfolding(crate::specs::DecodeForm::decode_words_in))]

@@ -1,15 +1,13 @@
 //! The words of `papi_encode`: `-U UNIT NAME..`.
 
-ghost use Rattle.std.specs.Prelude.{◌≡◌};
-ghost use Rattle.clap.specs.Words.{rule_of};
-ghost use Rattle.tool_words.specs.EncodeForm.{encode_rules, encode_rules-defined, encode_words_in, names_rule};
+ghost use Rattle.tool_words.specs.EncodeForm.{encode_rules, encode_rules-defined, encode_words_in};
 
 use crate::fault::WordsFault;
-use crate::matches::{text_needed, texts_needed};
-use crate::options::unit_argument;
+use crate::matches::{in_order, text_needed, texts_needed};
+use crate::options::{list_argument, unit_argument};
 use crate::texts::Texts;
 use crate::tool::ToolWords;
-use clap::{Arg, ArgAction, ArgMatches};
+use clap::{Arg, ArgMatches};
 use papi_base::Text;
 use std::alloc::{AllocError, Global};
 
@@ -21,20 +19,6 @@ pub struct EncodeWords {
     pub names: Texts,
 }
 
-// ---- the arguments
-
-#[tactic(auto, unfolding(crate::specs::EncodeForm::names_rule))]
-fn names_argument<'a>(alloc: Global) -> Arg<'a>
-    ensures { rule_of result ≡ names_rule }
-{
-    Arg::new(alloc, "names")
-        .required(true)
-        .action(ArgAction::Append)
-        .num_args(1..)
-}
-
-// ---- the tool
-
 impl ToolWords for EncodeWords {
     ghost rules = { encode_rules };
 
@@ -42,9 +26,9 @@ impl ToolWords for EncodeWords {
 
     ghost defined = { encode_rules-defined };
 
-    #[tactic(auto, unfolding(crate::specs::EncodeForm::encode_rules))]
+    #[tactic(auto, unfolding(crate::specs::EncodeForm::encode_rules, crate::specs::EncodeForm::names_rule, crate::specs::Options::list_rule))]
     fn arguments<'a>(alloc: Global) -> Result<Vec<Arg<'a>>, AllocError> {
-        Ok(vec![in alloc; unit_argument(alloc), names_argument(alloc)]?)
+        in_order(alloc, [unit_argument(alloc), list_argument(alloc, "names")])
     }
 
     #[tactic(auto, unfolding(crate::specs::EncodeForm::encode_words_in))]

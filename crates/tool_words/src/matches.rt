@@ -11,6 +11,16 @@ use clap::{Arg, ArgMatches};
 use papi_base::Text;
 use std::alloc::{AllocError, Global};
 
+// A list of these items, in order.
+pub(crate) fn in_order<T: Drop, const N: usize>(
+    alloc: Global,
+    items: [T; N],
+) -> Result<Vec<T>, AllocError>
+    ensures { IfOk result (λ all. all.items ≡ items) }
+{
+    Ok(Vec::from_array(alloc, items)?)
+}
+
 // The command with these arguments.
 pub(crate) fn command_with<'a>(
     alloc: Global,

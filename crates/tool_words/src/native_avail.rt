@@ -1,15 +1,12 @@
 //! The words of `papi_native_avail`: `-U UNIT [-e NAME] [-i STR] [-x STR] [--noumasks]`.
 
-ghost use Rattle.std.specs.Prelude.{◌≡◌};
-ghost use Rattle.clap.specs.Words.{rule_of};
-ghost use Rattle.tool_words.specs.NativeAvailForm.{excluded_rule, included_rule, no_umasks_rule};
 ghost use Rattle.tool_words.specs.NativeAvailForm.{native_avail_rules, native_avail_rules-defined, native_avail_words_in};
 
 use crate::fault::WordsFault;
-use crate::matches::{text_asked, text_needed};
-use crate::options::{event_argument, is_set, unit_argument};
+use crate::matches::{in_order, text_asked, text_needed};
+use crate::options::{event_argument, is_set, option_argument, switch_argument, unit_argument};
 use crate::tool::ToolWords;
-use clap::{Arg, ArgAction, ArgMatches};
+use clap::{Arg, ArgMatches};
 use papi_base::Text;
 use std::alloc::{AllocError, Global};
 
@@ -24,36 +21,6 @@ pub struct NativeAvailWords {
     pub umasks: bool,
 }
 
-// ---- the arguments
-
-// `-i STR`.
-#[tactic(auto, unfolding(crate::specs::NativeAvailForm::included_rule))]
-fn included_argument<'a>(alloc: Global) -> Arg<'a>
-    ensures { rule_of result ≡ included_rule }
-{
-    Arg::new(alloc, "included").short('i')
-}
-
-// `-x STR`.
-#[tactic(auto, unfolding(crate::specs::NativeAvailForm::excluded_rule))]
-fn excluded_argument<'a>(alloc: Global) -> Arg<'a>
-    ensures { rule_of result ≡ excluded_rule }
-{
-    Arg::new(alloc, "excluded").short('x')
-}
-
-// `--noumasks`.
-#[tactic(auto, unfolding(crate::specs::NativeAvailForm::no_umasks_rule))]
-fn no_umasks_argument<'a>(alloc: Global) -> Arg<'a>
-    ensures { rule_of result ≡ no_umasks_rule }
-{
-    Arg::new(alloc, "noumasks")
-        .long("noumasks")
-        .action(ArgAction::SetTrue)
-}
-
-// ---- the tool
-
 impl ToolWords for NativeAvailWords {
     ghost rules = { native_avail_rules };
 
@@ -61,15 +28,18 @@ impl ToolWords for NativeAvailWords {
 
     ghost defined = { native_avail_rules-defined };
 
-    #[tactic(auto, unfolding(crate::specs::NativeAvailForm::native_avail_rules))]
+    #[tactic(auto, unfolding(crate::specs::NativeAvailForm::native_avail_rules, crate::specs::NativeAvailForm::included_rule, crate::specs::NativeAvailForm::excluded_rule, crate::specs::NativeAvailForm::no_umasks_rule))]
     fn arguments<'a>(alloc: Global) -> Result<Vec<Arg<'a>>, AllocError> {
-        Ok(vec![in alloc;
-            unit_argument(alloc),
-            event_argument(alloc),
-            included_argument(alloc),
-            excluded_argument(alloc),
-            no_umasks_argument(alloc),
-        ]?)
+        in_order(
+            alloc,
+            [
+                unit_argument(alloc),
+                event_argument(alloc),
+                option_argument(alloc, "included", 'i'),
+                option_argument(alloc, "excluded", 'x'),
+                switch_argument(alloc, "noumasks"),
+            ],
+        )
     }
 
     #[tactic(auto, unfolding(crate::specs::NativeAvailForm::native_avail_words_in))]

@@ -1,8 +1,9 @@
 //! The options that several tools have.
 
-ghost use Rattle.std.specs.Prelude.{◌≡◌};
-ghost use Rattle.clap.specs.Words.{first_of, found_of, rows_of, rule_of};
-ghost use Rattle.tool_words.specs.Options.{available_rule, event_rule, script_rule, unit_rule};
+ghost use Rattle.std.specs.Prelude.{◌≡◌, Some, true};
+ghost use Rattle.clap.specs.Words.{first_of, found_of, new_rule, rows_of, rule_of};
+ghost use Rattle.clap.specs.declared.builder.ArgAction.TheVariants.{SetTrue};
+ghost use Rattle.tool_words.specs.Options.{available_rule, event_rule, list_rule, script_rule, unit_rule};
 ghost use Rattle.tool_words.specs.Numbers.{number_rule};
 ghost use Rattle.tool_words.specs.Options as Options;
 
@@ -11,6 +12,31 @@ use clap::{Arg, ArgAction, ArgMatches, value_parser};
 use std::alloc::Global;
 
 // ---- the arguments
+
+// `-C VALUE`, by its character.
+pub(crate) fn option_argument<'a>(alloc: Global, id: &'a str, short: char) -> Arg<'a>
+    ensures { rule_of result ≡ record (new_rule id.now) { short = Some short } }
+{
+    Arg::new(alloc, id).short(short)
+}
+
+// `--NAME`, which takes no value.
+pub(crate) fn switch_argument<'a>(alloc: Global, name: &'a str) -> Arg<'a>
+    ensures { rule_of result ≡ record (new_rule name.now) { long = Some name.now; action = Some SetTrue } }
+{
+    Arg::new(alloc, name).long(name).action(ArgAction::SetTrue)
+}
+
+// `NAME..`, one or more, between which options may stand.
+#[tactic(auto, unfolding(crate::specs::Options::list_rule))]
+pub(crate) fn list_argument<'a>(alloc: Global, name: &'a str) -> Arg<'a>
+    ensures { rule_of result ≡ list_rule name.now }
+{
+    Arg::new(alloc, name)
+        .required(true)
+        .action(ArgAction::Append)
+        .num_args(1..)
+}
 
 // `-U UNIT`, which every tool over files needs.
 #[tactic(auto, unfolding(crate::specs::Options::unit_rule))]

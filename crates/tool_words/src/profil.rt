@@ -1,13 +1,11 @@
 //! The words of `papi_profil`:
 //! `-U UNIT -M MAP [-P PRESETS -C CPU] [--thread T] [--set S] [--index I] [--workers N] SCRIPT [STREAM..]`.
 
-ghost use Rattle.std.specs.Prelude.{◌≡◌};
-ghost use Rattle.clap.specs.Words.{rule_of};
-ghost use Rattle.tool_words.specs.ProfilForm.{index_rule, map_rule, profil_rules, profil_rules-defined, profil_words_in, set_rule, thread_rule};
+ghost use Rattle.tool_words.specs.ProfilForm.{profil_rules, profil_rules-defined, profil_words_in};
 
 use crate::fault::WordsFault;
-use crate::matches::{number_of, text_needed};
-use crate::options::{number_argument, script_argument, unit_argument};
+use crate::matches::{in_order, number_of, text_needed};
+use crate::options::{number_argument, option_argument, script_argument, unit_argument};
 use crate::presets::{PresetWords, cpu_argument, presets_argument};
 use crate::script::script_asked;
 use crate::streams::{StreamNames, streams_argument};
@@ -42,42 +40,6 @@ pub struct ProfilWords {
     pub streams: StreamNames,
 }
 
-// ---- the arguments
-
-// `-M MAP`.
-#[tactic(auto, unfolding(crate::specs::ProfilForm::map_rule))]
-fn map_argument<'a>(alloc: Global) -> Arg<'a>
-    ensures { rule_of result ≡ map_rule }
-{
-    Arg::new(alloc, "map").short('M').required(true)
-}
-
-// `--thread T`.
-#[tactic(auto, unfolding(crate::specs::ProfilForm::thread_rule))]
-fn thread_argument<'a>(alloc: Global) -> Arg<'a>
-    ensures { rule_of result ≡ thread_rule }
-{
-    number_argument(alloc, "thread", LAST_THREAD)
-}
-
-// `--set S`.
-#[tactic(auto, unfolding(crate::specs::ProfilForm::set_rule))]
-fn set_argument<'a>(alloc: Global) -> Arg<'a>
-    ensures { rule_of result ≡ set_rule }
-{
-    number_argument(alloc, "set", LAST_SET)
-}
-
-// `--index I`.
-#[tactic(auto, unfolding(crate::specs::ProfilForm::index_rule))]
-fn index_argument<'a>(alloc: Global) -> Arg<'a>
-    ensures { rule_of result ≡ index_rule }
-{
-    number_argument(alloc, "index", LAST_INDEX)
-}
-
-// ---- the tool
-
 impl ToolWords for ProfilWords {
     ghost rules = { profil_rules };
 
@@ -85,20 +47,23 @@ impl ToolWords for ProfilWords {
 
     ghost defined = { profil_rules-defined };
 
-    #[tactic(auto, unfolding(crate::specs::ProfilForm::profil_rules))]
+    #[tactic(auto, unfolding(crate::specs::ProfilForm::profil_rules, crate::specs::ProfilForm::map_rule, crate::specs::ProfilForm::thread_rule, crate::specs::ProfilForm::set_rule, crate::specs::ProfilForm::index_rule))]
     fn arguments<'a>(alloc: Global) -> Result<Vec<Arg<'a>>, AllocError> {
-        Ok(vec![in alloc;
-            unit_argument(alloc),
-            map_argument(alloc),
-            presets_argument(alloc),
-            cpu_argument(alloc),
-            thread_argument(alloc),
-            set_argument(alloc),
-            index_argument(alloc),
-            workers_argument(alloc),
-            script_argument(alloc),
-            streams_argument(alloc),
-        ]?)
+        in_order(
+            alloc,
+            [
+                unit_argument(alloc),
+                option_argument(alloc, "map", 'M').required(true),
+                presets_argument(alloc),
+                cpu_argument(alloc),
+                number_argument(alloc, "thread", LAST_THREAD),
+                number_argument(alloc, "set", LAST_SET),
+                number_argument(alloc, "index", LAST_INDEX),
+                workers_argument(alloc),
+                script_argument(alloc),
+                streams_argument(alloc),
+            ],
+        )
     }
 
     #[tactic(auto, unfolding(crate::specs::ProfilForm::profil_words_in))]

@@ -11,7 +11,7 @@ ghost use Rattle.tool_words.specs.Words.{Answers};
 
 use crate::chooser::MOST_EVENTS;
 use crate::fault::WordsFault;
-use crate::matches::{copied, text_of};
+use crate::matches::{copied, in_order, text_of};
 use crate::options::{script_argument, unit_argument};
 use crate::presets::{PresetWords, cpu_argument, presets_argument};
 use crate::script::script_asked;
@@ -148,15 +148,18 @@ impl ToolWords for RegionsWords {
 
     #[tactic(auto, unfolding(crate::specs::RegionsForm::regions_rules))]
     fn arguments<'a>(alloc: Global) -> Result<Vec<Arg<'a>>, AllocError> {
-        Ok(vec![in alloc;
-            unit_argument(alloc),
-            presets_argument(alloc),
-            cpu_argument(alloc),
-            event_list_argument(alloc),
-            workers_argument(alloc),
-            script_argument(alloc),
-            streams_argument(alloc),
-        ]?)
+        in_order(
+            alloc,
+            [
+                unit_argument(alloc),
+                presets_argument(alloc),
+                cpu_argument(alloc),
+                event_list_argument(alloc),
+                workers_argument(alloc),
+                script_argument(alloc),
+                streams_argument(alloc),
+            ],
+        )
     }
 
     #[tactic(auto, unfolding(crate::specs::RegionsForm::regions_words_in))]

@@ -1,17 +1,16 @@
 //! The words of `papi_run`: `-U UNIT [-P PRESETS -C CPU] [--workers N] [--notes] SCRIPT [STREAM..]`.
 
-ghost use Rattle.std.specs.Prelude.{◌≡◌};
-ghost use Rattle.clap.specs.Words.{rule_of};
-ghost use Rattle.tool_words.specs.RunForm.{notes_rule, run_rules, run_rules-defined, run_words_in};
+ghost use Rattle.tool_words.specs.RunForm.{run_rules, run_rules-defined, run_words_in};
 
 use crate::fault::WordsFault;
-use crate::options::{is_set, script_argument, unit_argument};
+use crate::matches::in_order;
+use crate::options::{is_set, script_argument, switch_argument, unit_argument};
 use crate::presets::{PresetWords, cpu_argument, presets_argument};
 use crate::script::script_asked;
 use crate::streams::{StreamNames, streams_argument};
 use crate::tool::ToolWords;
 use crate::workers::{Workers, workers_argument};
-use clap::{Arg, ArgAction, ArgMatches};
+use clap::{Arg, ArgMatches};
 use papi_base::Text;
 use std::alloc::{AllocError, Global};
 
@@ -27,21 +26,6 @@ pub struct RunWords {
     pub streams: StreamNames,
 }
 
-// ---- the arguments
-
-#[tactic(auto, unfolding(crate::specs::RunForm::notes_rule))]
-fn notes_argument<'a>(alloc: Global) -> Arg<'a>
-    ensures { rule_of result ≡ notes_rule }
-{
-    Arg::new(alloc, "notes")
-        .long("notes")
-        .action(ArgAction::SetTrue)
-}
-
-// ---- the values
-
-// ---- the tool
-
 impl ToolWords for RunWords {
     ghost rules = { run_rules };
 
@@ -49,17 +33,20 @@ impl ToolWords for RunWords {
 
     ghost defined = { run_rules-defined };
 
-    #[tactic(auto, unfolding(crate::specs::RunForm::run_rules))]
+    #[tactic(auto, unfolding(crate::specs::RunForm::run_rules, crate::specs::RunForm::notes_rule))]
     fn arguments<'a>(alloc: Global) -> Result<Vec<Arg<'a>>, AllocError> {
-        Ok(vec![in alloc;
-            unit_argument(alloc),
-            presets_argument(alloc),
-            cpu_argument(alloc),
-            workers_argument(alloc),
-            notes_argument(alloc),
-            script_argument(alloc),
-            streams_argument(alloc),
-        ]?)
+        in_order(
+            alloc,
+            [
+                unit_argument(alloc),
+                presets_argument(alloc),
+                cpu_argument(alloc),
+                workers_argument(alloc),
+                switch_argument(alloc, "notes"),
+                script_argument(alloc),
+                streams_argument(alloc),
+            ],
+        )
     }
 
     #[tactic(auto, unfolding(crate::specs::RunForm::run_words_in))]

@@ -7,7 +7,7 @@ ghost use Rattle.tool_words.specs.SoakForm.{rounds_of, rounds_rule, soak_rules, 
 ghost use Rattle.tool_words.specs.Words.{Answers};
 
 use crate::fault::WordsFault;
-use crate::matches::number_of;
+use crate::matches::{in_order, number_of};
 use crate::tool::ToolWords;
 use crate::workers::{Workers, workers_argument, workers_asked};
 use clap::{Arg, ArgMatches, value_parser};
@@ -102,7 +102,7 @@ impl ToolWords for SoakWords {
 
     #[tactic(auto, unfolding(crate::specs::SoakForm::soak_rules))]
     fn arguments<'a>(alloc: Global) -> Result<Vec<Arg<'a>>, AllocError> {
-        Ok(vec![in alloc; workers_argument(alloc), rounds_argument(alloc)]?)
+        in_order(alloc, [workers_argument(alloc), rounds_argument(alloc)])
     }
 
     #[tactic(auto, unfolding(crate::specs::SoakForm::soak_words_in))]
