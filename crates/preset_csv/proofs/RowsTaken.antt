@@ -3,16 +3,19 @@ use Rattle.std.proofs.Common.{◌≡◌, ◌∙◌, ◌+◌, ◌<◌, ◌≤◌,
 use Rattle.std.proofs.Common.{take, drop, replicate, length-drop, refl, sym, ap, subst, arith, Ok, Err}
 use Rattle.std.specs.List.{AllByRecursion}
 use Rattle.std.proofs.lemmas.List.{take_all, drop_more, take_more, drop_all, get_or-map, length-map, length-take-le}
+use Rattle.table_rows.specs.Rows.{rows_of}
 use Rattle.table_rows.specs.Texts.{Text, text_at}
 use Rattle.preset_table.specs.Table.{preset_rows, row_of}
 use Rattle.preset_csv.specs.Entries.{judged}
 use Rattle.preset_csv.specs.Lines.{Line, derivation_of, line_of, lines_of, other}
 use Rattle.preset_csv.specs.Presets.{ReadsPresets, entry_of, fault_from, group, has_cpu, line_cause, preset_fault, presets, read_from}
-use Rattle.preset_csv.specs.Steps.{IsReadRow, Judges, TakesPreset, TakesRow, cause_more, entries_more, entries_with, fault_at, group_at, group_more, is_closed, read_cause}
+use Rattle.preset_csv.specs.Steps.{IsReadRow, Judges, TakesNext, TakesPreset, cause_more, entries_more, entries_with, group_at, group_more, is_closed, read_cause}
 use Rattle.preset_csv.specs.Tables.{symbols}
 use Rattle.preset_csv.specs.declared.entry.Entry.{Entry}
 use Rattle.preset_csv.specs.declared.entry.Entry.TheVariants as entry
 use Rattle.preset_csv.specs.declared.fault.PresetCause.{PresetCause}
+use Rattle.preset_csv.specs.declared.fault.PresetFault.{PresetFault}
+use Rattle.preset_csv.specs.declared.fault.PresetFault.TheVariants as fault
 use Rattle.preset_csv.specs.declared.group.Group.{Group}
 use Rattle.preset_csv.specs.declared.refusal.Refusal.{Refusal}
 use Rattle.preset_csv.specs.declared.refusal.Refusal.TheVariants as refusal
@@ -110,13 +113,15 @@ taken name lines i line g h old new lt at_i t none begins are = record {
   entries_are = are ∙ sym (rw (← t.group, ← t.entries_are, at_i) at (ap (presets name) (take_more lines i other lt) ∙ entries-one-more name (take i lines) (get_or lines i other)));
 }
 
-pub refused : (name : Text) (bytes : List ℕ) (lines : List Line) (i : ℕ) (line : Line) (g h : Group) (old new : List Entry) (r : Refusal)
-    → lines_of bytes ≡ lines → i < length lines → get_or lines i other ≡ line
-    → Taken name lines i g old → TakesRow name line g old h new (Err r) → ReadsPresets (Err (fault_at i r)) bytes name
+pub refused : (name : Text) (bytes : List ℕ) (i : ℕ) (rows : List (List Text)) (fields : List Text) (left : List (List Text)) (g h : Group) (old new : List Entry) (f : PresetFault)
+    → AllByRecursion IsReadRow (rows_of bytes) → rows ≡ drop i (rows_of bytes) → Taken name (lines_of bytes) i g old
+    → TakesNext i name rows fields left g old h new (Err f) → ReadsPresets (Err f) bytes name
 unfolding preset_fault
-refused name bytes lines i line g h old new (refusal.Cause why) from lt at_i t e =
-    ap (fault_from name []) from ∙ t.fault ∙ fault-some name lines i why lt (cause-one-more name (take i lines) (get_or lines i other) ∙ rw (← t.group, at_i) e)
-refused name bytes lines i line g h old new refusal.Memory from lt at_i t e = tt
+refused name bytes i rows fields left g h old new (fault.Row row why) plain at_i t e =
+    let next = next-row (rows_of bytes) i fields left plain (sym at_i ∙ e.0) in
+    let here = cause-one-more name (take i (lines_of bytes)) (get_or (lines_of bytes) i other) ∙ rw (← t.group, next.line) e.2 in
+    t.fault ∙ fault-some name (lines_of bytes) i why next.inside here ∙ ap (λ n. Some (n, why)) (sym e.1)
+refused name bytes i rows fields left g h old new fault.Memory plain at_i t e = tt
 
 pub all-taken : (name : Text) (bytes : List ℕ) (lines : List Line) (i : ℕ) (g : Group) (entries : List Entry) → lines_of bytes ≡ lines → length lines ≤ i → Taken name lines i g entries
     → (preset_fault name bytes ≡ None) × (entries ≡ presets name (lines_of bytes))

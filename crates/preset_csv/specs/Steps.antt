@@ -10,7 +10,7 @@ use Rattle.postfix_rules.specs.declared.fault.FormulaFault.{FormulaFault}
 use Rattle.postfix_rules.specs.declared.fault.FormulaFault.TheVariants as formula
 use Rattle.preset_table.specs.Table.{row_of}
 use Rattle.preset_csv.specs.Entries.{judged}
-use Rattle.preset_csv.specs.Lines.{Derivation, Line, cpu, other, preset}
+use Rattle.preset_csv.specs.Lines.{Derivation, Line, cpu, line_of, other, preset}
 use Rattle.preset_csv.specs.Presets.{group, has_cpu, judged_cause}
 use Rattle.preset_csv.specs.declared.entry.Entry.{Entry}
 use Rattle.preset_csv.specs.declared.fault.PresetCause.{PresetCause}
@@ -71,6 +71,14 @@ abbrev pub TakesRow : Text → Line → Group → List Entry → Group → List 
 TakesRow name line g old h new (Ok u) = (cause_more g line ≡ None) × (h ≡ group_more name g line) × (new ≡ entries_more g old line)
 TakesRow name line g old h new (Err (refusal.Cause why)) = cause_more g line ≡ Some why
 TakesRow name line g old h new (Err refusal.Memory) = Unit {0}
+
+-- the next row is taken, or none is left, or the row is refused at its place from 0
+abbrev pub TakesNext : ℕ → Text → List (List Text) → List Text → List (List Text) → Group → List Entry → Group → List Entry → Result Bool PresetFault → Type 0
+TakesNext place name rows fields left g old h new (Ok true) =
+    (rows ≡ fields ∷ left) × (cause_more g (line_of fields) ≡ None) × (h ≡ group_more name g (line_of fields)) × (new ≡ entries_more g old (line_of fields))
+TakesNext place name rows fields left g old h new (Ok false) = (rows ≡ []) × (left ≡ []) × (h ≡ g) × (new ≡ old)
+TakesNext place name rows fields left g old h new (Err (fault.Row row why)) = (rows ≡ fields ∷ left) × (row ≡ place + 1) × (cause_more g (line_of fields) ≡ Some why)
+TakesNext place name rows fields left g old h new (Err fault.Memory) = Unit {0}
 
 -- what a row derives is taken, or the row refused for its cause
 abbrev pub TakesPreset : Bool → Derivation → List Entry → List Entry → Result Unit Refusal → Type 0

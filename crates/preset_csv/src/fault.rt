@@ -6,23 +6,26 @@ ghost use Rattle.preset_csv.specs.declared.fault.PresetFault.TheVariants.{Memory
 
 use postfix_rules::FormulaCause;
 use std::alloc::AllocError;
+use std::fmt;
 use thiserror::Error;
 
 /// Why a row is refused, in the order in which the causes are tried.
 #[derive(Clone, Copy, Debug, PartialEq, Eq, Error)]
 pub enum PresetCause {
     /// A PRESET row above the first CPU row.
-    #[error("preset before cpu")]
     NoCpu,
     /// A derived type that is not one of those, or a formula or a native with a byte that is not printable.
-    #[error("bad field")]
     BadField,
     /// More than [`MOST_NATIVES`](postfix_rules::MOST_NATIVES) natives.
-    #[error("over a limit")]
     OverLimit,
     /// A text in postfix order that is not a formula over the row's natives.
-    #[error("broken formula")]
     BadFormula(FormulaCause),
+}
+
+impl fmt::Display for PresetCause {
+    fn fmt<W: fmt::Write>(&self, f: &mut fmt::Formatter<W>) -> fmt::Result {
+        f.write_str(cause_text(*self))
+    }
 }
 
 /// Why a preset file is refused: its first faulty row, numbered from 1, with the row's first cause; or memory ran out.

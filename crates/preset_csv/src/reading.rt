@@ -1,11 +1,12 @@
 //! A whole preset file.
 
-ghost use Rattle.std.specs.Prelude.{◌≡◌, ◌<◌, IfOk, length, replicate, set};
+ghost use Rattle.std.specs.Prelude.{◌≡◌, ◌<◌, ◌-◌, ◌^◌, Err, IfErr, IfOk, None, length, replicate, set};
+ghost use Rattle.std.specs.List.{AllByRecursion};
 ghost use Rattle.csv.specs.Records.{fields_of};
 ghost use Rattle.preset_table.specs.declared.TheConstants.{PRESETS};
-ghost use Rattle.preset_csv.specs.Lines.{derivation_of, row_line};
-ghost use Rattle.preset_csv.specs.Presets.{ReadsPresets};
-ghost use Rattle.preset_csv.specs.Steps.{IsPlainRow, IsReadRow, TakesPreset, TakesRow};
+ghost use Rattle.preset_csv.specs.Lines.{derivation_of, lines_of, row_line};
+ghost use Rattle.preset_csv.specs.Presets.{ReadsPresets, preset_fault, presets};
+ghost use Rattle.preset_csv.specs.Steps.{IsPlainRow, IsReadRow, TakesNext, TakesPreset, TakesRow};
 ghost use Rattle.preset_csv.specs.declared.entry.Entry.TheVariants as entry;
 
 use crate::entry::Entry;
@@ -87,6 +88,55 @@ fn take_row(
     }
 }
 
+// Takes the next row below the others, for a cpu, and says whether there was one. Its place is from 0.
+fn take_next(
+    alloc: Global,
+    reader: &mut RowReader<'_>,
+    row: &mut ByteRecord,
+    place: usize,
+    cpu: &str,
+    group: &mut Group,
+    entries: &mut Vec<Entry>,
+) -> Result<bool, PresetFault>
+    requires place { place < 2 ^ 64 - 1 }
+    requires plain { AllByRecursion IsReadRow reader.old }
+    requires all { length entries.old.items ≡ PRESETS }
+    ensures { TakesNext place cpu.now reader.old (fields_of row.new) reader.new group.old entries.old.items group.new entries.new.items result }
+{
+    if !reader.read_row(row)? {
+        return Ok(false);
+    }
+    match take_row(alloc, cpu, row_of(row), group, entries) {
+        Ok(()) => Ok(true),
+        Err(refusal) => Err(fault_at(place, refusal)),
+    }
+}
+
+// The entries for a cpu of a preset file, or its first fault.
+fn read_entries(alloc: Global, bytes: &[u8], cpu: &str) -> Result<Vec<Entry>, PresetFault>
+    ensures faultless { IfOk result (λ v. preset_fault cpu.now bytes.now ≡ None) }
+    ensures entries { IfOk result (λ v. v.items ≡ presets cpu.now (lines_of bytes.now)) }
+    ensures refused { IfErr result (λ f. ReadsPresets (Err f) bytes.now cpu.now) }
+{
+    let mut entries = all_missing(alloc)?;
+    let mut group = Group::new();
+    let mut reader = RowReader::new(alloc, bytes);
+    let mut row = ByteRecord::new(alloc);
+    let mut place = 0;
+    while take_next(
+        alloc,
+        &mut reader,
+        &mut row,
+        place,
+        cpu,
+        &mut group,
+        &mut entries,
+    )? {
+        place += 1;
+    }
+    Ok(entries)
+}
+
 /// The presets for a cpu of a preset file, or its first faulty row with that row's first cause.
 ///
 /// Names of cpus, symbols and derived types are compared exactly. The last row of a symbol gives its entry. Source:
@@ -94,16 +144,6 @@ fn take_row(
 pub fn read_presets(alloc: Global, bytes: &[u8], cpu: &str) -> Result<PresetTable, PresetFault>
     ensures { ReadsPresets result bytes.now cpu.now }
 {
-    let mut reader = RowReader::new(alloc, bytes);
-    let mut row = ByteRecord::new(alloc);
-    let mut group = Group::new();
-    let mut entries = all_missing(alloc)?;
-    let mut place = 0;
-    while reader.read_row(&mut row)? {
-        match take_row(alloc, cpu, row_of(&row), &mut group, &mut entries) {
-            Ok(()) => place += 1,
-            Err(refusal) => return Err(fault_at(place, refusal)),
-        }
-    }
+    let entries = read_entries(alloc, bytes, cpu)?;
     Ok(PresetTable::new(String::from_str(alloc, cpu)?, entries))
 }

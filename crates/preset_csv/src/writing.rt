@@ -59,6 +59,14 @@ pub fn put_def(alloc: Global, text: &mut Vec<u8>, def: &Def) -> Result<(), Alloc
     put_natives(text, def.natives())
 }
 
+// The first two fields of a row for a preset.
+fn put_preset(text: &mut Vec<u8>, symbol: &str) -> Result<(), AllocError>
+    ensures { OnOk result (text.new.items ≡ (text.old.items ++ codes "PRESET") ++ 44 ∷ symbol.now) }
+{
+    text.extend_from_slice(b"PRESET")?;
+    put_field(text, symbol.as_bytes())
+}
+
 // The row of an entry, and nothing for a missing one.
 fn put_entry(
     alloc: Global,
@@ -71,14 +79,12 @@ fn put_entry(
     match entry {
         Entry::Missing => Ok(()),
         Entry::Uncomputed => {
-            text.extend_from_slice(b"PRESET")?;
-            put_field(text, symbol.as_bytes())?;
+            put_preset(text, symbol)?;
             text.extend_from_slice(b",DERIVED_CMPD\n")?;
             Ok(())
         }
         Entry::Def(def) => {
-            text.extend_from_slice(b"PRESET")?;
-            put_field(text, symbol.as_bytes())?;
+            put_preset(text, symbol)?;
             put_def(alloc, text, def)?;
             text.push(b'\n')?;
             Ok(())
