@@ -1,11 +1,10 @@
 -- A text that is not a name is the name of no event.
-use Rattle.std.proofs.Common.{◌≡◌, ◌∙◌, ◌+◌, ◌<◌, ◌≤◌, ◌∷◌, ℕ, List, [], Option, Some, None, Bool, true, false, length, refl, sym, ap, arith}
+use Rattle.std.proofs.Common.{◌≡◌, ◌∙◌, ◌+◌, ◌<◌, ◌≤◌, ◌∷◌, ℕ, List, [], Some, None, Bool, true, false, length, refl, sym, ap, arith}
 use Rattle.std.proofs.lemmas.Bool.{and_from, le-leb, ltb-false, ltb-true}
 use Rattle.std.proofs.lemmas.List.{length-map}
 use Rattle.std.proofs.lemmas.Slice.Eq.{bytes_eq-Decides}
 use Rattle.std.specs.Char.{to_ascii_lowercase}
 use Rattle.std.specs.List.{AllByRecursion, list_all}
-use Rattle.std.specs.Option.{option_or}
 use Rattle.std.specs.Prelude.{◌&&◌, ◌||◌, ◌==◌, if◌then◌else◌, nat_le, nat_lt}
 use Rattle.std.specs.Str.{str_eq_ignore_ascii_case, str_to_ascii_lowercase}
 use Rattle.table_rows.specs.Texts.{Text, is_name, is_name_byte}
@@ -13,7 +12,7 @@ use Rattle.table_rows.proofs.Numerals.{both}
 use Rattle.event_tables.specs.Kept.{IsComponent, IsEvent}
 use Rattle.event_tables.specs.Tables.{ComponentText, EventText}
 use Rattle.name_encoder.specs.Split.{Split}
-use Rattle.name_encoder.specs.Names.{Found, agrees, choice, event_from, found_from}
+use Rattle.name_encoder.specs.Names.{agrees, choice, event_from, found_from}
 
 -- ---- a name in another case is a name
 
