@@ -10,7 +10,7 @@ use Rattle.preset_table.specs.Table.{PresetRow, preset_rows, symbol_at}
 use Rattle.preset_csv.specs.Defs.{DefView}
 use Rattle.preset_csv.specs.Steps.{after_commas}
 use Rattle.preset_csv.specs.Tables.{TableView, symbols}
-use Rattle.preset_csv.specs.Written.{def_fields, entry_rows, rows_of_entries, table_text}
+use Rattle.preset_csv.specs.Written.{def_fields, entry_rows, rows_of_entries, rows_of_entry, table_text}
 use Rattle.preset_csv.specs.declared.entry.Entry.{Entry}
 use Rattle.preset_csv.specs.declared.entry.Entry.TheVariants as entry
 
@@ -52,27 +52,33 @@ put-row before word symbol fields end =
     ap (λ (t : Text). t ++ end) (append_assoc (before ++ word) (44 ∷ symbol) fields ∙ append_assoc before word ((44 ∷ symbol) ++ fields))
     ∙ append_assoc before (word ++ (44 ∷ (symbol ++ fields))) end
 
-pub missing-put : (s : Text) (e : Entry) (text : Text) → e ≡ entry.Missing → text ≡ text ++ rows_text (entry_rows s e)
+pub missing-put : (w s : Text) (e : Entry) (text : Text) → e ≡ entry.Missing → text ≡ text ++ rows_text (rows_of_entry w s e)
 unfolding rows_text
-missing-put s e text is = rw is (sym (append-nil text))
+missing-put w s e text is = rw is (sym (append-nil text))
 
-put-fields : (s : Text) (fields t0 t1 t2 t3 t4 : Text) (row : List Text) → fields ≡ after_commas row → t1 ≡ t0 ++ codes "PRESET" → t2 ≡ t1 ++ (44 ∷ s) → t3 ≡ t2 ++ fields → t4 ≡ t3 ++ (10 ∷ [])
-    → t4 ≡ t0 ++ rows_text ((codes "PRESET" ∷ s ∷ row) ∷ [])
-put-fields s fields t0 t1 t2 t3 t4 row is first second third fourth =
-    fourth ∙ ap (λ (t : Text). t ++ (10 ∷ [])) (third ∙ ap (λ (t : Text). t ++ fields) (second ∙ ap (λ (t : Text). t ++ (44 ∷ s)) first))
-    ∙ put-row t0 (codes "PRESET") s fields (10 ∷ []) ∙ ap (λ (t : Text). t0 ++ ((codes "PRESET" ++ (44 ∷ (s ++ t))) ++ (10 ∷ []))) is
-    ∙ ap (λ (t : Text). t0 ++ t) (sym (row-text (codes "PRESET") (s ∷ row)))
+put-fields : (w s fields t0 t2 t3 t4 : Text) (row : List Text) → fields ≡ after_commas row → t2 ≡ (t0 ++ w) ++ (44 ∷ s) → t3 ≡ t2 ++ fields → t4 ≡ t3 ++ (10 ∷ [])
+    → t4 ≡ t0 ++ rows_text ((w ∷ s ∷ row) ∷ [])
+put-fields w s fields t0 t2 t3 t4 row is second third fourth =
+    fourth ∙ ap (λ (t : Text). t ++ (10 ∷ [])) (third ∙ ap (λ (t : Text). t ++ fields) second)
+    ∙ put-row t0 w s fields (10 ∷ []) ∙ ap (λ (t : Text). t0 ++ ((w ++ (44 ∷ (s ++ t))) ++ (10 ∷ []))) is
+    ∙ ap (λ (t : Text). t0 ++ t) (sym (row-text w (s ∷ row)))
 
-pub uncomputed-put : (s : Text) (e : Entry) (t0 t1 t2 t3 : Text) → e ≡ entry.Uncomputed → t1 ≡ t0 ++ codes "PRESET" → t2 ≡ t1 ++ (44 ∷ s)
-    → t3 ≡ t2 ++ codes ",DERIVED_CMPD\n" → t3 ≡ t0 ++ rows_text (entry_rows s e)
-uncomputed-put s e t0 t1 t2 t3 is first second third =
-    rw is (put-fields s (codes ",DERIVED_CMPD") t0 t1 t2 (t2 ++ codes ",DERIVED_CMPD") t3 (codes "DERIVED_CMPD" ∷ []) refl first second refl
+pub uncomputed-put : (w s : Text) (e : Entry) (t0 t2 t3 : Text) → e ≡ entry.Uncomputed → t2 ≡ (t0 ++ w) ++ (44 ∷ s)
+    → t3 ≡ t2 ++ codes ",DERIVED_CMPD\n" → t3 ≡ t0 ++ rows_text (rows_of_entry w s e)
+uncomputed-put w s e t0 t2 t3 is second third =
+    rw is (put-fields w s (codes ",DERIVED_CMPD") t0 t2 (t2 ++ codes ",DERIVED_CMPD") t3 (codes "DERIVED_CMPD" ∷ []) refl second refl
     (third ∙ sym (append_assoc t2 (codes ",DERIVED_CMPD") (10 ∷ []))))
 
-pub def-put : (s : Text) (e : Entry) (d : DefView) (t0 t1 t2 t3 t4 : Text) → e ≡ entry.Def d → t1 ≡ t0 ++ codes "PRESET" → t2 ≡ t1 ++ (44 ∷ s)
+pub def-put : (w s : Text) (e : Entry) (d : DefView) (t0 t2 t3 t4 : Text) → e ≡ entry.Def d → t2 ≡ (t0 ++ w) ++ (44 ∷ s)
     → t3 ≡ t2 ++ after_commas (def_fields d) → t4 ≡ t3 ++ (10 ∷ [])
-    → t4 ≡ t0 ++ rows_text (entry_rows s e)
-def-put s e d t0 t1 t2 t3 t4 is first second third fourth = rw is (put-fields s (after_commas (def_fields d)) t0 t1 t2 t3 t4 (def_fields d) refl first second third fourth)
+    → t4 ≡ t0 ++ rows_text (rows_of_entry w s e)
+def-put w s e d t0 t2 t3 t4 is second third fourth = rw is (put-fields w s (after_commas (def_fields d)) t0 t2 t3 t4 (def_fields d) refl second third fourth)
+
+-- a preset's row
+pub preset-rows : (s : Text) (e : Entry) → rows_of_entry (codes "PRESET") s e ≡ entry_rows s e
+preset-rows s entry.Missing = refl
+preset-rows s entry.Uncomputed = refl
+preset-rows s (entry.Def d) = refl
 
 -- ---- the rows of the table
 

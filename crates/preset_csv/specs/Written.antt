@@ -26,6 +26,12 @@ entry_rows symbol entry.Missing = []
 entry_rows symbol entry.Uncomputed = (codes "PRESET" ∷ symbol ∷ codes "DERIVED_CMPD" ∷ []) ∷ []
 entry_rows symbol (entry.Def d) = (codes "PRESET" ∷ symbol ∷ def_fields d) ∷ []
 
+-- the row of an entry after this word and this name, and none of a missing one
+abbrev pub rows_of_entry : Text → Text → Entry → List (List Text)
+rows_of_entry word name entry.Missing = []
+rows_of_entry word name entry.Uncomputed = (word ∷ name ∷ codes "DERIVED_CMPD" ∷ []) ∷ []
+rows_of_entry word name (entry.Def d) = (word ∷ name ∷ def_fields d) ∷ []
+
 -- the rows of some symbols and their entries
 unfoldable pub rows_of_entries : List Text → List Entry → List (List Text)
 rows_of_entries [] entries = []

@@ -27,7 +27,7 @@ pub use crate::refusal::{Refusal, fault_at};
 pub use crate::row::{Row, row_of};
 pub use crate::symbol::symbol_row;
 pub use crate::table::PresetTable;
-pub use crate::writing::{put_def, put_field, write_presets};
+pub use crate::writing::{put_def, put_entry, put_field, write_presets};
 pub use preset_table::{
     PRESETS, preset_code, preset_count, preset_row, preset_symbol, preset_text,
 };

@@ -4,7 +4,7 @@ ghost use Rattle.std.specs.Prelude.{◌≡◌, ◌∷◌, ◌++◌, [], IfOk, On
 ghost use Rattle.std.specs.Option.{option_copied};
 ghost use Rattle.table_rows.specs.Rows.{rows_text};
 ghost use Rattle.preset_csv.specs.Steps.{after_commas};
-ghost use Rattle.preset_csv.specs.Written.{ReadsBack, def_fields, entry_rows, formula_fields, table_text};
+ghost use Rattle.preset_csv.specs.Written.{ReadsBack, def_fields, formula_fields, rows_of_entry, table_text};
 
 use crate::definition::Def;
 use crate::entry::Entry;
@@ -59,32 +59,33 @@ pub fn put_def(alloc: Global, text: &mut Vec<u8>, def: &Def) -> Result<(), Alloc
     put_natives(text, def.natives())
 }
 
-// The first two fields of a row for a preset.
-fn put_preset(text: &mut Vec<u8>, symbol: &str) -> Result<(), AllocError>
-    ensures { OnOk result (text.new.items ≡ (text.old.items ++ codes "PRESET") ++ 44 ∷ symbol.now) }
+// The first two fields of a row.
+fn put_head(text: &mut Vec<u8>, word: &str, name: &str) -> Result<(), AllocError>
+    ensures { OnOk result (text.new.items ≡ (text.old.items ++ word.now) ++ 44 ∷ name.now) }
 {
-    text.extend_from_slice(b"PRESET")?;
-    put_field(text, symbol.as_bytes())
+    text.extend_from_slice(word.as_bytes())?;
+    put_field(text, name.as_bytes())
 }
 
-// The row of an entry, and nothing for a missing one.
-fn put_entry(
+/// Appends the row of an entry with this word and this name before it, and nothing for a missing one.
+pub fn put_entry(
     alloc: Global,
     text: &mut Vec<u8>,
-    symbol: &str,
+    word: &str,
+    name: &str,
     entry: &Entry,
 ) -> Result<(), AllocError>
-    ensures { OnOk result (text.new.items ≡ text.old.items ++ rows_text (entry_rows symbol.now entry.now)) }
+    ensures { OnOk result (text.new.items ≡ text.old.items ++ rows_text (rows_of_entry word.now name.now entry.now)) }
 {
     match entry {
         Entry::Missing => Ok(()),
         Entry::Uncomputed => {
-            put_preset(text, symbol)?;
+            put_head(text, word, name)?;
             text.extend_from_slice(b",DERIVED_CMPD\n")?;
             Ok(())
         }
         Entry::Def(def) => {
-            put_preset(text, symbol)?;
+            put_head(text, word, name)?;
             put_def(alloc, text, def)?;
             text.push(b'\n')?;
             Ok(())
@@ -115,7 +116,13 @@ pub fn write_presets(alloc: Global, t: &PresetTable) -> Result<Vec<u8>, AllocErr
     let mut text = cpu_row(alloc, t.cpu())?;
     let rows = t.rows();
     for i in 0..rows.len() {
-        put_entry(alloc, &mut text, preset_symbol(i as u32), &rows[i])?;
+        put_entry(
+            alloc,
+            &mut text,
+            "PRESET",
+            preset_symbol(i as u32),
+            &rows[i],
+        )?;
     }
     Ok(text)
 }
