@@ -5,6 +5,7 @@ use Rattle.std.specs.Prelude.{◌&&◌, ◌||◌, if◌then◌else◌, codes}
 use Rattle.std.specs.List.{AllByRecursion}
 use Rattle.std.specs.Str.{bytes_eq, str_eq_ignore_ascii_case}
 use Rattle.std.proofs.lemmas.List.{take_all, drop_more, take_more, drop_all, get_or-map, length-map, length-take-le, map-append}
+use Rattle.table_rows.specs.Rows.{rows_of}
 use Rattle.table_rows.specs.Texts.{Text, text_at}
 use Rattle.preset_table.specs.Table.{preset_rows, row_of}
 use Rattle.preset_csv.specs.Lines as Presets
@@ -16,10 +17,9 @@ use Rattle.preset_csv.specs.declared.entry.Entry.{Entry}
 use Rattle.preset_csv.specs.declared.entry.Entry.TheVariants as entry
 use Rattle.preset_csv.specs.declared.fault.PresetCause.{PresetCause}
 use Rattle.preset_csv.specs.declared.fault.PresetCause.TheVariants as cause
+use Rattle.preset_csv.specs.declared.fault.PresetFault.{PresetFault}
+use Rattle.preset_csv.specs.declared.fault.PresetFault.TheVariants as fault
 use Rattle.preset_csv.specs.declared.group.Group.{Group}
-use Rattle.preset_csv.specs.declared.refusal.Refusal.{Refusal}
-use Rattle.preset_csv.specs.declared.refusal.Refusal.TheVariants as refusal
-use Rattle.preset_csv.specs.Steps.{fault_at}
 use Rattle.preset_csv.proofs.Judged.{Keeps}
 use Rattle.preset_csv.proofs.OneMore.{group-one-more}
 use Rattle.preset_csv.proofs.TableKept.{IsKept, IsLine, derivation-kept, line-kept, other-name}
@@ -29,7 +29,7 @@ use Rattle.user_events.specs.Lines.{EventLine, event, in_groups, line_of, lines_
 use Rattle.user_events.specs.Names.{is_event_name}
 use Rattle.user_events.specs.Rows.{ReadsExtended, among, cause_if, entry_of, events_of, events_read, extended_fault, extended_in, fault_from, holds}
 use Rattle.user_events.specs.Rows.{is_too_many, line_cause, named_entry, names_in, preset_entries, read_from}
-use Rattle.user_events.specs.Steps.{Taking, TakesRow, cause_more, entries_more, events_more, put_event, put_judged}
+use Rattle.user_events.specs.Steps.{Taking, TakesNext, cause_more, entries_more, events_more, put_event, put_judged}
 use Rattle.user_events.specs.declared.event.TheConstants.{MOST_EVENTS}
 use Rattle.user_events.proofs.Giving.{Gives, event-gives}
 use Rattle.user_events.proofs.InfixKept.{event-kept}
@@ -253,14 +253,6 @@ pub taken-row : (name : Text) (lines : List EventLine) (i : ℕ) (line : EventLi
     → Taken name lines (i + 1) (record { group = g; entries = a; events = x })
 taken-row name lines i line s g a x lt at_i l t none p q r = subst (Taken name lines (i + 1)) (sym (same-taking g _ a _ x _ p q r)) (taken name lines i line s lt at_i l t none)
 
-pub refused : (name : Text) (bytes : List ℕ) (lines : List EventLine) (i : ℕ) (line : EventLine) (s t : Taking) (r : Refusal) → lines_of bytes ≡ lines
-    → i < length lines → get_or lines i none_at ≡ line
-    → Taken name lines i s → TakesRow name line s t (Err r) → ReadsExtended (Err (fault_at i r)) bytes name
-unfolding extended_fault
-refused name bytes lines i line s t (refusal.Cause why) from lt at_i k e =
-    ap (fault_from name []) from ∙ k.fault ∙ fault-some name lines i why lt (ap (line_cause name (take i lines)) at_i ∙ cause-same name (take i lines) line ∙ rw (← k.group, ← k.events) e)
-refused name bytes lines i line s t refusal.Memory from lt at_i k e = tt
-
 pub all-taken : (name : Text) (bytes : List ℕ) (lines : List EventLine) (i : ℕ) (s : Taking) → lines_of bytes ≡ lines → length lines ≤ i → Taken name lines i s
     → (extended_fault name bytes ≡ None) × (s.entries ≡ preset_entries name (lines_of bytes)) × (s.events ≡ events_of (events_read name (lines_of bytes)))
 unfolding extended_fault
@@ -304,6 +296,17 @@ pub no-row : (rows : List (List Text)) (i : ℕ) → drop i rows ≡ [] → leng
 no-row rows i e =
     let count = ap length e in
     omega (arith, count, length-drop i rows, length-map rows line_of)
+
+-- a row that is refused
+pub refused : (name : Text) (bytes : List ℕ) (i : ℕ) (rows : List (List Text)) (fields : List Text) (left : List (List Text)) (s t : Taking) (f : PresetFault)
+    → AllByRecursion IsReadRow (rows_of bytes) → rows ≡ drop i (rows_of bytes) → Taken name (lines_of bytes) i s → TakesNext i name rows fields left s t (Err f) → ReadsExtended (Err f) bytes name
+unfolding extended_fault
+refused name bytes i rows fields left s t (fault.Row row why) all at k e =
+    let lines = lines_of bytes in
+    let next = next-row (rows_of bytes) i fields left all (sym at ∙ e.0) in
+    let here = ap (line_cause name (take i lines)) next.line ∙ cause-same name (take i lines) (line_of fields) ∙ rw (← k.group, ← k.events) e.2 in
+    k.fault ∙ fault-some name lines i why next.inside here ∙ ap (λ n. Some (n, why)) (sym e.1)
+refused name bytes i rows fields left s t fault.Memory all at k e = tt
 
 -- ---- the table
 

@@ -4,5 +4,6 @@ pub mod Entries
 pub mod Events
 pub mod Rows
 pub mod Steps
+pub mod Reading
 pub mod Alike
 pub mod Written

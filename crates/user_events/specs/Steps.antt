@@ -1,5 +1,5 @@
 -- The presets and user events of some rows and of one row more, with the group of cpus at the end of the rows.
-use Rattle.std.specs.Prelude.{◌≡◌, ◌&&◌, Bool, List, [], ◌∷◌, Option, Some, None, Result, Ok, Err, is_some, if◌then◌else◌, not}
+use Rattle.std.specs.Prelude.{◌≡◌, ◌&&◌, ◌+◌, ℕ, Bool, true, false, List, [], ◌∷◌, Option, Some, None, Result, Ok, Err, is_some, if◌then◌else◌, not}
 use Rattle.std.specs.Str.{bytes_eq}
 use Rattle.csv.specs.Records.{fields_of}
 use Rattle.table_rows.specs.Texts.{Text}
@@ -12,6 +12,8 @@ use Rattle.preset_csv.specs.Steps as PresetSteps
 use Rattle.preset_csv.specs.declared.entry.Entry.{Entry}
 use Rattle.preset_csv.specs.declared.fault.PresetCause.{PresetCause}
 use Rattle.preset_csv.specs.declared.fault.PresetCause.TheVariants as cause
+use Rattle.preset_csv.specs.declared.fault.PresetFault.{PresetFault}
+use Rattle.preset_csv.specs.declared.fault.PresetFault.TheVariants as fault
 use Rattle.preset_csv.specs.declared.group.Group.{Group}
 use Rattle.preset_csv.specs.declared.refusal.Refusal.{Refusal}
 use Rattle.preset_csv.specs.declared.refusal.Refusal.TheVariants as refusal
@@ -19,7 +21,7 @@ use Rattle.user_events.specs.declared.row.EventRow.{EventRow}
 use Rattle.user_events.specs.declared.row.EventRow.TheVariants as event_row
 use Rattle.user_events.specs.Entries.{event_judged}
 use Rattle.user_events.specs.Events.{EventView, names_of}
-use Rattle.user_events.specs.Lines.{EventLine, event, in_groups, plain}
+use Rattle.user_events.specs.Lines.{EventLine, event, in_groups, line_of, plain}
 use Rattle.user_events.specs.Rows.{cause_if, named_entry}
 
 -- what a row that was read says
@@ -74,6 +76,16 @@ TakesRow name line old new (Ok u) =
     × (new.entries ≡ entries_more old.group old.entries line) × (new.events ≡ events_more old.group old.events line)
 TakesRow name line old new (Err (refusal.Cause why)) = cause_more old.group old.events line ≡ Some why
 TakesRow name line old new (Err refusal.Memory) = Unit {0}
+
+-- the next row is taken, or none is left, or the row is refused at its place from 0
+abbrev pub TakesNext : ℕ → Text → List (List Text) → List Text → List (List Text) → Taking → Taking → Result Bool PresetFault → Type 0
+TakesNext place name rows fields left old new (Ok true) =
+    (rows ≡ fields ∷ left) × (cause_more old.group old.events (line_of fields) ≡ None) × (new.group ≡ group_more name old.group (in_groups (line_of fields)))
+    × (new.entries ≡ entries_more old.group old.entries (line_of fields)) × (new.events ≡ events_more old.group old.events (line_of fields))
+TakesNext place name rows fields left old new (Ok false) = (rows ≡ []) × (left ≡ []) × (new.entries ≡ old.entries) × (new.events ≡ old.events)
+TakesNext place name rows fields left old new (Err (fault.Row row why)) =
+    (rows ≡ fields ∷ left) × (row ≡ place + 1) × (cause_more old.group old.events (line_of fields) ≡ Some why)
+TakesNext place name rows fields left old new (Err fault.Memory) = Unit {0}
 
 -- what a row gives is taken, or the row refused for its cause
 abbrev pub TakesPreset : Bool → Derivation → List Entry → List Entry → Result Unit Refusal → Type 0

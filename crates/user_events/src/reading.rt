@@ -1,14 +1,17 @@
 //! A whole preset file with user events.
 
-ghost use Rattle.std.specs.Prelude.{◌≡◌, ◌<◌, length, map, set};
+ghost use Rattle.std.specs.Prelude.{◌≡◌, ◌<◌, ◌-◌, ◌^◌, Err, IfErr, IfOk, None, length, map, set};
+ghost use Rattle.std.specs.List.{AllByRecursion};
 ghost use Rattle.csv.specs.Records.{fields_of};
 ghost use Rattle.preset_table.specs.declared.TheConstants.{PRESETS};
 ghost use Rattle.preset_csv.specs.Lines.{derivation_of};
 ghost use Rattle.preset_csv.specs.Steps.{IsReadRow};
-ghost use Rattle.user_events.specs.Events.{event_view, names_of};
+ghost use Rattle.user_events.specs.Events.{IsExtended, event_view, names_of};
+ghost use Rattle.user_events.specs.Lines.{lines_of};
+ghost use Rattle.user_events.specs.Reading.{extended_of, taking};
 ghost use Rattle.user_events.specs.Rows as Rows;
 ghost use Rattle.user_events.specs.Rows.{ReadsExtended};
-ghost use Rattle.user_events.specs.Steps.{IsOverLimit, IsPlainRow, TakesEvent, TakesPreset, TakesRow, row_line};
+ghost use Rattle.user_events.specs.Steps.{IsOverLimit, IsPlainRow, TakesEvent, TakesNext, TakesPreset, TakesRow, row_line};
 
 use crate::event::{MOST_EVENTS, UserEvent, is_event_name, place_of, put_event};
 use crate::extended::Extended;
@@ -95,41 +98,86 @@ fn take_event(
     Ok(())
 }
 
+// What the rows so far gave: the group of CPU rows at their end, the entries of the presets, and the user events.
+#[derive(Drop)]
+struct Taken {
+    group: Group,
+    entries: Vec<Entry>,
+    events: Vec<UserEvent>,
+}
+
 // Takes a row below the others, for a cpu.
-fn take_row(
-    alloc: Global,
-    cpu: &str,
-    row: EventRow<'_>,
-    group: &mut Group,
-    entries: &mut Vec<Entry>,
-    events: &mut Vec<UserEvent>,
-) -> Result<(), Refusal>
+fn take_row(alloc: Global, cpu: &str, row: EventRow<'_>, taken: &mut Taken) -> Result<(), Refusal>
     requires plain { IsPlainRow row }
-    requires all { length entries.old.items ≡ PRESETS }
-    ensures { TakesRow cpu.now (row_line row.entry) (record { group = group.old; entries = entries.old.items; events = map event_view events.old.items })
-        (record { group = group.new; entries = entries.new.items; events = map event_view events.new.items }) result }
+    requires all { length taken.old.entries.items ≡ PRESETS }
+    ensures { TakesRow cpu.now (row_line row.entry) (taking taken.old) (taking taken.new) result }
 {
     match row {
         EventRow::Plain(Row::Other) => Ok(()),
         EventRow::Plain(Row::Cpu(name)) => {
-            *group = group.with_cpu(cpu.as_bytes() == name);
+            taken.group = taken.group.with_cpu(cpu.as_bytes() == name);
             Ok(())
         }
         EventRow::Plain(Row::Preset(row)) => {
-            if !group.begun {
+            if !taken.group.begun {
                 return Err(Refusal::Cause(PresetCause::NoCpu));
             }
-            *group = group.with_preset();
-            take_preset(alloc, row, group.holds, entries)
+            taken.group = taken.group.with_preset();
+            take_preset(alloc, row, taken.group.holds, &mut taken.entries)
         }
         EventRow::Event(row) => {
-            if !group.begun {
+            if !taken.group.begun {
                 return Err(Refusal::Cause(PresetCause::NoCpu));
             }
-            *group = group.with_preset();
-            take_event(alloc, row, group.holds, events)
+            taken.group = taken.group.with_preset();
+            take_event(alloc, row, taken.group.holds, &mut taken.events)
         }
     }
+}
+
+// Takes the next row below the others, for a cpu, and says whether there was one. Its place is from 0.
+fn take_next(
+    alloc: Global,
+    reader: &mut RowReader<'_>,
+    row: &mut ByteRecord,
+    place: usize,
+    cpu: &str,
+    taken: &mut Taken,
+) -> Result<bool, PresetFault>
+    requires place { place < 2 ^ 64 - 1 }
+    requires plain { AllByRecursion IsReadRow reader.old }
+    requires all { length taken.old.entries.items ≡ PRESETS }
+    ensures { TakesNext place cpu.now reader.old (fields_of row.new) reader.new (taking taken.old) (taking taken.new) result }
+{
+    if !reader.read_row(row)? {
+        return Ok(false);
+    }
+    match take_row(alloc, cpu, event_row_of(row), taken) {
+        Ok(()) => Ok(true),
+        Err(refusal) => Err(fault_at(place, refusal)),
+    }
+}
+
+// What all rows of a preset file gave for a cpu, or its first fault.
+fn read_taken(alloc: Global, bytes: &[u8], cpu: &str) -> Result<Taken, PresetFault>
+    ensures faultless { IfOk result (λ t. Rows.extended_fault cpu.now bytes.now ≡ None) }
+    ensures entries { IfOk result (λ t. t.entries.items ≡ Rows.preset_entries cpu.now (lines_of bytes.now)) }
+    ensures events { IfOk result (λ t. map event_view t.events.items ≡ Rows.events_of (Rows.events_read cpu.now (lines_of bytes.now))) }
+    ensures kept { IfOk result (λ t. IsExtended (extended_of cpu.now t)) }
+    ensures refused { IfErr result (λ f. ReadsExtended (Err f) bytes.now cpu.now) }
+{
+    let mut taken = Taken {
+        group: Group::new(),
+        entries: all_missing(alloc)?,
+        events: Vec::new(alloc),
+    };
+    let mut reader = RowReader::new(alloc, bytes);
+    let mut row = ByteRecord::new(alloc);
+    let mut place = 0;
+    while take_next(alloc, &mut reader, &mut row, place, cpu, &mut taken)? {
+        place += 1;
+    }
+    Ok(taken)
 }
 
 /// The presets and user events for a cpu of a preset file, or its first faulty row with that row's first cause.
@@ -139,19 +187,7 @@ fn take_row(
 pub fn read_extended(alloc: Global, bytes: &[u8], cpu: &str) -> Result<Extended, PresetFault>
     ensures { ReadsExtended result bytes.now cpu.now }
 {
-    let mut reader = RowReader::new(alloc, bytes);
-    let mut row = ByteRecord::new(alloc);
-    let mut group = Group::new();
-    let mut entries = all_missing(alloc)?;
-    let mut events = Vec::new(alloc);
-    let mut place = 0;
-    while reader.read_row(&mut row)? {
-        let row = event_row_of(&row);
-        match take_row(alloc, cpu, row, &mut group, &mut entries, &mut events) {
-            Ok(()) => place += 1,
-            Err(refusal) => return Err(fault_at(place, refusal)),
-        }
-    }
-    let presets = PresetTable::new(String::from_str(alloc, cpu)?, entries);
-    Ok(Extended::new(presets, events))
+    let taken = read_taken(alloc, bytes, cpu)?;
+    let presets = PresetTable::new(String::from_str(alloc, cpu)?, taken.entries);
+    Ok(Extended::new(presets, taken.events))
 }
