@@ -3,40 +3,20 @@ use Rattle.std.proofs.Common.{◌≡◌, ◌∙◌, ◌+◌, ◌<◌, ◌≤◌,
 use Rattle.std.proofs.lemmas.List.{map-append, take_all, take_more}
 use Rattle.table_rows.specs.Rows.{rows_text}
 use Rattle.table_rows.specs.Texts.{Text}
-use Rattle.preset_csv.specs.Defs.{DefView}
-use Rattle.preset_csv.specs.Steps.{after_commas}
 use Rattle.preset_csv.specs.Tables.{TableView}
-use Rattle.preset_csv.specs.Written.{def_fields, table_text}
+use Rattle.preset_csv.specs.Written.{rows_of_entry, table_text}
 use Rattle.preset_csv.specs.declared.entry.Entry.{Entry}
 use Rattle.preset_csv.specs.declared.entry.Entry.TheVariants as entry
-use Rattle.preset_csv.proofs.WrittenParts.{put-row, row-text, rows-append}
+use Rattle.preset_csv.proofs.WrittenParts.{rows-append}
 use Rattle.user_events.specs.Events.{EventView, ExtendedView, event_view}
 use Rattle.user_events.specs.Written.{event_rows, extended_text, named_rows}
 use Rattle.user_events.specs.declared.event.UserEvent.{UserEvent}
 
--- ---- the row of a name
-
-pub missing-put : (s : Text) (e : Entry) (text : Text) → e ≡ entry.Missing → text ≡ text ++ rows_text (named_rows s e)
-unfolding rows_text
-missing-put s e text is = rw is (sym (append-nil text))
-
-put-fields : (s fields t0 t1 t2 t3 t4 : Text) (row : List Text) → fields ≡ after_commas row → t1 ≡ t0 ++ codes "EVENT" → t2 ≡ t1 ++ (44 ∷ s) → t3 ≡ t2 ++ fields → t4 ≡ t3 ++ (10 ∷ [])
-    → t4 ≡ t0 ++ rows_text ((codes "EVENT" ∷ s ∷ row) ∷ [])
-put-fields s fields t0 t1 t2 t3 t4 row is first second third fourth =
-    fourth ∙ ap (λ (t : Text). t ++ (10 ∷ [])) (third ∙ ap (λ (t : Text). t ++ fields) (second ∙ ap (λ (t : Text). t ++ (44 ∷ s)) first))
-    ∙ put-row t0 (codes "EVENT") s fields (10 ∷ []) ∙ ap (λ (t : Text). t0 ++ ((codes "EVENT" ++ (44 ∷ (s ++ t))) ++ (10 ∷ []))) is
-    ∙ ap (λ (t : Text). t0 ++ t) (sym (row-text (codes "EVENT") (s ∷ row)))
-
-pub uncomputed-put : (s : Text) (e : Entry) (t0 t1 t2 t3 : Text) → e ≡ entry.Uncomputed → t1 ≡ t0 ++ codes "EVENT" → t2 ≡ t1 ++ (44 ∷ s)
-    → t3 ≡ t2 ++ codes ",DERIVED_CMPD\n" → t3 ≡ t0 ++ rows_text (named_rows s e)
-uncomputed-put s e t0 t1 t2 t3 is first second third =
-    rw is (put-fields s (codes ",DERIVED_CMPD") t0 t1 t2 (t2 ++ codes ",DERIVED_CMPD") t3 (codes "DERIVED_CMPD" ∷ []) refl first second refl
-    (third ∙ sym (append_assoc t2 (codes ",DERIVED_CMPD") (10 ∷ []))))
-
-pub def-put : (s : Text) (e : Entry) (d : DefView) (t0 t1 t2 t3 t4 : Text) → e ≡ entry.Def d → t1 ≡ t0 ++ codes "EVENT" → t2 ≡ t1 ++ (44 ∷ s)
-    → t3 ≡ t2 ++ after_commas (def_fields d) → t4 ≡ t3 ++ (10 ∷ [])
-    → t4 ≡ t0 ++ rows_text (named_rows s e)
-def-put s e d t0 t1 t2 t3 t4 is first second third fourth = rw is (put-fields s (after_commas (def_fields d)) t0 t1 t2 t3 t4 (def_fields d) refl first second third fourth)
+-- the row of a name
+pub event-rows : (s : Text) (e : Entry) → rows_of_entry (codes "EVENT") s e ≡ named_rows s e
+event-rows s entry.Missing = refl
+event-rows s entry.Uncomputed = refl
+event-rows s (entry.Def d) = refl
 
 -- ---- the rows of some user events
 
