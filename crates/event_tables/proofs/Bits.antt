@@ -1,10 +1,10 @@
 -- The counters of names, as bits.
-use Rattle.std.proofs.Common.{◌≡◌, ◌<◌, ◌≤◌, ◌^◌, ◌%◌, ◌*◌, ◌∷◌, ℕ, List, [], Option, Some, None, true, length, refl, arith}
+use Rattle.std.proofs.Common.{◌≡◌, ◌∙◌, ◌<◌, ◌≤◌, ◌^◌, ◌%◌, ◌*◌, ◌∷◌, ℕ, List, [], Option, Some, None, Bool, true, false, length, refl, ap, arith}
 use Rattle.std.proofs.Math.Pow.{pow-lt}
-use Rattle.std.proofs.lemmas.Nat.{or_lt, le_or_l, le_or_r, pow_pos}
-use Rattle.std.specs.Prelude.{is_some}
+use Rattle.std.proofs.lemmas.Nat.{or_comm, or_lt, le_or_l, le_or_r, pow_pos}
+use Rattle.std.specs.Prelude.{is_some, not, if◌then◌else◌}
 use Rattle.std.specs.Int.RustNames.{bit_or}
-use Rattle.std.specs.List.{fold}
+use Rattle.std.specs.List.{filter, fold}
 use Rattle.std.specs.Str.{bytes_eq}
 use Rattle.table_rows.specs.Texts.{Text}
 use Rattle.event_tables.specs.Tables.{CounterText}
@@ -29,6 +29,18 @@ fold-lt : (counters : List CounterText) (a : ℕ) (names : List Text) → a < 2 
     → fold (λ bits n. bit_or bits (place_bit (counter_place counters n))) a names < 2 ^ length counters
 fold-lt counters a [] lt = lt
 fold-lt counters a (n ∷ names) lt = fold-lt counters (bit_or a (place_bit (counter_place counters n))) names (or_lt (length counters) a _ lt (place_bit-lt counters n))
+
+-- what stands between spaces and is no name gives no bit
+pub fold-filled : {X : Type 0} (empty : X → Bool) (bit : X → ℕ) (a : ℕ) (xs : List X)
+    → fold (λ bits x. bit_or bits (if empty x then 0 else bit x)) a xs ≡ fold (λ bits x. bit_or bits (bit x)) a (filter (λ x. not (empty x)) xs)
+fold-filled empty bit a [] = refl
+fold-filled empty bit a (x ∷ xs) = go (empty x) (λ n. fold-filled empty bit n xs)
+  where
+    go : (b : Bool) → ((n : ℕ) → fold (λ bits x. bit_or bits (if empty x then 0 else bit x)) n xs ≡ fold (λ bits x. bit_or bits (bit x)) n (filter (λ x. not (empty x)) xs))
+        → fold (λ bits x. bit_or bits (if empty x then 0 else bit x)) (bit_or a (if b then 0 else bit x)) xs
+        ≡ fold (λ bits x. bit_or bits (bit x)) a (if not b then x ∷ filter (λ x. not (empty x)) xs else filter (λ x. not (empty x)) xs)
+    go true more = ap (λ n. fold (λ bits x. bit_or bits (if empty x then 0 else bit x)) n xs) (or_comm a 0) ∙ more a
+    go false more = more (bit_or a (bit x))
 
 -- the bits are counters of the component
 pub bits_of-lt : (counters : List CounterText) (names : List Text) → bits_of counters names < 2 ^ length counters

@@ -34,32 +34,19 @@ on_last-same [] = refl
 on_last-same (x ∷ []) = refl
 on_last-same (x ∷ y ∷ rest) = ap (λ t. x ∷ t) (on_last-same (y ∷ rest))
 
--- ---- a row that belongs to a component
+-- ---- a row that is not a component
 
 abbrev pub IsInner : Line → Type 0
-IsInner (counter name width fixed) = ⊤
-IsInner (event name select names text) = ⊤
-IsInner (umask m) = ⊤
-IsInner line = ⊥
+IsInner (component name pmu) = ⊥
+IsInner line = ⊤
 
-pub inner-row : (r : Row) → (r ≡ row.Skipped → ⊥) → (r ≡ row.Bad → ⊥) → ((n p : Bor Text) → r ≡ row.Component n p → ⊥) → IsInner (row_line r)
-inner-row row.Skipped s b k = absurd (s refl)
-inner-row row.Bad s b k = absurd (b refl)
-inner-row (row.Component n p) s b k = absurd (k n p refl)
-inner-row (row.Counter n w f) s b k = tt
-inner-row (row.Event n s' c t) s b k = tt
-inner-row (row.Umask n b' f t) s b k = tt
-
--- a row that belongs to nothing has a cause
-pub inner-below : (above : List ComponentText) (line : Line) → IsInner line → cause_in above line ≡ None → 0 < length above
-unfolding cause_in
-inner-below [] (counter n w f) i e = cc e
-inner-below [] (event n s ns t) i e = cc e
-inner-below [] (umask m) i e = cc e
-inner-below [] skipped i e = absurd i
-inner-below [] bad i e = absurd i
-inner-below [] (component n p) i e = absurd i
-inner-below (c ∷ above) line i e = omega arith
+pub inner-row : (r : Row) → ((n p : Bor Text) → r ≡ row.Component n p → ⊥) → IsInner (row_line r)
+inner-row (row.Component n p) k = absurd (k n p refl)
+inner-row row.Skipped k = tt
+inner-row row.Bad k = tt
+inner-row (row.Counter n w f) k = tt
+inner-row (row.Event n s' c t) k = tt
+inner-row (row.Umask n b' f t) k = tt
 
 events-filled : (events : List EventText) (o : EventText → Option RowCause) → option_map_or o (last_of events) (Some cause.BadRow) ≡ None → 0 < length events
 events-filled [] o e = cc e
@@ -70,15 +57,15 @@ fresh true b o e = cc e
 fresh false true o e = cc e
 fresh false false o e = refl
 
-pub inner-grows : (above : List ComponentText) (line : Line) (c : ComponentText) → IsInner line → last_of above ≡ Some c → cause_in above line ≡ None → CanGrow line c
+pub inner-grows : (above : List ComponentText) (line : Line) (c : ComponentText) → last_of above ≡ Some c → cause_in above line ≡ None → CanGrow line c
 unfolding cause_in
-inner-grows above (counter n w f) c i l e = tt
-inner-grows above (event n s ns t) c i l e =
+inner-grows above (event n s ns t) c l e =
     fresh (nat_le MOST_EVENTS (length c.events)) (list_any (λ (x : EventText). same_name x.name n) c.events) _ (rw l at e)
-inner-grows above (umask m) c i l e = events-filled c.events (λ x. mask_cause x.masks m.name m.preset_choice) (rw l at e)
-inner-grows above skipped c i l e = tt
-inner-grows above bad c i l e = tt
-inner-grows above (component n p) c i l e = tt
+inner-grows above (umask m) c l e = events-filled c.events (λ x. mask_cause x.masks m.name m.preset_choice) (rw l at e)
+inner-grows above (counter n w f) c l e = tt
+inner-grows above skipped c l e = tt
+inner-grows above bad c l e = tt
+inner-grows above (component n p) c l e = tt
 
 pub inner-with : (above : List ComponentText) (line : Line) → IsInner line → with_line above line ≡ on_last (grown line) above
 inner-with above (counter n w f) i = refl
@@ -87,6 +74,12 @@ inner-with above (umask m) i = refl
 inner-with above skipped i = refl
 inner-with above bad i = refl
 inner-with above (component n p) i = absurd i
+
+-- and adds nothing where no component stands above it
+pub none-above : (xs : List Component) (line : Line) → IsInner line → (0 < length xs → ⊥) → map component_text xs ≡ with_line (map component_text xs) line
+unfolding on_last
+none-above [] line i e = sym (inner-with [] line i)
+none-above (x ∷ xs) line i e = absurd (e (omega arith))
 
 pub last_of-at : {X Y : Type 0} (view : X → Y) (xs : List X) (i : ℕ) (d : X) → i + 1 ≡ length xs → last_of (map view xs) ≡ Some (view (get_or xs i d))
 last_of-at view xs i d e =
@@ -109,20 +102,9 @@ pub record Owner (xs : List Component) (i : ℕ) (x : Component) (line : Line) :
   pub last : last_of (map component_text xs) ≡ Some (component_text x)
   pub grows : CanGrow line (component_text x)
 
-pub filled : (xs : List Component) (r : Row) → (r ≡ row.Skipped → ⊥) → (r ≡ row.Bad → ⊥) → ((n p : Bor Text) → r ≡ row.Component n p → ⊥)
-    → cause_in (map component_text xs) (row_line r) ≡ None → 0 < length xs
-filled xs r s b k e =
-    let lt = inner-below (map component_text xs) (row_line r) (inner-row r s b k) e in
-    omega (arith, lt, length-map xs component_text)
-
-pub owner : (xs : List Component) (r : Row) (i : ℕ) (x : Component) → (r ≡ row.Skipped → ⊥) → (r ≡ row.Bad → ⊥) → ((n p : Bor Text) → r ≡ row.Component n p → ⊥)
-    → cause_in (map component_text xs) (row_line r) ≡ None → i ≡ length xs - 1 → x ≡ get_or xs i x → Owner xs i x (row_line r)
-owner xs r i x s b k e n is =
-    let lt = filled xs r s b k e in
-    let at : i + 1 ≡ length xs = omega (arith, lt) in
+pub owner : (xs : List Component) (line : Line) (i : ℕ) (x : Component) → cause_in (map component_text xs) line ≡ None → 0 < length xs → i ≡ length xs - 1
+    → x ≡ get_or xs i x → Owner xs i x line
+owner xs line i x e lt n is =
+    let at : i + 1 ≡ length xs = omega (arith, lt, n) in
     let last : last_of (map component_text xs) ≡ Some (component_text x) = last_of-at component_text xs i x at ∙ ap (λ (t : Component). Some (component_text t)) (sym is) in
-    record {
-      at_last = at;
-      last = last;
-      grows = inner-grows (map component_text xs) (row_line r) (component_text x) (inner-row r s b k) last e;
-    }
+    record { at_last = at; last = last; grows = inner-grows (map component_text xs) line (component_text x) last e }

@@ -2,15 +2,16 @@
 use Rattle.std.proofs.Common.{◌≡◌, ◌∙◌, ◌+◌, ◌<◌, ◌≤◌, ◌∷◌, ℕ, List, [], Some, None, map, length, get_or, take, drop, length-drop, refl, sym, ap, subst, arith}
 use Rattle.std.proofs.lemmas.List.{take_all, drop_more, take_more, drop_all, get_or-map, length-map, length-take-le}
 use Rattle.std.specs.Prelude.{Err}
+use Rattle.table_rows.specs.Rows.{rows_of}
 use Rattle.table_rows.specs.Texts.{Text}
 use Rattle.event_tables.specs.Tables.{ComponentText}
 use Rattle.event_tables.specs.Lines.{Line, line_of, skipped}
 use Rattle.event_tables.specs.Unit.{ReadsUnit, cause_in, components_in, fault_from, lines_of, unit_fault, unit_tables}
-use Rattle.event_tables.specs.Steps.{AddsRow, fault_at, with_line}
+use Rattle.event_tables.specs.Steps.{AddsNext, with_line}
 use Rattle.event_tables.specs.Kept.{IsLine, IsTables}
 use Rattle.event_tables.specs.declared.fault.RowCause.{RowCause}
-use Rattle.event_tables.specs.declared.adding.Refusal.{Refusal}
-use Rattle.event_tables.specs.declared.adding.Refusal.TheVariants as refusal
+use Rattle.event_tables.specs.declared.fault.TableFault.{TableFault}
+use Rattle.event_tables.specs.declared.fault.TableFault.TheVariants as fault
 use Rattle.event_tables.proofs.Keeping.{kept}
 use Rattle.event_tables.proofs.RowsMore.{components-more}
 
@@ -75,12 +76,13 @@ added lines i line above new lt at_i good a none is = record {
   kept = subst IsTables (sym is) (kept above line good none a.kept);
 }
 
-pub refused : (bytes : List ℕ) (lines : List Line) (i : ℕ) (line : Line) (above new : List ComponentText) (r : Refusal) → lines_of bytes ≡ lines → i < length lines → get_or lines i skipped ≡ line
-    → Added lines i above → AddsRow above line new (Err r) → ReadsUnit (Err (fault_at i r)) bytes
+pub refused : (bytes : List ℕ) (i : ℕ) (rows : List (List Text)) (fields : List Text) (left : List (List Text)) (above new : List ComponentText) (f : TableFault)
+    → rows ≡ drop i (rows_of bytes) → Added (lines_of bytes) i above → AddsNext i rows fields left above new (Err f) → ReadsUnit (Err f) bytes
 unfolding unit_fault
-refused bytes lines i line above new (refusal.Cause cause) from lt at_i a h =
-    ap (fault_from []) from ∙ a.fault ∙ fault-some lines i cause lt (rw (← a.tables, at_i) h)
-refused bytes lines i line above new refusal.Memory from lt at_i a h = tt
+refused bytes i rows fields left above new (fault.Row row cause) at_i a h =
+    let next = next-row (rows_of bytes) i fields left (sym at_i ∙ h.0) in
+    a.fault ∙ fault-some (lines_of bytes) i cause next.inside (rw (← a.tables, next.line) h.2) ∙ ap (λ n. Some (n, cause)) (sym h.1)
+refused bytes i rows fields left above new fault.Memory at_i a h = tt
 
 pub all-added : (bytes : List ℕ) (lines : List Line) (i : ℕ) (tables : List ComponentText) → lines_of bytes ≡ lines → length lines ≤ i → Added lines i tables
     → (unit_fault bytes ≡ None) × (tables ≡ unit_tables bytes)

@@ -1,7 +1,7 @@
 -- Searches of rows by a test of what callers see of them.
 use Rattle.std.proofs.Common.{◌≡◌, ◌+◌, ◌<◌, ◌∷◌, ℕ, List, [], Option, Some, Bool, true, false, map, length, refl, ap, arith}
-use Rattle.std.specs.Prelude.{◌||◌, ◌==◌, not, if◌then◌else◌}
-use Rattle.std.specs.List.{filter, list_any, position_from, slice_split}
+use Rattle.std.specs.Prelude.{◌&&◌, ◌||◌, ◌==◌, not, if◌then◌else◌}
+use Rattle.std.specs.List.{filter, list_all, list_any, position_from, slice_split}
 use Rattle.table_rows.specs.Texts.{Text, is_empty}
 use Rattle.event_tables.specs.Lines.{words_of}
 
@@ -25,6 +25,16 @@ filled p (x ∷ xs) = go (p x) (filled p xs)
 pub has_word-filled : (t : Text) → list_any (λ w. not (is_empty w)) (slice_split (λ b. b == 32) t) ≡ not (is_empty (words_of t))
 unfolding words_of
 has_word-filled t = filled (λ w. not (is_empty w)) (slice_split (λ b. b == 32) t)
+
+-- each item of the filtered list passes where each item passes or is left out
+pub all-filled : {X : Type 0} (empty p : X → Bool) (xs : List X) → list_all (λ x. empty x || p x) xs ≡ list_all p (filter (λ x. not (empty x)) xs)
+all-filled empty p [] = refl
+all-filled empty p (x ∷ xs) = go (empty x) (all-filled empty p xs)
+  where
+    go : (b : Bool) → list_all (λ x. empty x || p x) xs ≡ list_all p (filter (λ x. not (empty x)) xs)
+        → ((b || p x) && list_all (λ x. empty x || p x) xs) ≡ list_all p (if not b then x ∷ filter (λ x. not (empty x)) xs else filter (λ x. not (empty x)) xs)
+    go true h = h
+    go false h = ap (λ t. p x && t) h
 
 -- what is found is in the list
 pub position_from-lt : {X : Type 0} (p : X → Bool) (i : ℕ) (xs : List X) (k : ℕ) → position_from p i xs ≡ Some k → k < i + length xs

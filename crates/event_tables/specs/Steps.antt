@@ -1,7 +1,8 @@
 -- The tables of some rows and of one row more.
-use Rattle.std.specs.Prelude.{⊤, ◌≡◌, ◌+◌, ◌<◌, length, ℕ, false, List, [], ◌∷◌, ◌++◌, Some, None, Result, Ok, Err}
-use Rattle.event_tables.specs.Lines.{Line, skipped, bad, component, counter, event, umask}
+use Rattle.std.specs.Prelude.{⊤, ◌≡◌, ◌+◌, ◌<◌, length, ℕ, Bool, true, false, List, [], ◌∷◌, ◌++◌, Some, None, Result, Ok, Err}
+use Rattle.event_tables.specs.Lines.{Line, skipped, bad, component, counter, event, umask, line_of}
 use Rattle.std.specs.List.{list_any}
+use Rattle.table_rows.specs.Texts.{Text}
 use Rattle.event_tables.specs.Tables.{ComponentText, CounterText, EventText, MaskText, same_name}
 use Rattle.event_tables.specs.Unit.{cause_in, component_of, counter_row, event_row}
 use Rattle.event_tables.specs.declared.fault.TableFault.{TableFault}
@@ -56,6 +57,13 @@ abbrev pub AddsRow : List ComponentText → Line → List ComponentText → Resu
 AddsRow old line new (Ok u) = (cause_in old line ≡ None) × (new ≡ with_line old line)
 AddsRow old line new (Err (refusal.Cause cause)) = cause_in old line ≡ Some cause
 AddsRow old line new (Err refusal.Memory) = ⊤
+
+-- the next row is added, or none is left, or the row is refused at its place from 0
+abbrev pub AddsNext : ℕ → List (List Text) → List Text → List (List Text) → List ComponentText → List ComponentText → Result Bool TableFault → Type 0
+AddsNext place rows fields left old new (Ok true) = (rows ≡ fields ∷ left) × (cause_in old (line_of fields) ≡ None) × (new ≡ with_line old (line_of fields))
+AddsNext place rows fields left old new (Ok false) = (rows ≡ []) × (left ≡ []) × (new ≡ old)
+AddsNext place rows fields left old new (Err (fault.Row row cause)) = (rows ≡ fields ∷ left) × (row ≡ place + 1) × (cause_in old (line_of fields) ≡ Some cause)
+AddsNext place rows fields left old new (Err fault.Memory) = ⊤
 
 -- the fault of a refused row, whose place is from 0
 abbrev pub fault_at : ℕ → Refusal → TableFault

@@ -1,11 +1,11 @@
 //! The tables, row by row.
 
-ghost use Rattle.std.specs.Prelude.{◌≡◌, ◌<◌, ◌≤◌, ◌-◌, ◌^◌, false, [], Some, map, OnOk, IfOk, length, string_bytes, vec_len};
+ghost use Rattle.std.specs.Prelude.{◌≡◌, ◌<◌, ◌≤◌, ◌-◌, ◌^◌, false, [], Some, None, map, OnOk, IfOk, length, vec_len, if◌then◌else◌};
 ghost use Rattle.std.specs.HashMap.{get_by_text};
 ghost use Rattle.std.specs.List.{AllByRecursion, list_any};
 ghost use Rattle.std.specs.Map.{update};
 ghost use Rattle.std.specs.Str.{bytes_eq, str_to_ascii_lowercase};
-ghost use Rattle.table_rows.specs.Texts.{Text};
+ghost use Rattle.table_rows.specs.Texts.{Text, is_empty};
 ghost use Rattle.event_tables.specs.Index.{AreKept, IsIndexed};
 ghost use Rattle.event_tables.specs.Kept.{IsLine};
 ghost use Rattle.event_tables.specs.Tables.{same_name};
@@ -62,11 +62,14 @@ pub fn fault_at(place: usize, refusal: Refusal) -> TableFault
     }
 }
 
-// A counter of this name as a bit, and 0 where there is none.
+// A counter of this name as a bit, and 0 where there is none and where there is no name.
 fn counter_bit(counters: &[Counter], name: &[u8]) -> u32
     requires { length counters.now ≤ MOST_COUNTERS }
-    ensures { result ≡ Unit.place_bit (Unit.counter_place (map counter_text counters.now) name.now) }
+    ensures { result ≡ (if is_empty name.now then 0 else Unit.place_bit (Unit.counter_place (map counter_text counters.now) name.now)) }
 {
+    if name.is_empty() {
+        return 0;
+    }
     match counter_place(counters, name) {
         Some(place) => 1 << place,
         None => 0,
@@ -80,26 +83,23 @@ fn bits_of(counters: &[Counter], names: &[u8]) -> u32
 {
     names
         .split(|&b| b == b' ')
-        .filter(|name| !name.is_empty())
         .fold(0, |bits, name| bits | counter_bit(counters, name))
 }
 
-// An event of a component with these counters.
+// An event that the counters of these bits can count.
 fn event_of(
     alloc: Global,
-    counters: &[Counter],
     name: &str,
     select: u8,
-    names: &[u8],
+    allowed: u32,
     text: &str,
 ) -> Result<EventRow, AllocError>
-    requires { length counters.now ≤ MOST_COUNTERS }
-    ensures { IfOk result (λ e. event_text e ≡ Unit.event_row (map counter_text counters.now) name.now select (words_of names.now) text.now []) }
+    ensures { IfOk result (λ e. event_text e ≡ record { name = name.now; select = select; allowed = allowed; text = text.now; masks = [] }) }
 {
     Ok(EventRow {
         name: String::from_str(alloc, name)?,
         select,
-        allowed: bits_of(counters, names),
+        allowed,
         text: String::from_str(alloc, text)?,
         masks: Vec::new(alloc),
     })
@@ -123,12 +123,21 @@ fn mask_of(
     })
 }
 
-fn add_counter(component: &mut Component, counter: Counter) -> Result<(), AllocError>
+// A counter at the end.
+fn add_counter(
+    alloc: Global,
+    component: &mut Component,
+    name: &str,
+    width: Option<u8>,
+    fixed: bool,
+) -> Result<(), AllocError>
     requires { IsIndexed component.old }
-    ensures counter { OnOk result (component_text component.new ≡ Steps.with_counter (counter_text counter) (component_text component.old)) }
+    ensures counter { OnOk result (component_text component.new ≡ Steps.with_counter (Unit.counter_row name.now width fixed) (component_text component.old)) }
     ensures indexed { OnOk result (IsIndexed component.new) }
 {
-    component.counters.push(counter)?;
+    let name = String::from_str(alloc, name)?;
+    let width = width.unwrap_or(0);
+    component.counters.push(Counter { name, width, fixed })?;
     Ok(())
 }
 
@@ -148,27 +157,45 @@ fn note_row(
     Ok(())
 }
 
-// An event whose name is new.
-fn add_event(alloc: Global, component: &mut Component, event: EventRow) -> Result<(), AllocError>
-    requires few { vec_len component.old.events ≤ MOST_EVENTS }
+// An event whose name is new, for the counters of these names.
+fn add_event(
+    alloc: Global,
+    component: &mut Component,
+    name: &str,
+    select: u8,
+    names: &[u8],
+    text: &str,
+) -> Result<(), AllocError>
+    requires few_counters { vec_len component.old.counters ≤ MOST_COUNTERS }
+    requires few_events { vec_len component.old.events ≤ MOST_EVENTS }
     requires indexed { IsIndexed component.old }
-    requires fresh { list_any (λ e. same_name e.name (string_bytes event.name)) (map event_text component.old.events.items) ≡ false }
-    ensures event { OnOk result (component_text component.new ≡ Steps.with_event (event_text event) (component_text component.old)) }
+    requires fresh { list_any (λ e. same_name e.name name.now) (map event_text component.old.events.items) ≡ false }
+    ensures event { OnOk result (component_text component.new ≡ Steps.with_event (Unit.event_row (map counter_text component.old.counters.items) name.now select (words_of names.now) text.now []) (component_text component.old)) }
     ensures indexed { OnOk result (IsIndexed component.new) }
 {
     let row = component.events.len() as u32;
-    note_row(alloc, &mut component.rows, event.name.as_str(), row)?;
+    note_row(alloc, &mut component.rows, name, row)?;
+    let allowed = bits_of(component.counters.as_slice(), names);
+    let event = event_of(alloc, name, select, allowed, text)?;
     component.events.push(event)?;
     Ok(())
 }
 
 // A umask at the end of the last event.
-fn add_mask(component: &mut Component, mask: UmaskRow) -> Result<(), AllocError>
+fn add_mask(
+    alloc: Global,
+    component: &mut Component,
+    name: &str,
+    bits: u8,
+    flags: Flags,
+    text: &str,
+) -> Result<(), AllocError>
     requires filled { 0 < vec_len component.old.events }
     requires indexed { IsIndexed component.old }
-    ensures mask { OnOk result (component_text component.new ≡ Steps.with_inner_mask (mask_text mask) (component_text component.old)) }
+    ensures mask { OnOk result (component_text component.new ≡ Steps.with_inner_mask (Lines.mask_of name.now bits flags text.now) (component_text component.old)) }
     ensures indexed { OnOk result (IsIndexed component.new) }
 {
+    let mask = mask_of(alloc, name, bits, flags, text)?;
     let last = component.events.len() - 1;
     component.events[last].masks.push(mask)?;
     Ok(())
@@ -184,30 +211,19 @@ fn grow(alloc: Global, component: &mut Component, row: Row<'_>) -> Result<(), Al
     ensures indexed { OnOk result (IsIndexed component.new) }
 {
     match row {
-        Row::Counter { name, width, fixed } => {
-            let name = String::from_str(alloc, name)?;
-            let width = width.unwrap_or(0);
-            add_counter(component, Counter { name, width, fixed })
-        }
+        Row::Counter { name, width, fixed } => add_counter(alloc, component, name, width, fixed),
         Row::Event {
             name,
             select,
-            counters: names,
+            counters,
             text,
-        } => {
-            let counters = component.counters.as_slice();
-            let event = event_of(alloc, counters, name, select, names, text)?;
-            add_event(alloc, component, event)
-        }
+        } => add_event(alloc, component, name, select, counters, text),
         Row::Umask {
             name,
             bits,
             flags,
             text,
-        } => {
-            let mask = mask_of(alloc, name, bits, flags, text)?;
-            add_mask(component, mask)
-        }
+        } => add_mask(alloc, component, name, bits, flags, text),
         Row::Skipped => Ok(()),
         Row::Bad => Ok(()),
         Row::Component { name: _, pmu: _ } => Ok(()),
@@ -228,6 +244,23 @@ fn component_of(alloc: Global, name: &str, pmu: &str) -> Result<Component, Alloc
     })
 }
 
+// Adds a row with no cause below the others.
+fn put_row(alloc: Global, components: &mut Vec<Component>, row: Row<'_>) -> Result<(), AllocError>
+    requires kept { AreKept components.old.items }
+    requires faultless { Unit.cause_in (map component_text components.old.items) (row_line row) ≡ None }
+    ensures put { OnOk result (map component_text components.new.items ≡ Steps.with_line (map component_text components.old.items) (row_line row.entry)) }
+    ensures indexed { OnOk result (AllByRecursion IsIndexed components.new.items) }
+{
+    if let Row::Component { name, pmu } = row {
+        components.push(component_of(alloc, name, pmu)?)?;
+        return Ok(());
+    }
+    match components.last_mut() {
+        Some(last) => grow(alloc, last, row),
+        None => Ok(()),
+    }
+}
+
 /// Adds a row below the others.
 pub fn add_row(alloc: Global, components: &mut Vec<Component>, row: Row<'_>) -> Result<(), Refusal>
     requires kept { AreKept components.old.items }
@@ -238,17 +271,6 @@ pub fn add_row(alloc: Global, components: &mut Vec<Component>, row: Row<'_>) -> 
     if let Some(cause) = cause_of(components.as_slice(), &row) {
         return Err(Refusal::Cause(cause));
     }
-    match row {
-        Row::Skipped => Ok(()),
-        Row::Bad => Ok(()),
-        Row::Component { name, pmu } => {
-            components.push(component_of(alloc, name, pmu)?)?;
-            Ok(())
-        }
-        inner => {
-            let last = components.len() - 1;
-            grow(alloc, &mut components[last], inner)?;
-            Ok(())
-        }
-    }
+    put_row(alloc, components, row)?;
+    Ok(())
 }

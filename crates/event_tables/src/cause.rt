@@ -79,10 +79,8 @@ fn is_modifier(name: &str) -> bool
 fn knows_all(counters: &[Counter], names: &[u8]) -> bool
     ensures { result ≡ list_all (λ n. is_some (Unit.counter_place (map counter_text counters.now) n)) (words_of names.now) }
 {
-    names
-        .split(|&b| b == b' ')
-        .filter(|name| !name.is_empty())
-        .all(|name| counter_place(counters, name).is_some())
+    names.split(|&b| b == b' ').all(|name| name.is_empty()
+        || counter_place(counters, name).is_some())
 }
 
 fn component_cause(above: &[Component], name: &str, pmu: &str) -> Option<RowCause>

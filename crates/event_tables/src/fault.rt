@@ -5,26 +5,28 @@ ghost use Rattle.event_tables.specs.Unit as Unit;
 ghost use Rattle.event_tables.specs.declared.fault.TableFault.TheVariants.{Memory};
 
 use std::alloc::AllocError;
+use std::fmt;
 use thiserror::Error;
 
 /// Why a row is refused, in the order in which the causes are tried.
 #[derive(Clone, Copy, Debug, PartialEq, Eq, Error)]
 pub enum RowCause {
     /// It has none of the forms, belongs to nothing, or is a second default umask.
-    #[error("bad row")]
     BadRow,
     /// One component, counter, event or umask too many.
-    #[error("over a limit")]
     OverLimit,
     /// A name that stands above already, or a umask with a modifier's name.
-    #[error("repeated name")]
     RepeatedName,
     /// A width that is not from 16 to 48.
-    #[error("width out of range")]
     BadWidth,
     /// A counter that the component does not have above this row.
-    #[error("unknown counter")]
     UnknownCounter,
+}
+
+impl fmt::Display for RowCause {
+    fn fmt<W: fmt::Write>(&self, f: &mut fmt::Formatter<W>) -> fmt::Result {
+        f.write_str(cause_text(*self))
+    }
 }
 
 /// Why a unit file is refused: its first faulty row, numbered from 1, with the row's first cause, or out of memory.

@@ -1,6 +1,7 @@
 //! One row of a unit file, by itself.
 
-ghost use Rattle.std.specs.Prelude.{◌≡◌, ◌&&◌, not, true, if◌then◌else◌, option_map, Some, None};
+ghost use Rattle.std.specs.Prelude.{◌≡◌, ◌&&◌, ◌==◌, not, true, false, codes, length, if◌then◌else◌, option_map, Some, None};
+ghost use Rattle.std.specs.Str.{bytes_eq};
 ghost use Rattle.std.specs.List.{list_all};
 ghost use Rattle.csv.specs.Records.{fields_of};
 ghost use Rattle.table_rows.specs.Texts as Texts;
@@ -60,8 +61,7 @@ fn are_all_names(bytes: &[u8]) -> bool
 {
     bytes
         .split(|&b| b == b' ')
-        .filter(|word| !word.is_empty())
-        .all(|word| is_name(word))
+        .all(|word| word.is_empty() || is_name(word))
 }
 
 fn are_names(bytes: &[u8]) -> bool
@@ -134,13 +134,25 @@ fn component_row<'r>(name: &'r [u8], pmu: &'r [u8]) -> Row<'r>
     }
 }
 
+// Whether a kind of counter is the fixed one, where it is a kind: `F` or `P`.
+fn fixed_of(kind: &[u8]) -> Option<bool>
+    ensures { result ≡ (if bytes_eq kind.now (codes "F") then Some true else if bytes_eq kind.now (codes "P") then Some false else None) }
+{
+    if kind == b"F".as_slice() {
+        Some(true)
+    } else if kind == b"P".as_slice() {
+        Some(false)
+    } else {
+        None
+    }
+}
+
 fn counter_row<'r>(name: &'r [u8], width: &'r [u8], kind: &[u8]) -> Row<'r>
     ensures { row_line result ≡ Lines.counter_line name.now width.now kind.now }
 {
-    let fixed = kind == b"F".as_slice();
-    if !fixed && kind != b"P".as_slice() {
+    let Some(fixed) = fixed_of(kind) else {
         return Row::Bad;
-    }
+    };
     if !is_decimal(width) {
         return Row::Bad;
     }
@@ -200,23 +212,28 @@ fn umask_row<'r>(name: &'r [u8], bits: &[u8], letters: &[u8], text: &'r [u8]) ->
     }
 }
 
+// Whether a record begins with this word and has as many fields.
+fn has_form(row: &ByteRecord, word: &[u8], fields: usize) -> bool
+    ensures { result ≡ (bytes_eq (Texts.text_at (fields_of row.now) 0) word.now && (length (fields_of row.now) == fields)) }
+{
+    row.len() == fields && text_at(row, 0) == word
+}
+
 /// What a record says, by itself.
 #[tactic(auto, unfolding(crate::specs::Lines::line_of))]
 pub fn row_of(row: &ByteRecord) -> Row<'_>
     ensures { row_line result ≡ line_of (fields_of row.now) }
 {
-    let first = text_at(row, 0);
-    let n = row.len();
-    if is_skipped(first) {
+    if is_skipped(text_at(row, 0)) {
         return Row::Skipped;
     }
-    if first == b"COMPONENT".as_slice() && n == 3 {
+    if has_form(row, b"COMPONENT", 3) {
         return component_row(text_at(row, 1), text_at(row, 2));
     }
-    if first == b"COUNTER".as_slice() && n == 4 {
+    if has_form(row, b"COUNTER", 4) {
         return counter_row(text_at(row, 1), text_at(row, 2), text_at(row, 3));
     }
-    if first == b"EVENT".as_slice() && n == 5 {
+    if has_form(row, b"EVENT", 5) {
         return event_row(
             text_at(row, 1),
             text_at(row, 2),
@@ -224,7 +241,7 @@ pub fn row_of(row: &ByteRecord) -> Row<'_>
             text_at(row, 4),
         );
     }
-    if first == b"UMASK".as_slice() && n == 5 {
+    if has_form(row, b"UMASK", 5) {
         return umask_row(
             text_at(row, 1),
             text_at(row, 2),

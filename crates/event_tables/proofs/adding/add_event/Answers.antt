@@ -1,18 +1,36 @@
-use Rattle.std.proofs.Common.{◌≡◌, ◌∙◌, ◌∷◌, ◌++◌, [], map, length, ap, arith}
+use Rattle.std.proofs.Common.{◌≡◌, ◌∙◌, ◌∷◌, ◌++◌, [], List, map, length, refl, ap, rules, arith}
 use Rattle.std.proofs.lemmas.List.{length-map, map-append}
 use Rattle.std.specs.HashMap.{get_by_text}
-use Rattle.event_tables.specs.Views.{event_text}
+use Rattle.std.specs.Prelude.{string_bytes}
+use Rattle.event_tables.specs.Lines.{words_of}
+use Rattle.event_tables.specs.Tables.{ComponentText, EventText}
+use Rattle.event_tables.specs.Unit.{bits_of, event_row}
+use Rattle.event_tables.specs.Views.{counter_text, event_text}
 use Rattle.event_tables.proofs.Indexing.{indexed-more}
 use Rattle.event_tables.proofs.adding.add_event.Goals as goal
+
+abbrev new_row : goal.In_ok-push → EventText
+new_row c = event_row (map counter_text c.args.component.now.counters.items) c.args.name.now c.args.select (words_of c.args.names.now) c.args.text.now []
+
+events_more : (c : goal.In_ok-push) → map event_text c.push.new.self.items ≡ map event_text c.args.component.now.events.items ++ new_row c ∷ []
+events_more c =
+    let old = c.args.component.now in
+    let allowed : c.bits_of-allowed.result ≡ bits_of (map counter_text old.counters.items) (words_of c.args.names.now) = search rules in
+    let here : event_text c.in_ok-event.event ≡ new_row c = rw allowed at c.in_ok-event.ensures in
+    ap (map event_text) c.in_ok-push.ensures.items ∙ map-append event_text old.events.items (c.in_ok-event.event ∷ [])
+    ∙ ap (λ (e : EventText). map event_text old.events.items ++ e ∷ []) here
+
+pub returns-clause-event : goal.returns-clause-event
+returns-clause-event c =
+    let old = c.args.component.now in
+    ap (λ (es : List EventText). let r : ComponentText = record { name = string_bytes old.name; pmu = string_bytes old.pmu; counters = map counter_text old.counters.items; events = es } in r) (events_more c)
 
 pub returns-clause-indexed : goal.returns-clause-indexed
 returns-clause-indexed c =
     let old = c.args.component.now in
-    let items : map event_text c.push.new.self.items ≡ map event_text old.events.items ++ event_text c.args.event ∷ [] =
-    ap (map event_text) c.in_ok-push.ensures.items ∙ map-append event_text old.events.items (c.args.event ∷ []) in
     let count : c.len-row.result ≡ length (map event_text old.events.items) = omega (arith, c.len-row.ensures, length-map old.events.items event_text) in
     record {
-      rows = indexed-more (map event_text old.events.items) (map event_text c.push.new.self.items) (event_text c.args.event) c.len-row.result c.as_str.result.now
-          (get_by_text old.rows) (get_by_text c.note_row.new.rows) items count c.as_str.ensures.value
+      rows = indexed-more (map event_text old.events.items) (map event_text c.push.new.self.items) (new_row c) c.len-row.result c.args.name.now
+          (get_by_text old.rows) (get_by_text c.note_row.new.rows) (events_more c) count refl
           c.requires.indexed.rows c.requires.fresh c.in_ok-note_row.ensures;
     }

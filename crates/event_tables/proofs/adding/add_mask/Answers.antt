@@ -2,8 +2,8 @@ use Rattle.std.proofs.Common.{◌≡◌, ◌∙◌, ◌+◌, ◌-◌, ◌∷◌,
 use Rattle.std.proofs.lemmas.List.{map-append}
 use Rattle.std.specs.Prelude.{string_bytes}
 use Rattle.event_tables.specs.Tables.{ComponentText, EventText, MaskText}
-use Rattle.event_tables.specs.Steps.{with_mask}
-use Rattle.event_tables.specs.Views.{counter_text, event_text, mask_text}
+use Rattle.event_tables.specs.Steps.{with_inner_mask, with_mask}
+use Rattle.event_tables.specs.Views.{component_text, counter_text, event_text, mask_text}
 use Rattle.event_tables.specs.declared.component.EventRow.{EventRow}
 use Rattle.std.specs.HashMap.{get_by_text}
 use Rattle.event_tables.proofs.Growing.{on_last-set}
@@ -14,12 +14,13 @@ pub returns : goal.returns
 returns c =
     let old = c.args.component.now in
     let x = c.index_mut.result.now in
-    let m = mask_text c.args.mask in
+    let m = mask_text c.in_ok-mask.mask in
     let at_last : (c.len-last.result - 1) + 1 ≡ length old.events.items = omega arith in
-    let masks = ap (map mask_text) c.in_ok-push.ensures.items ∙ map-append mask_text x.masks.items (c.args.mask ∷ []) in
+    let masks = ap (map mask_text) c.in_ok-push.ensures.items ∙ map-append mask_text x.masks.items (c.in_ok-mask.mask ∷ []) in
     let here = ap (λ (ms : List MaskText). let r : EventText = record { name = string_bytes x.name; select = x.select; allowed = x.allowed; text = string_bytes x.text; masks = ms } in r) masks in
     let events = on_last-set event_text (with_mask m) old.events.items (c.len-last.result - 1) _ x at_last (here ∙ ap (λ (e : EventRow). with_mask m (event_text e)) c.index_mut.ensures.value) in
     record {
-      mask = ap (λ (es : List EventText). let r : ComponentText = record { name = string_bytes old.name; pmu = string_bytes old.pmu; counters = map counter_text old.counters.items; events = es } in r) events;
+      mask = ap (λ (es : List EventText). let r : ComponentText = record { name = string_bytes old.name; pmu = string_bytes old.pmu; counters = map counter_text old.counters.items; events = es } in r) events
+          ∙ ap (λ (t : MaskText). with_inner_mask t (component_text old)) c.in_ok-mask.ensures;
       indexed = record { rows = indexed-masked m (map event_text old.events.items) _ (get_by_text old.rows) events c.requires.indexed.rows };
     }

@@ -1,6 +1,7 @@
-use Rattle.std.proofs.Common.{◌∙◌, ◌<◌, map, sym, ap, arith}
+use Rattle.std.proofs.Common.{◌≡◌, ◌∙◌, ◌<◌, false, map, sym, ap, rules, arith}
 use Rattle.std.proofs.lemmas.List.{length-map}
 use Rattle.std.specs.Str.{bytes_eq}
+use Rattle.table_rows.specs.Texts.{is_empty}
 use Rattle.event_tables.specs.Unit.{place_bit}
 use Rattle.event_tables.specs.Views.{counter_text}
 use Rattle.event_tables.specs.Tables.{CounterText}
@@ -20,4 +21,6 @@ pub overflow_shl-result : goal.overflow_shl-result
 overflow_shl-result c = small c
 
 pub returns-in-Some : goal.returns-in-Some
-returns-in-Some c = bit-shifted c.in-Some.place (small c) ∙ ap place_bit (sym c.in-Some.is ∙ c.counter_place.ensures)
+returns-in-Some c =
+    let named : is_empty c.args.name.now ≡ false = search rules in
+    rw named (bit-shifted c.in-Some.place (small c) ∙ ap place_bit (sym c.in-Some.is ∙ c.counter_place.ensures))

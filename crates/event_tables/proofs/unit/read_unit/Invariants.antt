@@ -11,6 +11,7 @@ abbrev pub invariant-loop-components : goal.invariant-loop-components
 invariant-loop-components l = record {
   left : l.reader ≡ drop l.place (rows_of l.fn.bytes);
   few : length (rows_of l.fn.bytes) ≤ length l.fn.bytes;
+  inside : l.place ≤ length (rows_of l.fn.bytes);
   added : Added (map line_of (rows_of l.fn.bytes)) l.place (map component_text l.components.items);
   indexed : AllByRecursion IsIndexed l.components.items;
 }
