@@ -3,14 +3,14 @@ use Rattle.std.proofs.Common.{◌≡◌, ◌∙◌, ◌+◌, ◌-◌, ◌<◌, �
 use Rattle.std.proofs.Math.ListN.{set}
 use Rattle.std.proofs.lemmas.List.{length-map}
 use Rattle.std.proofs.lemmas.Option.{slice_get-get_or, slice_get-map}
-use Rattle.std.specs.Prelude.{⊤, if◌then◌else◌, nat_le}
+use Rattle.std.specs.Prelude.{⊤, if◌then◌else◌, nat_le, option_map, slice_get}
 use Rattle.std.specs.List.{AllByRecursion, list_any}
 use Rattle.std.specs.Option.{option_map_or}
 use Rattle.table_rows.specs.Texts.{Text}
 use Rattle.event_tables.specs.Tables.{ComponentText, EventText, same_name}
 use Rattle.event_tables.specs.Lines.{Line, skipped, bad, component, counter, event, umask, row_line}
 use Rattle.event_tables.specs.Unit.{cause_in, last_of, mask_cause}
-use Rattle.event_tables.specs.Steps.{CanGrow, grown, on_last, with_line}
+use Rattle.event_tables.specs.Steps.{CanGrow, grown, inner_cause, on_last, with_line}
 use Rattle.event_tables.specs.Views.{component_text}
 use Rattle.event_tables.specs.declared.component.Component.{Component}
 use Rattle.event_tables.specs.declared.row.Row.{Row}
@@ -75,6 +75,28 @@ inner-with above skipped i = refl
 inner-with above bad i = refl
 inner-with above (component n p) i = absurd i
 
+-- its cause is that in the last component
+pub cause-inner : (above : List ComponentText) (r : Row) (c : ComponentText) → (r ≡ row.Skipped → ⊥) → (r ≡ row.Bad → ⊥) → ((n p : Bor Text) → r ≡ row.Component n p → ⊥)
+    → last_of above ≡ Some c → inner_cause c (row_line r) ≡ cause_in above (row_line r)
+unfolding cause_in
+cause-inner above row.Skipped c s b k l = absurd (s refl)
+cause-inner above row.Bad c s b k l = absurd (b refl)
+cause-inner above (row.Component n p) c s b k l = absurd (k n p refl)
+cause-inner above (row.Counter n w f) c s b k l = rw l refl
+cause-inner above (row.Event n s' ns t) c s b k l = rw l refl
+cause-inner above (row.Umask n b' f t) c s b k l = rw l refl
+
+-- and it has one where there is no component
+pub cause-alone : (above : List ComponentText) (r : Row) → (r ≡ row.Skipped → ⊥) → (r ≡ row.Bad → ⊥) → ((n p : Bor Text) → r ≡ row.Component n p → ⊥)
+    → last_of above ≡ None → Some cause.BadRow ≡ cause_in above (row_line r)
+unfolding cause_in
+cause-alone above row.Skipped s b k l = absurd (s refl)
+cause-alone above row.Bad s b k l = absurd (b refl)
+cause-alone above (row.Component n p) s b k l = absurd (k n p refl)
+cause-alone above (row.Counter n w f) s b k l = rw l refl
+cause-alone above (row.Event n s' ns t) s b k l = rw l refl
+cause-alone above (row.Umask n b' f t) s b k l = rw l refl
+
 -- and adds nothing where no component stands above it
 pub none-above : (xs : List Component) (line : Line) → IsInner line → (0 < length xs → ⊥) → map component_text xs ≡ with_line (map component_text xs) line
 unfolding on_last
@@ -85,6 +107,9 @@ pub last_of-at : {X Y : Type 0} (view : X → Y) (xs : List X) (i : ℕ) (d : X)
 last_of-at view xs i d e =
     let n : length (map view xs) - 1 ≡ i = omega (arith, length-map xs view) in
     rw (n, slice_get-map view xs i, slice_get-get_or xs i d (omega arith)) refl
+
+pub last_of-map : {X Y : Type 0} (view : X → Y) (xs : List X) (o : Option X) → o ≡ slice_get xs (length xs - 1) → last_of (map view xs) ≡ option_map view o
+last_of-map view xs o e = ap (λ n. slice_get (map view xs) (n - 1)) (length-map xs view) ∙ slice_get-map view xs (length xs - 1) ∙ ap (option_map view) (sym e)
 
 pub last_of-later : {X : Type 0} (y z : X) (rest : List X) → last_of (y ∷ z ∷ rest) ≡ last_of (z ∷ rest)
 last_of-later y z rest =

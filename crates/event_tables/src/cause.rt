@@ -6,6 +6,7 @@ ghost use Rattle.table_rows.specs.Texts.{is_name};
 ghost use Rattle.event_tables.specs.Index.{IsIndexed};
 ghost use Rattle.event_tables.specs.Kept.{IsLine};
 ghost use Rattle.event_tables.specs.Lines.{row_line, words_of, mask_of};
+ghost use Rattle.event_tables.specs.Steps.{inner_cause};
 ghost use Rattle.event_tables.specs.Tables as Tables;
 ghost use Rattle.event_tables.specs.Unit as Unit;
 ghost use Rattle.event_tables.specs.Views.{component_text, counter_text, event_text, mask_text};
@@ -152,8 +153,35 @@ fn inner_mask_cause(above: &Component, name: &str, preset_choice: bool) -> Optio
     }
 }
 
+// The first cause of a row in the component to which it belongs, and `None` where it has none.
+fn inner_cause(above: &Component, row: &Row<'_>) -> Option<RowCause>
+    requires indexed { IsIndexed above.now }
+    requires line { IsLine (row_line row.now) }
+    ensures { result ≡ inner_cause (component_text above.now) (row_line row.now) }
+{
+    match row {
+        Row::Counter {
+            name,
+            width,
+            fixed: _,
+        } => counter_cause(above.counters.as_slice(), *name, *width),
+        Row::Event {
+            name,
+            select: _,
+            counters,
+            text: _,
+        } => event_cause(above, *name, *counters),
+        Row::Umask {
+            name,
+            bits: _,
+            flags,
+            text: _,
+        } => inner_mask_cause(above, *name, flags.preset_choice),
+        _ => None,
+    }
+}
+
 /// The first cause of a row, and `None` where it has none.
-#[tactic(auto, unfolding(crate::specs::Unit::cause_in))]
 pub fn cause_of(above: &[Component], row: &Row<'_>) -> Option<RowCause>
     requires indexed { AllByRecursion IsIndexed above.now }
     requires line { IsLine (row_line row.now) }
@@ -163,31 +191,9 @@ pub fn cause_of(above: &[Component], row: &Row<'_>) -> Option<RowCause>
         Row::Skipped => None,
         Row::Bad => Some(RowCause::BadRow),
         Row::Component { name, pmu } => component_cause(above, *name, *pmu),
-        Row::Counter {
-            name,
-            width,
-            fixed: _,
-        } => match above.last() {
+        inner => match above.last() {
+            Some(component) => inner_cause(component, inner),
             None => Some(RowCause::BadRow),
-            Some(c) => counter_cause(c.counters.as_slice(), *name, *width),
-        },
-        Row::Event {
-            name,
-            select: _,
-            counters,
-            text: _,
-        } => match above.last() {
-            None => Some(RowCause::BadRow),
-            Some(c) => event_cause(c, *name, *counters),
-        },
-        Row::Umask {
-            name,
-            bits: _,
-            flags,
-            text: _,
-        } => match above.last() {
-            None => Some(RowCause::BadRow),
-            Some(c) => inner_mask_cause(c, *name, flags.preset_choice),
         },
     }
 }
