@@ -1,12 +1,6 @@
-//! Tests of counters, event sets, streams, sessions and plans: one module a crate.
+//! Tests of streams, sessions, workers and plans: one module a crate.
 #![tactic(auto)]
 
-#[cfg(test)]
-mod counter_alloc_tests;
-#[cfg(test)]
-mod event_sets_tests;
-#[cfg(test)]
-mod event_sets_with_presets;
 #[cfg(test)]
 mod overflow_dispatch_tests;
 #[cfg(test)]
@@ -15,7 +9,5 @@ mod parallel_tasks_tests;
 mod plan_runner_tests;
 #[cfg(test)]
 mod stream_reader_tests;
-#[cfg(test)]
-mod thread_registry_tests;
 #[cfg(test)]
 mod thread_session_tests;

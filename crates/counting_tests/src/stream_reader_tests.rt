@@ -1,260 +1,123 @@
 //! Streams that were worked by hand, in pieces of every kind.
-use papi_base::{Ending, Failed, LineCause, MemSource, Occ, Source};
-use std::alloc::{AllocError, AllocGlobal, Global};
+ghost use Rattle.std.specs.Prelude.{◌<◌};
+
+use papi_base::{Ending, Failed, LineCause, MemSource, Source};
+use std::alloc::{AllocError, Global};
 use std::process::Abort;
 use std::test::Fail;
 use stream_reader::{Next, StreamReader};
 
-// An occurrence of component 0 in the user's mode.
-fn occ(select: u8, umask: u8, amount: u8, pc: u64, stamp: u64) -> Next {
-    Next::Occ(Occ {
-        comp: 0,
-        select,
-        umask,
-        kernel: false,
-        amount,
-        pc,
-        stamp,
-    })
+// Streams and what is read of them before the end. Here `/` stands for a newline, `~` for a return, and `!` for a read that fails.
+const STREAMS: &str = "\x20-> \n\
+version 2 -> \n\
+0 c0 00 u 1 10/0 c0 00 u 2 20 -> 0 c0 00 u 1 10 0; 0 c0 00 u 2 20 1\n\
+/~/# x/0 C0 00 u 1 10~/0 c0 00 u 2 20~/ -> 0 c0 00 u 1 10 0; 0 c0 00 u 2 20 1\n\
+version 2~/0 c4 01 u 3 1 0/0 c5 00 u 2 2 1/0 c5 00 u 5 3 2/0 c4 01 u 4 4 9/ -> 0 c4 01 u 3 1 0; 0 c5 00 u 2 2 1; 0 c5 00 u 5 3 2; 0 c4 01 u 4 4 9\n\
+version 2/0 c4 01 u 3 1 0/0 c5 00 u 2 2 1/0 c5 00 u 5 3 2/0 c4 01 u 4 4 2/ -> 0 c4 01 u 3 1 0; 0 c5 00 u 2 2 1; 0 c5 00 u 5 3 2; bad line 5 Stamp\n\
+0 c0 00 u 1 1/0 c0 00! -> 0 c0 00 u 1 1 0; ReadFault\n\
+0 c0 00 u 1 1/0 c0 00 u 256 1/ -> 0 c0 00 u 1 1 0; bad line 2 Field\n\
+0  c0 00 u 1 1 -> bad line 1 Fields\n\
+0 c0 00 u 0 1 -> bad line 1 Field\n\
+16 c0 00 u 1 1 -> bad line 1 Field\n\
+0 c0 00 u 1 1~ -> bad line 1 Field\n\
+#/version 2/ -> bad line 2 Fields\n\
+################################################################################################################################/0 c0 00 u 1 1/ -> \
+0 c0 00 u 1 1 0\n\
+################################################################################################################################~/0 c0 00 u 1 1/ -> \
+bad line 1 Long\n\
+################################################################################################################################! -> ReadFault\n\
+################################################################################################################################# -> bad line 1 Long\n\
+#################################################################################################################################! -> bad line 1 Long\n\
+xxxxxxxxxxxxxxxxxxxxxxxxxxxxxxxxxxxxxxxxxxxxxxxxxxxxxxxxxxxxxxxxxxxxxxxxxxxxxxxxxxxxxxxxxxxxxxxxxxxxxxxxxxxxxxxxxxxxxxxxxxxxxxxx/ -> bad line 1 Fields\n\
+xxxxxxxxxxxxxxxxxxxxxxxxxxxxxxxxxxxxxxxxxxxxxxxxxxxxxxxxxxxxxxxxxxxxxxxxxxxxxxxxxxxxxxxxxxxxxxxxxxxxxxxxxxxxxxxxxxxxxxxxxxxxxxxxx/ -> bad line 1 Long\n\
+0 c0 00 u 7 400abc/9 FF a1 k 42 0123456789abcdef/3 0e 1F u 255 F/12 c0 00 k 100 8000000000000000/0 c0 00 u 1 10/ -> \
+0 c0 00 u 7 400abc 0; 9 ff a1 k 42 123456789abcdef 1; 3 0e 1f u 255 f 2; 12 c0 00 k 100 8000000000000000 3; 0 c0 00 u 1 10 4\n\
+0 c0 00 u 256 1/0 c0 00 u 1 400abc/0 c0 00 u 1 400abc/ -> bad line 1 Field\n\
+0 c0 00 u 0 1/0 c0 00 u 1 400abc/0 c0 00 u 1 400abc/ -> bad line 1 Field\n\
+0 c0 00 u 01 1/0 c0 00 u 1 400abc/0 c0 00 u 1 400abc/ -> bad line 1 Field\n\
+0 c0 00 u 1 123456789abcdef01/0 c0 00 u 1 400abc/0 c0 00 u 1 400abc/ -> bad line 1 Field\n\
+0 c0 00 u 1 /0 c0 00 u 1 400abc/0 c0 00 u 1 400abc/ -> bad line 1 Field\n\
+0 c0 00 v 1 1/0 c0 00 u 1 400abc/0 c0 00 u 1 400abc/ -> bad line 1 Field\n\
+0 c0 0g u 1 1/0 c0 00 u 1 400abc/0 c0 00 u 1 400abc/ -> bad line 1 Field\n\
+a c0 00 u 1 1/0 c0 00 u 1 400abc/0 c0 00 u 1 400abc/ -> bad line 1 Field\n\
+0 c0 00 u 1 1 0/0 c0 00 u 1 400abc/0 c0 00 u 1 400abc/ -> bad line 1 Fields\n\
+version 2/0 c0 00 u 1 1/0 c0 00 u 1 400abc/0 c0 00 u 1 400abc/ -> bad line 2 Fields";
+
+fn bytes_of(alloc: Global, text: &str) -> Result<Vec<u8>, AllocError> {
+    let mut bytes = Vec::new(alloc);
+    for byte in text.bytes() {
+        match byte {
+            b'/' => bytes.push(b'\n')?,
+            b'~' => bytes.push(b'\r')?,
+            b'!' => {}
+            _ => bytes.push(byte)?,
+        }
+    }
+    Ok(bytes)
 }
 
-fn bad(line: u64, cause: LineCause) -> Next {
-    Next::Bad { line, cause }
+// What a reader gives of these bytes, in pieces of at most this size, until it gives `End`.
+fn told(alloc: Global, bytes: &[u8], ending: Ending, largest: usize) -> Result<String, AllocError>
+    requires { 0 < largest }
+{
+    let source = MemSource::new(bytes.to_vec(alloc)?, ending, largest);
+    let mut reader = StreamReader::new(source);
+    let mut text = String::new(alloc);
+    for _ in 0..10u32 {
+        let said = match reader.next() {
+            Next::End => return Ok(text),
+            Next::Occ(o) => {
+                let mode = if o.kernel { "k" } else { "u" };
+                format!(in alloc;
+                    "{} {:02x} {:02x} {mode} {} {:x} {}",
+                    o.comp, o.select, o.umask, o.amount, o.pc, o.stamp
+                )?
+            }
+            Next::Bad { line, cause } => format!(in alloc; "bad line {line} {cause:?}")?,
+            other => format!(in alloc; "{other:?}")?,
+        };
+        if !text.is_empty() {
+            text.push_str("; ")?;
+        }
+        text.push_str(said.as_str())?;
+    }
+    Ok(text)
 }
 
-// A reader of these bytes gives these answers, and then `End`, whatever the pieces.
-fn reads(
+// The same is read of these bytes whatever the pieces.
+fn check(
     rt: &impl Abort,
     alloc: Global,
     bytes: &[u8],
     ending: Ending,
-    expected: &[Next],
+    expected: &str,
 ) -> Result<(), AllocError> {
     for largest in [1usize, 2, 3, 127, 128, 129, 4096] {
         if largest > 0 {
-            let source = MemSource::new(bytes.to_vec(alloc)?, ending, largest);
-            let mut reader = StreamReader::new(source);
-            for want in expected {
-                let next = reader.next();
-                assert_eq!(rt; next, *want, "in pieces of {largest}");
-            }
-            let last = reader.next();
-            assert_eq!(rt; last, Next::End, "in pieces of {largest}");
+            let said = told(alloc, bytes, ending, largest)?;
+            assert_eq!(rt; said.as_str(), expected, "in pieces of {largest}");
         }
     }
     Ok(())
 }
 
 #[test]
-fn good_lines(rt: HostRuntime) -> Result<(), Fail> {
-    let alloc = rt.alloc();
-    let none: [Next; 0] = [];
-    reads(&rt, alloc, b"", Ending::End, &none)?;
-    reads(&rt, alloc, b"version 2", Ending::End, &none)?;
-    let two = [occ(0xc0, 0, 1, 0x10, 0), occ(0xc0, 0, 2, 0x20, 1)];
-    reads(
-        &rt,
-        alloc,
-        b"0 c0 00 u 1 10\n0 c0 00 u 2 20",
-        Ending::End,
-        &two,
-    )?;
-    reads(
-        &rt,
-        alloc,
-        b"\n\r\n# x\n0 C0 00 u 1 10\r\n0 c0 00 u 2 20\r\n",
-        Ending::End,
-        &two,
-    )?;
-    let stamped = [
-        occ(0xc4, 1, 3, 1, 0),
-        occ(0xc5, 0, 2, 2, 1),
-        occ(0xc5, 0, 5, 3, 2),
-        occ(0xc4, 1, 4, 4, 9),
-    ];
-    let text = b"version 2\r\n0 c4 01 u 3 1 0\n0 c5 00 u 2 2 1\n0 c5 00 u 5 3 2\n0 c4 01 u 4 4 9\n";
-    reads(&rt, alloc, text, Ending::End, &stamped)?;
-    Ok(())
-}
-
-#[test]
-fn bad_lines(rt: HostRuntime) -> Result<(), Fail> {
-    let alloc = rt.alloc();
-    let one = occ(0xc0, 0, 1, 1, 0);
-    let text = b"0 c0 00 u 1 1\n0 c0 00";
-    reads(&rt, alloc, text, Ending::Fault, &[one, Next::ReadFault])?;
-    let text = b"0 c0 00 u 1 1\n0 c0 00 u 256 1\n";
-    reads(
-        &rt,
-        alloc,
-        text,
-        Ending::End,
-        &[one, bad(2, LineCause::Field)],
-    )?;
-    reads(
-        &rt,
-        alloc,
-        b"0  c0 00 u 1 1",
-        Ending::End,
-        &[bad(1, LineCause::Fields)],
-    )?;
-    reads(
-        &rt,
-        alloc,
-        b"0 c0 00 u 0 1",
-        Ending::End,
-        &[bad(1, LineCause::Field)],
-    )?;
-    reads(
-        &rt,
-        alloc,
-        b"16 c0 00 u 1 1",
-        Ending::End,
-        &[bad(1, LineCause::Field)],
-    )?;
-    reads(
-        &rt,
-        alloc,
-        b"0 c0 00 u 1 1\r",
-        Ending::End,
-        &[bad(1, LineCause::Field)],
-    )?;
-    reads(
-        &rt,
-        alloc,
-        b"#\nversion 2\n",
-        Ending::End,
-        &[bad(2, LineCause::Fields)],
-    )?;
-    let stamps = [
-        occ(0xc4, 1, 3, 1, 0),
-        occ(0xc5, 0, 2, 2, 1),
-        occ(0xc5, 0, 5, 3, 2),
-        bad(5, LineCause::Stamp),
-    ];
-    let text = b"version 2\n0 c4 01 u 3 1 0\n0 c5 00 u 2 2 1\n0 c5 00 u 5 3 2\n0 c4 01 u 4 4 2\n";
-    reads(&rt, alloc, text, Ending::End, &stamps)?;
-    Ok(())
-}
-
-// Lines of the common form, with enough bytes after them to be read at fixed places, and one whose component has two digits.
-#[test]
-fn common_lines(rt: HostRuntime) -> Result<(), Fail> {
-    let alloc = rt.alloc();
-    let text =
-        b"0 c0 00 u 7 400abc\n9 FF a1 k 42 0123456789abcdef\n3 0e 1F u 255 F\n12 c0 00 k 100 8000000000000000\n0 c0 00 u 1 10\n";
-    let occs = [
-        occ(0xc0, 0, 7, 0x400abc, 0),
-        Next::Occ(Occ {
-            comp: 9,
-            select: 0xff,
-            umask: 0xa1,
-            kernel: true,
-            amount: 42,
-            pc: 0x0123_4567_89ab_cdef,
-            stamp: 1,
-        }),
-        Next::Occ(Occ {
-            comp: 3,
-            select: 0x0e,
-            umask: 0x1f,
-            kernel: false,
-            amount: 255,
-            pc: 15,
-            stamp: 2,
-        }),
-        Next::Occ(Occ {
-            comp: 12,
-            select: 0xc0,
-            umask: 0,
-            kernel: true,
-            amount: 100,
-            pc: 0x8000_0000_0000_0000,
-            stamp: 3,
-        }),
-        occ(0xc0, 0, 1, 16, 4),
-    ];
-    reads(&rt, alloc, text, Ending::End, &occs)?;
-    Ok(())
-}
-
-// Lines that are nearly of the common form, with as many bytes after them.
-#[test]
-fn nearly_common_lines(rt: HostRuntime) -> Result<(), Fail> {
-    let alloc = rt.alloc();
-    let cases: [(&[u8], Next); 10] = [
-        (b"0 c0 00 u 256 1", bad(1, LineCause::Field)),
-        (b"0 c0 00 u 0 1", bad(1, LineCause::Field)),
-        (b"0 c0 00 u 01 1", bad(1, LineCause::Field)),
-        (b"0 c0 00 u 1 123456789abcdef01", bad(1, LineCause::Field)),
-        (b"0 c0 00 u 1 ", bad(1, LineCause::Field)),
-        (b"0 c0 00 v 1 1", bad(1, LineCause::Field)),
-        (b"0 c0 0g u 1 1", bad(1, LineCause::Field)),
-        (b"a c0 00 u 1 1", bad(1, LineCause::Field)),
-        (b"0 c0 00 u 1 1 0", bad(1, LineCause::Fields)),
-        (b"version 2\n0 c0 00 u 1 1", bad(2, LineCause::Fields)),
-    ];
-    for (line, want) in cases {
-        let mut bytes = line.to_vec(alloc)?;
-        bytes.extend_from_slice(b"\n0 c0 00 u 1 400abc\n0 c0 00 u 1 400abc\n")?;
-        reads(&rt, alloc, &bytes, Ending::End, &[want])?;
+fn streams_in_pieces(rt: HostRuntime) -> Result<(), Fail> {
+    for line in STREAMS.lines() {
+        let (stream, expected) = line.split_once(" -> ").expect(&rt, "a stream");
+        let bytes = bytes_of(rt.alloc(), stream)?;
+        let fails = stream.ends_with("!");
+        let ending = if fails { Ending::Fault } else { Ending::End };
+        check(&rt, rt.alloc(), &bytes, ending, expected)?;
     }
-    Ok(())
-}
-
-// This byte so often, and then these bytes.
-fn repeated(alloc: Global, byte: u8, size: usize, rest: &[u8]) -> Result<Vec<u8>, AllocError> {
-    let mut bytes = Vec::new(alloc);
-    for _ in 0..size {
-        bytes.push(byte)?;
-    }
-    bytes.extend_from_slice(rest)?;
-    Ok(bytes)
-}
-
-fn comment(alloc: Global, size: usize, rest: &[u8]) -> Result<Vec<u8>, AllocError> {
-    repeated(alloc, b'#', size, rest)
-}
-
-#[test]
-fn long_lines(rt: HostRuntime) -> Result<(), Fail> {
-    let alloc = rt.alloc();
-    let long = [bad(1, LineCause::Long)];
-    let one = [occ(0xc0, 0, 1, 1, 0)];
-    let bytes = comment(alloc, 128, b"\n0 c0 00 u 1 1\n")?;
-    reads(&rt, alloc, &bytes, Ending::End, &one)?;
-    let bytes = comment(alloc, 128, b"\r\n0 c0 00 u 1 1\n")?;
-    reads(&rt, alloc, &bytes, Ending::End, &long)?;
-    let bytes = comment(alloc, 129, b"")?;
-    reads(&rt, alloc, &bytes, Ending::End, &long)?;
-    reads(&rt, alloc, &bytes, Ending::Fault, &long)?;
-    let bytes = comment(alloc, 128, b"")?;
-    reads(&rt, alloc, &bytes, Ending::Fault, &[Next::ReadFault])?;
-    let bytes = repeated(alloc, b'x', 128, b"\n")?;
-    reads(
-        &rt,
-        alloc,
-        &bytes,
-        Ending::End,
-        &[bad(1, LineCause::Fields)],
-    )?;
-    let bytes = repeated(alloc, b'x', 129, b"\n")?;
-    reads(&rt, alloc, &bytes, Ending::End, &long)?;
-    Ok(())
-}
-
-// A carriage return is the last byte of a piece, and its newline the first of the next one.
-#[test]
-fn a_return_at_the_end_of_a_piece(rt: HostRuntime) -> Result<(), Fail> {
-    let alloc = rt.alloc();
-    let mut bytes = Vec::new(alloc);
-    for _ in 0..34u32 {
-        bytes.extend_from_slice(&comment(alloc, 119, b"\n")?)?;
-    }
+    // A return is the last byte of a piece of 4,096, and its newline the first of the next one.
+    let comment =
+        b"#######################################################################################################################\n";
+    let mut bytes = comment.as_slice().repeat(rt.alloc(), 34)?;
     bytes.extend_from_slice(b"0 c0 00 u 1 001\r\n0 c0 00 u 2 2\r\n")?;
-    let two = [occ(0xc0, 0, 1, 1, 0), occ(0xc0, 0, 2, 2, 1)];
     assert_eq!(&rt; bytes.get(4095).copied(), Some(b'\r'));
-    reads(&rt, alloc, &bytes, Ending::End, &two)?;
+    let expected = "0 c0 00 u 1 1 0; 0 c0 00 u 2 2 1";
+    check(&rt, rt.alloc(), &bytes, Ending::End, expected)?;
     Ok(())
 }
 
@@ -328,7 +191,11 @@ impl Source for Comments {
 fn the_largest_stream(rt: HostRuntime) {
     let mut reader = StreamReader::new(Comments { place: 0 });
     let next = reader.next();
-    assert_eq!(&rt; next, bad(524_289, LineCause::Size));
+    let bad = Next::Bad {
+        line: 524_289,
+        cause: LineCause::Size,
+    };
+    assert_eq!(&rt; next, bad);
     let next = reader.next();
     assert_eq!(&rt; next, Next::End);
 }

@@ -1,4 +1,4 @@
-//! Tests of words, scripts and the outside in memory: one module a crate.
+//! Tests of scripts, soaks and the outside in memory: one module a crate.
 #![tactic(auto)]
 
 #[cfg(test)]
@@ -6,8 +6,4 @@ mod papi_base_tests;
 #[cfg(test)]
 mod script_lines_tests;
 #[cfg(test)]
-mod script_runner_tests;
-#[cfg(test)]
 mod soak_input_tests;
-#[cfg(test)]
-mod tool_words_tests;
