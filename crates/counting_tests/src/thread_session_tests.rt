@@ -68,17 +68,12 @@ fn number_in(reply: &Reply) -> Option<i64> {
 #[test]
 fn memory_is_refused_in_a_run(rt: HostRuntime) -> Result<(), Fail> {
     let alloc = rt.alloc();
+    let e = Ok(EventRef::Native(INST));
+    let t = 1000;
     let before = [
         Call::Create,
-        Call::Add {
-            set: 0,
-            e: Ok(EventRef::Native(INST)),
-        },
-        Call::Overflow {
-            set: 0,
-            e: Ok(EventRef::Native(INST)),
-            t: 1000,
-        },
+        Call::Add { set: 0, e },
+        Call::Overflow { set: 0, e, t },
         Call::Start { set: 0 },
     ];
     let after = [Call::Read { set: 0 }, Call::Run { n: 1 }];
