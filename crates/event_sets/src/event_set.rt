@@ -71,6 +71,15 @@ fn is_other(fixed: Option<u32>, comp: u32) -> bool
     }
 }
 
+/// How many counters a component has that is there.
+fn counters_of(shape: &Shape, comp: u32) -> u32
+    requires { comp < length shape.now }
+    ensures counted { result ≡ length (widths_at shape.now (Some comp)) }
+    ensures few { result ≤ 32 }
+{
+    shape.comp(comp).counters()
+}
+
 /// The matching to which native events are added: the one that is kept, or a new one where no component was fixed.
 fn begun(fixed: Option<u32>, kept: &Matching, counters: u32) -> Matching
     requires { counters ≤ 32 }
@@ -133,7 +142,7 @@ impl EventSet {
         let Some(natives) = joined(&self.natives, &given) else {
             return Err(Refusal::Plain(Code::Ecount));
         };
-        let counters = shape.comp(comp).counters();
+        let counters = counters_of(shape, comp);
         let mut matching = begun(self.component, &self.matching, counters);
         if let Some(clash) = clash(self.slice, &mut matching, &natives, self.natives.len()) {
             return Err(Refusal::Conflict(clash));
@@ -230,7 +239,7 @@ impl EventSet {
         if is_other(self.component, comp) {
             return Err(Code::Einval);
         }
-        let counters = shape.comp(comp).counters();
+        let counters = counters_of(shape, comp);
         self.matching = begun(self.component, &self.matching, counters);
         self.component = Some(comp);
         self.counters = counters;

@@ -1,23 +1,30 @@
 -- what the code finds is what the definition of the refusals says
-use Rattle.std.proofs.Common.{◌≡◌, ℕ, ◌<◌, ◌≤◌, ◌^◌, [], List, length, take, arith, refl, sym, ap, ap₂, subst, ◌∙◌, slice_get, Option, Some, None}
-use Rattle.std.specs.Prelude.{All, IsNone, if◌then◌else◌, is_some, unwrap_or}
+use Rattle.std.proofs.Common.{◌≡◌, ℕ, ◌<◌, ◌≤◌, ◌^◌, [], length, take, arith, refl, sym, ap, ap₂, subst, ◌∙◌, slice_get, Option, Some, None}
+use Rattle.std.specs.Prelude.{All, IsNone, if◌then◌else◌, is_some}
 use Rattle.std.specs.List.{list_any}
 use Rattle.papi_base.specs.declared.native.Native.{Native}
 use Rattle.counter_alloc.specs.Assignments.{Assignable}
 use Rattle.counter_alloc.specs.Masks.{masks_of}
 use Rattle.counter_alloc.specs.Matchings.{MatchingView}
+use Rattle.postfix_rules.specs.Fitting.{Fits}
 use Rattle.postfix_rules.specs.Presets.{natives_of_event}
 use Rattle.postfix_rules.specs.Sameness.{joined_by, same_event}
 use Rattle.event_sets.specs.Assigning.{clash_of}
 use Rattle.event_sets.specs.AtRest.{is_other, widths_at}
 use Rattle.event_sets.specs.Sets.{IsMatched, IsSound, SetView}
 use Rattle.event_sets.proofs.JoinedNatives.{joined_grows}
+use Rattle.event_sets.proofs.Agreeing.{numbered}
 use Rattle.event_sets.proofs.Adding.{Ready, added_sound, added_view, pushed, all_in_range, begins, begun_allowed, begun_counters, full_of_natives, not_full, refused_clash, refused_full, taken}
 use Rattle.event_sets.proofs.event_set.EventSet.add.Goals as goal
 
 none_left : {X : Type 0} (o : Option X) → ((x : X) → o ≡ Some x → ⊥) → o ≡ None
 none_left None h = refl
 none_left (Some x) h = absurd (h x refl)
+
+pub counters_of-counters-requires : goal.counters_of-counters-requires
+counters_of-counters-requires c =
+    let first = ap (λ ns. slice_get ns 0) (sym c.natives_of-given.ensures) ∙ c.at-comp.ensures.item in
+    (numbered (Fits c.args.shape.now) (natives_of_event c.args.book.now c.args.e.now) c.requires.fits 0 c.at-comp.result first).has_component
 
 pub returns-in_default-clause-refused : goal.returns-in_default-clause-refused
 returns-in_default-clause-refused c =
@@ -70,8 +77,8 @@ clash-requires-clause-in_range c =
     let joins : all ≡ joined_by s.natives (natives_of_event book e) = c.in-Some.ensures.some ∙ ap₂ joined_by (ap (λ (v : SetView). v.natives) view) given in
     let few_events : length s.rest.events < 32 = omega (arith, c.len.ensures.length, c.if-len-ge32.false, ap (λ (v : SetView). length v.rest.events) view) in
     let room = not_full book shape e s n ready all joins few_events c.in-Some.ensures.few in
-    let counters = c.counters-counters.result in
-    let counted : counters ≡ length (widths_at shape (Some n.comp)) = c.counters-counters.ensures.length ∙ ap (λ (o : Option (List ℕ)). length (unwrap_or o [])) (sym c.comp.ensures.counters) in
+    let counters = c.counters_of-counters.result in
+    let counted : counters ≡ length (widths_at shape (Some n.comp)) = c.counters_of-counters.ensures.counted in
     let matched = subst (λ (v : SetView). IsMatched v c.self.inside.matching) view c.self.invariant.1 in
     let component = ap (λ (v : SetView). v.rest.component) view in
     let slice = ap (λ (v : SetView). v.rest.slice) view in
@@ -102,8 +109,8 @@ clash-requires-clause-before c none =
     let joins : all ≡ joined_by s.natives (natives_of_event book e) = c.in-Some.ensures.some ∙ ap₂ joined_by (ap (λ (v : SetView). v.natives) view) given in
     let few_events : length s.rest.events < 32 = omega (arith, c.len.ensures.length, c.if-len-ge32.false, ap (λ (v : SetView). length v.rest.events) view) in
     let room = not_full book shape e s n ready all joins few_events c.in-Some.ensures.few in
-    let counters = c.counters-counters.result in
-    let counted : counters ≡ length (widths_at shape (Some n.comp)) = c.counters-counters.ensures.length ∙ ap (λ (o : Option (List ℕ)). length (unwrap_or o [])) (sym c.comp.ensures.counters) in
+    let counters = c.counters_of-counters.result in
+    let counted : counters ≡ length (widths_at shape (Some n.comp)) = c.counters_of-counters.ensures.counted in
     let matched = subst (λ (v : SetView). IsMatched v c.self.inside.matching) view c.self.invariant.1 in
     let component = ap (λ (v : SetView). v.rest.component) view in
     let slice = ap (λ (v : SetView). v.rest.slice) view in
@@ -192,8 +199,8 @@ returns-clause-added c =
     let joins : all ≡ joined_by s.natives (natives_of_event book e) = c.in-Some.ensures.some ∙ ap₂ joined_by (ap (λ (v : SetView). v.natives) view) given in
     let few_events : length s.rest.events < 32 = omega (arith, c.len.ensures.length, c.if-len-ge32.false, ap (λ (v : SetView). length v.rest.events) view) in
     let room = not_full book shape e s n ready all joins few_events c.in-Some.ensures.few in
-    let counters = c.counters-counters.result in
-    let counted : counters ≡ length (widths_at shape (Some n.comp)) = c.counters-counters.ensures.length ∙ ap (λ (o : Option (List ℕ)). length (unwrap_or o [])) (sym c.comp.ensures.counters) in
+    let counters = c.counters_of-counters.result in
+    let counted : counters ≡ length (widths_at shape (Some n.comp)) = c.counters_of-counters.ensures.counted in
     let kept = c.self.view_is in
     rw (c.push.ensures.pushed, c.push-2.ensures.pushed) (ap (λ (v : SetView). pushed v e n.comp all counters) kept ∙ added_view book shape e s n ready all joins counters counted)
 
@@ -220,8 +227,8 @@ invariant_of-self c =
     let joins : all ≡ joined_by s.natives (natives_of_event book e) = c.in-Some.ensures.some ∙ ap₂ joined_by (ap (λ (v : SetView). v.natives) view) given in
     let few_events : length s.rest.events < 32 = omega (arith, c.len.ensures.length, c.if-len-ge32.false, ap (λ (v : SetView). length v.rest.events) view) in
     let room = not_full book shape e s n ready all joins few_events c.in-Some.ensures.few in
-    let counters = c.counters-counters.result in
-    let counted : counters ≡ length (widths_at shape (Some n.comp)) = c.counters-counters.ensures.length ∙ ap (λ (o : Option (List ℕ)). length (unwrap_or o [])) (sym c.comp.ensures.counters) in
+    let counters = c.counters_of-counters.result in
+    let counted : counters ≡ length (widths_at shape (Some n.comp)) = c.counters_of-counters.ensures.counted in
     let matched = subst (λ (v : SetView). IsMatched v c.self.inside.matching) view c.self.invariant.1 in
     let component = ap (λ (v : SetView). v.rest.component) view in
     let begun = c.begun-matching.ensures ∙ ap (λ (o : Option ℕ). let m : MatchingView = if is_some o then c.self.inside.matching else record { counters = counters; allowed = [] } in m) component in
@@ -232,7 +239,7 @@ invariant_of-self c =
     let none_told : IsNone c.clash.result = subst IsNone (sym free) refl in
     let assignable : s.rest.slice ≡ None → Assignable (masks_of all) = λ unshared. c.clash.ensures.assignable (slice ∙ unshared) none_told in
     let size = ap (λ (m : MatchingView). m.counters) begun ∙ begun_counters book shape e s n ready all joins counters counted c.self.inside.matching matched in
-    let few_counters : counters ≤ 32 = omega (arith, c.counters-counters.ensures.length, c.counters-counters.ensures.short) in
+    let few_counters : counters ≤ 32 = c.counters_of-counters.ensures.few in
     rw (c.push.ensures.pushed, c.push-2.ensures.pushed) (
       subst IsSound (ap (λ (v : SetView). pushed v e n.comp all counters) (sym view))
           (added_sound book shape e s n ready all joins counters counted few_events c.in-Some.ensures.few few_counters assignable unclashed),

@@ -1,5 +1,4 @@
-use Rattle.std.proofs.Common.{◌≡◌, ◌≤◌, List, ℕ, [], length, ap, sym, subst, ◌∙◌, arith, Option, Some}
-use Rattle.std.specs.Prelude.{unwrap_or}
+use Rattle.std.proofs.Common.{◌≡◌, ◌≤◌, length, ap, sym, subst, ◌∙◌, Some}
 use Rattle.counter_alloc.specs.Matchings.{MatchingView}
 use Rattle.event_sets.specs.AtRest.{widths_at}
 use Rattle.event_sets.specs.Sets.{IsMatched, SetView}
@@ -10,9 +9,9 @@ pub invariant_of-self : goal.invariant_of-self
 invariant_of-self c =
     let shape = c.args.shape.now in
     let comp = c.args.comp in
-    let counters = c.counters-counters.result in
-    let counted : counters ≡ length (widths_at shape (Some comp)) = c.counters-counters.ensures.length ∙ ap (λ (o : Option (List ℕ)). length (unwrap_or o [])) (sym c.comp.ensures.counters) in
-    let few : counters ≤ 32 = omega (arith, c.counters-counters.ensures.length, c.counters-counters.ensures.short) in
+    let counters = c.counters_of-counters.result in
+    let counted : counters ≡ length (widths_at shape (Some comp)) = c.counters_of-counters.ensures.counted in
+    let few : counters ≤ 32 = c.counters_of-counters.ensures.few in
     let own = sym c.is_other.ensures ∙ c.if-is_other.false in
     let s = c.self.inside in
     let was : SetView = record { rest = record { events = s.events; thresholds = s.thresholds; component = s.component; domain = s.domain; slice = s.slice }; natives = s.natives; counters = s.counters } in
