@@ -51,6 +51,21 @@ one_more book shape s then made reply left later replies before after after_then
       added = told ∙ ap (λ (xs : List Note). xs ++ notes) way.added ∙ append_assoc before way.so_far notes;
     }
 
+-- The session stands for the account after the calls, and all is replied and told.
+pub record AtEnd (book : Book) (shape : Widths) (s : SessionView) (replies : List Reply) (before after : List Note) (a : Account) (calls : List Call) : Type 0 where
+  pub stands : Stands book s (account_after book shape a calls)
+  pub replied : replies ≡ replies_to book shape a calls
+  pub noted : after ≡ before ++ notes_to book shape a calls
+
+-- no call is left
+pub at_end : (book : Book) (shape : Widths) (s : SessionView) (left : List Call) (replies : List Reply) (before after : List Note) (a : Account) (calls : List Call)
+    → left ≡ [] → OnTheWay book shape s left replies before after a calls → AtEnd book shape s replies before after a calls
+at_end book shape s left replies before after a calls none way = record {
+  stands = subst (λ (b : Account). Stands book s b) (sym (ap (account_after book shape way.here) none) ∙ way.account) way.stands;
+  replied = sym (append-nil replies) ∙ (sym (ap (λ (cs : List Call). replies ++ replies_to book shape way.here cs) none) ∙ way.replied);
+  noted = sym (append-nil after) ∙ (sym (ap (λ (cs : List Call). after ++ notes_to book shape way.here cs) none) ∙ way.noted);
+}
+
 -- lists with the same items before them are equal where the whole lists are
 cancel : (before xs ys : List Note) → before ++ xs ≡ before ++ ys → xs ≡ ys
 cancel [] xs ys e = e
