@@ -1,6 +1,6 @@
 -- Places that are filled from a list, one after another.
 use Rattle.std.proofs.Common.{◌≡◌, ℕ, ◌<◌, ◌||◌, Bool, false, true, zero, suc, List, [], ◌∷◌, ◌++◌, All, length, map, reverse, refl, sym}
-use Rattle.std.proofs.Common.{◌∙◌, ap, ap₂, subst, arith, append_assoc, Option, Some, None, slice_index_or}
+use Rattle.std.proofs.Common.{◌∙◌, ap, ap₂, subst, arith, append-nil, append_assoc, Option, Some, None, slice_index_or}
 use Rattle.std.specs.Option.{option_map}
 use Rattle.std.proofs.lemmas.List.{reverse-append, map-append}
 use Rattle.std.proofs.lemmas.List.Elements.{All-append, All-push, All-tail}
@@ -83,6 +83,11 @@ pub put-more : {O J X : Type 0} (F : O → Option X) (H : J → X) (gs gs' whole
     → gs ++ filled (reverse (map F os)) (reverse (map H js)) ≡ whole → gs' ++ filled (reverse (map F os')) (reverse (map H js')) ≡ whole
 put-more F H gs gs' whole os os' o js js' e put old =
     put (reverse (map F os')) ∙ (sym (ap (λ u. gs ++ filled u (reverse (map H js))) (turned F os os' o e)) ∙ old)
+
+-- no place is left
+pub put-all : {O X : Type 0} (F : O → Option X) (gs ys whole : List X) (os : List O) → length os ≡ 0 → gs ++ filled (reverse (map F os)) ys ≡ whole → gs ≡ whole
+put-all F gs ys whole [] e h = sym (append-nil gs) ∙ h
+put-all F gs ys whole (o ∷ os) e h = absurd (omega (arith, e))
 
 pub neither : (a b : Bool) → (a || b) ≡ false → (a ≡ false) × (b ≡ false)
 neither true b e = absurd (cc)

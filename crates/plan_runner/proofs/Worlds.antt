@@ -1,6 +1,6 @@
 -- What all threads got is what the world of the script says.
 use Rattle.std.proofs.Common.{◌≡◌, ℕ, zero, suc, ◌+◌, ◌<◌, ◌≤◌, Bool, false, List, [], ◌∷◌, ◌++◌, All, length, map, replicate, get_or, refl}
-use Rattle.std.proofs.Common.{sym, ◌∙◌, ap, ap₂, subst, arith, Option, Some, None, Result, Ok, Err, OnOk, IfOk, inl, inr, slice_get}
+use Rattle.std.proofs.Common.{sym, append-nil, ◌∙◌, ap, ap₂, subst, arith, Option, Some, None, Result, Ok, Err, OnOk, IfOk, inl, inr, slice_get}
 use Rattle.std.specs.Result.{is_err}
 use Rattle.std.proofs.lemmas.List.{get_or-map, get_or_past, length-map}
 use Rattle.std.proofs.lemmas.List.FromFn.{get_or-map-range_with_len}
@@ -228,6 +228,9 @@ kept-none readers = record { same_length = refl; each = λ t. same t readers } w
   same t [] = tt
   same zero (r ∷ rs) = kept_same r
   same (suc t) (r ∷ rs) = same t rs
+
+pub begun-none : (lists given : List (List Note)) → EachBegun lists given lists
+begun-none lists given = record { same_length = refl; begun = λ t h. (0, omega arith, sym (append-nil (get_or lists t []))) }
 
 pub grown-none : (lists : List (List Note)) → EachGrown lists lists
 grown-none lists = record { same_length = refl; grown = λ t h. grown_same (get_or lists t []) }

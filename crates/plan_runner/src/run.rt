@@ -44,6 +44,21 @@ struct Prepared<S: Source> {
     lines: Vec<ReplyLine>,
 }
 
+/// Opens the work of each thread that has calls in the plan.
+fn open_planned(
+    alloc: Global,
+    plan: &[PlanLine],
+    shape: &Shape,
+) -> Result<Vec<Option<Work>>, AllocError>
+    requires threads { AreThreads plan.now }
+    ensures len { IfOk result (λ works. vec_len works ≡ THREADS) }
+    ensures works { IfOk result (λ works. AreWorks shape.now works.items) }
+    ensures dealt { IfOk result (λ works. (t : ℕ) → t < THREADS → slice_index_or (map calls_of works.items) t [] ≡ planned_at t plan.now) }
+{
+    let lists = deal(alloc, plan)?;
+    open_works(alloc, shape, lists)
+}
+
 /// Takes the memory, and opens the work of each thread that has calls.
 fn prepare<S: Source>(
     alloc: Global,
@@ -58,12 +73,11 @@ fn prepare<S: Source>(
     ensures works { IfOk result (λ p. AreWorks shape.now p.works.items) }
     ensures dealt { IfOk result (λ p. (t : ℕ) → t < THREADS → slice_index_or (map calls_of p.works.items) t [] ≡ planned_at t plan.now) }
 {
-    let lists = deal(alloc, plan)?;
     let jobs = Vec::with_capacity(alloc, THREADS as usize)?;
     let idle = Vec::with_capacity(alloc, THREADS as usize)?;
     let replies = Vec::with_capacity(alloc, THREADS as usize)?;
     let lines = Vec::with_capacity(alloc, plan.len())?;
-    let works = open_works(alloc, shape, lists)?;
+    let works = open_planned(alloc, plan, shape)?;
     Ok(Prepared {
         works,
         jobs,

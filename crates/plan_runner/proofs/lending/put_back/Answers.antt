@@ -1,5 +1,5 @@
 use Rattle.std.proofs.Common.{arith, ◌∙◌}
-use Rattle.plan_runner.proofs.Filled.{neither, put-more}
+use Rattle.plan_runner.proofs.Filled.{neither, put-all, put-more}
 use Rattle.plan_runner.proofs.Lent.{gaps-last}
 use Rattle.plan_runner.proofs.lending.put_back.Goals as goal
 
@@ -27,3 +27,12 @@ pub give_back-refused-requires-clause-job : goal.give_back-refused-requires-clau
 give_back-refused-requires-clause-job g c =
     let counted = gaps-last c.loop-put.idle.items c.take_last-place.new.self.items c.take_last-place.result c.take_last-place.ensures.items in
     omega (arith, counted, c.loop-put.invariant.as_many)
+
+pub returns-clause-handlers : goal.returns-clause-handlers
+returns-clause-handlers g c = put-all _ _ _ _ c.loop-put.idle.items (omega (arith, c.loop-put.invariant.idle_len, c.loop-put.idle.ok.0)) c.loop-put.invariant.handlers
+
+pub returns-clause-readers : goal.returns-clause-readers
+returns-clause-readers g c = put-all _ _ _ _ c.loop-put.idle.items (omega (arith, c.loop-put.invariant.idle_len, c.loop-put.idle.ok.0)) c.loop-put.invariant.readers
+
+pub returns-clause-replies : goal.returns-clause-replies
+returns-clause-replies g c = put-all _ _ _ _ c.loop-put.idle.items (omega (arith, c.loop-put.invariant.idle_len, c.loop-put.idle.ok.0)) c.loop-put.invariant.replies

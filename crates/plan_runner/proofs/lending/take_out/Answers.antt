@@ -1,7 +1,8 @@
-use Rattle.std.proofs.Common.{rules, arith, refl, sym, ◌∙◌, ◌-◌, ◌+◌, ◌≡◌, ◌<◌, ◌≤◌, ◌∷◌, [], drop, length, map, vec_len}
+use Rattle.std.proofs.Common.{arith, refl, subst, sym, ◌∙◌, ◌-◌, ◌+◌, ◌≡◌, ◌<◌, ◌≤◌, ◌∷◌, [], drop, length, map, vec_len}
 use Rattle.std.proofs.lemmas.List.{take_all, length-map}
 use Rattle.std.specs.Option.{option_map}
 use Rattle.event_sets.specs.AtRest.{Widths}
+use Rattle.thread_session.specs.SessionView.{IsFresh}
 use Rattle.plan_runner.specs.Jobs.{before, befores, busy, idle_of}
 use Rattle.plan_runner.specs.Works.{AreWorks, IsWorkOf, calls_of}
 use Rattle.plan_runner.proofs.Ends.{drop-cut, front-cut, last-cut, map-at}
@@ -61,10 +62,10 @@ loop-taken-preserved g c =
       idle_len = omega (arith, c.lend.ensures.len, inv.idle_len);
       as_many = c.lend.ensures.as_many inv.as_many;
       jobs_len = omega (arith, c.lend.ensures.jobs_len, inv.jobs_len);
-      room = search rules;
-      idle_room = search rules;
-      capacity = search rules;
-      reader_capacity = search rules;
+      room = c.lend.ensures.capacity ∙ inv.room;
+      idle_room = c.lend.ensures.idle_capacity ∙ inv.idle_room;
+      capacity = c.take_last-handler.ensures.capacity ∙ inv.capacity;
+      reader_capacity = c.take_last-reader.ensures.capacity ∙ inv.reader_capacity;
       handlers = front-cut _ _ _ _ _ _ inv.handlers c.take_last-handler.ensures.items one (omega (arith, c.args.handlers.now.ok.0));
       readers = front-cut _ _ _ _ _ _ inv.readers c.take_last-reader.ensures.items one (omega (arith, c.requires.readers, c.args.readers.now.ok.0));
       works = front-cut _ _ _ _ _ _ inv.works c.take_last-work.ensures.items one (omega (arith, c.requires.works, c.args.works.now.ok.0));
@@ -72,3 +73,32 @@ loop-taken-preserved g c =
       idle = λ shape all. idle-more _ (λ x. option_map (λ y. y.notes) (idle_of x)) _ _ _ _ m n (inv.idle shape all) (c.lend.ensures.idle shape n (found shape all)) (cut shape);
       idle_readers = λ shape all. idle-more _ (λ x. option_map (λ y. y.session.reader) (idle_of x)) _ _ _ _ m n (inv.idle_readers shape all) (c.lend.ensures.idle_readers shape n (found shape all)) (cut shape);
     }
+
+pub lend-requires-clause-work : goal.lend-requires-clause-work
+lend-requires-clause-work g c =
+    let m = vec_len c.args.handlers.now - c.loop-taken._taken in
+    let n = vec_len c.args.handlers.now - (c.loop-taken._taken + 1) in
+    let works = c.args.works.now.items in
+    let work = c.take_last-work.result in
+    let one : m ≡ n + 1 = omega arith in
+    let cut = drop-cut works _ _ work m n c.loop-taken.invariant.works c.take_last-work.ensures.items one (omega (arith, c.requires.works, c.args.works.now.ok.0)) in
+    (c.requires.shaped.0, (n, work-found c.requires.shaped.0 works n work (drop m works) c.requires.shaped.1 cut))
+
+pub lend-requires-clause-fresh : goal.lend-requires-clause-fresh
+lend-requires-clause-fresh g c =
+    let m = vec_len c.args.handlers.now - c.loop-taken._taken in
+    let n = vec_len c.args.handlers.now - (c.loop-taken._taken + 1) in
+    let readers = c.args.readers.now.items in
+    let reader = c.take_last-reader.result in
+    let one : m ≡ n + 1 = omega arith in
+    let last = last-cut readers _ _ reader m n c.loop-taken.invariant.readers c.take_last-reader.ensures.items one (omega (arith, c.requires.readers, c.args.readers.now.ok.0)) reader in
+    subst IsFresh last (c.requires.fresh n reader (omega (arith, c.requires.readers, c.args.readers.now.ok.0)))
+
+pub returns-clause-jobs : goal.returns-clause-jobs
+returns-clause-jobs g c = λ shape all. let none : vec_len c.args.handlers.now - c.loop-taken._taken ≡ 0 = omega arith in rw none at (c.loop-taken.invariant.jobs shape all)
+
+pub returns-clause-idle : goal.returns-clause-idle
+returns-clause-idle g c = λ shape all. let none : vec_len c.args.handlers.now - c.loop-taken._taken ≡ 0 = omega arith in rw none at (c.loop-taken.invariant.idle shape all)
+
+pub returns-clause-idle_readers : goal.returns-clause-idle_readers
+returns-clause-idle_readers g c = λ shape all. let none : vec_len c.args.handlers.now - c.loop-taken._taken ≡ 0 = omega arith in rw none at (c.loop-taken.invariant.idle_readers shape all)

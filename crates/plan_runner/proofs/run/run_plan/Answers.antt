@@ -1,10 +1,10 @@
-use Rattle.std.proofs.Common.{arith, ap, sym, subst, ◌∙◌}
+use Rattle.std.proofs.Common.{arith, ap, refl, sym, subst, ◌∙◌}
 use Rattle.std.proofs.lemmas.List.{length-map}
 use Rattle.plan_runner.specs.Merges.{lines_by}
 use Rattle.plan_runner.specs.Runs.{AreInOrder}
 use Rattle.plan_runner.proofs.Scripts.{lines-order}
 use Rattle.plan_runner.proofs.Served.{served-as}
-use Rattle.plan_runner.proofs.Worlds.{added-all, begun-all, faulty-all, grown-all, idle-all, if_ok, kept-all, lines-all, on_ok}
+use Rattle.plan_runner.proofs.Worlds.{added-all, begun-all, begun-none, faulty-all, grown-all, grown-none, idle-all, if_ok, kept-all, kept-none, lines-all, on_ok}
 use Rattle.plan_runner.proofs.run.run_plan.Goals as goal
 
 pub returns-clause-replies : goal.returns-clause-replies
@@ -51,3 +51,18 @@ returns-clause-faulty g c =
     let served = c.run_prepared.ensures.served c.args.shape.now c.in_ok-prepared.ensures.works c.requires.fits in
     if_ok c.run_prepared.result _ _ served.2
     (λ run whole q. faulty-all c.args.book.now c.args.shape.now c.args.plan c.args.readers.now.items _ _ _ _ _ (omega (arith, c.requires.readers, c.args.readers.now.ok.0)) (served-as _ _ _ c.args.plan _ _ _ _ _ _ c.lines-2.ensures.lines served.1) run.lines.items (q ∙ ap (lines_by _) c.lines-2.ensures.lines))
+
+pub returns-in_err-prepared-clause-begun : goal.returns-in_err-prepared-clause-begun
+returns-in_err-prepared-clause-begun g c = λ at script streams tells. begun-none _ _
+
+pub returns-in_err-prepared-clause-grown : goal.returns-in_err-prepared-clause-grown
+returns-in_err-prepared-clause-grown g c = grown-none _
+
+pub returns-in_err-prepared-clause-idle : goal.returns-in_err-prepared-clause-idle
+returns-in_err-prepared-clause-idle g c = record { unread = λ t e. refl; untold = λ t e. refl }
+
+pub returns-in_err-prepared-clause-readers : goal.returns-in_err-prepared-clause-readers
+returns-in_err-prepared-clause-readers g c = kept-none c.args.readers.now.items
+
+pub run_prepared-requires-clause-works : goal.run_prepared-requires-clause-works
+run_prepared-requires-clause-works g c κs within = (c.args.shape.now, c.in_ok-prepared.ensures.works, c.requires.fits, rw c.lines-2.ensures.lines c.requires.good)
