@@ -18,8 +18,7 @@ use Rattle.thread_core.proofs.Squares.{slot_of-stopped}
 use Rattle.thread_slots.specs.declared.changing.Change.{Change}
 use Rattle.thread_core.proofs.Looking.{Has, has_slot, named, Under, under, runs_as, put_follows, units_rest, row_off}
 use Rattle.thread_slots.specs.declared.slot.Counting.TheVariants as counting
-use Rattle.thread_core.proofs.Following.{faces_stand, check_comes, codes_refuse, check_fails, none_comes, all_some_of_map, refused_follows, with_both, Goes}
-use Rattle.thread_core.proofs.Following.{done_follows}
+use Rattle.thread_core.proofs.Following.{faces_stand, check_comes, codes_refuse, check_fails, none_comes, all_some_of_map, refused_follows, with_both, Goes, done_follows}
 use Rattle.event_sets.specs.Adding.{add_refusal}
 use Rattle.event_sets.specs.declared.refusal.Clash.{Clash}
 use Rattle.thread_core.proofs.Owners.{quiet_stopped}

@@ -7,8 +7,7 @@ use Rattle.thread_core.proofs.Words.{IsShape, AreApart, counted_over, last_after
 use Rattle.thread_core.proofs.Words.{some-at, here, slice_set, slice_get_within, if◌then◌else◌, ◌==◌, ne_eqb, Bool, passing_from, counted_all}
 use Rattle.session_model.specs.Thresholds.{passed_in}
 use Rattle.thread_core.proofs.Squares.{elsewhere, slot_elsewhere, passing_elsewhere, registers_elsewhere, stopped_stays, unit_by, after, counted_follows}
-use Rattle.thread_core.proofs.Owners.{IsSameUnit, units_same, get-units, units_put, put_as, runner-none, runs_by, quiet_other, runner-some, quiet_none, Runs}
-use Rattle.thread_core.proofs.Owners.{other_runs, faces_same}
+use Rattle.thread_core.proofs.Owners.{IsSameUnit, units_same, get-units, units_put, put_as, runner-none, runs_by, quiet_other, runner-some, quiet_none, Runs, other_runs, faces_same}
 use Rattle.thread_core.proofs.Weighing.{within_at}
 use Rattle.overflow_dispatch.specs.declared.handler.Note.{Note}
 use Rattle.thread_slots.specs.Counted.{uncounted, CountedPlace, placed}

@@ -13,8 +13,7 @@ use Rattle.thread_core.proofs.Words.{length-drop, pinned-tail, zeroed, set-same,
 use Rattle.session_model.specs.declared.call.Call.TheVariants as call
 use Rattle.papi_base.specs.declared.code.Code.TheVariants as code
 use Rattle.thread_core.proofs.Squares.{stopped_slot, running_slot, numbers-length, slot_of-stopped, widths_are, kept_as, kept_cases}
-use Rattle.thread_core.proofs.Looking.{Under, row_off, widths_on, unit_of, fit_of, put_follows, now_is, runs_as, units_one, units_rest, units_run, unit_on}
-use Rattle.thread_core.proofs.Looking.{under, units_without}
+use Rattle.thread_core.proofs.Looking.{Under, row_off, widths_on, unit_of, fit_of, put_follows, now_is, runs_as, units_one, units_rest, units_run, unit_on, under, units_without}
 use Rattle.thread_core.proofs.Following.{Allowed, faces_stand, Goes, with_both}
 use Rattle.thread_slots.proofs.Beginning.{armable}
 use Rattle.thread_core.proofs.Owners.{unit_by-runner, runner-none, owner_from-none, runs_there, quiet_stopped, runner_gone}

@@ -49,8 +49,7 @@ pub use Rattle.session_model.specs.declared.reply.Reply.{Reply}
 pub use Rattle.std.proofs.Common.{length-drop, option_map, slice_set, Bool, Result, Ok, Err, if◌then◌else◌, not, suc, ◌+◌, [], ◌∷◌, slice_get, is_some, ◌≤◌}
 pub use Rattle.std.proofs.Common.{map, ◌-◌, replicate, zero, ◌++◌, unwrap_or, drop, ◌/◌, get_or, set, ◌^◌, ◌*◌, take, subst₂, append_assoc, cond, pos, take_all}
 pub use Rattle.std.proofs.Common.{◌≡◌, ℕ, ℤ, ◌<◌, ◌⊎◌, inl, inr, true, false, List, length, refl, ap, ap₂, sym, subst, ◌∙◌, arith, Option, Some, None}
-pub use Rattle.std.proofs.lemmas.Bool.{cases_Bool, ne_eqb, cond-true, cond-false, cases_eq, eq-eqb, eqb-true, cases_lt, le-ltb, or_parts, not-true, not-false}
-pub use Rattle.std.proofs.lemmas.Bool.{eqb-false}
+pub use Rattle.std.proofs.lemmas.Bool.{cases_Bool, ne_eqb, cond-true, cond-false, cases_eq, eq-eqb, eqb-true, cases_lt, le-ltb, or_parts, not-true, not-false, eqb-false}
 pub use Rattle.std.proofs.lemmas.List.Sums.{sum_by-append}
 pub use Rattle.std.proofs.lemmas.List.{length-map, length-replicate, drop_all, set_comm, set-set}
 pub use Rattle.std.proofs.lemmas.Option.{slice_get_within, get_or_from_slice_get}

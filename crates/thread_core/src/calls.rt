@@ -12,6 +12,7 @@ ghost use Rattle.thread_core.specs.Following.{Follows, changed_reply, reply_of, 
 ghost use Rattle.thread_core.specs.Stands.{AgreesWith};
 ghost use Rattle.thread_slots.specs.Altering.{IsFor, call_of};
 
+use crate::refusal::set_under;
 use crate::thread::Core;
 use event_sets::Refusal;
 use papi_base::{Code, Events, Values};
@@ -299,10 +300,7 @@ impl Core {
     fn set(&self, set: u32) -> Option<&Slot>
         ensures { option_copied result ≡ at self.now.slots set }
     {
-        match self.slots.get(set as usize) {
-            Some(place) => place.as_ref(),
-            None => None,
-        }
+        set_under(&self.slots, set)
     }
 
     /// Makes a change of a set that does not run.

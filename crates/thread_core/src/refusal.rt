@@ -1,11 +1,11 @@
 //! Which calls that change a thread's sets are refused. For each call its checks stand in their order, each with its code; the
 //! first that holds refuses.
 ghost use Rattle.std.specs.Prelude.{◌≡◌, ℕ, ◌==◌, Bool, length, map, is_none, is_some, not, None};
-ghost use Rattle.std.specs.Option.{option_map};
+ghost use Rattle.std.specs.Option.{option_copied, option_map};
 ghost use Rattle.std.specs.List.{list_all, list_any};
 ghost use Rattle.event_sets.specs.AtRest.{Widths};
 ghost use Rattle.event_sets.specs.declared.refusal.Refusal.TheVariants.{Plain};
-ghost use Rattle.session_model.specs.Faces.{component_runs, has, is_absent, is_running, runs, runs_on};
+ghost use Rattle.session_model.specs.Faces.{at, component_runs, has, is_absent, is_running, runs, runs_on};
 ghost use Rattle.session_model.specs.Refusals.{first_of, has_events, row};
 ghost use Rattle.session_model.specs.declared.call.Call.TheVariants as call;
 ghost use Rattle.thread_core.specs.Refusing.{IsRefusedWith, first_code, rest_code, slot_faces};
@@ -16,32 +16,44 @@ use crate::thread::Core;
 use papi_base::Code;
 use thread_slots::{Change, Slot, lacks_component};
 
+/// The set under the number.
+#[inline]
+pub(crate) fn set_under(slots: &[Option<Slot>], set: u32) -> Option<&Slot>
+    ensures set { option_copied result ≡ at slots.now set }
+    ensures face { option_map (λ s. face_of_slot s.now) result ≡ at (slot_faces slots.now) set }
+{
+    match slots.get(set as usize) {
+        Some(place) => place.as_ref(),
+        None => None,
+    }
+}
+
 /// Whether there is no set under the number.
 pub(crate) fn is_absent(slots: &[Option<Slot>], set: u32) -> bool
     ensures { result ≡ is_absent (slot_faces slots.now) set }
 {
-    !matches!(slots.get(set as usize), Some(Some(_)))
+    set_under(slots, set).is_none()
 }
 
 /// Whether the set under the number runs.
 pub(crate) fn runs(slots: &[Option<Slot>], set: u32) -> bool
     ensures { result ≡ runs (slot_faces slots.now) set }
 {
-    matches!(slots.get(set as usize), Some(Some(slot)) if slot.is_running())
+    matches!(set_under(slots, set), Some(slot) if slot.is_running())
 }
 
 /// Whether the set under the number has events.
 fn has_events(slots: &[Option<Slot>], set: u32) -> bool
     ensures { result ≡ has has_events (slot_faces slots.now) set }
 {
-    matches!(slots.get(set as usize), Some(Some(slot)) if slot.set.events().len() != 0)
+    matches!(set_under(slots, set), Some(slot) if slot.set.events().len() != 0)
 }
 
 /// Whether there is a set under the number, and it has no events.
 fn lacks_events(slots: &[Option<Slot>], set: u32) -> bool
     ensures { result ≡ has (λ s. not (has_events s)) (slot_faces slots.now) set }
 {
-    matches!(slots.get(set as usize), Some(Some(slot)) if slot.set.events().len() == 0)
+    matches!(set_under(slots, set), Some(slot) if slot.set.events().len() == 0)
 }
 
 /// Whether what is in a place is a set that runs on the component.
@@ -70,7 +82,7 @@ fn some_runs(slots: &[Option<Slot>], component: Option<u32>) -> bool
 fn component_runs(slots: &[Option<Slot>], set: u32) -> bool
     ensures { result ≡ component_runs (slot_faces slots.now) set }
 {
-    matches!(slots.get(set as usize), Some(Some(slot)) if some_runs(slots, slot.set.component()))
+    matches!(set_under(slots, set), Some(slot) if some_runs(slots, slot.set.component()))
 }
 
 /// Whether some set runs.

@@ -50,7 +50,7 @@ fn empty_units(alloc: Global, shape: &Shape) -> Result<Vec<Unit>, AllocError>
 {
     let mut units = Vec::with_capacity(alloc, 16)?;
     for comp in 0..shape.comps() {
-        units.push(Unit::new(shape.comp(comp)))?;
+        units.push_reserved(Unit::new(shape.comp(comp)));
     }
     Ok(units)
 }

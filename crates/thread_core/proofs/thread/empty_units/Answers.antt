@@ -9,8 +9,9 @@ loop-comp-preserved c =
     let shape = c.args.shape.now in
     let at = c.comp.ensures.counters in
     record {
-      done = rw (c.in_ok-push.ensures.items, c.new.ensures.unit) (unit_more shape c.loop-comp.units.items _ i c.comp.result.now at inv.done);
-      len = c.in_ok-push.ensures.len ∙ ap (λ (n : ℕ). n + 1) inv.len;
+      done = rw (c.push_reserved.ensures.items, c.new.ensures.unit) (unit_more shape c.loop-comp.units.items _ i c.comp.result.now at inv.done);
+      len = c.push_reserved.ensures.len ∙ ap (λ (n : ℕ). n + 1) inv.len;
+      room = omega (arith, c.push_reserved.ensures.capacity, inv.room);
       few = one_more (λ ws. length ws ≤ 32) shape i c.comp.result.now at c.new.ensures.few inv.few;
       widths = one_more AreWidths shape i c.comp.result.now at c.new.ensures.widths inv.widths;
     }

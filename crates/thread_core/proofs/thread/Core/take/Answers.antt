@@ -1,5 +1,4 @@
-use Rattle.thread_core.proofs.Answering.{CoreView, arith, time_after, ◌≤◌, ◌≡◌, subst, sym, ap, CoreStands, counted_all, agrees_now, runner_below}
-use Rattle.thread_core.proofs.Answering.{counted_known, seen}
+use Rattle.thread_core.proofs.Answering.{CoreView, arith, time_after, ◌≤◌, ◌≡◌, subst, sym, ap, CoreStands, counted_all, agrees_now, runner_below, counted_known, seen}
 use Rattle.thread_core.proofs.Taking.{countable, counted_is, taken_agrees, taken_stands, taken_notes}
 use Rattle.thread_core.proofs.thread.Core.take.Goals as goal
 use Rattle.thread_core.proofs.thread.Core.take.Goals.{After-count_all-taken}
