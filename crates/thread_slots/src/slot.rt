@@ -84,7 +84,7 @@ pub fn empty_places(alloc: Global) -> Result<Vec<Option<Slot>>, AllocError>
 {
     let mut slots = Vec::with_capacity(alloc, 64)?;
     for _ in 0..64usize {
-        slots.push(None)?;
+        slots.push_reserved(None);
     }
     Ok(slots)
 }

@@ -1,5 +1,4 @@
-use Rattle.thread_slots.proofs.Words.{◌≡◌, ℕ, refl, ap, sym, ◌∙◌, arith, Some, slice_get, length, length-append, number_at, Native, threshold_among, Pin}
-use Rattle.thread_slots.proofs.Words.{pins_from}
+use Rattle.thread_slots.proofs.Words.{◌≡◌, ℕ, refl, ap, sym, ◌∙◌, arith, Some, slice_get, length, length-append, number_at, Native, threshold_among, Pin, pins_from}
 use Rattle.thread_slots.proofs.Searching.{both_more}
 use Rattle.thread_slots.proofs.starting.pins_on.Goals as goal
 
