@@ -5,7 +5,7 @@ use Rattle.std.proofs.lemmas.List.Folds.{list_all-append}
 use Rattle.std.specs.Prelude.{not, ◌&&◌}
 use Rattle.std.specs.List.{list_all}
 use Rattle.table_rows.specs.Texts.{is_blank}
-use Rattle.script_lines.specs.Words.{ends_here, in_first, words_of}
+use Rattle.script_lines.specs.Words.{ends_here, in_first, with_word, words_of}
 
 abbrev pub is_plain : ℕ → Bool
 is_plain b = not (is_blank b)
@@ -80,33 +80,56 @@ reads-byte s from i words lt b r = record { placed = omega (arith, r.placed); pl
 nothing-plain : (s : List ℕ) (i : ℕ) → list_all is_plain (take (i - i) (drop i s)) ≡ true
 nothing-plain s i = let z : i - i ≡ 0 = omega arith in rw z refl
 
-pub reads-blank : (s : List ℕ) (from i : ℕ) (words : List (List ℕ)) → i < length s → is_blank (get_or s i 0) ≡ true → i ≤ from → Reads s from i words → Reads s (i + 1) (i + 1) words
-reads-blank s from i words lt b le r =
-    let same : from ≡ i = omega (arith, r.placed) in
-    record { placed = omega arith; plain = nothing-plain s (i + 1); words_are = r.words_are ∙ ap (λ (t : List (List ℕ)). words ++ t) (ap (λ (k : ℕ). words_of (drop k s)) same ∙ words-blank s i lt b) }
+-- what ends at a blank is one more word, unless it is empty
+pub reads-ended : (s : List ℕ) (from i : ℕ) (words : List (List ℕ)) → i < length s → is_blank (get_or s i 0) ≡ true → Reads s from i words
+    → Reads s (i + 1) (i + 1) (with_word words (take (i - from) (drop from s)))
+reads-ended s from i words lt b r = go (take (i - from) (drop from s)) refl
+  where
+    size : length (take (i - from) (drop from s)) ≡ i - from
+    size = length-take-le (i - from) (drop from s) (omega (arith, length-drop from s))
 
-pub reads-word : (s : List ℕ) (from i : ℕ) (words : List (List ℕ)) → i < length s → is_blank (get_or s i 0) ≡ true → from < i → Reads s from i words
-    → Reads s (i + 1) (i + 1) (words ++ take (i - from) (drop from s) ∷ [])
-reads-word s from i words lt b le r = record {
-  placed = omega arith;
-  plain = nothing-plain s (i + 1);
-  words_are = r.words_are
-      ∙ ap (λ (t : List (List ℕ)). words ++ t) (word-at s from i le (omega arith) r.plain (ends-blank s i lt b) ∙ ap (λ (t : List (List ℕ)). take (i - from) (drop from s) ∷ t) (words-blank s i lt b))
-      ∙ sym (append_assoc words (take (i - from) (drop from s) ∷ []) (words_of (drop (i + 1) s)));
-}
+    go : (w : List ℕ) → take (i - from) (drop from s) ≡ w → Reads s (i + 1) (i + 1) (with_word words w)
+    go [] h =
+        let z = ap length h in
+        let same : from ≡ i = omega (arith, size, z, r.placed) in
+        record {
+          placed = omega arith;
+          plain = nothing-plain s (i + 1);
+          words_are = r.words_are ∙ ap (λ (t : List (List ℕ)). words ++ t) (ap (λ (k : ℕ). words_of (drop k s)) same ∙ words-blank s i lt b);
+        }
+    go (c ∷ w) h =
+        let z = ap length h in
+        let some : from < i = omega (arith, size, z) in
+        record {
+          placed = omega arith;
+          plain = nothing-plain s (i + 1);
+          words_are = r.words_are
+              ∙ ap (λ (t : List (List ℕ)). words ++ t) (word-at s from i some (omega arith) r.plain (ends-blank s i lt b) ∙ ap (λ (t : List (List ℕ)). take (i - from) (drop from s) ∷ t) (words-blank s i lt b) ∙ ap (λ (t : List ℕ). t ∷ words_of (drop (i + 1) s)) h)
+              ∙ sym (append_assoc words ((c ∷ w) ∷ []) (words_of (drop (i + 1) s)));
+        }
 
 no-words : words_of [] ≡ []
 unfolding words_of
 no-words = refl
 
-pub reads-last : (s : List ℕ) (from i : ℕ) (words : List (List ℕ)) → i ≡ length s → from < length s → Reads s from i words → words ++ take (length s - from) (drop from s) ∷ [] ≡ words_of s
-reads-last s from i words e lt r =
-    let p = rw e at r.plain in
-    let none : drop (length s) s ≡ [] = drop_all (length s) s (omega arith) in
-    let ends : ends_here (drop (length s) s) ≡ true = rw none refl in
-    sym (r.words_are ∙ ap (λ (t : List (List ℕ)). words ++ t) (word-at s from (length s) lt (omega arith) p ends ∙ ap (λ (t : List ℕ). take (length s - from) (drop from s) ∷ words_of t) none ∙ ap (λ (t : List (List ℕ)). take (length s - from) (drop from s) ∷ t) no-words))
+-- and what ends with the line is the last word, unless it is empty
+pub reads-end : (s : List ℕ) (from i : ℕ) (words : List (List ℕ)) → i ≡ length s → Reads s from i words → with_word words (take (length s - from) (drop from s)) ≡ words_of s
+reads-end s from i words e r = go (take (length s - from) (drop from s)) refl
+  where
+    none : drop (length s) s ≡ []
+    none = drop_all (length s) s (omega arith)
 
-pub reads-end : (s : List ℕ) (from i : ℕ) (words : List (List ℕ)) → length s ≤ from → Reads s from i words → words ≡ words_of s
-reads-end s from i words le r =
-    let none : drop from s ≡ [] = drop_all from s le in
-    sym (r.words_are ∙ ap (λ (t : List (List ℕ)). words ++ t) (ap words_of none ∙ no-words) ∙ append-nil words)
+    size : length (take (length s - from) (drop from s)) ≡ length s - from
+    size = length-take-le (length s - from) (drop from s) (omega (arith, length-drop from s))
+
+    go : (w : List ℕ) → take (length s - from) (drop from s) ≡ w → with_word words w ≡ words_of s
+    go [] h =
+        let z = ap length h in
+        let rest : drop from s ≡ [] = drop_all from s (omega (arith, size, z)) in
+        sym (r.words_are ∙ ap (λ (t : List (List ℕ)). words ++ t) (ap words_of rest ∙ no-words) ∙ append-nil words)
+    go (c ∷ w) h =
+        let z = ap length h in
+        let p = rw e at r.plain in
+        let some : from < length s = omega (arith, size, z) in
+        let ends : ends_here (drop (length s) s) ≡ true = rw none refl in
+        sym (r.words_are ∙ ap (λ (t : List (List ℕ)). words ++ t) (word-at s from (length s) some (omega arith) p ends ∙ ap (λ (t : List ℕ). take (length s - from) (drop from s) ∷ words_of t) none ∙ ap (λ (t : List (List ℕ)). take (length s - from) (drop from s) ∷ t) no-words ∙ ap (λ (t : List ℕ). t ∷ []) h))

@@ -1,5 +1,5 @@
 -- The calls of a script by their words, in the order of the table of calls: this project's own format, docs/FORMATS.md.
-use Rattle.std.specs.Prelude.{ℕ, List, [], ◌∷◌, drop, Option, Some, None, Result, Err, if◌then◌else◌}
+use Rattle.std.specs.Prelude.{◌≡◌, ℕ, List, [], ◌∷◌, drop, Option, Some, None, Result, Err, if◌then◌else◌}
 use Rattle.std.specs.Str.{bytes_eq}
 use Rattle.papi_base.specs.CallNames.{word_of}
 use Rattle.papi_base.specs.declared.call_name.CallName.{CallName}
@@ -68,6 +68,26 @@ later_rows = drop 12 call_rows
 abbrev pub form_of : Text → List CallRow → Option Form
 form_of word [] = None
 form_of word (row ∷ rows) = if bytes_eq (word_of row.name) word then Some row.form else form_of word rows
+
+-- the call that a form makes of no argument, where it takes none
+abbrev pub OfNothing : Option Form → ScriptCall → Type 0
+OfNothing (Some (Nothing made)) call = call ≡ made
+OfNothing _ call = Unit {0}
+
+-- the call that a form makes of one number, where it takes one
+abbrev pub OfNumber : Option Form → ℕ → ScriptCall → Type 0
+OfNumber (Some (Number make)) number call = call ≡ make number
+OfNumber _ number call = Unit {0}
+
+-- the call that a form makes of two numbers, where it takes two
+abbrev pub OfTwoNumbers : Option Form → ℕ → ℕ → ScriptCall → Type 0
+OfTwoNumbers (Some (TwoNumbers make)) first second call = call ≡ make first second
+OfTwoNumbers _ first second call = Unit {0}
+
+-- the call that a form makes of a set and an event, where it takes them
+abbrev pub OfSetAndEvent : Option Form → ℕ → Text → ScriptCall → Type 0
+OfSetAndEvent (Some (SetAndEvent make)) set event call = call ≡ make set event
+OfSetAndEvent _ set event call = Unit {0}
 
 -- the call of a form with its arguments
 abbrev pub call_by : Option Form → List Text → Result ScriptCall ScriptCause

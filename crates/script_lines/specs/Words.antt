@@ -1,5 +1,6 @@
 -- The words of a line of a script, this project's own format: docs/FORMATS.md.
-use Rattle.std.specs.Prelude.{ℕ, Bool, true, List, [], ◌∷◌, if◌then◌else◌}
+use Rattle.std.specs.Prelude.{ℕ, Bool, true, List, [], ◌∷◌, ◌++◌, map, if◌then◌else◌}
+use Rattle.std.specs.Borrow.{Bor}
 use Rattle.table_rows.specs.Texts.{is_blank}
 
 -- whether a word ends before these bytes
@@ -19,3 +20,12 @@ words_of (b ∷ rest) =
     if is_blank b then words_of rest
     else if ends_here rest then (b ∷ []) ∷ words_of rest
     else in_first b (words_of rest)
+
+-- a word more, unless it is empty
+abbrev pub with_word : List (List ℕ) → List ℕ → List (List ℕ)
+with_word words [] = words
+with_word words (b ∷ rest) = words ++ (b ∷ rest) ∷ []
+
+-- the bytes of each of some slices
+abbrev pub texts : List (Bor (List ℕ)) → List (List ℕ)
+texts slices = map (λ w. w.now) slices

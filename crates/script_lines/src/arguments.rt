@@ -1,12 +1,10 @@
 //! The arguments of a call.
 
-ghost use Rattle.std.specs.Prelude.{◌≡◌, ◌≤◌, ◌<◌, ◌^◌, map};
+ghost use Rattle.std.specs.Prelude.{◌≡◌, [], ◌∷◌, map};
 ghost use Rattle.script_lines.specs.Arguments as Arguments;
-ghost use Rattle.script_lines.specs.Answers.{Answers};
+ghost use Rattle.script_lines.specs.Answers.{made_of};
 
-use crate::fault::{LineFault, ScriptCause};
-use papi_base::Text;
-use std::alloc::Global;
+use crate::fault::ScriptCause;
 use table_rows::{decimal_in, hex_in, printable_text};
 
 // The number of 32 bits that a word is, in decimal without leading zeros.
@@ -82,47 +80,46 @@ pub(crate) fn one_code(arguments: &[&[u8]]) -> Result<u32, ScriptCause>
     }
 }
 
-// One event.
-pub(crate) fn one_event(alloc: Global, arguments: &[&[u8]]) -> Result<Text, LineFault>
-    ensures { Answers result (Arguments.one_event (map (λ w. w.now) arguments.now)) }
+// An event, of printable bytes alone.
+fn event_in(word: &[u8]) -> Result<&str, ScriptCause>
+    ensures { made_of (λ e. e.now) result ≡ Arguments.one_event (word.now ∷ []) }
 {
-    let [event] = arguments else {
-        return Err(LineFault::Cause(ScriptCause::BadArguments));
-    };
-    let Some(event) = printable_text(*event) else {
-        return Err(LineFault::Cause(ScriptCause::BadArguments));
-    };
-    Ok(Text::copy_of(alloc, event)?)
+    match printable_text(word) {
+        Some(event) => Ok(event),
+        None => Err(ScriptCause::BadArguments),
+    }
+}
+
+// One event.
+pub(crate) fn one_event<'a>(arguments: &[&'a [u8]]) -> Result<&'a str, ScriptCause>
+    ensures { made_of (λ e. e.now) result ≡ Arguments.one_event (map (λ w. w.now) arguments.entry.now) }
+{
+    match arguments {
+        [event] => event_in(*event),
+        _ => Err(ScriptCause::BadArguments),
+    }
 }
 
 // The number of a set, and an event.
-pub(crate) fn set_and_event(alloc: Global, arguments: &[&[u8]]) -> Result<(u32, Text), LineFault>
-    ensures { Answers result (Arguments.set_and_event (map (λ w. w.now) arguments.now)) }
+pub(crate) fn set_and_event<'a>(arguments: &[&'a [u8]]) -> Result<(u32, &'a str), ScriptCause>
+    ensures { made_of (λ p. (p.0, p.1.now)) result ≡ Arguments.set_and_event (map (λ w. w.now) arguments.entry.now) }
 {
     let [set, event] = arguments else {
-        return Err(LineFault::Cause(ScriptCause::BadArguments));
+        return Err(ScriptCause::BadArguments);
     };
-    let Some(event) = printable_text(*event) else {
-        return Err(LineFault::Cause(ScriptCause::BadArguments));
-    };
-    let set = number_in(*set)?;
-    Ok((set, Text::copy_of(alloc, event)?))
+    let event = event_in(*event)?;
+    Ok((number_in(*set)?, event))
 }
 
 // The number of a set, an event and a threshold.
-pub(crate) fn set_event_and_threshold(
-    alloc: Global,
-    arguments: &[&[u8]],
-) -> Result<(u32, Text, u64), LineFault>
-    ensures { Answers result (Arguments.set_event_and_threshold (map (λ w. w.now) arguments.now)) }
+pub(crate) fn set_event_and_threshold<'a>(
+    arguments: &[&'a [u8]],
+) -> Result<(u32, &'a str, u64), ScriptCause>
+    ensures { made_of (λ p. (p.0, p.1.now, p.2)) result ≡ Arguments.set_event_and_threshold (map (λ w. w.now) arguments.entry.now) }
 {
     let [set, event, threshold] = arguments else {
-        return Err(LineFault::Cause(ScriptCause::BadArguments));
+        return Err(ScriptCause::BadArguments);
     };
-    let Some(event) = printable_text(*event) else {
-        return Err(LineFault::Cause(ScriptCause::BadArguments));
-    };
-    let set = number_in(*set)?;
-    let threshold = threshold_in(*threshold)?;
-    Ok((set, Text::copy_of(alloc, event)?, threshold))
+    let event = event_in(*event)?;
+    Ok((number_in(*set)?, event, threshold_in(*threshold)?))
 }

@@ -2,6 +2,7 @@
 #![tactic(auto)]
 
 mod arguments;
+mod asked;
 pub mod call;
 pub mod fault;
 mod line;

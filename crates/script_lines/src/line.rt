@@ -4,18 +4,15 @@ ghost use Rattle.std.specs.Prelude.{IfOk, ◌≡◌, ◌==◌, ◌≤◌, ◌<�
 ghost use Rattle.std.specs.Str.Lines.{lines, strip_carriage_return};
 ghost use Rattle.script_lines.specs.Answers.{Answers};
 ghost use Rattle.script_lines.specs.Lines as Lines;
-ghost use Rattle.script_lines.specs.Calls as Calls;
+ghost use Rattle.script_lines.specs.Words.{words_of};
 
-use crate::arguments::{
-    nothing, one_code, one_event, one_number, set_and_event, set_event_and_threshold, two_numbers,
-};
-use crate::call::ScriptCall;
+use crate::asked::call_of;
 use crate::fault::{LineFault, ScriptCause};
 use crate::script::{MOST_CALLS, ScriptLine};
 use crate::words::split_words;
 use papi_base::THREADS;
 use std::alloc::Global;
-use table_rows::{decimal_in, printable_text};
+use table_rows::decimal_in;
 
 // A line without the carriage return at its end.
 fn without_return(line: &[u8]) -> &[u8]
@@ -65,82 +62,25 @@ pub fn thread_in(word: &[u8]) -> Result<u32, ScriptCause>
     }
 }
 
-// The call of a name from `start` on in the table of calls.
-#[tactic(auto, unfolding(crate::specs::Calls::call_rows))]
-fn later_call(alloc: Global, name: &str, arguments: &[&[u8]]) -> Result<ScriptCall, LineFault>
-    ensures { Answers result (Calls.call_by (Calls.form_of name.now Calls.later_rows) (map (λ w. w.now) arguments.now)) }
+// The call line of the words after its thread.
+fn line_of_call(
+    alloc: Global,
+    number: u64,
+    thread: u32,
+    words: &[&[u8]],
+) -> Result<ScriptLine, LineFault>
+    ensures line { Answers result (Lines.line_of_call number thread (map (λ w. w.now) words.now)) }
+    ensures same { IfOk result (λ line. line.thread ≡ thread) }
 {
-    match name {
-        "start" => Ok(one_number(arguments).map(|set| ScriptCall::Start { set })?),
-        "stop" => Ok(one_number(arguments).map(|set| ScriptCall::Stop { set })?),
-        "read" => Ok(one_number(arguments).map(|set| ScriptCall::Read { set })?),
-        "accum" => Ok(one_number(arguments).map(|set| ScriptCall::Accum { set })?),
-        "reset" => Ok(one_number(arguments).map(|set| ScriptCall::Reset { set })?),
-        "state" => Ok(one_number(arguments).map(|set| ScriptCall::State { set })?),
-        "events" => Ok(one_number(arguments).map(|set| ScriptCall::Events { set })?),
-        "assign" => Ok(one_number(arguments).map(|set| ScriptCall::Assign { set })?),
-        "raw" => Ok(two_numbers(arguments).map(|(set, counter)| ScriptCall::Raw { set, counter })?),
-        "run" => Ok(one_number(arguments).map(|count| ScriptCall::Run { count })?),
-        "code" => Ok(ScriptCall::Code {
-            event: one_event(alloc, arguments)?,
-        }),
-        "name" => Ok(one_code(arguments).map(|code| ScriptCall::Name { code })?),
-        _ => Err(LineFault::Cause(ScriptCause::UnknownCall)),
-    }
-}
-
-// The call of a name and its arguments.
-#[tactic(auto, unfolding(crate::specs::Calls::call_rows))]
-fn call_named(alloc: Global, name: &str, arguments: &[&[u8]]) -> Result<ScriptCall, LineFault>
-    ensures { Answers result (Calls.call_of name.now (map (λ w. w.now) arguments.now)) }
-{
-    match name {
-        "register" => Ok(nothing(arguments).map(|()| ScriptCall::Register)?),
-        "unregister" => Ok(nothing(arguments).map(|()| ScriptCall::Unregister)?),
-        "threads" => Ok(nothing(arguments).map(|()| ScriptCall::Threads)?),
-        "create" => Ok(nothing(arguments).map(|()| ScriptCall::Create)?),
-        "destroy" => Ok(one_number(arguments).map(|set| ScriptCall::Destroy { set })?),
-        "cleanup" => Ok(one_number(arguments).map(|set| ScriptCall::Cleanup { set })?),
-        "add" => {
-            let (set, event) = set_and_event(alloc, arguments)?;
-            Ok(ScriptCall::Add { set, event })
-        }
-        "remove" => {
-            let (set, event) = set_and_event(alloc, arguments)?;
-            Ok(ScriptCall::Remove { set, event })
-        }
-        "component" => {
-            let (set, component) = two_numbers(arguments)?;
-            Ok(ScriptCall::Component { set, component })
-        }
-        "domain" => {
-            let (set, bits) = two_numbers(arguments)?;
-            Ok(ScriptCall::Domain { set, bits })
-        }
-        "multiplex" => {
-            let (set, slice) = two_numbers(arguments)?;
-            Ok(ScriptCall::Multiplex { set, slice })
-        }
-        "overflow" => {
-            let (set, event, threshold) = set_event_and_threshold(alloc, arguments)?;
-            Ok(ScriptCall::Overflow {
-                set,
-                event,
-                threshold,
-            })
-        }
-        _ => later_call(alloc, name, arguments),
-    }
-}
-
-// The call of a word and its arguments.
-fn call_of(alloc: Global, word: &[u8], arguments: &[&[u8]]) -> Result<ScriptCall, LineFault>
-    ensures { Answers result (Calls.call_of word.now (map (λ w. w.now) arguments.now)) }
-{
-    match printable_text(word) {
-        Some(name) => call_named(alloc, name, arguments),
-        None => Err(LineFault::Cause(ScriptCause::UnknownCall)),
-    }
+    let [word, arguments @ ..] = words else {
+        return Err(LineFault::Cause(ScriptCause::UnknownCall));
+    };
+    let call = call_of(alloc, *word, arguments)?;
+    Ok(ScriptLine {
+        line: number,
+        thread,
+        call,
+    })
 }
 
 // The call line of some words.
@@ -151,16 +91,16 @@ fn line_of_words(alloc: Global, number: u64, words: &[&[u8]]) -> Result<ScriptLi
     let [thread, words @ ..] = words else {
         return Err(LineFault::Cause(ScriptCause::BadThread));
     };
-    let thread = thread_in(*thread)?;
-    let [word, arguments @ ..] = words else {
-        return Err(LineFault::Cause(ScriptCause::UnknownCall));
-    };
-    let call = call_of(alloc, *word, arguments)?;
-    Ok(ScriptLine {
-        line: number,
-        thread,
-        call,
-    })
+    line_of_call(alloc, number, thread_in(*thread)?, words)
+}
+
+// The call line of a number.
+fn line_in(alloc: Global, number: u64, line: &[u8]) -> Result<ScriptLine, LineFault>
+    ensures line { Answers result (Lines.line_of_words number (words_of line.now)) }
+    ensures thread { IfOk result (λ line. line.thread < THREADS) }
+{
+    let words = split_words(alloc, line)?;
+    line_of_words(alloc, number, words.as_slice())
 }
 
 // The call line of this number, after so many call lines.
@@ -177,6 +117,5 @@ pub(crate) fn call_line(
     if above >= MOST_CALLS {
         return Err(LineFault::Cause(ScriptCause::OverLimit));
     }
-    let words = split_words(alloc, line)?;
-    line_of_words(alloc, number, words.as_slice())
+    line_in(alloc, number, line)
 }

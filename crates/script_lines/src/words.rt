@@ -1,11 +1,21 @@
 //! The words of a line.
 
 ghost use Rattle.std.specs.Prelude.{◌≡◌, IfOk, map};
-ghost use Rattle.script_lines.specs.Words.{words_of};
+ghost use Rattle.script_lines.specs.Words.{texts, with_word, words_of};
 
 use smallvec::SmallVec;
 use std::alloc::{AllocError, Global};
 use table_rows::is_blank;
+
+// A word more, unless it is empty.
+fn push_word<'a>(words: &mut SmallVec<&'a [u8], 8>, word: &'a [u8]) -> Result<(), AllocError>
+    ensures { IfOk result (λ _. texts words.new.items ≡ with_word (texts words.old.items) word.entry.now) }
+{
+    if !word.is_empty() {
+        words.push(word)?;
+    }
+    Ok(())
+}
 
 /// The words of a line, of which the first eight take no memory.
 pub fn split_words<'a>(alloc: Global, line: &'a [u8]) -> Result<SmallVec<&'a [u8], 8>, AllocError>
@@ -15,14 +25,10 @@ pub fn split_words<'a>(alloc: Global, line: &'a [u8]) -> Result<SmallVec<&'a [u8
     let mut from = 0;
     for i in 0..line.len() {
         if is_blank(line[i]) {
-            if from < i {
-                words.push(&line[from..i])?;
-            }
+            push_word(&mut words, &line[from..i])?;
             from = i + 1;
         }
     }
-    if from < line.len() {
-        words.push(&line[from..])?;
-    }
+    push_word(&mut words, &line[from..])?;
     Ok(words)
 }
