@@ -1,5 +1,5 @@
 -- A line of the script of calls is read as its call.
-use Rattle.std.proofs.Common.{◌≡◌, ◌∙◌, ◌<◌, ◌≤◌, ◌+◌, ◌-◌, ◌^◌, ◌∷◌, ◌++◌, ℕ, zero, suc, Bool, true, false, not, List, [], Some, codes}
+use Rattle.std.proofs.Common.{◌≡◌, ◌∙◌, ◌<◌, ◌≤◌, ◌+◌, ◌^◌, ◌∷◌, ◌++◌, ℕ, zero, suc, Bool, true, false, not, List, [], Some, codes}
 use Rattle.std.proofs.Common.{decimal, length, map, refl, sym, ap, ap₂, arith, tests, append-nil, get_or, nat_le, slice_index}
 use Rattle.std.specs.Prelude.{◌&&◌, ◌||◌, ◌==◌, Ok}
 use Rattle.std.specs.List.{AllByRecursion, list_all}

@@ -1,6 +1,6 @@
 -- The calls of the script that a region script stands for, after PAPI_hl_region_begin(3); the format is this project's own,
 -- docs/FORMATS.md.
-use Rattle.std.specs.Prelude.{◌&&◌, ◌≡◌, ◌≤◌, ◌+◌, ℕ, Bool, true, not, List, [], ◌∷◌, ◌++◌, Result, Ok, if◌then◌else◌, length, map, nat_le}
+use Rattle.std.specs.Prelude.{◌&&◌, ◌≡◌, ◌≤◌, ◌+◌, ℕ, Bool, true, not, List, [], ◌∷◌, ◌++◌, Ok, if◌then◌else◌, length, map, nat_le}
 use Rattle.std.specs.List.{flat_map, list_all, range_with_len}
 use Rattle.papi_base.specs.Numerals.{is_empty}
 use Rattle.papi_base.specs.declared.limits.TheConstants.{THREADS}

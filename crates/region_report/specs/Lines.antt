@@ -80,6 +80,14 @@ abbrev pub begun_of : Option Open → Text → Result ℕ RegionCause
 begun_of None name = Err WrongRegion
 begun_of (Some opens) name = if bytes_eq opens.name name then Ok opens.begun else Err WrongRegion
 
+-- the name that begins a region of a thread that has not too many regions open
+abbrev pub begun_name : List Open → List Text → Result Text RegionCause
+begun_name opens arguments = if nat_le MOST_OPEN (length opens) then Err OverLimit else one_name arguments
+
+-- the name that the innermost open region must have, and the reading at which that began
+abbrev pub innermost_name : Option Open → List Text → Result (Text × ℕ) RegionCause
+innermost_name opens arguments = and_then (one_name arguments) (λ name. and_then (begun_of opens name) (λ begun. Ok (name, begun)))
+
 -- ---- the calls of a thread with these open regions, each with the reading at which its region begins or began
 
 -- `begin NAME`: PAPI_hl_region_begin(3), where its thread has not too many regions open

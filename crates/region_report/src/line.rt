@@ -38,6 +38,35 @@ fn begun_of(opens: Option<&OpenRegion>, name: &Text) -> Result<usize, LineFault>
     }
 }
 
+// The name that begins a region, where its thread has not too many regions open.
+fn begun_name(
+    alloc: Global,
+    opens: &OpenRegions,
+    thread: u32,
+    arguments: &[&[u8]],
+) -> Result<Text, LineFault>
+    requires { thread < THREADS }
+    ensures { Answers result (Lines.begun_name (open_of opens.now thread) (map (λ w. w.now) arguments.now)) }
+{
+    if opens.count(thread) >= MOST_OPEN {
+        return Err(LineFault::Cause(RegionCause::OverLimit));
+    }
+    one_name(alloc, arguments)
+}
+
+// The name of the innermost open region, which these arguments must be, and the reading at which it began.
+fn innermost_name(
+    alloc: Global,
+    opens: Option<&OpenRegion>,
+    arguments: &[&[u8]],
+) -> Result<(Text, usize), LineFault>
+    ensures { Answers result (Lines.innermost_name (option_map (λ o. open_text o.now) opens.entry) (map (λ w. w.now) arguments.now)) }
+{
+    let name = one_name(alloc, arguments)?;
+    let begun = begun_of(opens, &name)?;
+    Ok((name, begun))
+}
+
 // The call of a word and its arguments, and the reading at which its region begins or began.
 fn call_of(
     alloc: Global,
@@ -52,20 +81,15 @@ fn call_of(
     ensures count { IfOk result (λ called. count_of called.0 < 2 ^ 32) }
 {
     if word == b"begin".as_slice() {
-        if opens.count(thread) >= MOST_OPEN {
-            return Err(LineFault::Cause(RegionCause::OverLimit));
-        }
-        let name = one_name(alloc, arguments)?;
+        let name = begun_name(alloc, opens, thread, arguments)?;
         return Ok((RegionCall::Begin { name }, readings));
     }
     if word == b"read".as_slice() {
-        let name = one_name(alloc, arguments)?;
-        let begun = begun_of(opens.innermost(thread), &name)?;
+        let (name, begun) = innermost_name(alloc, opens.innermost(thread), arguments)?;
         return Ok((RegionCall::Read { name }, begun));
     }
     if word == b"end".as_slice() {
-        let name = one_name(alloc, arguments)?;
-        let begun = begun_of(opens.innermost(thread), &name)?;
+        let (name, begun) = innermost_name(alloc, opens.innermost(thread), arguments)?;
         return Ok((RegionCall::End { name }, begun));
     }
     if word == b"run".as_slice() {
@@ -73,6 +97,32 @@ fn call_of(
         return Ok((RegionCall::Run { count }, readings));
     }
     Err(LineFault::Cause(RegionCause::UnknownCall))
+}
+
+// The line of the words after its thread.
+fn line_of_thread(
+    alloc: Global,
+    number: u64,
+    readings: usize,
+    opens: &OpenRegions,
+    thread: u32,
+    words: &[&[u8]],
+) -> Result<RegionLine, LineFault>
+    requires { thread < THREADS }
+    ensures line { Answers result (Lines.line_of_thread number readings opens.now thread (map (λ w. w.now) words.now)) }
+    ensures same { IfOk result (λ line. line.thread ≡ thread) }
+    ensures count { IfOk result (λ line. count_of line.call < 2 ^ 32) }
+{
+    let [word, arguments @ ..] = words else {
+        return Err(LineFault::Cause(RegionCause::UnknownCall));
+    };
+    let (call, begun) = call_of(alloc, readings, opens, thread, *word, arguments)?;
+    Ok(RegionLine {
+        line: number,
+        thread,
+        call,
+        begun,
+    })
 }
 
 // The line of some words.
@@ -91,16 +141,7 @@ fn line_of_words(
         return Err(LineFault::Cause(RegionCause::BadThread));
     };
     let thread = thread_in(*thread)?;
-    let [word, arguments @ ..] = words else {
-        return Err(LineFault::Cause(RegionCause::UnknownCall));
-    };
-    let (call, begun) = call_of(alloc, readings, opens, thread, *word, arguments)?;
-    Ok(RegionLine {
-        line: number,
-        thread,
-        call,
-        begun,
-    })
+    line_of_thread(alloc, number, readings, opens, thread, words)
 }
 
 // The line of this number, after so many lines and readings, where these regions are open.

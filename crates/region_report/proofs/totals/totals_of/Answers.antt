@@ -1,3 +1,4 @@
+use Rattle.std.proofs.lemmas.Grind.{common_steps}
 use Rattle.std.proofs.Common.{◌<◌, ◌^◌, ◌∙◌, All, ap, ap₂, arith, map, subst, sym, take}
 use Rattle.std.proofs.lemmas.List.{length-map, length-take-le, take_all}
 use Rattle.region_report.specs.Spans.{span_text}
@@ -27,3 +28,6 @@ pub returns : goal.returns
 returns c =
     c.loop-span.invariant
     ∙ ap (λ spans. map (total_of c.args.events c.args.thread (map span_text spans)) (map (λ n. n.now) c.args.names.now.keys)) (take_all c.loop-span.span-index c.args.spans.now (omega arith))
+
+pub add_at-requires-clause-within : goal.add_at-requires-clause-within
+add_at-requires-clause-within c = grind (arith, common_steps)
