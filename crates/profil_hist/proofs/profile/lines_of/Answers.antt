@@ -1,4 +1,5 @@
 use Rattle.std.proofs.Common.{[], ap, arith, length}
+use Rattle.std.proofs.lemmas.Grind.{elements}
 use Rattle.profil_hist.specs.Profiles.{lines_at}
 use Rattle.profil_hist.specs.Views.{range_text}
 use Rattle.profil_hist.proofs.Profiled.{is_there, lines_more}
@@ -12,3 +13,6 @@ loop-k-preserved c =
       | in_default w ↦ absurd (is_there (λ r. range_text r.now) c.range.result _ c.loop-k.k c.range.ensures w.in_default.not-Some
           (omega (arith, c.loop-k-test.true, c.ranges-k-end.ensures.count, ap (λ xs. length xs) c.map.ensures, ap (λ xs. length xs) c.map-in-loop-k.ensures)))
     ]
+
+pub push_range-requires-clause-kept : goal.push_range-requires-clause-kept
+push_range-requires-clause-kept c = grind (arith, elements)

@@ -1,0 +1,18 @@
+use Rattle.std.proofs.Common.{arith}
+use Rattle.std.proofs.lemmas.Grind.{elements}
+use Rattle.profil_hist.proofs.placing.place_in.Goals as goal
+
+pub offset_bounds-ranges-range : goal.offset_bounds-ranges-range
+offset_bounds-ranges-range c = grind (arith, elements)
+
+pub bounds-ranges-range : goal.bounds-ranges-range
+bounds-ranges-range c = grind (arith, elements)
+
+pub bucket_of-bucket-requires-clause-wide : goal.bucket_of-bucket-requires-clause-wide
+bucket_of-bucket-requires-clause-wide c = grind (arith, elements)
+
+pub bucket_of-bucket-requires-clause-inside : goal.bucket_of-bucket-requires-clause-inside
+bucket_of-bucket-requires-clause-inside c = grind (arith, elements)
+
+pub returns-in-Some : goal.returns-in-Some
+returns-in-Some c = grind (arith, elements)
