@@ -1,7 +1,7 @@
 -- What a piece says of the source's tape.
 use Rattle.std.proofs.Common.{◌≡◌, ◌∙◌, ◌+◌, ◌-◌, ◌<◌, ◌≤◌, ◌++◌, ◌∷◌, ℕ, Bool, List, [], length, take, drop, refl, sym, ap, subst, arith, IfSome, Option, Some, None, Result, Ok, Err}
 use Rattle.std.specs.Option.{is_some, option_and_then, option_map, option_map_or}
-use Rattle.std.proofs.lemmas.List.{length-drop, length-take-le, take-append-drop}
+use Rattle.std.proofs.lemmas.List.{append-nil, length-drop, length-take-le, take-append-drop}
 use Rattle.papi_base.specs.Outside.{Gives, Tape, answer_at, tape_after}
 use Rattle.papi_base.specs.declared.outside.Failed.{Failed}
 use Rattle.papi_base.specs.declared.outside.Ending.{Ending}
@@ -9,7 +9,7 @@ use Rattle.papi_base.specs.declared.outside.Ending.TheVariants.{End, Fault}
 use Rattle.stream_reader.specs.declared.line.LineStart.{LineStart}
 use Rattle.stream_reader.specs.Reader.{ReaderView, SourceView, before_rest}
 use Rattle.stream_reader.specs.Inside.{Refills}
-use Rattle.stream_reader.proofs.Room.{held-filled, length-held}
+use Rattle.stream_reader.proofs.Room.{held-filled}
 
 -- the tape and the count that a source's view shows
 pub view-tape : {X : Type 0} (tape : X → Option Tape) (faults : X → ℕ) (o : Option X) → option_and_then (λ (s : SourceView). s.tape) (option_map (λ x. record { tape = tape x; faults = faults x }) o) ≡ option_and_then tape o
@@ -24,10 +24,6 @@ view-faults tape faults (Some x) = refl
 pub view-some : {X Y : Type 0} (view : X → Y) (o : Option X) → is_some (option_map view o) ≡ is_some o
 view-some view None = refl
 view-some view (Some x) = refl
-
--- how many bytes a reader holds
-pub size-held : (from to : ℕ) (bytes : List ℕ) (v : ReaderView) → take (to - from) (drop from bytes) ≡ v.held → from ≤ to → to ≤ length bytes → length v.held ≡ to - from
-size-held from to bytes v is order within = ap (λ (held : List ℕ). length held) (sym is) ∙ length-held from to bytes order within
 
 -- what was read, and then the rest
 pub tape-ok : (n : ℕ) (buf : List ℕ) (old new : Option Tape) → new ≡ tape_after (Ok n) old → IfSome old (λ t. Gives t (Ok n) buf) → old ≡ option_map (before_rest (take n buf)) new
@@ -45,6 +41,10 @@ no-bytes (x ∷ bs) h = absurd (h (omega arith))
 good : (e : Ending) (n : ℕ) → ◌≡◌ {A = Result ℕ Failed} (Ok n) (answer_at e) → e ≡ End
 good End n h = refl
 good Fault n h = cc
+
+-- after an empty piece the same bytes are held
+pub same-held : (old new : ReaderView) (n : ℕ) → Refills old (Ok n) new → n ≡ 0 → new.held ≡ old.held
+same-held old new n r zero = r.held ∙ ap (λ bs. old.held ++ bs) (no-bytes r.piece (λ some. omega (arith, r.size))) ∙ append-nil old.held
 
 faulty : (e : Ending) (f : Failed) → ◌≡◌ {A = Result ℕ Failed} (Err f) (answer_at e) → e ≡ Fault
 faulty End f h = cc

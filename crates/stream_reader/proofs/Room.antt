@@ -3,6 +3,7 @@ use Rattle.std.proofs.Common.{◌≡◌, ◌∙◌, ◌+◌, ◌-◌, ◌≤◌,
 use Rattle.std.proofs.Math.Seq.{take-add}
 use Rattle.std.proofs.lemmas.List.{append-nil, drop-drop, drop-take, drop_all, drop_at, length-take-le}
 use borrow.Rule.Slice.PartMut.{mid_of, put_mid}
+use Rattle.stream_reader.specs.Reader.{ReaderView}
 
 -- what was written from a on to the end
 pub drop-put_end : (a k : ℕ) (xs ys : List ℕ) → length xs ≡ a + k → drop a (put_mid a k xs ys) ≡ ys
@@ -41,6 +42,10 @@ held-take from to n bytes le = sym (take-take n (to - from) (drop from bytes) le
 
 pub length-held : (from to : ℕ) (bytes : List ℕ) → from ≤ to → to ≤ length bytes → length (take (to - from) (drop from bytes)) ≡ to - from
 length-held from to bytes order within = length-take-le (to - from) (drop from bytes) (omega (arith, length-drop from bytes))
+
+-- how many bytes a reader holds
+pub size-held : (from to : ℕ) (bytes : List ℕ) (v : ReaderView) → take (to - from) (drop from bytes) ≡ v.held → from ≤ to → to ≤ length bytes → length v.held ≡ to - from
+size-held from to bytes v is order within = ap (λ (held : List ℕ). length held) (sym is) ∙ length-held from to bytes order within
 
 -- a part that was written keeps the length of the whole
 pub length-put_end : (a k : ℕ) (xs ys : List ℕ) → length xs ≡ a + k → length ys ≡ k → length (put_mid a k xs ys) ≡ a + k

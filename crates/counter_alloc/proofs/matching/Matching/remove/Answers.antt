@@ -1,6 +1,7 @@
 -- the places that are left have moved down, and keep their counters
 use Rattle.std.proofs.Common.{◌≡◌, ℕ, ◌-◌, ◌<◌, take, arith, ap, ap₂, subst, ◌∙◌}
 use Rattle.std.specs.Prelude.{remove}
+use Rattle.std.proofs.lemmas.Grind.{elements}
 use Rattle.counter_alloc.specs.Matchings.{MatchingView}
 use Rattle.counter_alloc.proofs.Removal.{Closing, closing_all, kept_places}
 use Rattle.counter_alloc.proofs.matching.Matching.remove.Goals as goal
@@ -18,3 +19,6 @@ returns c =
     rw same (closing_all _ _ _ _ within (omega arith) (subst P last c.loop-i.invariant.places))
     ∙ ap (λ kept. remove kept.allowed c.args.place) c.self.view_is in
     ap₂ (λ n xs. let k : MatchingView = record { counters = n; allowed = xs } in k) counters places
+
+pub invariant_of-self : goal.invariant_of-self
+invariant_of-self c = grind (arith, elements)

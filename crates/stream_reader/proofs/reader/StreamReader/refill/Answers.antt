@@ -3,8 +3,8 @@ use Rattle.std.specs.Option.{is_some, option_map_or}
 use Rattle.papi_base.specs.Outside.{Gives, tape_after}
 use Rattle.stream_reader.specs.Reader.{ReaderView, faults_of}
 use Rattle.stream_reader.specs.Inside.{left_of}
-use Rattle.stream_reader.proofs.Room.{length-held}
-use Rattle.stream_reader.proofs.Refilling.{IsFilled, size-held, view-faults, view-some, view-tape, refills-ok, refills-err}
+use Rattle.stream_reader.proofs.Room.{length-held, size-held}
+use Rattle.stream_reader.proofs.Refilling.{IsFilled, view-faults, view-some, view-tape, refills-ok, refills-err}
 use Rattle.stream_reader.proofs.reader.StreamReader.refill.Goals as goal
 
 pub move_rest-requires-clause-short : goal.move_rest-requires-clause-short

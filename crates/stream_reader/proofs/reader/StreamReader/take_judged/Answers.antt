@@ -5,9 +5,33 @@ use Rattle.stream_reader.specs.Lines.{Line}
 use Rattle.stream_reader.specs.Judged.{judged}
 use Rattle.stream_reader.specs.Reader.{Gave, ReaderView}
 use Rattle.stream_reader.specs.Inside.{left_of, line_at, line_taken}
-use Rattle.stream_reader.proofs.Room.{length-held}
+use Rattle.stream_reader.proofs.Room.{length-held, size-held}
 use Rattle.stream_reader.proofs.Taking.{after-counts, after-kept, flag-is, taken-nearer, view-taken, IsKept}
 use Rattle.stream_reader.proofs.reader.StreamReader.take_judged.Goals as goal
+
+pub returns-then-is_bad-clause-within : goal.returns-then-is_bad-clause-within
+returns-then-is_bad-clause-within g c =
+    let i = c.self.inside in
+    let held = length-held i.from i.to i.bytes c.self.invariant.in_order (omega (arith, c.self.told)) in
+    record { few = omega (arith, c.self.invariant.starts.counted, c.self.invariant.passed); room = omega (arith, held, c.self.invariant.within) }
+
+pub pass-requires-clause-size : goal.pass-requires-clause-size
+pass-requires-clause-size g c =
+    let i = c.self.inside in
+    let held = size-held i.from i.to i.bytes c.args.self.now (ap (λ (v : ReaderView). v.held) c.self.view_is) c.self.invariant.in_order (omega (arith, c.self.told)) in
+    omega (arith, held, c.requires.within, c.self.invariant.within)
+
+pub overflow_add-self : goal.overflow_add-self
+overflow_add-self g c =
+    let i = c.self.inside in
+    let held = size-held i.from i.to i.bytes c.args.self.now (ap (λ (v : ReaderView). v.held) c.self.view_is) c.self.invariant.in_order (omega (arith, c.self.told)) in
+    omega (arith, held, c.from.ensures, flag-is c.args.ended, c.requires.within, c.self.invariant.within)
+
+pub overflow_add-self-2 : goal.overflow_add-self-2
+overflow_add-self-2 g c =
+    let i = c.self.inside in
+    let held = size-held i.from i.to i.bytes c.args.self.now (ap (λ (v : ReaderView). v.held) c.self.view_is) c.self.invariant.in_order (omega (arith, c.self.told)) in
+    omega (arith, held, c.from.ensures, flag-is c.args.ended, c.requires.within, c.self.invariant.within)
 
 pub invariant_of-self-2 : goal.invariant_of-self-2
 invariant_of-self-2 g c =
