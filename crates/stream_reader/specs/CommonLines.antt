@@ -23,6 +23,13 @@ is_inner b = not ((b == 32) || ((b == 10) || (b == 13)))
 pub record IsInner (t : List ℕ) : Type 0 where
   pub each : list_all is_inner t ≡ true
 
+-- a space ends each of the four fields before the amount
+pub record HasHeadSpaces (t : List ℕ) : Type 0 where
+  pub first : slice_index t 1 ≡ 32
+  pub second : slice_index t 4 ≡ 32
+  pub third : slice_index t 7 ≡ 32
+  pub fourth : slice_index t 9 ≡ 32
+
 -- the bytes before the amount, where the component has one digit
 pub record IsHead (t : List ℕ) (head : Head) : Type 0 where
   pub digit : is_digit (slice_index t 0) ≡ true

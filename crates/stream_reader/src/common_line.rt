@@ -1,7 +1,7 @@
 //! Lines of the common form, read at fixed places: an occurrence of version 1 on a component of one digit, and a newline with no
 //! carriage return before it. Every other line, good or bad, is left to `line`.
-ghost use Rattle.std.specs.Prelude.{◌≡◌, ◌≤◌, length, IfSome};
-ghost use Rattle.stream_reader.specs.CommonLines.{IsHead, IsAmount, BeginsWith};
+ghost use Rattle.std.specs.Prelude.{◌≡◌, ◌≤◌, ◌+◌, ◌*◌, true, length, IfSome};
+ghost use Rattle.stream_reader.specs.CommonLines.{HasHeadSpaces, IsHead, IsAmount, BeginsWith};
 
 use crate::byte_tables::{digit_or_255, mode_or_255};
 use crate::digit_vector::hexadecimal_at;
@@ -30,6 +30,25 @@ const HEAD: usize = 10;
 // The bytes of the longest line of the common form: the head, an amount of 3, a space, a program counter of 16 and the newline.
 const LONGEST_COMMON_LINE: usize = HEAD + 3 + 1 + 16 + 1;
 
+// Whether a space ends each of the four fields before the amount, where the component has one digit.
+#[inline(always)]
+fn has_head_spaces(text: &[u8]) -> bool
+    requires { LONGEST_COMMON_LINE ≤ length text.now }
+    ensures { result ≡ true → HasHeadSpaces text.now }
+{
+    text[1] == b' ' && text[4] == b' ' && text[7] == b' ' && text[9] == b' '
+}
+
+// The byte that has these two hexadecimal digits.
+#[inline(always)]
+fn byte_of(high: u8, low: u8) -> u8
+    requires high { high ≤ 15 }
+    requires low { low ≤ 15 }
+    ensures { result ≡ high * 16 + low }
+{
+    high * 16 + low
+}
+
 // The fields before the amount, where the component has one digit.
 #[inline(always)]
 fn read_head(text: &[u8]) -> Option<Head>
@@ -42,7 +61,7 @@ fn read_head(text: &[u8]) -> Option<Head>
     let umask_high = digit_or_255(text[5]);
     let umask_low = digit_or_255(text[6]);
     let mode = mode_or_255(text[8]);
-    if text[1] != b' ' || text[4] != b' ' || text[7] != b' ' || text[9] != b' ' {
+    if !has_head_spaces(text) {
         return None;
     }
     if comp > 9 || (select_high | select_low | umask_high | umask_low | mode) > 15 {
@@ -50,8 +69,8 @@ fn read_head(text: &[u8]) -> Option<Head>
     }
     Some(Head {
         comp,
-        select: select_high * 16 + select_low,
-        umask: umask_high * 16 + umask_low,
+        select: byte_of(select_high, select_low),
+        umask: byte_of(umask_high, umask_low),
         kernel: mode == 1,
     })
 }

@@ -3,25 +3,25 @@ use Rattle.stream_reader.specs.ByteTables.{digit_or_255, mode_or_255}
 use Rattle.stream_reader.proofs.LineHeads.{digit-below, one-decimal, two-hex, one-inner, two-inner, is-mode, are-small}
 use Rattle.stream_reader.proofs.common_line.read_head.Goals as goal
 
-pub overflow_mul-result : goal.overflow_mul-result
-overflow_mul-result c =
+pub byte_of-requires-clause-high : goal.byte_of-requires-clause-high
+byte_of-requires-clause-high c =
     let s = are-small c.digit_or_255-select_high.result c.digit_or_255-select_low.result c.digit_or_255-umask_high.result c.digit_or_255-umask_low.result c.mode_or_255-mode.result c.if-select_high-select_low-gt15.false in
-    omega (arith, s.first)
+    s.first
 
-pub overflow_add-result : goal.overflow_add-result
-overflow_add-result c =
+pub byte_of-requires-clause-low : goal.byte_of-requires-clause-low
+byte_of-requires-clause-low c =
     let s = are-small c.digit_or_255-select_high.result c.digit_or_255-select_low.result c.digit_or_255-umask_high.result c.digit_or_255-umask_low.result c.mode_or_255-mode.result c.if-select_high-select_low-gt15.false in
-    omega (arith, s.first, s.second)
+    s.second
 
-pub overflow_mul-result-2 : goal.overflow_mul-result-2
-overflow_mul-result-2 c =
+pub byte_of-requires-2-clause-high : goal.byte_of-requires-2-clause-high
+byte_of-requires-2-clause-high c =
     let s = are-small c.digit_or_255-select_high.result c.digit_or_255-select_low.result c.digit_or_255-umask_high.result c.digit_or_255-umask_low.result c.mode_or_255-mode.result c.if-select_high-select_low-gt15.false in
-    omega (arith, s.third)
+    s.third
 
-pub overflow_add-result-2 : goal.overflow_add-result-2
-overflow_add-result-2 c =
+pub byte_of-requires-2-clause-low : goal.byte_of-requires-2-clause-low
+byte_of-requires-2-clause-low c =
     let s = are-small c.digit_or_255-select_high.result c.digit_or_255-select_low.result c.digit_or_255-umask_high.result c.digit_or_255-umask_low.result c.mode_or_255-mode.result c.if-select_high-select_low-gt15.false in
-    omega (arith, s.third, s.fourth)
+    s.fourth
 
 pub returns : goal.returns
 returns c =
@@ -39,6 +39,7 @@ returns c =
     let l5 : digit_or_255 (get_or t 5 0) ≤ 15 = omega (arith, e5, s.third) in
     let l6 : digit_or_255 (get_or t 6 0) ≤ 15 = omega (arith, e6, s.fourth) in
     let l8 : mode_or_255 (get_or t 8 0) ≤ 15 = omega (arith, e8, s.fifth) in
+    let spaces = c.has_head_spaces.ensures c.if-not-has_head_spaces.false in
     let m = is-mode (get_or t 8 0) l8 in
     record {
       digit = digit-below (get_or t 0 0) l0;
@@ -50,8 +51,8 @@ returns c =
       select_inner = two-inner (get_or t 2 0) (get_or t 3 0) l2 l3;
       umask_inner = two-inner (get_or t 5 0) (get_or t 6 0) l5 l6;
       kernel_inner = m.inner;
-      first_space = c.if-text-ne32.false;
-      second_space = c.if-text-ne32-2.false;
-      third_space = c.if-text-ne32-3.false;
-      fourth_space = c.if-text-ne32-4.false;
+      first_space = spaces.first;
+      second_space = spaces.second;
+      third_space = spaces.third;
+      fourth_space = spaces.fourth;
     }

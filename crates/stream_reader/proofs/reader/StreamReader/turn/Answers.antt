@@ -43,3 +43,51 @@ returns-then-held_len-gt-LONGEST_LINE-clause-takes g c =
 
 pub returns-clause-at_hand : goal.returns-clause-at_hand
 returns-clause-at_hand g c has = absurd (no-answer c.args.self.now c.requires c.in_default-line_len.ensures has)
+
+pub returns-in-Some-clause-counts : goal.returns-in-Some-clause-counts
+returns-in-Some-clause-counts g c = c.take_judged.ensures.counts
+
+pub returns-in-Some-clause-within : goal.returns-in-Some-clause-within
+returns-in-Some-clause-within g c = c.take_judged.ensures.within
+
+pub returns-in-Some-clause-nearer : goal.returns-in-Some-clause-nearer
+returns-in-Some-clause-nearer g c = c.take_judged.ensures.nearer
+
+pub returns-in-Some-line_len-clause-counts : goal.returns-in-Some-line_len-clause-counts
+returns-in-Some-line_len-clause-counts g c = c.take_line.ensures.counts
+
+pub returns-in-Some-line_len-clause-within : goal.returns-in-Some-line_len-clause-within
+returns-in-Some-line_len-clause-within g c = c.take_line.ensures.within
+
+pub returns-in-Some-line_len-clause-nearer : goal.returns-in-Some-line_len-clause-nearer
+returns-in-Some-line_len-clause-nearer g c = c.take_line.ensures.nearer
+
+pub returns-clause-takes : goal.returns-clause-takes
+returns-clause-takes g c = c.take_piece.ensures.takes
+
+pub returns-clause-passes : goal.returns-clause-passes
+returns-clause-passes g c = c.take_piece.ensures.passes
+
+pub returns-clause-counts : goal.returns-clause-counts
+returns-clause-counts g c = c.take_piece.ensures.counts
+
+pub returns-clause-over : goal.returns-clause-over
+returns-clause-over g c = c.take_piece.ensures.over
+
+pub returns-clause-asked : goal.returns-clause-asked
+returns-clause-asked g c = c.take_piece.ensures.asked
+
+pub returns-clause-kept : goal.returns-clause-kept
+returns-clause-kept g c = c.take_piece.ensures.kept
+
+pub returns-clause-within : goal.returns-clause-within
+returns-clause-within g c = c.take_piece.ensures.within
+
+pub returns-clause-faults : goal.returns-clause-faults
+returns-clause-faults g c = c.take_piece.ensures.faults
+
+pub returns-clause-failed : goal.returns-clause-failed
+returns-clause-failed g c = c.take_piece.ensures.failed
+
+pub returns-clause-nearer : goal.returns-clause-nearer
+returns-clause-nearer g c = c.take_piece.ensures.nearer
