@@ -4,6 +4,7 @@ use Rattle.std.specs.Char.{digit_value}
 use Rattle.papi_base.specs.Numerals.{decimal_in, hex_in, is_digit, is_hex_digit}
 use Rattle.stream_reader.specs.Judged.{given, mode_of}
 use Rattle.papi_base.specs.declared.occurrence.Occ.{Occ}
+use Rattle.stream_reader.specs.declared.occurrence.Event.{Event}
 use Rattle.stream_reader.specs.declared.occurrence.Tail.{Tail}
 
 -- the field that begins a text
@@ -52,6 +53,14 @@ tail_on stamped count t =
     given (hex_in 1 16 (first_field u)) (λ pc.
     given (stamp_after stamped count (after_field u)) (λ stamp.
     Some (record { amount = amount; pc = pc; stamp = stamp })))))
+
+-- the fields of an occurrence after its event
+unfoldable pub event_occurrence_on : Bool → ℕ → Event → List ℕ → Option Occ
+event_occurrence_on stamped count event w =
+    given (mode_of (first_field w)) (λ kernel.
+    given (after_field w) (λ x.
+    given (tail_on stamped count x) (λ tail.
+    Some (record { comp = event.comp; select = event.select; umask = event.umask; kernel = kernel; amount = tail.amount; pc = tail.pc; stamp = tail.stamp }))))
 
 -- the fields of an occurrence
 unfoldable pub occurrence_on : Bool → ℕ → List ℕ → Option Occ

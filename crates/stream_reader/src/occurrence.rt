@@ -1,7 +1,7 @@
 //! The occurrence that a line writes, field by field.
 ghost use Rattle.std.specs.Prelude.{◌≡◌};
 ghost use Rattle.std.specs.Option.{option_map};
-ghost use Rattle.stream_reader.specs.Fields.{occurrence_on, stamp_after, tail_on};
+ghost use Rattle.stream_reader.specs.Fields.{event_occurrence_on, occurrence_on, stamp_after, tail_on};
 
 use crate::field::{after_field, decimal, hexadecimal, mode};
 use crate::line::LineStart;
@@ -13,6 +13,14 @@ pub(crate) struct Tail {
     pub amount: u8,
     pub pc: u64,
     pub stamp: u64,
+}
+
+/// The native event of an occurrence.
+#[derive(Clone, Copy)]
+pub(crate) struct Event {
+    pub comp: u8,
+    pub select: u8,
+    pub umask: u8,
 }
 
 // The stamp, where this is what comes after the program counter's space, if there is one.
@@ -51,8 +59,28 @@ fn read_tail(start: &LineStart, text: &[u8]) -> Option<Tail>
     })
 }
 
-///! The occurrence that a line writes, or `None` where its fields are not as many as they should be, or one is out of its form.
-#[tactic(auto, unfolding(crate::specs::Fields::occurrence_on))]
+// The occurrence of an event, where this is the text after it.
+#[tactic(auto, unfolding(crate::specs::Fields::event_occurrence_on))]
+#[inline(always)]
+fn event_occurrence(start: &LineStart, event: Event, text: &[u8]) -> Option<Occ>
+    ensures { result ≡ event_occurrence_on start.now.stamped start.now.given event text.now }
+{
+    let kernel = mode(text)?;
+    let rest = after_field(text, 1)?;
+    let tail = read_tail(start, rest)?;
+    Some(Occ {
+        comp: event.comp,
+        select: event.select,
+        umask: event.umask,
+        kernel,
+        amount: tail.amount,
+        pc: tail.pc,
+        stamp: tail.stamp,
+    })
+}
+
+/// The occurrence that a line writes, or `None` where its fields are not as many as they should be, or one is out of its form.
+#[tactic(auto, unfolding(crate::specs::Fields::occurrence_on, crate::specs::Fields::event_occurrence_on))]
 #[inline(always)]
 pub(crate) fn occurrence(start: &LineStart, line: &[u8]) -> Option<Occ>
     ensures { result ≡ occurrence_on start.now.stamped start.now.given line.now }
@@ -63,16 +91,10 @@ pub(crate) fn occurrence(start: &LineStart, line: &[u8]) -> Option<Occ>
     let rest = after_field(rest, select.size)?;
     let umask = hexadecimal(rest, 2, 2)?;
     let rest = after_field(rest, umask.size)?;
-    let kernel = mode(rest)?;
-    let rest = after_field(rest, 1)?;
-    let tail = read_tail(start, rest)?;
-    Some(Occ {
+    let event = Event {
         comp: comp.value as u8,
         select: select.value as u8,
         umask: umask.value as u8,
-        kernel,
-        amount: tail.amount,
-        pc: tail.pc,
-        stamp: tail.stamp,
-    })
+    };
+    event_occurrence(start, event, rest)
 }
