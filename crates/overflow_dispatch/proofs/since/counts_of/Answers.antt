@@ -1,5 +1,5 @@
-use Rattle.std.proofs.Common.{rules, arith}
-use Rattle.std.proofs.lemmas.Grind.{common_steps, elements, moves}
+use Rattle.std.proofs.Common.{arith}
+use Rattle.std.proofs.lemmas.Grind.{common_steps}
 use Rattle.overflow_dispatch.proofs.since.counts_of.Goals as goal
 
 pub loop-handler-preserved : goal.loop-handler-preserved

@@ -1,5 +1,5 @@
-use Rattle.std.proofs.lemmas.Grind.{common_steps, elements, moves}
-use Rattle.std.proofs.Common.{List, ℕ, slice_get, ap, sym, ◌∙◌, arith, rules}
+use Rattle.std.proofs.lemmas.Grind.{elements}
+use Rattle.std.proofs.Common.{List, ℕ, slice_get, ap, sym, ◌∙◌, arith}
 use Rattle.std.proofs.lemmas.Nat.Bits.{shr_and_one}
 use Rattle.overflow_dispatch.proofs.Places.{found, not_found, passed_none, passed_one}
 use Rattle.overflow_dispatch.proofs.passed.Passed.get.Goals as goal

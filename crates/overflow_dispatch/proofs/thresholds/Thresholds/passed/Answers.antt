@@ -1,5 +1,5 @@
-use Rattle.std.proofs.Common.{rules, arith}
-use Rattle.std.proofs.lemmas.Grind.{common_steps, elements, moves}
+use Rattle.std.proofs.Common.{arith}
+use Rattle.std.proofs.lemmas.Grind.{common_steps, elements}
 use Rattle.overflow_dispatch.proofs.thresholds.Thresholds.passed.Goals as goal
 
 pub overflow_shr-carry : goal.overflow_shr-carry

@@ -1,4 +1,4 @@
-use Rattle.std.proofs.Common.{◌≡◌, ◌∙◌, ◌<◌, ◌≤◌, ◌+◌, ◌-◌, Ok, Err, ℕ, List, take, drop, length, sym, ap, subst, arith, IfSome}
+use Rattle.std.proofs.Common.{◌≡◌, ◌∙◌, ◌<◌, ◌+◌, ◌-◌, Ok, Err, ℕ, take, drop, length, sym, ap, subst, arith, IfSome}
 use Rattle.std.specs.Option.{is_some, option_map_or}
 use Rattle.papi_base.specs.Outside.{Gives, tape_after}
 use Rattle.stream_reader.specs.Reader.{ReaderView, faults_of}
