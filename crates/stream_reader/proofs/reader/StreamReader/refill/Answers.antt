@@ -14,7 +14,7 @@ move_rest-requires-clause-short g c =
     omega arith
 
 pub overflow_sub-self-2 : goal.overflow_sub-self-2
-overflow_sub-self-2 g c = 
+overflow_sub-self-2 g c =
     let i = c.self.inside in
     let size = size-held i.from i.to i.bytes c.args.self.now (ap (λ (v : ReaderView). v.held) c.self.view_is) c.self.invariant.in_order (omega (arith, c.self.told)) in
     omega arith
