@@ -14,6 +14,7 @@ mod Digits
 mod Pieces
 mod SoFar
 mod Components
+mod Operators
 pub mod InfixParts
 pub mod InfixEnds
 pub mod InfixStates

@@ -36,16 +36,15 @@ pub(crate) fn native_of(digits: &[u8]) -> Result<Token, FormulaCause>
 pub(crate) fn operator_of(piece: &[u8]) -> Option<Operator>
     ensures { result ≡ Tokens.operator_of piece.now }
 {
-    if piece == b"+".as_slice() {
-        Some(Operator::Plus)
-    } else if piece == b"-".as_slice() {
-        Some(Operator::Minus)
-    } else if piece == b"*".as_slice() {
-        Some(Operator::Times)
-    } else if piece == b"/".as_slice() {
-        Some(Operator::Over)
-    } else {
-        None
+    if piece.len() != 1 {
+        return None;
+    }
+    match piece[0] {
+        b'+' => Some(Operator::Plus),
+        b'-' => Some(Operator::Minus),
+        b'*' => Some(Operator::Times),
+        b'/' => Some(Operator::Over),
+        _ => None,
     }
 }
 
