@@ -9,7 +9,8 @@ use Rattle.papi_base.specs.declared.native.EventRef.TheVariants as event
 use Rattle.papi_base.specs.declared.native.Native.{Native}
 use Rattle.postfix_rules.specs.Sameness.{among, joined_by}
 use Rattle.postfix_rules.specs.NativeCodes.{native_named}
-use Rattle.session_model.specs.World.{mentions_of_call}
+use Rattle.session_model.specs.World.{mentions_of, mentions_of_call}
+use Rattle.session_model.specs.declared.line.Asked.TheVariants.{CodeOf}
 use Rattle.session_model.specs.declared.call.Call.TheVariants as call
 use Rattle.papi_calls.specs.Codes.{IsKnown}
 use Rattle.postfix_rules.proofs.Joined.{is_among}
@@ -33,6 +34,12 @@ pub known_armed : (mentioned : List Native) (set : ℕ) (e : Result EventRef Cod
 known_armed mentioned set (Ok (event.Native n)) threshold is = joined mentioned n is
 known_armed mentioned set (Ok (event.Preset row)) threshold is = refl
 known_armed mentioned set (Err code) threshold is = refl
+
+-- what is mentioned where a threshold is set is what its event's name mentions
+pub armed_mentions : (set : ℕ) (e : Result EventRef Code) (threshold : ℕ) → mentions_of_call (call.Overflow set e threshold) ≡ mentions_of (CodeOf e)
+armed_mentions set (Ok (event.Native n)) threshold = refl
+armed_mentions set (Ok (event.Preset row)) threshold = refl
+armed_mentions set (Err code) threshold = refl
 
 -- a native event of a code is in the list
 named_at : (b : Bool) (mentioned : List Native) (k : ℕ) (n : Native) → (if b then slice_get mentioned k else None) ≡ Some n → slice_get mentioned k ≡ Some n

@@ -102,7 +102,6 @@ impl Library {
     }
 
     /// Adds the event of a code to a set, and zeroes its counts: PAPI_add_event(3). The refusals are those of the session.
-    #[tactic(auto, using(crate::proofs::Known::known_added))]
     pub fn add_coded(&mut self, set: u32, code: u32) -> Result<(), Refusal>
         ensures made { Made self.old self.new (call.Add set (coded self.old.catalog self.old.mentioned code)) (changed_reply result) }
     {
@@ -111,7 +110,6 @@ impl Library {
     }
 
     /// Takes the event of a code from a set, and zeroes its counts: PAPI_remove_event(3). The refusals are those of the session.
-    #[tactic(auto, using(crate::proofs::Known::known_removed))]
     pub fn remove_coded(&mut self, set: u32, code: u32) -> Code
         ensures made { Made self.old self.new (call.Remove set (coded self.old.catalog self.old.mentioned code)) (plain result) }
     {
@@ -121,7 +119,6 @@ impl Library {
 
     /// Sets the threshold of the event of a code, where 0 clears it, and zeroes the set's counts: PAPI_overflow(3). The refusals are
     /// those of the session.
-    #[tactic(auto, using(crate::proofs::Known::known_armed))]
     pub fn overflow_coded(&mut self, set: u32, code: u32, threshold: u64) -> Code
         ensures made { Made self.old self.new (call.Overflow set (coded self.old.catalog self.old.mentioned code) threshold) (plain result) }
     {

@@ -1,0 +1,72 @@
+-- A call on the session under the catalog's book is one on the library.
+use Rattle.std.proofs.Common.{◌≡◌, ◌∙◌, List, ap, refl, subst, sym}
+use Rattle.std.specs.Prelude.{Result}
+use Rattle.component_table.specs.Catalogs.{CatalogView}
+use Rattle.papi_base.specs.declared.code.Code.{Code}
+use Rattle.papi_base.specs.declared.native.EventRef.{EventRef}
+use Rattle.papi_base.specs.declared.native.Native.{Native}
+use Rattle.papi_calls.specs.Calls.{Made}
+use Rattle.papi_calls.specs.Libraries.{IsWhole, LibraryView}
+use Rattle.postfix_rules.specs.Fitting.{IsNamed}
+use Rattle.postfix_rules.specs.Presets.{Book}
+use Rattle.postfix_rules.specs.Sameness.{joined_by}
+use Rattle.session_model.specs.World.{mentions_of_call}
+use Rattle.session_model.specs.declared.call.Call.{Call}
+use Rattle.session_model.specs.declared.reply.Reply.{Reply}
+use Rattle.thread_core.specs.Stands.{AgreesWith}
+use Rattle.thread_session.specs.Follows.{Does}
+use Rattle.thread_session.specs.SessionView.{SessionView}
+use Rattle.thread_session.specs.Stands.{IsReady}
+
+module _ (catalog : CatalogView) (mentioned : List Native) (book : Book) where
+  -- the session is ready for it
+  pub may_call : (session : SessionView) → book ≡ catalog.book → IsWhole catalog mentioned session → IsReady book session
+  may_call session is whole = subst (λ (b : Book). IsReady b session) (sym is) whole.ready
+
+  module _ (old new : SessionView) (call : Call) (given : Reply) (is : book ≡ catalog.book) (does : Does book old new call given) where
+    -- and stays so
+    pub still_whole : IsWhole catalog mentioned old → IsWhole catalog mentioned new
+    still_whole whole = record {
+      ready = record { agrees = subst (λ (b : Book). AgreesWith b new.core) is does.kept.agrees };
+      shape = does.kept.shape ∙ whole.shape;
+      fit = whole.fit;
+    }
+
+    -- where it mentions nothing new
+    pub made : (before : LibraryView) → record { catalog = catalog; mentioned = mentioned; session = old } ≡ before → joined_by mentioned (mentions_of_call call) ≡ mentioned
+        → Made before (record { catalog = catalog; mentioned = mentioned; session = new }) call given
+    made before view known =
+        subst (λ (l : LibraryView). Made l (record { catalog = catalog; mentioned = mentioned; session = new }) call given) view
+        (record { does = subst (λ (b : Book). Does b old new call given) is does; catalog = refl; mentioned = sym known })
+
+  -- one that changes nothing
+  pub made_still : (session : SessionView) (call : Call) (given : Reply) → book ≡ catalog.book → Does book session session call given → (before : LibraryView)
+      → record { catalog = catalog; mentioned = mentioned; session = session } ≡ before → joined_by mentioned (mentions_of_call call) ≡ mentioned → Made before before call given
+  made_still session call given is does before view known =
+      subst (λ (l : LibraryView). Made l l call given) view
+      (record { does = subst (λ (b : Book). Does b session session call given) is does; catalog = refl; mentioned = sym known })
+
+  -- ---- with an event
+
+  -- it was looked up in the catalog
+  pub may_take : (session : SessionView) (first before : LibraryView) (named : Result EventRef Code) → book ≡ catalog.book → record { catalog = catalog; mentioned = mentioned; session = session } ≡ before
+      → before.catalog ≡ first.catalog → before.session ≡ first.session → IsNamed first.catalog.book first.session.core.shape named → IsNamed book session.core.shape named
+  may_take session first before named is view same_catalog same_session good =
+      subst (λ (b : Book). IsNamed b session.core.shape named) (sym (is ∙ ap (λ (l : LibraryView). l.catalog.book) view ∙ ap (λ (c : CatalogView). c.book) same_catalog))
+      (subst (λ (s : SessionView). IsNamed first.catalog.book s.core.shape named) (sym (ap (λ (l : LibraryView). l.session) view ∙ same_session)) good)
+
+  -- the library may have mentioned it just before
+  pub named_made : (old new : SessionView) (given : Reply) (first before : LibraryView) (call : Result EventRef Code → Call) (named looked_up : Result EventRef Code) → book ≡ catalog.book
+      → Does book old new (call named) given → record { catalog = catalog; mentioned = mentioned; session = old } ≡ before → before.catalog ≡ first.catalog → before.session ≡ first.session
+      → before.mentioned ≡ joined_by first.mentioned (mentions_of_call (call named)) → named ≡ looked_up
+      → Made first (record { catalog = catalog; mentioned = mentioned; session = new }) (call looked_up) given
+  named_made old new given first before call named looked_up is does view same_catalog same_session more found =
+      let own_catalog : catalog ≡ first.catalog = ap (λ (l : LibraryView). l.catalog) view ∙ same_catalog in
+      let own_session : old ≡ first.session = ap (λ (l : LibraryView). l.session) view ∙ same_session in
+      subst (λ (e : Result EventRef Code). Made first (record { catalog = catalog; mentioned = mentioned; session = new }) (call e) given) found record {
+        does =
+            subst (λ (b : Book). Does b first.session new (call named) given) (is ∙ ap (λ (c : CatalogView). c.book) own_catalog)
+            (subst (λ (s : SessionView). Does book s new (call named) given) own_session does);
+        catalog = own_catalog;
+        mentioned = ap (λ (l : LibraryView). l.mentioned) view ∙ more;
+      }

@@ -1,0 +1,21 @@
+use Rattle.std.proofs.Common.{refl, sym}
+use Rattle.session_model.specs.declared.call.Call.TheVariants as call
+use Rattle.papi_calls.proofs.Calling.{may_call, may_take, named_made, still_whole}
+use Rattle.papi_calls.proofs.Known.{known_added}
+use Rattle.papi_calls.proofs.library.Library.add_coded.Goals as goal
+
+pub add-requires-clause-ready : goal.add-requires-clause-ready
+add-requires-clause-ready c = may_call _ _ _ _ c.book.ensures.book c.self.invariant
+
+pub add-requires-clause-named : goal.add-requires-clause-named
+add-requires-clause-named c = may_take _ _ _ _ c.args.self.now _ _ c.book.ensures.book c.self.view_is refl refl c.coded-e.ensures.good
+
+pub invariant_of-self : goal.invariant_of-self
+invariant_of-self c = still_whole _ _ _ _ _ _ _ c.book.ensures.book c.add.ensures c.self.invariant
+
+pub returns : goal.returns
+returns c = record {
+  made =
+      named_made _ _ _ _ _ _ _ _ (λ e. call.Add c.args.set e) _ _ c.book.ensures.book c.add.ensures c.self.view_is refl refl
+      (sym (known_added _ c.args.set c.coded-e.result c.coded-e.ensures.known)) c.coded-e.ensures.coded;
+}
