@@ -1,22 +1,38 @@
 -- What a set takes whose natives are on the counters of a component.
-use Rattle.std.proofs.Common.{◌≡◌, ◌∙◌, ◌<◌, ◌++◌, ◌∷◌, ◌&&◌, ℕ, zero, suc, Bool, true, false, List, [], None, Result, Ok, Err, length, refl, sym, ap, arith}
+use Rattle.std.proofs.Common.{◌≡◌, ◌∙◌, ◌<◌, ◌^◌, ◌++◌, ◌∷◌, ◌&&◌, ℕ, zero, suc, Bool, true, false, List, [], Option, Some, None, Result, Ok, Err, length, slice_get, refl, sym, ap, subst, arith}
 use Rattle.std.specs.Prelude.{◌↔◌, All, IsTrue, OnErr, is_none, is_ok, nat_le, slice_index}
 use Rattle.std.specs.Option.{option_map}
 use Rattle.std.proofs.lemmas.Bool.Decides.{nat_tests}
+use Rattle.std.proofs.lemmas.Option.{get_or_from_slice_get, slice_get_within}
 use Rattle.counter_alloc.specs.Assignments.{Assignable}
 use Rattle.counter_alloc.specs.Listing.{is_assignable}
 use Rattle.counter_alloc.specs.Masks.{AreMasks, masks_of}
 use Rattle.counter_alloc.proofs.Fitting.{is_assignable_false, is_assignable_true}
 use Rattle.event_sets.specs.Adding.{add_refusal}
 use Rattle.event_sets.specs.Assigning.{blamed_unless, clash_of}
-use Rattle.event_sets.specs.AtRest.{Widths, clash_with}
-use Rattle.event_sets.specs.Sets.{SetView}
+use Rattle.event_sets.specs.AtRest.{Widths, clash_with, is_other, widths_at}
+use Rattle.event_sets.specs.Sets.{IsSound, SetView}
 use Rattle.event_sets.specs.declared.refusal.Refusal.TheVariants.{Conflict}
 use Rattle.event_sets.proofs.Adding.{Ready, can_take, clash_is, full_of_natives, not_full, refused_full}
 use Rattle.papi_base.specs.declared.native.EventRef.{EventRef}
 use Rattle.papi_base.specs.declared.native.Native.{Native}
 use Rattle.postfix_rules.specs.Presets.{Book, natives_of_event}
 use Rattle.postfix_rules.specs.Sameness.{joined_by}
+
+-- ---- the counters of a component
+
+own_is : (own : Option ℕ) (comp k : ℕ) → own ≡ Some k → is_other own (Some comp) ≡ false → own ≡ Some comp
+own_is None comp k has mine = cc
+own_is (Some fixed) comp k has mine = let same : fixed ≡ comp = grind (arith, nat_tests, mine) in ap Some same
+
+-- a native of a set that has no other component is allowed counters of this one
+pub in_range_of : (shape : Widths) (s : SetView) (counters comp i : ℕ) (n : Native) → IsSound s → s.counters ≡ length (widths_at shape s.rest.component)
+    → is_other s.rest.component (Some comp) ≡ false → counters ≡ length (widths_at shape (Some comp)) → slice_get s.natives i ≡ Some n → n.allowed < 2 ^ counters
+in_range_of shape s counters comp i n sound own_counters mine counters_is at =
+    let inside = slice_get_within s.natives i n at in
+    let own = own_is s.rest.component comp _ (sound.owned i n inside) mine in
+    let same : s.counters ≡ counters = own_counters ∙ ap (λ (o : Option ℕ). length (widths_at shape o)) own ∙ sym counters_is in
+    subst (λ (k : ℕ). n.allowed < 2 ^ k) same (subst (λ (m : Native). m.allowed < 2 ^ s.counters) (get_or_from_slice_get s.natives i n n at) (sound.in_range i n inside))
 
 -- ---- counters for further natives
 

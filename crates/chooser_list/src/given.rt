@@ -1,13 +1,14 @@
 //! The set of given events.
 
-ghost use Rattle.std.specs.Prelude.{◌≡◌, IfErr, IfOk, Ok, OnOk};
+ghost use Rattle.std.specs.Prelude.{◌≡◌, ℕ, IfErr, IfOk, List, Ok, OnOk};
 ghost use Rattle.chooser_list.specs.Choosing as Choosing;
 ghost use Rattle.chooser_list.specs.Open.{IsOver};
 ghost use Rattle.component_table.specs.Catalogs.{shape_of};
+ghost use Rattle.postfix_rules.specs.Fitting.{IsNamed};
 
 use component_table::Catalog;
 use event_sets::{EventSet, Refusal};
-use papi_base::{Shape, Text};
+use papi_base::{Code, EventRef, Shape, Text};
 
 /// A text that was refused, and how.
 #[derive(Drop)]
@@ -16,20 +17,21 @@ pub struct Refused<'a> {
     pub refusal: Refusal,
 }
 
-// Adds the event that a text names to a set.
-fn add_named(
+// Adds the event of a text that was looked up to a set.
+fn add(
     catalog: &Catalog,
     shape: &Shape,
     set: &mut EventSet,
-    text: &str,
+    named: Result<EventRef, Code>,
 ) -> Result<(), Refusal>
     requires shape { shape.now ≡ shape_of catalog.now.tables }
     requires over { IsOver catalog.now set.old }
-    ensures added { OnOk result (Choosing.with_text catalog.now (Ok set.old.rest) text.now ≡ Ok set.new.rest) }
+    requires good { IsNamed catalog.now.book (shape_of catalog.now.tables) named }
+    ensures added { (text : List ℕ) → OnOk result (Choosing.with_named catalog.now text set.old.rest named ≡ Ok set.new.rest) }
     ensures over { OnOk result (IsOver catalog.now set.new) }
-    ensures refused { IfErr result (λ r. Choosing.with_text catalog.now (Ok set.old.rest) text.now ≡ Choosing.refused_by text.now r) }
+    ensures refused { (text : List ℕ) → IfErr result (λ r. Choosing.with_named catalog.now text set.old.rest named ≡ Choosing.refused_by text r) }
 {
-    match catalog.lookup(text) {
+    match named {
         Ok(event) => set.add(catalog.book(), shape, &event),
         Err(code) => Err(Refusal::Plain(code)),
     }
@@ -45,7 +47,7 @@ pub fn given_set<'a>(catalog: &Catalog, texts: &'a [Text]) -> Result<EventSet, R
     let mut set = EventSet::new();
     for text in texts {
         let text = text.as_str();
-        if let Err(refusal) = add_named(catalog, &shape, &mut set, text) {
+        if let Err(refusal) = add(catalog, &shape, &mut set, catalog.lookup(text)) {
             return Err(Refused { text, refusal });
         }
     }

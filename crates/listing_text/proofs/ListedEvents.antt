@@ -55,8 +55,8 @@ none_listed pmu included excluded umasks events i x start line count lt at other
 -- ---- the components of a unit
 
 -- what a loop over the components keeps
-pub record AreAllListed (included excluded : Option Text) (umasks : Bool) (tables : List ComponentText) (i : ℕ) (text : Text) (total : ℕ) : Type 0 where
-  pub text_is : text ≡ flat_map (component_lines included excluded umasks) (take i tables)
+pub record AreAllListed (included excluded : Option Text) (umasks : Bool) (tables : List ComponentText) (i : ℕ) (start text : Text) (total : ℕ) : Type 0 where
+  pub text_is : text ≡ start ++ flat_map (component_lines included excluded umasks) (take i tables)
   pub counted_all : total ≡ listed_count included excluded (take i tables)
   pub few : total ≤ 1024 * i
 
@@ -66,15 +66,15 @@ few_listed included excluded tables i c h at =
     let p : EventText → Bool = λ event. is_chosen included excluded (full_name (component_text c).pmu event) in
     omega (arith, few_events tables i c h at, length-filter p (component_text c).events, count_by-le-length p (component_text c).events)
 
-pub one_component : (included excluded : Option Text) (umasks : Bool) (tables : List ComponentText) (i : ℕ) (c : Component) (line after : Text) (total count : ℕ) → IsTables tables
+pub one_component : (included excluded : Option Text) (umasks : Bool) (tables : List ComponentText) (i : ℕ) (c : Component) (start line after : Text) (total count : ℕ) → IsTables tables
     → Some (component_text c) ≡ slice_get tables i → count ≡ length (listed_events included excluded (component_text c)) → after ≡ line ++ component_lines included excluded umasks (component_text c)
-    → AreAllListed included excluded umasks tables i line total → AreAllListed included excluded umasks tables (i + 1) after (total + count)
-one_component included excluded umasks tables i c line after total count kept_tables at is more h =
+    → AreAllListed included excluded umasks tables i start line total → AreAllListed included excluded umasks tables (i + 1) start after (total + count)
+one_component included excluded umasks tables i c start line after total count kept_tables at is more h =
     let x = component_text c in
     let taken : take (i + 1) tables ≡ take i tables ++ x ∷ [] =
     take_more tables i x (slice_get_within tables i x (sym at)) ∙ ap (λ y. take i tables ++ y ∷ []) (get_or_from_slice_get tables i x x (sym at)) in
     record {
-      text_is = pushed (component_lines included excluded umasks) (take i tables) (take (i + 1) tables) x [] line after taken h.text_is more;
+      text_is = pushed (component_lines included excluded umasks) (take i tables) (take (i + 1) tables) x start line after taken h.text_is more;
       counted_all = omega (arith, h.counted_all, is, counted (λ component. length (listed_events included excluded component)) (take i tables) (take (i + 1) tables) x taken);
       few = omega (arith, h.few, is, few_listed included excluded tables i c kept_tables at);
     }

@@ -3,7 +3,9 @@
 ghost use Rattle.std.specs.Prelude.{◌≡◌, ◌<◌, ◌≤◌, ◌==◌, ◌++◌, IfOk, OnOk, is_ok, length, map, string_bytes};
 ghost use Rattle.std.specs.Int.{bit_at};
 ghost use Rattle.event_tables.specs.Views.{counter_text};
+ghost use Rattle.name_encoder.specs.Canonical as Canonical;
 ghost use Rattle.name_encoder.specs.Names.{names};
+ghost use Rattle.listing_text.specs.Lines as Lines;
 ghost use Rattle.listing_text.specs.NativeEvents as NativeEvents;
 
 use crate::lines::push_name_and_code;
@@ -47,13 +49,21 @@ fn push_counters_line(text: &mut String, tables: &Tables, native: &Native) -> Re
     text.push_str("\n")
 }
 
+// Appends the lines of a native event's name and code.
+fn push_native(text: &mut String, tables: &Tables, native: &Native) -> Result<(), AllocError>
+    ensures { OnOk result (string_bytes text.new
+        ≡ string_bytes text.old ++ (Lines.name_line (Canonical.canonical tables.now native.now) ++ Lines.code_line (Canonical.code64 native.now))) }
+{
+    let name = write_name(*text.allocator(), tables, native)?;
+    push_name_and_code(text, name.as_str(), code64(native))
+}
+
 // The text of a native event.
 fn encoding_text(alloc: Global, tables: &Tables, native: &Native) -> Result<String, AllocError>
     ensures { IfOk result (λ text. string_bytes text ≡ NativeEvents.native_lines tables.now native.now) }
 {
     let mut text = String::new(alloc);
-    let name = write_name(alloc, tables, native)?;
-    push_name_and_code(&mut text, name.as_str(), code64(native))?;
+    push_native(&mut text, tables, native)?;
     push_counters_line(&mut text, tables, native)?;
     Ok(text)
 }

@@ -1,6 +1,7 @@
 //! The list of a unit's native events.
 
 ghost use Rattle.std.specs.Prelude.{◌≡◌, ◌≤◌, ◌++◌, ◌∷◌, IfOk, OnOk, length, map, string_bytes};
+ghost use Rattle.std.specs.List.{flat_map};
 ghost use Rattle.std.specs.Option.{option_copied};
 ghost use Rattle.event_tables.specs.Views.{component_text, event_text, mask_text};
 ghost use Rattle.listing_text.specs.NativeLists as NativeLists;
@@ -16,15 +17,24 @@ fn contains(name: &str, part: &str) -> bool
     name.contains(part)
 }
 
-// Whether the name contains the one text, where it is given, and does not contain the other, where that is given.
-fn is_chosen(name: &str, included: Option<&str>, excluded: Option<&str>) -> bool
-    ensures { result ≡ NativeLists.is_chosen (option_copied included.entry) (option_copied excluded.entry) name.now }
+// Which events are listed: those whose name contains the one text, where it is given, and does not contain the other, where that
+// is given; and whether their umasks are.
+#[derive(Drop)]
+struct Selection<'a> {
+    included: Option<&'a str>,
+    excluded: Option<&'a str>,
+    umasks: bool,
+}
+
+// Whether an event of this name is listed.
+fn is_chosen(name: &str, selection: &Selection) -> bool
+    ensures { result ≡ NativeLists.is_chosen (option_copied selection.now.included) (option_copied selection.now.excluded) name.now }
 {
-    let is_included = match included {
+    let is_included = match selection.included {
         Some(part) => contains(name, part),
         None => true,
     };
-    let is_excluded = match excluded {
+    let is_excluded = match selection.excluded {
         Some(part) => contains(name, part),
         None => false,
     };
@@ -72,20 +82,18 @@ fn push_event(
 fn push_events(
     text: &mut String,
     component: &Component,
-    included: Option<&str>,
-    excluded: Option<&str>,
-    umasks: bool,
+    selection: &Selection,
 ) -> Result<usize, AllocError>
     ensures text { OnOk result (string_bytes text.new ≡ string_bytes text.old
-        ++ NativeLists.listed_lines (option_copied included.entry) (option_copied excluded.entry) umasks (component_text component.now)) }
+        ++ NativeLists.listed_lines (option_copied selection.now.included) (option_copied selection.now.excluded) selection.now.umasks (component_text component.now)) }
     ensures count { IfOk result (λ count.
-        count ≡ length (NativeLists.listed_events (option_copied included.entry) (option_copied excluded.entry) (component_text component.now))) }
+        count ≡ length (NativeLists.listed_events (option_copied selection.now.included) (option_copied selection.now.excluded) (component_text component.now))) }
 {
     let mut listed = 0;
     for event in component.events.as_slice() {
         let name = format!(in *text.allocator(); "{}::{}", component.pmu, event.name)?;
-        if is_chosen(name.as_str(), included, excluded) {
-            push_event(text, name.as_str(), event, umasks)?;
+        if is_chosen(name.as_str(), selection) {
+            push_event(text, name.as_str(), event, selection.umasks)?;
             listed += 1;
         }
     }
@@ -96,19 +104,37 @@ fn push_events(
 fn push_component(
     text: &mut String,
     component: &Component,
-    included: Option<&str>,
-    excluded: Option<&str>,
-    umasks: bool,
+    selection: &Selection,
 ) -> Result<usize, AllocError>
     ensures text { OnOk result (string_bytes text.new ≡ string_bytes text.old
-        ++ NativeLists.component_lines (option_copied included.entry) (option_copied excluded.entry) umasks (component_text component.now)) }
+        ++ NativeLists.component_lines (option_copied selection.now.included) (option_copied selection.now.excluded) selection.now.umasks (component_text component.now)) }
     ensures count { IfOk result (λ count.
-        count ≡ length (NativeLists.listed_events (option_copied included.entry) (option_copied excluded.entry) (component_text component.now))) }
+        count ≡ length (NativeLists.listed_events (option_copied selection.now.included) (option_copied selection.now.excluded) (component_text component.now))) }
 {
     let counters = component.counters.len();
     let Component { name, pmu, .. } = component;
     writeln!(text, "Component {name}: pmu {pmu}, {counters} counters")?;
-    push_events(text, component, included, excluded, umasks)
+    push_events(text, component, selection)
+}
+
+// Appends the components with their events that are listed, and gives the number of these.
+fn push_components(
+    text: &mut String,
+    tables: &Tables,
+    selection: &Selection,
+) -> Result<usize, AllocError>
+    ensures text { OnOk result (string_bytes text.new ≡ string_bytes text.old
+        ++ flat_map (NativeLists.component_lines (option_copied selection.now.included) (option_copied selection.now.excluded) selection.now.umasks) tables.now) }
+    ensures count { IfOk result (λ count.
+        count ≡ NativeLists.listed_count (option_copied selection.now.included) (option_copied selection.now.excluded) tables.now) }
+{
+    let mut total = 0;
+    for place in 0..tables.components() {
+        if let Some(component) = tables.component(place) {
+            total += push_component(text, component, selection)?;
+        }
+    }
+    Ok(total)
 }
 
 /// The list of the native events of a unit, as papi_native_avail(1) prints it: each component with its events and, where they
@@ -127,13 +153,13 @@ pub fn native_list(
     ensures text { IfOk result (λ text.
         string_bytes text ≡ NativeLists.native_list tables.now (option_copied included.entry) (option_copied excluded.entry) umasks) }
 {
+    let selection = Selection {
+        included,
+        excluded,
+        umasks,
+    };
     let mut text = String::new(alloc);
-    let mut total = 0;
-    for place in 0..tables.components() {
-        if let Some(component) = tables.component(place) {
-            total += push_component(&mut text, component, included, excluded, umasks)?;
-        }
-    }
+    let total = push_components(&mut text, tables, &selection)?;
     writeln!(text, "Total events: {total}")?;
     Ok(text)
 }

@@ -3,6 +3,7 @@
 ghost use Rattle.std.specs.Prelude.{◌≡◌, ◌<◌, ◌++◌, IfOk, OnOk, is_some, string_bytes};
 ghost use Rattle.std.specs.Option.{option_copied};
 ghost use Rattle.component_table.specs.Catalogs.{row_count, row_named};
+ghost use Rattle.postfix_rules.specs.Presets.{entry};
 ghost use Rattle.listing_text.specs.PresetEvents as PresetEvents;
 
 use crate::lines::push_name_and_code;
@@ -62,6 +63,17 @@ fn push_derived(text: &mut String, tables: &Tables, derived: &Derived) -> Result
     Ok(())
 }
 
+// Appends whether the event in a row of the catalog is available, and what it derives where it is.
+fn push_availability(text: &mut String, catalog: &Catalog, row: u32) -> Result<(), AllocError>
+    ensures { OnOk result (string_bytes text.new
+        ≡ string_bytes text.old ++ PresetEvents.availability_lines catalog.now.tables (entry catalog.now.book row)) }
+{
+    match catalog.book().get(row) {
+        Some(derived) => push_derived(text, catalog.tables(), derived),
+        None => text.push_str("Available: No\n"),
+    }
+}
+
 // The text of the event in a row of the catalog.
 fn row_text(alloc: Global, catalog: &Catalog, row: u32) -> Result<String, AllocError>
     requires { row < row_count catalog.now }
@@ -70,10 +82,7 @@ fn row_text(alloc: Global, catalog: &Catalog, row: u32) -> Result<String, AllocE
     let mut text = String::new(alloc);
     let code = catalog.code(row);
     push_name_and_code(&mut text, catalog.name(row), u64::from(code))?;
-    match catalog.book().get(row) {
-        Some(derived) => push_derived(&mut text, catalog.tables(), derived)?,
-        None => text.push_str("Available: No\n")?,
-    }
+    push_availability(&mut text, catalog, row)?;
     Ok(text)
 }
 

@@ -26,7 +26,7 @@ pub extern "C" fn kistalub_name_to_code(
         return ENOINIT;
     };
     let answer = library.code_of(name);
-    *h = Handle::of(library);
+    h.put(library);
     match answer {
         Ok(Ok(event)) => {
             *code = event;
@@ -79,7 +79,7 @@ pub extern "C" fn kistalub_list_events(
         return ENOINIT;
     };
     let number = list_set(&library, set, out, count);
-    *h = Handle::of(library);
+    h.put(library);
     number
 }
 
@@ -98,7 +98,7 @@ pub extern "C" fn kistalub_code_in_row(
         return ENOINIT;
     };
     let answer = library.code_in_row(row);
-    *h = Handle::of(library);
+    h.put(library);
     match answer {
         Some(event) => {
             *code = event;
@@ -123,7 +123,7 @@ pub extern "C" fn kistalub_counters(alloc: Global, h: &mut Handle, comp: u32) ->
         return ENOINIT;
     };
     let counters = counters_of(&library, comp);
-    *h = Handle::of(library);
+    h.put(library);
     match counters {
         Some(counters) => i32::try_from(counters).unwrap_or(i32::MAX),
         None => code_number(Code::Enocmp),

@@ -64,18 +64,19 @@ impl Handle {
         })
     }
 
-    pub(crate) fn of(library: Box<Library>) -> Handle
-        ensures { result.library ≡ Some library.value }
-    {
-        Handle::of_parts(Parts::of(library))
-    }
-
     // Takes the library out of a handle.
     pub(crate) fn take(&mut self, alloc: Global) -> Option<Box<Library>>
         ensures taken { option_map (λ b. b.value) result ≡ self.old.library }
         ensures left { self.new.library ≡ None }
     {
         std::mem::replace(self, Handle::shut(alloc)).into_box()
+    }
+
+    // Puts a library into a handle; one that was open in it is closed.
+    pub(crate) fn put(&mut self, library: Box<Library>)
+        ensures { self.new.library ≡ Some library.value }
+    {
+        *self = Handle::of_parts(Parts::of(library));
     }
 
     pub(crate) fn into_box(self) -> Option<Box<Library>>

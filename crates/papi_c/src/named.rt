@@ -19,7 +19,7 @@ pub extern "C" fn kistalub_add_named(alloc: Global, h: &mut Handle, set: u32, na
         return ENOINIT;
     };
     let answer = library.add_named(set, name);
-    *h = Handle::of(library);
+    h.put(library);
     match answer {
         Ok(Ok(())) => 0,
         Ok(Err(refusal)) => code_number(refusal_code(refusal)),
@@ -39,7 +39,7 @@ pub extern "C" fn kistalub_remove_named(alloc: Global, h: &mut Handle, set: u32,
         return ENOINIT;
     };
     let answer = library.remove_named(set, name);
-    *h = Handle::of(library);
+    h.put(library);
     match answer {
         Ok(code) => code_number(code),
         Err(_) => ENOMEM,
@@ -65,7 +65,7 @@ pub extern "C" fn kistalub_overflow_named(
         return ENOINIT;
     };
     let answer = library.overflow_named(set, name, threshold);
-    *h = Handle::of(library);
+    h.put(library);
     match answer {
         Ok(code) => code_number(code),
         Err(_) => ENOMEM,

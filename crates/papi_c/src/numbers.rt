@@ -16,7 +16,7 @@ pub extern "C" fn kistalub_register(alloc: Global, h: &mut Handle) -> i32
         return ENOINIT;
     };
     let code = library.register();
-    *h = Handle::of(library);
+    h.put(library);
     code_number(code)
 }
 
@@ -29,7 +29,7 @@ pub extern "C" fn kistalub_unregister(alloc: Global, h: &mut Handle) -> i32
         return ENOINIT;
     };
     let code = library.unregister();
-    *h = Handle::of(library);
+    h.put(library);
     code_number(code)
 }
 
@@ -42,7 +42,7 @@ pub extern "C" fn kistalub_destroy(alloc: Global, h: &mut Handle, set: u32) -> i
         return ENOINIT;
     };
     let code = library.destroy(set);
-    *h = Handle::of(library);
+    h.put(library);
     code_number(code)
 }
 
@@ -55,7 +55,7 @@ pub extern "C" fn kistalub_cleanup(alloc: Global, h: &mut Handle, set: u32) -> i
         return ENOINIT;
     };
     let code = library.cleanup(set);
-    *h = Handle::of(library);
+    h.put(library);
     code_number(code)
 }
 
@@ -73,7 +73,7 @@ pub extern "C" fn kistalub_assign_component(
         return ENOINIT;
     };
     let code = library.assign_component(set, comp);
-    *h = Handle::of(library);
+    h.put(library);
     code_number(code)
 }
 
@@ -86,7 +86,7 @@ pub extern "C" fn kistalub_set_domain(alloc: Global, h: &mut Handle, set: u32, b
         return ENOINIT;
     };
     let code = library.set_domain(set, bits);
-    *h = Handle::of(library);
+    h.put(library);
     code_number(code)
 }
 
@@ -99,7 +99,7 @@ pub extern "C" fn kistalub_set_multiplex(alloc: Global, h: &mut Handle, set: u32
         return ENOINIT;
     };
     let code = library.set_multiplex(set, slice);
-    *h = Handle::of(library);
+    h.put(library);
     code_number(code)
 }
 
@@ -112,7 +112,7 @@ pub extern "C" fn kistalub_start(alloc: Global, h: &mut Handle, set: u32) -> i32
         return ENOINIT;
     };
     let code = library.start(set);
-    *h = Handle::of(library);
+    h.put(library);
     code_number(code)
 }
 
@@ -125,7 +125,7 @@ pub extern "C" fn kistalub_reset(alloc: Global, h: &mut Handle, set: u32) -> i32
         return ENOINIT;
     };
     let code = library.reset(set);
-    *h = Handle::of(library);
+    h.put(library);
     code_number(code)
 }
 
@@ -138,7 +138,7 @@ pub extern "C" fn kistalub_create(alloc: Global, h: &mut Handle, set: &mut u32) 
         return ENOINIT;
     };
     let answer = library.create();
-    *h = Handle::of(library);
+    h.put(library);
     match answer {
         Ok(number) => {
             *set = number;
@@ -157,7 +157,7 @@ pub extern "C" fn kistalub_state(alloc: Global, h: &mut Handle, set: u32, bits: 
         return ENOINIT;
     };
     let answer = library.state(set);
-    *h = Handle::of(library);
+    h.put(library);
     match answer {
         Ok(now) => {
             *bits = now;
@@ -176,7 +176,7 @@ pub extern "C" fn kistalub_add(alloc: Global, h: &mut Handle, set: u32, event: u
         return ENOINIT;
     };
     let answer = library.add_coded(set, event);
-    *h = Handle::of(library);
+    h.put(library);
     match answer {
         Ok(()) => 0,
         Err(refusal) => code_number(refusal_code(refusal)),
@@ -192,7 +192,7 @@ pub extern "C" fn kistalub_remove(alloc: Global, h: &mut Handle, set: u32, event
         return ENOINIT;
     };
     let code = library.remove_coded(set, event);
-    *h = Handle::of(library);
+    h.put(library);
     code_number(code)
 }
 
@@ -211,6 +211,6 @@ pub extern "C" fn kistalub_overflow(
         return ENOINIT;
     };
     let code = library.overflow_coded(set, event, threshold);
-    *h = Handle::of(library);
+    h.put(library);
     code_number(code)
 }

@@ -28,7 +28,7 @@ pub extern "C" fn kistalub_open(
     match open(alloc, unit, presets, cpu, thread, stream) {
         Ok(library) => match Box::new(alloc, library) {
             Ok(library) => {
-                *h = Handle::of(library);
+                h.put(library);
                 0
             }
             Err(_) => ENOMEM,

@@ -104,6 +104,6 @@ pub extern "C" fn kistalub_run(
         return ENOINIT;
     };
     let number = run(alloc, &mut library, n, consumed, out, told);
-    *h = Handle::of(library);
+    h.put(library);
     number
 }

@@ -54,7 +54,7 @@ pub extern "C" fn kistalub_code_to_name(
         return ENOINIT;
     };
     let answer = library.name_of(alloc, code);
-    *h = Handle::of(library);
+    h.put(library);
     give(answer, out, length)
 }
 
@@ -106,7 +106,7 @@ pub extern "C" fn kistalub_info(
         return ENOINIT;
     };
     let answer = info_text(alloc, &library, code, part_of(number, place));
-    *h = Handle::of(library);
+    h.put(library);
     give(answer, out, length)
 }
 
@@ -143,6 +143,6 @@ pub extern "C" fn kistalub_native_name(
         return ENOINIT;
     };
     let answer = native_text(alloc, &library, comp, row);
-    *h = Handle::of(library);
+    h.put(library);
     give(answer, out, length)
 }

@@ -45,7 +45,7 @@ pub extern "C" fn kistalub_read(
         return ENOINIT;
     };
     let number = read(&library, set, out, count);
-    *h = Handle::of(library);
+    h.put(library);
     number
 }
 
@@ -65,7 +65,7 @@ pub extern "C" fn kistalub_stop(
     };
     let mut values = Values::new();
     let code = library.stop(set, &mut values);
-    *h = Handle::of(library);
+    h.put(library);
     give(&values, out, count);
     code_number(code)
 }
@@ -86,7 +86,7 @@ pub extern "C" fn kistalub_accum(
     };
     let mut values = Values::new();
     let code = library.accum(set, &mut values);
-    *h = Handle::of(library);
+    h.put(library);
     give(&values, out, count);
     code_number(code)
 }

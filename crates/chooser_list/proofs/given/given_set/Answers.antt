@@ -1,9 +1,13 @@
 use Rattle.std.proofs.Common.{◌≡◌, ◌∙◌, ◌∷◌, ◌<◌, ◌≤◌, ◌+◌, ℕ, length, List, [], Some, Ok, Err, refl, ap, sym, drop, get_or}
 use Rattle.std.proofs.lemmas.List.{drop_all, drop_more}
 use Rattle.std.proofs.lemmas.Option.{get_or_from_slice_get, slice_get-get_or}
-use Rattle.component_table.specs.Catalogs.{CatalogView}
+use Rattle.std.specs.Prelude.{Result}
+use Rattle.component_table.specs.Catalogs.{CatalogView, looked_up}
+use Rattle.event_sets.specs.AtRest.{AtRest}
+use Rattle.papi_base.specs.declared.code.Code.{Code}
+use Rattle.papi_base.specs.declared.native.EventRef.{EventRef}
 use Rattle.reply_text.specs.Replies.{Text}
-use Rattle.chooser_list.specs.Choosing.{Given, RefusedText, with_text, with_texts}
+use Rattle.chooser_list.specs.Choosing.{Given, RefusedText, with_named, with_text, with_texts}
 use Rattle.chooser_list.proofs.given.given_set.Goals as goal
 
 after_refused : (catalog : CatalogView) (r : RefusedText) (texts : List Text) → with_texts catalog (Err r) texts ≡ Err r
@@ -24,6 +28,10 @@ no_more : (catalog : CatalogView) (given : Given) (texts : List Text) (i : ℕ) 
 unfolding with_texts
 no_more catalog given texts i all = ap (with_texts catalog given) (drop_all i texts all)
 
+looked_up_is : (catalog : CatalogView) (s : AtRest) (text : Text) (named : Result EventRef Code) (given : Given) → named ≡ looked_up catalog text
+    → with_named catalog text s named ≡ given → with_text catalog (Ok s) text ≡ given
+looked_up_is catalog s text named given is more = ap (with_named catalog text s) (sym is) ∙ more
+
 pub returns-in-Err-clause-refused : goal.returns-in-Err-clause-refused
 returns-in-Err-clause-refused c =
     let catalog = c.args.catalog.now in
@@ -32,7 +40,7 @@ returns-in-Err-clause-refused c =
     sym c.loop-text.invariant.so_far
     ∙ one_more catalog (Ok c.loop-text.set.rest) texts c.loop-text.text-index text c.loop-text-test.true
     (here texts c.loop-text.text-index c.text-item.result text c.loop-text-test.true c.text-item.is c.as_str-text.ensures)
-    ∙ ap (λ (g : Given). with_texts catalog g (drop (c.loop-text.text-index + 1) texts)) c.in-Err.ensures.refused
+    ∙ ap (λ (g : Given). with_texts catalog g (drop (c.loop-text.text-index + 1) texts)) (looked_up_is catalog c.loop-text.set.rest text _ _ c.lookup.ensures.event (c.in-Err.ensures.refused text))
     ∙ after_refused catalog _ (drop (c.loop-text.text-index + 1) texts)
 
 pub loop-text-preserved : goal.loop-text-preserved
@@ -42,7 +50,7 @@ loop-text-preserved c =
     let text = c.as_str-text.result.now in
     record {
       so_far =
-          ap (λ (g : Given). with_texts catalog g (drop (c.loop-text.text-index + 1) texts)) (sym c.in_default.ensures.added)
+          ap (λ (g : Given). with_texts catalog g (drop (c.loop-text.text-index + 1) texts)) (sym (looked_up_is catalog c.loop-text.set.rest text _ _ c.lookup.ensures.event (c.in_default.ensures.added text)))
           ∙ sym (one_more catalog (Ok c.loop-text.set.rest) texts c.loop-text.text-index text c.loop-text-test.true
           (here texts c.loop-text.text-index c.text-item.result text c.loop-text-test.true c.text-item.is c.as_str-text.ensures))
           ∙ c.loop-text.invariant.so_far;

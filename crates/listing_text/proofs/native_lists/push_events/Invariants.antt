@@ -5,5 +5,5 @@ use Rattle.listing_text.proofs.native_lists.push_events.Given as goal
 
 abbrev pub invariant-loop-event : goal.invariant-loop-event
 invariant-loop-event l =
-    AreListed (string_bytes l.component.pmu) (option_copied l.included) (option_copied l.excluded) l.umasks l.component.events.items l.event-index
+    AreListed (string_bytes l.component.pmu) (option_copied l.selection.included) (option_copied l.selection.excluded) l.selection.umasks l.component.events.items l.event-index
     (string_bytes l.fn.text) (string_bytes l.text) l.listed

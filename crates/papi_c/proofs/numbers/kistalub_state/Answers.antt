@@ -18,5 +18,5 @@ returns-in-Err c =
       step = subst (λ (l : LibraryView). Made l l made (plain c.in-Err.code)) c.deref.ensures c.in-Err.ensures.made;
       code = same ∙ c.code_number.ensures.number;
     } in
-    let to_new = subst (λ (b : Option LibraryView). Called (Some v) b (λ l. made) n) (sym c.of.ensures) at_v in
-    subst (λ (a : Option LibraryView). Called a c.of.result.library (λ l. made) n) c.in-Some.ensures.taken to_new
+    let to_new = subst (λ (b : Option LibraryView). Called (Some v) b (λ l. made) n) (sym c.put.ensures) at_v in
+    subst (λ (a : Option LibraryView). Called a c.put.new.self.library (λ l. made) n) c.in-Some.ensures.taken to_new

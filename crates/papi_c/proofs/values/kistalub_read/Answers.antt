@@ -15,5 +15,5 @@ returns c =
     let out = c.read-number.new.out in
     let at_v : Gave v v made c.read-number.result count out = subst (λ (l : LibraryView). Gave l l made c.read-number.result count out) c.deref.ensures c.read-number.ensures.gave in
     let at_n : Gave v v made n count out = subst (λ (m : ℤ). Gave v v made m count out) (sym same) at_v in
-    let to_new = subst (λ (b : Option LibraryView). Gives (Some v) b made n count out) (sym c.of.ensures) at_n in
-    record { gives = subst (λ (a : Option LibraryView). Gives a c.of.result.library made n count out) c.in-Some.ensures.taken to_new }
+    let to_new = subst (λ (b : Option LibraryView). Gives (Some v) b made n count out) (sym c.put.ensures) at_n in
+    record { gives = subst (λ (a : Option LibraryView). Gives a c.put.new.self.library made n count out) c.in-Some.ensures.taken to_new }
