@@ -1,4 +1,6 @@
-use Rattle.std.proofs.Common.{arith, rules}
+use Rattle.std.proofs.Common.{◌≡◌, ◌∙◌, arith, map-id, rules, sym}
+use Rattle.std.proofs.lemmas.Iterator.Adapters.{YieldsList-from_vec}
+use Rattle.std.proofs.lemmas.Iterator.Consumers.{YieldsList-end}
 use Rattle.papi_tools.proofs.StreamLemmas.{by_either, failed_more, sources_in-append}
 use Rattle.papi_tools.proofs.streams.close_readers.Goals as goal
 
@@ -10,3 +12,28 @@ loop-reader-preserved g c = record {
   misses_stay = omega arith;
   faults_stay = omega arith;
 }
+
+pub returns-clause-faulty : goal.returns-clause-faulty
+returns-clause-faulty g c =
+    let end =
+    YieldsList-end (YieldsList-from_vec {s = c.into_iter-reader-iterator.result} c.args.readers.items (search rules) (search rules))
+    c.loop-reader.yielded c.loop-reader.reader-iterator c.loop-reader.yielded_by c.next.result c.next.new.self c.in-None.is c.next.ensures.steps in
+    let all : c.loop-reader.yielded ≡ c.args.readers.items = sym (map-id c.loop-reader.yielded) ∙ end.0 in
+    rw (sym all) c.loop-reader.invariant.faulty
+
+pub returns-clause-lent : goal.returns-clause-lent
+returns-clause-lent g c =
+    let end =
+    YieldsList-end (YieldsList-from_vec {s = c.into_iter-reader-iterator.result} c.args.readers.items (search rules) (search rules))
+    c.loop-reader.yielded c.loop-reader.reader-iterator c.loop-reader.yielded_by c.next.result c.next.new.self c.in-None.is c.next.ensures.steps in
+    let all : c.loop-reader.yielded ≡ c.args.readers.items = sym (map-id c.loop-reader.yielded) ∙ end.0 in
+    rw (sym all) c.loop-reader.invariant.lent
+
+pub returns-clause-held : goal.returns-clause-held
+returns-clause-held g c = c.loop-reader.invariant.held
+
+pub returns-clause-misses_stay : goal.returns-clause-misses_stay
+returns-clause-misses_stay g c = c.loop-reader.invariant.misses_stay
+
+pub returns-clause-faults_stay : goal.returns-clause-faults_stay
+returns-clause-faults_stay g c = c.loop-reader.invariant.faults_stay
