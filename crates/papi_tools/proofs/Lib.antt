@@ -1,6 +1,7 @@
 pub mod CarriedLemmas
 pub mod CauseLemmas
 pub mod FaultLemmas
+pub mod LookingLemmas
 pub mod OpeningLemmas
 pub mod PositionLemmas
 pub mod ProfilLemmas
