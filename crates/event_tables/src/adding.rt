@@ -170,7 +170,8 @@ fn add_event(
     requires few_events { vec_len component.old.events ≤ MOST_EVENTS }
     requires indexed { IsIndexed component.old }
     requires fresh { list_any (λ e. same_name e.name name.now) (map event_text component.old.events.items) ≡ false }
-    ensures event { OnOk result (component_text component.new ≡ Steps.with_event (Unit.event_row (map counter_text component.old.counters.items) name.now select (words_of names.now) text.now []) (component_text component.old)) }
+    ensures event { OnOk result (component_text component.new ≡ Steps.with_event
+        (Unit.event_row (map counter_text component.old.counters.items) name.now select (words_of names.now) text.now []) (component_text component.old)) }
     ensures indexed { OnOk result (IsIndexed component.new) }
 {
     let row = component.events.len() as u32;
@@ -192,7 +193,8 @@ fn add_mask(
 ) -> Result<(), AllocError>
     requires filled { 0 < vec_len component.old.events }
     requires indexed { IsIndexed component.old }
-    ensures mask { OnOk result (component_text component.new ≡ Steps.with_inner_mask (Lines.mask_of name.now bits flags text.now) (component_text component.old)) }
+    ensures mask { OnOk result (component_text component.new ≡ Steps.with_inner_mask
+        (Lines.mask_of name.now bits flags text.now) (component_text component.old)) }
     ensures indexed { OnOk result (IsIndexed component.new) }
 {
     let mask = mask_of(alloc, name, bits, flags, text)?;

@@ -26,7 +26,8 @@ fn add_next(
 ) -> Result<bool, TableFault>
     requires place { place < 2 ^ 64 - 1 }
     requires kept { AreKept components.old.items }
-    ensures adds { AddsNext place reader.old (fields_of row.new) reader.new (map component_text components.old.items) (map component_text components.new.items) result }
+    ensures adds { AddsNext place reader.old (fields_of row.new) reader.new
+        (map component_text components.old.items) (map component_text components.new.items) result }
     ensures indexed { OnOk result (AllByRecursion IsIndexed components.new.items) }
 {
     if !reader.read_row(row)? {

@@ -85,9 +85,11 @@ fn push_events(
     selection: &Selection,
 ) -> Result<usize, AllocError>
     ensures text { OnOk result (string_bytes text.new ≡ string_bytes text.old
-        ++ NativeLists.listed_lines (option_copied selection.now.included) (option_copied selection.now.excluded) selection.now.umasks (component_text component.now)) }
+        ++ NativeLists.listed_lines (option_copied selection.now.included) (option_copied selection.now.excluded)
+        selection.now.umasks (component_text component.now)) }
     ensures count { IfOk result (λ count.
-        count ≡ length (NativeLists.listed_events (option_copied selection.now.included) (option_copied selection.now.excluded) (component_text component.now))) }
+        count ≡ length (NativeLists.listed_events (option_copied selection.now.included) (option_copied selection.now.excluded)
+        (component_text component.now))) }
 {
     let mut listed = 0;
     for event in component.events.as_slice() {
@@ -107,9 +109,11 @@ fn push_component(
     selection: &Selection,
 ) -> Result<usize, AllocError>
     ensures text { OnOk result (string_bytes text.new ≡ string_bytes text.old
-        ++ NativeLists.component_lines (option_copied selection.now.included) (option_copied selection.now.excluded) selection.now.umasks (component_text component.now)) }
+        ++ NativeLists.component_lines (option_copied selection.now.included) (option_copied selection.now.excluded)
+        selection.now.umasks (component_text component.now)) }
     ensures count { IfOk result (λ count.
-        count ≡ length (NativeLists.listed_events (option_copied selection.now.included) (option_copied selection.now.excluded) (component_text component.now))) }
+        count ≡ length (NativeLists.listed_events (option_copied selection.now.included) (option_copied selection.now.excluded)
+        (component_text component.now))) }
 {
     let counters = component.counters.len();
     let Component { name, pmu, .. } = component;
@@ -124,7 +128,8 @@ fn push_components(
     selection: &Selection,
 ) -> Result<usize, AllocError>
     ensures text { OnOk result (string_bytes text.new ≡ string_bytes text.old
-        ++ flat_map (NativeLists.component_lines (option_copied selection.now.included) (option_copied selection.now.excluded) selection.now.umasks) tables.now) }
+        ++ flat_map (NativeLists.component_lines (option_copied selection.now.included) (option_copied selection.now.excluded)
+        selection.now.umasks) tables.now) }
     ensures count { IfOk result (λ count.
         count ≡ NativeLists.listed_count (option_copied selection.now.included) (option_copied selection.now.excluded) tables.now) }
 {
