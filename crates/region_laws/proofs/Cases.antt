@@ -1,23 +1,24 @@
 -- What an answer that is read says of the parts that it was read from.
-use Rattle.std.proofs.Common.{◌≡◌, ◌⊎◌, inl, inr, ℕ, Bool, true, false, List, [], ◌∷◌, refl, sym, ◌∙◌, ap, Option, Some, None, Result, Ok, Err, bytes_eq, length, codes, nat_le}
+use Rattle.std.proofs.Common.{◌≡◌, ◌⊎◌, inl, inr, ℕ, Bool, true, false, List, [], ◌∷◌, refl, sym, ◌∙◌, ap, Option, Some, None, Result, Ok, Err, bytes_eq, codes, nat_le}
 use Rattle.std.specs.Prelude.{if◌then◌else◌}
 use Rattle.std.proofs.lemmas.Slice.Eq.{bytes_eq-Decides}
 use Rattle.table_rows.specs.Texts.{Text}
 use Rattle.script_lines.specs.Arguments.{one_number}
 use Rattle.script_lines.specs.Lines.{thread_in}
 use Rattle.script_lines.specs.Words.{words_of}
-use Rattle.region_report.specs.Lines.{Open, and_then, begin_call, begun_of, by_script, call_of, innermost, innermost_call, line_of_thread}
-use Rattle.region_report.specs.Lines.{line_of_words, line_with, one_name, open_of, region_line, run_call}
+use Rattle.region_report.specs.Lines.{Open, and_then, begin_call, begun_name, begun_of, by_script, call_of, innermost, innermost_call, innermost_name}
+use Rattle.region_report.specs.Lines.{line_of_thread, line_of_words, line_with, one_name, open_of, region_line, run_call}
 use Rattle.region_report.specs.declared.fault.RegionCause.{RegionCause}
 use Rattle.region_report.specs.declared.fault.RegionCause.TheVariants.{OverLimit, UnknownCall, WrongRegion}
 use Rattle.region_report.specs.declared.regions.RegionCall.{RegionCall}
 use Rattle.region_report.specs.declared.regions.RegionCall.TheVariants as call
 use Rattle.region_report.specs.declared.regions.RegionLine.{RegionLine}
-use Rattle.region_report.specs.declared.regions.TheConstants.{MOST_LINES, MOST_OPEN}
+use Rattle.region_report.specs.declared.regions.TheConstants.{MOST_LINES}
 
 -- both parts were read
-both_read : {A B : Type 0} (first : Result A RegionCause) (next : A → Result B RegionCause) (b : B) → and_then first next ≡ Ok b → (a : A) × (next a ≡ Ok b)
-both_read (Ok a) next b e = (a, e)
+both_read : {A B : Type 0} (first : Result A RegionCause) (next : A → Result B RegionCause) (b : B) → and_then first next ≡ Ok b
+    → (a : A) × (first ≡ Ok a) × (next a ≡ Ok b)
+both_read (Ok a) next b e = (a, refl, e)
 both_read (Err cause) next b e = cc
 
 not_refused : {A : Type 0} (b : Bool) (cause : RegionCause) (read : Result A RegionCause) (a : A) → (if b then Err cause else read) ≡ Ok a → read ≡ Ok a
@@ -51,14 +52,13 @@ OfInnermost make opens called = (name : Text) × (called.0 ≡ make name) × Fou
 
 of_innermost : (make : Text → RegionCall) (opens : List Open) (words : List Text) (called : RegionCall × ℕ) → innermost_call make opens words ≡ Ok called → OfInnermost make opens called
 of_innermost make opens words called e =
-    let named = both_read (one_name words) (λ name. and_then (begun_of (innermost opens) name) (λ begun. Ok (make name, begun))) called e in
-    go named.0 (begun_of (innermost opens) named.0) refl named.1 where
-      go : (name : Text) (read : Result ℕ RegionCause) → begun_of (innermost opens) name ≡ read → and_then read (λ begun. Ok (make name, begun)) ≡ Ok called → OfInnermost make opens called
-      go name (Ok begun) q h =
-          let same : (make name, begun) ≡ called = cc in
-          let f = found (innermost opens) name begun q in
-          (name, ap (λ c. c.0) (sym same), (f.0, f.1, f.2, f.3 ∙ ap (λ c. c.1) same))
-      go name (Err cause) q h = cc
+    let read = both_read (innermost_name (innermost opens) words) (λ named. Ok (make named.0, named.1)) called e in
+    let named = both_read (one_name words) (λ name. and_then (begun_of (innermost opens) name) (λ begun. Ok (name, begun))) read.0 read.1 in
+    let began = both_read (begun_of (innermost opens) named.0) (λ begun. Ok (named.0, begun)) read.0 named.2 in
+    let made : (make read.0.0, read.0.1) ≡ called = cc read.2 in
+    let same : (named.0, began.0) ≡ read.0 = cc began.2 in
+    let f = found (innermost opens) named.0 began.0 began.1 in
+    (named.0, ap (λ c. c.0) (sym made) ∙ ap (λ c. make c.0) (sym same), (f.0, f.1, f.2, f.3 ∙ ap (λ c. c.1) same ∙ ap (λ c. c.1) made))
 
 -- ---- the four calls
 
@@ -75,14 +75,13 @@ Called readings opens called =
 
 begins : (readings : ℕ) (opens : List Open) (words : List Text) (called : RegionCall × ℕ) → begin_call readings opens words ≡ Ok called → Begins readings called
 begins readings opens words called e =
-    let read = both_read (one_name words) (λ name. Ok (call.Begin name, readings)) called
-    (not_refused (nat_le MOST_OPEN (length opens)) OverLimit (and_then (one_name words) (λ name. Ok (call.Begin name, readings))) called e) in
-    (read.0, (let same : called ≡ (call.Begin read.0, readings) = cc in same))
+    let read = both_read (begun_name opens words) (λ name. Ok (call.Begin name, readings)) called e in
+    (read.0, (let same : called ≡ (call.Begin read.0, readings) = cc read.2 in same))
 
 runs : (readings : ℕ) (words : List Text) (called : RegionCall × ℕ) → run_call readings words ≡ Ok called → Runs called
 runs readings words called e =
     let read = both_read (by_script (one_number words)) (λ count. Ok (call.Run count, readings)) called e in
-    (read.0, readings, (let same : called ≡ (call.Run read.0, readings) = cc in same))
+    (read.0, readings, (let same : called ≡ (call.Run read.0, readings) = cc read.2 in same))
 
 pub called_is : (readings : ℕ) (opens : List Open) (word : Text) (words : List Text) (called : RegionCall × ℕ) → call_of readings opens word words ≡ Ok called → Called readings opens called
 called_is readings opens word words called e =
@@ -117,7 +116,7 @@ of_words : (number readings : ℕ) (opens : List (List Open)) (words : List Text
 of_words number readings opens [] line e = cc
 of_words number readings opens (thread ∷ words) line e =
     let read = both_read (by_script (thread_in thread)) (λ t. line_of_thread number readings opens t words) line e in
-    of_thread number readings opens read.0 words line read.1
+    of_thread number readings opens read.0 words line read.2
 
 pub line_is : (number above readings : ℕ) (opens : List (List Open)) (text : Text) (line : RegionLine) → region_line number above readings opens text ≡ Ok line
     → IsCalled number readings opens line

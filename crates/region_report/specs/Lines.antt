@@ -92,12 +92,11 @@ innermost_name opens arguments = and_then (one_name arguments) (λ name. and_the
 
 -- `begin NAME`: PAPI_hl_region_begin(3), where its thread has not too many regions open
 abbrev pub begin_call : ℕ → List Open → List Text → Result (RegionCall × ℕ) RegionCause
-begin_call readings opens arguments =
-    if nat_le MOST_OPEN (length opens) then Err OverLimit else and_then (one_name arguments) (λ name. Ok (call.Begin name, readings))
+begin_call readings opens arguments = and_then (begun_name opens arguments) (λ name. Ok (call.Begin name, readings))
 
 -- a call of the innermost open region
 abbrev pub innermost_call : (Text → RegionCall) → List Open → List Text → Result (RegionCall × ℕ) RegionCause
-innermost_call make opens arguments = and_then (one_name arguments) (λ name. and_then (begun_of (innermost opens) name) (λ begun. Ok (make name, begun)))
+innermost_call make opens arguments = and_then (innermost_name (innermost opens) arguments) (λ named. Ok (make named.0, named.1))
 
 -- `run COUNT`: the thread runs on by so many occurrences, as in a script of calls
 abbrev pub run_call : ℕ → List Text → Result (RegionCall × ℕ) RegionCause
