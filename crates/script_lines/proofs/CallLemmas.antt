@@ -7,51 +7,17 @@ use Rattle.std.specs.Str.Parse.{digits_value}
 use Rattle.std.proofs.lemmas.Bool.{leb-true}
 use Rattle.std.proofs.lemmas.List.{drop_more}
 use Rattle.papi_base.specs.CallNames.{word_of}
-use Rattle.papi_base.specs.declared.call_name.CallName.{CallName}
-use Rattle.papi_base.specs.declared.call_name.CallName.TheVariants as name
 use Rattle.table_rows.specs.Texts.{Text, decimal_in, is_decimal}
-use Rattle.script_lines.specs.declared.call.ScriptCall.{ScriptCall}
 use Rattle.script_lines.specs.declared.fault.LineFault.{LineFault}
 use Rattle.script_lines.specs.declared.fault.LineFault.TheVariants.{Cause}
 use Rattle.script_lines.specs.declared.fault.ScriptCause.{ScriptCause}
 use Rattle.script_lines.specs.Answers.{Answers}
-use Rattle.script_lines.specs.Arguments.{one_number}
-use Rattle.script_lines.specs.Calls.{CallRow, OfNumber, call_of, call_rows, form_of}
+use Rattle.script_lines.specs.Calls.{CallRow, form_of}
 
 -- a word that the next row does not name has its form in the rows below that
 pub form_of-skips : (word : Text) (rows : List CallRow) (i : ℕ) (row : CallRow) → i < length rows → bytes_eq (word_of (get_or rows i row).name) word ≡ false
     → form_of word (drop i rows) ≡ form_of word (drop (i + 1) rows)
 form_of-skips word rows i row inside other = rw (drop_more rows i row inside, other) refl
-
--- A name that is none of those with other arguments takes one number.
-pub number_answers : (n : CallName) (arguments : List Text) (number : ℕ) (made : ScriptCall) → one_number arguments ≡ Ok number → OfNumber (form_of (word_of n) call_rows) number made
-    → (n ≡ name.Register → ⊥) → (n ≡ name.Unregister → ⊥) → (n ≡ name.Threads → ⊥) → (n ≡ name.Create → ⊥) → (n ≡ name.Add → ⊥) → (n ≡ name.Remove → ⊥) → (n ≡ name.Component → ⊥) → (n ≡ name.Domain → ⊥) → (n ≡ name.Multiplex → ⊥) → (n ≡ name.Overflow → ⊥) → (n ≡ name.Raw → ⊥) → (n ≡ name.Code → ⊥) → (n ≡ name.Name → ⊥)
-    → call_of (word_of n) arguments ≡ Ok made
-unfolding call_rows
-number_answers name.Register arguments number made e m h _ _ _ _ _ _ _ _ _ _ _ _ = absurd (h refl)
-number_answers name.Unregister arguments number made e m _ h _ _ _ _ _ _ _ _ _ _ _ = absurd (h refl)
-number_answers name.Threads arguments number made e m _ _ h _ _ _ _ _ _ _ _ _ _ = absurd (h refl)
-number_answers name.Create arguments number made e m _ _ _ h _ _ _ _ _ _ _ _ _ = absurd (h refl)
-number_answers name.Destroy arguments number made e m _ _ _ _ _ _ _ _ _ _ _ _ _ = rw (e, m) refl
-number_answers name.Cleanup arguments number made e m _ _ _ _ _ _ _ _ _ _ _ _ _ = rw (e, m) refl
-number_answers name.Add arguments number made e m _ _ _ _ h _ _ _ _ _ _ _ _ = absurd (h refl)
-number_answers name.Remove arguments number made e m _ _ _ _ _ h _ _ _ _ _ _ _ = absurd (h refl)
-number_answers name.Component arguments number made e m _ _ _ _ _ _ h _ _ _ _ _ _ = absurd (h refl)
-number_answers name.Domain arguments number made e m _ _ _ _ _ _ _ h _ _ _ _ _ = absurd (h refl)
-number_answers name.Multiplex arguments number made e m _ _ _ _ _ _ _ _ h _ _ _ _ = absurd (h refl)
-number_answers name.Overflow arguments number made e m _ _ _ _ _ _ _ _ _ h _ _ _ = absurd (h refl)
-number_answers name.Start arguments number made e m _ _ _ _ _ _ _ _ _ _ _ _ _ = rw (e, m) refl
-number_answers name.Stop arguments number made e m _ _ _ _ _ _ _ _ _ _ _ _ _ = rw (e, m) refl
-number_answers name.Read arguments number made e m _ _ _ _ _ _ _ _ _ _ _ _ _ = rw (e, m) refl
-number_answers name.Accum arguments number made e m _ _ _ _ _ _ _ _ _ _ _ _ _ = rw (e, m) refl
-number_answers name.Reset arguments number made e m _ _ _ _ _ _ _ _ _ _ _ _ _ = rw (e, m) refl
-number_answers name.State arguments number made e m _ _ _ _ _ _ _ _ _ _ _ _ _ = rw (e, m) refl
-number_answers name.Events arguments number made e m _ _ _ _ _ _ _ _ _ _ _ _ _ = rw (e, m) refl
-number_answers name.Assign arguments number made e m _ _ _ _ _ _ _ _ _ _ _ _ _ = rw (e, m) refl
-number_answers name.Raw arguments number made e m _ _ _ _ _ _ _ _ _ _ h _ _ = absurd (h refl)
-number_answers name.Run arguments number made e m _ _ _ _ _ _ _ _ _ _ _ _ _ = rw (e, m) refl
-number_answers name.Code arguments number made e m _ _ _ _ _ _ _ _ _ _ _ h _ = absurd (h refl)
-number_answers name.Name arguments number made e m _ _ _ _ _ _ _ _ _ _ _ _ h = absurd (h refl)
 
 -- the answer that a cause gives
 pub answers_cause : {A : Type 0} (answer : Result A LineFault) (read : Result A ScriptCause) (cause : ScriptCause) → IsErr answer × IsErrAnd answer (λ fault. fault ≡ Cause cause) → read ≡ Err cause → Answers answer read

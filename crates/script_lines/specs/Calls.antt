@@ -1,5 +1,5 @@
 -- The calls of a script by their words, in the order of the table of calls: this project's own format, docs/FORMATS.md.
-use Rattle.std.specs.Prelude.{◌≡◌, ℕ, List, [], ◌∷◌, drop, Option, Some, None, Result, Err, if◌then◌else◌}
+use Rattle.std.specs.Prelude.{◌≡◌, ℕ, List, [], ◌∷◌, Option, Some, None, Result, Err, if◌then◌else◌}
 use Rattle.std.specs.Str.{bytes_eq}
 use Rattle.papi_base.specs.CallNames.{word_of}
 use Rattle.papi_base.specs.declared.call_name.CallName.{CallName}
@@ -60,34 +60,50 @@ call_rows =
     ∷ row name.Name (Code (λ code. call.Name code))
     ∷ []
 
--- the rows from `start` on
-abbrev pub later_rows : List CallRow
-later_rows = drop 12 call_rows
-
 -- the form of the call that a word names, where it names one
 abbrev pub form_of : Text → List CallRow → Option Form
 form_of word [] = None
 form_of word (row ∷ rows) = if bytes_eq (word_of row.name) word then Some row.form else form_of word rows
 
--- the call that a form makes of no argument, where it takes none
+-- a form that takes no argument
+abbrev pub TakesNothing : Option Form → Type 0
+TakesNothing (Some (Nothing made)) = Unit {0}
+TakesNothing _ = ⊥
+
+-- a form that takes one number
+abbrev pub TakesNumber : Option Form → Type 0
+TakesNumber (Some (Number make)) = Unit {0}
+TakesNumber _ = ⊥
+
+-- a form that takes two numbers
+abbrev pub TakesTwoNumbers : Option Form → Type 0
+TakesTwoNumbers (Some (TwoNumbers make)) = Unit {0}
+TakesTwoNumbers _ = ⊥
+
+-- a form that takes a set and an event
+abbrev pub TakesSetAndEvent : Option Form → Type 0
+TakesSetAndEvent (Some (SetAndEvent make)) = Unit {0}
+TakesSetAndEvent _ = ⊥
+
+-- a form that takes no argument, and makes this call
 abbrev pub OfNothing : Option Form → ScriptCall → Type 0
 OfNothing (Some (Nothing made)) call = call ≡ made
-OfNothing _ call = Unit {0}
+OfNothing _ call = ⊥
 
--- the call that a form makes of one number, where it takes one
+-- a form that takes one number, and makes this call of it
 abbrev pub OfNumber : Option Form → ℕ → ScriptCall → Type 0
 OfNumber (Some (Number make)) number call = call ≡ make number
-OfNumber _ number call = Unit {0}
+OfNumber _ number call = ⊥
 
--- the call that a form makes of two numbers, where it takes two
+-- a form that takes two numbers, and makes this call of them
 abbrev pub OfTwoNumbers : Option Form → ℕ → ℕ → ScriptCall → Type 0
 OfTwoNumbers (Some (TwoNumbers make)) first second call = call ≡ make first second
-OfTwoNumbers _ first second call = Unit {0}
+OfTwoNumbers _ first second call = ⊥
 
--- the call that a form makes of a set and an event, where it takes them
+-- a form that takes a set and an event, and makes this call of them
 abbrev pub OfSetAndEvent : Option Form → ℕ → Text → ScriptCall → Type 0
 OfSetAndEvent (Some (SetAndEvent make)) set event call = call ≡ make set event
-OfSetAndEvent _ set event call = Unit {0}
+OfSetAndEvent _ set event call = ⊥
 
 -- the call of a form with its arguments
 abbrev pub call_by : Option Form → List Text → Result ScriptCall ScriptCause

@@ -57,19 +57,22 @@ fn name_in(word: &[u8]) -> Option<CallName>
 // The call of a name that takes no argument.
 #[tactic(auto, unfolding(crate::specs::Calls::call_rows))]
 fn plain_call(name: CallName) -> ScriptCall
+    requires { Calls.TakesNothing (Calls.form_of (word_of name) Calls.call_rows) }
     ensures { Calls.OfNothing (Calls.form_of (word_of name) Calls.call_rows) result }
 {
     match name {
         CallName::Register => ScriptCall::Register,
         CallName::Unregister => ScriptCall::Unregister,
         CallName::Threads => ScriptCall::Threads,
-        _ => ScriptCall::Create,
+        CallName::Create => ScriptCall::Create,
+        _ => unreachable!(),
     }
 }
 
 // The call of a name that takes one number.
 #[tactic(auto, unfolding(crate::specs::Calls::call_rows))]
 fn number_call(name: CallName, number: u32) -> ScriptCall
+    requires { Calls.TakesNumber (Calls.form_of (word_of name) Calls.call_rows) }
     ensures { Calls.OfNumber (Calls.form_of (word_of name) Calls.call_rows) number result }
 {
     match name {
@@ -83,13 +86,15 @@ fn number_call(name: CallName, number: u32) -> ScriptCall
         CallName::State => ScriptCall::State { set: number },
         CallName::Events => ScriptCall::Events { set: number },
         CallName::Assign => ScriptCall::Assign { set: number },
-        _ => ScriptCall::Run { count: number },
+        CallName::Run => ScriptCall::Run { count: number },
+        _ => unreachable!(),
     }
 }
 
 // The call of a name that takes a set and another number.
 #[tactic(auto, unfolding(crate::specs::Calls::call_rows))]
 fn pair_call(name: CallName, set: u32, number: u32) -> ScriptCall
+    requires { Calls.TakesTwoNumbers (Calls.form_of (word_of name) Calls.call_rows) }
     ensures { Calls.OfTwoNumbers (Calls.form_of (word_of name) Calls.call_rows) set number result }
 {
     match name {
@@ -99,21 +104,24 @@ fn pair_call(name: CallName, set: u32, number: u32) -> ScriptCall
         },
         CallName::Domain => ScriptCall::Domain { set, bits: number },
         CallName::Multiplex => ScriptCall::Multiplex { set, slice: number },
-        _ => ScriptCall::Raw {
+        CallName::Raw => ScriptCall::Raw {
             set,
             counter: number,
         },
+        _ => unreachable!(),
     }
 }
 
 // The call of a name that takes a set and an event.
 #[tactic(auto, unfolding(crate::specs::Calls::call_rows))]
 fn event_call(name: CallName, set: u32, event: Text) -> ScriptCall
+    requires { Calls.TakesSetAndEvent (Calls.form_of (word_of name) Calls.call_rows) }
     ensures { Calls.OfSetAndEvent (Calls.form_of (word_of name) Calls.call_rows) set event result }
 {
     match name {
         CallName::Add => ScriptCall::Add { set, event },
-        _ => ScriptCall::Remove { set, event },
+        CallName::Remove => ScriptCall::Remove { set, event },
+        _ => unreachable!(),
     }
 }
 
@@ -152,7 +160,17 @@ fn call_with(alloc: Global, name: CallName, arguments: &[&[u8]]) -> Result<Scrip
             let code = one_code(arguments)?;
             Ok(ScriptCall::Name { code })
         }
-        _ => {
+        CallName::Destroy
+        | CallName::Cleanup
+        | CallName::Start
+        | CallName::Stop
+        | CallName::Read
+        | CallName::Accum
+        | CallName::Reset
+        | CallName::State
+        | CallName::Events
+        | CallName::Assign
+        | CallName::Run => {
             let number = one_number(arguments)?;
             Ok(number_call(name, number))
         }
