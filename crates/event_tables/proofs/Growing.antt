@@ -9,8 +9,8 @@ use Rattle.std.specs.Option.{option_map_or}
 use Rattle.table_rows.specs.Texts.{Text}
 use Rattle.event_tables.specs.Tables.{ComponentText, EventText, same_name}
 use Rattle.event_tables.specs.Lines.{Line, skipped, bad, component, counter, event, umask, row_line}
-use Rattle.event_tables.specs.Unit.{cause_in, last_of, mask_cause}
-use Rattle.event_tables.specs.Steps.{CanGrow, grown, inner_cause, on_last, with_line}
+use Rattle.event_tables.specs.Unit.{cause_in, inner_cause, last_of, mask_cause}
+use Rattle.event_tables.specs.Steps.{CanGrow, grown, on_last, with_line}
 use Rattle.event_tables.specs.Views.{component_text}
 use Rattle.event_tables.specs.declared.component.Component.{Component}
 use Rattle.event_tables.specs.declared.row.Row.{Row}

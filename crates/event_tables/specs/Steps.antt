@@ -1,11 +1,10 @@
 -- The tables of some rows and of one row more.
-use Rattle.std.specs.Prelude.{⊤, ◌≡◌, ◌+◌, ◌<◌, length, ℕ, Bool, true, false, List, [], ◌∷◌, ◌++◌, Option, Some, None, Result, Ok, Err}
+use Rattle.std.specs.Prelude.{⊤, ◌≡◌, ◌+◌, ◌<◌, length, ℕ, Bool, true, false, List, [], ◌∷◌, ◌++◌, Some, None, Result, Ok, Err}
 use Rattle.event_tables.specs.Lines.{Line, skipped, bad, component, counter, event, umask, line_of}
 use Rattle.std.specs.List.{list_any}
 use Rattle.table_rows.specs.Texts.{Text}
 use Rattle.event_tables.specs.Tables.{ComponentText, CounterText, EventText, MaskText, same_name}
-use Rattle.event_tables.specs.Unit.{cause_in, component_of, counter_cause, counter_row, event_cause, event_row, inner_mask_cause}
-use Rattle.event_tables.specs.declared.fault.RowCause.{RowCause}
+use Rattle.event_tables.specs.Unit.{cause_in, component_of, counter_row, event_row}
 use Rattle.event_tables.specs.declared.fault.TableFault.{TableFault}
 use Rattle.event_tables.specs.declared.fault.TableFault.TheVariants as fault
 use Rattle.event_tables.specs.declared.adding.Refusal.{Refusal}
@@ -47,13 +46,6 @@ abbrev pub CanGrow : Line → ComponentText → Type 0
 CanGrow (event name select names text) c = list_any (λ e. same_name e.name name) c.events ≡ false
 CanGrow (umask m) c = 0 < length c.events
 CanGrow line c = ⊤
-
--- why a row that belongs to this component is refused, if it is
-abbrev pub inner_cause : ComponentText → Line → Option RowCause
-inner_cause above (counter name width fixed) = counter_cause above.counters name width
-inner_cause above (event name select names text) = event_cause above name names
-inner_cause above (umask m) = inner_mask_cause above m.name m.preset_choice
-inner_cause above line = None
 
 -- the components with one row more
 abbrev pub with_line : List ComponentText → Line → List ComponentText

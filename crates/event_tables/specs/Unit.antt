@@ -132,14 +132,19 @@ last_of xs = slice_get xs (length xs - 1)
 abbrev pub inner_mask_cause : ComponentText → Text → Bool → Option RowCause
 inner_mask_cause above name preset_choice = option_map_or (λ e. mask_cause e.masks name preset_choice) (last_of above.events) (Some cause.BadRow)
 
--- why a row is refused below these components, if it is
+-- why a row that belongs to this component is refused, if it is
+abbrev pub inner_cause : ComponentText → Line → Option RowCause
+inner_cause above (counter name width fixed) = counter_cause above.counters name width
+inner_cause above (event name select names text) = event_cause above name names
+inner_cause above (umask m) = inner_mask_cause above m.name m.preset_choice
+inner_cause above line = None
+
+-- why a row is refused below these components, if it is: one that is not a component belongs to the last of them
 unfoldable pub cause_in : List ComponentText → Line → Option RowCause
 cause_in above skipped = None
 cause_in above bad = Some cause.BadRow
 cause_in above (component name pmu) = component_cause above name pmu
-cause_in above (counter name width fixed) = option_map_or (λ c. counter_cause c.counters name width) (last_of above) (Some cause.BadRow)
-cause_in above (event name select names text) = option_map_or (λ c. event_cause c name names) (last_of above) (Some cause.BadRow)
-cause_in above (umask m) = option_map_or (λ c. inner_mask_cause c m.name m.preset_choice) (last_of above) (Some cause.BadRow)
+cause_in above line = option_map_or (λ c. inner_cause c line) (last_of above) (Some cause.BadRow)
 
 -- the first row below `above` that has a cause in view of the rows above it, and its cause
 unfoldable pub fault_from : List Line → List Line → Option (ℕ × RowCause)

@@ -6,7 +6,6 @@ ghost use Rattle.table_rows.specs.Texts.{is_name};
 ghost use Rattle.event_tables.specs.Index.{IsIndexed};
 ghost use Rattle.event_tables.specs.Kept.{IsLine};
 ghost use Rattle.event_tables.specs.Lines.{row_line, words_of, mask_of};
-ghost use Rattle.event_tables.specs.Steps.{inner_cause};
 ghost use Rattle.event_tables.specs.Tables as Tables;
 ghost use Rattle.event_tables.specs.Unit as Unit;
 ghost use Rattle.event_tables.specs.Views.{component_text, counter_text, event_text, mask_text};
@@ -157,7 +156,7 @@ fn inner_mask_cause(above: &Component, name: &str, preset_choice: bool) -> Optio
 fn inner_cause(above: &Component, row: &Row<'_>) -> Option<RowCause>
     requires indexed { IsIndexed above.now }
     requires line { IsLine (row_line row.now) }
-    ensures { result ≡ inner_cause (component_text above.now) (row_line row.now) }
+    ensures { result ≡ Unit.inner_cause (component_text above.now) (row_line row.now) }
 {
     match row {
         Row::Counter {
