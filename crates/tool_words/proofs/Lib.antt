@@ -2,5 +2,4 @@ pub mod ArgumentLemmas
 pub mod EventListLemmas
 pub mod FormLemmas
 pub mod NumberLemmas
-pub mod ScriptLemmas
 pub mod Examples

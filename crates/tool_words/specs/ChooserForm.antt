@@ -1,30 +1,24 @@
 -- The words of `papi_event_chooser`, after papi_event_chooser(1), in the words of `clap`:
 -- `-U UNIT [-P PRESETS -C CPU] NATIVE EVENT..` or the same with `PRESET`.
-use Rattle.std.specs.Prelude.{◌≡◌, Bool, true, List, [], ◌∷◌, Option, Some, None, if◌then◌else◌, codes, length, nat_le, option_and_then, refl}
+use Rattle.std.specs.Prelude.{◌≡◌, true, List, [], ◌∷◌, Option, Some, None, if◌then◌else◌, codes, length, nat_le, option_and_then, refl}
 use Rattle.std.specs.Str.{bytes_eq}
-use Rattle.clap.specs.Lexer.{usize_max}
 use Rattle.clap.specs.Words.{Row, Rule, Text, all_of, first_of, is_simple_and_free, new_rule}
-use Rattle.clap.specs.declared.builder.ArgAction.TheVariants.{Append}
 use Rattle.tool_words.specs.declared.chooser.ChooserWords.{ChooserWords}
 use Rattle.tool_words.specs.declared.chooser.EventKind.{EventKind}
 use Rattle.tool_words.specs.declared.chooser.EventKind.TheVariants.{Native, Preset}
 use Rattle.tool_words.specs.declared.chooser.TheConstants.{MOST_EVENTS}
 use Rattle.tool_words.specs.declared.presets.PresetWords.{PresetWords}
-use Rattle.tool_words.specs.Options.{unit_rule}
+use Rattle.tool_words.specs.Options.{list_rule, unit_rule}
 use Rattle.tool_words.specs.Presets.{cpu_rule, presets_asked, presets_rule}
 use Rattle.tool_words.specs.Words.{app_with}
 
 -- `NATIVE` or `PRESET`
-unfoldable pub kind_rule : Rule
+abbrev pub kind_rule : Rule
 kind_rule = record (new_rule (codes "kind")) { required = true }
 
 -- `EVENT..`, between which options may stand
-unfoldable pub events_rule : Rule
-events_rule = record (new_rule (codes "events")) {
-  required = true;
-  action = Some Append;
-  range = Some (record { start_inclusive = 1; end_inclusive = usize_max });
-}
+abbrev pub events_rule : Rule
+events_rule = list_rule (codes "events")
 
 -- the arguments, in order
 unfoldable pub chooser_rules : List Rule
@@ -32,7 +26,7 @@ chooser_rules = unit_rule ∷ presets_rule ∷ cpu_rule ∷ kind_rule ∷ events
 
 -- `clap` says exactly which words they take
 pub chooser_rules-defined : is_simple_and_free (app_with chooser_rules) ≡ true
-unfolding chooser_rules unit_rule presets_rule cpu_rule kind_rule events_rule
+unfolding chooser_rules unit_rule presets_rule cpu_rule list_rule
 chooser_rules-defined = refl
 
 -- which events are listed: the word is in capitals

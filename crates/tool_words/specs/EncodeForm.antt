@@ -1,19 +1,13 @@
 -- The words of `papi_encode`, a tool of this project, in the words of `clap`: `-U UNIT NAME..`.
 use Rattle.std.specs.Prelude.{◌≡◌, true, List, [], ◌∷◌, Option, Some, None, codes, refl}
-use Rattle.clap.specs.Lexer.{usize_max}
-use Rattle.clap.specs.Words.{Row, Rule, Text, all_of, first_of, is_simple_and_free, new_rule}
-use Rattle.clap.specs.declared.builder.ArgAction.TheVariants.{Append}
+use Rattle.clap.specs.Words.{Row, Rule, Text, all_of, first_of, is_simple_and_free}
 use Rattle.tool_words.specs.declared.encode.EncodeWords.{EncodeWords}
-use Rattle.tool_words.specs.Options.{unit_rule}
+use Rattle.tool_words.specs.Options.{list_rule, unit_rule}
 use Rattle.tool_words.specs.Words.{app_with}
 
 -- `NAME..`, the texts of the native events to encode, one or more
-unfoldable pub names_rule : Rule
-names_rule = record (new_rule (codes "names")) {
-  required = true;
-  action = Some Append;
-  range = Some (record { start_inclusive = 1; end_inclusive = usize_max });
-}
+abbrev pub names_rule : Rule
+names_rule = list_rule (codes "names")
 
 -- the arguments, in order
 unfoldable pub encode_rules : List Rule
@@ -21,7 +15,7 @@ encode_rules = unit_rule ∷ names_rule ∷ []
 
 -- `clap` says exactly which words they take
 pub encode_rules-defined : is_simple_and_free (app_with encode_rules) ≡ true
-unfolding encode_rules unit_rule names_rule
+unfolding encode_rules unit_rule list_rule
 encode_rules-defined = refl
 
 -- what the values of the arguments ask for

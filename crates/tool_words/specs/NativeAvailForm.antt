@@ -7,15 +7,15 @@ use Rattle.tool_words.specs.Options.{event_rule, is_set, unit_rule}
 use Rattle.tool_words.specs.Words.{app_with}
 
 -- `-i STR`, the events with this text in their names
-unfoldable pub included_rule : Rule
+abbrev pub included_rule : Rule
 included_rule = record (new_rule (codes "included")) { short = Some 105 }
 
 -- `-x STR`, the events without this text in their names
-unfoldable pub excluded_rule : Rule
+abbrev pub excluded_rule : Rule
 excluded_rule = record (new_rule (codes "excluded")) { short = Some 120 }
 
 -- `--noumasks`, the events without their umasks
-unfoldable pub no_umasks_rule : Rule
+abbrev pub no_umasks_rule : Rule
 no_umasks_rule = record (new_rule (codes "noumasks")) { long = Some (codes "noumasks"); action = Some SetTrue }
 
 -- the arguments, in order
@@ -24,7 +24,7 @@ native_avail_rules = unit_rule ∷ event_rule ∷ included_rule ∷ excluded_rul
 
 -- `clap` says exactly which words they take
 pub native_avail_rules-defined : is_simple_and_free (app_with native_avail_rules) ≡ true
-unfolding native_avail_rules unit_rule event_rule included_rule excluded_rule no_umasks_rule
+unfolding native_avail_rules unit_rule event_rule
 native_avail_rules-defined = refl
 
 -- what the values of the arguments ask for

@@ -1,31 +1,32 @@
 -- The words of `papi_profil`, a tool of this project after PAPI_profil(3), in the words of `clap`:
 -- `-U UNIT -M MAP [-P PRESETS -C CPU] [--thread T] [--set S] [--index I] [--workers N] SCRIPT [STREAM..]`.
-use Rattle.std.specs.Prelude.{◌≡◌, ℕ, true, List, [], ◌∷◌, Option, Some, None, codes, option_and_then, refl}
-use Rattle.clap.specs.Words.{Row, Rule, Text, all_of, first_of, is_simple_and_free, new_rule}
-use Rattle.tool_words.specs.declared.presets.PresetWords.{PresetWords}
+use Rattle.std.specs.Prelude.{◌≡◌, ℕ, true, List, [], ◌∷◌, Option, Some, None, codes, refl}
+use Rattle.clap.specs.Words.{Row, Rule, Text, first_of, is_simple_and_free, new_rule}
 use Rattle.tool_words.specs.declared.profil.ProfilWords.{ProfilWords}
 use Rattle.tool_words.specs.declared.profil.TheConstants.{LAST_INDEX, LAST_SET, LAST_THREAD}
+use Rattle.tool_words.specs.declared.script.ScriptWords.{ScriptWords}
 use Rattle.tool_words.specs.Numbers.{number_of, number_rule}
 use Rattle.tool_words.specs.Options.{script_rule, unit_rule}
-use Rattle.tool_words.specs.Presets.{cpu_rule, presets_asked, presets_rule}
-use Rattle.tool_words.specs.Streams.{streams_asked, streams_rule}
+use Rattle.tool_words.specs.Presets.{cpu_rule, presets_rule}
+use Rattle.tool_words.specs.ScriptForm.{script_words_in}
+use Rattle.tool_words.specs.Streams.{streams_rule}
 use Rattle.tool_words.specs.Words.{app_with}
-use Rattle.tool_words.specs.Workers.{workers_of, workers_rule}
+use Rattle.tool_words.specs.Workers.{workers_rule}
 
 -- `-M MAP`, the map of program counters
-unfoldable pub map_rule : Rule
+abbrev pub map_rule : Rule
 map_rule = record (new_rule (codes "map")) { short = Some 77; required = true }
 
 -- `--thread T`, the thread whose notes are counted
-unfoldable pub thread_rule : Rule
+abbrev pub thread_rule : Rule
 thread_rule = number_rule (codes "thread") LAST_THREAD
 
 -- `--set S`, a set of that thread
-unfoldable pub set_rule : Rule
+abbrev pub set_rule : Rule
 set_rule = number_rule (codes "set") LAST_SET
 
 -- `--index I`, the place of an event in that set, from 0
-unfoldable pub index_rule : Rule
+abbrev pub index_rule : Rule
 index_rule = number_rule (codes "index") LAST_INDEX
 
 -- the arguments, in order
@@ -35,29 +36,27 @@ profil_rules =
 
 -- `clap` says exactly which words they take
 pub profil_rules-defined : is_simple_and_free (app_with profil_rules) ≡ true
-unfolding profil_rules unit_rule map_rule presets_rule cpu_rule thread_rule set_rule index_rule number_rule workers_rule script_rule streams_rule
+unfolding profil_rules unit_rule presets_rule cpu_rule number_rule workers_rule script_rule streams_rule
 profil_rules-defined = refl
 
--- what the values of the arguments ask for
-abbrev pub profil_words :
-    Option Text → Option Text → Option (Option PresetWords) → Option ℕ → Option ℕ → Option ℕ → Option ℕ → Option Text → Option (List Text) → Option ProfilWords
-profil_words (Some unit) (Some map) (Some presets) (Some thread) (Some set) (Some index) (Some workers) (Some script) (Some streams) =
+-- what a tool over a script asks for, the map, and whose notes are counted
+abbrev pub profil_words : Option ScriptWords → Option Text → Option ℕ → Option ℕ → Option ℕ → Option ProfilWords
+profil_words (Some asked) (Some map) (Some thread) (Some set) (Some index) =
     Some (record {
-      unit = unit;
+      unit = asked.unit;
       map = map;
-      presets = presets;
+      presets = asked.presets;
       thread = thread;
       set = set;
       index = index;
-      workers = workers;
-      script = script;
-      streams = streams;
+      workers = asked.workers;
+      script = asked.script;
+      streams = asked.streams;
     })
-profil_words _ _ _ _ _ _ _ _ _ = None
+profil_words _ _ _ _ _ = None
 
 -- what the matches of the words ask for
 unfoldable pub profil_words_in : List Row → Option ProfilWords
 profil_words_in rows =
-    profil_words (first_of (codes "unit") rows) (first_of (codes "map") rows) (presets_asked (first_of (codes "presets") rows) (first_of (codes "cpu") rows))
-    (number_of (codes "thread") rows) (number_of (codes "set") rows) (number_of (codes "index") rows)
-    (option_and_then workers_of (number_of (codes "workers") rows)) (first_of (codes "script") rows) (streams_asked (all_of (codes "streams") rows))
+    profil_words (script_words_in rows) (first_of (codes "map") rows) (number_of (codes "thread") rows) (number_of (codes "set") rows)
+    (number_of (codes "index") rows)

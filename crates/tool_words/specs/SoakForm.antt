@@ -9,7 +9,7 @@ use Rattle.tool_words.specs.Words.{app_with}
 use Rattle.tool_words.specs.Workers.{workers_of, workers_rule}
 
 -- `N`, from 1 to the most
-unfoldable pub rounds_rule : Rule
+abbrev pub rounds_rule : Rule
 rounds_rule = record (new_rule (codes "rounds")) { required = true; parser = Some (parser.Signed (pos 1) (pos MOST_ROUNDS)) }
 
 -- the arguments, in order
@@ -18,7 +18,7 @@ soak_rules = workers_rule ∷ rounds_rule ∷ []
 
 -- `clap` says exactly which words they take
 pub soak_rules-defined : is_simple_and_free (app_with soak_rules) ≡ true
-unfolding soak_rules workers_rule rounds_rule
+unfolding soak_rules workers_rule
 soak_rules-defined = refl
 
 -- a number of rounds, from 1 to the most

@@ -74,7 +74,7 @@ impl ToolWords for ChooserWords {
 
     ghost defined = { chooser_rules-defined };
 
-    #[tactic(auto, unfolding(crate::specs::ChooserForm::chooser_rules, crate::specs::ChooserForm::kind_rule, crate::specs::ChooserForm::events_rule, crate::specs::Options::list_rule))]
+    #[tactic(auto, unfolding(crate::specs::ChooserForm::chooser_rules))]
     fn arguments<'a>(alloc: Global) -> Result<Vec<Arg<'a>>, AllocError> {
         in_order(
             alloc,

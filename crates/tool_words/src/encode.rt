@@ -26,7 +26,7 @@ impl ToolWords for EncodeWords {
 
     ghost defined = { encode_rules-defined };
 
-    #[tactic(auto, unfolding(crate::specs::EncodeForm::encode_rules, crate::specs::EncodeForm::names_rule, crate::specs::Options::list_rule))]
+    #[tactic(auto, unfolding(crate::specs::EncodeForm::encode_rules))]
     fn arguments<'a>(alloc: Global) -> Result<Vec<Arg<'a>>, AllocError> {
         in_order(alloc, [unit_argument(alloc), list_argument(alloc, "names")])
     }

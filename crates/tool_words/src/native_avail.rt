@@ -28,7 +28,7 @@ impl ToolWords for NativeAvailWords {
 
     ghost defined = { native_avail_rules-defined };
 
-    #[tactic(auto, unfolding(crate::specs::NativeAvailForm::native_avail_rules, crate::specs::NativeAvailForm::included_rule, crate::specs::NativeAvailForm::excluded_rule, crate::specs::NativeAvailForm::no_umasks_rule))]
+    #[tactic(auto, unfolding(crate::specs::NativeAvailForm::native_avail_rules))]
     fn arguments<'a>(alloc: Global) -> Result<Vec<Arg<'a>>, AllocError> {
         in_order(
             alloc,

@@ -47,7 +47,7 @@ impl ToolWords for ProfilWords {
 
     ghost defined = { profil_rules-defined };
 
-    #[tactic(auto, unfolding(crate::specs::ProfilForm::profil_rules, crate::specs::ProfilForm::map_rule, crate::specs::ProfilForm::thread_rule, crate::specs::ProfilForm::set_rule, crate::specs::ProfilForm::index_rule))]
+    #[tactic(auto, unfolding(crate::specs::ProfilForm::profil_rules))]
     fn arguments<'a>(alloc: Global) -> Result<Vec<Arg<'a>>, AllocError> {
         in_order(
             alloc,

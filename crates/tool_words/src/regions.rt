@@ -80,7 +80,6 @@ pub struct RegionsWords {
 // ---- the arguments
 
 // `--events LIST`.
-#[tactic(auto, unfolding(crate::specs::RegionsForm::event_list_rule))]
 fn event_list_argument<'a>(alloc: Global) -> Arg<'a>
     ensures { rule_of result ≡ event_list_rule }
 {

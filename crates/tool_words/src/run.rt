@@ -33,7 +33,7 @@ impl ToolWords for RunWords {
 
     ghost defined = { run_rules-defined };
 
-    #[tactic(auto, unfolding(crate::specs::RunForm::run_rules, crate::specs::RunForm::notes_rule))]
+    #[tactic(auto, unfolding(crate::specs::RunForm::run_rules))]
     fn arguments<'a>(alloc: Global) -> Result<Vec<Arg<'a>>, AllocError> {
         in_order(
             alloc,

@@ -67,7 +67,6 @@ pub struct SoakWords {
 // ---- the arguments
 
 // `N`.
-#[tactic(auto, unfolding(crate::specs::SoakForm::rounds_rule))]
 fn rounds_argument<'a>(alloc: Global) -> Arg<'a>
     ensures { rule_of result ≡ rounds_rule }
 {
