@@ -5,7 +5,7 @@ use Rattle.std.proofs.lemmas.Bool.Decides.{nat_tests}
 use Rattle.papi_base.specs.Numerals.{decimal_in, hex_in}
 use Rattle.papi_base.specs.declared.occurrence.Occ.{Occ}
 use Rattle.stream_reader.specs.Judged.{fields_of, given, has_fields, mode_of, occ_of}
-use Rattle.stream_reader.specs.Fields.{after_field, ends_with, first_field, occurrence_on, stamp_after, tail_on}
+use Rattle.stream_reader.specs.Fields.{after_field, ends_with, event_occurrence_on, first_field, occurrence_on, stamp_after, tail_on}
 use Rattle.stream_reader.proofs.Rests.{fields_after, fields-first}
 
 abbrev Text : Type 0
@@ -73,7 +73,7 @@ stamp-is false count o = ends-is o count
 -- ---- both readings
 
 one-by-one : (stamped : Bool) (count : ℕ) (t : Text) → occurrence_on stamped count t ≡ occurrence_from stamped count (fields_of t)
-unfolding occurrence_on occurrence_from tail_on
+unfolding occurrence_on event_occurrence_on occurrence_from tail_on
 one-by-one stamped count t = rw (fields-first t) (
     given-same (decimal_in 0 15 (first_field t)) _ _ (λ comp. given-next (after_field t) _ _ (λ u.
     given-same (hex_in 2 2 (first_field u)) _ _ (λ select. given-next (after_field u) _ _ (λ v.

@@ -8,7 +8,7 @@ use Rattle.std.proofs.lemmas.Bool.{and_parts, le-leb}
 use Rattle.std.proofs.lemmas.Bool.Decides.{nat_tests}
 use Rattle.papi_base.specs.Numerals.{decimal_in, hex_in, is_hex_digit}
 use Rattle.stream_reader.specs.Judged.{mode_of, without_return}
-use Rattle.stream_reader.specs.Fields.{after_field, first_field, occurrence_on, tail_on}
+use Rattle.stream_reader.specs.Fields.{after_field, event_occurrence_on, first_field, occurrence_on, tail_on}
 use Rattle.stream_reader.specs.declared.common_line.Head.{Head}
 use Rattle.stream_reader.specs.declared.field.Field.{Field}
 use Rattle.stream_reader.specs.Digits.{IsHexadecimal, piece}
@@ -92,7 +92,7 @@ line-is : (count : ℕ) (a b d e f g : List ℕ) (o : Head) (amount pc : ℕ) �
     → list_all is_inner f ≡ true → list_all is_inner g ≡ true
     → decimal_in 0 15 a ≡ Some o.comp → hex_in 2 2 b ≡ Some o.select → hex_in 2 2 d ≡ Some o.umask → mode_of e ≡ Some o.kernel → decimal_in 1 255 f ≡ Some amount → hex_in 1 16 g ≡ Some pc
     → occurrence_on false count (line a b d e f g) ≡ Some (record { comp = o.comp; select = o.select; umask = o.umask; kernel = o.kernel; amount = amount; pc = pc; stamp = count })
-unfolding occurrence_on
+unfolding occurrence_on event_occurrence_on
 line-is count a b d e f g o amount pc i j k l m n p q r s t u =
     let five = f ++ 32 ∷ g in
     let four = e ++ 32 ∷ five in

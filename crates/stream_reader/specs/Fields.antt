@@ -70,8 +70,4 @@ occurrence_on stamped count t =
     given (hex_in 2 2 (first_field u)) (λ select.
     given (after_field u) (λ v.
     given (hex_in 2 2 (first_field v)) (λ umask.
-    given (after_field v) (λ w.
-    given (mode_of (first_field w)) (λ kernel.
-    given (after_field w) (λ x.
-    given (tail_on stamped count x) (λ tail.
-    Some (record { comp = comp; select = select; umask = umask; kernel = kernel; amount = tail.amount; pc = tail.pc; stamp = tail.stamp }))))))))))
+    given (after_field v) (event_occurrence_on stamped count (record { comp = comp; select = select; umask = umask })))))))

@@ -80,7 +80,7 @@ fn event_occurrence(start: &LineStart, event: Event, text: &[u8]) -> Option<Occ>
 }
 
 /// The occurrence that a line writes, or `None` where its fields are not as many as they should be, or one is out of its form.
-#[tactic(auto, unfolding(crate::specs::Fields::occurrence_on, crate::specs::Fields::event_occurrence_on))]
+#[tactic(auto, unfolding(crate::specs::Fields::occurrence_on))]
 #[inline(always)]
 pub(crate) fn occurrence(start: &LineStart, line: &[u8]) -> Option<Occ>
     ensures { result ≡ occurrence_on start.now.stamped start.now.given line.now }
