@@ -1,16 +1,17 @@
 -- A line of the common form is judged to be its occurrence.
 use Rattle.std.proofs.Common.{◌≡◌, ◌∙◌, ◌+◌, ◌<◌, ◌≤◌, ◌++◌, ◌∷◌, ◌==◌, ◌&&◌, ℕ, zero, suc, Bool, true, false, List, [], Some, length, take, get_or, refl, sym, ap, arith, add-one}
-use Rattle.std.specs.Prelude.{codes, bytes_eq}
+use Rattle.std.specs.Prelude.{codes, bytes_eq, if◌then◌else◌}
 use Rattle.std.proofs.Math.Seq.{drop-cons}
 use Rattle.std.proofs.lemmas.List.{length-take-le, take-append-drop}
 use Rattle.std.proofs.lemmas.Bool.{le-ltb}
 use Rattle.std.proofs.lemmas.Bool.Decides.{nat_tests}
 use Rattle.papi_base.specs.Numerals.{is_digit}
+use Rattle.papi_base.specs.declared.occurrence.LineCause.TheVariants as cause
 use Rattle.papi_base.specs.declared.occurrence.Occ.{Occ}
 use Rattle.stream_reader.specs.declared.line.LineStart.{LineStart}
-use Rattle.stream_reader.specs.declared.line.Judgement.TheVariants.{Occurs}
+use Rattle.stream_reader.specs.declared.line.Judgement.TheVariants.{Bad, Occurs}
 use Rattle.stream_reader.specs.declared.common_line.CommonLine.{CommonLine}
-use Rattle.stream_reader.specs.Judged.{fields_judged, fields_of, is_skipped, judged, text_judged, without_return}
+use Rattle.stream_reader.specs.Judged.{fields_judged, fields_of, is_above, is_skipped, judged, occurrence_judged, text_judged, without_return}
 use Rattle.stream_reader.specs.Fields.{occurrence_on}
 use Rattle.stream_reader.specs.CommonLines.{BeginsWith, HoldsLine}
 use Rattle.stream_reader.specs.Reader.{ReaderView}
@@ -35,24 +36,31 @@ and-false : (x : Bool) → (x && false) ≡ false
 and-false true = refl
 and-false false = refl
 
-text-is : (start : LineStart) (t : List ℕ) (o : Occ) → IsLine t → start.stamped ≡ false → occurrence_on false start.given t ≡ Some o → text_judged start t ≡ Occurs o
+-- an occurrence whose stamp is above the last one is not refused for its stamp
+is-occurrence : (start : LineStart) (o : Occ) → (start.stamped ≡ true → is_above start.last o.stamp ≡ true) → occurrence_judged start o ≡ Occurs o
+is-occurrence start o above = go start.stamped refl
+  where
+    go : (x : Bool) → start.stamped ≡ x → (if x then if is_above start.last o.stamp then Occurs o else Bad cause.Stamp else Occurs o) ≡ Occurs o
+    go true e = rw (above e) refl
+    go false e = refl
+
+text-is : (start : LineStart) (t : List ℕ) (o : Occ) → IsLine t → occurrence_on start.stamped start.given t ≡ Some o → (start.stamped ≡ true → is_above start.last o.stamp ≡ true) → text_judged start t ≡ Occurs o
 unfolding text_judged
-text-is start t o l plain e =
-    let occurs : Some o ≡ occurrence_on start.stamped start.given t = rw plain (sym e) in
-    let fields : fields_judged start (fields_of t) ≡ Occurs o = judged-some start t o occurs ∙ rw plain refl in
+text-is start t o l e above =
+    let fields : fields_judged start (fields_of t) ≡ Occurs o = judged-some start t o (sym e) ∙ is-occurrence start o above in
     rw (l.version, and-false (start.number == 1), l.skipped, fields) refl
 
 line-is : (start : LineStart) (t : List ℕ) (o : Occ) → length t ≤ 128 → start.passed + length t ≤ 67108864 → without_return t ≡ t → text_judged start t ≡ Occurs o → judged start (record { bytes = t; ended = true }) ≡ Occurs o
 unfolding judged
 line-is start t o short small whole e = rw (le-ltb 128 (length t) short, le-ltb 67108864 (start.passed + length t) small, whole, e) refl
 
-pub holds-line : (v : ReaderView) (r : CommonLine) → v.start.stamped ≡ false → BeginsWith v.held v.start.given r → v.start.passed + r.size ≤ 67108864 → HoldsLine v r
-holds-line v r plain b small =
+pub holds-line : (v : ReaderView) (r : CommonLine) → BeginsWith v.start v.held r → (v.start.stamped ≡ true → is_above v.start.last r.occ.stamp ≡ true) → v.start.passed + r.size ≤ 67108864 → HoldsLine v r
+holds-line v r b above small =
     let t = take r.size v.held in
     let long : length t ≡ r.size = length-take-le r.size v.held (let w = b.within in omega arith) in
     record {
       size = b.within;
       one = b.one;
       is = sym (take-append-drop r.size v.held) ∙ ap (λ u. t ++ u) (rw (add-one, ← b.newline) (drop-cons v.held r.size 0 b.within));
-      judged = sym (line-is v.start t r.occ (let s = b.short in omega (arith, long)) (omega (arith, long)) b.whole (text-is v.start t r.occ (a-line v.held r.size b.some b.within b.digit) plain b.occurs));
+      judged = sym (line-is v.start t r.occ (let s = b.short in omega (arith, long)) (omega (arith, long)) b.whole (text-is v.start t r.occ (a-line v.held r.size b.some b.within b.digit) b.occurs above));
     }

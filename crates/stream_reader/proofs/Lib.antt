@@ -2,6 +2,8 @@ pub mod Amounts
 pub mod Bounds
 pub mod ByteTables
 pub mod CommonLines
+pub mod Components
+pub mod DecimalBytes
 pub mod Decimals
 pub mod DigitLanes
 pub mod DigitRuns
@@ -10,6 +12,7 @@ pub mod Hexadecimals
 pub mod JoinedDigits
 pub mod Judging
 pub mod LeadingDigits
+pub mod LineFields
 pub mod LineHeads
 pub mod Modes
 pub mod Newlines
@@ -19,6 +22,7 @@ pub mod Refilling
 pub mod Rests
 pub mod Returns
 pub mod Room
+pub mod Stamps
 pub mod Taking
 pub mod Telling
 pub mod Turning

@@ -1,11 +1,10 @@
--- The fields of one and two bytes.
-use Rattle.std.proofs.Common.{◌≡◌, ◌+◌, ◌*◌, ◌≤◌, ◌==◌, ◌∷◌, ℕ, Bool, true, false, [], Some, refl, ap, arith, bit_or, nat_le}
+-- The fields between the component and the amount.
+use Rattle.std.proofs.Common.{◌≡◌, ◌+◌, ◌*◌, ◌≤◌, ◌==◌, ◌∷◌, ℕ, Bool, true, false, [], Some, refl, ap, arith, bit_or}
 use Rattle.std.specs.Prelude.{if◌then◌else◌}
 use Rattle.std.specs.Char.{digit_value}
-use Rattle.std.proofs.lemmas.Bool.{le-leb}
 use Rattle.std.proofs.lemmas.Bool.Decides.{nat_tests}
 use Rattle.std.proofs.lemmas.Nat.{le_or_l, le_or_r}
-use Rattle.papi_base.specs.Numerals.{decimal_in, hex_in, is_decimal, is_digit, is_hex_digit, is_numeral}
+use Rattle.papi_base.specs.Numerals.{hex_in, is_hex_digit}
 use Rattle.stream_reader.specs.Judged.{mode_of}
 use Rattle.stream_reader.specs.ByteTables.{digit_or_255, mode_or_255}
 use Rattle.stream_reader.specs.CommonLines.{IsInner, is_inner}
@@ -26,27 +25,12 @@ is-hex b h = go (is_hex_digit b) refl h
 pub inner-hex : (b : ℕ) → is_hex_digit b ≡ true → is_inner b ≡ true
 inner-hex b h = grind (arith, nat_tests)
 
--- a decimal digit
-pub digit-below : (b : ℕ) → digit_or_255 b ≤ 9 → is_digit b ≡ true
-digit-below b h = grind (arith, nat_tests)
-
-pub one-decimal : (b : ℕ) → digit_or_255 b ≤ 9 → decimal_in 0 15 (b ∷ []) ≡ Some (digit_or_255 b)
-unfolding decimal_in is_decimal is_numeral
-one-decimal b h =
-    let x = is-hex b (omega arith) in
-    let high : nat_le (0 + digit_value b) 15 ≡ true = le-leb (0 + digit_value b) 15 (omega (arith, x.value)) in
-    let low : nat_le 0 (0 + digit_value b) ≡ true = le-leb 0 (0 + digit_value b) (omega arith) in
-    rw (x.value, digit-below b h, high, low) (ap Some (omega arith))
-
 pub two-hex : (a b : ℕ) → digit_or_255 a ≤ 15 → digit_or_255 b ≤ 15 → hex_in 2 2 (a ∷ b ∷ []) ≡ Some (digit_or_255 a * 16 + digit_or_255 b)
 unfolding hex_in
 two-hex a b p q =
     let x = is-hex a p in
     let y = is-hex b q in
     rw (x.test, y.test) (ap Some (omega arith))
-
-pub one-inner : (a : ℕ) → digit_or_255 a ≤ 15 → IsInner (a ∷ [])
-one-inner a p = record { each = rw ((is-hex a p).inner) refl }
 
 pub two-inner : (a b : ℕ) → digit_or_255 a ≤ 15 → digit_or_255 b ≤ 15 → IsInner (a ∷ b ∷ [])
 two-inner a b p q = record { each = rw ((is-hex a p).inner, (is-hex b q).inner) refl }

@@ -1,170 +1,147 @@
 -- A whole line from its fields.
-use Rattle.std.proofs.Common.{◌≡◌, ◌∙◌, ◌+◌, ◌<◌, ◌≤◌, ◌++◌, ◌∷◌, ◌==◌, ℕ, true, false, List, [], Some, None, length, drop, take, get_or, refl, sym, ap, subst, arith}
-use Rattle.std.specs.List.{list_all, AllByRecursion}
+use Rattle.std.proofs.Common.{◌≡◌, ◌∙◌, ◌+◌, ◌-◌, ◌<◌, ◌≤◌, ◌++◌, ◌∷◌, ℕ, true, false, List, [], Some, length, drop, take, get_or, refl, sym, ap, subst, arith}
+use Rattle.std.specs.List.{list_all}
 use Rattle.std.specs.Str.Parse.{digits_value}
 use Rattle.std.proofs.Math.Seq.{take-add}
-use Rattle.std.proofs.lemmas.List.{take_more, length-take-le, length-drop, append_assoc}
+use Rattle.std.proofs.lemmas.List.{take_more, get_or-drop, drop-drop, length-take-le, length-drop, append_assoc}
+use Rattle.std.proofs.lemmas.List.Folds.{list_all-append}
 use Rattle.std.proofs.lemmas.Bool.{and_parts, le-leb}
-use Rattle.std.proofs.lemmas.Bool.Decides.{nat_tests}
-use Rattle.papi_base.specs.Numerals.{decimal_in, hex_in, is_hex_digit}
-use Rattle.stream_reader.specs.Judged.{mode_of, without_return}
-use Rattle.stream_reader.specs.Fields.{after_field, event_occurrence_on, first_field, occurrence_on, tail_on}
+use Rattle.papi_base.specs.Numerals.{hex_in, is_hex_digit}
+use Rattle.stream_reader.specs.declared.common_line.Front.{Front}
 use Rattle.stream_reader.specs.declared.common_line.Head.{Head}
 use Rattle.stream_reader.specs.declared.field.Field.{Field}
+use Rattle.stream_reader.specs.declared.line.LineStart.{LineStart}
 use Rattle.stream_reader.specs.Digits.{IsHexadecimal, piece}
-use Rattle.stream_reader.specs.CommonLines.{BeginsWith, IsAmount, IsHead, is_inner}
+use Rattle.stream_reader.specs.Fields.{occurrence_on}
+use Rattle.stream_reader.specs.CommonLines.{BeginsWith, HasHeadSpaces, IsAmount, IsComponent, IsFront, IsHead, IsStamp, is_inner, is_plain, occ_with}
 use Rattle.stream_reader.proofs.LineHeads.{inner-hex}
-
-no-space : (b : ℕ) → is_inner b ≡ true → (b == 32) ≡ false
-no-space b h = grind (arith, nat_tests)
-
-no-newline : (b : ℕ) → is_inner b ≡ true → (b == 10) ≡ false
-no-newline b h = grind (arith, nat_tests)
-
--- ---- a field and what comes after it
-
-field-first : (f r : List ℕ) → list_all is_inner f ≡ true → first_field (f ++ 32 ∷ r) ≡ f
-unfolding first_field
-field-first [] r h = refl
-field-first (b ∷ f) r h = let p = and_parts (is_inner b) (list_all is_inner f) h in rw (no-space b p.0) (ap (λ x. b ∷ x) (field-first f r p.1))
-
-field-after : (f r : List ℕ) → list_all is_inner f ≡ true → after_field (f ++ 32 ∷ r) ≡ Some r
-unfolding after_field
-field-after [] r h = refl
-field-after (b ∷ f) r h = let p = and_parts (is_inner b) (list_all is_inner f) h in rw (no-space b p.0) (field-after f r p.1)
-
-last-first : (f : List ℕ) → list_all is_inner f ≡ true → first_field f ≡ f
-unfolding first_field
-last-first [] h = refl
-last-first (b ∷ f) h = let p = and_parts (is_inner b) (list_all is_inner f) h in rw (no-space b p.0) (ap (λ x. b ∷ x) (last-first f p.1))
-
-last-after : (f : List ℕ) → list_all is_inner f ≡ true → after_field f ≡ None
-unfolding after_field
-last-after [] h = refl
-last-after (b ∷ f) h = let p = and_parts (is_inner b) (list_all is_inner f) h in rw (no-space b p.0) (last-after f p.1)
-
-abbrev Quiet : List ℕ → Type 0
-Quiet t = AllByRecursion (λ b. (b == 10) ≡ false) t
-
-field-quiet : (f r : List ℕ) → list_all is_inner f ≡ true → Quiet r → Quiet (f ++ 32 ∷ r)
-field-quiet [] r h q = (refl, q)
-field-quiet (b ∷ f) r h q = let p = and_parts (is_inner b) (list_all is_inner f) h in (no-newline b p.0, field-quiet f r p.1 q)
-
-last-quiet : (f : List ℕ) → list_all is_inner f ≡ true → Quiet f
-last-quiet [] h = tt
-last-quiet (b ∷ f) h = let p = and_parts (is_inner b) (list_all is_inner f) h in (no-newline b p.0, last-quiet f p.1)
-
-no-return : (b : ℕ) → is_inner b ≡ true → (b == 13) ≡ false
-no-return b h = grind (arith, nat_tests)
-
-abbrev Plain : List ℕ → Type 0
-Plain t = AllByRecursion (λ b. (b == 13) ≡ false) t
-
-field-plain : (f r : List ℕ) → list_all is_inner f ≡ true → Plain r → Plain (f ++ 32 ∷ r)
-field-plain [] r h q = (refl, q)
-field-plain (b ∷ f) r h q = let p = and_parts (is_inner b) (list_all is_inner f) h in (no-return b p.0, field-plain f r p.1 q)
-
-last-plain : (f : List ℕ) → list_all is_inner f ≡ true → Plain f
-last-plain [] h = tt
-last-plain (b ∷ f) h = let p = and_parts (is_inner b) (list_all is_inner f) h in (no-return b p.0, last-plain f p.1)
-
-plain-whole : (t : List ℕ) → Plain t → without_return t ≡ t
-unfolding without_return
-plain-whole [] h = refl
-plain-whole (b ∷ []) h = rw (h.0) refl
-plain-whole (b ∷ c ∷ t) h = ap (λ u. b ∷ u) (plain-whole (c ∷ t) h.1)
+use Rattle.stream_reader.proofs.LineFields.{AreInner, fields-plain, line, line-is, plain-one, plain-whole}
+use Rattle.stream_reader.proofs.Stamps.{IsEnding, ending-1, ending-2}
 
 hex-inner : (f : List ℕ) → list_all is_hex_digit f ≡ true → list_all is_inner f ≡ true
 hex-inner [] h = refl
 hex-inner (b ∷ f) h = let p = and_parts (is_hex_digit b) (list_all is_hex_digit f) h in rw (inner-hex b p.0, hex-inner f p.1) refl
 
--- ---- six fields
-
-abbrev line : List ℕ → List ℕ → List ℕ → List ℕ → List ℕ → List ℕ → List ℕ
-line a b d e f g = a ++ 32 ∷ (b ++ 32 ∷ (d ++ 32 ∷ (e ++ 32 ∷ (f ++ 32 ∷ g))))
-
-tail-is : (count : ℕ) (f g : List ℕ) (amount pc : ℕ) → list_all is_inner f ≡ true → list_all is_inner g ≡ true → decimal_in 1 255 f ≡ Some amount → hex_in 1 16 g ≡ Some pc
-    → tail_on false count (f ++ 32 ∷ g) ≡ Some (record { amount = amount; pc = pc; stamp = count })
-unfolding tail_on
-tail-is count f g amount pc i j p q = rw (field-first f g i, field-after f g i, p, last-first g j, last-after g j, q) refl
-
-line-is : (count : ℕ) (a b d e f g : List ℕ) (o : Head) (amount pc : ℕ) → list_all is_inner a ≡ true → list_all is_inner b ≡ true → list_all is_inner d ≡ true → list_all is_inner e ≡ true
-    → list_all is_inner f ≡ true → list_all is_inner g ≡ true
-    → decimal_in 0 15 a ≡ Some o.comp → hex_in 2 2 b ≡ Some o.select → hex_in 2 2 d ≡ Some o.umask → mode_of e ≡ Some o.kernel → decimal_in 1 255 f ≡ Some amount → hex_in 1 16 g ≡ Some pc
-    → occurrence_on false count (line a b d e f g) ≡ Some (record { comp = o.comp; select = o.select; umask = o.umask; kernel = o.kernel; amount = amount; pc = pc; stamp = count })
-unfolding occurrence_on event_occurrence_on
-line-is count a b d e f g o amount pc i j k l m n p q r s t u =
-    let five = f ++ 32 ∷ g in
-    let four = e ++ 32 ∷ five in
-    let three = d ++ 32 ∷ four in
-    let two = b ++ 32 ∷ three in
-    rw (field-first a two i, field-after a two i, p, field-first b three j, field-after b three j, q, field-first d four k, field-after d four k, r, field-first e five l, field-after e five l, s, tail-is count f g amount pc m n t u) refl
-
 pc-is : (h : List ℕ) (n : ℕ) → 1 ≤ length h → length h ≤ 16 → list_all is_hex_digit h ≡ true → n ≡ digits_value 16 h → hex_in 1 16 h ≡ Some n
 unfolding hex_in
 pc-is h n low high all e = rw (all, le-leb 1 (length h) low, le-leb (length h) 16 high) (ap Some (sym e))
 
--- ---- the text that holds them
+-- ---- the text after the component
 
-ten : (t : List ℕ) → 10 ≤ length t → take 10 t ≡ get_or t 0 0 ∷ get_or t 1 0 ∷ get_or t 2 0 ∷ get_or t 3 0 ∷ get_or t 4 0 ∷ get_or t 5 0 ∷ get_or t 6 0 ∷ get_or t 7 0 ∷ get_or t 8 0 ∷ get_or t 9 0 ∷ []
-ten [] h = absurd (omega arith)
-ten (t0 ∷ []) h = absurd (omega arith)
-ten (t0 ∷ t1 ∷ []) h = absurd (omega arith)
-ten (t0 ∷ t1 ∷ t2 ∷ []) h = absurd (omega arith)
-ten (t0 ∷ t1 ∷ t2 ∷ t3 ∷ []) h = absurd (omega arith)
-ten (t0 ∷ t1 ∷ t2 ∷ t3 ∷ t4 ∷ []) h = absurd (omega arith)
-ten (t0 ∷ t1 ∷ t2 ∷ t3 ∷ t4 ∷ t5 ∷ []) h = absurd (omega arith)
-ten (t0 ∷ t1 ∷ t2 ∷ t3 ∷ t4 ∷ t5 ∷ t6 ∷ []) h = absurd (omega arith)
-ten (t0 ∷ t1 ∷ t2 ∷ t3 ∷ t4 ∷ t5 ∷ t6 ∷ t7 ∷ []) h = absurd (omega arith)
-ten (t0 ∷ t1 ∷ t2 ∷ t3 ∷ t4 ∷ t5 ∷ t6 ∷ t7 ∷ t8 ∷ []) h = absurd (omega arith)
-ten (t0 ∷ t1 ∷ t2 ∷ t3 ∷ t4 ∷ t5 ∷ t6 ∷ t7 ∷ t8 ∷ t9 ∷ rest) h = refl
+nine : (t : List ℕ) → 9 ≤ length t → take 9 t ≡ get_or t 0 0 ∷ get_or t 1 0 ∷ get_or t 2 0 ∷ get_or t 3 0 ∷ get_or t 4 0 ∷ get_or t 5 0 ∷ get_or t 6 0 ∷ get_or t 7 0 ∷ get_or t 8 0 ∷ []
+nine [] h = absurd (omega arith)
+nine (t0 ∷ []) h = absurd (omega arith)
+nine (t0 ∷ t1 ∷ []) h = absurd (omega arith)
+nine (t0 ∷ t1 ∷ t2 ∷ []) h = absurd (omega arith)
+nine (t0 ∷ t1 ∷ t2 ∷ t3 ∷ []) h = absurd (omega arith)
+nine (t0 ∷ t1 ∷ t2 ∷ t3 ∷ t4 ∷ []) h = absurd (omega arith)
+nine (t0 ∷ t1 ∷ t2 ∷ t3 ∷ t4 ∷ t5 ∷ []) h = absurd (omega arith)
+nine (t0 ∷ t1 ∷ t2 ∷ t3 ∷ t4 ∷ t5 ∷ t6 ∷ []) h = absurd (omega arith)
+nine (t0 ∷ t1 ∷ t2 ∷ t3 ∷ t4 ∷ t5 ∷ t6 ∷ t7 ∷ []) h = absurd (omega arith)
+nine (t0 ∷ t1 ∷ t2 ∷ t3 ∷ t4 ∷ t5 ∷ t6 ∷ t7 ∷ t8 ∷ rest) h = refl
 
-pub begins : (t : List ℕ) (stamp : ℕ) (h : Head) (amount pc : Field) → 31 ≤ length t → IsHead t h → IsAmount t amount → IsHexadecimal t (10 + amount.size + 1) pc → 0 < pc.size
-    → get_or t (10 + amount.size + 1 + pc.size) 0 ≡ 10
-    → BeginsWith t stamp (record {
-      occ = record { comp = h.comp; select = h.select; umask = h.umask; kernel = h.kernel; amount = amount.value; pc = pc.value; stamp = stamp };
-      size = 10 + amount.size + 1 + pc.size;
+-- the fields after the component and before the stamp
+abbrev rest : List ℕ → ℕ → ℕ → List ℕ
+rest r a p = 32 ∷ get_or r 1 0 ∷ get_or r 2 0 ∷ 32 ∷ get_or r 4 0 ∷ get_or r 5 0 ∷ 32 ∷ get_or r 7 0 ∷ 32 ∷ (piece 9 a r ++ 32 ∷ piece (9 + a + 1) p r)
+
+rest-is : (r : List ℕ) (a p : ℕ) → 9 + a < length r → HasHeadSpaces r → get_or r (9 + a) 0 ≡ 32 → take (9 + a + 1 + p) r ≡ rest r a p
+rest-is r a p long spaces space =
+    let amt = piece 9 a r in
+    let hex = piece (9 + a + 1) p r in
+    let head_part : take (9 + a) r ≡ take 9 r ++ amt = take-add 9 a r in
+    let with_space : take (9 + a + 1) r ≡ (take 9 r ++ amt) ++ 32 ∷ [] = take_more r (9 + a) 0 long ∙ rw (head_part, space) refl in
+    let whole : take (9 + a + 1 + p) r ≡ take 9 r ++ (amt ++ 32 ∷ hex) =
+    take-add (9 + a + 1) p r ∙ ap (λ x. x ++ hex) with_space ∙ append_assoc (take 9 r ++ amt) (32 ∷ []) hex ∙ append_assoc (take 9 r) amt (32 ∷ hex) in
+    whole ∙ ap (λ x. x ++ (amt ++ 32 ∷ hex)) (nine r (omega arith)) ∙ rw (spaces.first, spaces.second, spaces.third, spaces.fourth) refl
+
+front-is : (t : List ℕ) (n a p : ℕ) → 9 + a < length (drop n t) → HasHeadSpaces (drop n t) → get_or (drop n t) (9 + a) 0 ≡ 32 → take (n + (9 + a + 1) + p) t ≡ take n t ++ rest (drop n t) a p
+front-is t n a p long spaces space =
+    let sum : n + (9 + a + 1) + p ≡ n + (9 + a + 1 + p) = omega arith in
+    ap (λ m. take m t) sum ∙ take-add n (9 + a + 1 + p) t ∙ ap (λ x. take n t ++ x) (rest-is (drop n t) a p long spaces space)
+
+-- an ending after them
+with-ending : (c amt hex s : List ℕ) (x1 x2 x4 x5 x7 : ℕ) → (c ++ 32 ∷ x1 ∷ x2 ∷ 32 ∷ x4 ∷ x5 ∷ 32 ∷ x7 ∷ 32 ∷ (amt ++ 32 ∷ hex)) ++ s ≡ line c (x1 ∷ x2 ∷ []) (x4 ∷ x5 ∷ []) (x7 ∷ []) amt hex s
+with-ending c amt hex s x1 x2 x4 x5 x7 =
+    append_assoc c (32 ∷ x1 ∷ x2 ∷ 32 ∷ x4 ∷ x5 ∷ 32 ∷ x7 ∷ 32 ∷ (amt ++ 32 ∷ hex)) s
+    ∙ ap (λ x. c ++ 32 ∷ x1 ∷ x2 ∷ 32 ∷ x4 ∷ x5 ∷ 32 ∷ x7 ∷ 32 ∷ x) (append_assoc amt (32 ∷ hex) s)
+
+pub front : (t : List ℕ) (comp : Field) (h : Head) (amount pc : Field) → comp.size + 30 ≤ length t → IsComponent t comp → IsHead (drop comp.size t) h → IsAmount (drop comp.size t) amount
+    → IsHexadecimal t (comp.size + (9 + amount.size + 1)) pc → 0 < pc.size
+    → IsFront t (record {
+      comp = comp.value;
+      select = h.select;
+      umask = h.umask;
+      kernel = h.kernel;
+      amount = amount.value;
+      pc = pc.value;
+      size = comp.size + (9 + amount.size + 1) + pc.size;
     })
-begins t stamp h amount pc long head am digits some newline =
-    let at = 10 + amount.size in
-    let size = pc.size in
-    let amt = piece 10 amount.size t in
-    let hex = piece (at + 1) size t in
-    let low : 1 ≤ amount.size = am.some in
-    let high : amount.size ≤ 3 = am.few in
-    let few : size ≤ 16 = digits.few in
-    let front_part : take at t ≡ take 10 t ++ amt = take-add 10 amount.size t in
-    let with_space : take (at + 1) t ≡ (take 10 t ++ amt) ++ 32 ∷ [] = take_more t at 0 (omega arith) ∙ rw (front_part, am.space) refl in
-    let whole : take (at + 1 + size) t ≡ take 10 t ++ (amt ++ 32 ∷ hex) =
-    take-add (at + 1) size t ∙ ap (λ x. x ++ hex) with_space ∙ append_assoc (take 10 t ++ amt) (32 ∷ []) hex ∙ append_assoc (take 10 t) amt (32 ∷ hex) in
-    let a = get_or t 0 0 ∷ [] in
-    let b = get_or t 2 0 ∷ get_or t 3 0 ∷ [] in
-    let d = get_or t 5 0 ∷ get_or t 6 0 ∷ [] in
-    let e = get_or t 8 0 ∷ [] in
-    let five = amt ++ 32 ∷ hex in
-    let four = e ++ 32 ∷ five in
-    let three = d ++ 32 ∷ four in
-    let two = b ++ 32 ∷ three in
-    let fields : take (at + 1 + size) t ≡ line a b d e amt hex =
-    whole ∙ ap (λ x. x ++ (amt ++ 32 ∷ hex)) (ten t (omega arith)) ∙ rw (head.first_space, head.second_space, head.third_space, head.fourth_space) refl in
-    let hex_len : length hex ≡ size = length-take-le size (drop (at + 1) t) (omega (arith, length-drop (at + 1) t)) in
-    let hex_in_range : hex_in 1 16 hex ≡ Some pc.value = pc-is hex pc.value (omega (arith, hex_len)) (omega (arith, hex_len)) digits.each digits.value in
-    let inner = hex-inner hex digits.each in
+front t comp h amount pc long c head am digits some =
+    let n = comp.size in
+    let r = drop n t in
+    let place = 9 + amount.size + 1 in
+    let amt = piece 9 amount.size r in
+    let hex = piece place pc.size r in
+    let same : piece (n + place) pc.size t ≡ hex = ap (take pc.size) (sym (drop-drop place n t)) in
+    let c_some : 1 ≤ n = c.some in
+    let c_few : n ≤ 2 = c.few in
+    let am_few : amount.size ≤ 3 = am.few in
+    let pc_few : pc.size ≤ 16 = digits.few in
+    let r_long : length r ≡ length t - n = length-drop n t in
+    let each : list_all is_hex_digit hex ≡ true = ap (list_all is_hex_digit) (sym same) ∙ digits.each in
+    let all : AreInner (take n t) (get_or r 1 0 ∷ get_or r 2 0 ∷ []) (get_or r 4 0 ∷ get_or r 5 0 ∷ []) (get_or r 7 0 ∷ []) amt hex = record {
+      comp = c.inner.each;
+      select = head.select_inner.each;
+      umask = head.umask_inner.each;
+      kernel = head.kernel_inner.each;
+      amount = am.inner.each;
+      pc = hex-inner hex each;
+    } in
+    let fields = front-is t n amount.size pc.size (omega arith) head.spaces am.space in
+    let hex_len : length hex ≡ pc.size = length-take-le pc.size (drop place r) (omega (arith, length-drop place r)) in
+    let hex_in_range : hex_in 1 16 hex ≡ Some pc.value = pc-is hex pc.value (omega (arith, hex_len)) (omega (arith, hex_len)) each (digits.value ∙ ap (digits_value 16) same) in
+    record {
+      some = omega arith;
+      few = omega arith;
+      within = omega arith;
+      digit = c.digit;
+      plain = ap (list_all is_plain) fields ∙ fields-plain _ _ _ _ amt hex all;
+      occurs = λ stamped count stamp s ends value. ap (λ x. occurrence_on stamped count (x ++ s)) fields ∙ ap (occurrence_on stamped count) (with-ending (take n t) amt hex s _ _ _ _ _)
+          ∙ line-is stamped count (take n t) _ _ _ amt hex s comp.value h amount.value pc.value stamp all ends c.value head.select head.umask head.kernel am.value hex_in_range value;
+    }
+
+pub begins : (start : LineStart) (t : List ℕ) (front : Front) (ending : Field) → IsFront t front → IsEnding start (drop front.size t) ending
+    → BeginsWith start t (record { occ = occ_with front ending.value; size = front.size + ending.size })
+begins start t front ending f e =
+    let n = front.size in
+    let size = n + ending.size in
+    let tail = take ending.size (drop n t) in
+    let whole : take size t ≡ take n t ++ tail = take-add n ending.size t in
+    let plain : list_all is_plain (take size t) ≡ true = ap (list_all is_plain) whole ∙ list_all-append is_plain (take n t) tail ∙ rw (f.plain, e.plain) refl in
+    let few : n < 32 = f.few in
+    let some : 0 < n = f.some in
+    let e_few : ending.size ≤ 11 = e.few in
+    let e_within : ending.size < length (drop n t) = e.within in
+    let long : length (drop n t) ≡ length t - n = length-drop n t in
     record {
       within = omega arith;
       short = omega arith;
       some = omega arith;
-      digit = head.digit;
-      whole = plain-whole (take (at + 1 + size) t)
-          (subst Plain (sym fields) (field-plain a two head.comp_inner.each (field-plain b three head.select_inner.each (field-plain d four head.umask_inner.each
-          (field-plain e five head.kernel_inner.each (field-plain amt hex am.inner.each (last-plain hex inner)))))));
-      newline = newline;
-      one = record {
-        each =
-            subst Quiet (sym fields) (field-quiet a two head.comp_inner.each (field-quiet b three head.select_inner.each (field-quiet d four head.umask_inner.each
-            (field-quiet e five head.kernel_inner.each (field-quiet amt hex am.inner.each (last-quiet hex inner))))));
-      };
-      occurs = ap (occurrence_on false stamp) fields
-          ∙ line-is stamp a b d e amt hex h amount.value pc.value head.comp_inner.each head.select_inner.each head.umask_inner.each head.kernel_inner.each am.inner.each inner
-          head.comp head.select head.umask head.kernel am.value hex_in_range;
+      digit = f.digit;
+      whole = plain-whole (take size t) plain;
+      newline = sym (get_or-drop n t ending.size 0) ∙ e.newline;
+      one = record { each = plain-one (take size t) plain };
+      occurs = ap (occurrence_on start.stamped start.given) whole ∙ f.occurs start.stamped start.given ending.value tail e.field e.value;
     }
+
+-- in version 1 nothing stands before the newline
+pub begins-1 : (start : LineStart) (t : List ℕ) (front : Front) → start.stamped ≡ false → IsFront t front → get_or t front.size 0 ≡ 10 → BeginsWith start t (record { occ = occ_with front start.given; size = front.size })
+begins-1 start t front plain f newline =
+    let e = ending-1 start (drop front.size t) plain (let w = f.within in omega (arith, length-drop front.size t)) (get_or-drop front.size t 0 0 ∙ ap (λ m. get_or t m 0) (omega arith) ∙ newline) in
+    let same : front.size + 0 ≡ front.size = omega arith in
+    subst (λ m. BeginsWith start t (record { occ = occ_with front start.given; size = m })) same (begins start t front (record { value = start.given; size = 0 }) f e)
+
+-- in version 2 a space and the stamp
+pub begins-2 : (start : LineStart) (t : List ℕ) (front : Front) (stamp : Field) → start.stamped ≡ true → IsFront t front → IsStamp (drop front.size t) stamp
+    → BeginsWith start t (record { occ = occ_with front stamp.value; size = front.size + (1 + stamp.size) })
+begins-2 start t front stamp stamped f s = begins start t front (record { value = stamp.value; size = 1 + stamp.size }) f (ending-2 start (drop front.size t) stamp stamped s)

@@ -1,21 +1,29 @@
 -- Lines of the common form: this project's own stream format, docs/FORMATS.md.
-use Rattle.std.specs.Prelude.{◌≡◌, ◌≤◌, ◌<◌, ◌+◌, ◌++◌, ◌==◌, ◌||◌, ℕ, Bool, true, false, not, List, [], ◌∷◌, length, take, drop, slice_index, Some}
+use Rattle.std.specs.Prelude.{◌≡◌, ◌≤◌, ◌<◌, ◌+◌, ◌++◌, ◌==◌, ◌||◌, ℕ, Bool, true, not, List, [], ◌∷◌, length, take, drop, slice_index, Some}
 use Rattle.std.specs.List.{list_all}
+use Rattle.std.specs.Str.Parse.{digits_value}
 use Rattle.papi_base.specs.Numerals.{decimal_in, hex_in, is_digit}
+use Rattle.papi_base.specs.declared.occurrence.Occ.{Occ}
 use Rattle.stream_reader.specs.declared.common_line.CommonLine.{CommonLine}
+use Rattle.stream_reader.specs.declared.common_line.Front.{Front}
 use Rattle.stream_reader.specs.declared.common_line.Head.{Head}
-use Rattle.stream_reader.specs.declared.common_line.TheConstants.{HEAD}
+use Rattle.stream_reader.specs.declared.common_line.TheConstants.{HEAD, LONGEST_NUMBERED, LONGEST_STAMP}
 use Rattle.stream_reader.specs.declared.field.Field.{Field}
 use Rattle.stream_reader.specs.declared.line.Judgement.TheVariants.{Occurs}
+use Rattle.stream_reader.specs.declared.line.LineStart.{LineStart}
 use Rattle.stream_reader.specs.declared.limits.TheConstants.{LONGEST_LINE}
 use Rattle.stream_reader.specs.Digits.{piece}
 use Rattle.stream_reader.specs.Judged.{judged, mode_of, without_return}
 use Rattle.stream_reader.specs.Lines.{IsOneLine}
-use Rattle.stream_reader.specs.Fields.{occurrence_on}
+use Rattle.stream_reader.specs.Fields.{after_field, first_field, occurrence_on, stamp_after}
 use Rattle.stream_reader.specs.Inside.{line_at}
 use Rattle.stream_reader.specs.Reader.{ReaderView}
 
--- a byte that ends neither a field nor a line, and is not a carriage return
+-- a byte that neither ends a line nor is a carriage return
+abbrev pub is_plain : ℕ → Bool
+is_plain b = not ((b == 10) || (b == 13))
+
+-- such a byte that ends no field either
 abbrev pub is_inner : ℕ → Bool
 is_inner b = not ((b == 32) || ((b == 10) || (b == 13)))
 
@@ -23,28 +31,31 @@ is_inner b = not ((b == 32) || ((b == 10) || (b == 13)))
 pub record IsInner (t : List ℕ) : Type 0 where
   pub each : list_all is_inner t ≡ true
 
--- a space ends each of the four fields before the amount
-pub record HasHeadSpaces (t : List ℕ) : Type 0 where
-  pub first : slice_index t 1 ≡ 32
-  pub second : slice_index t 4 ≡ 32
-  pub third : slice_index t 7 ≡ 32
-  pub fourth : slice_index t 9 ≡ 32
-
--- the bytes before the amount, where the component has one digit
-pub record IsHead (t : List ℕ) (head : Head) : Type 0 where
+-- a text begins with a component
+pub record IsComponent (t : List ℕ) (comp : Field) : Type 0 where
+  pub some : 1 ≤ comp.size
+  pub few : comp.size ≤ 2
+  pub most : comp.value ≤ 15
   pub digit : is_digit (slice_index t 0) ≡ true
-  pub comp : decimal_in 0 15 (slice_index t 0 ∷ []) ≡ Some head.comp
-  pub select : hex_in 2 2 (slice_index t 2 ∷ slice_index t 3 ∷ []) ≡ Some head.select
-  pub umask : hex_in 2 2 (slice_index t 5 ∷ slice_index t 6 ∷ []) ≡ Some head.umask
-  pub kernel : mode_of (slice_index t 8 ∷ []) ≡ Some head.kernel
-  pub comp_inner : IsInner (slice_index t 0 ∷ [])
-  pub select_inner : IsInner (slice_index t 2 ∷ slice_index t 3 ∷ [])
-  pub umask_inner : IsInner (slice_index t 5 ∷ slice_index t 6 ∷ [])
-  pub kernel_inner : IsInner (slice_index t 8 ∷ [])
-  pub first_space : slice_index t 1 ≡ 32
-  pub second_space : slice_index t 4 ≡ 32
-  pub third_space : slice_index t 7 ≡ 32
-  pub fourth_space : slice_index t 9 ≡ 32
+  pub value : decimal_in 0 15 (take comp.size t) ≡ Some comp.value
+  pub inner : IsInner (take comp.size t)
+
+-- a space stands before and after each of the three fields between the component and the amount
+pub record HasHeadSpaces (t : List ℕ) : Type 0 where
+  pub first : slice_index t 0 ≡ 32
+  pub second : slice_index t 3 ≡ 32
+  pub third : slice_index t 6 ≡ 32
+  pub fourth : slice_index t 8 ≡ 32
+
+-- the bytes after the component and before the amount
+pub record IsHead (t : List ℕ) (head : Head) : Type 0 where
+  pub select : hex_in 2 2 (slice_index t 1 ∷ slice_index t 2 ∷ []) ≡ Some head.select
+  pub umask : hex_in 2 2 (slice_index t 4 ∷ slice_index t 5 ∷ []) ≡ Some head.umask
+  pub kernel : mode_of (slice_index t 7 ∷ []) ≡ Some head.kernel
+  pub select_inner : IsInner (slice_index t 1 ∷ slice_index t 2 ∷ [])
+  pub umask_inner : IsInner (slice_index t 4 ∷ slice_index t 5 ∷ [])
+  pub kernel_inner : IsInner (slice_index t 7 ∷ [])
+  pub spaces : HasHeadSpaces t
 
 -- the amount after the head, and the space that ends it
 pub record IsAmount (t : List ℕ) (amount : Field) : Type 0 where
@@ -55,8 +66,38 @@ pub record IsAmount (t : List ℕ) (amount : Field) : Type 0 where
   pub inner : IsInner (piece HEAD amount.size t)
   pub space : slice_index t (HEAD + amount.size) ≡ 32
 
--- a text begins with a line that writes an occurrence of version 1, and then the newline
-pub record BeginsWith (t : List ℕ) (stamp : ℕ) (line : CommonLine) : Type 0 where
+-- the occurrence of these fields with this stamp
+abbrev pub occ_with : Front → ℕ → Occ
+occ_with front stamp =
+    record { comp = front.comp; select = front.select; umask = front.umask; kernel = front.kernel; amount = front.amount; pc = front.pc; stamp = stamp }
+
+-- a text begins with the fields before the stamp: with any ending that gives a stamp they write the occurrence
+pub record IsFront (t : List ℕ) (front : Front) : Type 0 where
+  pub some : 0 < front.size
+  pub few : front.size < LONGEST_NUMBERED
+  pub within : front.size < length t
+  pub digit : is_digit (slice_index t 0) ≡ true
+  pub plain : list_all is_plain (take front.size t) ≡ true
+  pub occurs : (stamped : Bool) (count stamp : ℕ) (ending : List ℕ) → first_field ending ≡ [] → stamp_after stamped count (after_field ending) ≡ Some stamp →
+      occurrence_on stamped count (take front.size t ++ ending) ≡ Some (occ_with front stamp)
+
+-- a text begins with decimal digits, at most as many as the longest stamp has, and their number
+pub record IsDigits (t : List ℕ) (digits : Field) : Type 0 where
+  pub few : digits.size ≤ LONGEST_STAMP
+  pub each : list_all is_digit (take digits.size t) ≡ true
+  pub value : digits.value ≡ digits_value 10 (take digits.size t)
+
+-- a space, a stamp, and the newline
+pub record IsStamp (t : List ℕ) (stamp : Field) : Type 0 where
+  pub few : stamp.size ≤ LONGEST_STAMP
+  pub within : 1 + stamp.size < length t
+  pub space : slice_index t 0 ≡ 32
+  pub value : decimal_in 0 4294967294 (piece 1 stamp.size t) ≡ Some stamp.value
+  pub inner : IsInner (piece 1 stamp.size t)
+  pub newline : slice_index t (1 + stamp.size) ≡ 10
+
+-- a text begins with a line that writes an occurrence, and then the newline
+pub record BeginsWith (start : LineStart) (t : List ℕ) (line : CommonLine) : Type 0 where
   pub within : line.size < length t
   pub short : line.size ≤ LONGEST_LINE
   pub some : 0 < line.size
@@ -64,7 +105,7 @@ pub record BeginsWith (t : List ℕ) (stamp : ℕ) (line : CommonLine) : Type 0 
   pub whole : without_return (take line.size t) ≡ take line.size t
   pub newline : slice_index t line.size ≡ 10
   pub one : IsOneLine (take line.size t)
-  pub occurs : occurrence_on false stamp (take line.size t) ≡ Some line.occ
+  pub occurs : occurrence_on start.stamped start.given (take line.size t) ≡ Some line.occ
 
 -- the bytes held begin with this line, and it is judged to be its occurrence
 pub record HoldsLine (v : ReaderView) (line : CommonLine) : Type 0 where

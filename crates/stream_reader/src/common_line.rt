@@ -1,11 +1,12 @@
-//! Lines of the common form, read at fixed places: an occurrence of version 1 on a component of one digit, and a newline with no
-//! carriage return before it. Every other line, good or bad, is left to `line`.
-ghost use Rattle.std.specs.Prelude.{◌≡◌, ◌≤◌, ◌+◌, ◌*◌, true, length, IfSome};
-ghost use Rattle.stream_reader.specs.CommonLines.{HasHeadSpaces, IsHead, IsAmount, BeginsWith};
+//! Lines of the common form, read at fixed places: an occurrence of either version, and a newline with no carriage return before
+//! it. Every other line, good or bad, is left to `line`.
+ghost use Rattle.std.specs.Prelude.{◌≡◌, ◌≤◌, ◌+◌, ◌*◌, true, false, length, IfSome};
+ghost use Rattle.stream_reader.specs.CommonLines.{HasHeadSpaces, IsComponent, IsHead, IsAmount, IsFront, IsDigits, IsStamp, BeginsWith, occ_with};
 
 use crate::byte_tables::{digit_or_255, mode_or_255};
 use crate::digit_vector::hexadecimal_at;
-use crate::field::Field;
+use crate::field::{Field, has_form};
+use crate::line::LineStart;
 use papi_base::Occ;
 
 /// An occurrence, and the length of its line without the newline.
@@ -15,28 +16,81 @@ pub(crate) struct CommonLine {
     pub size: usize,
 }
 
-/// The fields before the amount.
+/// The fields between the component and the amount.
 #[derive(Clone, Copy)]
 pub(crate) struct Head {
-    pub comp: u8,
     pub select: u8,
     pub umask: u8,
     pub kernel: bool,
 }
 
-// The bytes before the amount.
-const HEAD: usize = 10;
+/// The fields before the stamp, and the length of the line up to there.
+#[derive(Clone, Copy)]
+pub(crate) struct Front {
+    pub comp: u8,
+    pub select: u8,
+    pub umask: u8,
+    pub kernel: bool,
+    pub amount: u8,
+    pub pc: u64,
+    pub size: usize,
+}
 
-// The bytes of the longest line of the common form: the head, an amount of 3, a space, a program counter of 16 and the newline.
-const LONGEST_COMMON_LINE: usize = HEAD + 3 + 1 + 16 + 1;
+// The bytes between the component and the amount.
+const HEAD: usize = 9;
 
-// Whether a space ends each of the four fields before the amount, where the component has one digit.
+// The bytes after the component in the longest line of version 1: the head, an amount of 3, a space, a program counter of 16 and the
+// newline.
+const LONGEST_REST: usize = HEAD + 3 + 1 + 16 + 1;
+
+// The digits of the longest stamp.
+const LONGEST_STAMP: usize = 10;
+
+// The bytes of the longest line of version 1, with its newline.
+const LONGEST_NUMBERED: usize = 2 + LONGEST_REST;
+
+// The bytes of the longest line of version 2, which has a space and the stamp more.
+const LONGEST_STAMPED: usize = LONGEST_NUMBERED + 1 + LONGEST_STAMP;
+
+// The component, where it has one digit.
+#[inline(always)]
+fn one_digit(text: &[u8]) -> Option<Field>
+    requires { LONGEST_REST ≤ length text.now }
+    ensures { IfSome result (λ comp. IsComponent text.now comp) }
+{
+    let digit = text[0].wrapping_sub(b'0');
+    if digit > 9 {
+        return None;
+    }
+    Some(Field {
+        value: u64::from(digit),
+        size: 1,
+    })
+}
+
+// The component, where it has two digits.
+#[inline(always)]
+fn two_digits(text: &[u8]) -> Option<Field>
+    requires { LONGEST_REST ≤ length text.now }
+    ensures { IfSome result (λ comp. IsComponent text.now comp) }
+{
+    let digit = text[1].wrapping_sub(b'0');
+    if text[0] != b'1' || digit > 5 {
+        return None;
+    }
+    Some(Field {
+        value: u64::from(10 + digit),
+        size: 2,
+    })
+}
+
+// Whether a space stands before and after each of the three fields between the component and the amount.
 #[inline(always)]
 fn has_head_spaces(text: &[u8]) -> bool
-    requires { LONGEST_COMMON_LINE ≤ length text.now }
+    requires { LONGEST_REST ≤ length text.now }
     ensures { result ≡ true → HasHeadSpaces text.now }
 {
-    text[1] == b' ' && text[4] == b' ' && text[7] == b' ' && text[9] == b' '
+    text[0] == b' ' && text[3] == b' ' && text[6] == b' ' && text[8] == b' '
 }
 
 // The byte that has these two hexadecimal digits.
@@ -49,26 +103,24 @@ fn byte_of(high: u8, low: u8) -> u8
     high * 16 + low
 }
 
-// The fields before the amount, where the component has one digit.
+// The fields after the component and before the amount.
 #[inline(always)]
 fn read_head(text: &[u8]) -> Option<Head>
-    requires { LONGEST_COMMON_LINE ≤ length text.now }
+    requires { LONGEST_REST ≤ length text.now }
     ensures { IfSome result (λ head. IsHead text.now head) }
 {
-    let comp = digit_or_255(text[0]);
-    let select_high = digit_or_255(text[2]);
-    let select_low = digit_or_255(text[3]);
-    let umask_high = digit_or_255(text[5]);
-    let umask_low = digit_or_255(text[6]);
-    let mode = mode_or_255(text[8]);
+    let select_high = digit_or_255(text[1]);
+    let select_low = digit_or_255(text[2]);
+    let umask_high = digit_or_255(text[4]);
+    let umask_low = digit_or_255(text[5]);
+    let mode = mode_or_255(text[7]);
     if !has_head_spaces(text) {
         return None;
     }
-    if comp > 9 || (select_high | select_low | umask_high | umask_low | mode) > 15 {
+    if (select_high | select_low | umask_high | umask_low | mode) > 15 {
         return None;
     }
     Some(Head {
-        comp,
         select: byte_of(select_high, select_low),
         umask: byte_of(umask_high, umask_low),
         kernel: mode == 1,
@@ -78,7 +130,7 @@ fn read_head(text: &[u8]) -> Option<Head>
 // The amount after the head, where a space ends it.
 #[inline(always)]
 fn read_amount(text: &[u8]) -> Option<Field>
-    requires { LONGEST_COMMON_LINE ≤ length text.now }
+    requires { LONGEST_REST ≤ length text.now }
     ensures { IfSome result (λ amount. IsAmount text.now amount) }
 {
     let first = text[HEAD].wrapping_sub(b'0');
@@ -112,32 +164,144 @@ fn read_amount(text: &[u8]) -> Option<Field>
     Some(Field { value, size: 3 })
 }
 
-/// The line that a text begins with, where it has the common form and the text has as many bytes as the longest such line.
+// The fields before the stamp, where this is the component.
 #[inline(always)]
-pub(crate) fn common_line(text: &[u8], stamp: u64) -> Option<CommonLine>
-    ensures { IfSome result (λ line. BeginsWith text.now stamp line) }
+fn front_after(text: &[u8], comp: Field) -> Option<Front>
+    requires component { IsComponent text.now comp }
+    requires long { comp.size + LONGEST_REST ≤ length text.now }
+    ensures { IfSome result (λ front. IsFront text.now front) }
 {
-    if text.len() < LONGEST_COMMON_LINE {
+    let rest = &text[comp.size..];
+    let head = read_head(rest)?;
+    let amount = read_amount(rest)?;
+    let place = comp.size + (HEAD + amount.size + 1);
+    let pc = hexadecimal_at(text, place);
+    if pc.size == 0 {
         return None;
     }
-    let head = read_head(text)?;
-    let amount = read_amount(text)?;
-    let place = HEAD + amount.size + 1;
-    let pc = hexadecimal_at(text, place);
-    let size = place + pc.size;
-    if pc.size == 0 || text[size] != b'\n' {
+    Some(Front {
+        comp: comp.value as u8,
+        select: head.select,
+        umask: head.umask,
+        kernel: head.kernel,
+        amount: amount.value as u8,
+        pc: pc.value,
+        size: place + pc.size,
+    })
+}
+
+// The fields before the stamp. In each of the two cases all places up to the amount are fixed.
+#[inline(always)]
+fn read_front(text: &[u8]) -> Option<Front>
+    requires { LONGEST_NUMBERED ≤ length text.now }
+    ensures { IfSome result (λ front. IsFront text.now front) }
+{
+    if text[1] == b' ' {
+        front_after(text, one_digit(text)?)
+    } else {
+        front_after(text, two_digits(text)?)
+    }
+}
+
+// The number of the decimal digits that a text begins with, at most those of the longest stamp, and how many they are.
+#[inline(always)]
+fn decimal_digits(text: &[u8]) -> Field
+    requires { LONGEST_STAMP ≤ length text.now }
+    ensures { IsDigits text.now result }
+{
+    let mut value: u64 = 0;
+    let mut size = 0;
+    while size < LONGEST_STAMP {
+        let digit = text[size].wrapping_sub(b'0');
+        if digit > 9 {
+            break;
+        }
+        value = value * 10 + u64::from(digit);
+        size += 1;
+    }
+    Field { value, size }
+}
+
+// The stamp after a space, where a newline ends it.
+#[inline(always)]
+fn read_stamp(text: &[u8]) -> Option<Field>
+    requires { LONGEST_STAMP + 2 ≤ length text.now }
+    ensures { IfSome result (λ stamp. IsStamp text.now stamp) }
+{
+    if text[0] != b' ' {
+        return None;
+    }
+    let digits = &text[1..];
+    let stamp = decimal_digits(digits);
+    if !has_form(digits, stamp.size) || digits[stamp.size] != b'\n' {
+        return None;
+    }
+    if stamp.value > 4_294_967_294 {
+        return None;
+    }
+    Some(stamp)
+}
+
+// The occurrence of these fields with this stamp.
+#[inline(always)]
+fn occ_with(front: Front, stamp: u64) -> Occ
+    ensures { result ≡ occ_with front stamp }
+{
+    Occ {
+        comp: front.comp,
+        select: front.select,
+        umask: front.umask,
+        kernel: front.kernel,
+        amount: front.amount,
+        pc: front.pc,
+        stamp,
+    }
+}
+
+// The line in version 1, where the stamp is the number of occurrences before.
+#[inline(always)]
+fn numbered_line(start: &LineStart, text: &[u8]) -> Option<CommonLine>
+    requires { start.now.stamped ≡ false }
+    ensures { IfSome result (λ line. BeginsWith start.now text.now line) }
+{
+    if text.len() < LONGEST_NUMBERED {
+        return None;
+    }
+    let front = read_front(text)?;
+    if text[front.size] != b'\n' {
         return None;
     }
     Some(CommonLine {
-        occ: Occ {
-            comp: head.comp,
-            select: head.select,
-            umask: head.umask,
-            kernel: head.kernel,
-            amount: amount.value as u8,
-            pc: pc.value,
-            stamp,
-        },
-        size,
+        occ: occ_with(front, start.given),
+        size: front.size,
     })
+}
+
+// The line in version 2.
+#[inline(always)]
+fn stamped_line(start: &LineStart, text: &[u8]) -> Option<CommonLine>
+    requires { start.now.stamped ≡ true }
+    ensures { IfSome result (λ line. BeginsWith start.now text.now line) }
+{
+    if text.len() < LONGEST_STAMPED {
+        return None;
+    }
+    let front = read_front(text)?;
+    let stamp = read_stamp(&text[front.size..])?;
+    Some(CommonLine {
+        occ: occ_with(front, stamp.value),
+        size: front.size + (1 + stamp.size),
+    })
+}
+
+/// The line that a text begins with, where it has the common form and the text is long enough for any such line of the version.
+#[inline(always)]
+pub(crate) fn common_line(start: &LineStart, text: &[u8]) -> Option<CommonLine>
+    ensures { IfSome result (λ line. BeginsWith start.now text.now line) }
+{
+    if start.stamped {
+        stamped_line(start, text)
+    } else {
+        numbered_line(start, text)
+    }
 }

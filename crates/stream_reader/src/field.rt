@@ -41,9 +41,9 @@ fn digits(text: &[u8], greatest: u64) -> Option<Field>
     })
 }
 
-// Whether a field of digits is not empty and has no leading zero.
+/// Whether a field of digits is not empty and has no leading zero.
 #[inline(always)]
-fn has_form(text: &[u8], size: usize) -> bool
+pub(crate) fn has_form(text: &[u8], size: usize) -> bool
     requires { size ≤ length text.now }
     ensures { result ≡ has_form size (slice_index text.now 0) }
 {

@@ -74,9 +74,9 @@ fn cause_of(start: &LineStart, text: &[u8]) -> LineCause
     }
 }
 
-// Whether a stamp is above the last one.
+/// Whether a stamp is above the last one.
 #[inline(always)]
-fn is_above(last: Option<u64>, stamp: u64) -> bool
+pub(crate) fn is_above(last: Option<u64>, stamp: u64) -> bool
     ensures { result ≡ is_above last stamp }
 {
     match last {

@@ -8,7 +8,7 @@ ghost use Rattle.stream_reader.specs.Inside.{answer_of};
 
 use crate::common_line::{CommonLine, common_line};
 use crate::limits::{LARGEST_STREAM, LONGEST_LINE, PIECE, READER_BYTES};
-use crate::line::{Judgement, LineStart};
+use crate::line::{Judgement, LineStart, is_above};
 use crate::next::Next;
 use memchr::memchr;
 use papi_base::{Failed, LineCause, Source};
@@ -202,10 +202,10 @@ impl<S: Source> StreamReader<S> {
     fn common_line(&self) -> Option<CommonLine>
         ensures { IfSome result (λ line. HoldsLine self.now line) }
     {
-        if self.start.stamped {
+        let line = common_line(&self.start, &self.bytes[self.from..self.to])?;
+        if self.start.stamped && !is_above(self.start.last, line.occ.stamp) {
             return None;
         }
-        let line = common_line(&self.bytes[self.from..self.to], self.start.given)?;
         let passed = self.start.passed + line.size as u64;
         if passed > LARGEST_STREAM {
             return None;

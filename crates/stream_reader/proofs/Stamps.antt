@@ -1,0 +1,105 @@
+-- Stamps, and what stands between a program counter and the newline.
+use Rattle.std.proofs.Common.{◌≡◌, ◌∙◌, ◌+◌, ◌-◌, ◌*◌, ◌<◌, ◌≤◌, ◌∷◌, ◌==◌, ◌||◌, ◌^◌, ℕ, true, false, not, List, [], Some, None, length, drop, take, get_or, refl, sym, ap, arith, add-one, nat_lt}
+use Rattle.std.specs.List.{list_all}
+use Rattle.std.specs.Str.Parse.{digits_value}
+use Rattle.std.proofs.Math.Nat.{pow-suc}
+use Rattle.std.proofs.Math.Seq.{take-add}
+use Rattle.std.proofs.lemmas.List.{get_or-drop, get_or-take, length-take-le, length-drop}
+use Rattle.std.proofs.lemmas.List.Folds.{list_all_more}
+use Rattle.std.proofs.lemmas.Int.Digits.{digits_value_more}
+use Rattle.std.proofs.lemmas.Bool.{and_parts, le-leb, ltb-true}
+use Rattle.papi_base.specs.Numerals.{decimal_in, is_decimal, is_digit, is_numeral}
+use Rattle.stream_reader.specs.declared.field.Field.{Field}
+use Rattle.stream_reader.specs.declared.line.LineStart.{LineStart}
+use Rattle.stream_reader.specs.Digits.{piece}
+use Rattle.stream_reader.specs.Fields.{after_field, first_field, has_form, stamp_after}
+use Rattle.stream_reader.specs.CommonLines.{IsDigits, IsStamp, is_inner, is_plain}
+use Rattle.stream_reader.proofs.DecimalBytes.{digit, digit-inner, take-one}
+use Rattle.stream_reader.proofs.LineFields.{all-plain, last-after, last-first, space-first}
+
+-- ---- one digit more
+
+pub record Grows (t : List ℕ) (i v : ℕ) : Type 0 where
+  pub each : list_all is_digit (take (i + 1) t) ≡ true
+  pub value : v * 10 + (get_or t i 0 - 48) ≡ digits_value 10 (take (i + 1) t)
+  pub small : v * 10 + (get_or t i 0 - 48) < 10 ^ (i + 1)
+
+pub grows : (t : List ℕ) (i v : ℕ) → i < length t → 48 ≤ get_or t i 0 → get_or t i 0 ≤ 57 → list_all is_digit (take i t) ≡ true → v ≡ digits_value 10 (take i t) → v < 10 ^ i → Grows t i v
+grows t i v h low high each value small =
+    let x = digit (get_or t i 0) low high in
+    record {
+      each = list_all_more is_digit t i 0 h ∙ rw (each, x.test) refl;
+      value = omega (arith, value, x.value, digits_value_more 10 t i h);
+      small = rw add-one (omega (arith, pow-suc 10 i));
+    }
+
+-- ---- a stamp
+
+decimal-of : (high : ℕ) (f : List ℕ) → list_all is_digit f ≡ true → has_form (length f) (get_or f 0 0) ≡ true → digits_value 10 f ≤ high → decimal_in 0 high f ≡ Some (digits_value 10 f)
+unfolding decimal_in is_decimal is_numeral
+decimal-of high [] each form most = cc form
+decimal-of high (b ∷ f) each form most =
+    let p = and_parts (nat_lt 0 (length (b ∷ f))) ((length (b ∷ f) == 1) || not (b == 48)) form in
+    let v = digits_value 10 (b ∷ f) in
+    rw (each, p.1, le-leb 0 v (omega arith), le-leb v high most) refl
+
+digits-inner : (f : List ℕ) → list_all is_digit f ≡ true → list_all is_inner f ≡ true
+digits-inner [] h = refl
+digits-inner (b ∷ f) h = let p = and_parts (is_digit b) (list_all is_digit f) h in rw (digit-inner b p.0, digits-inner f p.1) refl
+
+pub stamp-is : (t : List ℕ) (stamp : Field) → 12 ≤ length t → get_or t 0 0 ≡ 32 → IsDigits (drop 1 t) stamp → has_form stamp.size (get_or (drop 1 t) 0 0) ≡ true
+    → get_or (drop 1 t) stamp.size 0 ≡ 10 → stamp.value ≤ 4294967294 → IsStamp t stamp
+stamp-is t stamp long space digits form newline most =
+    let u = drop 1 t in
+    let f = take stamp.size u in
+    let few : stamp.size ≤ 10 = digits.few in
+    let some : 0 < stamp.size = ltb-true 0 stamp.size (and_parts (nat_lt 0 stamp.size) ((stamp.size == 1) || not (get_or u 0 0 == 48)) form).0 in
+    let size : length f ≡ stamp.size = length-take-le stamp.size u (omega (arith, length-drop 1 t)) in
+    let form_of : has_form (length f) (get_or f 0 0) ≡ true = rw (size, get_or-take stamp.size u 0 0 some) form in
+    record {
+      few = few;
+      within = omega arith;
+      space = space;
+      value = decimal-of 4294967294 f digits.each form_of (omega (arith, digits.value)) ∙ ap Some (sym digits.value);
+      inner = record { each = digits-inner f digits.each };
+      newline = sym (get_or-drop 1 t stamp.size 0) ∙ newline;
+    }
+
+-- ---- what stands before the newline
+
+-- what stands between the program counter and the newline gives the stamp
+pub record IsEnding (start : LineStart) (t : List ℕ) (ending : Field) : Type 0 where
+  pub few : ending.size ≤ 11
+  pub within : ending.size < length t
+  pub field : first_field (take ending.size t) ≡ []
+  pub value : stamp_after start.stamped start.given (after_field (take ending.size t)) ≡ Some ending.value
+  pub plain : list_all is_plain (take ending.size t) ≡ true
+  pub newline : get_or t ending.size 0 ≡ 10
+
+pub ending-1 : (start : LineStart) (t : List ℕ) → start.stamped ≡ false → 0 < length t → get_or t 0 0 ≡ 10 → IsEnding start t (record { value = start.given; size = 0 })
+unfolding first_field after_field
+ending-1 start t plain some newline = record {
+  few = omega arith;
+  within = some;
+  field = refl;
+  value = rw plain refl;
+  plain = refl;
+  newline = newline;
+}
+
+stamp-after : (count n : ℕ) (f : List ℕ) → first_field f ≡ f → after_field f ≡ None → decimal_in 0 4294967294 f ≡ Some n → stamp_after true count (after_field (32 ∷ f)) ≡ Some n
+unfolding after_field
+stamp-after count n f first after e = rw (first, e, after) refl
+
+pub ending-2 : (start : LineStart) (t : List ℕ) (stamp : Field) → start.stamped ≡ true → IsStamp t stamp → IsEnding start t (record { value = stamp.value; size = 1 + stamp.size })
+ending-2 start t stamp stamped s =
+    let f = piece 1 stamp.size t in
+    let whole : take (1 + stamp.size) t ≡ 32 ∷ f = take-add 1 stamp.size t ∙ rw (take-one t (let w = s.within in omega arith), s.space) refl in
+    record {
+      few = let few = s.few in omega arith;
+      within = s.within;
+      field = ap first_field whole ∙ space-first f;
+      value = rw (stamped, whole) (stamp-after start.given stamp.value f (last-first f s.inner.each) (last-after f s.inner.each) s.value);
+      plain = ap (list_all is_plain) whole ∙ all-plain f s.inner.each;
+      newline = s.newline;
+    }
