@@ -181,8 +181,8 @@ impl<S: Source> StreamReader<S> {
         answer_of(number, judgement)
     }
 
-    // Takes the front of the bytes held as a line.
-    #[inline(always)]
+    // Takes the front of the bytes held as a line. It stays out of line, and leaves the registers to lines of the common form.
+    #[inline(never)]
     fn take_line(&mut self, size: usize, ended: bool) -> Option<Next>
         requires over { self.old.over ≡ false }
         requires within { size + flag_bit ended ≤ length self.old.held }
