@@ -50,7 +50,7 @@ coded : (kernel : Bool) (code : ℕ) (r : Register) → has_code (if kernel then
 coded true code r = refl
 coded false code r = refl
 
-unheld : (comp select umask mode reaches : Bool) → ((select && mode) && umask) ≡ false → (comp && select && umask && mode && reaches) ≡ false
+unheld : (comp select umask mode reaches : Bool) → ((select && mode) && umask) ≡ false → ((comp && select && umask && mode) && reaches) ≡ false
 unheld false select umask mode reaches e = refl
 unheld true false umask mode reaches e = refl
 unheld true true false mode reaches e = refl

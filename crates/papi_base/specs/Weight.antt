@@ -17,11 +17,13 @@ differ false b = b
 abbrev pub in_mode : Native → Domain → Occ → Bool
 in_mode n d o = if (n.mods.user || n.mods.kernel) then (if o.kernel then n.mods.kernel else n.mods.user) else (if o.kernel then share d.0 2 else share d.0 1)
 
+-- the occurrence is of the native, in a mode in which that counts
+abbrev pub is_of : Native → Domain → Occ → Bool
+is_of n d o = (n.comp == o.comp) && (n.select == o.select) && ((n.umask == 0) || share n.umask o.umask) && in_mode n d o
+
 -- the native's condition holds at the occurrence
 abbrev pub holds : Native → Domain → Occ → Bool
-holds n d o =
-    (n.comp == o.comp) && (n.select == o.select) && ((n.umask == 0) || share n.umask o.umask) && in_mode n d o
-    && ((n.mods.cmask == 0) || differ (nat_le n.mods.cmask o.amount) n.mods.invert)
+holds n d o = is_of n d o && ((n.mods.cmask == 0) || differ (nat_le n.mods.cmask o.amount) n.mods.invert)
 
 -- it held at the occurrence before, if there was one
 abbrev pub held : Native → Domain → Option Occ → Bool

@@ -35,7 +35,7 @@ pub use limits::{MOST_OCCURRENCES, THREADS};
 pub use memory::{MemSink, MemSource};
 pub use native::{EventRef, Mods, Native};
 pub use natives::Natives;
-pub use occurrence::{LineCause, Occ, holds_at, weight};
+pub use occurrence::{LineCause, Occ, weight};
 pub use outside::{Ending, Failed, Files, OpenFail, Sink, Source, WriteFail};
 pub use places::Places;
 pub use shape::{CompShape, Shape};

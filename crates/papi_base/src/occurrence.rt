@@ -1,7 +1,7 @@
 // Occurrences, and what they add to a native event's count.
 ghost use Rattle.std.specs.Prelude.{◌≡◌, ◌≤◌};
 ghost use Rattle.std.specs.Option.{option_copied};
-ghost use Rattle.papi_base.specs.Weight.{holds, in_mode, weight_of};
+ghost use Rattle.papi_base.specs.Weight.{held, holds, in_mode, is_of, weight_of};
 
 use crate::{Domain, Native};
 use bitflags::Flags;
@@ -41,16 +41,35 @@ fn is_in_mode(n: &Native, d: Domain, o: &Occ) -> bool
     named | (!any & (d.0 & bit != 0))
 }
 
-/// Whether the native event's condition holds at the occurrence, by its modifiers and the set's domain.
+/// Whether the occurrence is of the native event, in a mode in which it counts.
 // Each part is tested, with no branch: occurrences come in no order that a processor could foresee.
 #[inline(always)]
-pub fn holds_at(n: &Native, d: Domain, o: &Occ) -> bool
-    ensures holds { result ≡ holds n.now d o.now }
+fn is_of(n: &Native, d: Domain, o: &Occ) -> bool
+    ensures { result ≡ is_of n.now d o.now }
 {
     let is_event = (n.comp == o.comp as u32) & (n.select == o.select);
     let has_umask = (n.umask == 0) | (n.umask & o.umask != 0);
+    is_event & has_umask & is_in_mode(n, d, o)
+}
+
+/// Whether the native event's condition holds at the occurrence, by its modifiers and the set's domain.
+#[inline(always)]
+fn holds_at(n: &Native, d: Domain, o: &Occ) -> bool
+    ensures holds { result ≡ holds n.now d o.now }
+{
     let reaches = (n.mods.cmask == 0) | ((o.amount >= n.mods.cmask) != n.mods.invert);
-    is_event & has_umask & is_in_mode(n, d, o) & reaches
+    is_of(n, d, o) & reaches
+}
+
+/// Whether the native event's condition held at the occurrence before, if there was one.
+#[inline(always)]
+fn held_at(n: &Native, d: Domain, before: Option<&Occ>) -> bool
+    ensures { result ≡ held n.now d (option_copied before.entry) }
+{
+    match before {
+        Some(before) => holds_at(n, d, before),
+        None => false,
+    }
 }
 
 /// What the occurrence adds to the native event's count, where `before` is the one that came just before it.
@@ -58,15 +77,9 @@ pub fn holds_at(n: &Native, d: Domain, o: &Occ) -> bool
 pub fn weight(n: &Native, d: Domain, before: Option<&Occ>, o: &Occ) -> u8
     ensures weight { result ≡ weight_of n.now d (option_copied before.entry) o.now }
 {
-    let most = if n.mods.edge {
-        match before {
-            Some(b) => { if holds_at(n, d, b) { 0 } else { 1 } }
-            None => 1,
-        }
-    } else if n.mods.cmask == 0 {
-        o.amount
-    } else {
-        1
-    };
-    if holds_at(n, d, o) { most } else { 0 }
+    if !n.mods.edge && n.mods.cmask == 0 {
+        return if is_of(n, d, o) { o.amount } else { 0 };
+    }
+    let rises = !n.mods.edge || !held_at(n, d, before);
+    u8::from(holds_at(n, d, o) && rises)
 }
