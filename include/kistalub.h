@@ -86,7 +86,7 @@ int kistalub_counters(kistalub *h, uint32_t component);
  * nothing happened then. */
 int kistalub_run(kistalub *h, uint32_t n, uint32_t *consumed, kistalub_passing *passings, size_t room, uint64_t *told);
 
-/* What follows is C over the functions above (papi.c), and is not proved. */
+/* What follows is C over the functions above (the sources in c/), and is not proved. */
 
 /* What PAPI_library_init takes, in place of the environment: the paths of a unit file, of a preset file or NULL, the cpu or NULL,
  * and of the streams, where %t stands for the number of the thread from 0. Without it they come from KISTALUB_UNIT,

@@ -4,7 +4,7 @@
  * recorded stream: kistalub_init or the environment name it, and time goes on by kistalub_go or KISTALUB_STEP (kistalub.h).
  *
  * Unlike in PAPI, event sets and codes of native events are the thread's that made them. Handlers are called between
- * occurrences, with no context. What has no meaning here answers PAPI_ENOSUPP. This file and papi.c are not proved. */
+ * occurrences, with no context. What has no meaning here answers PAPI_ENOSUPP. This file and the sources in c/ are not proved. */
 #ifndef PAPI_H
 #define PAPI_H
 
