@@ -21,7 +21,7 @@ void kl_hit(profile *p, unsigned long long address) {
     memcpy(at, &count, 8);
 }
 
-int PAPI_profil(void *buf, unsigned bufsiz, unsigned long long offset, unsigned scale, int set, int event, int threshold, int flags) {
+int PAPI_profil(void *buf, unsigned bufsiz, vptr_t offset, unsigned scale, int set, int event, int threshold, int flags) {
     CALL(PAPI_profil);
     int codes[MOST_EVENTS], number = MOST_EVENTS;
     HERE(t);
@@ -32,7 +32,7 @@ int PAPI_profil(void *buf, unsigned bufsiz, unsigned long long offset, unsigned 
     code = PAPI_list_events(set, codes, &number);
     for (int i = 0; code == PAPI_OK && i < number && set < MOST_SETS; i++)
         if (codes[i] == event) {
-            profile p = { threshold ? buf : NULL, bufsiz, offset, scale, width };
+            profile p = { threshold ? buf : NULL, bufsiz, (uintptr_t)offset, scale, width };
             t->profiles[set][i] = p;
         }
     return code;

@@ -11,7 +11,7 @@ int main(void) {
     WANT(PAPI_event_name_to_code("INST_RETIRED", &event), PAPI_OK);
     WANT(PAPI_add_event(set, cycles), PAPI_OK);
     WANT(PAPI_add_event(set, event), PAPI_OK);
-    WANT(PAPI_profil(buckets, sizeof buckets, 0x400000, 65536 / 8, set, event, 256, PAPI_PROFIL_POSIX), PAPI_OK);
+    WANT(PAPI_profil(buckets, sizeof buckets, (vptr_t)0x400000, 65536 / 8, set, event, 256, PAPI_PROFIL_POSIX), PAPI_OK);
     /* The profile stays with its event when the one before it goes. */
     WANT(PAPI_remove_event(set, cycles), PAPI_OK);
     WANT(PAPI_start(set), PAPI_OK);
