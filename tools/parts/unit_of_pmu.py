@@ -25,6 +25,7 @@ SAYABLE_MODIFIERS = ("u", "k", "e", "i", "c")
 # Intel's architectural events and their fixed counters. The third has no programmable one.
 FIXED_BESIDE: dict[Code, int] = {(0xC0, 0x00): 0, (0x3C, 0x00): 1}
 FIXED_ALONE: dict[Code, int] = {(0x00, 0x03): 2}
+NOWHERE = Places(frozenset(), frozenset())
 
 
 class LeftOut(Exception):
@@ -74,15 +75,24 @@ class CodedUmask:
 class Converter:
     """Makes one unit, and keeps the account of what it left out."""
 
-    def __init__(self, library: Libpfm4, pmu: Pmu, table: CounterTable | None = None, width: int = 48):
+    def __init__(self, library: Libpfm4, pmu: Pmu, table: CounterTable | None = None, width: int = 48, most: int | None = None):
+        """`most` is how many programmable counters are taken, where it is given."""
         self.library = library
         self.pmu = pmu
         self.table = table
         self.width = width
-        self.programmable = (table.programmable() if table else 0) or pmu.programmable
+        self.there = (table.programmable() if table else 0) or pmu.programmable
+        self.programmable = self.there if most is None else min(most, self.there)
         self.account = Account()
         if self.programmable + pmu.fixed > MOST_COUNTERS:
             raise Fault(f"{pmu.name} has {self.programmable + pmu.fixed} counters, and a unit at most {MOST_COUNTERS}")
+
+    def assumption(self) -> str:
+        """What the unit takes for granted of the counters, as a sentence."""
+        few = f"the first {self.programmable} of {self.there}" if self.programmable < self.there else f"all {self.programmable}"
+        where = "on the counters that the event files name" if self.table else "on each programmable counter, since no event files were given (--events)"
+        shared = "" if self.table or self.programmable < self.there else "; hyperthreading may leave a thread fewer (--counters 4)"
+        return f"assumed: an event may stand {where}; {few} programmable counters are there{shared}"
 
     def unit(self) -> unit_file.Unit:
         events: list[unit_file.Event] = []
@@ -222,6 +232,8 @@ class Converter:
         code of which nothing is known goes with the others. A fixed counter is taken where all codes may stand on it.
         """
         known = {code: self._known(code) for code in codes}
+        if all(places == NOWHERE for places in known.values()) or (default and known[default] == NOWHERE):
+            raise LeftOut("the unit does not have its counters")
         chosen = (known[default] if default else None) or _shared_by_most(known.values()) or self._everywhere()
         kept = [code for code in codes if _may_stand(known[code], chosen)]
         fixed = chosen.fixed
@@ -233,12 +245,18 @@ class Converter:
         return Places(frozenset(range(self.programmable)), frozenset())
 
     def _known(self, code: Code) -> Places | None:
-        in_files = self.table.places(code) if self.table else None
+        in_files = self._there(self.table.places(code)) if self.table else None
         self.account.codes += 1
         self.account.counters_known += in_files is not None
         if code in FIXED_ALONE and FIXED_ALONE[code] < self.pmu.fixed:
             return Places(frozenset(), frozenset({FIXED_ALONE[code]}))
         return in_files
+
+    def _there(self, places: Places | None) -> Places | None:
+        """These counters as far as the unit has them."""
+        if places is None:
+            return None
+        return Places(frozenset(number for number in places.programmable if number < self.programmable), places.fixed)
 
     def _fixed(self, code: Code, known: Places | None) -> frozenset[int]:
         fixed = known.fixed if known else frozenset()
@@ -259,7 +277,7 @@ def _names(places: Places) -> tuple[str, ...]:
 
 def _shared_by_most(rows: Iterable[Places | None]) -> Places | None:
     """The set of programmable counters that lies in most of the others, and of these the largest."""
-    known = [places for places in rows if places]
+    known = [places for places in rows if places and places != NOWHERE]
     if not known:
         return None
     return max(known, key=lambda one: (sum(other.programmable >= one.programmable for other in known), len(one.programmable)))

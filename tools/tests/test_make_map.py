@@ -61,6 +61,24 @@ class RealProgram(InFolder):
         self.assertEqual((done.returncode, done.stdout), (1, ""))
         self.assertIn("has no functions among its symbols", done.stderr)
 
+    def test_a_program_that_is_loaded_anywhere(self) -> None:
+        """The stream says where it was. Without that the addresses are those of the file, and a line says so."""
+        program = str(self.folder / "anywhere")
+        words = ["cc", "-O1", "-nostdlib", "-static-pie", "-fpie", "-fno-stack-protector", "-o", program]
+        subprocess.run([*words, str(TOOLS / "tests/sample.c")], check=True)
+        stream = self.write("stream", "# loaded at 0x108000\n0 c0 00 u 1 109000\n")
+        by_stream = run_tool("make_map", "--stream", stream, program)
+        by_base = run_tool("make_map", "--base", "0x108000", program)
+        self.assertEqual((by_stream.returncode, by_stream.stderr, by_stream.stdout), (0, "", by_base.stdout))
+        bare = run_tool("make_map", program)
+        self.assertEqual((bare.returncode, bare.stdout), (0, run_tool("make_map", "--base", "0", program).stdout))
+        self.assertIn("may be loaded anywhere", bare.stderr)
+        for name, text, cause in (("other", "0 c0 00 u 1 109000\n", "does not say where"), ("empty", "", "does not say where")):
+            done = run_tool("make_map", "--stream", self.write(name, text), program)
+            self.assertEqual((done.returncode, done.stdout), (1, ""))
+            self.assertIn(cause, done.stderr)
+        self.assertIn("No such file", run_tool("make_map", "--stream", "absent", program, folder=self.folder).stderr)
+
     def test_refusals(self) -> None:
         for program, cause in ((str(self.folder / "absent"), "No such file"), (self.write("text", "words"), "file format not recognized")):
             done = run_tool("make_map", program)
@@ -70,6 +88,6 @@ class RealProgram(InFolder):
 
 class Words(unittest.TestCase):
     def test_bad_words(self) -> None:
-        for words in ((), ("--base", "x", "p"), ("--base", "-1", "p"), ("a", "b")):
+        for words in ((), ("--base", "x", "p"), ("--base", "-1", "p"), ("a", "b"), ("--base", "0", "--stream", "s", "p")):
             self.assertEqual(run_tool("make_map", *words).returncode, 2, words)
         self.assertEqual(run_tool("make_map", "--help").returncode, 0)

@@ -81,7 +81,8 @@ class RealProcessors(InFolder):
 
     def test_without_event_files(self) -> None:
         rows = self.rows("skl")
-        self.assertEqual(rows[1:3], ["COMPONENT,cpu,skl", "COUNTER,P0,48,P"])
+        self.assertEqual(rows[2:4], ["COMPONENT,cpu,skl", "COUNTER,P0,48,P"])
+        self.assertRegex(rows[1], r"^# assumed: an event may stand on each programmable counter, .* all 8 .*--counters 4")
         everywhere = "P0 P1 P2 P3 P4 P5 P6 P7"
         self.assertTrue(self.row(rows, "EVENT,INSTRUCTION_RETIRED").startswith(f"EVENT,INSTRUCTION_RETIRED,c0,{everywhere} F0,"))
         self.assertTrue(self.row(rows, "EVENT,UNHALTED_CORE_CYCLES").startswith(f"EVENT,UNHALTED_CORE_CYCLES,3c,{everywhere} F1,"))
@@ -96,6 +97,16 @@ class RealProcessors(InFolder):
         self.assertTrue(self.row(rows, "EVENT,INST_RETIRED").startswith("EVENT,INST_RETIRED,c0,P0 P1 P2 P3 F0,"))
         self.assertTrue(self.row(rows, "EVENT,L1D_PEND_MISS").startswith("EVENT,L1D_PEND_MISS,48,P2,"))
         self.assertFalse(any(row.startswith("UMASK,PREC_DIST,") for row in rows))
+
+    def test_fewer_counters(self) -> None:
+        rows = self.rows("skl", "--counters", "4")
+        self.assertEqual([row.split(",")[1] for row in rows if row.startswith("COUNTER")], ["P0", "P1", "P2", "P3", "F0", "F1", "F2"])
+        self.assertIn("the first 4 of 8 programmable counters", rows[1])
+        self.assertTrue(self.row(rows, "EVENT,INSTRUCTION_RETIRED").startswith("EVENT,INSTRUCTION_RETIRED,c0,P0 P1 P2 P3 F0,"))
+        rows = self.rows("skl", "--counters", "2", "--events", SAMPLE)
+        self.assertTrue(self.row(rows, "EVENT,INST_RETIRED").startswith("EVENT,INST_RETIRED,c0,P0 P1 F0,"))
+        self.assertFalse(any(row.startswith("EVENT,L1D_PEND_MISS,") for row in rows))
+        self.assertTrue(any(row.endswith(": the unit does not have its counters") for row in rows))
 
     def test_list(self) -> None:
         self.assertRegex("\n".join(self.rows("--list")), r"(?m)^skl +core +\d+ events +8 \+ 3 counters +Intel Skylake$")
@@ -121,6 +132,6 @@ class RealProcessors(InFolder):
 
 class Words(unittest.TestCase):
     def test_bad_words(self) -> None:
-        for words in ((), ("skl", "--list"), ("skl", "--width", "15"), ("--nothing",)):
+        for words in ((), ("skl", "--list"), ("skl", "--width", "15"), ("skl", "--counters", "0"), ("--nothing",)):
             self.assertEqual(run_tool("make_unit", *words).returncode, 2, words)
         self.assertEqual(run_tool("make_unit", "--help").returncode, 0)
