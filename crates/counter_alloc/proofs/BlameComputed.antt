@@ -5,9 +5,8 @@ use Rattle.std.specs.Prelude.{find, count_ones, unwrap_or}
 use Rattle.std.specs.List.{range_with_len}
 use Rattle.std.proofs.lemmas.Bool.{cases_eq, cases_lt, eq-eqb, ne_eqb, lt-ltb, ltb-true}
 use Rattle.std.proofs.lemmas.Nat.Bits.{same_from_bits, bit_at_and, bit_at_ones, bit_at_ones_above, bit_at-lt}
-use Rattle.counter_alloc.specs.Assignments.{Has, Assignable, Deficient, counters_of}
+use Rattle.counter_alloc.specs.Assignments.{Has, Assignable, Deficient, IsShortestPrefix, counters_of}
 use Rattle.counter_alloc.specs.Listing.{assigns}
-use Rattle.counter_alloc.specs.Blames.{IsBlame}
 use Rattle.counter_alloc.specs.BlameOf.{shortest_prefix, deficient_sets, in_each_set, blame_of}
 use Rattle.counter_alloc.specs.Masks.{AreMasks}
 use Rattle.counter_alloc.specs.Laws.{ComputesBlame}
@@ -72,18 +71,17 @@ none_listed allowed isnt = go (assigns allowed) (λ chosen h. isnt (chosen, of_l
     go [] none = refl
     go (xs ∷ xss) none = absurd (none xs (inl refl))
 
-prefix_masks : (n : ℕ) (allowed : List ℕ) → n ≤ length allowed → AreMasks allowed → AreMasks (take n allowed)
+pub prefix_masks : (n : ℕ) (allowed : List ℕ) → n ≤ length allowed → AreMasks allowed → AreMasks (take n allowed)
 prefix_masks n allowed within masks i below =
     let size = length-take-le n allowed within in
     rw (get_or-take n allowed i 0 (omega arith)) (masks i (omega arith))
 
-prefix_found : (allowed : List ℕ) (blame : Blame) → AreMasks allowed → (is : IsBlame allowed blame) → shortest_prefix allowed ≡ is.prefix
+pub prefix_found : (allowed : List ℕ) (n : ℕ) → AreMasks allowed → IsShortestPrefix allowed n → shortest_prefix allowed ≡ n
 unfolding shortest_prefix
-prefix_found allowed blame masks is =
-    let shortest = is.is_shortest in
+prefix_found allowed n masks shortest =
     let within = shortest.within in
-    ap (λ o. unwrap_or o 0) (find_range (λ n. eqb (length (assigns (take n allowed))) 0) 0 (length allowed + 1) is.prefix (omega arith) (omega arith)
-    (eq-eqb _ _ (none_listed (take is.prefix allowed) shortest.not_assignable))
+    ap (λ o. unwrap_or o 0) (find_range (λ m. eqb (length (assigns (take m allowed))) 0) 0 (length allowed + 1) n (omega arith) (omega arith)
+    (eq-eqb _ _ (none_listed (take n allowed) shortest.not_assignable))
     (λ m lt. ne_eqb _ _ (λ e.
     let some = assignable_listed (take m allowed) (prefix_masks m allowed (omega arith) masks) (shortest.shorter m lt) in
     omega arith)))
@@ -94,7 +92,7 @@ computes_blame allowed blame masks is =
     let n : ℕ = is.prefix in
     let prefix : List ℕ = take n allowed in
     let size : length prefix ≡ n = length-take-le n allowed is.is_shortest.within in
-    let found = prefix_found allowed blame masks is in
+    let found = prefix_found allowed n masks is.is_shortest in
     let computed : ℕ = in_each_set (length prefix) (deficient_sets prefix) in
     let members : blame.members ≡ computed = same_from_bits blame.members computed (λ k. elim (cases_has blame.members k) [
       | inl has ↦

@@ -3,6 +3,7 @@ pub mod Sets
 pub mod Hall
 pub mod Walk
 pub mod Trails
+pub mod HallTheorem
 pub mod Prefixes
 pub mod Removal
 pub mod FirstAssignment
@@ -11,3 +12,4 @@ pub mod Listed
 pub mod Fitting
 pub mod BlameLaws
 pub mod BlameComputed
+pub mod LeastSet

@@ -1,10 +1,10 @@
 -- Laws of the definitions, for those who stand on them.
-use Rattle.std.specs.Prelude.{◌≡◌, ◌↔◌, ◌++◌, true, List, ℕ, AllPairs, Contains, Some}
-use Rattle.counter_alloc.specs.Assignments.{IsAssignment, Assignable, IsLeast}
+use Rattle.std.specs.Prelude.{◌≡◌, ◌≤◌, ◌↔◌, ◌++◌, true, false, List, ℕ, AllPairs, Contains, Some, length, take}
+use Rattle.counter_alloc.specs.Assignments.{IsAssignment, Assignable, IsLeast, IsLeastDeficient, IsShortestPrefix, counters_of}
 use Rattle.counter_alloc.specs.Listing.{assigns, least, is_assignable, IsBefore}
 use Rattle.counter_alloc.specs.Masks.{AreMasks}
 use Rattle.counter_alloc.specs.Blames.{IsBlame}
-use Rattle.counter_alloc.specs.BlameOf.{blame_of}
+use Rattle.counter_alloc.specs.BlameOf.{blame_of, shortest_prefix}
 use Rattle.counter_alloc.specs.declared.matching.Blame.{Blame}
 
 -- the list of all assignments has each of them, and nothing else
@@ -38,3 +38,13 @@ BlameStays = (front back : List ℕ) (blame : Blame) → IsBlame front blame →
 -- the blame of a list is the one that is computed from all sets of its places
 abbrev pub ComputesBlame : Type 0
 ComputesBlame = (allowed : List ℕ) (blame : Blame) → AreMasks allowed → IsBlame allowed blame → blame ≡ blame_of allowed
+
+-- the members of the blame are the least deficient set of the shortest prefix that is not assignable
+pub record IsLeastSet (allowed : List ℕ) (blame : Blame) : Type 0 where
+  pub shortest : IsShortestPrefix allowed (shortest_prefix allowed)
+  pub least : IsLeastDeficient (take (shortest_prefix allowed) allowed) blame.members
+  pub counters : blame.counters ≡ counters_of (take (shortest_prefix allowed) allowed) blame.members
+
+-- each list of at most 32 places that is not assignable has a blame, which is deficient and lies in each deficient set: Hall's theorem
+abbrev pub LeastSet : Type 0
+LeastSet = (allowed : List ℕ) → AreMasks allowed → length allowed ≤ 32 → is_assignable allowed ≡ false → IsLeastSet allowed (blame_of allowed)

@@ -1,5 +1,5 @@
 //! The laws of the definitions.
-ghost use Rattle.counter_alloc.specs.Laws.{ListsEach, ListsInOrder, ListsSome, ListsLeastFirst, OneLeast, OneBlame, BlameStays, ComputesBlame};
+ghost use Rattle.counter_alloc.specs.Laws.{ListsEach, ListsInOrder, ListsSome, ListsLeastFirst, OneLeast, OneBlame, BlameStays, ComputesBlame, LeastSet};
 
 /// The definitions of assignments and blames are as they are meant: these laws hold of them.
 pub fn assignment_laws()
@@ -11,4 +11,5 @@ pub fn assignment_laws()
     ensures one_blame { OneBlame }
     ensures blame_stays { BlameStays }
     ensures computes_blame { ComputesBlame }
+    ensures least_set { LeastSet }
 {}
