@@ -15,3 +15,7 @@ files_misses f = f.misses
 -- how often an opening or a source has failed
 abbrev pub files_faults : MemFiles → ℕ
 files_faults f = f.faults
+
+-- how many of its sources are out
+abbrev pub files_lent : MemFiles → ℕ
+files_lent f = f.lent

@@ -1,7 +1,7 @@
 // The outside over std's readers and writers, as files and standard streams. These tell no tape.
 ghost use Rattle.std.specs.Prelude.{◌≡◌, ◌<◌, ◌≤◌, ◌↔◌, IsTrue, IfOk, OnOk, OnErr, IsErr, IsErrOf, None, length};
 ghost use Rattle.std.specs.Io.KnownBytes.{ReadConsumes, WriteAppends};
-ghost use Rattle.papi_base.specs.Outside.{Rose};
+ghost use Rattle.papi_base.specs.Outside.{Rose, next_count};
 
 use crate::{Failed, Sink, Source, WriteFail};
 use std::io::{Read, Write};
@@ -89,6 +89,7 @@ impl<W: Write> Sink for WriteSink<W> {
         ensures bound { IfOk result (λ n. n ≤ length piece.now) }
         ensures some { 0 < length piece.now → IfOk result (λ n. 0 < n) }
         ensures failed { IsErrOf result WriteFail.Failed → Rose (writer_faults self.old) (writer_faults self.new) }
+        ensures once { IsErrOf result WriteFail.Failed → writer_faults self.new ≡ next_count (writer_faults self.old) }
         ensures quiet { OnOk result (writer_faults self.new ≡ writer_faults self.old) }
         ensures memory { IsErrOf result WriteFail.Memory → writer_faults self.new ≡ writer_faults self.old }
         ensures falls_never { writer_faults self.old ≤ writer_faults self.new }

@@ -23,7 +23,7 @@ pub struct MemFiles {
 }
 
 impl MemFiles {
-    ghost use Rattle.papi_base.specs.MemFiles.{files_held, files_misses, files_faults};
+    ghost use Rattle.papi_base.specs.MemFiles.{files_held, files_misses, files_faults, files_lent};
 
     /// Files with these contents, each given in pieces of at most `largest` bytes. The openings with the numbers
     /// `failing` fail, the first opening having number 1.
@@ -37,6 +37,7 @@ impl MemFiles {
         ensures held { files_held result ≡ record { tapes = entries_of tapes.items; refused = failing.items } }
         ensures misses { files_misses result ≡ 0 }
         ensures faults { files_faults result ≡ 0 }
+        ensures lent { files_lent result ≡ 0 }
     {
         MemFiles {
             alloc,

@@ -1,6 +1,6 @@
 // The outside in memory. All of these tell their bytes.
 ghost use Rattle.std.specs.Prelude.{◌≡◌, ◌<◌, ◌≤◌, ◌+◌, ◌-◌, ◌↔◌, IsTrue, IfOk, OnOk, OnErr, IsErrOf, ℕ, List, [], length, take, drop, min, Some};
-ghost use Rattle.papi_base.specs.Outside.{Rose, appended};
+ghost use Rattle.papi_base.specs.Outside.{Rose, appended, next_count};
 
 use crate::{Ending, Failed, Sink, Source, WriteFail};
 use std::alloc::{AllocError, Global};
@@ -119,6 +119,7 @@ impl Sink for MemSink {
         ensures ok { IfOk result (λ n. Some (sink_bytes self.new) ≡ appended (Some (sink_bytes self.old)) (take n piece.now)) }
         ensures err { OnErr result (Some (sink_bytes self.new) ≡ Some (sink_bytes self.old)) }
         ensures failed { IsErrOf result WriteFail.Failed → Rose (sink_faults self.old) (sink_faults self.new) }
+        ensures once { IsErrOf result WriteFail.Failed → sink_faults self.new ≡ next_count (sink_faults self.old) }
         ensures quiet { OnOk result (sink_faults self.new ≡ sink_faults self.old) }
         ensures memory { IsErrOf result WriteFail.Memory → sink_faults self.new ≡ sink_faults self.old }
         ensures falls_never { sink_faults self.old ≤ sink_faults self.new }

@@ -1,7 +1,7 @@
 // What the program asks of its outside: sources that give bytes, sinks that take them, and files by name.
 ghost use Rattle.std.specs.Prelude.{◌≡◌, ◌<◌, ◌≤◌, ◌-◌, ℕ, List, length, take, IfOk, IfErr, IfSome, OnOk, OnErr, IsErr, IsErrOf, Option};
 ghost use Rattle.std.specs.Option.{option_map};
-ghost use Rattle.papi_base.specs.Outside.{Tape, Gives, Rose, tape_after, appended, Held, lent_after, opened, IsOpened};
+ghost use Rattle.papi_base.specs.Outside.{Tape, Gives, Rose, next_count, tape_after, appended, Held, lent_after, opened, IsOpened};
 
 use thiserror::Error;
 
@@ -55,7 +55,7 @@ pub trait Source: Drop {
 
 /// What takes bytes piece by piece.
 ///
-/// A count of faults rises at each failed write, and stands still at the last value of a `u64`.
+/// A count of faults rises by one at each failed write, and stands still at the last value of a `u64`.
 pub trait Sink {
     /// How often it has failed.
     ghost faults: { Self → ℕ };
@@ -70,6 +70,7 @@ pub trait Sink {
         ensures ok { IfOk result (λ n. taken self.new ≡ appended (taken self.old) (take n piece.now)) }
         ensures err { OnErr result (taken self.new ≡ taken self.old) }
         ensures failed { IsErrOf result WriteFail.Failed → Rose (faults self.old) (faults self.new) }
+        ensures once { IsErrOf result WriteFail.Failed → faults self.new ≡ next_count (faults self.old) }
         ensures quiet { OnOk result (faults self.new ≡ faults self.old) }
         ensures memory { IsErrOf result WriteFail.Memory → faults self.new ≡ faults self.old }
         ensures falls_never { faults self.old ≤ faults self.new };
@@ -116,6 +117,8 @@ pub trait Files {
         ensures lent { lent self.new ≡ lent_after result (lent self.old) }
         ensures absent { IsErrOf result OpenFail.Absent → Rose (misses self.old) (misses self.new) }
         ensures failed { IsErrOf result OpenFail.Failed → Rose (faults self.old) (faults self.new) }
+        ensures found { OnOk result (misses self.new ≡ misses self.old) }
+        ensures quiet { OnOk result (faults self.new ≡ faults self.old) }
         ensures misses_stay { misses self.old ≤ misses self.new }
         ensures faults_stay { faults self.old ≤ faults self.new };
 

@@ -19,12 +19,14 @@ pub struct SureFiles {
 }
 
 impl SureFiles {
-    ghost use Rattle.papi_base.specs.SureFiles.{sure_held};
+    ghost use Rattle.papi_base.specs.SureFiles.{sure_held, sure_lent, sure_misses};
 
     /// Files with these contents, each given in pieces of at most `largest` bytes.
     pub fn new(alloc: Global, tapes: Vec<(String, Vec<u8>)>, largest: usize) -> Self
         requires { 0 < largest }
-        ensures { sure_held result ≡ record { tapes = sure_entries tapes.items; refused = [] } }
+        ensures held { sure_held result ≡ record { tapes = sure_entries tapes.items; refused = [] } }
+        ensures misses { sure_misses result ≡ 0 }
+        ensures lent { sure_lent result ≡ 0 }
     {
         SureFiles {
             alloc,

@@ -1,6 +1,6 @@
 // Reading a source to its end, and writing bytes to their end.
 ghost use Rattle.std.specs.Prelude.{◌≡◌, ◌<◌, ◌≤◌, ℕ, List, length, take, IfOk, IfSome, OnOk, OnErr, IsErrOf, IfErr};
-ghost use Rattle.papi_base.specs.Outside.{Rose, appended};
+ghost use Rattle.papi_base.specs.Outside.{Rose, appended, next_count};
 ghost use Rattle.papi_base.specs.Whole.{IsWhole};
 ghost use Rattle.papi_base.specs.declared.whole.WholeFault.TheVariants.{Memory};
 
@@ -56,11 +56,12 @@ pub fn read_whole<S: Source>(
     Err(WholeFault::TooLarge)
 }
 
-/// Writes all the bytes in order. After an error a prefix of them is written.
+/// Writes all the bytes in order. After an error a prefix of them is written, and the sink is given nothing more.
 pub fn write_whole<K: Sink>(sink: &mut K, bytes: &[u8]) -> Result<(), WriteFail>
     ensures ok { OnOk result (K.taken sink.new ≡ appended (K.taken sink.old) bytes.now) }
     ensures part { OnErr result ((k : ℕ) × (k ≤ length bytes.now) × (K.taken sink.new ≡ appended (K.taken sink.old) (take k bytes.now))) }
     ensures failed { IsErrOf result WriteFail.Failed → Rose (K.faults sink.old) (K.faults sink.new) }
+    ensures once { IsErrOf result WriteFail.Failed → K.faults sink.new ≡ next_count (K.faults sink.old) }
     ensures quiet { OnOk result (K.faults sink.new ≡ K.faults sink.old) }
     ensures memory { IsErrOf result WriteFail.Memory → K.faults sink.new ≡ K.faults sink.old }
     ensures falls_never { K.faults sink.old ≤ K.faults sink.new }
