@@ -1,6 +1,6 @@
 /* The numbers that PAPI's calls take and answer. papi.h includes this file. */
-#ifndef PAPI_CONSTANTS_H
-#define PAPI_CONSTANTS_H
+#ifndef KISTALUB_PAPI_CONSTANTS_H
+#define KISTALUB_PAPI_CONSTANTS_H
 
 /* What a call answers: 0, or why it is refused. PAPI_strerror has a line for each. */
 #define PAPI_OK 0

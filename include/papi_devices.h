@@ -1,7 +1,7 @@
 /* What PAPI_enum_dev_type, PAPI_get_dev_type_attr and PAPI_get_dev_attr ask of devices. papi.h includes this file. The names of attributes say
  * the kind of device and of value. The model's one device is its processor. */
-#ifndef PAPI_DEVICES_H
-#define PAPI_DEVICES_H
+#ifndef KISTALUB_PAPI_DEVICES_H
+#define KISTALUB_PAPI_DEVICES_H
 
 typedef enum { PAPI_DEV_TYPE_ID__CPU, PAPI_DEV_TYPE_ID__CUDA, PAPI_DEV_TYPE_ID__ROCM, PAPI_DEV_TYPE_ID__MAX_NUM } PAPI_dev_type_id_e;
 

@@ -1,6 +1,6 @@
 /* What PAPI's calls fill and take. papi.h includes this file. Members that the model has nothing to say of are 0 or empty. */
-#ifndef PAPI_TYPES_H
-#define PAPI_TYPES_H
+#ifndef KISTALUB_PAPI_TYPES_H
+#define KISTALUB_PAPI_TYPES_H
 
 #include "papi_constants.h"
 
