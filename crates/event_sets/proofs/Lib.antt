@@ -5,6 +5,7 @@ pub mod Removing
 pub mod Agreeing
 pub mod JoinedNatives
 pub mod Clashing
+pub mod LeastClash
 pub mod Adding
 pub mod Kept
 pub mod Sublists

@@ -5,6 +5,7 @@ pub mod Laws
 pub mod Sets
 pub mod Adding
 pub mod Changing
+pub mod Conflicts
 pub mod Soundness
 pub use Rattle.counter_alloc.specs.Listing
 pub use Rattle.counter_alloc.specs.Masks

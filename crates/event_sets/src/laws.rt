@@ -1,4 +1,5 @@
 //! Laws of the definitions, each the contract of a function that does nothing.
+ghost use Rattle.event_sets.specs.Conflicts.{AddConflictIsLeast, ConflictIsLeast};
 ghost use Rattle.event_sets.specs.Laws.{AddedAgrees, ArmedAgrees, AssignedAgrees, EmptiedAgrees, HeldHaveNatives};
 ghost use Rattle.event_sets.specs.Laws.{NativesAreFirsts, NativesAreOwned, RemovedAgrees};
 ghost use Rattle.event_sets.specs.Soundness.{AddedIsSound, ArmedIsSound, AssignedIsSound, EmptiedIsSound, HeldFit};
@@ -32,4 +33,10 @@ pub fn soundness_laws()
     ensures with_slice { WithSliceIsSound }
     ensures armed { ArmedIsSound }
     ensures fit { HeldFit }
+{}
+
+/// A conflict names the least set of native events that have fewer allowed counters than members, and these counters.
+pub fn conflict_laws()
+    ensures least { ConflictIsLeast }
+    ensures add { AddConflictIsLeast }
 {}
