@@ -86,7 +86,7 @@ clear-more natives before rest part none clear =
 
 -- ---- what is read
 
-abbrev Says : ℕ → List InfixPart → Result FormulaView Refused → Type 0
+abbrev pub Says : ℕ → List InfixPart → Result FormulaView Refused → Type 0
 Says natives parts (Ok f) = (tree : Tree) × WritesTree natives parts tree × (f.tokens ≡ spelling tree) × (f.natives ≡ natives)
 Says natives parts (Err r) = (k : ℕ) × (r.place ≡ k + 1) × IsInfixFault natives parts k r.cause
 
@@ -169,7 +169,7 @@ says natives place before (Some t ∷ rest) order s n f clear =
 
 -- ---- the answer to a text
 
-text-says : (natives : ℕ) (text : Text) → Says natives (infix_parts text) (infix_of natives text)
+pub text-says : (natives : ℕ) (text : Text) → Says natives (infix_parts text) (infix_of natives text)
 unfolding infix_of
 text-says natives text = says natives 0 [] (infix_parts text) order_begun (wants [] None None) refl (follows-none natives) (λ j part lt at. absurd (omega arith))
 

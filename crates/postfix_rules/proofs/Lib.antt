@@ -22,3 +22,4 @@ pub mod InfixSteps
 pub mod InfixNeeds
 pub mod InfixSound
 mod InfixAlone
+mod InfixBothWays

@@ -15,5 +15,6 @@ pub mod Infix
 pub mod InfixFaults
 pub mod InfixReading
 pub mod InfixJudged
+pub mod InfixLaws
 pub mod Laws
 pub use Rattle.table_rows.specs.Texts

@@ -1,5 +1,6 @@
 //! Laws of the definitions, each the contract of a function that does nothing.
 ghost use Rattle.postfix_rules.specs.Infix.{OneTree};
+ghost use Rattle.postfix_rules.specs.InfixLaws.{FirstInfixFaults, FromOneInfix, SameTree};
 ghost use Rattle.postfix_rules.specs.Laws.{EachIsAmong, EarlierStay, FormulasSpell, NoneTwice, OneMoreJoins, SameEvents, SameNatives, TreesValued};
 ghost use Rattle.postfix_rules.specs.Reading.{FirstFaults, FromOne, SameTokens, WrittenBytes, WrittenRead};
 
@@ -37,7 +38,11 @@ pub fn writing_laws()
     ensures bytes { WrittenBytes }
 {}
 
-/// Tokens in infix order write one tree at most.
+/// Tokens in infix order write one tree at most. A text reads as a formula exactly where it writes a tree by the grammar,
+/// which the formula's tokens spell, and is refused exactly at its first fault.
 pub fn infix_laws()
     ensures one { OneTree }
+    ensures tree { SameTree }
+    ensures faults { FirstInfixFaults }
+    ensures places { FromOneInfix }
 {}
