@@ -1,13 +1,15 @@
 range _start 0
-range _dl_relocate_static_pie 0
 range fill 0
 range by_rows 32
-0x4011b8 32
+0x1091b9 2
+0x1091cb 29
+0x1091cf 1
 range by_columns 306
-0x40121b 9
-0x40122d 160
-0x401231 137
+0x10922e 7
+0x109240 155
+0x109244 144
 range main 2
-0x401296 2
+0x1092a9 1
+0x1092ae 1
 outside 1
 total 341

@@ -8,16 +8,21 @@ from typing import Callable
 
 
 class Fault(Exception):
-    """Input that a tool cannot use. Its text is the line on standard error."""
+    """Input that a tool cannot use. Its text is the line on standard error, and the tool ends with its status."""
+
+    def __init__(self, text: str, status: int = 1):
+        super().__init__(text)
+        self.status = status
 
 
 def end_with(tool: str, work: Callable[[], None]) -> None:
-    """Does the work and ends the process: 0, or 1 with one line on standard error."""
+    """Does the work and ends the process: 0, or another status with one line on standard error."""
     try:
         work()
         sys.stdout.flush()
     except Fault as fault:
-        sys.exit(f"{tool}: {fault}")
+        print(f"{tool}: {fault}", file=sys.stderr)
+        sys.exit(fault.status)
     except BrokenPipeError:
         # The reader has enough. Python would complain once more when it flushes at its end.
         os.dup2(os.open(os.devnull, os.O_WRONLY), sys.stdout.fileno())
@@ -40,6 +45,11 @@ class Progress:
         if self.shown:
             of_total = f" of {self.total:,}" if self.total else ""
             print(f"\r{self.label}: {done:,}{of_total}\x1b[K", end="", file=sys.stderr, flush=True)
+
+    def tell(self, text: str) -> None:
+        """Shows a text in place of a number."""
+        if self.shown:
+            print(f"\r{self.label}: {text}\x1b[K", end="", file=sys.stderr, flush=True)
 
     def close(self) -> None:
         """Takes the line away."""

@@ -1,93 +1,163 @@
-"""The occurrences of a traced run, as lines of a stream (docs/FORMATS.md, The stream).
-
-The codes are those of Intel's Skylake, so a unit made for it counts the same stream: c0 INST_RETIRED, d0
-MEM_INST_RETIRED and 51 L1D. The umasks of loads and stores have one bit each, by which the natives tell them apart.
-"""
+"""A recording of a program: a traced run, and the recorder that turns its trace into a stream (tools/recorder)."""
 
 from __future__ import annotations
 
-from dataclasses import dataclass
-from typing import Callable, Iterable, Iterator
+import os
+import re
+import shutil
+import subprocess
+import sys
+from dataclasses import dataclass, field
+from pathlib import Path
+from typing import IO, Mapping
 
-from parts.cache import Cache
-from parts.lackey import INSTRUCTION, LOAD, MODIFY, STORE, Access
+from parts.command import Fault, Progress
+from parts.compiled import cache_folder, recorder
+from parts.lackey import TracedRun
+from parts.machine import Machine
+from parts.symbols import read_functions
 
 MOST_BYTES = 67_108_864
-INSTRUCTION_HEAD = "0 c0 00 u 1 "
-LOAD_HEAD = "0 d0 01 u 1 "
-STORE_HEAD = "0 d0 02 u 1 "
-LOAD_MISS_HEAD = "0 51 03 u "
-STORE_MISS_HEAD = "0 51 05 u "
-MOST_AMOUNT = 255
+FULL_STATUS = 3
+MARKS_PAGE = 0x4B4953540000  # far from where Linux maps anything by itself
+LIBRARY_FUNCTION = re.compile(r"_?(PAPI|PAPIF|papif|kistalub|kl)_")
+
+
+@dataclass(frozen=True)
+class Wanted:
+    """What is recorded of which program, and how."""
+
+    program: str
+    arguments: list[str]
+    machine: Machine
+    symbol: str | None = None  # begin where this function is entered first
+    only_calls: bool = False  # between calls of PAPI while a set counts
+    calls: str | None = None  # the file for the list of calls
+    is_each: bool = False
+    window: int = 65_536
+    first_thread: bool = False
+    environment: Mapping[str, str] = field(default_factory=dict)
+    output: IO[str] | int | None = None
+    errors: int | None = None
+    source: IO[bytes] | None = None
 
 
 @dataclass
-class Counts:
-    """What was recorded so far."""
+class Recorded:
+    """What the recorder told."""
 
-    instructions: int = 0
-    loads: int = 0
-    stores: int = 0
-    misses: int = 0
-    bytes: int = 0
-    is_full: bool = False
+    totals: dict[str, int] = field(default_factory=dict)
+    calls: int = 0
+    unknown: int = 0  # instructions in no file, or not known to objdump
+    is_from_met: bool = True
+    full_at: int | None = None
+    second_thread: bool = False
+    failure: str | None = None
+    status: int = 0  # the program's, or the number of a signal below zero
 
-
-class Recorder:
-    """Turns accesses into lines until the stream is full."""
-
-    def __init__(self, cache: Cache | None, room: int = MOST_BYTES):
-        self.cache = cache
-        self.room = room
-        self.counts = Counts()
-        self._counter = "0"  # the instruction to which the accesses belong
-
-    def lines(self, accesses: Iterable[Access]) -> Iterator[str]:
-        """The text of one access at a time. An access goes in whole or not at all."""
-        for access in accesses:
-            if access.kind == INSTRUCTION:
-                self._counter = access.address
-            missed = self._missed(access)
-            text = self._text(access.kind, missed)
-            if self.counts.bytes + len(text) > self.room:
-                self.counts.is_full = True
-                return
-            self._count(access.kind, missed, len(text))
-            yield text
-
-    def _missed(self, access: Access) -> int:
-        if self.cache is None or access.kind == INSTRUCTION:
-            return 0
-        return min(self.cache.access(int(access.address, 16), access.size), MOST_AMOUNT)
-
-    def _text(self, kind: str, missed: int) -> str:
-        counter = self._counter
-        if kind == INSTRUCTION:
-            return f"{INSTRUCTION_HEAD}{counter}\n"
-        text = ""
-        if kind in (LOAD, MODIFY):
-            text += f"{LOAD_HEAD}{counter}\n"
-        if kind in (STORE, MODIFY):
-            text += f"{STORE_HEAD}{counter}\n"
-        if missed:
-            text += f"{STORE_MISS_HEAD if kind == STORE else LOAD_MISS_HEAD}{missed} {counter}\n"
-        return text
-
-    def _count(self, kind: str, missed: int, size: int) -> None:
-        self.counts.instructions += kind == INSTRUCTION
-        self.counts.loads += kind in (LOAD, MODIFY)
-        self.counts.stores += kind in (STORE, MODIFY)
-        self.counts.misses += missed
-        self.counts.bytes += size
+    def sum(self, *names: str) -> int:
+        return sum(self.totals.get(name, 0) for name in names)
 
 
-def from_entry(accesses: Iterable[Access], address: str, skipped: Callable[[int], None]) -> Iterator[Access]:
-    """The accesses from the first one on whose instruction stands at the address."""
-    rest = iter(accesses)
-    for number, access in enumerate(rest):
-        if access.kind == INSTRUCTION and access.address == address:
-            yield access
-            break
-        if number % 100_000 == 0:
-            skipped(number)
-    yield from rest
+def _library_ranges(path: str, base: int) -> list[str]:
+    """The library's functions that stand in the program itself: what they do is not the program's."""
+    words: list[str] = []
+    for function in read_functions(path):
+        if LIBRARY_FUNCTION.match(function.name):
+            start = base + function.address
+            words += ["--library", f"{start:x}-{start + function.size:x}"]
+    return words
+
+
+def _entry_of(path: str, symbol: str, base: int) -> str:
+    for function in read_functions(path):
+        if function.name == symbol:
+            return f"{base + function.address:x}"
+    raise Fault(f"{path} has no function {symbol}")
+
+
+def _words(wanted: Wanted, run: TracedRun, base: int, report: int, stream: str | None) -> list[str]:
+    words = [str(recorder()), "--report", str(report), "--folder", str(cache_folder()), "--program", run.path, "--maps", str(run.maps), "--base", f"{base:x}"]
+    words += ["--window", str(wanted.window), *wanted.machine.words()]
+    if stream:
+        words += ["--out", stream]
+    if wanted.symbol:
+        words += ["--from", _entry_of(run.path, wanted.symbol, base)]
+    if wanted.only_calls:
+        words += ["--page", f"{MARKS_PAGE:x}", *_library_ranges(run.path, base)]
+    if wanted.calls:
+        words += ["--calls", wanted.calls]
+    return words + ["--each"] * wanted.is_each + ["--first-thread"] * wanted.first_thread
+
+
+def record(wanted: Wanted, stream: str | None, label: str) -> Recorded:
+    """Records into a file, or to standard output. The label stands before the line that shows the progress."""
+    for command, package in (("objdump", "binutils"), ("nm", "binutils")):
+        if shutil.which(command) is None:
+            raise Fault(f"{command} is not installed (apt-get install {package})")
+    recorder()
+    environment = dict(wanted.environment)
+    if wanted.only_calls:
+        environment.update(KISTALUB_MARKS=f"{MARKS_PAGE:#x}", LD_BIND_NOW="1")
+    run = TracedRun(wanted.program, wanted.arguments, wanted.output, environment, wanted.errors, wanted.source)
+    try:
+        recorded = _follow(wanted, run, stream, label)
+    except BaseException:
+        run.stop()
+        raise
+    if recorded.full_at is not None or recorded.second_thread or recorded.failure:
+        run.stop()
+    else:
+        recorded.status = run.end()
+    return recorded
+
+
+def _follow(wanted: Wanted, run: TracedRun, stream: str | None, label: str) -> Recorded:
+    """Starts the recorder, and reads what it tells until it ends."""
+    base = run.base()
+    reader, writer = os.pipe()
+    sys.stdout.flush()
+    process = subprocess.Popen(_words(wanted, run, base, writer, stream), stdin=run.trace, pass_fds=[writer])
+    os.close(writer)
+    os.close(run.trace)
+    recorded = Recorded()
+    progress = Progress(label)
+    with os.fdopen(reader, encoding="utf-8", errors="replace") as report:
+        for line in report:
+            _take(recorded, progress, line.rstrip("\n"))
+    progress.close()
+    if process.wait() and not (recorded.failure or recorded.second_thread or recorded.full_at is not None):
+        raise Fault("the recorder ended before the program")
+    return recorded
+
+
+def _take(recorded: Recorded, progress: Progress, line: str) -> None:
+    word, _, rest = line.partition(" ")
+    if word == "progress":
+        progress.show(int(rest))
+    elif word == "reading":
+        progress.tell(f"reading the instructions of {rest} (once)")
+    elif word == "total":
+        name, _, number = rest.partition(" ")
+        recorded.totals[name] = int(number)
+    elif word == "full":
+        recorded.full_at = int(rest, 16)
+    elif word == "thread":
+        recorded.second_thread = True
+    elif word == "failed":
+        recorded.failure = rest
+    elif word == "calls":
+        recorded.calls = int(rest)
+    elif word == "unknown":
+        recorded.unknown = int(rest)
+    elif word == "from":
+        recorded.is_from_met = rest == "1"
+
+
+def where(wanted: Wanted, address: int) -> str:
+    """An address, and the function it is in where it is one of a program that has whole addresses."""
+    path = shutil.which(wanted.program) or wanted.program
+    for function in read_functions(str(Path(path).resolve())):
+        if function.address <= address < function.address + function.size:
+            return f"{address:#x} ({function.name})"
+    return f"{address:#x}"

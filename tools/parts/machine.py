@@ -1,0 +1,111 @@
+"""The machine that a recording models: caches, translation buffers, a predictor of branches, and what a miss costs (docs/RECORDING.md)."""
+
+from __future__ import annotations
+
+from dataclasses import dataclass, field, replace
+
+from parts.command import Fault
+
+MOST_WAYS = 64
+MOST_LINES = 1 << 24
+MOST_COST = 10_000
+PREDICTOR_BITS = range(1, 25)
+CACHES = ("l1d", "l1i", "l2", "l3")
+BUFFERS = ("dtlb", "itlb")
+COSTS = ("L2", "L3", "MEMORY", "PAGE", "BRANCH")
+
+
+@dataclass(frozen=True)
+class Shape:
+    """Lines in all, lines in a set, bytes in a line."""
+
+    lines: int
+    ways: int
+    line: int
+
+    def word(self) -> str:
+        return f"{self.lines},{self.ways},{self.line}"
+
+
+@dataclass(frozen=True)
+class Machine:
+    """What is left out has no shape."""
+
+    shapes: dict[str, Shape | None] = field(default_factory=dict)
+    predictor: int = 14  # the number of counters as a power of two
+    costs: tuple[int, ...] = (8, 38, 200, 20, 16)
+
+    def with_shapes(self, shapes: dict[str, Shape | None]) -> Machine:
+        return replace(self, shapes={**self.shapes, **shapes})
+
+    def words(self) -> list[str]:
+        """As the recorder takes them."""
+        words = ["--predictor", str(self.predictor), "--costs", ",".join(map(str, self.costs))]
+        for name, shape in self.shapes.items():
+            words += ["--cache", f"{name}={shape.word() if shape else 'none'}"]
+        return words
+
+
+def _numbers(text: str, form: str) -> list[int]:
+    try:
+        numbers = [int(word) for word in text.split(",")]
+    except ValueError:
+        numbers = []
+    if len(numbers) != 3 or min(numbers) < 1:
+        raise Fault(f"{text}: {form}")
+    return numbers
+
+
+def _checked(text: str, shape: Shape) -> Shape:
+    sets = shape.lines // shape.ways
+    if sets * shape.ways != shape.lines or sets & (sets - 1) or shape.line & (shape.line - 1):
+        raise Fault(f"{text}: the number of sets and the bytes of a line are powers of two")
+    if shape.ways > MOST_WAYS or shape.lines > MOST_LINES:
+        raise Fault(f"{text}: at most {MOST_WAYS} ways and {MOST_LINES:,} lines")
+    return shape
+
+
+def read_cache(text: str) -> Shape | None:
+    """The shape `SIZE,WAYS,LINE`, in bytes but for the ways, or none."""
+    if text == "none":
+        return None
+    size, ways, line = _numbers(text, "a cache is SIZE,WAYS,LINE with three numbers, such as 32768,8,64, or none")
+    if size % (ways * line):
+        raise Fault(f"{text}: a cache has the size of its sets times WAYS times LINE")
+    return _checked(text, Shape(size // line, ways, line))
+
+
+def read_buffer(text: str) -> Shape | None:
+    """The shape `ENTRIES,WAYS,PAGE`, or none."""
+    if text == "none":
+        return None
+    entries, ways, page = _numbers(text, "a translation buffer is ENTRIES,WAYS,PAGE with three numbers, such as 64,4,4096, or none")
+    return _checked(text, Shape(entries, ways, page))
+
+
+def read_costs(text: str) -> tuple[int, ...]:
+    """Cycles of an access that the second level serves, the third, the memory, of a page that is missed, and of a mispredicted branch."""
+    words = text.split(",")
+    if len(words) != len(COSTS) or not all(word.isdecimal() and int(word) <= MOST_COST for word in words):
+        raise Fault(f"{text}: costs are {','.join(COSTS)}: five numbers of cycles, such as 8,38,200,20,16, each at most {MOST_COST:,}")
+    return tuple(map(int, words))
+
+
+def read_predictor(text: str) -> int:
+    if not text.isdecimal() or int(text) not in PREDICTOR_BITS:
+        raise Fault(f"{text}: a predictor has 2^N counters, with an N from 1 to 24")
+    return int(text)
+
+
+def _machine(l1d: str, l1i: str, l2: str, l3: str, dtlb: str, itlb: str) -> Machine:
+    caches = dict(zip(CACHES, map(read_cache, (l1d, l1i, l2, l3))))
+    buffers = dict(zip(BUFFERS, map(read_buffer, (dtlb, itlb))))
+    return Machine({**caches, **buffers})
+
+
+# The first level of buffers, and one core's share of the last cache as the maker's manuals have them.
+MACHINES = {
+    "skl": _machine("32768,8,64", "32768,8,64", "262144,4,64", "8388608,16,64", "64,4,4096", "128,8,4096"),
+    "icl": _machine("49152,12,64", "32768,8,64", "524288,8,64", "8388608,16,64", "64,4,4096", "128,8,4096"),
+    "zen2": _machine("32768,8,64", "32768,8,64", "524288,8,64", "16777216,16,64", "64,64,4096", "64,64,4096"),
+}
