@@ -76,7 +76,9 @@ fn lines_of(alloc: Global, hist: &Hist) -> Result<String, AllocError>
 /// lines of its buckets that were met, with their lowest addresses; then how many program counters were in no range, and
 /// how many there were.
 pub fn profile_text(alloc: Global, hist: &Hist) -> Result<String, AllocError>
-    ensures { (pcs : List ℕ) → IsHistogram hist.now pcs → IfOk result (λ text. string_bytes text ≡ Profiles.profile_text hist.now.map pcs) }
+    ensures profile { (pcs : List ℕ) → IsHistogram hist.now pcs → IfOk result (λ text. string_bytes text ≡ Profiles.profile_text hist.now.map pcs) }
+    // Whatever it counts:
+    ensures lines { IfOk result (λ text. string_bytes text ≡ hist_lines hist.now) }
 {
     lines_of(alloc, hist)
 }

@@ -156,6 +156,10 @@ impl Slot {
         ensures slot { (comp : ℕ) (unit : UnitView)
             → self.old.set.rest.component ≡ Some comp → slice_get units.old comp ≡ Some unit
             → self.new ≡ (begun book.now now unit self.old).slot }
+
+        // Where the component is not fixed, nothing begins.
+        ensures same_units { self.old.set.rest.component ≡ None → units.new ≡ units.old }
+        ensures same_slot { self.old.set.rest.component ≡ None → self.new ≡ self.old }
     {
         if let Some(comp) = self.set.component() {
             self.begin_with(&mut units[comp as usize], book, now);
