@@ -18,7 +18,7 @@ GROUPS = {
         "table_rows", "event_tables", "name_encoder", "preset_table", "postfix_rules", "preset_csv", "user_events", "component_table",
     ),
     "counters and sets": ("counter_alloc", "counter_unit", "multiplex", "overflow_dispatch", "event_sets"),
-    "meaning of calls": ("session_model", "session_laws", "session_rows", "region_laws"),
+    "meaning of calls": ("session_model", "session_laws", "call_laws", "region_laws"),
     "threads and workers": (
         "stream_reader", "thread_slots", "thread_core", "thread_session", "parallel_tasks", "thread_registry", "plan_runner",
         "papi_calls",

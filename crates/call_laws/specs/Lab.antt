@@ -26,6 +26,7 @@ use Rattle.event_sets.specs.AtRest.{Widths}
 use Rattle.papi_base.specs.Streams.{Coming, Dry}
 use Rattle.session_model.specs.Account.{Account, opening}
 use Rattle.session_model.specs.Replies.{plain, done}
+use Rattle.session_model.specs.Step.{notes_to, replies_to}
 use Rattle.session_model.specs.World.{Setting, told, opening_world}
 
 -- no modifier
@@ -244,3 +245,15 @@ event_name e = done (body.EventName e)
 -- PAPI_OK with the registered threads, as bits
 abbrev pub threads : ℕ → Reply
 threads bits = done (body.Threads bits)
+
+-- the replies to one thread's calls over these occurrences, without presets
+abbrev pub replies : List Occ → List Call → List Reply
+replies os calls = replies_to no_book shape (thread_of os) calls
+
+-- the same with the lab's presets
+abbrev pub replies_by_book : List Occ → List Call → List Reply
+replies_by_book os calls = replies_to book shape (thread_of os) calls
+
+-- the notes of these calls, without presets
+abbrev pub notes : List Occ → List Call → List Note
+notes os calls = notes_to no_book shape (thread_of os) calls

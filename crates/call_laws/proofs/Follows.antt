@@ -1,0 +1,286 @@
+-- An account follows the history of its calls: what the history says of a set is what the account keeps of it.
+use Rattle.std.proofs.Common.{◌≡◌, ◌≢◌, ℕ, ◌+◌, inl, inr, pos, Bool, true, false, List, [], ◌∷◌, ◌++◌, length, take, drop, map, refl, sym, ap, ap₂, subst, ◌∙◌, arith, Option, Some, None, Ok}
+use Rattle.std.proofs.Common.{slice_set}
+use Rattle.std.specs.Prelude.{if◌then◌else◌}
+use Rattle.std.specs.Option.{option_map, option_map_or}
+use Rattle.std.proofs.lemmas.Bool.Decides.{eqb_tells}
+use Rattle.std.proofs.lemmas.List.{drop-drop}
+use Rattle.std.proofs.Math.Seq.{take-add}
+use Rattle.papi_base.specs.declared.occurrence.Occ.{Occ}
+use Rattle.postfix_rules.specs.Presets.{Book, event_value, natives_of_event, rule_of_event}
+use Rattle.postfix_rules.specs.Rules.{rule_value}
+use Rattle.event_sets.specs.AtRest.{AtRest}
+use Rattle.session_model.specs.declared.call.Call.{Call}
+use Rattle.session_model.specs.declared.call.Call.TheVariants as call
+use Rattle.session_model.specs.declared.reply.Reply.{Reply}
+use Rattle.session_model.specs.Account.{Kept}
+use Rattle.session_model.specs.Bounds.{AllWithin, IsWithin}
+use Rattle.session_model.specs.Changes.{kept_after, new_kept}
+use Rattle.session_model.specs.Counts.{count, in_window}
+use Rattle.session_model.specs.Faces.{at, change}
+use Rattle.session_model.specs.Values.{measured, sums, values_of}
+use Rattle.session_laws.proofs.Sets.{each_at}
+use Rattle.call_laws.specs.History.{Answered, Placed, is_ok, makes, newly_taken, placed_after, taken, taken_by}
+use Rattle.call_laws.specs.SetCalls.{changed, set_now, holds_after, is_accum, is_clearing, is_zeroing, runs_now, runs_after, set_of_call, zeroes}
+use Rattle.call_laws.specs.Values.{added, column_sums, count_over, plus, values_now, values_over, window, wrapped_sums}
+use Rattle.postfix_rules.specs.Values.{wrapped}
+use Rattle.call_laws.proofs.Histories.{added-changed, added-made, added-other, set_now-changed, set_now-made, set_now-other, runs_now-changed, runs_now-other, window-made, window-running, window-same, window-stays, window-zeroing, zeroes-changed, zeroes-other}
+use Rattle.call_laws.proofs.Places.{at-change_same, at-put_none, at-put_other, at-put_same}
+use Rattle.call_laws.proofs.PlacedOnes.{count_is, length-placed, placed-take, window-kept, window-more, window-stopped, window-zeroed}
+use Rattle.call_laws.proofs.Replied.{IsQuiet, changes_other, changes_same, quiet_makes, said}
+use Rattle.call_laws.proofs.Sums.{sums_more, value_addable, wrapped_zeros}
+
+-- ---- what follows
+
+-- what is kept of a set is what the history says
+pub record SetFollows (book : Book) (stream : List Occ) (log : List Answered) (past : List Occ) (k : ℕ) (s : Kept) : Type 0 where
+  pub holds : s.set ≡ set_now book k log
+  pub windowed : in_window s (placed_after None past) ≡ window stream k log
+  pub valued : s.set.slice ≡ None → s.values ≡ wrapped_sums (length s.set.events) (added book stream k log)
+
+-- the set runs
+abbrev pub running : Option Kept → Bool
+running place = option_map_or (λ s. s.running) place false
+
+pub record Follows (book : Book) (stream : List Occ) (log : List Answered) (past rest : List Occ) (sets : List (Option Kept)) : Type 0 where
+  pub past_is : past ≡ take (taken log) stream
+  pub rest_is : rest ≡ drop (taken log) stream
+  pub within : AllWithin (length past) sets
+  pub runs_is : (k : ℕ) → running (at sets k) ≡ runs_now k log
+  pub each : (k : ℕ) (s : Kept) → at sets k ≡ Some s → SetFollows book stream log past k s
+
+-- ---- values
+
+map-same : {X Y : Type 0} (f g : X → Y) (xs : List X) → ((x : X) → f x ≡ g x) → map f xs ≡ map g xs
+map-same f g [] h = refl
+map-same f g (x ∷ xs) h = ap₂ (λ y ys. y ∷ ys) (h x) (map-same f g xs h)
+
+-- the values of a set that is not multiplexed are those over its window
+pub values_are : (book : Book) (past : List Occ) (s : Kept) → s.set.slice ≡ None → values_of book past s ≡ values_over book s.set (in_window s (placed_after None past))
+values_are book past s plain = rw plain (map-same (event_value book (count past s)) (event_value book (count_over (in_window s (placed_after None past)) s.set.domain)) s.set.events
+    (λ e. ap (rule_value (rule_of_event book e)) (map-same (λ n. pos (count past s n)) (λ n. pos (count_over (in_window s (placed_after None past)) s.set.domain n)) (natives_of_event book e)
+    (λ n. ap pos (count_is past s n)))))
+
+pub values_follow : (book : Book) (stream : List Occ) (log : List Answered) (past : List Occ) (k : ℕ) (s : Kept) → SetFollows book stream log past k s → s.set.slice ≡ None
+    → values_of book past s ≡ values_now book stream k log
+values_follow book stream log past k s h plain = values_are book past s plain ∙ ap₂ (values_over book) h.holds h.windowed
+
+-- ---- a call that changed the set
+
+kept_holds : (book : Book) (past : List Occ) (c : Call) (s : Kept) → (kept_after book past c s).set ≡ holds_after book c s.set
+kept_holds book past (call.Add k (Ok e)) s = refl
+kept_holds book past (call.Remove k (Ok e)) s = refl
+kept_holds book past (call.Overflow k (Ok e) t) s = refl
+kept_holds book past c s = refl
+
+kept_runs : (book : Book) (past : List Occ) (c : Call) (s : Kept) → (kept_after book past c s).running ≡ runs_after c s.running
+kept_runs book past (call.Add k (Ok e)) s = refl
+kept_runs book past (call.Remove k (Ok e)) s = refl
+kept_runs book past (call.Overflow k (Ok e) t) s = refl
+kept_runs book past c s = refl
+
+kept_window : (book : Book) (past : List Occ) (c : Call) (k : ℕ) (s : Kept) (xs : List Placed) → set_of_call c ≡ Some k → length xs ≡ length past → IsWithin (length past) s
+    → in_window (kept_after book past c s) xs ≡ (if is_zeroing c then [] else in_window s xs)
+kept_window book past (call.Cleanup j) k s xs q same h = window-zeroed (length past) s xs same
+kept_window book past (call.Add j (Ok e)) k s xs q same h = window-zeroed (length past) s xs same
+kept_window book past (call.Remove j (Ok e)) k s xs q same h = window-zeroed (length past) s xs same
+kept_window book past (call.SetDomain j bits) k s xs q same h = window-zeroed (length past) s xs same
+kept_window book past (call.SetMultiplex j slice) k s xs q same h = window-zeroed (length past) s xs same
+kept_window book past (call.Overflow j (Ok e) t) k s xs q same h = window-zeroed (length past) s xs same
+kept_window book past (call.Start j) k s xs q same h = window-zeroed (length past) (record s { running = true }) xs same
+kept_window book past (call.Stop j) k s xs q same h = window-stopped s xs (length past) same h.in_order h.past
+kept_window book past (call.Accum j) k s xs q same h = window-zeroed (length past) s xs same
+kept_window book past (call.Reset j) k s xs q same h = window-zeroed (length past) s xs same
+kept_window book past (call.AssignComponent j comp) k s xs q same h = refl
+kept_window book past c k s xs q same h = cc
+
+kept_values : (book : Book) (stream : List Occ) (log : List Answered) (past : List Occ) (c : Call) (k : ℕ) (s : Kept) → set_of_call c ≡ Some k → SetFollows book stream log past k s
+    → (holds_after book c s.set).slice ≡ None
+    → (kept_after book past c s).values
+    ≡ wrapped_sums (length (holds_after book c s.set).events) (if is_clearing c then [] else (if is_accum c then values_now book stream k log ∷ [] else []) ++ added book stream k log)
+kept_values book stream log past (call.Cleanup j) k s q h plain = sym (wrapped_zeros 0)
+kept_values book stream log past (call.Add j (Ok e)) k s q h plain = sym (wrapped_zeros _)
+kept_values book stream log past (call.Remove j (Ok e)) k s q h plain = sym (wrapped_zeros _)
+kept_values book stream log past (call.SetMultiplex j slice) k s q h plain = cc
+kept_values book stream log past (call.Accum j) k s q h plain =
+    let n = length s.set.events in
+    let rows = added book stream k log in
+    ap (λ vs. sums vs (values_of book past s)) (h.valued plain)
+    ∙ sums_more (event_value book (measured s.set.slice book past s)) (value_addable book (measured s.set.slice book past s)) (column_sums n rows) s.set.events
+    ∙ ap (λ row. map wrapped (plus row (column_sums n rows))) (values_follow book stream log past k s h plain)
+kept_values book stream log past (call.SetDomain j bits) k s q h plain = h.valued plain
+kept_values book stream log past (call.Overflow j (Ok e) t) k s q h plain = h.valued plain
+kept_values book stream log past (call.Start j) k s q h plain = h.valued plain
+kept_values book stream log past (call.Stop j) k s q h plain = h.valued plain
+kept_values book stream log past (call.Reset j) k s q h plain = h.valued plain
+kept_values book stream log past (call.AssignComponent j comp) k s q h plain = h.valued plain
+kept_values book stream log past c k s q h plain = cc
+
+-- what is kept of the set that a call changed
+changed_set : (book : Book) (stream : List Occ) (log : List Answered) (past : List Occ) (c : Call) (r : Reply) (k : ℕ) (s : Kept)
+    → set_of_call c ≡ Some k → is_ok r.code ≡ true → IsQuiet r.body → IsWithin (length past) s → SetFollows book stream log past k s
+    → SetFollows book stream (said c r ∷ log) past k (kept_after book past c s)
+changed_set book stream log past c r k s q ok quiet inside h =
+    let x = said c r in
+    let m = quiet_makes c r k quiet in
+    let on = changes_same c r k q ok in
+    let same = kept_holds book past c s in
+    record {
+      holds = same ∙ ap (holds_after book c) h.holds ∙ sym (set_now-changed book k x log m on);
+      windowed = kept_window book past c k s (placed_after None past) q (length-placed None past) inside ∙ go (is_zeroing c) (zeroes-changed k x m on);
+      valued = λ plain. kept_values book stream log past c k s q h (sym (ap (λ (t : AtRest). t.slice) same) ∙ plain)
+          ∙ ap₂ wrapped_sums (ap (λ (t : AtRest). length t.events) (sym same)) (sym (added-changed book stream k x log m on));
+    } where
+      go : (b : Bool) → zeroes k (said c r) ≡ b → (if b then [] else in_window s (placed_after None past)) ≡ window stream k (said c r ∷ log)
+      go true z = sym (window-zeroing stream k (said c r) log z)
+      go false z = h.windowed ∙ sym (window-same stream k (said c r) log z quiet.takes_none)
+
+-- what is kept of a set that a call did not change
+other_set : (book : Book) (stream : List Occ) (log : List Answered) (past : List Occ) (x : Answered) (k : ℕ) (s : Kept)
+    → makes k x ≡ false → changed k x ≡ false → taken_by x.reply.body ≡ 0 → SetFollows book stream log past k s → SetFollows book stream (x ∷ log) past k s
+other_set book stream log past x k s m off none h = record {
+  holds = h.holds ∙ sym (set_now-other book k x log m off);
+  windowed = h.windowed ∙ sym (window-same stream k x log (zeroes-other k x m off) none);
+  valued = λ plain. h.valued plain ∙ ap (wrapped_sums (length s.set.events)) (sym (added-other book stream k x log m off));
+}
+
+-- ---- all sets
+
+-- a number is this one or another
+by_number : (P : ℕ → Type 0) (j k : ℕ) → P k → (j ≢ k → P j) → P j
+by_number P j k here other = elim (eqb_tells j k) [ inl e ↦ subst P (sym e.1) here | inr e ↦ other e.1 ]
+
+-- a call that took nothing leaves what was taken
+still : (x : Answered) (log : List Answered) → taken_by x.reply.body ≡ 0 → taken log ≡ taken (x ∷ log)
+still x log none = omega (arith, none)
+
+-- a call that changed nothing
+pub idle_follows : (book : Book) (stream : List Occ) (log : List Answered) (past rest : List Occ) (sets : List (Option Kept)) (x : Answered)
+    → ((k : ℕ) → makes k x ≡ false) → ((k : ℕ) → changed k x ≡ false) → taken_by x.reply.body ≡ 0
+    → Follows book stream log past rest sets → Follows book stream (x ∷ log) past rest sets
+idle_follows book stream log past rest sets x m off none h = record {
+  past_is = h.past_is ∙ ap (λ n. take n stream) (still x log none);
+  rest_is = h.rest_is ∙ ap (λ n. drop n stream) (still x log none);
+  within = h.within;
+  runs_is = λ k. h.runs_is k ∙ sym (runs_now-other k x log (off k));
+  each = λ k s e. other_set book stream log past x k s (m k) (off k) none (h.each k s e);
+}
+
+-- a call that changed the set of a number
+pub changed_follows : (book : Book) (stream : List Occ) (log : List Answered) (past rest : List Occ) (sets : List (Option Kept)) (c : Call) (r : Reply) (k : ℕ) (s : Kept)
+    → set_of_call c ≡ Some k → is_ok r.code ≡ true → IsQuiet r.body → at sets k ≡ Some s
+    → AllWithin (length past) (change (kept_after book past c) sets k)
+    → Follows book stream log past rest sets → Follows book stream (said c r ∷ log) past rest (change (kept_after book past c) sets k)
+changed_follows book stream log past rest sets c r k s q ok quiet there inside h = record {
+  past_is = h.past_is ∙ ap (λ n. take n stream) (still (said c r) log quiet.takes_none);
+  rest_is = h.rest_is ∙ ap (λ n. drop n stream) (still (said c r) log quiet.takes_none);
+  within = inside;
+  runs_is = λ j. by_number (λ i. running (at (change (kept_after book past c) sets k) i) ≡ runs_now i (said c r ∷ log)) j k runs_here (λ apart. ap running (at-put_other sets k j _ apart) ∙ h.runs_is j ∙ sym (runs_now-other j (said c r) log (changes_other c r j k q apart)));
+  each = λ j t e. by_number (λ i. at (change (kept_after book past c) sets k) i ≡ Some t → SetFollows book stream (said c r ∷ log) past i t) j k (set_here t) (λ apart f.
+      other_set book stream log past (said c r) j t (quiet_makes c r j quiet) (changes_other c r j k q apart) quiet.takes_none (h.each j t (sym (at-put_other sets k j _ apart) ∙ f))) e;
+} where
+  here : at (change (kept_after book past c) sets k) k ≡ Some (kept_after book past c s)
+  here = at-change_same (kept_after book past c) sets k ∙ ap (option_map (kept_after book past c)) there
+
+  runs_here : running (at (change (kept_after book past c) sets k) k) ≡ runs_now k (said c r ∷ log)
+  runs_here =
+      ap running here ∙ kept_runs book past c s ∙ ap (runs_after c) (sym (ap running there) ∙ h.runs_is k)
+      ∙ sym (runs_now-changed k (said c r) log (changes_same c r k q ok))
+
+  set_here : (t : Kept) → at (change (kept_after book past c) sets k) k ≡ Some t → SetFollows book stream (said c r ∷ log) past k t
+  set_here t e =
+      let same : kept_after book past c s ≡ t = (let both : Some (kept_after book past c s) ≡ Some t = sym here ∙ e in cc) in
+      subst (SetFollows book stream (said c r ∷ log) past k) same
+      (changed_set book stream log past c r k s q ok quiet (each_at (IsWithin (length past)) sets k s h.within.each there) (h.each k s there))
+
+-- a new set
+new_set_follows : (book : Book) (stream : List Occ) (log : List Answered) (past : List Occ) (x : Answered) (k : ℕ) → makes k x ≡ true → SetFollows book stream (x ∷ log) past k new_kept
+new_set_follows book stream log past x k m = record {
+  holds = sym (set_now-made book k x log m);
+  windowed = sym (window-made stream k x log m);
+  valued = λ plain. sym (ap (wrapped_sums 0) (added-made book stream k x log m));
+}
+
+not_running : (o : Option Kept) → ((s : Kept) → o ≡ Some s → new_kept ≡ s) → running o ≡ false
+not_running None h = refl
+not_running (Some s) h = ap (λ (t : Kept). t.running) (sym (h s refl))
+
+-- a call that made a set
+pub made_follows : (book : Book) (stream : List Occ) (log : List Answered) (past rest : List Occ) (sets : List (Option Kept)) (x : Answered) (k : ℕ)
+    → makes k x ≡ true → ((j : ℕ) → j ≢ k → makes j x ≡ false) → ((j : ℕ) → changed j x ≡ false) → taken_by x.reply.body ≡ 0 → at sets k ≡ None
+    → AllWithin (length past) (slice_set sets k (Some new_kept))
+    → Follows book stream log past rest sets → Follows book stream (x ∷ log) past rest (slice_set sets k (Some new_kept))
+made_follows book stream log past rest sets x k m others off none empty inside h = record {
+  past_is = h.past_is ∙ ap (λ n. take n stream) (still x log none);
+  rest_is = h.rest_is ∙ ap (λ n. drop n stream) (still x log none);
+  within = inside;
+  runs_is = λ j. by_number (λ i. running (at (slice_set sets k (Some new_kept)) i) ≡ runs_now i (x ∷ log)) j k
+      (not_running (at (slice_set sets k (Some new_kept)) k) (at-put_same sets k new_kept) ∙ sym (ap running empty) ∙ h.runs_is k ∙ sym (runs_now-other k x log (off k)))
+      (λ apart. ap running (at-put_other sets k j (Some new_kept) apart) ∙ h.runs_is j ∙ sym (runs_now-other j x log (off j)));
+  each = λ j t e. by_number (λ i. at (slice_set sets k (Some new_kept)) i ≡ Some t → SetFollows book stream (x ∷ log) past i t) j k
+      (λ f. subst (SetFollows book stream (x ∷ log) past k) (at-put_same sets k new_kept t f) (new_set_follows book stream log past x k m))
+      (λ apart f. other_set book stream log past x j t (others j apart) (off j) none (h.each j t (sym (at-put_other sets k j (Some new_kept) apart) ∙ f))) e;
+}
+
+-- a call that took a stopped set away
+pub gone_follows : (book : Book) (stream : List Occ) (log : List Answered) (past rest : List Occ) (sets : List (Option Kept)) (x : Answered) (k : ℕ)
+    → ((j : ℕ) → makes j x ≡ false) → ((j : ℕ) → changed j x ≡ false) → taken_by x.reply.body ≡ 0 → running (at sets k) ≡ false
+    → AllWithin (length past) (slice_set sets k None)
+    → Follows book stream log past rest sets → Follows book stream (x ∷ log) past rest (slice_set sets k None)
+gone_follows book stream log past rest sets x k m off none stopped inside h = record {
+  past_is = h.past_is ∙ ap (λ n. take n stream) (still x log none);
+  rest_is = h.rest_is ∙ ap (λ n. drop n stream) (still x log none);
+  within = inside;
+  runs_is = λ j. by_number (λ i. running (at (slice_set sets k None) i) ≡ runs_now i (x ∷ log)) j k
+      (ap running (at-put_none sets k) ∙ sym stopped ∙ h.runs_is k ∙ sym (runs_now-other k x log (off k)))
+      (λ apart. ap running (at-put_other sets k j None apart) ∙ h.runs_is j ∙ sym (runs_now-other j x log (off j)));
+  each = λ j t e. by_number (λ i. at (slice_set sets k None) i ≡ Some t → SetFollows book stream (x ∷ log) past i t) j k
+      (λ f. let both : None ≡ Some t = sym (at-put_none sets k) ∙ f in cc)
+      (λ apart f. other_set book stream log past x j t (m j) (off j) none (h.each j t (sym (at-put_other sets k j None apart) ∙ f))) e;
+}
+
+-- ---- runs
+
+-- what is kept of a set over which a run took its next occurrences
+ran_set : (book : Book) (stream : List Occ) (log : List Answered) (past later : List Occ) (x : Answered) (k : ℕ) (s : Kept)
+    → makes k x ≡ false → changed k x ≡ false → past ≡ take (taken log) stream → later ≡ take (taken (x ∷ log)) stream
+    → s.running ≡ runs_now k log → IsWithin (length past) s → SetFollows book stream log past k s → SetFollows book stream (x ∷ log) later k s
+ran_set book stream log past later x k s m off old new on inside h = record {
+  holds = h.holds ∙ sym (set_now-other book k x log m off);
+  windowed = ap (in_window s) (ap (placed_after None) new ∙ placed-take None (taken log + taken_by x.reply.body) stream) ∙ go s.running refl;
+  valued = λ plain. h.valued plain ∙ ap (wrapped_sums (length s.set.events)) (sym (added-other book stream k x log m off));
+} where
+  before : take (taken log) (placed_after None stream) ≡ placed_after None past
+  before = sym (placed-take None (taken log) stream) ∙ ap (placed_after None) (sym old)
+
+  size : length (take (taken log) (placed_after None stream)) ≡ length past
+  size = ap length before ∙ length-placed None past
+
+  go : (b : Bool) → s.running ≡ b → in_window s (take (taken log + taken_by x.reply.body) (placed_after None stream)) ≡ window stream k (x ∷ log)
+  go true runs_now =
+      let a = inside.in_order in
+      let b = inside.past in
+      window-more s (placed_after None stream) (taken log) (taken_by x.reply.body) runs_now (omega (arith, a, b, size))
+      ∙ ap (λ os. os ++ newly_taken stream x log) (ap (in_window s) before ∙ h.windowed)
+      ∙ sym (window-running stream k x log (zeroes-other k x m off) (sym on ∙ runs_now))
+  go false stopped_now =
+      let a = inside.in_order in
+      let b = inside.past in
+      window-kept s (placed_after None stream) (taken log) (taken_by x.reply.body) stopped_now a (omega (arith, b, size))
+      ∙ ap (in_window s) before ∙ h.windowed
+      ∙ sym (window-stays stream k x log (zeroes-other k x m off) (sym on ∙ stopped_now))
+
+-- a run
+pub ran_follows : (book : Book) (stream : List Occ) (log : List Answered) (past rest : List Occ) (sets : List (Option Kept)) (x : Answered)
+    → ((j : ℕ) → makes j x ≡ false) → ((j : ℕ) → changed j x ≡ false)
+    → AllWithin (length (past ++ take (taken_by x.reply.body) rest)) sets
+    → Follows book stream log past rest sets → Follows book stream (x ∷ log) (past ++ take (taken_by x.reply.body) rest) (drop (taken_by x.reply.body) rest) sets
+ran_follows book stream log past rest sets x m off inside h = record {
+  past_is = later;
+  rest_is = ap (drop (taken_by x.reply.body)) h.rest_is ∙ drop-drop (taken_by x.reply.body) (taken log) stream;
+  within = inside;
+  runs_is = λ j. h.runs_is j ∙ sym (runs_now-other j x log (off j));
+  each = λ j s e. ran_set book stream log past (past ++ take (taken_by x.reply.body) rest) x j s (m j) (off j) h.past_is later (sym (ap running e) ∙ h.runs_is j) (each_at (IsWithin (length past)) sets j s h.within.each e) (h.each j s e);
+} where
+  later : past ++ take (taken_by x.reply.body) rest ≡ take (taken log + taken_by x.reply.body) stream
+  later = ap₂ (λ (a b : List Occ). a ++ take (taken_by x.reply.body) b) h.past_is h.rest_is ∙ sym (take-add (taken log) (taken_by x.reply.body) stream)

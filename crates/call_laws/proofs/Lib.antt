@@ -1,0 +1,9 @@
+pub mod Places
+pub mod PlacedOnes
+pub mod Histories
+pub mod Replied
+pub mod Sums
+pub mod Follows
+pub mod Steps
+pub mod Shown
+pub mod Refused

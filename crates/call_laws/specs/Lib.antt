@@ -1,0 +1,12 @@
+pub mod History
+pub mod SetCalls
+pub mod Values
+pub mod Refusing
+pub mod Lab
+pub mod AllocationRows
+pub mod CountingRows
+pub mod ThresholdRows
+pub mod MultiplexingRows
+pub mod PresetRows
+pub mod RefusalRows
+pub mod ThreadRows

@@ -1,2 +1,0 @@
-pub mod Lab
-pub mod FirstRun
