@@ -16,7 +16,7 @@ STATUSES = (
     ("4", "Out of memory. What was written is a prefix of the output."),
     ("5", "A write failed. What was written is a prefix of the output."),
 )
-
+HINTS = "The script that runs the tool adds lines that begin with hint: to standard error, on what was refused or not found. With 0 it adds none."
 
 WIDTH = 78
 
@@ -76,6 +76,7 @@ def manual_page(usage: Usage, summary: str, date: str) -> str:
         lines.append(".El")
     for note in usage.notes:
         lines += [".Pp", *sentences(note)]
+    lines += [".Sh ENVIRONMENT", ".Bl -tag -width Ds", ".It Ev KISTALUB_HINTS", *sentences(HINTS), ".El"]
     lines += [".Sh EXIT STATUS", ".Bl -tag -width Ds"]
     for number, meaning in STATUSES:
         lines += [f".It {number}", *sentences(meaning)]

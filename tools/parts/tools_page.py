@@ -13,7 +13,10 @@ HEAD = """# Tools
 Each tool has a script in `bin/`. It prints its usage without words and with `--help`. The manual pages in `man/` say the same:
 `man -l man/papi_run.1`. [FORMATS.md](FORMATS.md) has the formats of all files and the rules of all calls.
 
-The commands on this page are run at the top of the repository.
+The commands on this page are run at the top of the repository. What they print is shown, on standard output and then on standard error.
+
+Lines that begin with `hint: ` are not the program's. The scripts in `bin/` add them to standard error, where the status is 1 or 2, or where nothing is found of what was asked for. They
+say which word, line, field or name is meant, and what is near. They need Python 3.9, and are left out where there is none. `KISTALUB_HINTS=0` leaves them out too.
 
 """
 STATUSES = """## Statuses
@@ -48,7 +51,7 @@ ORIGINS = {
 ERRORS_HEAD = """## Errors
 
 The program writes at most one line on standard error, except for streams: one line for each thread whose runs met a fault. Row numbers count
-the rows of a table without blank lines and without lines that begin with `#`. `tools/preset_lines FILE` turns the row number of an error into the line of the file.
+the rows of a table without blank lines and without lines that begin with `#`. The hint below such a line has the line of the file, and `tools/preset_lines FILE` tells it too.
 The first fault in the order of work is named: the words, the unit file, the preset file, the map, the script, the openings of the streams, and then the runs.
 """
 

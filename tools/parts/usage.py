@@ -96,14 +96,16 @@ def _example(name: str, title: str, words: list[str]) -> Example:
     """An example as it is run at the top of the repository, so its files are named from there."""
     files = [word for word in words[1:] if (EXAMPLES / word).is_file()]
     command = " ".join([f"bin/{words[0]}"] + [f"examples/{word}" if word in files else word for word in words[1:]])
-    output = ""
-    for ending in ("expected", "errors"):
-        path = EXAMPLES / f"{name}.{ending}"
-        if path.exists():
-            output += read_file(str(path))
+    output = _part_of(name, "expected") + _part_of(name, "errors")
     for word in files:
         output = output.replace(f"papi: {word}: ", f"papi: examples/{word}: ")
-    return Example(title, command, output)
+    return Example(title, command, output + _part_of(name, "hints"))
+
+
+def _part_of(name: str, ending: str) -> str:
+    """What an example writes: `expected` and `errors` by the program, and `hints` by the script in bin/ after it, at the top of the repository."""
+    path = EXAMPLES / f"{name}.{ending}"
+    return read_file(str(path)) if path.exists() else ""
 
 
 def read_errors() -> list[Error]:

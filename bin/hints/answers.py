@@ -1,0 +1,126 @@
+"""Hints on whole answers: a name that is not there, and a list that is empty of what was asked for."""
+
+from __future__ import annotations
+
+from typing import Callable, List, Optional
+
+from files import Unread, read_lines
+from presets import SYMBOLS, Presets, cpu_fault, name_fault, read_presets, why_unavailable
+from scripts import Call, calls_of
+from texts import near, shown
+from units import Event, fault_of, read_unit
+from words import Words
+
+MOST_NAMES = 3  # of a script that are told
+
+
+def answer_hints(tool: str, read: Words) -> list[str]:
+    try:
+        unit = read_unit(read.options["-U"])
+        presets = read_presets(read.options["-P"], read.options["-C"]) if "-P" in read.options else None
+        if presets is not None and (fault := cpu_fault(presets)):
+            return [fault]
+        return [hint for hint in HINTS_OF[tool](read, unit, presets) if hint]
+    except (Unread, OSError, KeyError):
+        return []
+
+
+def _of_avail(read: Words, unit: list[Event], presets: Presets | None) -> list[str]:
+    assert presets is not None
+    name = read.options.get("-e")
+    if name is None:
+        faults = [fault for symbol in presets.entries if (fault := why_unavailable(presets, unit, symbol))]
+        if faults and len(faults) == len(presets.entries):
+            return [f"the unit has none of the presets of {presets.cpu}: {faults[0]}"]
+        return [] if presets.entries else [f"the preset file has no row for the processor {presets.cpu} that the program knows"]
+    if name in presets.entries or name in SYMBOLS:
+        return [why_unavailable(presets, unit, name)]
+    return [f"neither a preset nor a user event has the name {shown(name)}{near(name, (*SYMBOLS, *presets.user_events()))}"]
+
+
+def _of_native_avail(read: Words, unit: list[Event], presets: Presets | None) -> list[str]:
+    name = read.options.get("-e")
+    if name is not None:
+        return [fault_of(unit, name)]
+    part, without = read.options.get("-i", ""), read.options.get("-x")
+    names = [event.full_name() for event in unit]
+    kept = [full for full in names if part in full]
+    if not kept:
+        return [f"no name of an event contains {shown(part)}, with regard to case{near(part, (event.name for event in unit))}"]
+    if without is not None and all(without in full for full in kept):
+        return [f"each name that -i leaves contains {shown(without)}, so -x leaves none"]
+    return []
+
+
+def _of_encode(read: Words, unit: list[Event], presets: Presets | None) -> list[str]:
+    return _first([fault_of(unit, name) for name in read.others])
+
+
+def _of_chooser(read: Words, unit: list[Event], presets: Presets | None) -> list[str]:
+    kind, *names = read.others
+    faults = [name_fault(presets, unit, name) for name in names]
+    if kind == "PRESET" and presets is None:
+        faults.append("without -P PRESETS and -C CPU there are no presets to list")
+    return _first(faults)
+
+
+def _of_regions(read: Words, unit: list[Event], presets: Presets | None) -> list[str]:
+    return _first([name_fault(presets, unit, name) for name in read.options["--events"].split(",")])
+
+
+def _of_run(read: Words, unit: list[Event], presets: Presets | None) -> list[str]:
+    lines: dict[str, int] = {}
+    for call in calls_of(read_lines(read.others[0])):
+        if call.name == "add":
+            lines.setdefault(call.arguments[1], call.line)
+    faults = ((line, name_fault(presets, unit, name)) for name, line in lines.items())
+    return _first([f"line {line}: {fault}" for line, fault in faults if fault])
+
+
+def _of_profil(read: Words, unit: list[Event], presets: Presets | None) -> list[str]:
+    return [_why_no_total(read), *_of_run(read, unit, presets)]
+
+
+def _why_no_total(read: Words) -> str:
+    """Why the total of a profile is 0, where that can be told without a run."""
+    thread, number, index = (int(read.options.get(option, "0")) for option in ("--thread", "--set", "--index"))
+    streams = len(read.others) - 1
+    calls = [call for call in calls_of(read_lines(read.others[0])) if call.thread == thread]
+    sets = [call for call in calls if call.arguments[:1] == (str(number),)]
+    if streams <= thread:
+        return f"thread {thread} has no stream: the first stream belongs to thread 0, the next to thread 1, and the words name {_counted(streams, 'stream')}"
+    if not any(call.name == "overflow" and call.arguments[2] != "0" for call in sets):
+        return f"the script has no overflow call for set {number} of thread {thread}{_overflows(calls)}"
+    most = sum(call.name == "add" for call in sets)
+    if index >= most:
+        return f"set {number} of thread {thread} has at most {_counted(most, 'event')}, numbered from 0, and --index is {index}"
+    return "" if any(call.name == "run" for call in calls) else f"the script has no run of thread {thread}"
+
+
+def _overflows(calls: list[Call]) -> str:
+    """The sets of a thread that have a threshold."""
+    sets = sorted({int(call.arguments[0]) for call in calls if call.name == "overflow"})
+    return f" (it has some for set {', '.join(map(str, sets))}: --set)" if sets else ""
+
+
+def _counted(number: int, word: str) -> str:
+    return f"{number} {word}{'' if number == 1 else 's'}"
+
+
+def _first(faults: list[str]) -> list[str]:
+    """The first few of the faults, each once."""
+    told = list(dict.fromkeys(fault for fault in faults if fault))
+    return told[:MOST_NAMES] + ["and more names have faults"] * (len(told) > MOST_NAMES)
+
+
+Hinter = Callable[[Words, List[Event], Optional[Presets]], List[str]]
+HINTS_OF: dict[str, Hinter] = {
+    "papi_run": _of_run,
+    "papi_profil": _of_profil,
+    "papi_regions": _of_regions,
+    "papi_avail": _of_avail,
+    "papi_native_avail": _of_native_avail,
+    "papi_event_chooser": _of_chooser,
+    "papi_decode": lambda read, unit, presets: [],
+    "papi_encode": _of_encode,
+}

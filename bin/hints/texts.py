@@ -1,0 +1,46 @@
+"""How hints show texts of files and words, and which names are near another."""
+
+from __future__ import annotations
+
+from difflib import SequenceMatcher, get_close_matches
+from typing import Iterable
+
+LONGEST = 100  # characters of a line that is shown
+MOST_NEAR = 3
+AS_NEAR = 0.9
+MOST_LISTED = 8
+
+
+def shown(text: str) -> str:
+    """A word or a field in quotes, or its beginning where it is long."""
+    return f'"{cut(text)}"'
+
+
+def cut(text: str) -> str:
+    """A text on one line, or its beginning where it is long."""
+    plain = "".join(letter if letter.isprintable() else repr(letter)[1:-1] for letter in text)
+    return plain if len(plain) <= LONGEST else plain[:LONGEST] + ".."
+
+
+def near(text: str, names: Iterable[str]) -> str:
+    """` (near: A, B)`, or all that there are where nothing is near, or how many."""
+    by_case: dict[str, str] = {}
+    for name in names:
+        by_case.setdefault(name.upper(), name)
+    found = _nearest(text.upper(), by_case)
+    return f" (near: {', '.join(by_case[name] for name in found)})" if found else listed(by_case.values())
+
+
+def _nearest(text: str, names: Iterable[str]) -> list[str]:
+    """A few names that are about as near as the nearest one."""
+    found = get_close_matches(text, names, MOST_NEAR)
+    ratios = [SequenceMatcher(None, name, text).ratio() for name in found]
+    return [name for name, ratio in zip(found, ratios) if ratio >= AS_NEAR * ratios[0]]
+
+
+def listed(names: Iterable[str]) -> str:
+    """` (there are: A, B)`, or how many there are where they are many."""
+    every = list(names)
+    if len(every) > MOST_LISTED:
+        return f" (none of the {len(every)} that there are is near)"
+    return f" (there {'is' if len(every) == 1 else 'are'}: {', '.join(every)})" if every else ""

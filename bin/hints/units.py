@@ -1,0 +1,126 @@
+"""The events of a unit file, and why a text names none of them (docs/FORMATS.md, Names of events)."""
+
+from __future__ import annotations
+
+import re
+from dataclasses import dataclass, field
+
+from files import read_table
+from texts import near, shown
+
+MODIFIERS = ("u", "k", "e", "i", "c")
+SWITCH = re.compile(r"[01nyft]", re.IGNORECASE)
+NUMBER = re.compile(r"0|[1-9][0-9]{0,2}|0x[0-9a-f]{1,2}", re.IGNORECASE)
+
+
+@dataclass(frozen=True)
+class Umask:
+    name: str
+    is_default: bool
+    stands_alone: bool
+
+
+@dataclass
+class Event:
+    component: str
+    pmu: str
+    name: str
+    umasks: list[Umask] = field(default_factory=list)
+
+    def full_name(self) -> str:
+        return f"{self.pmu}::{self.name}"
+
+
+def read_unit(name: str) -> list[Event]:
+    """The events of a unit file that the program took."""
+    events: list[Event] = []
+    component = pmu = ""
+    for row in read_table(name):
+        kind, *fields = row.fields()
+        if kind == "COMPONENT":
+            component, pmu = fields[:2]
+        elif kind == "EVENT":
+            events.append(Event(component, pmu, fields[0]))
+        elif kind == "UMASK":
+            events[-1].umasks.append(Umask(fields[0], "d" in fields[2], "n" in fields[2]))
+    return events
+
+
+def event_of(unit: list[Event], text: str) -> Event | None:
+    """The first event that a text's name agrees with, whatever its attributes are."""
+    component, pmu, name, _ = parts_of(text)
+    for event in unit:
+        if _same(event.name, name) and (component is None or _same(event.component, component)) and (pmu is None or _same(event.pmu, pmu)):
+            return event
+    return None
+
+
+def parts_of(text: str) -> tuple[str | None, str | None, str, list[str]]:
+    """The component, the pmu, the event's name and the attributes that a text has."""
+    before, colons, after = text.partition(":::")
+    component, rest = (before, after) if colons else (None, text)
+    before, colons, after = rest.partition("::")
+    pmu, rest = (before, after) if colons else (None, rest)
+    name, *attributes = rest.split(":")
+    return component, pmu, name, attributes
+
+
+def fault_of(unit: list[Event], text: str) -> str:
+    """Why a text names no native event, or nothing where it names one."""
+    event = event_of(unit, text)
+    if event is None:
+        return _unknown(unit, text)
+    chosen: list[Umask] = []
+    taken: set[str] = set()
+    for attribute in parts_of(text)[3]:
+        fault = _attribute_fault(event, attribute, chosen, taken)
+        if fault:
+            return fault
+    if event.umasks and not chosen and not any(umask.is_default for umask in event.umasks):
+        return f"{event.full_name()} needs a umask{near('', (f'{event.full_name()}:{umask.name}' for umask in event.umasks))}"
+    return ""
+
+
+def _unknown(unit: list[Event], text: str) -> str:
+    component, pmu, name, _ = parts_of(text)
+    if component is not None and not any(_same(event.component, component) for event in unit):
+        return f"the unit has no component {shown(component)}{near(component, (event.component for event in unit))}"
+    if pmu is not None and not any(_same(event.pmu, pmu) for event in unit):
+        return f"the unit has no pmu {shown(pmu)}{near(pmu, (event.pmu for event in unit))}"
+    if component is None and pmu is None:
+        names = {event.name: event.full_name() for event in unit}
+    else:
+        names = {event.name: event.full_name() for event in unit if pmu is None or _same(event.pmu, pmu)}
+    return f"the unit has no event {shown(text)}{near(name, names)}"
+
+
+def _attribute_fault(event: Event, attribute: str, chosen: list[Umask], taken: set[str]) -> str:
+    """What is wrong with one attribute. A good umask is added to the chosen ones, and each name to those taken."""
+    name, equals, value = attribute.partition("=")
+    umask = next((umask for umask in event.umasks if _same(umask.name, name)), None)
+    if umask is None and name.lower() not in MODIFIERS:
+        umasks = [umask.name for umask in event.umasks]
+        modifiers = "u, k, e, i and c=N are modifiers"
+        return f"{event.full_name()} has no umask {shown(attribute)}{near(attribute, umasks)}; {modifiers}"
+    if name.lower() in taken:
+        return f"{shown(name)} stands twice in the name"
+    taken.add(name.lower())
+    if umask is None:
+        return _modifier_fault(name.lower(), equals, value)
+    if equals:
+        return f"the umask {umask.name} takes no value"
+    if chosen and (umask.stands_alone or any(other.stands_alone for other in chosen)):
+        return f"the umasks {chosen[-1].name} and {umask.name} of {event.full_name()} cannot be combined"
+    chosen.append(umask)
+    return ""
+
+
+def _modifier_fault(name: str, equals: str, value: str) -> str:
+    if name == "c":
+        good = NUMBER.fullmatch(value) and int(value, 0) <= 255
+        return "" if good else "c takes a number from 0 to 255, without leading zeros: c=2 or c=0x10"
+    return "" if not equals or SWITCH.fullmatch(value) else f"{name} takes no value, or one of 0 1 n y f t"
+
+
+def _same(one: str, other: str) -> bool:
+    return one.upper() == other.upper()

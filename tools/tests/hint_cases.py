@@ -1,0 +1,197 @@
+"""Mistakes, and the hints that the scripts in bin/ give on them. What the program says of each is that of docs/FORMATS.md."""
+
+from __future__ import annotations
+
+from dataclasses import dataclass, field
+
+UNIT = "COMPONENT,core,mine\nCOUNTER,C0,32,P\nCOUNTER,C1,32,P\nEVENT,INSTRUCTIONS,c0,C0 C1,Instructions\nEVENT,LOADS,d0,C1,Loads\n"
+UMASKS = "UMASK,ALL,03,d,All loads\nUMASK,MISSES,02,n,Loads that miss\nEVENT,STORES,d1,C0,Stores\nUMASK,HITS,01,-,Hits\nUMASK,MISSES,02,-,Misses\n"
+PRESETS = "# presets\nCPU,small\nCPU,large\nPRESET,PAPI_TOT_INS,NOT_DERIVED,mine::INSTRUCTIONS\n\nPRESET,PAPI_L1_LDM,NOT_DERIVED,LOADS:MISS\n" \
+    "PRESET,PAPI_REF_CYC,DERIVED_PS,INSTRUCTIONS\nEVENT,BOTH,DERIVED_ADD,INSTRUCTIONS,LOADS\n"
+SCRIPT = "0 create\n0 add 0 INSTRUCTIONS\n0 overflow 0 INSTRUCTIONS 256\n0 start 0\n0 run 9\n0 stop 0\n"
+REGIONS = "0 begin outer\n0 begin inner\n0 run 1\n0 end inner\n0 end outer\n"
+STREAM = "0 c0 00 u 200 400100\n0 c0 00 u 200 400104\n"
+MAP = "RANGE,loop,0x400100,4,4\n"
+FILES = {"u": UNIT + UMASKS, "p": PRESETS, "s": SCRIPT, "r": REGIONS, "t": STREAM, "m": MAP}
+HELP = "{} --help prints the usage"
+
+
+@dataclass(frozen=True)
+class Case:
+    """Words over the files above, some of them changed: what the program says, its status, and the hints after it. {here} is the folder."""
+
+    title: str
+    words: str
+    said: str
+    status: int
+    hints: tuple[str, ...] = ()
+    files: dict[str, str] = field(default_factory=dict)
+
+
+def bad_words(title: str, words: str, *hints: str) -> Case:
+    return Case(title, words, "papi: bad words", 2, (*hints, HELP.format("bin/" + words.split()[0])))
+
+
+def bad_row(title: str, file: str, content: str, row: int, cause: str, *hints: str) -> Case:
+    words = {"u": "papi_native_avail -U u", "p": "papi_avail -U u -P p -C small", "m": "papi_profil -U u -M m s t"}[file]
+    return Case(title, words, f"papi: {file}: row {row}: {cause}", 2, hints, {file: content})
+
+
+def bad_line(title: str, content: str, line: int, cause: str, *hints: str) -> Case:
+    return Case(title, "papi_run -U u s t", f"papi: s: line {line}: {cause}", 2, hints, {"s": content})
+
+
+def bad_region(title: str, content: str, line: int, cause: str, *hints: str) -> Case:
+    return Case(title, "papi_regions -U u --events LOADS r t", f"papi: r: line {line}: {cause}", 2, hints, {"r": content})
+
+
+def bad_stream(title: str, content: str, line: int, cause: str, *hints: str) -> Case:
+    return Case(title, "papi_run -U u s t", f"papi: stream 0: line {line}: {cause}", 2, hints, {"t": content})
+
+
+def answer(title: str, words: str, status: int, *hints: str, **files: str) -> Case:
+    return Case(title, words, "", status, hints, files)
+
+
+WORDS = (
+    bad_words("an unknown option", "papi_run -U u --worker 4 s t", 'papi_run has no option "--worker" (near: --workers)'),
+    bad_words("no unit", "papi_run s t", "-U UNIT is missing: the unit file: components, counters, events and umasks"),
+    bad_words("-P without -C", "papi_run -U u -P p s t", "-C CPU is missing: -P PRESETS goes with it"),
+    bad_words("-C without -P", "papi_run -U u -C small s t", "-P PRESETS is missing: -C CPU goes with it"),
+    bad_words("no -C where it is needed", "papi_avail -U u -P p", "-C CPU is missing: the processor whose presets and user events are read"),
+    bad_words("no map", "papi_profil -U u s t", "-M MAP is missing: the map file: ranges of program counters, each cut into buckets of one width"),
+    bad_words("no script", "papi_run -U u", "SCRIPT is missing: the calls, one a line"),
+    bad_words("a number out of range", "papi_run -U u --workers 65 s t", '--workers "65": a number from 1 to 64 is wanted'),
+    bad_words("no number", "papi_profil -U u -M m --thread one s t", '--thread "one": a number from 0 to 63 is wanted'),
+    bad_words("an option without its value", "papi_run s t -U", "-U has no UNIT"),
+    bad_words("a value that looks like an option", "papi_native_avail -U u -i -X", "-i has no STR: a value that begins with - is attached, -i-X"),
+    bad_words("an option twice", "papi_run -U u -U u s", "-U stands twice"),
+    bad_words("a word too many", "papi_avail -U u -P p -C small PAPI_TOT_INS", '"PAPI_TOT_INS" is one word too many'),
+    bad_words("a kind of events in lower case", "papi_event_chooser -U u native LOADS", '"native" stands where NATIVE or PRESET is wanted'),
+    bad_words("a soak that is too large", "papi_soak 1001", 'SIZE "1001": a number from 1 to 1000 is wanted'),
+    bad_words("a processor's name with a comma", "papi_avail -U u -P p -C a,b",
+              '-C "a,b": a processor\'s name has 1 to 64 printable characters, no comma, and no space at its ends'),
+    bad_words("two commas", "papi_regions -U u --events LOADS,,STORES r t", "--events: names with one comma between two, and no spaces"),
+    Case("a tool that is not there", "papi_rum -U u s t", "papi: bad words", 2, ('there is no tool "papi_rum" (near: papi_run)', "papi --help lists the tools")),
+)
+
+MISSING_FILES = (
+    Case("a missing file", "papi_run -U unit s t", "papi: no such file: unit", 2, ('{here} has no file "unit" (there are: m, p, r, s, t, u)',)),
+    Case("a name that is near", "papi_run -U u s stream.1", "papi: no such file: stream.1", 2,
+         ('{here} has no file "stream.1" (near: stream.0)',), {"stream.0": STREAM}),
+    Case("a missing folder", "papi_run -U units/u s t", "papi: no such file: units/u", 2, ('there is no folder "units" in {here}',)),
+)
+
+ROWS = (
+    bad_row("a width of 64", "u", "# mine\n" + UNIT.replace("C0,32", "C0,64"), 2, "width out of range", "u:3: COUNTER,C0,64,P", 'the width is "64", and 16 to 48 is wanted'),
+    bad_row("a select code with 0x", "u", UNIT.replace(",c0,", ",0xc0,"), 4, "bad row", "u:4: EVENT,INSTRUCTIONS,0xc0,C0 C1,Instructions",
+            'the select code is "0xc0", and one or two hexadecimal digits without 0x is wanted'),
+    bad_row("a comma in a description", "u", UNIT.replace(",Loads", ",Loads, all"), 5, "bad row", "u:5: EVENT,LOADS,d0,C1,Loads, all",
+            "the row has 6 fields, and 5 are wanted: EVENT,name,select code,counters,description; a description has no comma"),
+    bad_row("a kind in lower case", "u", UNIT.replace("COUNTER,C1", "counter,C1"), 3, "bad row", "u:3: counter,C1,32,P",
+            '"counter" stands where COMPONENT, COUNTER, EVENT, UMASK is wanted (in capitals)'),
+    bad_row("a name with a point", "u", UNIT.replace("LOADS", "LOADS.ALL"), 5, "bad row", "u:5: EVENT,LOADS.ALL,d0,C1,Loads",
+            'the name is "LOADS.ALL", and 1 to 64 letters, digits, _ and - is wanted'),
+    bad_row("a width in words", "u", UNIT.replace("C0,32", "C0,wide"), 2, "bad row", "u:2: COUNTER,C0,wide,P", 'the width is "wide", and a number from 16 to 48 is wanted'),
+    bad_row("a umask above all events", "u", "COMPONENT,core,mine\nUMASK,ALL,03,d,All\n", 2, "bad row", "u:2: UMASK,ALL,03,d,All",
+            "no EVENT row of its component stands above this UMASK row"),
+    bad_row("a counter above all components", "u", "COUNTER,C0,32,P\n", 1, "bad row", "u:1: COUNTER,C0,32,P", "no COMPONENT row stands above this COUNTER row"),
+    bad_row("two defaults", "u", UNIT + "UMASK,ALL,03,d,All\nUMASK,SOME,01,d,Some\n", 7, "bad row", "u:7: UMASK,SOME,01,d,Some",
+            "another umask of its event is the default (d) already"),
+    bad_row("a repeated name", "u", UNIT + "EVENT,loads,d0,C0,Loads\n", 6, "repeated name", "u:6: EVENT,loads,d0,C0,Loads",
+            "line 5 has the name loads already, and case makes no difference"),
+    bad_row("a umask with a modifier's name", "u", UNIT + "UMASK,K,01,-,Kernel\n", 6, "repeated name", "u:6: UMASK,K,01,-,Kernel", "K is the name of a modifier"),
+    bad_row("an unknown counter", "u", UNIT.replace("d0,C1", "d0,C2"), 5, "unknown counter", "u:5: EVENT,LOADS,d0,C2,Loads",
+            'no row above has the counter "C2" in its component (there are: C0, C1)'),
+    bad_row("a preset without a processor", "p", "PRESET,PAPI_TOT_INS,NOT_DERIVED,LOADS\n", 1, "preset before cpu", "p:1: PRESET,PAPI_TOT_INS,NOT_DERIVED,LOADS",
+            "a row CPU,name is wanted above it"),
+    bad_row("a type that is not one", "p", PRESETS.replace("DERIVED_ADD", "DERIVED_SUM"), 6, "bad field", "p:8: EVENT,BOTH,DERIVED_SUM,INSTRUCTIONS,LOADS",
+            'the type is "DERIVED_SUM" (near: DERIVED_SUB, DERIVED_PS)'),
+    bad_row("a user event's name", "p", PRESETS.replace("BOTH", "BOTH-OF"), 6, "bad field", "p:8: EVENT,BOTH-OF,DERIVED_ADD,INSTRUCTIONS,LOADS",
+            'the name is "BOTH-OF"; wanted: 1 to 32 letters, digits and _'),
+    bad_row("nine native events", "p", "CPU,small\nPRESET,PAPI_TOT_INS,DERIVED_ADD,A,A,A,A,A,A,A,A,A\n", 2, "over a limit",
+            "p:2: PRESET,PAPI_TOT_INS,DERIVED_ADD,A,A,A,A,A,A,A,A,A", "it has 9 native events, and at most 8 are taken"),
+    bad_row("a formula with too few values", "p", "CPU,small\nEVENT,A,DERIVED_POSTFIX,N0|+|,LOADS\n", 2, "broken formula",
+            "p:2: EVENT,A,DERIVED_POSTFIX,N0|+|,LOADS", "the + has 1 value before it, and takes two"),
+    bad_row("a formula with a value too many", "p", "CPU,small\nEVENT,A,DERIVED_POSTFIX,N0|2|,LOADS\n", 2, "broken formula",
+            "p:2: EVENT,A,DERIVED_POSTFIX,N0|2|,LOADS", "2 values are left at its end, and one is wanted"),
+    bad_row("a native event that the row lacks", "p", "CPU,small\nEVENT,A,DERIVED_POSTFIX,N0|N1|+|,LOADS\n", 2, "broken formula",
+            "p:2: EVENT,A,DERIVED_POSTFIX,N0|N1|+|,LOADS", "N1: the row has 1 native event, numbered from N0"),
+    bad_row("a start without 0x", "m", "RANGE,loop,400100,4,4\n", 1, "bad row", "m:1: RANGE,loop,400100,4,4",
+            'START is "400100", and 0x and 1 to 16 hexadecimal digits is wanted'),
+    bad_row("ranges that overlap", "m", MAP + "\nRANGE,next,0x40010c,1,4\n", 2, "ranges overlap", "m:3: RANGE,next,0x40010c,1,4",
+            "next goes from 0x40010c to 0x40010f, and loop (line 1) from 0x400100 to 0x40010f"),
+    bad_row("a range's name twice", "m", MAP + "RANGE,loop,0x500000,1,4\n", 2, "repeated name", "m:2: RANGE,loop,0x500000,1,4", "line 1 has the name loop already"),
+)
+
+LINES = (
+    bad_line("no thread", "create\n", 1, "bad thread", "s:1: create", '"create" stands where the thread is wanted, 0 to 63: 0 create'),
+    bad_line("a call in capitals", "# all\n0 CREATE\n", 2, "unknown call", "s:2: 0 CREATE", 'there is no call "CREATE" (calls are in lower case)'),
+    bad_line("a call that is near", "0 creat\n", 1, "unknown call", "s:1: 0 creat", 'there is no call "creat" (near: create)'),
+    bad_line("an argument too few", "0 create\n0 add INSTRUCTIONS\n", 2, "wrong arguments", "s:2: 0 add INSTRUCTIONS", "add takes SET EVENT after it: T add SET EVENT"),
+    bad_line("a number below 0", "0 run -1\n", 1, "bad number", "s:1: 0 run -1",
+             '"-1" stands where N is wanted: a number from 0 to 4294967295, without a sign or leading zeros'),
+    bad_line("a code without 0x", "0 name 80000032\n", 1, "bad number", "s:1: 0 name 80000032",
+             '"80000032" stands where a code is wanted: 0x and 1 to 8 hexadecimal digits'),
+    bad_region("another region's end", "0 begin outer\n0 begin inner\n0 end outer\n", 3, "wrong region", "r:3: 0 end outer",
+               "the innermost open region of thread 0 is inner"),
+    bad_region("a region that is not ended", "0 begin outer\n0 begin inner\n0 end inner\n", 4, "region not ended", "missing at the end: 0 end outer"),
+    bad_region("a script's call", "0 begin outer\n0 start 0\n", 2, "unknown call", "r:2: 0 start 0", 'there is no call "start" (there are: begin, read, end, run)'),
+    bad_stream("two spaces", STREAM + "0 c0  00 u 1 1\n", 3, "wrong number of fields", "t:3: 0 c0  00 u 1 1", "two spaces stand after field 2"),
+    bad_stream("a space at the end", "0 c0 00 u 1 1 \n", 1, "wrong number of fields", "t:1: 0 c0 00 u 1 1 ", "a space stands after field 6, the last one"),
+    bad_stream("tabs", "0\tc0\t00\tu\t1\t1\n", 1, "wrong number of fields", r"t:1: 0\tc0\t00\tu\t1\t1", "a tab stands in it; one space stands between two fields"),
+    bad_stream("a field too few", "0 c0 00 u 1\n", 1, "wrong number of fields", "t:1: 0 c0 00 u 1", "it has 5 fields, and 6 are wanted: COMP SELECT UMASK MODE AMOUNT PC"),
+    bad_stream("a stamp without version 2", "0 c0 00 u 1 1 9\n", 1, "wrong number of fields", "t:1: 0 c0 00 u 1 1 9",
+               "it has 7 fields, and 6 are wanted: COMP SELECT UMASK MODE AMOUNT PC; a stream with stamps begins with the line: version 2"),
+    bad_stream("an amount of 256", "0 c0 00 u 256 1\n", 1, "bad field", "t:1: 0 c0 00 u 256 1", 'field 5, the amount, is "256", and a number from 1 to 255 is wanted'),
+    bad_stream("a program counter with 0x", "0 c0 00 u 1 0x400\n", 1, "bad field", "t:1: 0 c0 00 u 1 0x400",
+               'field 6, the program counter, is "0x400", and 1 to 16 hexadecimal digits without 0x is wanted'),
+    bad_stream("a stamp that is no number", "version 2\n0 c0 00 u 1 1 x\n", 2, "bad field", "t:2: 0 c0 00 u 1 1 x",
+               'field 7, the stamp, is "x", and a number from 0 to 4294967294 is wanted'),
+)
+
+ANSWERS = (
+    answer("an unknown processor", "papi_avail -U u -P p -C smal", 0, 'the preset file has no processor "smal" (near: small)'),
+    answer("a processor that is near none", "papi_decode -U u -P p -C skylake", 0, 'the preset file has no processor "skylake" (there are: small, large)'),
+    answer("an unknown processor in a script", "papi_run -U u -P p -C Small s t", 0, 'the preset file has no processor "Small" (near: small)',
+           s="0 create\n0 add 0 PAPI_TOT_INS\n"),
+    answer("presets that are there", "papi_avail -U u -P p -C small", 0),
+    answer("a preset with a native event that the unit lacks", "papi_avail -U u -P p -C small -e PAPI_L1_LDM", 0,
+           'PAPI_L1_LDM is not available: mine::LOADS has no umask "MISS" (near: MISSES); u, k, e, i and c=N are modifiers'),
+    answer("a preset that is not computed", "papi_avail -U u -P p -C small -e PAPI_REF_CYC", 0, "PAPI_REF_CYC is of type DERIVED_PS, which is not computed"),
+    answer("a preset without a row", "papi_avail -U u -P p -C small -e PAPI_TOT_CYC", 0, "the preset file has no row of PAPI_TOT_CYC for the processor small"),
+    answer("an unknown preset", "papi_avail -U u -P p -C small -e PAPI_TOT_IN", 1,
+           'neither a preset nor a user event has the name "PAPI_TOT_IN" (near: PAPI_TOT_INS)'),
+    answer("presets of another unit", "papi_avail -U u -P p -C other", 0,
+           'the unit has none of the presets of other: PAPI_TOT_INS is not available: the unit has no pmu "lab" (there is: mine)',
+           p="CPU,other\nPRESET,PAPI_TOT_INS,NOT_DERIVED,lab::X\n"),
+    answer("an unknown event", "papi_native_avail -U u -e LOAD", 1, 'the unit has no event "LOAD" (near: LOADS)'),
+    answer("no name with these letters", "papi_native_avail -U u -i load", 0, 'no name of an event contains "load", with regard to case (near: LOADS)'),
+    answer("all names left out", "papi_native_avail -U u -i LOADS -x mine", 0, 'each name that -i leaves contains "mine", so -x leaves none'),
+    answer("faults of names", "papi_encode -U u STORES LOADS:ALL:MISSES LOADS:c=256", 1,
+           "mine::STORES needs a umask (there are: mine::STORES:HITS, mine::STORES:MISSES)", "the umasks ALL and MISSES of mine::LOADS cannot be combined",
+           "c takes a number from 0 to 255, without leading zeros: c=2 or c=0x10"),
+    answer("more faults of names", "papi_encode -U u LOADS:u:u other::LOADS net:::LOADS LOADS:ALL=1", 1,
+           '"u" stands twice in the name', 'the unit has no pmu "other" (there is: mine)', 'the unit has no component "net" (there is: core)',
+           "and more names have faults"),
+    answer("an unknown event in a choice", "papi_event_chooser -U u NATIVE INSTRUCTION", 1, 'the unit has no event "INSTRUCTION" (near: INSTRUCTIONS)'),
+    answer("a conflict, which says all itself", "papi_event_chooser -U u NATIVE LOADS:ALL LOADS:MISSES", 1),
+    answer("a preset without -P", "papi_event_chooser -U u PRESET PAPI_TOT_INS", 1,
+           "PAPI_TOT_INS is a preset: -P PRESETS and -C CPU name those of a processor", "without -P PRESETS and -C CPU there are no presets to list"),
+    answer("no presets to list", "papi_event_chooser -U u PRESET LOADS", 0, "without -P PRESETS and -C CPU there are no presets to list"),
+    answer("an unknown event of regions", "papi_regions -U u --events LODS r t", 1, 'the unit has no event "LODS" (near: LOADS)'),
+    answer("an unknown event in a script", "papi_run -U u s t", 0, 'line 2: the unit has no event "INSTRUCTION" (near: INSTRUCTIONS)',
+           s="0 create\n0 add 0 INSTRUCTION\n0 add 0 LOADS\n"),
+    answer("a preset that is not known", "papi_run -U u -P p -C small s t", 0,
+           "line 2: PAPI_L3_TCA is none of the 26 presets that the program knows (near: PAPI_L3_TCM, PAPI_L2_TCM, PAPI_L1_TCM)", s="0 create\n0 add 0 PAPI_L3_TCA\n"),
+    answer("a run that is as it should be", "papi_run -U u s t", 0),
+    answer("a profile without a stream", "papi_profil -U u -M m s", 0,
+           "thread 0 has no stream: the first stream belongs to thread 0, the next to thread 1, and the words name 0 streams"),
+    answer("a profile without an overflow call", "papi_profil -U u -M m s t", 0, "the script has no overflow call for set 0 of thread 0",
+           s=SCRIPT.replace("0 overflow 0 INSTRUCTIONS 256\n", "")),
+    answer("a profile of another set", "papi_profil -U u -M m --set 1 s t", 0, "the script has no overflow call for set 1 of thread 0 (it has some for set 0: --set)"),
+    answer("a profile of an index that is not there", "papi_profil -U u -M m --index 3 s t", 0, "set 0 of thread 0 has at most 1 event, numbered from 0, and --index is 3"),
+    answer("a profile with a total", "papi_profil -U u -M m s t", 0),
+)
+
+CASES = WORDS + MISSING_FILES + ROWS + LINES + ANSWERS
