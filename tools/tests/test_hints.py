@@ -7,12 +7,23 @@ import re
 import shutil
 import subprocess
 import sys
+import tempfile
+from pathlib import Path
 
 from tests.hint_cases import CASES, FILES, Case
 from tests.support import PROGRAM, ROOT, InFolder, needs_program
 
 HINTS = ROOT / "bin/hints"
 FORMATS = ROOT / "docs/FORMATS.md"
+PLACE = "crates/papi/out/papi"
+
+
+def make_tree(folder: Path) -> Path:
+    """A folder with the scripts and a place for the program, which no source is newer than. Gives the folder of the scripts."""
+    (folder / PLACE).parent.mkdir(parents=True)
+    (folder / "crates.txt").touch()
+    os.utime(folder / "crates.txt", (0, 0))
+    return Path(shutil.copytree(ROOT / "bin", folder / "bin"))
 
 
 class Hints(InFolder):
@@ -41,13 +52,17 @@ class Hints(InFolder):
     @needs_program
     def test_each_case_of_the_program(self) -> None:
         """The scripts say what the program says, and then the hints."""
+        place = tempfile.TemporaryDirectory()
+        self.addCleanup(place.cleanup)
+        bin_of = make_tree(Path(place.name))
+        (bin_of.parent / PLACE).symlink_to(PROGRAM)
         for case in CASES:
             with self.subTest(case.title):
                 self.put(case)
                 tool, *words = case.words.split()
                 bare = self.run_script(str(PROGRAM), tool, *words)
                 self.assertEqual((bare.stderr, bare.returncode), (case.said + "\n" * bool(case.said), case.status))
-                script = [str(ROOT / "bin" / tool)] if (ROOT / "bin" / tool).exists() else [str(ROOT / "bin/papi"), tool]
+                script = [str(bin_of / tool)] if (bin_of / tool).exists() else [str(bin_of / "papi"), tool]
                 with_hints = self.run_script(*script, *words)
                 self.assertEqual((with_hints.stdout, with_hints.returncode), (bare.stdout, bare.returncode))
                 self.assertEqual(with_hints.stderr, bare.stderr + self.wanted(case))
@@ -62,14 +77,10 @@ class Scripts(InFolder):
 
     def setUp(self) -> None:
         super().setUp()
-        shutil.copytree(ROOT / "bin", self.folder / "bin")
-        (self.folder / "crates/papi/out").mkdir(parents=True)
-        self.write("crates.txt", "")
-        os.utime(self.folder / "crates.txt", (0, 0))
-        self.tool = str(self.folder / "bin/papi_run")
+        self.tool = str(make_tree(self.folder) / "papi_run")
 
     def program(self, *lines: str) -> None:
-        path = self.write("crates/papi/out/papi", "\n".join(("#!/bin/sh", *lines, "")))
+        path = self.write(PLACE, "\n".join(("#!/bin/sh", *lines, "")))
         os.chmod(path, 0o755)
 
     def call(self, words: str, **variables: str) -> tuple[int, bytes, bytes]:
