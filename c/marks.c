@@ -1,11 +1,124 @@
-/* The calls of each thread: where one enters, and where it leaves. */
+/* The calls of each thread: where one enters, and where it leaves. A recorder finds them by stores to a page, and a replaying run goes on by what was
+ * recorded before each (docs/RECORDING.md). */
+#define _GNU_SOURCE
 #include "internal.h"
 
-static _Thread_local int depth;
+#include <stdbool.h>
+#include <stdio.h>
+#include <stdlib.h>
+#include <sys/mman.h>
+#include <unistd.h>
 
-void kl_call_enters(int number) { (void)number; }
+#define PAGE 4096
+#define HALF (PAGE / 2 / sizeof(uint32_t))
+#define LONGEST_LINE 64
 
-void kl_call_leaves(int number) { (void)number; }
+_Static_assert(2 * KL_FUNCTION_COUNT <= HALF, "each function has a word in half a page");
+
+#define KL_NAME(name) #name,
+static const char *const names[] = {KL_FUNCTIONS(KL_NAME)};
+
+static pthread_once_t once = PTHREAD_ONCE_INIT;
+static volatile uint32_t *page; /* KISTALUB_MARKS */
+static FILE *calls;             /* KISTALUB_CALLS: a line `FUNCTION LINES` for each call */
+static unsigned long made;      /* calls of the list so far */
+static bool has_told;
+static pthread_t first; /* the list is that of the thread that calls first */
+static pid_t process;
+
+/* Between a function's begin and its mark nothing but the library's own instructions is run: no call of another library looks these up. */
+#define NEAR _Thread_local __attribute__((tls_model("initial-exec")))
+static NEAR int depth;
+static NEAR bool is_going_on, is_counting;
+
+/* Says where the calls differ from those that were recorded, once. */
+static void tell(const char *made_call, const char *recorded) {
+    if (!has_told) fprintf(stderr, "kistalub: the calls are not those that were recorded: call %lu is %s, and was %s\n", made, made_call, recorded);
+    has_told = true;
+}
+
+static bool read_call(unsigned long *number, unsigned long *lines) {
+    char line[LONGEST_LINE];
+    return calls && fgets(line, sizeof line, calls) && sscanf(line, "%lu %lu", number, lines) == 2 && *number < KL_FUNCTION_COUNT;
+}
+
+static void process_ends(void) {
+    unsigned long number, lines;
+    if (getpid() != process || has_told || !read_call(&number, &lines)) return;
+    made++;
+    tell("the end", names[number]);
+}
+
+static void begin(void) {
+    const char *address = getenv("KISTALUB_MARKS"), *list = getenv("KISTALUB_CALLS");
+    first = pthread_self();
+    process = getpid();
+    if (address) {
+        void *place = (void *)(uintptr_t)strtoull(address, NULL, 16);
+        void *got = mmap(place, PAGE, PROT_READ | PROT_WRITE, MAP_PRIVATE | MAP_ANONYMOUS | MAP_FIXED_NOREPLACE, -1, 0);
+        if (got == place) page = got;
+        else fprintf(stderr, "kistalub: no page can be at KISTALUB_MARKS=%s\n", address);
+    }
+    if (!list) return;
+    calls = fopen(list, "r");
+    if (!calls) fprintf(stderr, "kistalub: can't read KISTALUB_CALLS=%s\n", list);
+    else atexit(process_ends);
+}
+
+static bool may_start_or_stop(int number) {
+    switch (number) {
+    case KL_PAPI_start:
+    case KL_PAPI_stop:
+    case KL_PAPI_library_init:
+    case KL_PAPI_shutdown:
+    case KL_PAPI_hl_region_begin:
+    case KL_PAPI_hl_region_end:
+    case KL_PAPI_hl_read:
+    case KL_PAPI_hl_stop:
+    case KL_PAPI_ipc:
+    case KL_PAPI_epc:
+    case KL_PAPI_flips_rate:
+    case KL_PAPI_flops_rate:
+    case KL_PAPI_rate_stop: return true;
+    default: return false;
+    }
+}
+
+/* Whether a set of this thread runs. */
+static bool counts(void) {
+    thread_state *t = kl_initialized ? pthread_getspecific(kl_key) : NULL;
+    for (uint32_t set = 0; t && set < MOST_SETS; set++) {
+        uint32_t bits = 0;
+        if (kistalub_state(&t->library, set, &bits) == PAPI_OK && bits & PAPI_RUNNING) return true;
+    }
+    return false;
+}
+
+/* The occurrences that were recorded before this call happen. Handlers that are called meanwhile belong to it. */
+static void go_on_before(int call) {
+    unsigned long number, lines = 0;
+    if (!calls || getpid() != process || !pthread_equal(pthread_self(), first)) return;
+    made++;
+    if (!read_call(&number, &lines)) tell(names[call], "the end");
+    else if (number != (unsigned long)call) tell(names[call], names[number]);
+    if (!lines) return;
+    is_going_on = true;
+    kistalub_go((uint32_t)lines, NULL);
+    is_going_on = false;
+}
+
+void kl_call_enters(int number) {
+    if (is_going_on) return;
+    if (!page) pthread_once(&once, begin);
+    if (page) page[2 * number] = 1;
+    go_on_before(number);
+}
+
+void kl_call_leaves(int number) {
+    if (is_going_on || !page) return;
+    if (may_start_or_stop(number)) is_counting = counts();
+    page[HALF + 2 * (unsigned)number + is_counting] = 1;
+}
 
 int kl_call_begins(int number) {
     if (depth++ == 0) kl_call_enters(number);
