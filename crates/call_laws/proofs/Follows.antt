@@ -1,5 +1,5 @@
 -- An account follows the history of its calls: what the history says of a set is what the account keeps of it.
-use Rattle.std.proofs.Common.{◌≡◌, ◌≢◌, ℕ, ◌+◌, inl, inr, pos, Bool, true, false, List, [], ◌∷◌, ◌++◌, length, take, drop, map, refl, sym, ap, ap₂, subst, ◌∙◌, arith, Option, Some, None, Ok}
+use Rattle.std.proofs.Common.{◌≡◌, ◌≢◌, ℕ, ◌+◌, inl, inr, Bool, true, false, List, [], ◌∷◌, ◌++◌, length, take, drop, map, refl, sym, ap, ap₂, subst, ◌∙◌, arith, Option, Some, None, Ok}
 use Rattle.std.proofs.Common.{slice_set}
 use Rattle.std.specs.Prelude.{if◌then◌else◌}
 use Rattle.std.specs.Option.{option_map, option_map_or}
@@ -7,8 +7,7 @@ use Rattle.std.proofs.lemmas.Bool.Decides.{eqb_tells}
 use Rattle.std.proofs.lemmas.List.{drop-drop}
 use Rattle.std.proofs.Math.Seq.{take-add}
 use Rattle.papi_base.specs.declared.occurrence.Occ.{Occ}
-use Rattle.postfix_rules.specs.Presets.{Book, event_value, natives_of_event, rule_of_event}
-use Rattle.postfix_rules.specs.Rules.{rule_value}
+use Rattle.postfix_rules.specs.Presets.{Book, event_value}
 use Rattle.event_sets.specs.AtRest.{AtRest}
 use Rattle.session_model.specs.declared.call.Call.{Call}
 use Rattle.session_model.specs.declared.call.Call.TheVariants as call
@@ -16,17 +15,19 @@ use Rattle.session_model.specs.declared.reply.Reply.{Reply}
 use Rattle.session_model.specs.Account.{Kept}
 use Rattle.session_model.specs.Bounds.{AllWithin, IsWithin}
 use Rattle.session_model.specs.Changes.{kept_after, new_kept}
-use Rattle.session_model.specs.Counts.{count, in_window}
+use Rattle.session_model.specs.Counts.{in_window}
 use Rattle.session_model.specs.Faces.{at, change}
 use Rattle.session_model.specs.Values.{measured, sums, values_of}
 use Rattle.session_laws.proofs.Sets.{each_at}
 use Rattle.call_laws.specs.History.{Answered, Placed, is_ok, makes, newly_taken, placed_after, taken, taken_by}
 use Rattle.call_laws.specs.SetCalls.{changed, set_now, holds_after, is_accum, is_clearing, is_zeroing, runs_now, runs_after, set_of_call, zeroes}
-use Rattle.call_laws.specs.Values.{added, column_sums, count_over, plus, values_now, values_over, window, wrapped_sums}
+use Rattle.call_laws.specs.Measures.{values_over}
+use Rattle.call_laws.specs.Values.{added, column_sums, plus, values_now, window, wrapped_sums}
+use Rattle.call_laws.proofs.Measured.{values_are}
 use Rattle.postfix_rules.specs.Values.{wrapped}
 use Rattle.call_laws.proofs.Histories.{added-changed, added-made, added-other, set_now-changed, set_now-made, set_now-other, runs_now-changed, runs_now-other, window-made, window-running, window-same, window-stays, window-zeroing, zeroes-changed, zeroes-other}
 use Rattle.call_laws.proofs.Places.{at-change_same, at-put_none, at-put_other, at-put_same}
-use Rattle.call_laws.proofs.PlacedOnes.{count_is, length-placed, placed-take, window-kept, window-more, window-stopped, window-zeroed}
+use Rattle.call_laws.proofs.PlacedOnes.{length-placed, placed-take, window-kept, window-more, window-stopped, window-zeroed}
 use Rattle.call_laws.proofs.Replied.{IsQuiet, changes_other, changes_same, quiet_makes, said}
 use Rattle.call_laws.proofs.Sums.{sums_more, value_addable, wrapped_zeros}
 
@@ -36,7 +37,7 @@ use Rattle.call_laws.proofs.Sums.{sums_more, value_addable, wrapped_zeros}
 pub record SetFollows (book : Book) (stream : List Occ) (log : List Answered) (past : List Occ) (k : ℕ) (s : Kept) : Type 0 where
   pub holds : s.set ≡ set_now book k log
   pub windowed : in_window s (placed_after None past) ≡ window stream k log
-  pub valued : s.set.slice ≡ None → s.values ≡ wrapped_sums (length s.set.events) (added book stream k log)
+  pub valued : s.values ≡ wrapped_sums (length s.set.events) (added book stream k log)
 
 -- the set runs
 abbrev pub running : Option Kept → Bool
@@ -49,21 +50,10 @@ pub record Follows (book : Book) (stream : List Occ) (log : List Answered) (past
   pub runs_is : (k : ℕ) → running (at sets k) ≡ runs_now k log
   pub each : (k : ℕ) (s : Kept) → at sets k ≡ Some s → SetFollows book stream log past k s
 
--- ---- values
-
-map-same : {X Y : Type 0} (f g : X → Y) (xs : List X) → ((x : X) → f x ≡ g x) → map f xs ≡ map g xs
-map-same f g [] h = refl
-map-same f g (x ∷ xs) h = ap₂ (λ y ys. y ∷ ys) (h x) (map-same f g xs h)
-
--- the values of a set that is not multiplexed are those over its window
-pub values_are : (book : Book) (past : List Occ) (s : Kept) → s.set.slice ≡ None → values_of book past s ≡ values_over book s.set (in_window s (placed_after None past))
-values_are book past s plain = rw plain (map-same (event_value book (count past s)) (event_value book (count_over (in_window s (placed_after None past)) s.set.domain)) s.set.events
-    (λ e. ap (rule_value (rule_of_event book e)) (map-same (λ n. pos (count past s n)) (λ n. pos (count_over (in_window s (placed_after None past)) s.set.domain n)) (natives_of_event book e)
-    (λ n. ap pos (count_is past s n)))))
-
-pub values_follow : (book : Book) (stream : List Occ) (log : List Answered) (past : List Occ) (k : ℕ) (s : Kept) → SetFollows book stream log past k s → s.set.slice ≡ None
+-- the values of the set are what the history says
+pub values_follow : (book : Book) (stream : List Occ) (log : List Answered) (past : List Occ) (k : ℕ) (s : Kept) → IsWithin (length past) s → SetFollows book stream log past k s
     → values_of book past s ≡ values_now book stream k log
-values_follow book stream log past k s h plain = values_are book past s plain ∙ ap₂ (values_over book) h.holds h.windowed
+values_follow book stream log past k s inside h = values_are book past s inside ∙ ap₂ (values_over book) h.holds h.windowed
 
 -- ---- a call that changed the set
 
@@ -94,27 +84,26 @@ kept_window book past (call.Reset j) k s xs q same h = window-zeroed (length pas
 kept_window book past (call.AssignComponent j comp) k s xs q same h = refl
 kept_window book past c k s xs q same h = cc
 
-kept_values : (book : Book) (stream : List Occ) (log : List Answered) (past : List Occ) (c : Call) (k : ℕ) (s : Kept) → set_of_call c ≡ Some k → SetFollows book stream log past k s
-    → (holds_after book c s.set).slice ≡ None
+kept_values : (book : Book) (stream : List Occ) (log : List Answered) (past : List Occ) (c : Call) (k : ℕ) (s : Kept) → set_of_call c ≡ Some k → IsWithin (length past) s → SetFollows book stream log past k s
     → (kept_after book past c s).values
     ≡ wrapped_sums (length (holds_after book c s.set).events) (if is_clearing c then [] else (if is_accum c then values_now book stream k log ∷ [] else []) ++ added book stream k log)
-kept_values book stream log past (call.Cleanup j) k s q h plain = sym (wrapped_zeros 0)
-kept_values book stream log past (call.Add j (Ok e)) k s q h plain = sym (wrapped_zeros _)
-kept_values book stream log past (call.Remove j (Ok e)) k s q h plain = sym (wrapped_zeros _)
-kept_values book stream log past (call.SetMultiplex j slice) k s q h plain = cc
-kept_values book stream log past (call.Accum j) k s q h plain =
+kept_values book stream log past (call.Cleanup j) k s q inside h = sym (wrapped_zeros 0)
+kept_values book stream log past (call.Add j (Ok e)) k s q inside h = sym (wrapped_zeros _)
+kept_values book stream log past (call.Remove j (Ok e)) k s q inside h = sym (wrapped_zeros _)
+kept_values book stream log past (call.SetMultiplex j slice) k s q inside h = h.valued
+kept_values book stream log past (call.Accum j) k s q inside h =
     let n = length s.set.events in
     let rows = added book stream k log in
-    ap (λ vs. sums vs (values_of book past s)) (h.valued plain)
+    ap (λ vs. sums vs (values_of book past s)) h.valued
     ∙ sums_more (event_value book (measured s.set.slice book past s)) (value_addable book (measured s.set.slice book past s)) (column_sums n rows) s.set.events
-    ∙ ap (λ row. map wrapped (plus row (column_sums n rows))) (values_follow book stream log past k s h plain)
-kept_values book stream log past (call.SetDomain j bits) k s q h plain = h.valued plain
-kept_values book stream log past (call.Overflow j (Ok e) t) k s q h plain = h.valued plain
-kept_values book stream log past (call.Start j) k s q h plain = h.valued plain
-kept_values book stream log past (call.Stop j) k s q h plain = h.valued plain
-kept_values book stream log past (call.Reset j) k s q h plain = h.valued plain
-kept_values book stream log past (call.AssignComponent j comp) k s q h plain = h.valued plain
-kept_values book stream log past c k s q h plain = cc
+    ∙ ap (λ row. map wrapped (plus row (column_sums n rows))) (values_follow book stream log past k s inside h)
+kept_values book stream log past (call.SetDomain j bits) k s q inside h = h.valued
+kept_values book stream log past (call.Overflow j (Ok e) t) k s q inside h = h.valued
+kept_values book stream log past (call.Start j) k s q inside h = h.valued
+kept_values book stream log past (call.Stop j) k s q inside h = h.valued
+kept_values book stream log past (call.Reset j) k s q inside h = h.valued
+kept_values book stream log past (call.AssignComponent j comp) k s q inside h = h.valued
+kept_values book stream log past c k s q inside h = cc
 
 -- what is kept of the set that a call changed
 changed_set : (book : Book) (stream : List Occ) (log : List Answered) (past : List Occ) (c : Call) (r : Reply) (k : ℕ) (s : Kept)
@@ -128,7 +117,7 @@ changed_set book stream log past c r k s q ok quiet inside h =
     record {
       holds = same ∙ ap (holds_after book c) h.holds ∙ sym (set_now-changed book k x log m on);
       windowed = kept_window book past c k s (placed_after None past) q (length-placed None past) inside ∙ go (is_zeroing c) (zeroes-changed k x m on);
-      valued = λ plain. kept_values book stream log past c k s q h (sym (ap (λ (t : AtRest). t.slice) same) ∙ plain)
+      valued = kept_values book stream log past c k s q inside h
           ∙ ap₂ wrapped_sums (ap (λ (t : AtRest). length t.events) (sym same)) (sym (added-changed book stream k x log m on));
     } where
       go : (b : Bool) → zeroes k (said c r) ≡ b → (if b then [] else in_window s (placed_after None past)) ≡ window stream k (said c r ∷ log)
@@ -141,7 +130,7 @@ other_set : (book : Book) (stream : List Occ) (log : List Answered) (past : List
 other_set book stream log past x k s m off none h = record {
   holds = h.holds ∙ sym (set_now-other book k x log m off);
   windowed = h.windowed ∙ sym (window-same stream k x log (zeroes-other k x m off) none);
-  valued = λ plain. h.valued plain ∙ ap (wrapped_sums (length s.set.events)) (sym (added-other book stream k x log m off));
+  valued = h.valued ∙ ap (wrapped_sums (length s.set.events)) (sym (added-other book stream k x log m off));
 }
 
 -- ---- all sets
@@ -198,7 +187,7 @@ new_set_follows : (book : Book) (stream : List Occ) (log : List Answered) (past 
 new_set_follows book stream log past x k m = record {
   holds = sym (set_now-made book k x log m);
   windowed = sym (window-made stream k x log m);
-  valued = λ plain. sym (ap (wrapped_sums 0) (added-made book stream k x log m));
+  valued = sym (ap (wrapped_sums 0) (added-made book stream k x log m));
 }
 
 not_running : (o : Option Kept) → ((s : Kept) → o ≡ Some s → new_kept ≡ s) → running o ≡ false
@@ -248,7 +237,7 @@ ran_set : (book : Book) (stream : List Occ) (log : List Answered) (past later : 
 ran_set book stream log past later x k s m off old new on inside h = record {
   holds = h.holds ∙ sym (set_now-other book k x log m off);
   windowed = ap (in_window s) (ap (placed_after None) new ∙ placed-take None (taken log + taken_by x.reply.body) stream) ∙ go s.running refl;
-  valued = λ plain. h.valued plain ∙ ap (wrapped_sums (length s.set.events)) (sym (added-other book stream k x log m off));
+  valued = h.valued ∙ ap (wrapped_sums (length s.set.events)) (sym (added-other book stream k x log m off));
 } where
   before : take (taken log) (placed_after None stream) ≡ placed_after None past
   before = sym (placed-take None (taken log) stream) ∙ ap (placed_after None) (sym old)

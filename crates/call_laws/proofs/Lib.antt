@@ -1,5 +1,6 @@
 pub mod Places
 pub mod PlacedOnes
+pub mod Measured
 pub mod Histories
 pub mod Replied
 pub mod Sums

@@ -4,17 +4,19 @@ use Rattle.std.specs.Prelude.{if◌then◌else◌, sum}
 use Rattle.std.proofs.lemmas.List.{drop-append-le, drop-map, drop_all, take_all, take-append-le, take-map}
 use Rattle.std.proofs.Math.Seq.{take-add}
 use Rattle.papi_base.specs.declared.occurrence.Occ.{Occ}
-use Rattle.papi_base.specs.declared.native.Native.{Native}
-use Rattle.papi_base.specs.Weight.{weight_of}
-use Rattle.session_model.specs.Account.{Kept, zeroed}
-use Rattle.session_model.specs.Counts.{along, count, in_window}
+use Rattle.session_model.specs.Account.{Kept, last_after, zeroed}
+use Rattle.session_model.specs.Counts.{along, in_window, weighed}
 use Rattle.call_laws.specs.History.{Placed, placed_after}
-use Rattle.call_laws.specs.Values.{count_over}
 
 pub placed-take : (before : Option Occ) (n : ℕ) (os : List Occ) → placed_after before (take n os) ≡ take n (placed_after before os)
 placed-take before zero os = refl
 placed-take before (suc n) [] = refl
 placed-take before (suc n) (o ∷ os) = ap (λ ps. record { before = before; occ = o } ∷ ps) (placed-take (Some o) n os)
+
+pub placed-drop : (before : Option Occ) (n : ℕ) (os : List Occ) → drop n (placed_after before os) ≡ placed_after (last_after before (take n os)) (drop n os)
+placed-drop before zero os = refl
+placed-drop before (suc n) [] = refl
+placed-drop before (suc n) (o ∷ os) = placed-drop (Some o) n os
 
 pub length-placed : (before : Option Occ) (os : List Occ) → length (placed_after before os) ≡ length os
 length-placed before [] = refl
@@ -30,11 +32,11 @@ window-map f s xs = go s.running where
   go true = drop-map f s.from xs
   go false = ap (take (s.to - s.from)) (drop-map f s.from xs) ∙ take-map f (s.to - s.from) (drop s.from xs)
 
--- a count is the sum over the occurrences of the window
-pub count_is : (past : List Occ) (s : Kept) (n : Native) → count past s n ≡ count_over (in_window s (placed_after None past)) s.set.domain n
-count_is past s n =
-    ap (λ ws. sum (in_window s ws)) (along-placed (weight_of n s.set.domain) None past)
-    ∙ ap sum (window-map (λ (p : Placed). weight_of n s.set.domain p.before p.occ) s (placed_after None past))
+-- what is weighed is the sum over the occurrences of the window
+pub weighed_is : (weigh : Option Occ → Occ → ℕ) (past : List Occ) (s : Kept) → weighed weigh past s ≡ sum (map (λ (p : Placed). weigh p.before p.occ) (in_window s (placed_after None past)))
+weighed_is weigh past s =
+    ap (λ ws. sum (in_window s ws)) (along-placed weigh None past)
+    ∙ ap sum (window-map (λ (p : Placed). weigh p.before p.occ) s (placed_after None past))
 
 -- ---- windows over more occurrences
 

@@ -9,13 +9,14 @@ use Rattle.session_model.specs.declared.call.Call.{Call}
 use Rattle.session_model.specs.declared.call.Call.TheVariants as call
 use Rattle.session_model.specs.declared.reply.Body.TheVariants as body
 use Rattle.session_model.specs.Account.{Account, Kept}
+use Rattle.session_model.specs.Bounds.{IsWithin}
+use Rattle.session_laws.proofs.Sets.{each_at}
 use Rattle.session_model.specs.Faces.{at, faces_of, is_absent}
 use Rattle.session_model.specs.Refusals.{rows}
 use Rattle.session_model.specs.Replies.{done}
 use Rattle.session_model.specs.Step.{account_after, account_refusal, performed, step, unless}
 use Rattle.session_model.specs.Values.{accumulated, measured, sums, values_of}
 use Rattle.call_laws.specs.History.{Thread, answered, begun, is_ok}
-use Rattle.call_laws.specs.SetCalls.{set_now}
 use Rattle.call_laws.specs.Values.{AccumShows, ReadShows, StopShows, added, column_sums, plus, sums_now, values_now}
 use Rattle.call_laws.proofs.Follows.{SetFollows, values_follow}
 use Rattle.call_laws.proofs.Replied.{NoneOk, first_not_ok}
@@ -37,42 +38,44 @@ shown_of book shape a c k f bad same gives ok = go (account_refusal book shape a
       let p = present book shape a c k q same in
       (p.0, p.1, gives ∙ ap (λ o. done (option_map_or (λ (s : Kept). body.Values (f s)) o body.Nothing)) p.1)
 
--- a set that is not multiplexed by its history is not
-plain_set : (t : Thread) (calls : List Call) (k : ℕ) (s : Kept) → (set_now t.book k (answered t calls)).slice ≡ None
-    → SetFollows t.book t.stream (answered t calls) (account_after t.book t.shape (begun t) calls).past k s → s.set.slice ≡ None
-plain_set t calls k s plain h = ap (λ (x : AtRest). x.slice) h.holds ∙ plain
+-- the window of a set of the thread lies in the past
+inside_past : (t : Thread) (calls : List Call) (k : ℕ) (s : Kept) → at (account_after t.book t.shape (begun t) calls).sets k ≡ Some s
+    → IsWithin (length (account_after t.book t.shape (begun t) calls).past) s
+inside_past t calls k s e =
+    let a = account_after t.book t.shape (begun t) calls in
+    each_at (IsWithin (length a.past)) a.sets k s (thread_follows t calls).within.each e
 
 pub read_shows : ReadShows
-read_shows t calls k plain ok =
+read_shows t calls k ok =
     let a = account_after t.book t.shape (begun t) calls in
     let g = shown_of t.book t.shape a (call.Read k) k (values_of t.book a.past) (refl, tt) refl refl ok in
     let h = (thread_follows t calls).each k g.0 g.1 in
-    g.2 ∙ ap (λ vs. done (body.Values vs)) (values_follow t.book t.stream (answered t calls) a.past k g.0 h (plain_set t calls k g.0 plain h))
+    g.2 ∙ ap (λ vs. done (body.Values vs)) (values_follow t.book t.stream (answered t calls) a.past k g.0 (inside_past t calls k g.0 g.1) h)
 
 pub stop_shows : StopShows
-stop_shows t calls k plain ok =
+stop_shows t calls k ok =
     let a = account_after t.book t.shape (begun t) calls in
     let g = shown_of t.book t.shape a (call.Stop k) k (values_of t.book a.past) (refl, (refl, tt)) refl refl ok in
     let h = (thread_follows t calls).each k g.0 g.1 in
-    g.2 ∙ ap (λ vs. done (body.Values vs)) (values_follow t.book t.stream (answered t calls) a.past k g.0 h (plain_set t calls k g.0 plain h))
+    g.2 ∙ ap (λ vs. done (body.Values vs)) (values_follow t.book t.stream (answered t calls) a.past k g.0 (inside_past t calls k g.0 g.1) h)
 
 -- the caller's values with those of the set added
-accumulated_follow : (t : Thread) (calls : List Call) (k : ℕ) (s : Kept) → s.set.slice ≡ None
+accumulated_follow : (t : Thread) (calls : List Call) (k : ℕ) (s : Kept) → IsWithin (length (account_after t.book t.shape (begun t) calls).past) s
     → SetFollows t.book t.stream (answered t calls) (account_after t.book t.shape (begun t) calls).past k s
     → accumulated t.book (account_after t.book t.shape (begun t) calls).past s ≡ sums_now t.book t.stream k (answered t calls)
-accumulated_follow t calls k s plain h =
+accumulated_follow t calls k s inside h =
     let past = (account_after t.book t.shape (begun t) calls).past in
     let count = measured s.set.slice t.book past s in
     let n = length s.set.events in
     let rows = added t.book t.stream k (answered t calls) in
-    ap (λ vs. sums vs (values_of t.book past s)) (h.valued plain)
+    ap (λ vs. sums vs (values_of t.book past s)) h.valued
     ∙ sums_more (event_value t.book count) (value_addable t.book count) (column_sums n rows) s.set.events
-    ∙ ap (λ row. map wrapped (plus row (column_sums n rows))) (values_follow t.book t.stream (answered t calls) past k s h plain)
+    ∙ ap (λ row. map wrapped (plus row (column_sums n rows))) (values_follow t.book t.stream (answered t calls) past k s inside h)
     ∙ ap (λ (x : AtRest). map wrapped (plus (values_now t.book t.stream k (answered t calls)) (column_sums (length x.events) rows))) h.holds
 
 pub accum_shows : AccumShows
-accum_shows t calls k plain ok =
+accum_shows t calls k ok =
     let a = account_after t.book t.shape (begun t) calls in
     let g = shown_of t.book t.shape a (call.Accum k) k (accumulated t.book a.past) (refl, tt) refl refl ok in
     let h = (thread_follows t calls).each k g.0 g.1 in
-    g.2 ∙ ap (λ vs. done (body.Values vs)) (accumulated_follow t calls k g.0 (plain_set t calls k g.0 plain h) h)
+    g.2 ∙ ap (λ vs. done (body.Values vs)) (accumulated_follow t calls k g.0 (inside_past t calls k g.0 g.1) h)

@@ -1,5 +1,6 @@
 pub mod History
 pub mod SetCalls
+pub mod Measures
 pub mod Values
 pub mod Refusing
 pub mod Lab

@@ -1,17 +1,14 @@
 -- What a set's values are, over any list of calls: PAPI_read(3), PAPI_stop(3), PAPI_accum(3).
-use Rattle.std.specs.Prelude.{ℕ, ◌≡◌, ◌+ℤ◌, ℤ, pos, true, if◌then◌else◌, List, [], ◌∷◌, ◌++◌, length, map, replicate, sum, None}
-use Rattle.papi_base.specs.Weight.{weight_of}
-use Rattle.papi_base.specs.declared.bits.Domain.{Domain}
-use Rattle.papi_base.specs.declared.native.Native.{Native}
+use Rattle.std.specs.Prelude.{ℕ, ◌≡◌, ◌+ℤ◌, ℤ, pos, true, if◌then◌else◌, List, [], ◌∷◌, ◌++◌, length, map, replicate}
 use Rattle.papi_base.specs.declared.occurrence.Occ.{Occ}
-use Rattle.postfix_rules.specs.Presets.{Book, event_value}
+use Rattle.postfix_rules.specs.Presets.{Book}
 use Rattle.postfix_rules.specs.Values.{wrapped}
-use Rattle.event_sets.specs.AtRest.{AtRest}
 use Rattle.session_model.specs.declared.call.Call.{Call}
 use Rattle.session_model.specs.declared.call.Call.TheVariants as call
 use Rattle.session_model.specs.declared.reply.Body.TheVariants as body
 use Rattle.session_model.specs.Replies.{done}
 use Rattle.call_laws.specs.History.{Answered, Placed, Thread, answered, is_ok, newly_taken, reply_after}
+use Rattle.call_laws.specs.Measures.{values_over}
 use Rattle.call_laws.specs.SetCalls.{accumulates, clears, set_now, runs_now, zeroes}
 
 -- the window of a set: the occurrences that were taken while it ran, since the last call that zeroes
@@ -21,22 +18,14 @@ window stream k (x ∷ earlier) =
     if zeroes k x then []
     else window stream k earlier ++ (if runs_now k earlier then newly_taken stream x earlier else [])
 
--- a native event's count: the sum of what these occurrences add to it
-abbrev pub count_over : List Placed → Domain → Native → ℕ
-count_over os domain n = sum (map (λ p. weight_of n domain p.before p.occ) os)
-
--- the value of each event of a set that is not multiplexed: its formula over the counts
-abbrev pub values_over : Book → AtRest → List Placed → List ℤ
-values_over book s os = map (event_value book (count_over os s.domain)) s.events
-
 -- the values of the set of this number
 abbrev pub values_now : Book → List Occ → ℕ → List Answered → List ℤ
 values_now book stream k earlier = values_over book (set_now book k earlier) (window stream k earlier)
 
--- where a call on a set that is not multiplexed is carried out, it replies with these values
+-- if the call is carried out, it replies with these values of the set
 abbrev pub Shows : (ℕ → Call) → (Book → List Occ → ℕ → List Answered → List ℤ) → Type 0
 Shows c values = (t : Thread) (calls : List Call) (k : ℕ)
-    → (set_now t.book k (answered t calls)).slice ≡ None → is_ok (reply_after t calls (c k)).code ≡ true
+    → is_ok (reply_after t calls (c k)).code ≡ true
     → reply_after t calls (c k) ≡ done (body.Values (values t.book t.stream k (answered t calls)))
 
 -- `read` shows the values over the window

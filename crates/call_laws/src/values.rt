@@ -1,7 +1,8 @@
 //! The values of sets.
 ghost use Rattle.call_laws.specs.Values.{AccumShows, ReadShows, StopShows};
 
-/// The values of a set are formulas over the occurrences that were consumed while it ran, since the last call that zeroes.
+/// The values of a set are formulas over the counts, or if it is multiplexed over the estimates, of its native events in the
+/// occurrences that were consumed while it ran, since the last call that zeroes.
 pub fn value_laws()
     ensures read { ReadShows }
     ensures stop { StopShows }

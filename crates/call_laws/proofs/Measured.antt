@@ -1,0 +1,114 @@
+-- What the model counts and estimates over a set's window is what the law does over its occurrences.
+use Rattle.std.proofs.Common.{◌≡◌, ℕ, ◌+◌, ◌-◌, ◌*◌, ◌/◌, pos, Bool, true, false, List, [], ◌∷◌, ◌++◌, length, take, drop, map, refl, sym, ap, ap₂, ◌∙◌, arith, Option, Some, None}
+use Rattle.std.specs.Prelude.{◌==◌, if◌then◌else◌, slice_index, sum}
+use Rattle.std.specs.List.{position_or_len}
+use Rattle.std.proofs.Math.Nat.{zero-div, zero-mul}
+use Rattle.std.proofs.Math.Seq.{take-add, take-length}
+use Rattle.std.proofs.lemmas.List.{take-append-drop}
+use Rattle.papi_base.specs.declared.native.Native.{Native}
+use Rattle.papi_base.specs.declared.occurrence.Occ.{Occ}
+use Rattle.papi_base.specs.Weight.{weight_of}
+use Rattle.counter_alloc.specs.Masks.{masks_of}
+use Rattle.multiplex.specs.Groups.{groups}
+use Rattle.multiplex.specs.Turns.{Turns, active, estimate, weight_in_turn}
+use Rattle.postfix_rules.specs.Presets.{Book, event_value, natives_of_event, rule_of_event}
+use Rattle.postfix_rules.specs.Rules.{rule_value}
+use Rattle.postfix_rules.specs.Sameness.{same_native}
+use Rattle.event_sets.specs.AtRest.{AtRest, set_natives}
+use Rattle.session_model.specs.Account.{Kept, end, last_after, time_after}
+use Rattle.session_model.specs.Bounds.{IsWithin}
+use Rattle.session_model.specs.Counts.{in_window}
+use Rattle.session_model.specs.Estimates.{estimated, total, turns_of}
+use Rattle.session_model.specs.Values.{measured, values_of}
+use Rattle.call_laws.specs.History.{Placed, placed_after}
+use Rattle.call_laws.specs.Measures.{begins, ends, estimate_in, estimate_over, measure_over, values_over}
+use Rattle.call_laws.proofs.PlacedOnes.{placed-drop, placed-take, weighed_is}
+
+-- ---- the time of a window
+
+ends_is : (before : Option Occ) (os : List Occ) → ends (time_after before) (placed_after before os) ≡ time_after (last_after before os)
+ends_is before [] = refl
+ends_is before (o ∷ os) = ends_is (Some o) os
+
+last_after-append : (before : Option Occ) (xs ys : List Occ) → last_after before (xs ++ ys) ≡ last_after (last_after before xs) ys
+last_after-append before [] ys = refl
+last_after-append before (x ∷ xs) ys = last_after-append (Some x) xs ys
+
+-- the occurrence before a window
+abbrev before_window : List Occ → Kept → Option Occ
+before_window past s = last_after None (take s.from past)
+
+-- the occurrences of a window, each with the one before it
+placed_window : (past : List Occ) (s : Kept) → in_window s (placed_after None past) ≡ placed_after (before_window past s) (in_window s past)
+placed_window past s = go s.running where
+  go : (b : Bool) → (if b then drop s.from (placed_after None past) else take (s.to - s.from) (drop s.from (placed_after None past)))
+      ≡ placed_after (last_after None (take s.from past)) (if b then drop s.from past else take (s.to - s.from) (drop s.from past))
+  go true = placed-drop None s.from past
+  go false = ap (take (s.to - s.from)) (placed-drop None s.from past) ∙ sym (placed-take (last_after None (take s.from past)) (s.to - s.from) (drop s.from past))
+
+-- the past up to the window's end is what came before it, and then the window
+to_end : (past : List Occ) (s : Kept) → IsWithin (length past) s → take (end (length past) s) past ≡ take s.from past ++ in_window s past
+to_end past s h = go s.running where
+  go : (b : Bool) → take (if b then length past else s.to) past ≡ take s.from past ++ (if b then drop s.from past else take (s.to - s.from) (drop s.from past))
+  go true = take-length past ∙ sym (take-append-drop s.from past)
+  go false =
+      let a = h.in_order in
+      ap (λ n. take n past) (let e : s.to ≡ s.from + (s.to - s.from) = omega (arith, a) in e) ∙ take-add s.from (s.to - s.from) past
+
+total_is : (past : List Occ) (s : Kept) → IsWithin (length past) s
+    → total past s ≡ time_after (last_after (before_window past s) (in_window s past)) - time_after (before_window past s)
+total_is past s h =
+    ap (λ os. time_after (last_after None os) - time_after (before_window past s)) (to_end past s h)
+    ∙ ap (λ b. time_after b - time_after (before_window past s)) (last_after-append None (take s.from past) (in_window s past))
+
+-- ---- estimates
+
+estimate-none : (total active : ℕ) → estimate 0 total active ≡ 0
+estimate-none total active = go (active == 0) where
+  go : (b : Bool) → (if b then 0 else 0 * total / active) ≡ 0
+  go true = refl
+  go false = rw (zero-mul total) (zero-div active)
+
+-- the estimate of one native event, where the window and the one before it are given
+estimate_placed : (s : AtRest) (before : Option Occ) (os : List Occ) (n : Native) (slice count group : ℕ)
+    → let turns : Turns = record { slice = slice; count = count; start = time_after before } in
+    let time = time_after (last_after before os) - time_after before in
+    estimate (sum (map (λ (p : Placed). weight_in_turn turns group n s.domain p.before p.occ) (placed_after before os))) time (active turns group time)
+    ≡ estimate_in s (placed_after before os) n (record { slice = slice; count = count; start = begins (placed_after before os) }) group
+estimate_placed s before [] n slice count group =
+    estimate-none (time_after before - time_after before) (active (record { slice = slice; count = count; start = time_after before }) group (time_after before - time_after before)) ∙ sym (estimate-none (0 - 0) (active (record { slice = slice; count = count; start = 0 }) group (0 - 0)))
+estimate_placed s before (o ∷ os) n slice count group =
+    let turns : Turns = record { slice = slice; count = count; start = time_after before } in
+    ap (λ time. estimate (sum (map (λ (p : Placed). weight_in_turn turns group n s.domain p.before p.occ) (placed_after before (o ∷ os)))) (time - time_after before) (active turns group (time - time_after before)))
+    (sym (ends_is before (o ∷ os)))
+
+estimated_is : (book : Book) (past : List Occ) (s : Kept) (slice : ℕ) (n : Native) → IsWithin (length past) s
+    → estimated book past s slice n ≡ estimate_over book s.set slice (in_window s (placed_after None past)) n
+estimated_is book past s slice n h =
+    let numbers = groups (masks_of (set_natives book s.set)) in
+    let group = slice_index numbers (position_or_len (same_native n) (set_natives book s.set)) in
+    let turns = turns_of slice numbers past s in
+    ap₂ (λ (w time : ℕ). estimate w time (active turns group time))
+    (weighed_is (weight_in_turn turns group n s.set.domain) past s ∙ ap (λ ps. sum (map (λ (p : Placed). weight_in_turn turns group n s.set.domain p.before p.occ) ps)) (placed_window past s))
+    (total_is past s h)
+    ∙ estimate_placed s.set (before_window past s) (in_window s past) n slice turns.count group
+    ∙ ap (λ ps. estimate_over book s.set slice ps n) (sym (placed_window past s))
+
+-- ---- values
+
+map-same : {X Y : Type 0} (f g : X → Y) (xs : List X) → ((x : X) → f x ≡ g x) → map f xs ≡ map g xs
+map-same f g [] h = refl
+map-same f g (x ∷ xs) h = ap₂ (λ y ys. y ∷ ys) (h x) (map-same f g xs h)
+
+measured_is : (book : Book) (past : List Occ) (s : Kept) (slice : Option ℕ) (n : Native) → IsWithin (length past) s
+    → measured slice book past s n ≡ measure_over slice book s.set (in_window s (placed_after None past)) n
+measured_is book past s None n h = weighed_is (weight_of n s.set.domain) past s
+measured_is book past s (Some slice) n h = estimated_is book past s slice n h
+
+-- the values of a set are those over its window
+pub values_are : (book : Book) (past : List Occ) (s : Kept) → IsWithin (length past) s → values_of book past s ≡ values_over book s.set (in_window s (placed_after None past))
+values_are book past s h =
+    let os = in_window s (placed_after None past) in
+    map-same (event_value book (measured s.set.slice book past s)) (event_value book (measure_over s.set.slice book s.set os)) s.set.events (λ e.
+    ap (rule_value (rule_of_event book e)) (map-same (λ n. pos (measured s.set.slice book past s n)) (λ n. pos (measure_over s.set.slice book s.set os n)) (natives_of_event book e)
+    (λ n. ap pos (measured_is book past s s.set.slice n h))))
