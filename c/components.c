@@ -1,5 +1,165 @@
-/* Components and their counters. */
+/* Components: PAPI_get_component_info(3). */
 #include "internal.h"
+
+#include <stdio.h>
+#include <string.h>
+
+#define MOST_COMPONENTS 16
+
+static PAPI_component_info_t infos[MOST_COMPONENTS];
+static char pmus[MOST_COMPONENTS][PAPI_MAX_STR_LEN];
+static pthread_mutex_t component_lock = PTHREAD_MUTEX_INITIALIZER;
+
+/* What the program disabled before PAPI_library_init, by numbers as bits and by names. */
+static unsigned disabled;
+static char disabled_names[MOST_COMPONENTS][PAPI_MAX_STR_LEN];
+static int disabled_count;
+
+/* A part of what the unit's file says of a component, in so many places. */
+int kl_component_text(thread_state *t, int component, uint32_t part, uint32_t place, char *text, size_t room) {
+    uint64_t length = 0;
+    if (component < 0) return PAPI_ENOCMP;
+    int code = kistalub_component(&t->library, (uint32_t)component, part, place, (unsigned char *)text, room - 1, &length);
+    return kl_ended(code, text, room - 1, length);
+}
+
+/* Whether the program disabled a component of this number and name. */
+static int is_disabled(int component, const char *name) {
+    int is = disabled >> component & 1;
+    for (int i = 0; i < disabled_count; i++) is |= !strcmp(disabled_names[i], name);
+    return is;
+}
+
+int kl_is_disabled(thread_state *t, int component) {
+    char name[PAPI_MAX_STR_LEN];
+    pthread_mutex_lock(&component_lock);
+    int some = disabled || disabled_count;
+    pthread_mutex_unlock(&component_lock);
+    if (!some || kl_component_text(t, component, KISTALUB_COMPONENT_NAME, 0, name, sizeof name) != PAPI_OK || component >= MOST_COMPONENTS) return 0;
+    pthread_mutex_lock(&component_lock);
+    int is = is_disabled(component, name);
+    pthread_mutex_unlock(&component_lock);
+    return is;
+}
+
+/* How many presets derive from native events of a component. */
+static int presets_of(thread_state *t, uint32_t component) {
+    uint32_t code = 0, found = 0;
+    int n = 0;
+    for (uint32_t row = 0; kistalub_code_in_row(&t->library, row, &code) == PAPI_OK && !IS_USER_DEFINED((int)code); row++)
+        n += kistalub_component_of(&t->library, code, &found) == PAPI_OK && found == component;
+    return n;
+}
+
+/* Says of a component what the model has. */
+static void describe(thread_state *t, int component, const char *name, const char *pmu) {
+    PAPI_component_info_t *info = &infos[component];
+    memset(info, 0, sizeof *info);
+    snprintf(info->name, sizeof info->name, "%s", name);
+    snprintf(info->short_name, sizeof info->short_name, "%.*s", (int)sizeof info->short_name - 1, name);
+    snprintf(info->description, sizeof info->description, "Modelled counters of the pmu %.90s", pmu);
+    snprintf(info->version, sizeof info->version, "1.0");
+    snprintf(info->support_version, sizeof info->support_version, "n/a");
+    snprintf(info->kernel_version, sizeof info->kernel_version, "n/a");
+    memcpy(pmus[component], pmu, strlen(pmu) + 1);
+    info->pmu_names[0] = pmus[component];
+    info->CmpIdx = component;
+    info->initialized = 1;
+    info->num_cntrs = kistalub_counters(&t->library, (uint32_t)component);
+    info->num_mpx_cntrs = MOST_EVENTS;
+    info->num_preset_events = presets_of(t, (uint32_t)component);
+    info->num_native_events = kistalub_natives(&t->library, (uint32_t)component);
+    info->default_domain = PAPI_DOM_USER;
+    info->available_domains = PAPI_DOM_USER | PAPI_DOM_KERNEL;
+    info->default_granularity = info->available_granularities = PAPI_GRN_THR;
+    info->hardware_intr = info->kernel_multiplex = info->cntr_umasks = 1;
+    info->precise_intr = info->fast_counter_read = 1;
+}
+
+const PAPI_component_info_t *PAPI_get_component_info(int component) {
+    CALL(PAPI_get_component_info);
+    char name[PAPI_MAX_STR_LEN], pmu[PAPI_MAX_STR_LEN];
+    int code;
+    thread_state *t = kl_here(&code);
+    if (!t || component < 0 || component >= MOST_COMPONENTS) return NULL;
+    if (kl_component_text(t, component, KISTALUB_COMPONENT_NAME, 0, name, sizeof name) != PAPI_OK) return NULL;
+    if (kl_component_text(t, component, KISTALUB_COMPONENT_PMU, 0, pmu, sizeof pmu) != PAPI_OK) return NULL;
+    pthread_mutex_lock(&component_lock);
+    if (strcmp(infos[component].name, name) || strcmp(pmus[component], pmu)) describe(t, component, name, pmu);
+    if (is_disabled(component, name)) {
+        infos[component].disabled = PAPI_ECMP_DISABLED;
+        snprintf(infos[component].disabled_reason, sizeof infos[component].disabled_reason, "Disabled by PAPI_disable_component()");
+    }
+    pthread_mutex_unlock(&component_lock);
+    return &infos[component];
+}
+
+/* What is known of the components of one unit ends with it. */
+void kl_components_end(void) {
+    pthread_mutex_lock(&component_lock);
+    memset(infos, 0, sizeof infos);
+    disabled = 0;
+    disabled_count = 0;
+    pthread_mutex_unlock(&component_lock);
+}
+
+int PAPI_get_component_index(const char *name) {
+    CALL(PAPI_get_component_index);
+    char own[PAPI_MAX_STR_LEN];
+    HERE(t);
+    if (!name) return PAPI_EINVAL;
+    for (int component = 0; kl_component_text(t, component, KISTALUB_COMPONENT_NAME, 0, own, sizeof own) == PAPI_OK; component++)
+        if (!strcmp(own, name)) return component;
+    return PAPI_ENOCMP;
+}
+
+/* Before PAPI_library_init, which opens the unit: so only the number is looked at. */
+int PAPI_disable_component(int component) {
+    CALL(PAPI_disable_component);
+    if (PAPI_is_initialized() != PAPI_NOT_INITED) return PAPI_ENOINIT;
+    if (component < 0 || component >= MOST_COMPONENTS) return PAPI_ENOCMP;
+    pthread_mutex_lock(&component_lock);
+    disabled |= 1u << component;
+    pthread_mutex_unlock(&component_lock);
+    return PAPI_OK;
+}
+
+int PAPI_disable_component_by_name(const char *name) {
+    CALL(PAPI_disable_component_by_name);
+    if (PAPI_is_initialized() != PAPI_NOT_INITED) return PAPI_ENOINIT;
+    if (!name || strlen(name) >= PAPI_MAX_STR_LEN) return PAPI_ENOCMP;
+    pthread_mutex_lock(&component_lock);
+    int has_room = disabled_count < MOST_COMPONENTS;
+    if (has_room) strcpy(disabled_names[disabled_count++], name);
+    pthread_mutex_unlock(&component_lock);
+    return has_room ? PAPI_OK : PAPI_ENOCMP;
+}
+
+/* The component of an event; a preset or user event that is not available belongs to the first, as all do in PAPI. */
+int PAPI_get_event_component(int event) {
+    CALL(PAPI_get_event_component);
+    uint32_t code = 0, component = 0;
+    native_place at = { 0, 0 };
+    HERE(t);
+    if (!(event & PAPI_PRESET_MASK)) {
+        int answer = kl_place_of(t, event, &at);
+        return answer == PAPI_OK ? (int)at.component : answer;
+    }
+    int answer = kl_code_in_library(t, event, &code);
+    if (answer == PAPI_OK) answer = kistalub_component_of(&t->library, code, &component);
+    return answer == PAPI_OK || answer == PAPI_ENOEVNT ? (int)component : answer;
+}
+
+/* The component of a set's events, or the one that it was assigned. */
+int PAPI_get_eventset_component(int set) {
+    CALL(PAPI_get_eventset_component);
+    int events[1], number = 1;
+    HERE(t);
+    int code = PAPI_list_events(set, events, &number);
+    if (code != PAPI_OK) return code;
+    if (number > 0) return PAPI_get_event_component(events[0]);
+    return set < MOST_SETS && t->components[set] ? t->components[set] - 1 : PAPI_ENOCMP;
+}
 
 int PAPI_num_cmp_hwctrs(int component) {
     CALL(PAPI_num_cmp_hwctrs);

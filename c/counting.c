@@ -10,8 +10,10 @@ int kistalub_go(uint32_t n, uint32_t *went) {
         kistalub_passing passings[MOST_EVENTS];
         uint32_t consumed = 0;
         uint64_t told = 0;
-        int code = kistalub_run(&t->library, 1, &consumed, passings, MOST_EVENTS, &told);
+        kistalub_fault fault = { 0, 0 };
+        int code = kistalub_run(&t->library, 1, &consumed, passings, MOST_EVENTS, &told, &fault);
         *went += consumed;
+        t->happened += consumed;
         kl_tell(t, passings, told);
         if (code != PAPI_OK) return code;
         if (consumed == 0) break;

@@ -1,6 +1,7 @@
 /* Events: their names and codes, and what is told of them. */
 #include "internal.h"
 
+#include <stdio.h>
 #include <string.h>
 
 int PAPI_event_name_to_code(const char *in, int *out) {
@@ -23,17 +24,24 @@ int kl_ended(int code, char *text, uint64_t room, uint64_t length) {
 /* The name of an event in NAME_ROOM places. */
 int kl_name_in(int event, char *name) {
     uint64_t length = 0;
+    native_place at;
     HERE(t);
+    if (kl_is_row(event)) {
+        int found = kl_place_of(t, event, &at);
+        return found == PAPI_OK ? kl_native_text(t, at, KISTALUB_ROW_NAME, 0, name, NAME_ROOM) : found;
+    }
     int code = kistalub_code_to_name(&t->library, (uint32_t)event, (unsigned char *)name, NAME_ROOM - 1, &length);
     return kl_ended(code, name, NAME_ROOM - 1, length);
 }
 
-/* A part of what is told of an event, in so many places. */
-static int info_in(int event, uint32_t part, uint32_t place, char *text, size_t room) {
+/* A part of what is told of an event, in so many places. One that is too long for them is cut. */
+static int info_in(thread_state *t, uint32_t code, uint32_t part, uint32_t place, char *text, size_t room) {
+    char whole[NAME_ROOM];
     uint64_t length = 0;
-    HERE(t);
-    int code = kistalub_info(&t->library, (uint32_t)event, part, place, (unsigned char *)text, room - 1, &length);
-    return kl_ended(code, text, room - 1, length);
+    int answer = kistalub_info(&t->library, code, part, place, (unsigned char *)whole, sizeof whole - 1, &length);
+    answer = kl_ended(answer, whole, sizeof whole - 1, length);
+    snprintf(text, room, "%s", whole);
+    return answer;
 }
 
 int PAPI_event_code_to_name(int event, char *out) {
@@ -56,23 +64,56 @@ int PAPI_query_event(int event) {
     CALL(PAPI_query_event);
     char name[NAME_ROOM];
     int code = kl_name_in(event, name);
-    return code == PAPI_OK ? PAPI_query_named_event(name) : code;
+    return code == PAPI_OK && !kl_is_row(event) ? PAPI_query_named_event(name) : code;
+}
+
+/* What the unit's file says of a native event. Where it has one umask, the description of that stands behind the event's own. */
+static int native_info(thread_state *t, native_place at, PAPI_event_info_t *info) {
+    char name[NAME_ROOM], description[NAME_ROOM];
+    int code = kl_native_text(t, at, KISTALUB_ROW_DESCRIPTION, 0, info->long_descr, sizeof info->long_descr);
+    info->component_index = (int)at.component;
+    for (uint32_t mask = 0; code == PAPI_OK; mask++) {
+        code = kl_native_text(t, at, KISTALUB_ROW_MASK, mask, name, sizeof name);
+        if (code == PAPI_ENOEVNT) return PAPI_OK;
+        if (code != PAPI_OK || strcmp(name, info->symbol)) continue;
+        code = kl_native_text(t, at, KISTALUB_ROW_MASK_DESCRIPTION, mask, description, sizeof description);
+        size_t n = strlen(info->long_descr);
+        snprintf(info->long_descr + n, sizeof info->long_descr - n, ", masks:%s", description);
+    }
+    return code;
+}
+
+/* What is derived in a preset or a user event that is available: its type, its formula and its native events. */
+static int derived_info(thread_state *t, uint32_t code, PAPI_event_info_t *info) {
+    int answer = info_in(t, code, KISTALUB_DESCRIPTION, 0, info->long_descr, sizeof info->long_descr);
+    if (answer == PAPI_OK) answer = info_in(t, code, KISTALUB_DERIVED_TYPE, 0, info->derived, sizeof info->derived);
+    if (answer == PAPI_OK) answer = info_in(t, code, KISTALUB_FORMULA, 0, info->postfix, sizeof info->postfix);
+    while (answer == PAPI_OK && info->count < PAPI_MAX_INFO_TERMS) {
+        answer = info_in(t, code, KISTALUB_NATIVE, info->count, info->name[info->count], sizeof *info->name);
+        if (answer != PAPI_OK || !info->name[info->count][0]) break;
+        answer = PAPI_event_name_to_code(info->name[info->count], (int *)&info->code[info->count]);
+        if (answer == PAPI_OK) info->count++;
+    }
+    info->event_type = kl_preset_kinds((int)info->event_code);
+    return answer;
 }
 
 int PAPI_get_event_info(int event, PAPI_event_info_t *info) {
     CALL(PAPI_get_event_info);
+    uint32_t code = 0;
+    native_place at;
+    HERE(t);
     if (!info) return PAPI_EINVAL;
     memset(info, 0, sizeof *info);
     info->event_code = (unsigned)event;
-    int code = info_in(event, KISTALUB_NAME, 0, info->symbol, sizeof info->symbol);
-    if (code == PAPI_OK) code = info_in(event, KISTALUB_DESCRIPTION, 0, info->long_descr, sizeof info->long_descr);
-    if (code == PAPI_OK) code = info_in(event, KISTALUB_DERIVED_TYPE, 0, info->derived, sizeof info->derived);
-    if (code == PAPI_OK) code = info_in(event, KISTALUB_FORMULA, 0, info->postfix, sizeof info->postfix);
-    while (code == PAPI_OK && info->count < PAPI_MAX_INFO_TERMS) {
-        code = info_in(event, KISTALUB_NATIVE, info->count, info->name[info->count], sizeof *info->name);
-        if (code != PAPI_OK || !info->name[info->count][0]) break;
-        code = PAPI_event_name_to_code(info->name[info->count], (int *)&info->code[info->count]);
-        if (code == PAPI_OK) info->count++;
+    int answer = kl_name_in(event, info->symbol);
+    if (answer == PAPI_OK && event & PAPI_PRESET_MASK) {
+        answer = kl_code_in_library(t, event, &code);
+        if (answer == PAPI_OK) answer = derived_info(t, code, info);
+    } else if (answer == PAPI_OK) {
+        answer = kl_place_of(t, event, &at);
+        if (answer == PAPI_OK) answer = native_info(t, at, info);
     }
-    return code;
+    snprintf(info->short_descr, sizeof info->short_descr, "%.*s", (int)sizeof info->short_descr - 1, info->long_descr);
+    return answer;
 }

@@ -28,7 +28,9 @@ typedef struct {
     kistalub library;
     uint32_t number;
     uint32_t owed; /* what is left of a step in which memory was refused */
+    uint64_t happened; /* occurrences of its stream so far */
     int domain;
+    int components[MOST_SETS]; /* those that sets were assigned, from 1, or 0 */
     PAPI_overflow_handler_t handlers[MOST_SETS];
     profile profiles[MOST_SETS][MOST_EVENTS];
 } thread_state;
@@ -83,9 +85,36 @@ void kl_hit(profile *p, unsigned long long address);
 /* overflow.c */
 void kl_tell(thread_state *t, const kistalub_passing *passings, uint64_t told);
 
+/* Whether the library is open. */
+static inline int kl_is_open(void) { return PAPI_is_initialized() != PAPI_NOT_INITED; }
+
 /* events.c */
 int kl_ended(int code, char *text, uint64_t room, uint64_t length);
 int kl_name_in(int event, char *name);
+
+/* enumeration.c */
+typedef struct { uint32_t component, row; } native_place;
+int kl_is_row(int event);
+int kl_code_in_library(thread_state *t, int event, uint32_t *code);
+int kl_place_of(thread_state *t, int event, native_place *at);
+int kl_native_text(thread_state *t, native_place at, uint32_t part, uint32_t mask, char *text, size_t room);
+
+/* preset_kinds.c */
+unsigned kl_preset_kinds(int event);
+
+/* components.c */
+int kl_component_text(thread_state *t, int component, uint32_t part, uint32_t place, char *text, size_t room);
+int kl_is_disabled(thread_state *t, int component);
+void kl_components_end(void);
+
+/* time.c */
+uint32_t kl_mhz(void);
+int kl_time_begins(void);
+
+/* rates.c, high_level.c: whether a rate or regions are counted in the calling thread */
+int kl_rate_runs(void);
+int kl_begin_library(void);
+int kl_high_level_runs(void);
 
 /* marks.c: the outermost call of this thread enters and leaves. Around a function or a handler of the user it leaves and enters again. */
 void kl_call_enters(int number);

@@ -61,7 +61,9 @@ static void profiles_follow(thread_state *t, int set, const events_of_set *befor
 int PAPI_add_event(int set, int event) {
     CALL(PAPI_add_event);
     HERE(t);
-    return kistalub_add(&t->library, kl_set_number(set), (uint32_t)event);
+    uint32_t code = 0;
+    int answer = kl_code_in_library(t, event, &code);
+    return answer == PAPI_OK ? kistalub_add(&t->library, kl_set_number(set), code) : answer;
 }
 
 int PAPI_remove_event(int set, int event) {

@@ -64,10 +64,27 @@ int kistalub_list_events(kistalub *h, uint32_t set, uint32_t *codes, size_t room
 #define KISTALUB_NATIVE 4
 int kistalub_info(kistalub *h, uint32_t code, uint32_t part, uint32_t place, unsigned char *text, size_t room, uint64_t *length);
 
-/* The events in order: the code in a row, the presets first and then the user events, and the name of the native event in a row of a
- * component. -7 past the last. */
+/* The presets and then the user events in order: the code in a row. -7 past the last. */
 int kistalub_code_in_row(kistalub *h, uint32_t row, uint32_t *code);
-int kistalub_native_name(kistalub *h, uint32_t component, uint32_t row, unsigned char *name, size_t room, uint64_t *length);
+
+/* A part of what the unit's file says of a component: its name, the name of its pmu, and the name of the counter in a place from 0. -7 where
+ * there is no such component or counter. */
+#define KISTALUB_COMPONENT_NAME 0
+#define KISTALUB_COMPONENT_PMU 1
+#define KISTALUB_COMPONENT_COUNTER 2
+int kistalub_component(kistalub *h, uint32_t component, uint32_t part, uint32_t place, unsigned char *text, size_t room, uint64_t *length);
+
+/* A part of what the unit's file says of the native event in a row of a component, both from 0: its name PMU::EVENT and its description, and
+ * of its umask in a place from 0 the name PMU::EVENT:UMASK and the description. -7 where there is no such row or umask. */
+#define KISTALUB_ROW_NAME 0
+#define KISTALUB_ROW_DESCRIPTION 1
+#define KISTALUB_ROW_MASK 2
+#define KISTALUB_ROW_MASK_DESCRIPTION 3
+int kistalub_native(kistalub *h, uint32_t component, uint32_t row, uint32_t part, uint32_t place, unsigned char *text, size_t room, uint64_t *length);
+
+/* The component of the event of a code, -7 where it is the code of no event that is available; and the row of a native event in it. */
+int kistalub_component_of(kistalub *h, uint32_t code, uint32_t *component);
+int kistalub_row_of(kistalub *h, uint32_t code, uint32_t *row);
 
 int kistalub_start(kistalub *h, uint32_t set);
 int kistalub_stop(kistalub *h, uint32_t set, int64_t *values, size_t room, uint32_t *count);
@@ -77,14 +94,26 @@ int kistalub_accum(kistalub *h, uint32_t set, int64_t *values, size_t room, uint
 int kistalub_reset(kistalub *h, uint32_t set);
 int kistalub_state(kistalub *h, uint32_t set, uint32_t *bits);
 
-/* How many counters a component has, -17 where there is no such component. */
+/* How many counters and how many native events a component has, -17 where there is no such component. */
 int kistalub_counters(kistalub *h, uint32_t component);
+int kistalub_natives(kistalub *h, uint32_t component);
+
+/* What ended a stream: the line, from 1, and the number of the cause; both 0 where nothing did. A read that failed has no line. */
+typedef struct { uint64_t line; uint32_t cause; } kistalub_fault;
+
+/* The words of a cause, as papi_run says them; none where no cause has the number. */
+int kistalub_cause(uint32_t cause, unsigned char *words, size_t room, uint64_t *length);
+
+/* The first faulty row of a unit file or of a preset file for a cpu, from 1, and the words of its cause; row 0 and no words where none is faulty. */
+int kistalub_unit_fault(const unsigned char *unit, size_t unit_len, uint64_t *row, unsigned char *words, size_t room, uint64_t *length);
+int kistalub_presets_fault(const unsigned char *presets, size_t presets_len, const unsigned char *cpu, size_t cpu_len, uint64_t *row,
+                           unsigned char *words, size_t room, uint64_t *length);
 
 /* Consumes up to n occurrences of the stream, and says how many. Each threshold that is passed is written into the array, in order. At one
  * occurrence at most 32 are passed: where fewer have room it stops before the next occurrence with -20, PAPI_EBUF, and a further call goes
- * on, so that none is lost. With n = 1 an array of 32 is always enough. -3 where the stream is faulty; -2 where memory is refused, and
- * nothing happened then. */
-int kistalub_run(kistalub *h, uint32_t n, uint32_t *consumed, kistalub_passing *passings, size_t room, uint64_t *told);
+ * on, so that none is lost. With n = 1 an array of 32 is always enough. -3 once where the stream is faulty: `fault` then says where and why,
+ * and after that the stream has ended. -2 where memory is refused, and nothing happened then. */
+int kistalub_run(kistalub *h, uint32_t n, uint32_t *consumed, kistalub_passing *passings, size_t room, uint64_t *told, kistalub_fault *fault);
 
 /* What follows is C over the functions above (the sources in c/), and is not proved. */
 

@@ -22,6 +22,7 @@ static int live_once(void) {
     kistalub h = KISTALUB_SHUT;
     uint32_t set = 7, code = 0, consumed = 0, count = 0;
     uint64_t length = 0, told = 0;
+    kistalub_fault fault;
     unsigned char name[64];
     kistalub_passing passings[32];
     const unsigned char *inst = (const unsigned char *)"INST_RETIRED";
@@ -49,11 +50,11 @@ static int live_once(void) {
     }
     WANT(kistalub_overflow(&h, set, code, 1000), 0);
     WANT(kistalub_start(&h, set), 0);
-    answer = kistalub_run(&h, 4, &consumed, passings, 32, &told);
+    answer = kistalub_run(&h, 4, &consumed, passings, 32, &told, &fault);
     if (answer != 0) {
         WANT(answer, -2);
         refusals++;
-        WANT(kistalub_run(&h, 4, &consumed, passings, 32, &told), 0);
+        WANT(kistalub_run(&h, 4, &consumed, passings, 32, &told, &fault), 0);
     }
     int64_t value;
     WANT(kistalub_stop(&h, set, &value, 1, &count), 0);

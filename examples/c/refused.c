@@ -55,8 +55,10 @@ static void events(void) {
     WANT(event, PAPI_L1_DCM);
     MADE(PAPI_enum_event(&event, PAPI_PRESET_ENUM_AVAIL), PAPI_OK);
     WANT(event, PAPI_TOT_INS);
-    MADE(PAPI_enum_event(&event, PAPI_PRESET_ENUM_AVAIL), PAPI_OK);
+    MADE(PAPI_enum_event(&event, PAPI_PRESET_ENUM_AVAIL), PAPI_ENOEVNT);
     MADE(PAPI_event_name_to_code("STALL2", &own), PAPI_OK);
+    event = PAPI_UE_MASK;
+    MADE(PAPI_enum_event(&event, PAPI_ENUM_FIRST), PAPI_OK);
     WANT(event, own);
     MADE(PAPI_get_event_info(own, &info), PAPI_OK);
     WANT(strcmp(info.derived, "DERIVED_POSTFIX"), 0);

@@ -15,6 +15,7 @@ int main(void) {
     kistalub_passing passings[33];
     uint32_t set, consumed, left = 8;
     uint64_t told;
+    kistalub_fault fault;
     size_t room[] = { 31, 32, 32 };
     FILE *f = fopen(getenv("KISTALUB_UNIT"), "rb");
     if (!f) return 2;
@@ -27,7 +28,7 @@ int main(void) {
     WANT(kistalub_start(&h, set), 0);
     for (int i = 0; i < 3; i++) {
         memset(passings, 0x7f, sizeof passings);
-        int code = kistalub_run(&h, left, &consumed, passings, room[i], &told);
+        int code = kistalub_run(&h, left, &consumed, passings, room[i], &told, &fault);
         printf("%d: %u of %u occurrences, %llu passings", code, (unsigned)consumed, (unsigned)left, (unsigned long long)told);
         for (uint64_t k = 0; k < told; k++) printf(", at 0x%llx", (unsigned long long)passings[k].address);
         puts("");

@@ -106,8 +106,9 @@ static int make(unsigned long thread, const char *call, const char *a, const cha
         kistalub_passing passings[32];
         uint32_t consumed = 0;
         uint64_t told = 0, all = 0;
+        kistalub_fault fault;
         do {
-            code = kistalub_run(h, set - consumed, &out, passings, 32, &told);
+            code = kistalub_run(h, set - consumed, &out, passings, 32, &told, &fault);
             consumed += out;
             all += told;
         } while (code == -20);

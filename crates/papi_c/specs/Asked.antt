@@ -1,12 +1,17 @@
--- The texts that are asked of a library: PAPI_get_event_info(3), papi_native_avail(1).
+-- The texts that are asked of a library: PAPI_get_event_info(3), PAPI_get_component_info(3), papi_native_avail(1).
 use Rattle.std.specs.Prelude.{ℕ, ◌==◌, List, Option, Some, None, Result, Ok, Err, if◌then◌else◌}
 use Rattle.papi_base.specs.declared.code.Code.{Code}
 use Rattle.papi_base.specs.declared.code.Code.TheVariants.{Einval, Enoevnt}
 use Rattle.papi_calls.specs.Codes.{event_coded, map_ok}
-use Rattle.papi_calls.specs.Infos.{info_of, native_name}
+use Rattle.papi_calls.specs.Infos.{info_of}
 use Rattle.papi_calls.specs.Libraries.{LibraryView}
 use Rattle.papi_calls.specs.declared.infos.InfoPart.{InfoPart}
 use Rattle.papi_calls.specs.declared.infos.InfoPart.TheVariants as part
+use Rattle.papi_calls.specs.declared.rows.ComponentPart.{ComponentPart}
+use Rattle.papi_calls.specs.declared.rows.ComponentPart.TheVariants as component
+use Rattle.papi_calls.specs.declared.rows.NativePart.{NativePart}
+use Rattle.papi_calls.specs.declared.rows.NativePart.TheVariants as native
+use Rattle.papi_calls.specs.Rows.{component_text, native_text}
 
 -- the part of a number, as kistalub.h has them; a native event is that in this place
 abbrev pub part_numbered : ℕ → ℕ → Option InfoPart
@@ -23,11 +28,34 @@ abbrev pub info_asked : ℕ → Option InfoPart → LibraryView → Result (List
 info_asked code (Some p) l = map_ok (info_of l.catalog p) (event_coded l.catalog l.mentioned code)
 info_asked code None l = Err Einval
 
--- the name in a row of a component's native events
+-- a text, or PAPI_ENOEVNT where there is no such row
 abbrev pub where_listed : Option (List ℕ) → Result (List ℕ) Code
-where_listed (Some name) = Ok name
+where_listed (Some text) = Ok text
 where_listed None = Err Enoevnt
 
--- the name of a native event by its row, as papi_native_avail(1) lists them; PAPI_ENOEVNT where there is no such row
-abbrev pub native_asked : ℕ → ℕ → LibraryView → Result (List ℕ) Code
-native_asked comp row l = where_listed (native_name l.catalog.tables comp row)
+-- the part of a component that a number stands for, as kistalub.h has them; a counter is that in this place
+abbrev pub component_part_numbered : ℕ → ℕ → Option ComponentPart
+component_part_numbered number place =
+    if number == 0 then Some component.Name
+    else if number == 1 then Some component.Pmu
+    else if number == 2 then Some (component.Counter place)
+    else None
+
+-- a part of what the unit's file says of a component: PAPI_get_component_info(3)
+abbrev pub component_asked : ℕ → Option ComponentPart → LibraryView → Result (List ℕ) Code
+component_asked comp (Some p) l = where_listed (component_text l.catalog.tables p comp)
+component_asked comp None l = Err Einval
+
+-- the part of a native event that a number stands for, as kistalub.h has them; a umask is that in this place
+abbrev pub native_part_numbered : ℕ → ℕ → Option NativePart
+native_part_numbered number place =
+    if number == 0 then Some native.Name
+    else if number == 1 then Some native.Description
+    else if number == 2 then Some (native.Mask place)
+    else if number == 3 then Some (native.MaskDescription place)
+    else None
+
+-- a part of what the unit's file says of a native event by its row, in the order of papi_native_avail(1)
+abbrev pub native_asked : ℕ → ℕ → Option NativePart → LibraryView → Result (List ℕ) Code
+native_asked comp row (Some p) l = where_listed (native_text l.catalog.tables p comp row)
+native_asked comp row None l = Err Einval

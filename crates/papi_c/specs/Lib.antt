@@ -3,7 +3,10 @@ pub mod Opened
 pub mod Called
 pub mod Placed
 pub mod Asked
+pub mod Numbers
+pub mod Faults
 pub mod Runs
 pub use Rattle.papi_calls.specs.Libraries
 pub use Rattle.papi_calls.specs.Calls
 pub use Rattle.papi_calls.specs.Infos
+pub use Rattle.papi_calls.specs.Rows

@@ -3,7 +3,9 @@ use Rattle.std.specs.Prelude.{ℕ, ℤ, ◌≡◌, ◌<◌, ◌+◌, ◌⊎◌, 
 use Rattle.std.specs.Prelude.{Option, Some, None}
 use Rattle.overflow_dispatch.specs.declared.handler.Note.{Note}
 use Rattle.papi_base.specs.Codes.{number_of}
+use Rattle.papi_c.specs.Faults.{fault_of}
 use Rattle.papi_c.specs.Placed.{IsRefused}
+use Rattle.papi_c.specs.declared.faults.StreamFault.{StreamFault}
 use Rattle.papi_c.specs.declared.running.Passing.{Passing}
 use Rattle.papi_calls.specs.Libraries.{LibraryView}
 use Rattle.session_model.specs.declared.call.Call.TheVariants as call
@@ -20,15 +22,16 @@ abbrev pub run_number : Bool → Ended → ℤ
 run_number full ended = if full then negsuc 19 else number_of (code_of ended)
 
 -- The run does and tells what the model's run of n occurrences does, or where it stopped early what the model's run of those does that were
--- consumed. Its notes stand at the first places, each of them, and what is past them stays. It stops early only before an occurrence that
--- might have needed more room than was left.
-pub record Went (old new : LibraryView) (n : ℕ) (answer : ℤ) (consumed told : ℕ) (before after : List Passing) : Type 0 where
+-- consumed, and the fault says how it ended. Its notes stand at the first places, each of them, and what is past them stays. It stops early
+-- only before an occurrence that might have needed more room than was left.
+pub record Went (old new : LibraryView) (n : ℕ) (answer : ℤ) (consumed told : ℕ) (why : StreamFault) (before after : List Passing) : Type 0 where
   pub full : Bool
   pub ended : Ended
   pub notes : List Note
   pub follows : FollowsAs old.catalog.book old.session new.session
       (call.Run (if full then consumed else n)) (run_reply (record { consumed = consumed; notes = told; ended = ended })) [] notes
   pub number : answer ≡ run_number full ended
+  pub fault : why ≡ fault_of ended
   pub counted : told ≡ length notes
   pub written : take told after ≡ map passing_of notes
   pub rest : drop told after ≡ drop told before
@@ -43,7 +46,8 @@ pub record IsHeld (old new : LibraryView) (number : ℤ) (before after : List Pa
   pub refused : IsRefused (negsuc 1) number before after
 
 -- the same through a handle
-abbrev pub Runs : Option LibraryView → Option LibraryView → ℕ → ℤ → ℕ → ℕ → List Passing → List Passing → Type 0
-Runs None None n number consumed told before after = IsRefused (negsuc 15) number before after
-Runs (Some old) (Some new) n number consumed told before after = Went old new n number consumed told before after ⊎ IsHeld old new number before after
-Runs old new n number consumed told before after = ⊥
+abbrev pub Runs : Option LibraryView → Option LibraryView → ℕ → ℤ → ℕ → ℕ → StreamFault → List Passing → List Passing → Type 0
+Runs None None n number consumed told fault before after = IsRefused (negsuc 15) number before after
+Runs (Some old) (Some new) n number consumed told fault before after =
+    Went old new n number consumed told fault before after ⊎ IsHeld old new number before after
+Runs old new n number consumed told fault before after = ⊥

@@ -1,12 +1,16 @@
 //! Events by their codes, and the counters of the unit.
 ghost use Rattle.std.specs.Prelude.{◌≡◌};
 ghost use Rattle.papi_c.specs.Called.{CodesName, IsCodeInRow};
+ghost use Rattle.papi_c.specs.Numbers.{Answers, Counts, IsAnswered, IsCounted, component_coded, counter_count, native_count, row_coded};
 ghost use Rattle.papi_c.specs.Placed.{ArePlaced, Listed, Lists, codes_of};
 
 use crate::handle::{EINVAL, ENOINIT, ENOMEM, Handle};
 use papi_base::{Code, Events, code_number};
 use papi_calls::Library;
 use std::alloc::Global;
+
+// The largest number that a call answers.
+const MOST_ANSWERED: usize = 0x7fff_ffff;
 
 /// PAPI_event_name_to_code(3). `code` is written where the answer is PAPI_OK. PAPI_EINVAL where the name is not UTF-8, and
 /// PAPI_ENOMEM; nothing is changed then.
@@ -108,24 +112,106 @@ pub extern "C" fn kistalub_code_in_row(
     }
 }
 
-// How many counters a component has.
-fn counters_of(library: &Library, comp: u32) -> Option<usize> {
-    let component = library.catalog().tables().component(comp)?;
-    Some(component.counters.len())
+// A number that is answered, or the code that refuses it.
+fn give(answer: Result<u32, Code>, number: &mut u32) -> i32
+    ensures { IsAnswered answer result number.old number.new }
+{
+    match answer {
+        Ok(found) => {
+            *number = found;
+            0
+        }
+        Err(code) => code_number(code),
+    }
 }
 
-/// PAPI_num_cmp_hwctrs(3), and PAPI_ENOCMP where there is no such component: PAPI_num_components(3) is the first of these.
+/// PAPI_get_event_component(3). PAPI_ENOEVNT where it is the code of no event that is available.
 #[unsafe(no_mangle)]
-pub extern "C" fn kistalub_counters(alloc: Global, h: &mut Handle, comp: u32) -> i32
+pub extern "C" fn kistalub_component_of(
+    alloc: Global,
+    h: &mut Handle,
+    code: u32,
+    comp: &mut u32,
+) -> i32
+    ensures answers { Answers h.old.library (component_coded code) result comp.old comp.new }
     ensures kept { h.new.library ≡ h.old.library }
 {
     let Some(library) = h.take(alloc) else {
         return ENOINIT;
     };
-    let counters = counters_of(&library, comp);
+    let answer = library.component_of(code);
     h.put(library);
-    match counters {
-        Some(counters) => i32::try_from(counters).unwrap_or(i32::MAX),
+    give(answer, comp)
+}
+
+/// The row in its component of the native event of a code. PAPI_ENOEVNT where it is the code of no native event.
+#[unsafe(no_mangle)]
+pub extern "C" fn kistalub_row_of(alloc: Global, h: &mut Handle, code: u32, row: &mut u32) -> i32
+    ensures answers { Answers h.old.library (row_coded code) result row.old row.new }
+    ensures kept { h.new.library ≡ h.old.library }
+{
+    let Some(library) = h.take(alloc) else {
+        return ENOINIT;
+    };
+    let answer = library.row_of(code);
+    h.put(library);
+    give(answer, row)
+}
+
+// How many counters a component has.
+fn counters_of(library: &Library, comp: u32) -> Option<usize>
+    ensures { result ≡ counter_count comp library.now }
+{
+    match library.catalog().tables().component(comp) {
+        Some(component) => Some(component.counters.len()),
+        None => None,
+    }
+}
+
+// A number as an answer, as far as one has room for it.
+fn counted(count: Option<usize>) -> i32
+    ensures { IsCounted count result }
+{
+    match count {
+        Some(count) => count.min(MOST_ANSWERED) as i32,
         None => code_number(Code::Enocmp),
     }
+}
+
+/// PAPI_num_cmp_hwctrs(3), and PAPI_ENOCMP where there is no such component: PAPI_num_components(3) is the first of these.
+#[unsafe(no_mangle)]
+pub extern "C" fn kistalub_counters(alloc: Global, h: &mut Handle, comp: u32) -> i32
+    ensures counts { Counts h.old.library (counter_count comp) result }
+    ensures kept { h.new.library ≡ h.old.library }
+{
+    let Some(library) = h.take(alloc) else {
+        return ENOINIT;
+    };
+    let count = counters_of(&library, comp);
+    h.put(library);
+    counted(count)
+}
+
+// How many native events a component has.
+fn natives_of(library: &Library, comp: u32) -> Option<usize>
+    ensures { result ≡ native_count comp library.now }
+{
+    match library.catalog().tables().component(comp) {
+        Some(component) => Some(component.events.len()),
+        None => None,
+    }
+}
+
+/// How many native events a component has: `num_native_events` of PAPI_get_component_info(3). PAPI_ENOCMP where there is no such component.
+#[unsafe(no_mangle)]
+pub extern "C" fn kistalub_natives(alloc: Global, h: &mut Handle, comp: u32) -> i32
+    ensures counts { Counts h.old.library (native_count comp) result }
+    ensures kept { h.new.library ≡ h.old.library }
+{
+    let Some(library) = h.take(alloc) else {
+        return ENOINIT;
+    };
+    let count = natives_of(&library, comp);
+    h.put(library);
+    counted(count)
 }

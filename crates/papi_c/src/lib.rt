@@ -2,6 +2,7 @@
 #![tactic(auto)]
 
 mod codes;
+mod faults;
 mod handle;
 mod named;
 mod numbers;
@@ -9,6 +10,7 @@ mod opened;
 mod opening;
 mod parts;
 mod refusals;
+mod rows;
 mod running;
 mod texts;
 mod values;

@@ -3,6 +3,7 @@ ghost use Rattle.std.specs.Prelude.{◌≡◌, ◌⊎◌, ◌≤◌, drop, lengt
 ghost use Rattle.papi_c.specs.Runs.{IsHeld, Runs, Went, passing_of, run_number};
 ghost use Rattle.session_model.specs.Step.{code_of};
 
+use crate::faults::{StreamFault, fault_of};
 use crate::handle::{ENOINIT, ENOMEM, Handle};
 use overflow_dispatch::Note;
 use papi_base::{Code, code_number};
@@ -67,8 +68,9 @@ fn run(
     consumed: &mut u32,
     out: &mut [Passing],
     told: &mut u64,
+    fault: &mut StreamFault,
 ) -> i32
-    ensures went { Went library.old library.new n result consumed.new told.new out.old out.new ⊎ IsHeld library.old library.new result out.old out.new }
+    ensures went { Went library.old library.new n result consumed.new told.new fault.new out.old out.new ⊎ IsHeld library.old library.new result out.old out.new }
 {
     let blank = Note {
         thread: 0,
@@ -83,12 +85,13 @@ fn run(
     tell(notes.as_slice(), filled.ran.notes as usize, out);
     *consumed = filled.ran.consumed;
     *told = filled.ran.notes;
+    *fault = fault_of(filled.ran.ended);
     number_of(filled)
 }
 
 /// Consumes up to `n` occurrences, and says how many. The thresholds that were passed go into `out`, and `told` has their number. Where
-/// fewer than 32 have room it stops before the next occurrence: PAPI_EBUF, and a further call goes on. PAPI_ESYS where the stream is
-/// faulty. PAPI_ENOMEM; nothing happens then.
+/// fewer than 32 have room it stops before the next occurrence: PAPI_EBUF, and a further call goes on. PAPI_ESYS once where the stream is
+/// faulty, and `fault` then says where and why; after that the stream has ended. PAPI_ENOMEM; nothing happens then.
 #[unsafe(no_mangle)]
 pub extern "C" fn kistalub_run(
     alloc: Global,
@@ -97,13 +100,14 @@ pub extern "C" fn kistalub_run(
     consumed: &mut u32,
     out: &mut [Passing],
     told: &mut u64,
+    fault: &mut StreamFault,
 ) -> i32
-    ensures { Runs h.old.library h.new.library n result consumed.new told.new out.old out.new }
+    ensures { Runs h.old.library h.new.library n result consumed.new told.new fault.new out.old out.new }
 {
     let Some(mut library) = h.take(alloc) else {
         return ENOINIT;
     };
-    let number = run(alloc, &mut library, n, consumed, out, told);
+    let number = run(alloc, &mut library, n, consumed, out, told, fault);
     h.put(library);
     number
 }

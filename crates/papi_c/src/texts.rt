@@ -1,7 +1,7 @@
 //! The calls that give texts.
 ghost use Rattle.std.specs.Prelude.{◌≡◌, IfOk, OnErr, negsuc, string_bytes};
 ghost use Rattle.component_table.specs.EventNames.{event_name};
-ghost use Rattle.papi_c.specs.Asked.{info_asked, native_asked, part_numbered};
+ghost use Rattle.papi_c.specs.Asked.{info_asked, part_numbered};
 ghost use Rattle.papi_c.specs.Placed.{ArePlaced, IsAnswered, IsRefused, Spells};
 ghost use Rattle.papi_calls.specs.Codes.{event_coded, map_ok};
 
@@ -11,7 +11,7 @@ use papi_calls::{InfoPart, Library};
 use std::alloc::{AllocError, Global};
 
 // The bytes of a text, where there is room for all.
-fn spell(text: &str, out: &mut [u8], length: &mut u64) -> i32
+pub(crate) fn spell(text: &str, out: &mut [u8], length: &mut u64) -> i32
     ensures { ArePlaced text.now result length.new out.old out.new }
 {
     let bytes = text.as_bytes();
@@ -26,7 +26,11 @@ fn spell(text: &str, out: &mut [u8], length: &mut u64) -> i32
 }
 
 // A text, or the code that refuses it.
-fn give(answer: Result<Result<String, Code>, AllocError>, out: &mut [u8], length: &mut u64) -> i32
+pub(crate) fn give(
+    answer: Result<Result<String, Code>, AllocError>,
+    out: &mut [u8],
+    length: &mut u64,
+) -> i32
     ensures given { IfOk answer (λ text. IsAnswered (map_ok string_bytes text) result length.new out.old out.new) }
     ensures refused { OnErr answer (IsRefused (negsuc 1) result out.old out.new) }
 {
@@ -106,43 +110,6 @@ pub extern "C" fn kistalub_info(
         return ENOINIT;
     };
     let answer = info_text(alloc, &library, code, part_of(number, place));
-    h.put(library);
-    give(answer, out, length)
-}
-
-// The name in a row of a component's native events.
-fn native_text(
-    alloc: Global,
-    library: &Library,
-    comp: u32,
-    row: u32,
-) -> Result<Result<String, Code>, AllocError>
-    ensures { IfOk result (λ text. map_ok string_bytes text ≡ native_asked comp row library.now) }
-{
-    match library.native_name(alloc, comp, row)? {
-        Some(name) => Ok(Ok(name)),
-        None => Ok(Err(Code::Enoevnt)),
-    }
-}
-
-/// The name `PMU::EVENT` of the native event in a row of a component, both from 0, as papi_native_avail lists them. PAPI_ENOEVNT where there
-/// is no such row.
-#[unsafe(no_mangle)]
-pub extern "C" fn kistalub_native_name(
-    alloc: Global,
-    h: &mut Handle,
-    comp: u32,
-    row: u32,
-    out: &mut [u8],
-    length: &mut u64,
-) -> i32
-    ensures spells { Spells h.old.library (native_asked comp row) result length.new out.old out.new }
-    ensures kept { h.new.library ≡ h.old.library }
-{
-    let Some(library) = h.take(alloc) else {
-        return ENOINIT;
-    };
-    let answer = native_text(alloc, &library, comp, row);
     h.put(library);
     give(answer, out, length)
 }

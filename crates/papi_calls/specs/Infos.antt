@@ -1,6 +1,6 @@
--- What is told of an event: PAPI_get_event_info(3), PAPI_enum_event(3), papi_avail(1).
-use Rattle.std.specs.Prelude.{ℕ, List, [], ◌++◌, Option, None, codes, option_map, slice_get}
-use Rattle.std.specs.Option.{option_and_then, option_map_or}
+-- What is told of an event: PAPI_get_event_info(3), papi_avail(1).
+use Rattle.std.specs.Prelude.{ℕ, List, [], Option, None, slice_get}
+use Rattle.std.specs.Option.{option_map_or}
 use Rattle.component_table.specs.Catalogs.{CatalogView}
 use Rattle.component_table.specs.EventNames.{event_name}
 use Rattle.event_tables.specs.Tables.{ComponentText, event_at}
@@ -70,8 +70,3 @@ abbrev pub info_of : CatalogView → InfoPart → EventRef → Text
 info_of catalog part.Name e = event_name catalog e
 info_of catalog part.Description e = description catalog e
 info_of catalog p e = option_map_or (derived_part catalog.tables p) (derived_in catalog.book e) []
-
--- the native event in a row of a component, `PMU::EVENT` as the tables spell them
-abbrev pub native_name : List ComponentText → ℕ → ℕ → Option Text
-native_name tables comp row =
-    option_and_then (λ c. option_map (λ e. c.pmu ++ (codes "::" ++ e.name)) (slice_get c.events row)) (slice_get tables comp)

@@ -1,6 +1,7 @@
 pub mod Libraries
 pub mod Codes
 pub mod Infos
+pub mod Rows
 pub mod Calls
 pub use Rattle.component_table.specs.Catalogs
 pub use Rattle.component_table.specs.EventNames

@@ -1,9 +1,9 @@
-//! What is told of events: PAPI_get_event_info(3), and the names of the native events.
-ghost use Rattle.std.specs.Prelude.{◌≡◌, IfOk, option_map, string_bytes};
+//! What is told of events: PAPI_get_event_info(3).
+ghost use Rattle.std.specs.Prelude.{◌≡◌, IfOk, string_bytes};
 ghost use Rattle.std.specs.Option.{option_copied};
 ghost use Rattle.papi_calls.specs.Codes.{event_coded, map_ok};
 ghost use Rattle.papi_calls.specs.Infos as Infos;
-ghost use Rattle.papi_calls.specs.Infos.{derived_in, info_of, native_name};
+ghost use Rattle.papi_calls.specs.Infos.{derived_in, info_of};
 
 use crate::library::Library;
 use component_table::Catalog;
@@ -156,26 +156,6 @@ impl Library {
         match self.event_of(code) {
             Ok(event) => Ok(Ok(info(alloc, &self.catalog, &event, part)?)),
             Err(code) => Ok(Err(code)),
-        }
-    }
-
-    /// The name `PMU::EVENT` of the native event in a row of a component, as papi_native_avail lists it, and `None` where there is no
-    /// such row.
-    pub fn native_name(
-        &self,
-        alloc: Global,
-        comp: u32,
-        row: u32,
-    ) -> Result<Option<String>, AllocError>
-        ensures name { IfOk result (λ name. option_map string_bytes name ≡ native_name self.now.catalog.tables comp row) }
-    {
-        let tables = self.catalog.tables();
-        let Some(component) = tables.component(comp) else {
-            return Ok(None);
-        };
-        match tables.event(comp, row) {
-            Some(event) => Ok(Some(format!(in alloc; "{}::{}", component.pmu, event.name)?)),
-            None => Ok(None),
         }
     }
 }

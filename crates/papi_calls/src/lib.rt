@@ -7,8 +7,10 @@ mod coded;
 mod infos;
 pub mod library;
 mod named;
+mod rows;
 mod running;
 
 pub use infos::InfoPart;
 pub use library::Library;
+pub use rows::{ComponentPart, NativePart};
 pub use thread_session::Filled;

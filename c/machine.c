@@ -1,0 +1,191 @@
+/* The modelled processor, and the process as the system knows it. */
+#define _GNU_SOURCE
+#include "internal.h"
+
+#include <link.h>
+#include <stdio.h>
+#include <string.h>
+#include <strings.h>
+#include <unistd.h>
+
+#define MOST_LIBRARIES 64
+
+/* The first part of a pmu's name in libpfm4, and the vendor of its processors. */
+static const struct { const char *front; int vendor; const char *name; } vendors[] = {
+    { "amd64", PAPI_VENDOR_AMD, "AuthenticAMD" },
+    { "arm_xgene", PAPI_VENDOR_ARM_APM, "Applied Micro" },
+    { "arm_thunderx", PAPI_VENDOR_ARM_CAVIUM, "Cavium" },
+    { "arm_a64fx", PAPI_VENDOR_ARM_FUJITSU, "Fujitsu" },
+    { "arm_kunpeng", PAPI_VENDOR_ARM_HISILICON, "Hisilicon" },
+    { "hisi", PAPI_VENDOR_ARM_HISILICON, "Hisilicon" },
+    { "qcom", PAPI_VENDOR_ARM_QUALCOMM, "Qualcomm" },
+    { "arm", PAPI_VENDOR_ARM_ARM, "ARM" },
+    { "power", PAPI_VENDOR_IBM, "IBM" },
+    { "ppc970", PAPI_VENDOR_IBM, "IBM" },
+    { "s390", PAPI_VENDOR_IBM, "IBM" },
+    { "cpum_", PAPI_VENDOR_IBM, "IBM" },
+    { "ultra", PAPI_VENDOR_SUN, "Sun" },
+    { "niagara", PAPI_VENDOR_SUN, "Sun" },
+    { "mips", PAPI_VENDOR_MIPS, "MIPS" },
+};
+
+/* The pmus of Intel's processors in libpfm4, each also with what follows an underscore. */
+static const char *const intel[] = {
+    "ix86arch", "p6", "pii", "ppro", "pm", "coreduo", "core", "atom", "netburst", "nhm", "wsm", "snb", "ivb", "hsw", "bdw", "skl", "skx",
+    "clx", "icl", "icx", "adl", "rpl", "spr", "emr", "slm", "glm", "tmt", "knl", "knm", "montecito", "itanium", "itanium2",
+};
+
+static PAPI_hw_info_t hardware;
+static pthread_mutex_t machine_lock = PTHREAD_MUTEX_INITIALIZER;
+
+/* Whether a pmu's name is this one, or begins with it and an underscore. */
+static int is_of(const char *pmu, const char *front) {
+    size_t n = strlen(front);
+    return strncasecmp(pmu, front, n) == 0 && (pmu[n] == 0 || pmu[n] == '_');
+}
+
+/* The vendor that a pmu's name stands for. */
+static int vendor_of(const char *pmu, const char **name) {
+    for (size_t i = 0; i < sizeof vendors / sizeof *vendors; i++)
+        if (strncasecmp(pmu, vendors[i].front, strlen(vendors[i].front)) == 0) {
+            *name = vendors[i].name;
+            return vendors[i].vendor;
+        }
+    for (size_t i = 0; i < sizeof intel / sizeof *intel; i++)
+        if (is_of(pmu, intel[i])) {
+            *name = "GenuineIntel";
+            return PAPI_VENDOR_INTEL;
+        }
+    *name = "unknown";
+    return PAPI_VENDOR_UNKNOWN;
+}
+
+/* One processor with one thread, whose model is the pmu of the unit's first component. */
+static void describe_hardware(const char *pmu) {
+    const char *vendor;
+    int mhz = (int)kl_mhz();
+    memset(&hardware, 0, sizeof hardware);
+    hardware.ncpu = hardware.threads = hardware.cores = hardware.sockets = hardware.nnodes = hardware.totalcpus = 1;
+    hardware.vendor = vendor_of(pmu, &vendor);
+    snprintf(hardware.vendor_string, sizeof hardware.vendor_string, "%s", vendor);
+    snprintf(hardware.model_string, sizeof hardware.model_string, "%s", pmu);
+    hardware.cpu_max_mhz = hardware.cpu_min_mhz = hardware.clock_mhz = mhz;
+    hardware.mhz = (float)mhz;
+}
+
+const PAPI_hw_info_t *PAPI_get_hardware_info(void) {
+    CALL(PAPI_get_hardware_info);
+    char pmu[PAPI_MAX_STR_LEN];
+    int code;
+    thread_state *t = kl_here(&code);
+    if (!t || kl_component_text(t, 0, KISTALUB_COMPONENT_PMU, 0, pmu, sizeof pmu) != PAPI_OK) return NULL;
+    pthread_mutex_lock(&machine_lock);
+    describe_hardware(pmu);
+    pthread_mutex_unlock(&machine_lock);
+    return &hardware;
+}
+
+/* The number that follows a name on a line of /proc/self/status, in KiB. */
+static void take_kib(const char *line, const char *name, long long *into) {
+    size_t n = strlen(name);
+    if (strncmp(line, name, n) == 0 && line[n] == ':') sscanf(line + n + 1, "%lld", into);
+}
+
+int PAPI_get_dmem_info(PAPI_dmem_info_t *dest) {
+    CALL(PAPI_get_dmem_info);
+    if (!dest) return PAPI_EINVAL;
+    FILE *status = fopen("/proc/self/status", "r");
+    char line[PAPI_MAX_STR_LEN];
+    long long files = 0, segments = 0;
+    memset(dest, 0, sizeof *dest);
+    dest->pagesize = sysconf(_SC_PAGESIZE);
+    if (!status) return PAPI_ESYS;
+    while (fgets(line, sizeof line, status)) {
+        take_kib(line, "VmPeak", &dest->peak);
+        take_kib(line, "VmSize", &dest->size);
+        take_kib(line, "VmLck", &dest->locked);
+        take_kib(line, "VmHWM", &dest->high_water_mark);
+        take_kib(line, "VmRSS", &dest->resident);
+        take_kib(line, "RssFile", &files);
+        take_kib(line, "RssShmem", &segments);
+        take_kib(line, "VmData", &dest->heap);
+        take_kib(line, "VmStk", &dest->stack);
+        take_kib(line, "VmExe", &dest->text);
+        take_kib(line, "VmLib", &dest->library);
+        take_kib(line, "VmPTE", &dest->pte);
+    }
+    fclose(status);
+    dest->shared = files + segments;
+    return PAPI_OK;
+}
+
+static PAPI_exe_info_t executable;
+static PAPI_address_map_t maps[MOST_LIBRARIES];
+static PAPI_shlib_info_t libraries = { maps, 0 };
+
+/* An end of a part: the least begin or the greatest end that was seen. */
+static void widen(vptr_t *start, vptr_t *end, uintptr_t from, uintptr_t to) {
+    if (from >= to) return;
+    if (!*start || from < (uintptr_t)*start) *start = (vptr_t)from;
+    if (to > (uintptr_t)*end) *end = (vptr_t)to;
+}
+
+/* Where the code, the data and the zeroed data of an object lie. */
+static void take_parts(const struct dl_phdr_info *object, PAPI_address_map_t *map) {
+    for (size_t i = 0; i < object->dlpi_phnum; i++) {
+        const ElfW(Phdr) *part = object->dlpi_phdr + i;
+        if (part->p_type != PT_LOAD) continue;
+        uintptr_t from = object->dlpi_addr + part->p_vaddr, filled = from + part->p_filesz;
+        if (part->p_flags & PF_X) widen(&map->text_start, &map->text_end, from, filled);
+        else if (part->p_flags & PF_W) {
+            widen(&map->data_start, &map->data_end, from, filled);
+            widen(&map->bss_start, &map->bss_end, filled, from + part->p_memsz);
+        }
+    }
+}
+
+/* Takes the executable, which comes first and has no name, and the libraries, which have one. */
+static int take_object(struct dl_phdr_info *object, size_t size, void *seen) {
+    (void)size;
+    int *first = seen;
+    if (*first) {
+        *first = 0;
+        memset(&executable.address_info, 0, sizeof executable.address_info);
+        take_parts(object, &executable.address_info);
+    } else if (object->dlpi_name && *object->dlpi_name && libraries.count < MOST_LIBRARIES) {
+        PAPI_address_map_t *map = &maps[libraries.count++];
+        memset(map, 0, sizeof *map);
+        snprintf(map->name, sizeof map->name, "%s", object->dlpi_name);
+        take_parts(object, map);
+    }
+    return 0;
+}
+
+/* Looks at what is loaded now. */
+static void look_at_objects(void) {
+    int first = 1;
+    ssize_t n = readlink("/proc/self/exe", executable.fullname, sizeof executable.fullname - 1);
+    executable.fullname[n < 0 ? 0 : n] = 0;
+    libraries.count = 0;
+    dl_iterate_phdr(take_object, &first);
+    const char *slash = strrchr(executable.fullname, '/');
+    snprintf(executable.address_info.name, sizeof executable.address_info.name, "%s", slash ? slash + 1 : executable.fullname);
+}
+
+const PAPI_exe_info_t *PAPI_get_executable_info(void) {
+    CALL(PAPI_get_executable_info);
+    if (!kl_is_open()) return NULL;
+    pthread_mutex_lock(&machine_lock);
+    look_at_objects();
+    pthread_mutex_unlock(&machine_lock);
+    return &executable;
+}
+
+const PAPI_shlib_info_t *PAPI_get_shared_lib_info(void) {
+    CALL(PAPI_get_shared_lib_info);
+    if (!kl_is_open()) return NULL;
+    pthread_mutex_lock(&machine_lock);
+    look_at_objects();
+    pthread_mutex_unlock(&machine_lock);
+    return &libraries;
+}

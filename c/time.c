@@ -1,0 +1,112 @@
+/* Time: the model's, in which each occurrence of the thread's stream takes a cycle, so that it repeats; with KISTALUB_CLOCK=real the machine's. */
+#include "internal.h"
+
+#include <errno.h>
+#include <stdio.h>
+#include <stdlib.h>
+#include <string.h>
+#include <time.h>
+
+#define USUAL_MHZ 1000
+#define MOST_MHZ 1000000
+
+static uint32_t mhz = USUAL_MHZ;
+static int is_real;
+
+uint32_t kl_mhz(void) { return mhz; }
+
+/* Takes KISTALUB_MHZ and KISTALUB_CLOCK: PAPI_EINVAL, and a line on standard error, where they are neither a rate nor a clock. */
+int kl_time_begins(void) {
+    const char *rate = getenv("KISTALUB_MHZ"), *clock = getenv("KISTALUB_CLOCK");
+    unsigned long given = USUAL_MHZ;
+    if (rate) {
+        char *end;
+        errno = 0;
+        given = *rate >= '0' && *rate <= '9' ? strtoul(rate, &end, 10) : 0;
+        if (given < 1 || given > MOST_MHZ || errno || *end) {
+            fprintf(stderr, "kistalub: KISTALUB_MHZ: not a number from 1 to %d: %s\n", MOST_MHZ, rate);
+            return PAPI_EINVAL;
+        }
+    }
+    if (clock && strcmp(clock, "real") && strcmp(clock, "model")) {
+        fprintf(stderr, "kistalub: KISTALUB_CLOCK: neither real nor model: %s\n", clock);
+        return PAPI_EINVAL;
+    }
+    mhz = (uint32_t)given;
+    is_real = clock && !strcmp(clock, "real");
+    return PAPI_OK;
+}
+
+/* Cycles in nanoseconds, at the rate of the clock: whole seconds first, so that nothing overflows. */
+static long long nanoseconds_of(uint64_t cycles) {
+    uint64_t second = (uint64_t)mhz * 1000000;
+    return (long long)(cycles / second * 1000000000 + cycles % second * 1000 / mhz);
+}
+
+static long long cycles_of(const struct timespec *time) {
+    return (long long)time->tv_sec * mhz * 1000000 + (long long)time->tv_nsec * mhz / 1000;
+}
+
+/* What a clock of the machine shows. */
+static struct timespec machine_time(clockid_t clock) {
+    struct timespec now = { 0, 0 };
+    clock_gettime(clock, &now);
+    return now;
+}
+
+/* How many occurrences of the calling thread's stream have happened. */
+static uint64_t occurrences(void) {
+    int code;
+    const thread_state *t = kl_here(&code);
+    return t ? t->happened : 0;
+}
+
+static long long cycles(clockid_t clock) {
+    if (!is_real) return (long long)occurrences();
+    struct timespec now = machine_time(clock);
+    return cycles_of(&now);
+}
+
+static long long nanoseconds(clockid_t clock) {
+    if (!is_real) return nanoseconds_of(occurrences());
+    struct timespec now = machine_time(clock);
+    return (long long)now.tv_sec * 1000000000 + now.tv_nsec;
+}
+
+long long PAPI_get_real_cyc(void) {
+    CALL(PAPI_get_real_cyc);
+    return cycles(CLOCK_MONOTONIC);
+}
+
+long long PAPI_get_real_nsec(void) {
+    CALL(PAPI_get_real_nsec);
+    return nanoseconds(CLOCK_MONOTONIC);
+}
+
+long long PAPI_get_real_usec(void) {
+    CALL(PAPI_get_real_usec);
+    return nanoseconds(CLOCK_MONOTONIC) / 1000;
+}
+
+long long PAPI_get_virt_cyc(void) {
+    CALL(PAPI_get_virt_cyc);
+    return kl_is_open() ? cycles(CLOCK_THREAD_CPUTIME_ID) : PAPI_ENOINIT;
+}
+
+long long PAPI_get_virt_nsec(void) {
+    CALL(PAPI_get_virt_nsec);
+    return kl_is_open() ? nanoseconds(CLOCK_THREAD_CPUTIME_ID) : PAPI_ENOINIT;
+}
+
+long long PAPI_get_virt_usec(void) {
+    CALL(PAPI_get_virt_usec);
+    return kl_is_open() ? nanoseconds(CLOCK_THREAD_CPUTIME_ID) / 1000 : PAPI_ENOINIT;
+}
+
+int PAPI_read_ts(int set, long long *values, long long *cyc) {
+    CALL(PAPI_read_ts);
+    if (!values || !cyc) return PAPI_EINVAL;
+    int code = PAPI_read(set, values);
+    if (code == PAPI_OK) *cyc = PAPI_get_real_cyc();
+    return code;
+}
