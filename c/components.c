@@ -4,7 +4,6 @@
 #include <stdio.h>
 #include <string.h>
 
-#define MOST_COMPONENTS 16
 
 static PAPI_component_info_t infos[MOST_COMPONENTS];
 static char pmus[MOST_COMPONENTS][PAPI_MAX_STR_LEN];
@@ -158,7 +157,7 @@ int PAPI_get_eventset_component(int set) {
     int code = PAPI_list_events(set, events, &number);
     if (code != PAPI_OK) return code;
     if (number > 0) return PAPI_get_event_component(events[0]);
-    return set < MOST_SETS && t->components[set] ? t->components[set] - 1 : PAPI_ENOCMP;
+    return set < MOST_SETS && t->sets[set].component ? t->sets[set].component - 1 : PAPI_ENOCMP;
 }
 
 int PAPI_num_cmp_hwctrs(int component) {

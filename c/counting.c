@@ -1,54 +1,95 @@
 /* Counting: start, stop, read, accum, reset, and how time goes on. */
 #include "internal.h"
 
+#include <stdio.h>
+
+#define WORDS_ROOM 64
+
+/* Says where the thread's stream is faulty, in the words of papi_run. */
+static void say_fault(const thread_state *t, const kistalub_fault *fault) {
+    unsigned char words[WORDS_ROOM];
+    uint64_t length = 0;
+    if (kistalub_cause(fault->cause, words, sizeof words, &length) != PAPI_OK) return;
+    if (fault->line == 0) fprintf(stderr, "papi: stream %u: %.*s\n", (unsigned)t->number, (int)length, (const char *)words);
+    else fprintf(stderr, "papi: stream %u: line %llu: %.*s\n", (unsigned)t->number, (unsigned long long)fault->line, (int)length, (const char *)words);
+}
+
+static int is_watched(const thread_state *t) {
+    for (int set = 0; set < MOST_SETS; set++)
+        if (kl_has_watch(t, set) || kl_has_profile(t, set)) return 1;
+    return 0;
+}
+
+/* Up to n occurrences happen. Where an event has a watch it is one, since what watches it comes before the next. */
+static int some_happen(thread_state *t, uint32_t n, uint32_t *consumed) {
+    kistalub_passing passings[MOST_EVENTS];
+    kistalub_fault fault = { 0, 0 };
+    uint64_t told = 0;
+    int code = kistalub_run(&t->library, is_watched(t) ? 1 : n, consumed, passings, MOST_EVENTS, &told, &fault);
+    t->happened += *consumed;
+    if (code == PAPI_ESYS) say_fault(t, &fault);
+    kl_tell(t, passings, told);
+    return code;
+}
+
+/* PAPI_EISRUN in a handler, in which time stands. */
+int kl_go(thread_state *t, uint32_t n, uint32_t *went) {
+    int code = t->in_handler ? PAPI_EISRUN : PAPI_OK;
+    kl_hold(t);
+    while (code == PAPI_OK && *went < n) {
+        uint32_t consumed = 0;
+        code = some_happen(t, n - *went, &consumed);
+        *went += consumed;
+        if (consumed == 0) break;
+        if (t->left) code = PAPI_ENOINIT;
+    }
+    int ended = kl_let_go(t);
+    return ended == PAPI_OK ? code : ended;
+}
+
 int kistalub_go(uint32_t n, uint32_t *went) {
     uint32_t here_went = 0;
+    int code;
     if (!went) went = &here_went;
     *went = 0;
-    HERE(t);
-    while (*went < n) {
-        kistalub_passing passings[MOST_EVENTS];
-        uint32_t consumed = 0;
-        uint64_t told = 0;
-        kistalub_fault fault = { 0, 0 };
-        int code = kistalub_run(&t->library, 1, &consumed, passings, MOST_EVENTS, &told, &fault);
-        *went += consumed;
-        t->happened += consumed;
-        kl_tell(t, passings, told);
-        if (code != PAPI_OK) return code;
-        if (consumed == 0) break;
-    }
-    return PAPI_OK;
+    thread_state *t = kl_here(&code);
+    return t ? kl_go(t, n, went) : code;
 }
 
 /* The step before a call that reads, or what is left of it where memory was refused in it and the call is made again. */
 static int goes_on(thread_state *t) {
-    uint32_t n = t->owed ? t->owed : kl_step, went = 0;
-    if (n == 0) return PAPI_OK;
-    int code = kistalub_go(n, &went);
+    uint32_t n = t->owed ? t->owed : t->step, went = 0;
+    if (n == 0 || t->in_handler) return PAPI_OK;
+    kl_hold(t);
+    int code = kl_go(t, n, &went);
     t->owed = code == PAPI_ENOMEM ? n - went : 0;
-    return code;
+    int ended = kl_let_go(t);
+    return ended == PAPI_OK ? code : ended;
 }
 
 int PAPI_start(int set) {
     CALL(PAPI_start);
     HERE(t);
-    return kistalub_start(&t->library, kl_set_number(set));
+    RETURN(kistalub_start(&t->library, kl_set_number(set)));
 }
+
 int PAPI_reset(int set) {
     CALL(PAPI_reset);
     HERE(t);
-    return kistalub_reset(&t->library, kl_set_number(set));
+    RETURN(kistalub_reset(&t->library, kl_set_number(set)));
 }
 
 typedef int (*giving)(kistalub *, uint32_t, int64_t *, size_t, uint32_t *);
 
+/* The values of a call, after the step: put into the array, or added to what it has. The call is not made if the step met a fault. */
 static int given(giving call, int set, long long *values, int adding) {
     int64_t all[MOST_EVENTS];
     uint32_t count = 0;
-    HERE(t);
-    if (goes_on(t) == PAPI_ENOMEM) return PAPI_ENOMEM;
-    int code = call(&t->library, kl_set_number(set), all, MOST_EVENTS, &count);
+    int code;
+    thread_state *t = kl_here(&code);
+    if (t) code = goes_on(t);
+    if (code != PAPI_OK) return code;
+    code = call(&t->library, kl_set_number(set), all, MOST_EVENTS, &count);
     for (uint32_t i = 0; code == PAPI_OK && values && i < count; i++)
         values[i] = adding ? (long long)((unsigned long long)values[i] + (unsigned long long)all[i]) : all[i];
     return code;
@@ -56,23 +97,24 @@ static int given(giving call, int set, long long *values, int adding) {
 
 int PAPI_read(int set, long long *values) {
     CALL(PAPI_read);
-    return values ? given(kistalub_read, set, values, 0) : PAPI_EINVAL;
+    RETURN(values ? given(kistalub_read, set, values, 0) : PAPI_EINVAL);
 }
+
 int PAPI_stop(int set, long long *values) {
     CALL(PAPI_stop);
-    return given(kistalub_stop, set, values, 0);
+    RETURN(given(kistalub_stop, set, values, 0));
 }
 
 int PAPI_accum(int set, long long *values) {
     CALL(PAPI_accum);
-    if (!values) return PAPI_EINVAL;
+    if (!values) RETURN(PAPI_EINVAL);
     int code = given(kistalub_read, set, values, 1);
-    return code == PAPI_OK ? PAPI_reset(set) : code;
+    RETURN(code == PAPI_OK ? PAPI_reset(set) : code);
 }
 
 int PAPI_write(int set, long long *values) {
     CALL(PAPI_write);
     (void)set;
     (void)values;
-    return PAPI_ENOSUPP;
+    RETURN(PAPI_ENOSUPP);
 }

@@ -21,8 +21,7 @@ int kl_native_text(thread_state *t, native_place at, uint32_t part, uint32_t mas
 int kl_code_in_library(thread_state *t, int event, uint32_t *code) {
     native_place at;
     char name[NAME_ROOM];
-    *code = (uint32_t)event;
-    if (!kl_is_row(event)) return PAPI_OK;
+    if (!kl_is_row(event)) return kl_code_inward(t, event, code);
     int answer = kl_place_of(t, event, &at);
     if (answer == PAPI_OK) answer = kl_native_text(t, at, KISTALUB_ROW_NAME, 0, name, sizeof name);
     if (answer == PAPI_OK) answer = kistalub_name_to_code(&t->library, (const unsigned char *)name, strlen(name), code);

@@ -10,8 +10,7 @@ int PAPI_event_name_to_code(const char *in, int *out) {
     HERE(t);
     if (!in || !out) return PAPI_EINVAL;
     int code = kistalub_name_to_code(&t->library, (const unsigned char *)in, strlen(in), &event);
-    if (code == PAPI_OK) *out = (int)event;
-    return code;
+    RETURN(code == PAPI_OK ? kl_code_outward(t, event, out) : code);
 }
 
 /* Ends a text of this length; one that had no room is PAPI_EBUF. */
@@ -30,7 +29,9 @@ int kl_name_in(int event, char *name) {
         int found = kl_place_of(t, event, &at);
         return found == PAPI_OK ? kl_native_text(t, at, KISTALUB_ROW_NAME, 0, name, NAME_ROOM) : found;
     }
-    int code = kistalub_code_to_name(&t->library, (uint32_t)event, (unsigned char *)name, NAME_ROOM - 1, &length);
+    uint32_t own;
+    int code = kl_code_in_library(t, event, &own);
+    if (code == PAPI_OK) code = kistalub_code_to_name(&t->library, own, (unsigned char *)name, NAME_ROOM - 1, &length);
     return kl_ended(code, name, NAME_ROOM - 1, length);
 }
 

@@ -1,4 +1,4 @@
-/* What the sources share: the state of the process and of a thread, and how each call begins. */
+/* What the sources share: the state of the process and of a thread, and how each call begins and answers. */
 #ifndef KL_INTERNAL_H
 #define KL_INTERNAL_H
 
@@ -10,29 +10,64 @@
 #include "papi.h"
 
 #include <pthread.h>
+#include <stdatomic.h>
 #include <stddef.h>
 #include <stdint.h>
 
 #define MOST_EVENTS 32
 #define MOST_SETS 64
-#define MOST_THREADS 64
+#define MOST_COMPONENTS 16
 #define NAME_ROOM 1024
 
 typedef struct { unsigned char *bytes; size_t length; } text;
 
-/* How the buckets of PAPI_profil lie. */
-typedef struct { unsigned char *buckets; unsigned size; unsigned long long offset; unsigned scale; int width; } profile;
+/* What the library was begun with: the process holds it, and each thread that opens its part. */
+typedef struct {
+    unsigned holders; /* under kl_lock */
+    text unit, presets;
+    char *unit_path, *presets_path, *cpu, *streams;
+} kl_files;
+
+/* What is done when an event of a set passes its threshold. */
+typedef struct {
+    int handled;                   /* the set's handler is called */
+    int profiled;                  /* a region of a profile counts the address */
+    const PAPI_sprofil_t *regions; /* PAPI_sprofil's, or NULL: PAPI_profil's is `own` */
+    int region_count;
+    int flags; /* PAPI_PROFIL_* */
+    PAPI_sprofil_t own;
+} kl_watch;
+
+/* What an event set has besides the model's part: the place of a watch is that of its event. */
+typedef struct {
+    PAPI_overflow_handler_t handler;
+    int component; /* the one that it was assigned, from 1, or 0 */
+    int domain;
+    int multiplex_ns, multiplex_flags;
+    kl_watch watches[MOST_EVENTS];
+} kl_set;
+
+/* The thread's numbers for the process's codes, and back, each with 1 added: 0 is one that is not known. */
+typedef struct { uint32_t *inward, *outward, inward_count, outward_count; } kl_code_map;
 
 /* What one thread has. */
-typedef struct {
-    kistalub library;
+typedef struct thread_state {
+    struct thread_state *next; /* in the list of the process, under kl_lock, as are the number, the id, `registered` and `kept` */
+    unsigned generation;       /* of the library that it is a part of */
     uint32_t number;
-    uint32_t owed; /* what is left of a step in which memory was refused */
-    uint64_t happened; /* occurrences of its stream so far */
-    int domain;
-    int components[MOST_SETS]; /* those that sets were assigned, from 1, or 0 */
-    PAPI_overflow_handler_t handlers[MOST_SETS];
-    profile profiles[MOST_SETS][MOST_EVENTS];
+    int opened;
+    kistalub library;
+    PAPI_thread_id_t id;
+    int has_id, registered;
+    void *kept[PAPI_NUM_TLS];
+    uint32_t step, owed; /* what happens before a call that reads, and what is left of it where memory was refused in it */
+    uint64_t happened;   /* how many occurrences have */
+    int in_handler;      /* a handler of the thread runs: time stands */
+    unsigned held;       /* calls of the thread that go on after a handler */
+    int left;            /* the thread has no more to do with it: the last of these calls closes it */
+    uint32_t drawn;      /* the last number of the generator of profiles */
+    kl_code_map codes;
+    kl_set sets[MOST_SETS];
 } thread_state;
 
 /* The number of each function. */
@@ -45,54 +80,87 @@ enum { KL_FUNCTIONS(KL_NUMBER) KL_FUNCTION_COUNT };
 int kl_call_begins(int number);
 void kl_call_ends(const int *number);
 
+/* Ends each function of papi.h that answers a code: one below 0 is the thread's last error, and the error handler is told of it. */
+#define RETURN(code) return kl_answer(code)
+int kl_answer(int code);
+
 /* The thread's state, or the code why there is none is what the function answers. */
 #define HERE(t) \
     int code_; \
     thread_state *t = kl_here(&code_); \
-    if (!t) return code_
+    if (!t) RETURN(code_)
 
-/* process.c */
+/* process.c. The generation is the number of the library that is begun, and 0 where none is. */
 extern pthread_mutex_t kl_lock;
-extern pthread_key_t kl_key;
-extern int kl_has_key;
-extern int kl_initialized;
-extern uint32_t kl_step, kl_slice;
+extern atomic_uint kl_generation;
+kl_files *kl_hold_files(void);
+void kl_release_files(kl_files *held);
+int kl_takes_files(kl_files *made);
+void kl_before_fork(void);
+void kl_after_fork(void);
 
-/* files.c */
-extern text kl_unit, kl_presets;
-extern char *kl_cpu, *kl_stream_path;
-void kl_drop_text(text *t);
-int kl_read_file(const char *path, text *into);
-void kl_drop_files(void);
-void kl_stream_of(uint32_t number, char *path, size_t room);
+/* files.c. Where a file or a variable is faulty, a line on standard error says so, and the answer is PAPI_ESYS. */
+int kl_read_files(const char *unit, const char *presets, const char *cpu, const char *streams, kl_files **made);
+void kl_free_files(kl_files *files);
+int kl_read_stream(const kl_files *files, uint32_t number, text *into);
+int kl_number_named(const char *variable, uint32_t least, uint32_t most, uint32_t *value);
 
-/* thread.c */
-extern uint32_t kl_threads;
+/* thread.c. `kl_known` is the calling thread's state if it has one in this library. */
 thread_state *kl_here(int *code);
-void kl_thread_ends(void *state);
+thread_state *kl_known(void);
+int kl_enters(const uint32_t *number);
+void kl_leaves(void);
+void kl_hold(thread_state *t);
+int kl_let_go(thread_state *t);
+int kl_prepare(void);
+static inline int kl_is_open(void) { return atomic_load(&kl_generation) != 0; }
+extern thread_state *kl_first; /* the list, under kl_lock */
+void kl_forget_threads(void);
 
 /* threads.c */
-extern unsigned long (*kl_thread_id)(void);
-extern PAPI_thread_id_t kl_registered[MOST_THREADS];
-extern int kl_registered_count;
+void kl_name_thread(thread_state *t);
+void kl_forget_ids(void);
 
-/* sets.c */
+/* errors.c */
+int kl_get_debug(PAPI_debug_option_t *debug);
+int kl_set_debug(const PAPI_debug_option_t *debug);
+
+/* sets.c. The codes are those of the thread's library; the place of an event is -1 if the set does not have it. */
 static inline uint32_t kl_set_number(int set) { return set < 0 ? UINT32_MAX : (uint32_t)set; }
+typedef struct { uint32_t codes[MOST_EVENTS]; uint64_t count; } kl_events;
+int kl_events_in(thread_state *t, int set, kl_events *events);
+int kl_index_in(const kl_events *events, uint32_t code);
+int kl_is_stopped(thread_state *t, int set);
+int kl_set_domain(thread_state *t, int set, int domain);
 
-/* profile.c */
-void kl_hit(profile *p, unsigned long long address);
+/* counting.c */
+int kl_go(thread_state *t, uint32_t n, uint32_t *went);
 
-/* overflow.c */
+/* codes.c. Inward: the code of the thread's library for a code of the process. Outward: back. PAPI_ENOMEM. */
+int kl_code_inward(thread_state *t, int code, uint32_t *own);
+int kl_code_outward(thread_state *t, uint32_t own, int *code);
+void kl_drop_code_map(kl_code_map *codes);
+void kl_forget_codes(void);
+
+/* options.c */
+extern atomic_uint kl_step, kl_slice;
+int kl_default_domain(uint32_t component);
+int kl_options_begin(void);
+
+/* overflow.c and profile.c */
+int kl_find_watch(thread_state *t, int set, int event, uint32_t *own, kl_watch **found);
+int kl_set_threshold(thread_state *t, int set, uint32_t own, int threshold, kl_watch *w);
+int kl_has_watch(const thread_state *t, int set);
+int kl_has_profile(const thread_state *t, int set);
+void kl_forget_set(thread_state *t, int set);
 void kl_tell(thread_state *t, const kistalub_passing *passings, uint64_t told);
-
-/* Whether the library is open. */
-static inline int kl_is_open(void) { return PAPI_is_initialized() != PAPI_NOT_INITED; }
+void kl_hit(thread_state *t, kl_watch *w, unsigned long long address);
 
 /* events.c */
 int kl_ended(int code, char *text, uint64_t room, uint64_t length);
 int kl_name_in(int event, char *name);
 
-/* enumeration.c */
+/* enumeration.c. A row is a code of a native event that has umasks, without any of them. */
 typedef struct { uint32_t component, row; } native_place;
 int kl_is_row(int event);
 int kl_code_in_library(thread_state *t, int event, uint32_t *code);
@@ -119,5 +187,9 @@ int kl_high_level_runs(void);
 /* marks.c: the outermost call of this thread enters and leaves. Around a function or a handler of the user it leaves and enters again. */
 void kl_call_enters(int number);
 void kl_call_leaves(int number);
+typedef struct { int depth, number; } kl_outside;
+kl_outside kl_user_begins(void);
+void kl_user_ends(kl_outside before);
+int kl_is_nested(void);
 
 #endif

@@ -28,7 +28,7 @@ static pid_t process;
 
 /* Between a function's begin and its mark nothing but the library's own instructions is run: no call of another library looks these up. */
 #define NEAR _Thread_local __attribute__((tls_model("initial-exec")))
-static NEAR int depth;
+static NEAR int depth, outermost;
 static NEAR bool is_going_on, is_counting;
 
 /* Says where the calls differ from those that were recorded, once. */
@@ -86,7 +86,7 @@ static bool may_start_or_stop(int number) {
 
 /* Whether a set of this thread runs. */
 static bool counts(void) {
-    thread_state *t = kl_initialized ? pthread_getspecific(kl_key) : NULL;
+    thread_state *t = kl_known();
     for (uint32_t set = 0; t && set < MOST_SETS; set++) {
         uint32_t bits = 0;
         if (kistalub_state(&t->library, set, &bits) == PAPI_OK && bits & PAPI_RUNNING) return true;
@@ -121,10 +121,29 @@ void kl_call_leaves(int number) {
 }
 
 int kl_call_begins(int number) {
-    if (depth++ == 0) kl_call_enters(number);
+    if (depth++ == 0) {
+        outermost = number;
+        kl_call_enters(number);
+    }
     return number;
 }
 
 void kl_call_ends(const int *number) {
     if (--depth == 0) kl_call_leaves(*number);
+}
+
+/* Whether the call is one that another function of the library makes. */
+int kl_is_nested(void) { return depth > 1; }
+
+kl_outside kl_user_begins(void) {
+    kl_outside before = { depth, outermost };
+    if (depth) kl_call_leaves(outermost);
+    depth = 0;
+    return before;
+}
+
+void kl_user_ends(kl_outside before) {
+    depth = before.depth;
+    outermost = before.number;
+    if (depth) kl_call_enters(outermost);
 }

@@ -1,25 +1,111 @@
-/* Handlers of thresholds that are passed. */
+/* Thresholds that are passed: handlers, and which events have one. */
 #include "internal.h"
 
+#include <string.h>
+
+/* The set is as when it was made, but for its domain. */
+void kl_forget_set(thread_state *t, int set) {
+    if (set < 0 || set >= MOST_SETS) return;
+    int domain = t->sets[set].domain;
+    memset(&t->sets[set], 0, sizeof t->sets[set]);
+    t->sets[set].domain = domain;
+}
+
+/* Whether some event of the set has a watch, a handled one, or a profiled one. */
+static int has(const thread_state *t, int set, int handled, int profiled) {
+    if (set < 0 || set >= MOST_SETS) return 0;
+    for (int i = 0; i < MOST_EVENTS; i++)
+        if ((handled && t->sets[set].watches[i].handled) || (profiled && t->sets[set].watches[i].profiled)) return 1;
+    return 0;
+}
+
+int kl_has_watch(const thread_state *t, int set) { return has(t, set, 1, 0); }
+int kl_has_profile(const thread_state *t, int set) { return has(t, set, 0, 1); }
+
+/* Calls the handler of a set. */
+static void call_handler(thread_state *t, int set, unsigned long long address, long long vector) {
+    PAPI_overflow_handler_t handler = t->sets[set].handler;
+    if (!handler) return;
+    kl_outside before = kl_user_begins();
+    t->in_handler = 1;
+    handler(set, (void *)(uintptr_t)address, vector, NULL);
+    t->in_handler = 0;
+    kl_user_ends(before);
+}
+
+/* Tells of the thresholds that were passed at one occurrence: set after set, its profiles first. A handler may end the library. */
 void kl_tell(thread_state *t, const kistalub_passing *passings, uint64_t told) {
-    for (uint64_t i = 0; i < told;) {
+    for (uint64_t i = 0; i < told && !t->left;) {
         uint32_t set = passings[i].set;
         unsigned long long address = passings[i].address;
         long long vector = 0;
         for (; i < told && passings[i].set == set; i++) {
-            vector |= 1LL << (passings[i].index & 63);
-            if (set < MOST_SETS && passings[i].index < MOST_EVENTS) kl_hit(&t->profiles[set][passings[i].index], address);
+            uint32_t place = passings[i].index;
+            if (set >= MOST_SETS || place >= MOST_EVENTS) continue;
+            kl_watch *w = &t->sets[set].watches[place];
+            if (w->handled) vector |= 1LL << place;
+            if (w->profiled) kl_hit(t, w, address);
         }
-        if (set < MOST_SETS && t->handlers[set]) t->handlers[set]((int)set, (void *)(uintptr_t)address, vector, NULL);
+        if (vector) call_handler(t, (int)set, address, vector);
     }
 }
 
+/* The watch of an event of a set that is stopped. PAPI_ENOEVST, PAPI_EISRUN, PAPI_ENOEVNT. */
+int kl_find_watch(thread_state *t, int set, int event, uint32_t *own, kl_watch **found) {
+    kl_events events;
+    int code = kl_is_stopped(t, set);
+    if (code == PAPI_OK) code = kl_code_in_library(t, event, own);
+    if (code == PAPI_OK) code = kl_events_in(t, set, &events);
+    if (code != PAPI_OK) return code;
+    int place = kl_index_in(&events, *own);
+    if (place < 0 || place >= MOST_EVENTS || set >= MOST_SETS) return PAPI_ENOEVNT;
+    *found = &t->sets[set].watches[place];
+    return PAPI_OK;
+}
+
+/* Sets the threshold of an event, or clears it with what watches it. */
+int kl_set_threshold(thread_state *t, int set, uint32_t own, int threshold, kl_watch *w) {
+    int code = kistalub_overflow(&t->library, kl_set_number(set), own, (uint64_t)threshold);
+    if (code == PAPI_OK && threshold == 0) {
+        memset(w, 0, sizeof *w);
+        if (!kl_has_watch(t, set)) t->sets[set].handler = NULL;
+    }
+    return code;
+}
+
+static int set_handler(thread_state *t, int set, int event, int threshold, PAPI_overflow_handler_t handler) {
+    uint32_t own = 0;
+    kl_watch *w = NULL;
+    int code = kl_find_watch(t, set, event, &own, &w);
+    if (code != PAPI_OK) return code;
+    if (threshold < 0 || (threshold > 0 && !handler) || (threshold == 0 && !w->handled)) return PAPI_EINVAL;
+    code = kl_set_threshold(t, set, own, threshold, w);
+    if (code != PAPI_OK || threshold == 0) return code;
+    w->handled = 1;
+    t->sets[set].handler = handler;
+    return PAPI_OK;
+}
+
+/* A set has one handler, which is called for each of its events that has a threshold. The flags say nothing here. */
 int PAPI_overflow(int set, int event, int threshold, int flags, PAPI_overflow_handler_t handler) {
     CALL(PAPI_overflow);
     (void)flags;
     HERE(t);
-    if (threshold < 0 || (threshold > 0 && !handler)) return PAPI_EINVAL;
-    int code = kistalub_overflow(&t->library, kl_set_number(set), (uint32_t)event, (uint64_t)threshold);
-    if (code == PAPI_OK && threshold > 0 && set >= 0 && set < MOST_SETS) t->handlers[set] = handler;
-    return code;
+    RETURN(set_handler(t, set, event, threshold, handler));
+}
+
+/* A bit of the vector is the place of an event in its set. */
+int PAPI_get_overflow_event_index(int set, long long overflow_vector, int *array, int *number) {
+    CALL(PAPI_get_overflow_event_index);
+    HERE(t);
+    kl_events events;
+    if (overflow_vector == 0 || !array || !number || *number < 1) RETURN(PAPI_EINVAL);
+    int code = kl_events_in(t, set, &events);
+    if (code == PAPI_OK && events.count == 0) code = PAPI_EINVAL;
+    if (code != PAPI_OK) RETURN(code);
+    int count = 0;
+    for (int place = 0; place < (int)events.count && count < *number; place++)
+        if ((unsigned long long)overflow_vector >> place & 1) array[count++] = place;
+    *number = count;
+    return PAPI_OK;
 }

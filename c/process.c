@@ -2,51 +2,132 @@
 #include "internal.h"
 
 #include <stdlib.h>
+#include <unistd.h>
 
 pthread_mutex_t kl_lock = PTHREAD_MUTEX_INITIALIZER;
-pthread_key_t kl_key;
-int kl_has_key;
-int kl_initialized;
-uint32_t kl_step, kl_slice = 100;
+atomic_uint kl_generation;
 
-int PAPI_library_init(int version) {
-    CALL(PAPI_library_init);
-    if (version != PAPI_VER_CURRENT) return PAPI_EINVAL;
-    if (kl_initialized) return PAPI_VER_CURRENT;
-    if (!kl_stream_path) {
-        const char *path = getenv("KISTALUB_UNIT");
-        if (!path) return PAPI_ESYS;
-        int code = kistalub_init(path, getenv("KISTALUB_PRESETS"), getenv("KISTALUB_CPU"), getenv("KISTALUB_STREAM"));
-        if (code != PAPI_OK) return code;
-    }
-    if (getenv("KISTALUB_STEP")) kl_step = (uint32_t)strtoul(getenv("KISTALUB_STEP"), NULL, 10);
-    if (getenv("KISTALUB_SLICE")) kl_slice = (uint32_t)strtoul(getenv("KISTALUB_SLICE"), NULL, 10);
+/* Held while the library begins, also while files are read; taken before kl_lock. */
+static pthread_mutex_t beginning = PTHREAD_MUTEX_INITIALIZER;
+/* Under kl_lock: what kistalub_init gave or the library was begun with, the number of the last library, and the process that began it. */
+static kl_files *files;
+static unsigned generations;
+static pid_t process;
+
+static void release(kl_files *held) {
     pthread_mutex_lock(&kl_lock);
-    if (!kl_has_key && pthread_key_create(&kl_key, kl_thread_ends) == 0) kl_has_key = 1;
-    kl_initialized = kl_has_key;
-    kl_threads = 0;
+    int last = held && --held->holders == 0;
     pthread_mutex_unlock(&kl_lock);
-    if (!kl_initialized) return PAPI_ENOMEM;
+    if (last) kl_free_files(held);
+}
+
+/* The files that the library was begun with, or NULL. The caller gives them back by kl_release. */
+kl_files *kl_hold_files(void) {
+    pthread_mutex_lock(&kl_lock);
+    kl_files *held = files;
+    if (held) held->holders++;
+    pthread_mutex_unlock(&kl_lock);
+    return held;
+}
+
+void kl_release_files(kl_files *held) { release(held); }
+
+/* Puts files in place of those that there are. PAPI_EINVAL if a library is begun. */
+int kl_takes_files(kl_files *made) {
+    pthread_mutex_lock(&kl_lock);
+    int begun = atomic_load(&kl_generation) != 0;
+    kl_files *old = begun ? made : files;
+    if (!begun) files = made;
+    pthread_mutex_unlock(&kl_lock);
+    release(old);
+    return begun ? PAPI_EINVAL : PAPI_OK;
+}
+
+static int files_of_environment(void) {
+    kl_files *held = kl_hold_files(), *made = NULL;
+    if (held) {
+        release(held);
+        return PAPI_OK;
+    }
+    const char *unit = getenv("KISTALUB_UNIT");
+    if (!unit) return PAPI_ESYS;
+    int code = kl_read_files(unit, getenv("KISTALUB_PRESETS"), getenv("KISTALUB_CPU"), getenv("KISTALUB_STREAM"), &made);
+    return code == PAPI_OK ? kl_takes_files(made) : code;
+}
+
+/* A new library, of which the calling thread is number 0. */
+static int begin_library(void) {
+    static const uint32_t first = 0;
     int code;
-    if (kl_here(&code)) return PAPI_VER_CURRENT;
-    PAPI_shutdown();
+    pthread_mutex_lock(&kl_lock);
+    if (++generations == 0) generations = 1;
+    process = getpid();
+    atomic_store(&kl_generation, generations);
+    pthread_mutex_unlock(&kl_lock);
+    code = kl_enters(&first);
+    if (code == PAPI_OK) kl_here(&code);
     return code;
 }
 
-int PAPI_is_initialized(void) {
-    CALL(PAPI_is_initialized);
-    return !kl_initialized ? PAPI_NOT_INITED : kl_thread_id ? PAPI_THREAD_LEVEL_INITED : PAPI_LOW_LEVEL_INITED;
+static void end_library(void) {
+    kl_leaves();
+    pthread_mutex_lock(&kl_lock);
+    kl_files *held = files;
+    files = NULL;
+    atomic_store(&kl_generation, 0);
+    kl_forget_threads();
+    pthread_mutex_unlock(&kl_lock);
+    kl_forget_ids();
+    kl_forget_codes();
+    kl_components_end();
+    release(held);
+}
+
+/* Whether the library was begun in the process that this one was forked from. */
+static int is_forked(void) {
+    pthread_mutex_lock(&kl_lock);
+    int forked = process != getpid();
+    pthread_mutex_unlock(&kl_lock);
+    return forked;
+}
+
+static int begin(void) {
+    if (atomic_load(&kl_generation)) {
+        if (!is_forked()) return PAPI_OK;
+        end_library();
+    }
+    int code = kl_prepare();
+    if (code == PAPI_OK) code = kl_options_begin();
+    if (code == PAPI_OK) code = kl_time_begins();
+    if (code == PAPI_OK) code = files_of_environment();
+    if (code == PAPI_OK) code = begin_library();
+    if (code != PAPI_OK) end_library();
+    return code;
+}
+
+/* Each version whose major number is the library's is taken, and is what is answered. */
+int PAPI_library_init(int version) {
+    CALL(PAPI_library_init);
+    if (version < 0 || PAPI_VERSION_MAJOR(version) != PAPI_VERSION_MAJOR(PAPI_VERSION)) RETURN(PAPI_EINVAL);
+    pthread_mutex_lock(&beginning);
+    int code = begin();
+    pthread_mutex_unlock(&beginning);
+    if (code != PAPI_OK) RETURN(code);
+    return version;
 }
 
 void PAPI_shutdown(void) {
     CALL(PAPI_shutdown);
-    if (!kl_initialized) return;
-    thread_state *t = pthread_getspecific(kl_key);
-    if (t) { pthread_setspecific(kl_key, NULL); kl_thread_ends(t); }
+    if (atomic_load(&kl_generation)) end_library();
+}
+
+/* Around fork no other thread holds a lock, so that the child finds what the locks guard whole. Of the threads it has the calling one. */
+void kl_before_fork(void) {
+    pthread_mutex_lock(&beginning);
     pthread_mutex_lock(&kl_lock);
-    kl_initialized = 0;
-    kl_registered_count = 0;
-    kl_thread_id = NULL;
-    kl_drop_files();
+}
+
+void kl_after_fork(void) {
     pthread_mutex_unlock(&kl_lock);
+    pthread_mutex_unlock(&beginning);
 }

@@ -1,58 +1,153 @@
-/* Threads: their ids and the list of those that are registered. */
+/* Threads: their ids, the list of them, what they keep for the program, and the program's locks. */
 #include "internal.h"
 
-unsigned long (*kl_thread_id)(void);
-PAPI_thread_id_t kl_registered[MOST_THREADS];
-int kl_registered_count;
+#include <unistd.h>
 
+static unsigned long (*_Atomic id_function)(void);
+static atomic_int is_threaded;
+
+/* The id of the calling thread. The program's function may make calls itself. */
+static PAPI_thread_id_t id_here(void) {
+    unsigned long (*function)(void) = atomic_load(&id_function);
+    if (!function) return (PAPI_thread_id_t)getpid();
+    kl_outside before = kl_user_begins();
+    PAPI_thread_id_t id = function();
+    kl_user_ends(before);
+    return id;
+}
+
+/* Takes the id of the calling thread. */
+void kl_name_thread(thread_state *t) {
+    t->has_id = 1;
+    PAPI_thread_id_t id = id_here();
+    pthread_mutex_lock(&kl_lock);
+    t->id = id;
+    pthread_mutex_unlock(&kl_lock);
+}
+
+void kl_forget_ids(void) {
+    atomic_store(&id_function, NULL);
+    atomic_store(&is_threaded, 0);
+}
+
+int PAPI_is_initialized(void) {
+    CALL(PAPI_is_initialized);
+    if (!atomic_load(&kl_generation)) return PAPI_NOT_INITED;
+    return atomic_load(&is_threaded) ? PAPI_LOW_LEVEL_INITED | PAPI_THREAD_LEVEL_INITED : PAPI_LOW_LEVEL_INITED;
+}
+
+/* How many threads there are, and the ids of those that have room. */
+static int list_ids(PAPI_thread_id_t *ids, void **kept, int tag, int room) {
+    int count = 0;
+    pthread_mutex_lock(&kl_lock);
+    for (const thread_state *t = kl_first; t && !((ids || kept) && count == room); t = t->next) {
+        if (!t->registered) continue;
+        if (ids) ids[count] = t->id;
+        if (kept) kept[count] = t->kept[tag];
+        count++;
+    }
+    pthread_mutex_unlock(&kl_lock);
+    return count;
+}
+
+/* The function is taken once, while there is one thread. Without one the id is that of the process. */
 int PAPI_thread_init(unsigned long (*id_fn)(void)) {
     CALL(PAPI_thread_init);
-    if (!kl_initialized) return PAPI_ENOINIT;
-    if (!id_fn) return PAPI_EINVAL;
-    kl_thread_id = id_fn;
+    HERE(t);
+    if (atomic_exchange(&is_threaded, 1)) return PAPI_OK;
+    if (list_ids(NULL, NULL, 0, 0) > 1) RETURN(PAPI_EINVAL);
+    atomic_store(&id_function, id_fn);
+    kl_name_thread(t);
     return PAPI_OK;
 }
 
 unsigned long PAPI_thread_id(void) {
     CALL(PAPI_thread_id);
-    return !kl_initialized ? (unsigned long)PAPI_ENOINIT : kl_thread_id ? kl_thread_id() : (unsigned long)PAPI_EMISC;
+    return atomic_load(&id_function) ? id_here() : (unsigned long)PAPI_EMISC;
 }
-
-static PAPI_thread_id_t own_id(const thread_state *t) { return kl_thread_id ? kl_thread_id() : t->number; }
 
 int PAPI_register_thread(void) {
     CALL(PAPI_register_thread);
     HERE(t);
-    int code = kistalub_register(&t->library), known = 0;
-    if (code != PAPI_OK) return code;
+    int code = kistalub_register(&t->library);
+    if (code != PAPI_OK) RETURN(code);
     pthread_mutex_lock(&kl_lock);
-    for (int i = 0; i < kl_registered_count; i++) known |= kl_registered[i] == own_id(t);
-    if (!known && kl_registered_count < MOST_THREADS) kl_registered[kl_registered_count++] = own_id(t);
+    t->registered = 1;
     pthread_mutex_unlock(&kl_lock);
+    kl_name_thread(t);
     return PAPI_OK;
 }
 
+/* PAPI_EMISC if the thread is not registered. Its event sets and its stream stay. */
 int PAPI_unregister_thread(void) {
     CALL(PAPI_unregister_thread);
-    HERE(t);
-    int code = kistalub_unregister(&t->library);
-    if (code != PAPI_OK) return code;
+    thread_state *t = kl_known();
+    if (!atomic_load(&kl_generation)) RETURN(PAPI_ENOINIT);
+    int code = t ? kistalub_unregister(&t->library) : PAPI_EMISC;
+    if (code != PAPI_OK) RETURN(code == PAPI_EINVAL || code == PAPI_ENOINIT ? PAPI_EMISC : code);
     pthread_mutex_lock(&kl_lock);
-    int left = 0;
-    for (int i = 0; i < kl_registered_count; i++)
-        if (kl_registered[i] != own_id(t)) kl_registered[left++] = kl_registered[i];
-    kl_registered_count = left;
+    t->registered = 0;
     pthread_mutex_unlock(&kl_lock);
     return PAPI_OK;
 }
 
 int PAPI_list_threads(PAPI_thread_id_t *tids, int *number) {
     CALL(PAPI_list_threads);
-    if (!kl_initialized) return PAPI_ENOINIT;
-    if (!number || *number < 0 || (*number > 0 && !tids)) return PAPI_EINVAL;
+    if (!atomic_load(&kl_generation)) RETURN(PAPI_ENOINIT);
+    if (!number || (tids && *number <= 0)) RETURN(PAPI_EINVAL);
+    *number = list_ids(tids, NULL, 0, *number);
+    return PAPI_OK;
+}
+
+/* With PAPI_TLS_ALL_THREADS it is a PAPI_all_thr_spec_t that is filled. */
+int PAPI_get_thr_specific(int tag, void **ptr) {
+    CALL(PAPI_get_thr_specific);
+    HERE(t);
+    int all = tag >= 0 && tag & PAPI_TLS_ALL_THREADS;
+    if (all) tag ^= PAPI_TLS_ALL_THREADS;
+    if (!ptr || tag < 0 || tag >= PAPI_NUM_TLS) RETURN(PAPI_EINVAL);
+    if (!all) {
+        *ptr = t->kept[tag];
+        return PAPI_OK;
+    }
+    PAPI_all_thr_spec_t *into = (void *)ptr;
+    if ((into->id || into->data) && into->num <= 0) RETURN(PAPI_EINVAL);
+    into->num = list_ids(into->id, into->data, tag, into->num);
+    return PAPI_OK;
+}
+
+int PAPI_set_thr_specific(int tag, void *ptr) {
+    CALL(PAPI_set_thr_specific);
+    HERE(t);
+    if (tag < 0 || tag >= PAPI_NUM_TLS) RETURN(PAPI_EINVAL);
     pthread_mutex_lock(&kl_lock);
-    for (int i = 0; i < kl_registered_count && i < *number; i++) tids[i] = kl_registered[i];
-    *number = kl_registered_count;
+    t->kept[tag] = ptr;
     pthread_mutex_unlock(&kl_lock);
+    return PAPI_OK;
+}
+
+/* The program's locks. Any thread may unlock one, as in PAPI. */
+static struct { pthread_mutex_t guard; pthread_cond_t freed; int held; } locks[PAPI_NUM_LOCK] = {
+    { PTHREAD_MUTEX_INITIALIZER, PTHREAD_COND_INITIALIZER, 0 },
+    { PTHREAD_MUTEX_INITIALIZER, PTHREAD_COND_INITIALIZER, 0 },
+};
+
+int PAPI_lock(int lock) {
+    CALL(PAPI_lock);
+    if (lock < 0 || lock >= PAPI_NUM_LOCK) RETURN(PAPI_EINVAL);
+    pthread_mutex_lock(&locks[lock].guard);
+    while (locks[lock].held) pthread_cond_wait(&locks[lock].freed, &locks[lock].guard);
+    locks[lock].held = 1;
+    pthread_mutex_unlock(&locks[lock].guard);
+    return PAPI_OK;
+}
+
+int PAPI_unlock(int lock) {
+    CALL(PAPI_unlock);
+    if (lock < 0 || lock >= PAPI_NUM_LOCK) RETURN(PAPI_EINVAL);
+    pthread_mutex_lock(&locks[lock].guard);
+    locks[lock].held = 0;
+    pthread_cond_signal(&locks[lock].freed);
+    pthread_mutex_unlock(&locks[lock].guard);
     return PAPI_OK;
 }

@@ -1,7 +1,6 @@
 /* Time: the model's, in which each occurrence of the thread's stream takes a cycle, so that it repeats; with KISTALUB_CLOCK=real the machine's. */
 #include "internal.h"
 
-#include <errno.h>
 #include <stdio.h>
 #include <stdlib.h>
 #include <string.h>
@@ -10,31 +9,23 @@
 #define USUAL_MHZ 1000
 #define MOST_MHZ 1000000
 
-static uint32_t mhz = USUAL_MHZ;
-static int is_real;
+static atomic_uint mhz = USUAL_MHZ;
+static atomic_int is_real;
 
-uint32_t kl_mhz(void) { return mhz; }
+uint32_t kl_mhz(void) { return atomic_load(&mhz); }
 
-/* Takes KISTALUB_MHZ and KISTALUB_CLOCK: PAPI_EINVAL, and a line on standard error, where they are neither a rate nor a clock. */
+/* Takes KISTALUB_MHZ and KISTALUB_CLOCK: PAPI_ESYS, and a line on standard error, if they are neither a rate nor a clock. */
 int kl_time_begins(void) {
-    const char *rate = getenv("KISTALUB_MHZ"), *clock = getenv("KISTALUB_CLOCK");
-    unsigned long given = USUAL_MHZ;
-    if (rate) {
-        char *end;
-        errno = 0;
-        given = *rate >= '0' && *rate <= '9' ? strtoul(rate, &end, 10) : 0;
-        if (given < 1 || given > MOST_MHZ || errno || *end) {
-            fprintf(stderr, "kistalub: KISTALUB_MHZ: not a number from 1 to %d: %s\n", MOST_MHZ, rate);
-            return PAPI_EINVAL;
-        }
+    const char *clock = getenv("KISTALUB_CLOCK");
+    uint32_t rate = USUAL_MHZ;
+    int code = kl_number_named("KISTALUB_MHZ", 1, MOST_MHZ, &rate);
+    if (code == PAPI_OK && clock && strcmp(clock, "real") && strcmp(clock, "model")) {
+        fprintf(stderr, "papi: KISTALUB_CLOCK: neither real nor model: %s\n", clock);
+        code = PAPI_ESYS;
     }
-    if (clock && strcmp(clock, "real") && strcmp(clock, "model")) {
-        fprintf(stderr, "kistalub: KISTALUB_CLOCK: neither real nor model: %s\n", clock);
-        return PAPI_EINVAL;
-    }
-    mhz = (uint32_t)given;
-    is_real = clock && !strcmp(clock, "real");
-    return PAPI_OK;
+    atomic_store(&mhz, rate);
+    atomic_store(&is_real, clock && !strcmp(clock, "real"));
+    return code;
 }
 
 /* Cycles in nanoseconds, at the rate of the clock: whole seconds first, so that nothing overflows. */

@@ -119,12 +119,19 @@ int kistalub_run(kistalub *h, uint32_t n, uint32_t *consumed, kistalub_passing *
 
 /* What PAPI_library_init takes, in place of the environment: the paths of a unit file, of a preset file or NULL, the cpu or NULL,
  * and of the streams, where %t stands for the number of the thread from 0. Without it they come from KISTALUB_UNIT,
- * KISTALUB_PRESETS, KISTALUB_CPU and KISTALUB_STREAM. A thread whose stream there is not has an empty one. Before PAPI_library_init. */
+ * KISTALUB_PRESETS, KISTALUB_CPU and KISTALUB_STREAM. Before PAPI_library_init, else PAPI_EINVAL. PAPI_ESYS if a file is faulty or can't be
+ * read, and a line on standard error says why. A stream that is named with %t and that there is not is empty. */
 int kistalub_init(const char *unit, const char *presets, const char *cpu, const char *stream);
+
+/* The calling thread is the one of this number, and has its stream. Each thread calls it before any other call, if it is to be certain which
+ * thread has which stream; else a thread has the next number at its first call. The thread of PAPI_library_init is number 0. PAPI_EINVAL if
+ * the thread has another number already, or if another thread that lives has this one. */
+int kistalub_thread(uint32_t number);
 
 /* The calling thread goes on: up to n occurrences happen, `went` says how many, and the handlers of PAPI_overflow are called at
  * each occurrence that passes a threshold, before the next one. Each PAPI_read, PAPI_accum and PAPI_stop first goes on by
- * KISTALUB_STEP of the environment, 0 if there is none. */
+ * KISTALUB_STEP of the environment, 0 if there is none. PAPI_ESYS if the stream is faulty: a line on standard error then says where and why,
+ * and the stream has ended. In a handler time stands: PAPI_EISRUN. */
 int kistalub_go(uint32_t n, uint32_t *went);
 
 #ifdef __cplusplus

@@ -78,8 +78,8 @@ int main(void) {
     WANT(counts[1], -5);
     WANT(PAPI_set_opt(PAPI_DOMAIN, &option), PAPI_OK);
     option.domain.domain = 4;
-    WANT(PAPI_set_opt(PAPI_DOMAIN, &option), PAPI_EINVAL);
-    WANT(PAPI_set_domain(8), PAPI_EINVAL);
+    WANT(PAPI_set_opt(PAPI_DOMAIN, &option), PAPI_EINVAL_DOM);
+    WANT(PAPI_set_domain(8), PAPI_ENOSUPP);
     WANT(PAPI_destroy_eventset(&set), PAPI_EINVAL);
     WANT(PAPI_cleanup_eventset(set), PAPI_OK);
     WANT(PAPI_destroy_eventset(&set), PAPI_OK);
@@ -90,8 +90,9 @@ int main(void) {
     WANT(PAPI_write(other, counts), PAPI_ENOSUPP);
     WANT(PAPI_num_components(), 2);
     WANT(PAPI_num_cmp_hwctrs(9), PAPI_ENOCMP);
-    WANT(PAPI_unregister_thread(), PAPI_EINVAL);
-    WANT(strcmp(PAPI_strerror(PAPI_ENOEVST), "No such EventSet Available"), 0);
+    WANT(PAPI_unregister_thread(), PAPI_OK);
+    WANT(PAPI_unregister_thread(), PAPI_EMISC);
+    WANT(strcmp(PAPI_strerror(PAPI_ENOEVST), "No such EventSet available"), 0);
     PAPI_shutdown();
     WANT(PAPI_start(0), PAPI_ENOINIT);
     puts("each as wanted");
