@@ -11,7 +11,7 @@ import sys
 from answers import answer_hints
 from errors import error_hints
 from forms import Form, near_tools
-from texts import shown
+from texts import plain, shown
 from words import Words, word_faults
 
 ANSWERED = (0, 1)  # the statuses of a whole answer
@@ -34,7 +34,7 @@ def main() -> None:
     name, status, tool, *words = sys.argv[1:]
     said = sys.stdin.buffer.read().decode("utf-8", "surrogateescape").splitlines()
     for line in hints(name, int(status), tool, words, said):
-        print(f"hint: {line}".encode("ascii", "backslashreplace").decode("ascii"))
+        sys.stdout.buffer.write(f"hint: {plain(line)}\n".encode())
 
 
 main()

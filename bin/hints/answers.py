@@ -2,13 +2,14 @@
 
 from __future__ import annotations
 
-from typing import Callable, List, Optional
+from itertools import islice
+from typing import Callable, Iterable, List, Optional
 
 from files import Unread, read_lines
 from presets import SYMBOLS, Presets, cpu_fault, name_fault, read_presets, why_unavailable
 from scripts import Call, calls_of
 from texts import near, shown
-from units import Event, fault_of, read_unit
+from units import Unit, fault_of, read_unit
 from words import Words
 
 MOST_NAMES = 3  # of a script that are told
@@ -25,7 +26,7 @@ def answer_hints(tool: str, read: Words) -> list[str]:
         return []
 
 
-def _of_avail(read: Words, unit: list[Event], presets: Presets | None) -> list[str]:
+def _of_avail(read: Words, unit: Unit, presets: Presets | None) -> list[str]:
     assert presets is not None
     name = read.options.get("-e")
     if name is None:
@@ -38,25 +39,25 @@ def _of_avail(read: Words, unit: list[Event], presets: Presets | None) -> list[s
     return [f"neither a preset nor a user event has the name {shown(name)}{near(name, (*SYMBOLS, *presets.user_events()))}"]
 
 
-def _of_native_avail(read: Words, unit: list[Event], presets: Presets | None) -> list[str]:
+def _of_native_avail(read: Words, unit: Unit, presets: Presets | None) -> list[str]:
     name = read.options.get("-e")
     if name is not None:
         return [fault_of(unit, name)]
     part, without = read.options.get("-i", ""), read.options.get("-x")
-    names = [event.full_name() for event in unit]
+    names = [event.full_name() for event in unit.events]
     kept = [full for full in names if part in full]
     if not kept:
-        return [f"no name of an event contains {shown(part)}, with regard to case{near(part, (event.name for event in unit))}"]
+        return [f"no name of an event contains {shown(part)}, with regard to case{near(part, (event.name for event in unit.events))}"]
     if without is not None and all(without in full for full in kept):
         return [f"each name that -i leaves contains {shown(without)}, so -x leaves none"]
     return []
 
 
-def _of_encode(read: Words, unit: list[Event], presets: Presets | None) -> list[str]:
-    return _first([fault_of(unit, name) for name in read.others])
+def _of_encode(read: Words, unit: Unit, presets: Presets | None) -> list[str]:
+    return _first(fault_of(unit, name) for name in read.others)
 
 
-def _of_chooser(read: Words, unit: list[Event], presets: Presets | None) -> list[str]:
+def _of_chooser(read: Words, unit: Unit, presets: Presets | None) -> list[str]:
     kind, *names = read.others
     faults = [name_fault(presets, unit, name) for name in names]
     if kind == "PRESET" and presets is None:
@@ -64,20 +65,20 @@ def _of_chooser(read: Words, unit: list[Event], presets: Presets | None) -> list
     return _first(faults)
 
 
-def _of_regions(read: Words, unit: list[Event], presets: Presets | None) -> list[str]:
-    return _first([name_fault(presets, unit, name) for name in read.options["--events"].split(",")])
+def _of_regions(read: Words, unit: Unit, presets: Presets | None) -> list[str]:
+    return _first(name_fault(presets, unit, name) for name in read.options["--events"].split(","))
 
 
-def _of_run(read: Words, unit: list[Event], presets: Presets | None) -> list[str]:
+def _of_run(read: Words, unit: Unit, presets: Presets | None) -> list[str]:
     lines: dict[str, int] = {}
     for call in calls_of(read_lines(read.others[0])):
         if call.name == "add":
             lines.setdefault(call.arguments[1], call.line)
     faults = ((line, name_fault(presets, unit, name)) for name, line in lines.items())
-    return _first([f"line {line}: {fault}" for line, fault in faults if fault])
+    return _first(f"line {line}: {fault}" for line, fault in faults if fault)
 
 
-def _of_profil(read: Words, unit: list[Event], presets: Presets | None) -> list[str]:
+def _of_profil(read: Words, unit: Unit, presets: Presets | None) -> list[str]:
     return [_why_no_total(read), *_of_run(read, unit, presets)]
 
 
@@ -107,13 +108,13 @@ def _counted(number: int, word: str) -> str:
     return f"{number} {word}{'' if number == 1 else 's'}"
 
 
-def _first(faults: list[str]) -> list[str]:
-    """The first few of the faults, each once."""
-    told = list(dict.fromkeys(fault for fault in faults if fault))
+def _first(faults: Iterable[str]) -> list[str]:
+    """The first few of the faults. No more of them are looked for."""
+    told = list(islice((fault for fault in faults if fault), MOST_NAMES + 1))
     return told[:MOST_NAMES] + ["and more names have faults"] * (len(told) > MOST_NAMES)
 
 
-Hinter = Callable[[Words, List[Event], Optional[Presets]], List[str]]
+Hinter = Callable[[Words, Unit, Optional[Presets]], List[str]]
 HINTS_OF: dict[str, Hinter] = {
     "papi_run": _of_run,
     "papi_profil": _of_profil,

@@ -6,7 +6,7 @@ from dataclasses import dataclass, field
 
 from files import read_table
 from texts import near, shown
-from units import Event, event_of, fault_of
+from units import Unit, fault_of
 
 SYMBOLS = (
     "PAPI_L1_DCM", "PAPI_L1_ICM", "PAPI_L2_DCM", "PAPI_L2_ICM", "PAPI_L1_TCM", "PAPI_L2_TCM", "PAPI_L3_TCM", "PAPI_TLB_DM", "PAPI_TLB_IM",
@@ -78,7 +78,7 @@ def cpu_fault(presets: Presets) -> str:
     return f"the preset file has no processor {shown(presets.cpu)}{near(presets.cpu, presets.cpus)}"
 
 
-def why_unavailable(presets: Presets, unit: list[Event], name: str) -> str:
+def why_unavailable(presets: Presets, unit: Unit, name: str) -> str:
     """Why a preset or user event of the file is not available, or nothing where it is."""
     entry = presets.entries.get(name)
     if entry is None:
@@ -94,11 +94,11 @@ def why_unavailable(presets: Presets, unit: list[Event], name: str) -> str:
     for native in entry.natives:
         if fault := fault_of(unit, native):
             return f"{name} is not available: {fault}"
-    components = {event.component for native in entry.natives if (event := event_of(unit, native))}
+    components = {event.component for native in entry.natives if (event := unit.find(native))}
     return f"{name} has native events of several components: {', '.join(sorted(components))}" if len(components) > 1 else ""
 
 
-def name_fault(presets: Presets | None, unit: list[Event], name: str) -> str:
+def name_fault(presets: Presets | None, unit: Unit, name: str) -> str:
     """Why a text of a script or a word names no event that can be counted, or nothing where it names one."""
     if presets is not None and name in presets.entries:
         return why_unavailable(presets, unit, name)

@@ -17,9 +17,13 @@ def shown(text: str) -> str:
 
 
 def cut(text: str) -> str:
-    """A text on one line, or its beginning where it is long."""
-    plain = "".join(letter if letter.isprintable() else repr(letter)[1:-1] for letter in text)
-    return plain if len(plain) <= LONGEST else plain[:LONGEST] + ".."
+    """A text, or its beginning where it is long."""
+    return text if len(text) <= LONGEST else text[:LONGEST] + ".."
+
+
+def plain(text: str) -> str:
+    """A text on one line, with other characters than printable ones as in a program of C or Python."""
+    return "".join(letter if letter.isprintable() else repr(letter)[1:-1] for letter in text)
 
 
 def near(text: str, names: Iterable[str]) -> str:

@@ -31,8 +31,26 @@ class Event:
         return f"{self.pmu}::{self.name}"
 
 
-def read_unit(name: str) -> list[Event]:
-    """The events of a unit file that the program took."""
+class Unit:
+    """The events of a unit in their order, found by their names without regard to case."""
+
+    def __init__(self, events: list[Event]):
+        self.events = events
+        self._by_name: dict[str, list[Event]] = {}
+        for event in events:
+            self._by_name.setdefault(event.name.upper(), []).append(event)
+
+    def find(self, text: str) -> Event | None:
+        """The first event that a text's name agrees with, whatever its attributes are."""
+        component, pmu, name, _ = parts_of(text)
+        for event in self._by_name.get(name.upper(), []):
+            if (component is None or _same(event.component, component)) and (pmu is None or _same(event.pmu, pmu)):
+                return event
+        return None
+
+
+def read_unit(name: str) -> Unit:
+    """The unit of a file that the program took."""
     events: list[Event] = []
     component = pmu = ""
     for row in read_table(name):
@@ -43,16 +61,7 @@ def read_unit(name: str) -> list[Event]:
             events.append(Event(component, pmu, fields[0]))
         elif kind == "UMASK":
             events[-1].umasks.append(Umask(fields[0], "d" in fields[2], "n" in fields[2]))
-    return events
-
-
-def event_of(unit: list[Event], text: str) -> Event | None:
-    """The first event that a text's name agrees with, whatever its attributes are."""
-    component, pmu, name, _ = parts_of(text)
-    for event in unit:
-        if _same(event.name, name) and (component is None or _same(event.component, component)) and (pmu is None or _same(event.pmu, pmu)):
-            return event
-    return None
+    return Unit(events)
 
 
 def parts_of(text: str) -> tuple[str | None, str | None, str, list[str]]:
@@ -65,9 +74,9 @@ def parts_of(text: str) -> tuple[str | None, str | None, str, list[str]]:
     return component, pmu, name, attributes
 
 
-def fault_of(unit: list[Event], text: str) -> str:
+def fault_of(unit: Unit, text: str) -> str:
     """Why a text names no native event, or nothing where it names one."""
-    event = event_of(unit, text)
+    event = unit.find(text)
     if event is None:
         return _unknown(unit, text)
     chosen: list[Umask] = []
@@ -81,16 +90,13 @@ def fault_of(unit: list[Event], text: str) -> str:
     return ""
 
 
-def _unknown(unit: list[Event], text: str) -> str:
+def _unknown(unit: Unit, text: str) -> str:
     component, pmu, name, _ = parts_of(text)
-    if component is not None and not any(_same(event.component, component) for event in unit):
-        return f"the unit has no component {shown(component)}{near(component, (event.component for event in unit))}"
-    if pmu is not None and not any(_same(event.pmu, pmu) for event in unit):
-        return f"the unit has no pmu {shown(pmu)}{near(pmu, (event.pmu for event in unit))}"
-    if component is None and pmu is None:
-        names = {event.name: event.full_name() for event in unit}
-    else:
-        names = {event.name: event.full_name() for event in unit if pmu is None or _same(event.pmu, pmu)}
+    if component is not None and not any(_same(event.component, component) for event in unit.events):
+        return f"the unit has no component {shown(component)}{near(component, (event.component for event in unit.events))}"
+    if pmu is not None and not any(_same(event.pmu, pmu) for event in unit.events):
+        return f"the unit has no pmu {shown(pmu)}{near(pmu, (event.pmu for event in unit.events))}"
+    names = (event.name for event in unit.events if pmu is None or _same(event.pmu, pmu))
     return f"the unit has no event {shown(text)}{near(name, names)}"
 
 
