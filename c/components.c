@@ -106,17 +106,17 @@ int PAPI_get_component_index(const char *name) {
     CALL(PAPI_get_component_index);
     char own[PAPI_MAX_STR_LEN];
     HERE(t);
-    if (!name) return PAPI_EINVAL;
+    if (!name) RETURN(PAPI_EINVAL);
     for (int component = 0; kl_component_text(t, component, KISTALUB_COMPONENT_NAME, 0, own, sizeof own) == PAPI_OK; component++)
-        if (!strcmp(own, name)) return component;
-    return PAPI_ENOCMP;
+        if (!strcmp(own, name)) RETURN(component);
+    RETURN(PAPI_ENOCMP);
 }
 
 /* Before PAPI_library_init, which opens the unit: so only the number is looked at. */
 int PAPI_disable_component(int component) {
     CALL(PAPI_disable_component);
-    if (PAPI_is_initialized() != PAPI_NOT_INITED) return PAPI_ENOINIT;
-    if (component < 0 || component >= MOST_COMPONENTS) return PAPI_ENOCMP;
+    if (PAPI_is_initialized() != PAPI_NOT_INITED) RETURN(PAPI_ENOINIT);
+    if (component < 0 || component >= MOST_COMPONENTS) RETURN(PAPI_ENOCMP);
     pthread_mutex_lock(&component_lock);
     disabled |= 1u << component;
     pthread_mutex_unlock(&component_lock);
@@ -125,13 +125,13 @@ int PAPI_disable_component(int component) {
 
 int PAPI_disable_component_by_name(const char *name) {
     CALL(PAPI_disable_component_by_name);
-    if (PAPI_is_initialized() != PAPI_NOT_INITED) return PAPI_ENOINIT;
-    if (!name || strlen(name) >= PAPI_MAX_STR_LEN) return PAPI_ENOCMP;
+    if (PAPI_is_initialized() != PAPI_NOT_INITED) RETURN(PAPI_ENOINIT);
+    if (!name || strlen(name) >= PAPI_MAX_STR_LEN) RETURN(PAPI_ENOCMP);
     pthread_mutex_lock(&component_lock);
     int has_room = disabled_count < MOST_COMPONENTS;
     if (has_room) strcpy(disabled_names[disabled_count++], name);
     pthread_mutex_unlock(&component_lock);
-    return has_room ? PAPI_OK : PAPI_ENOCMP;
+    RETURN(has_room ? PAPI_OK : PAPI_ENOCMP);
 }
 
 /* The component of an event; a preset or user event that is not available belongs to the first, as all do in PAPI. */
@@ -142,11 +142,11 @@ int PAPI_get_event_component(int event) {
     HERE(t);
     if (!(event & PAPI_PRESET_MASK)) {
         int answer = kl_place_of(t, event, &at);
-        return answer == PAPI_OK ? (int)at.component : answer;
+        RETURN(answer == PAPI_OK ? (int)at.component : answer);
     }
     int answer = kl_code_in_library(t, event, &code);
     if (answer == PAPI_OK) answer = kistalub_component_of(&t->library, code, &component);
-    return answer == PAPI_OK || answer == PAPI_ENOEVNT ? (int)component : answer;
+    RETURN(answer == PAPI_OK || answer == PAPI_ENOEVNT ? (int)component : answer);
 }
 
 /* The component of a set's events, or the one that it was assigned. */
@@ -155,25 +155,25 @@ int PAPI_get_eventset_component(int set) {
     int events[1], number = 1;
     HERE(t);
     int code = PAPI_list_events(set, events, &number);
-    if (code != PAPI_OK) return code;
-    if (number > 0) return PAPI_get_event_component(events[0]);
-    return set < MOST_SETS && t->sets[set].component ? t->sets[set].component - 1 : PAPI_ENOCMP;
+    if (code != PAPI_OK) RETURN(code);
+    if (number > 0) RETURN(PAPI_get_event_component(events[0]));
+    RETURN(set < MOST_SETS && t->sets[set].component ? t->sets[set].component - 1 : PAPI_ENOCMP);
 }
 
 int PAPI_num_cmp_hwctrs(int component) {
     CALL(PAPI_num_cmp_hwctrs);
     HERE(t);
-    return kistalub_counters(&t->library, component < 0 ? UINT32_MAX : (uint32_t)component);
+    RETURN(kistalub_counters(&t->library, component < 0 ? UINT32_MAX : (uint32_t)component));
 }
 
 int PAPI_num_hwctrs(void) {
     CALL(PAPI_num_hwctrs);
-    return PAPI_num_cmp_hwctrs(0);
+    RETURN(PAPI_num_cmp_hwctrs(0));
 }
 
 int PAPI_num_components(void) {
     CALL(PAPI_num_components);
     int n = 0, code;
     while ((code = PAPI_num_cmp_hwctrs(n)) >= 0) n++;
-    return code == PAPI_ENOCMP ? n : code;
+    RETURN(code == PAPI_ENOCMP ? n : code);
 }

@@ -14,18 +14,12 @@ static void say_fault(const thread_state *t, const kistalub_fault *fault) {
     else fprintf(stderr, "papi: stream %u: line %llu: %.*s\n", (unsigned)t->number, (unsigned long long)fault->line, (int)length, (const char *)words);
 }
 
-static int is_watched(const thread_state *t) {
-    for (int set = 0; set < MOST_SETS; set++)
-        if (kl_has_watch(t, set) || kl_has_profile(t, set)) return 1;
-    return 0;
-}
-
 /* Up to n occurrences happen. Where an event has a watch it is one, since what watches it comes before the next. */
 static int some_happen(thread_state *t, uint32_t n, uint32_t *consumed) {
     kistalub_passing passings[MOST_EVENTS];
     kistalub_fault fault = { 0, 0 };
     uint64_t told = 0;
-    int code = kistalub_run(&t->library, is_watched(t) ? 1 : n, consumed, passings, MOST_EVENTS, &told, &fault);
+    int code = kistalub_run(&t->library, t->is_watched ? 1 : n, consumed, passings, MOST_EVENTS, &told, &fault);
     t->happened += *consumed;
     if (code == PAPI_ESYS) say_fault(t, &fault);
     kl_tell(t, passings, told);

@@ -9,12 +9,12 @@ static int processor = PAPI_DEV_TYPE_ID__CPU;
 
 int PAPI_enum_dev_type(int enum_modifier, void **handle) {
     CALL(PAPI_enum_dev_type);
-    if (!kl_is_open()) return PAPI_ENOINIT;
-    if (!handle) return PAPI_EINVAL;
+    if (!kl_is_open()) RETURN(PAPI_ENOINIT);
+    if (!handle) RETURN(PAPI_EINVAL);
     if (enum_modifier == PAPI_DEV_TYPE_ENUM__FIRST || given || !(enum_modifier & PAPI_DEV_TYPE_ENUM__CPU)) {
         given = 0;
         *handle = NULL;
-        return PAPI_EINVAL;
+        RETURN(PAPI_EINVAL);
     }
     given = 1;
     *handle = &processor;
@@ -24,8 +24,8 @@ int PAPI_enum_dev_type(int enum_modifier, void **handle) {
 int PAPI_get_dev_type_attr(void *handle, PAPI_dev_type_attr_e attr, void *value) {
     CALL(PAPI_get_dev_type_attr);
     const PAPI_hw_info_t *hardware = PAPI_get_hardware_info();
-    if (!hardware) return PAPI_ENOINIT;
-    if (handle != &processor || !value) return PAPI_EINVAL;
+    if (!hardware) RETURN(PAPI_ENOINIT);
+    if (handle != &processor || !value) RETURN(PAPI_EINVAL);
     switch (attr) {
     case PAPI_DEV_TYPE_ATTR__INT_PAPI_ID: *(int *)value = PAPI_DEV_TYPE_ID__CPU; return PAPI_OK;
     case PAPI_DEV_TYPE_ATTR__INT_VENDOR_ID: *(int *)value = hardware->vendor; return PAPI_OK;
@@ -33,14 +33,14 @@ int PAPI_get_dev_type_attr(void *handle, PAPI_dev_type_attr_e attr, void *value)
     case PAPI_DEV_TYPE_ATTR__INT_COUNT: *(int *)value = 1; return PAPI_OK;
     case PAPI_DEV_TYPE_ATTR__CHAR_STATUS: *(const char **)value = "Device Initialized"; return PAPI_OK;
     }
-    return PAPI_ENOSUPP;
+    RETURN(PAPI_ENOSUPP);
 }
 
 int PAPI_get_dev_attr(void *handle, int id, PAPI_dev_attr_e attr, void *value) {
     CALL(PAPI_get_dev_attr);
     const PAPI_hw_info_t *hardware = PAPI_get_hardware_info();
-    if (!hardware) return PAPI_ENOINIT;
-    if (handle != &processor || !value || id < 0 || id >= hardware->totalcpus) return PAPI_EINVAL;
+    if (!hardware) RETURN(PAPI_ENOINIT);
+    if (handle != &processor || !value || id < 0 || id >= hardware->totalcpus) RETURN(PAPI_EINVAL);
     switch (attr) {
     case PAPI_DEV_ATTR__CPU_CHAR_NAME: *(const char **)value = hardware->model_string; return PAPI_OK;
     case PAPI_DEV_ATTR__CPU_UINT_SOCKET_COUNT:
@@ -50,7 +50,7 @@ int PAPI_get_dev_attr(void *handle, int id, PAPI_dev_attr_e attr, void *value) {
     case PAPI_DEV_ATTR__CPU_UINT_THR_PER_NUMA: *(unsigned *)value = 1; return PAPI_OK;
     default: break;
     }
-    if (attr > PAPI_DEV_ATTR__CPU_UINT_THR_PER_NUMA) return PAPI_ENOSUPP;
+    if (attr > PAPI_DEV_ATTR__CPU_UINT_THR_PER_NUMA) RETURN(PAPI_ENOSUPP);
     *(unsigned *)value = 0; /* caches, family and memory: the model has none */
     return PAPI_OK;
 }

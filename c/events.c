@@ -8,7 +8,7 @@ int PAPI_event_name_to_code(const char *in, int *out) {
     CALL(PAPI_event_name_to_code);
     uint32_t event = 0;
     HERE(t);
-    if (!in || !out) return PAPI_EINVAL;
+    if (!in || !out) RETURN(PAPI_EINVAL);
     int code = kistalub_name_to_code(&t->library, (const unsigned char *)in, strlen(in), &event);
     RETURN(code == PAPI_OK ? kl_code_outward(t, event, out) : code);
 }
@@ -48,24 +48,24 @@ static int info_in(thread_state *t, uint32_t code, uint32_t part, uint32_t place
 int PAPI_event_code_to_name(int event, char *out) {
     CALL(PAPI_event_code_to_name);
     char name[NAME_ROOM];
-    if (!out) return PAPI_EINVAL;
+    if (!out) RETURN(PAPI_EINVAL);
     int code = kl_name_in(event, name);
-    if (code == PAPI_OK && strlen(name) >= PAPI_MAX_STR_LEN) return PAPI_EBUF;
+    if (code == PAPI_OK && strlen(name) >= PAPI_MAX_STR_LEN) RETURN(PAPI_EBUF);
     if (code == PAPI_OK) memcpy(out, name, strlen(name) + 1);
-    return code;
+    RETURN(code);
 }
 
 int PAPI_query_named_event(const char *name) {
     CALL(PAPI_query_named_event);
     int event;
-    return PAPI_event_name_to_code(name, &event);
+    RETURN(PAPI_event_name_to_code(name, &event));
 }
 
 int PAPI_query_event(int event) {
     CALL(PAPI_query_event);
     char name[NAME_ROOM];
     int code = kl_name_in(event, name);
-    return code == PAPI_OK && !kl_is_row(event) ? PAPI_query_named_event(name) : code;
+    RETURN(code == PAPI_OK && !kl_is_row(event) ? PAPI_query_named_event(name) : code);
 }
 
 /* What the unit's file says of a native event. Where it has one umask, the description of that stands behind the event's own. */
@@ -104,7 +104,7 @@ int PAPI_get_event_info(int event, PAPI_event_info_t *info) {
     uint32_t code = 0;
     native_place at;
     HERE(t);
-    if (!info) return PAPI_EINVAL;
+    if (!info) RETURN(PAPI_EINVAL);
     memset(info, 0, sizeof *info);
     info->event_code = (unsigned)event;
     int answer = kl_name_in(event, info->symbol);
@@ -116,5 +116,5 @@ int PAPI_get_event_info(int event, PAPI_event_info_t *info) {
         if (answer == PAPI_OK) answer = native_info(t, at, info);
     }
     snprintf(info->short_descr, sizeof info->short_descr, "%.*s", (int)sizeof info->short_descr - 1, info->long_descr);
-    return answer;
+    RETURN(answer);
 }

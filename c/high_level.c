@@ -251,13 +251,13 @@ static int begin_region(const char *name) {
 
 int PAPI_hl_region_begin(const char *name) {
     CALL(PAPI_hl_region_begin);
-    if (!name) return PAPI_EINVAL;
+    if (!name) RETURN(PAPI_EINVAL);
     int code = kl_rate_runs() ? PAPI_rate_stop() : PAPI_OK;
-    if (code != PAPI_OK) return code;
+    if (code != PAPI_OK) RETURN(code);
     pthread_mutex_lock(&region_lock);
     code = begin_region(name);
     pthread_mutex_unlock(&region_lock);
-    return code;
+    RETURN(code);
 }
 
 /* Reads for the innermost region, and ends it or not. */
@@ -290,12 +290,12 @@ static int read_locked(const char *name, int ends) {
 
 int PAPI_hl_read(const char *name) {
     CALL(PAPI_hl_read);
-    return read_locked(name, 0);
+    RETURN(read_locked(name, 0));
 }
 
 int PAPI_hl_region_end(const char *name) {
     CALL(PAPI_hl_region_end);
-    return read_locked(name, 1);
+    RETURN(read_locked(name, 1));
 }
 
 int kl_high_level_runs(void) { return own && own->runs; }
@@ -303,10 +303,10 @@ int kl_high_level_runs(void) { return own && own->runs; }
 int PAPI_hl_stop(void) {
     CALL(PAPI_hl_stop);
     long long values[MOST_VALUES];
-    if (!kl_high_level_runs()) return PAPI_ENOEVNT;
+    if (!kl_high_level_runs()) RETURN(PAPI_ENOEVNT);
     for (int i = 0; i < counted.group_count; i++) {
         int code = PAPI_stop(own->sets[i], values);
-        if (code != PAPI_OK) return code;
+        if (code != PAPI_OK) RETURN(code);
     }
     own->runs = 0;
     return PAPI_OK;

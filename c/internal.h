@@ -62,6 +62,7 @@ typedef struct thread_state {
     void *kept[PAPI_NUM_TLS];
     uint32_t step, owed; /* what happens before a call that reads, and what is left of it where memory was refused in it */
     uint64_t happened;   /* how many occurrences have */
+    int is_watched;      /* an event has a watch */
     int in_handler;      /* a handler of the thread runs: time stands */
     unsigned held;       /* calls of the thread that go on after a handler */
     int left;            /* the thread has no more to do with it: the last of these calls closes it */
@@ -105,10 +106,11 @@ void kl_free_files(kl_files *files);
 int kl_read_stream(const kl_files *files, uint32_t number, text *into);
 int kl_number_named(const char *variable, uint32_t least, uint32_t most, uint32_t *value);
 
-/* thread.c. `kl_known` is the calling thread's state if it has one in this library. */
+/* thread.c. `kl_known` is the calling thread's state if it has one in this library. `kl_enters` gives it one, under a number of its own or the next
+ * one, and begins a library of the given generation with it, unless that is 0. */
 thread_state *kl_here(int *code);
 thread_state *kl_known(void);
-int kl_enters(const uint32_t *number);
+int kl_enters(const uint32_t *number, unsigned begun);
 void kl_leaves(void);
 void kl_hold(thread_state *t);
 int kl_let_go(thread_state *t);
@@ -150,7 +152,8 @@ int kl_options_begin(void);
 /* overflow.c and profile.c */
 int kl_find_watch(thread_state *t, int set, int event, uint32_t *own, kl_watch **found);
 int kl_set_threshold(thread_state *t, int set, uint32_t own, int threshold, kl_watch *w);
-int kl_has_watch(const thread_state *t, int set);
+void kl_note_watches(thread_state *t);
+int kl_has_handler(const thread_state *t, int set);
 int kl_has_profile(const thread_state *t, int set);
 void kl_forget_set(thread_state *t, int set);
 void kl_tell(thread_state *t, const kistalub_passing *passings, uint64_t told);

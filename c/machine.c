@@ -93,13 +93,13 @@ static void take_kib(const char *line, const char *name, long long *into) {
 
 int PAPI_get_dmem_info(PAPI_dmem_info_t *dest) {
     CALL(PAPI_get_dmem_info);
-    if (!dest) return PAPI_EINVAL;
+    if (!dest) RETURN(PAPI_EINVAL);
     FILE *status = fopen("/proc/self/status", "r");
     char line[PAPI_MAX_STR_LEN];
     long long files = 0, segments = 0;
     memset(dest, 0, sizeof *dest);
     dest->pagesize = sysconf(_SC_PAGESIZE);
-    if (!status) return PAPI_ESYS;
+    if (!status) RETURN(PAPI_ESYS);
     while (fgets(line, sizeof line, status)) {
         take_kib(line, "VmPeak", &dest->peak);
         take_kib(line, "VmSize", &dest->size);

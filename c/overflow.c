@@ -3,14 +3,6 @@
 
 #include <string.h>
 
-/* The set is as when it was made, but for its domain. */
-void kl_forget_set(thread_state *t, int set) {
-    if (set < 0 || set >= MOST_SETS) return;
-    int domain = t->sets[set].domain;
-    memset(&t->sets[set], 0, sizeof t->sets[set]);
-    t->sets[set].domain = domain;
-}
-
 /* Whether some event of the set has a watch, a handled one, or a profiled one. */
 static int has(const thread_state *t, int set, int handled, int profiled) {
     if (set < 0 || set >= MOST_SETS) return 0;
@@ -19,8 +11,23 @@ static int has(const thread_state *t, int set, int handled, int profiled) {
     return 0;
 }
 
-int kl_has_watch(const thread_state *t, int set) { return has(t, set, 1, 0); }
+int kl_has_handler(const thread_state *t, int set) { return has(t, set, 1, 0); }
 int kl_has_profile(const thread_state *t, int set) { return has(t, set, 0, 1); }
+
+/* Finds out whether some event has a watch. */
+void kl_note_watches(thread_state *t) {
+    t->is_watched = 0;
+    for (int set = 0; set < MOST_SETS && !t->is_watched; set++) t->is_watched = has(t, set, 1, 1);
+}
+
+/* The set is as when it was made, but for its domain. */
+void kl_forget_set(thread_state *t, int set) {
+    if (set < 0 || set >= MOST_SETS) return;
+    int domain = t->sets[set].domain;
+    memset(&t->sets[set], 0, sizeof t->sets[set]);
+    t->sets[set].domain = domain;
+    kl_note_watches(t);
+}
 
 /* Calls the handler of a set. */
 static void call_handler(thread_state *t, int set, unsigned long long address, long long vector) {
@@ -68,7 +75,8 @@ int kl_set_threshold(thread_state *t, int set, uint32_t own, int threshold, kl_w
     int code = kistalub_overflow(&t->library, kl_set_number(set), own, (uint64_t)threshold);
     if (code == PAPI_OK && threshold == 0) {
         memset(w, 0, sizeof *w);
-        if (!kl_has_watch(t, set)) t->sets[set].handler = NULL;
+        if (!kl_has_handler(t, set)) t->sets[set].handler = NULL;
+        kl_note_watches(t);
     }
     return code;
 }
@@ -81,7 +89,7 @@ static int set_handler(thread_state *t, int set, int event, int threshold, PAPI_
     if (threshold < 0 || (threshold > 0 && !handler) || (threshold == 0 && !w->handled)) return PAPI_EINVAL;
     code = kl_set_threshold(t, set, own, threshold, w);
     if (code != PAPI_OK || threshold == 0) return code;
-    w->handled = 1;
+    w->handled = t->is_watched = 1;
     t->sets[set].handler = handler;
     return PAPI_OK;
 }

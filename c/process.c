@@ -9,10 +9,11 @@ atomic_uint kl_generation;
 
 /* Held while the library begins, also while files are read; taken before kl_lock. */
 static pthread_mutex_t beginning = PTHREAD_MUTEX_INITIALIZER;
-/* Under kl_lock: what kistalub_init gave or the library was begun with, the number of the last library, and the process that began it. */
-static kl_files *files;
+/* While it is held: the number of the last library, and the process that began it. */
 static unsigned generations;
 static pid_t process;
+/* Under kl_lock: what kistalub_init gave or the library was begun with. */
+static kl_files *files;
 
 static void release(kl_files *held) {
     pthread_mutex_lock(&kl_lock);
@@ -58,13 +59,9 @@ static int files_of_environment(void) {
 /* A new library, of which the calling thread is number 0. */
 static int begin_library(void) {
     static const uint32_t first = 0;
-    int code;
-    pthread_mutex_lock(&kl_lock);
     if (++generations == 0) generations = 1;
     process = getpid();
-    atomic_store(&kl_generation, generations);
-    pthread_mutex_unlock(&kl_lock);
-    code = kl_enters(&first);
+    int code = kl_enters(&first, generations);
     if (code == PAPI_OK) kl_here(&code);
     return code;
 }
@@ -83,17 +80,10 @@ static void end_library(void) {
     release(held);
 }
 
-/* Whether the library was begun in the process that this one was forked from. */
-static int is_forked(void) {
-    pthread_mutex_lock(&kl_lock);
-    int forked = process != getpid();
-    pthread_mutex_unlock(&kl_lock);
-    return forked;
-}
-
+/* A process that was forked after the library began begins another one. */
 static int begin(void) {
-    if (atomic_load(&kl_generation)) {
-        if (!is_forked()) return PAPI_OK;
+    if (kl_is_open()) {
+        if (process == getpid()) return PAPI_OK;
         end_library();
     }
     int code = kl_prepare();

@@ -90,7 +90,7 @@ static int set_profile(thread_state *t, int set, int event, int threshold, int f
     if (!are_scaled(regions, count) || threshold < 0 || (threshold == 0 && !w->profiled) || !are_flags(flags)) return PAPI_EINVAL;
     code = kl_set_threshold(t, set, own_code, threshold, w);
     if (code != PAPI_OK || threshold == 0) return code;
-    w->profiled = 1;
+    w->profiled = t->is_watched = 1;
     w->flags = flags;
     w->region_count = count;
     w->regions = is_own ? NULL : regions;

@@ -27,7 +27,7 @@ static int stop(long long *values) {
 int PAPI_rate_stop(void) {
     CALL(PAPI_rate_stop);
     long long values[MOST_RATED];
-    return rate.kind == NOTHING ? PAPI_ENOEVNT : stop(values);
+    RETURN(rate.kind == NOTHING ? PAPI_ENOEVNT : stop(values));
 }
 
 /* Opens the library, where the program has not. */
@@ -91,14 +91,14 @@ static int per_second(int kind, int event, float *rtime, float *ptime, long long
 
 int PAPI_flips_rate(int event, float *rtime, float *ptime, long long *flpins, float *mflips) {
     CALL(PAPI_flips_rate);
-    if (event != PAPI_FP_INS && event != PAPI_VEC_SP && event != PAPI_VEC_DP) return PAPI_ENOEVNT;
-    return per_second(FLIPS, event, rtime, ptime, flpins, mflips);
+    if (event != PAPI_FP_INS && event != PAPI_VEC_SP && event != PAPI_VEC_DP) RETURN(PAPI_ENOEVNT);
+    RETURN(per_second(FLIPS, event, rtime, ptime, flpins, mflips));
 }
 
 int PAPI_flops_rate(int event, float *rtime, float *ptime, long long *flpops, float *mflops) {
     CALL(PAPI_flops_rate);
-    if (event != PAPI_FP_OPS && event != PAPI_SP_OPS && event != PAPI_DP_OPS) return PAPI_ENOEVNT;
-    return per_second(FLOPS, event, rtime, ptime, flpops, mflops);
+    if (event != PAPI_FP_OPS && event != PAPI_SP_OPS && event != PAPI_DP_OPS) RETURN(PAPI_ENOEVNT);
+    RETURN(per_second(FLOPS, event, rtime, ptime, flpops, mflops));
 }
 
 static float ratio(long long events, long long cycles) { return cycles ? (float)((double)events / (double)cycles) : 0; }
@@ -107,18 +107,18 @@ int PAPI_ipc(float *rtime, float *ptime, long long *ins, float *ipc) {
     CALL(PAPI_ipc);
     int events[2] = { PAPI_TOT_INS, PAPI_TOT_CYC }, gives;
     long long values[2] = { 0, 0 };
-    if (!rtime || !ptime || !ins || !ipc) return PAPI_EINVAL;
+    if (!rtime || !ptime || !ins || !ipc) RETURN(PAPI_EINVAL);
     int code = rated(IPC, events, 2, rtime, ptime, values, &gives);
     *ins = gives ? values[0] : 0;
     *ipc = gives ? ratio(values[0], values[1]) : 0;
-    return code;
+    RETURN(code);
 }
 
 int PAPI_epc(int event, float *rtime, float *ptime, long long *ref, long long *core, long long *evt, float *epc) {
     CALL(PAPI_epc);
     int events[MOST_RATED] = { event ? event : PAPI_TOT_INS, PAPI_TOT_CYC, PAPI_REF_CYC }, gives;
     long long values[MOST_RATED] = { 0, 0, 0 };
-    if (!rtime || !ptime || !ref || !core || !evt || !epc) return PAPI_EINVAL;
+    if (!rtime || !ptime || !ref || !core || !evt || !epc) RETURN(PAPI_EINVAL);
     int code = kl_begin_library();
     int number = code == PAPI_OK && PAPI_query_event(PAPI_REF_CYC) == PAPI_OK ? MOST_RATED : MOST_RATED - 1;
     if (code == PAPI_OK) code = rated(EPC, events, number, rtime, ptime, values, &gives);
@@ -127,7 +127,7 @@ int PAPI_epc(int event, float *rtime, float *ptime, long long *ref, long long *c
     *core = gives ? values[1] : 0;
     *evt = gives ? values[0] : 0;
     *epc = gives ? ratio(values[0], values[1]) : 0;
-    return code;
+    RETURN(code);
 }
 
 int kl_rate_runs(void) { return rate.kind != NOTHING; }

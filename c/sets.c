@@ -72,7 +72,8 @@ static void watches_follow(thread_state *t, int set, const kl_events *before) {
     while (place < after.count && before->codes[place] == after.codes[place]) place++;
     memmove(watches + place, watches + place + 1, (MOST_EVENTS - 1 - place) * sizeof *watches);
     memset(watches + MOST_EVENTS - 1, 0, sizeof *watches);
-    if (!kl_has_watch(t, set)) t->sets[set].handler = NULL;
+    if (!kl_has_handler(t, set)) t->sets[set].handler = NULL;
+    kl_note_watches(t);
 }
 
 /* The first event binds a set to its component. The set takes the domain of that, unless it has one of its own. */

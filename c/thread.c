@@ -45,8 +45,10 @@ void kl_leaves(void) {
 }
 
 static void thread_ends(void *state) {
+    thread_state *t = state;
     own = NULL;
-    leave(state);
+    t->held = 0; /* a handler may end the thread */
+    leave(t);
 }
 
 void kl_hold(thread_state *t) { t->held++; }
@@ -89,7 +91,6 @@ static int is_taken(uint32_t number) {
 /* Lists a state under the asked number, or under the next one. PAPI_EINVAL if another thread has the number. */
 static int list_under(thread_state *t, const uint32_t *asked) {
     thread_state **end = &kl_first;
-    if (t->generation != atomic_load(&kl_generation)) return PAPI_ENOINIT;
     if (asked && is_taken(*asked)) return PAPI_EINVAL;
     while (!asked && is_taken(next_number)) next_number++;
     t->number = asked ? *asked : next_number++;
@@ -98,13 +99,13 @@ static int list_under(thread_state *t, const uint32_t *asked) {
     return PAPI_OK;
 }
 
-/* A state of the calling thread, under a number of its own or the next one. */
-int kl_enters(const uint32_t *asked) {
+int kl_enters(const uint32_t *asked, unsigned begun) {
     kl_leaves();
     thread_state *t = calloc(1, sizeof *t);
     if (!t) return PAPI_ENOMEM;
-    t->generation = atomic_load(&kl_generation);
     pthread_mutex_lock(&kl_lock);
+    if (begun) atomic_store(&kl_generation, begun);
+    t->generation = atomic_load(&kl_generation);
     int code = t->generation ? list_under(t, asked) : PAPI_ENOINIT;
     pthread_mutex_unlock(&kl_lock);
     if (code == PAPI_OK && pthread_setspecific(key, t)) {
@@ -153,7 +154,7 @@ thread_state *kl_here(int *code) {
     thread_state *t = kl_known();
     *code = PAPI_OK;
     if (t && t->has_id) return t;
-    if (!t) *code = kl_enters(NULL);
+    if (!t) *code = kl_enters(NULL, 0);
     if (*code == PAPI_OK && !own->opened) *code = open_state(own);
     if (*code == PAPI_OK) kl_name_thread(own);
     return *code == PAPI_OK ? own : NULL;
@@ -163,5 +164,5 @@ int kistalub_thread(uint32_t number) {
     const thread_state *t = kl_known();
     if (!atomic_load(&kl_generation)) return PAPI_ENOINIT;
     if (t) return t->number == number ? PAPI_OK : PAPI_EINVAL;
-    return kl_enters(&number);
+    return kl_enters(&number, 0);
 }

@@ -96,8 +96,8 @@ long long PAPI_get_virt_usec(void) {
 
 int PAPI_read_ts(int set, long long *values, long long *cyc) {
     CALL(PAPI_read_ts);
-    if (!values || !cyc) return PAPI_EINVAL;
+    if (!values || !cyc) RETURN(PAPI_EINVAL);
     int code = PAPI_read(set, values);
     if (code == PAPI_OK) *cyc = PAPI_get_real_cyc();
-    return code;
+    RETURN(code);
 }
