@@ -27,7 +27,7 @@ use Rattle.call_laws.proofs.Measured.{values_are}
 use Rattle.postfix_rules.specs.Values.{wrapped}
 use Rattle.call_laws.proofs.Histories.{added-changed, added-made, added-other, set_now-changed, set_now-made, set_now-other, runs_now-changed, runs_now-other, window-made, window-running, window-same, window-stays, window-zeroing, zeroes-changed, zeroes-other}
 use Rattle.call_laws.proofs.Places.{at-change_same, at-put_none, at-put_other, at-put_same}
-use Rattle.call_laws.proofs.PlacedOnes.{length-placed, placed-take, window-kept, window-more, window-stopped, window-zeroed}
+use Rattle.call_laws.proofs.Windows.{length-placed, placed-take, window-kept, window-more, window-stopped, window-zeroed}
 use Rattle.call_laws.proofs.Replied.{IsQuiet, changes_other, changes_same, quiet_makes, said}
 use Rattle.call_laws.proofs.Sums.{sums_more, value_addable, wrapped_zeros}
 

@@ -1,5 +1,5 @@
 pub mod Places
-pub mod PlacedOnes
+pub mod Windows
 pub mod Measured
 pub mod Histories
 pub mod Replied

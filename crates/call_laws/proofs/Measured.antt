@@ -22,7 +22,7 @@ use Rattle.session_model.specs.Estimates.{estimated, total, turns_of}
 use Rattle.session_model.specs.Values.{measured, values_of}
 use Rattle.call_laws.specs.History.{Placed, placed_after}
 use Rattle.call_laws.specs.Measures.{begins, ends, estimate_in, estimate_over, measure_over, values_over}
-use Rattle.call_laws.proofs.PlacedOnes.{placed-drop, placed-take, weighed_is}
+use Rattle.call_laws.proofs.Windows.{placed-drop, placed-take, weighed_is}
 
 -- ---- the time of a window
 

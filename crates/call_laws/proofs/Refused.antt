@@ -1,7 +1,8 @@
 -- A refused call leaves all as it was, but for the mentioned codes.
-use Rattle.std.proofs.Common.{◌≡◌, ℕ, zero, suc, ◌+◌, ◌-◌, Bool, true, false, not, ◌&&◌, ◌||◌, cond, List, [], ◌∷◌, ◌++◌, filter, refl, sym, ap, ◌∙◌, slice_get, slice_set, unwrap_or, Option, Some, None}
+use Rattle.std.proofs.Common.{◌≡◌, ℕ, zero, suc, ◌+◌, ◌-◌, Bool, true, false, not, ◌||◌, cond, List, [], ◌∷◌, ◌++◌, filter, refl, sym, ap, ◌∙◌, slice_get, slice_set, unwrap_or, Option, Some, None}
 use Rattle.std.specs.Prelude.{if◌then◌else◌, nat_le}
 use Rattle.std.specs.List.{list_any, position_or_len}
+use Rattle.std.proofs.Math.Bool.{and-false}
 use Rattle.papi_base.specs.declared.native.Native.{Native}
 use Rattle.postfix_rules.specs.NativeCodes.{native_code, native_named}
 use Rattle.postfix_rules.specs.Presets.{Book}
@@ -21,13 +22,9 @@ use Rattle.call_laws.specs.Refusing.{CodesStay, NamesStay, RefusedLineStays, Sam
 
 -- ---- one call
 
-and_false : (b : Bool) → (b && false) ≡ false
-and_false true = refl
-and_false false = refl
-
 -- the reply to a call that is carried out is no refusal
 not_refused : (book : Book) (shape : Widths) (a : Account) (c : Call) → is_refusal (performed book shape a c).reply ≡ false
-not_refused book shape a (call.Run n) = and_false (not (is_ok (performed book shape a (call.Run n)).reply.code))
+not_refused book shape a (call.Run n) = and-false (not (is_ok (performed book shape a (call.Run n)).reply.code))
 not_refused book shape a c = refl
 
 -- a refused call leaves the account, and notes nothing

@@ -1,7 +1,8 @@
 -- What the replies of the model show: a call that is carried out has PAPI_OK, and a call that is refused has not.
-use Rattle.std.proofs.Common.{◌≡◌, ◌≢◌, ℕ, Bool, true, false, List, [], ◌∷◌, refl, Option, Some, None, Ok, ◌&&◌, slice_get}
+use Rattle.std.proofs.Common.{◌≡◌, ◌≢◌, ℕ, Bool, true, false, List, [], ◌∷◌, refl, Option, Some, None, Ok, slice_get}
 use Rattle.std.specs.Prelude.{if◌then◌else◌}
 use Rattle.std.specs.Option.{option_map_or}
+use Rattle.std.proofs.Math.Bool.{and-false}
 use Rattle.postfix_rules.specs.Presets.{Book}
 use Rattle.event_sets.specs.declared.refusal.Clash.{Clash}
 use Rattle.event_sets.specs.declared.refusal.Refusal.{Refusal}
@@ -20,7 +21,6 @@ use Rattle.session_model.specs.Step.{account_refusal}
 use Rattle.session_laws.proofs.Sets.{row_fails}
 use Rattle.call_laws.specs.History.{Answered, is_number, is_ok, makes, set_made, taken_by}
 use Rattle.call_laws.specs.SetCalls.{changed, set_of_call}
-use Rattle.call_laws.specs.Refusing.{is_of_run}
 use Rattle.call_laws.proofs.Places.{is_number-other, is_number-same}
 
 -- ---- a call and its reply
@@ -28,11 +28,10 @@ use Rattle.call_laws.proofs.Places.{is_number-other, is_number-same}
 abbrev pub said : Call → Reply → Answered
 said c r = record { call = c; reply = r }
 
--- the results are neither a run's nor a new set's number
+-- the results are neither a run's nor the number of a new set
 pub record IsQuiet (b : Body) : Type 0 where
   pub takes_none : taken_by b ≡ 0
   pub makes_none : set_made b ≡ None
-  pub no_run : is_of_run b ≡ false
 
 pub quiet_makes : (c : Call) (r : Reply) (k : ℕ) → IsQuiet r.body → makes k (said c r) ≡ false
 quiet_makes c r k h = rw (h.makes_none) refl
@@ -49,20 +48,20 @@ changes_none c r j e = rw e refl
 -- ---- calls that are carried out
 
 quiet_shown : (f : Kept → Body) → ((s : Kept) → IsQuiet (f s)) → (o : Option Kept) → IsQuiet (option_map_or f o body.Nothing)
-quiet_shown f h None = record { takes_none = refl; makes_none = refl; no_run = refl }
+quiet_shown f h None = record { takes_none = refl; makes_none = refl }
 quiet_shown f h (Some s) = h s
 
 -- the results of a call other than a run or `create`
 pub quiet_reply : (book : Book) (sight : Sight Kept) (sets : List (Option Kept)) (c : Call) → c ≢ call.Create → IsQuiet (reply_over book sight sets c).body
 quiet_reply book sight sets call.Create other = absurd (other refl)
-quiet_reply book sight sets (call.Stop k) other = quiet_shown _ (λ s. record { takes_none = refl; makes_none = refl; no_run = refl }) (at sets k)
-quiet_reply book sight sets (call.Read k) other = quiet_shown _ (λ s. record { takes_none = refl; makes_none = refl; no_run = refl }) (at sets k)
-quiet_reply book sight sets (call.Accum k) other = quiet_shown _ (λ s. record { takes_none = refl; makes_none = refl; no_run = refl }) (at sets k)
-quiet_reply book sight sets (call.State k) other = quiet_shown _ (λ s. record { takes_none = refl; makes_none = refl; no_run = refl }) (at sets k)
-quiet_reply book sight sets (call.ListEvents k) other = quiet_shown _ (λ s. record { takes_none = refl; makes_none = refl; no_run = refl }) (at sets k)
-quiet_reply book sight sets (call.Assign k) other = quiet_shown _ (λ s. record { takes_none = refl; makes_none = refl; no_run = refl }) (at sets k)
-quiet_reply book sight sets (call.Raw k i) other = quiet_shown _ (λ s. record { takes_none = refl; makes_none = refl; no_run = refl }) (at sets k)
-quiet_reply book sight sets c other = record { takes_none = refl; makes_none = refl; no_run = refl }
+quiet_reply book sight sets (call.Stop k) other = quiet_shown _ (λ s. record { takes_none = refl; makes_none = refl }) (at sets k)
+quiet_reply book sight sets (call.Read k) other = quiet_shown _ (λ s. record { takes_none = refl; makes_none = refl }) (at sets k)
+quiet_reply book sight sets (call.Accum k) other = quiet_shown _ (λ s. record { takes_none = refl; makes_none = refl }) (at sets k)
+quiet_reply book sight sets (call.State k) other = quiet_shown _ (λ s. record { takes_none = refl; makes_none = refl }) (at sets k)
+quiet_reply book sight sets (call.ListEvents k) other = quiet_shown _ (λ s. record { takes_none = refl; makes_none = refl }) (at sets k)
+quiet_reply book sight sets (call.Assign k) other = quiet_shown _ (λ s. record { takes_none = refl; makes_none = refl }) (at sets k)
+quiet_reply book sight sets (call.Raw k i) other = quiet_shown _ (λ s. record { takes_none = refl; makes_none = refl }) (at sets k)
+quiet_reply book sight sets c other = record { takes_none = refl; makes_none = refl }
 
 pub ok_reply : (book : Book) (sight : Sight Kept) (sets : List (Option Kept)) (c : Call) → is_ok (reply_over book sight sets c).code ≡ true
 ok_reply book sight sets call.Create = refl
@@ -71,8 +70,8 @@ ok_reply book sight sets c = refl
 -- ---- calls that are refused
 
 pub quiet_refused : (r : Refusal) → IsQuiet (refused r).body
-quiet_refused (Plain c) = record { takes_none = refl; makes_none = refl; no_run = refl }
-quiet_refused (Conflict clash) = record { takes_none = refl; makes_none = refl; no_run = refl }
+quiet_refused (Plain c) = record { takes_none = refl; makes_none = refl }
+quiet_refused (Conflict clash) = record { takes_none = refl; makes_none = refl }
 
 -- no row of the table replies with PAPI_OK
 abbrev pub NoneOk : List (Bool × Refusal) → Type 0
@@ -105,16 +104,12 @@ none_ok book shape on faces (call.Accum j) k q = (refl, tt)
 none_ok book shape on faces (call.Reset j) k q = (refl, tt)
 none_ok book shape on faces c k q = cc
 
-and_false : (b : Bool) → (b && false) ≡ false
-and_false true = refl
-and_false false = refl
-
 -- a refused call changed no set
 pub refused_changes : (book : Book) (shape : Widths) (a : Account) (c : Call) (r : Refusal) (j : ℕ) → account_refusal book shape a c ≡ Some r → changed j (said c (refused r)) ≡ false
 refused_changes book shape a c r j q = go (set_of_call c) refl where
   go : (o : Option ℕ) → set_of_call c ≡ o → changed j (said c (refused r)) ≡ false
   go None e = changes_none c (refused r) j e
-  go (Some k) e = rw (e, first_not_ok (rows book shape a.registered (faces_of a.sets) c) r (none_ok book shape a.registered (faces_of a.sets) c k e) q) (and_false (is_number j (Some k)))
+  go (Some k) e = rw (e, first_not_ok (rows book shape a.registered (faces_of a.sets) c) r (none_ok book shape a.registered (faces_of a.sets) c k e) q) (and-false (is_number j (Some k)))
 
 -- a call whose event was not looked up is refused
 pub unknown_refused : {P : Type 0} (book : Book) (shape : Widths) (a : Account) (c : Call) (i : ℕ) → account_refusal book shape a c ≡ None
