@@ -25,7 +25,8 @@ with_hints() {
     # A write that fails ends the program with 5, so it does here.
     [ -z "$said" ] || (trap '' PIPE && printf '%s' "$said" >&2) || status=5
     case $status:$1 in
-    1:* | 2:* | 0:papi_run | 0:papi_profil | 0:papi_regions | 0:papi_avail | 0:papi_native_avail | 0:papi_event_chooser | 0:papi_decode)
+    0:papi_encode | 0:papi_soak) ;;
+    [012]:*)
         printf '%s' "$said" | python3 -I -S -B "$hints" "$name" "$status" "$@" >&2 2>/dev/null
         ;;
     esac
