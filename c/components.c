@@ -174,6 +174,7 @@ int PAPI_num_hwctrs(void) {
 int PAPI_num_components(void) {
     CALL(PAPI_num_components);
     int n = 0, code;
-    while ((code = PAPI_num_cmp_hwctrs(n)) >= 0) n++;
+    HERE(t);
+    while ((code = kistalub_counters(&t->library, (uint32_t)n)) >= 0) n++;
     RETURN(code == PAPI_ENOCMP ? n : code);
 }

@@ -232,20 +232,34 @@ static region *open_region_of(const char *name) {
 /* After a failure nothing more is counted or written. */
 static int fail(int code) {
     say("Error: ", PAPI_strerror(code) ? PAPI_strerror(code) : "");
+    pthread_mutex_lock(&region_lock);
     has_failed = 1;
+    pthread_mutex_unlock(&region_lock);
+    return code;
+}
+
+/* What the calling thread needs before its regions. No handler of the user is called under the lock, here and below. */
+static int prepare(void) {
+    pthread_mutex_lock(&region_lock);
+    int code = has_failed ? PAPI_EMISC : begin_process();
+    if (code == PAPI_OK) code = begin_thread();
+    pthread_mutex_unlock(&region_lock);
+    if (code == PAPI_OK) code = make_sets();
+    if (code == PAPI_OK) code = start_sets();
     return code;
 }
 
 static int begin_region(const char *name) {
     long long now[MOST_VALUES] = { 0 };
-    if (has_failed) return PAPI_EMISC;
-    int code = begin_process();
-    if (code == PAPI_OK) code = begin_thread();
-    if (code == PAPI_OK) code = make_sets();
-    if (code == PAPI_OK) code = start_sets();
+    int code = prepare();
+    if (code == PAPI_EMISC) return code;
     if (code == PAPI_OK && own->depth == MOST_NESTED) code = PAPI_ENOMEM;
     if (code == PAPI_OK) code = read_values(now);
-    if (code == PAPI_OK) code = open_region(name, now);
+    if (code == PAPI_OK) {
+        pthread_mutex_lock(&region_lock);
+        code = open_region(name, now);
+        pthread_mutex_unlock(&region_lock);
+    }
     return code == PAPI_OK ? PAPI_OK : fail(code);
 }
 
@@ -253,18 +267,26 @@ int PAPI_hl_region_begin(const char *name) {
     CALL(PAPI_hl_region_begin);
     if (!name) RETURN(PAPI_EINVAL);
     int code = kl_rate_runs() ? PAPI_rate_stop() : PAPI_OK;
-    if (code != PAPI_OK) RETURN(code);
-    pthread_mutex_lock(&region_lock);
-    code = begin_region(name);
-    pthread_mutex_unlock(&region_lock);
-    RETURN(code);
+    RETURN(code == PAPI_OK ? begin_region(name) : code);
+}
+
+/* Notes the values of the innermost region: those of a reading, or where it ends. */
+static int note_values(region *r, const long long *now, int ends) {
+    if (!ends) return add_reading(r, now);
+    count(r, now, r->counted);
+    own->depth--;
+    own->ended++;
+    return PAPI_OK;
 }
 
 /* Reads for the innermost region, and ends it or not. */
 static int read_region(const char *name, int ends) {
     long long now[MOST_VALUES] = { 0 };
-    if (has_failed) return PAPI_EMISC;
-    if (!own || !own->begun) return PAPI_EMISC;
+    if (!name) return PAPI_EINVAL;
+    pthread_mutex_lock(&region_lock);
+    int failed = has_failed;
+    pthread_mutex_unlock(&region_lock);
+    if (failed || !own || !own->begun) return PAPI_EMISC;
     if (!own->runs) return PAPI_ENOTRUN;
     region *r = open_region_of(name);
     if (!r) {
@@ -273,29 +295,20 @@ static int read_region(const char *name, int ends) {
     }
     int code = read_values(now);
     if (code != PAPI_OK) return fail(code);
-    if (!ends) return add_reading(r, now);
-    count(r, now, r->counted);
-    own->depth--;
-    own->ended++;
-    return PAPI_OK;
-}
-
-static int read_locked(const char *name, int ends) {
-    if (!name) return PAPI_EINVAL;
     pthread_mutex_lock(&region_lock);
-    int code = read_region(name, ends);
+    code = note_values(r, now, ends);
     pthread_mutex_unlock(&region_lock);
     return code;
 }
 
 int PAPI_hl_read(const char *name) {
     CALL(PAPI_hl_read);
-    RETURN(read_locked(name, 0));
+    RETURN(read_region(name, 0));
 }
 
 int PAPI_hl_region_end(const char *name) {
     CALL(PAPI_hl_region_end);
-    RETURN(read_locked(name, 1));
+    RETURN(read_region(name, 1));
 }
 
 int kl_high_level_runs(void) { return own && own->runs; }
