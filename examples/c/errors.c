@@ -14,23 +14,30 @@ static int handler(int code) {
     return code == PAPI_EINVAL ? -100 : code;
 }
 
-/* PAPI_VERB_ESTOP ends the program at the first error. */
+static void aborted(int signal) {
+    (void)signal;
+    _exit(3);
+}
+
+/* PAPI_VERB_ESTOP ends the program at the first error, by abort(). */
 static void stops(void) {
     int status;
     pid_t child = fork();
     if (child == 0) {
+        signal(SIGABRT, aborted);
         WANT(PAPI_set_debug(PAPI_VERB_ESTOP), PAPI_OK);
         PAPI_num_events(7);
         _exit(0);
     }
     WANT(waitpid(child, &status, 0), child);
-    WANT(WIFSIGNALED(status) && WTERMSIG(status) == SIGABRT, 1);
+    WANT(WIFEXITED(status) && WEXITSTATUS(status) == 3, 1);
 }
 
 int main(void) {
     PAPI_option_t option;
     int set = 7;
     PAPI_perror(NULL);
+    stops();
     WANT(PAPI_start(0), PAPI_ENOINIT);
     PAPI_perror("no library");
     PAPI_perror("");
@@ -52,7 +59,6 @@ int main(void) {
     WANT(PAPI_get_opt(PAPI_DEBUG, &option), PAPI_OK);
     WANT(option.debug.level, PAPI_VERB_ECONT);
     WANT(option.debug.handler(PAPI_ENOCMP), PAPI_ENOCMP);
-    stops();
     WANT(PAPI_set_debug(PAPI_QUIET), PAPI_OK);
     WANT(PAPI_num_events(7), PAPI_ENOEVST);
 
