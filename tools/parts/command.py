@@ -3,6 +3,7 @@
 from __future__ import annotations
 
 import os
+import signal
 import sys
 from typing import Callable
 
@@ -13,6 +14,11 @@ class Fault(Exception):
     def __init__(self, text: str, status: int = 1):
         super().__init__(text)
         self.status = status
+
+
+def end_by_termination() -> None:
+    """From now on a signal to terminate ends the process as an interrupt does, so that what it has started ends too."""
+    signal.signal(signal.SIGTERM, lambda number, frame: sys.exit(128 + number))
 
 
 def end_with(tool: str, work: Callable[[], None]) -> None:

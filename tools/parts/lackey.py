@@ -15,6 +15,14 @@ from parts.symbols import is_loaded_anywhere
 PAGE = 4096
 LONGEST_WAIT = 60.0  # seconds until the program is loaded
 WORDS = ["--tool=lackey", "--basic-counts=no", "--trace-mem=yes", "--trace-syscalls=yes", "--trace-sched=yes", "--child-silent-after-fork=yes"]
+# Where blocks are chased valgrind may run a block before it is known to be reached, and then its instructions are traced without being the program's.
+UNCHASED = ("--vex-guest-chase=no", "--vex-guest-chase-thresh=0")
+
+
+def unchased() -> list[str]:
+    """The word against this, as this valgrind spells it."""
+    known = subprocess.run(["valgrind", "--help-debug"], capture_output=True, text=True).stdout
+    return [word for word in UNCHASED if f"{word.split('=')[0]}=" in known][:1]
 
 
 class TracedRun:
@@ -30,7 +38,7 @@ class TracedRun:
         self.path = os.path.realpath(path)
         self.trace, writer = os.pipe()
         fill_with_blank_lines(writer)
-        words = ["valgrind", *WORDS, f"--log-fd={writer}", path, *arguments]
+        words = ["valgrind", *WORDS, *unchased(), f"--log-fd={writer}", path, *arguments]
         self._process = subprocess.Popen(words, pass_fds=[writer], stdin=source, stdout=output, stderr=errors, env={**os.environ, **environment})
         os.close(writer)
 

@@ -3,6 +3,7 @@
 from __future__ import annotations
 
 import ctypes
+import os
 import shutil
 import subprocess
 import tempfile
@@ -13,6 +14,7 @@ from typing import Any, Callable
 TOOLS = Path(__file__).resolve().parent.parent
 ROOT = TOOLS.parent
 PROGRAM = ROOT / "crates/papi/out/papi"
+LIBRARY = ROOT / "crates/papi_c/out/libpapi_c.a"
 
 
 def run_tool(name: str, *words: str, text: str = "", folder: Path | None = None) -> subprocess.CompletedProcess[str]:
@@ -35,6 +37,7 @@ def has_library(name: str) -> bool:
 
 needs_libpfm4 = unittest.skipUnless(has_library("libpfm.so.4"), "libpfm4 is not installed")
 needs_program = unittest.skipUnless(PROGRAM.exists(), "crates/papi/out/papi is not built")
+needs_library = unittest.skipUnless(LIBRARY.exists() and (shutil.which("rt") or os.environ.get("KISTALUB_HEAP")), "crates/papi_c/out/libpapi_c.a is not built")
 
 
 def needs_command(command: str, package: str) -> Callable[[Any], Any]:

@@ -10,6 +10,7 @@ from pathlib import Path
 
 from parts.command import Fault
 from parts.compiled import SOURCES, recorder
+from parts.lackey import unchased
 from parts.machine import MACHINES, Shape, read_buffer, read_cache, read_costs, read_predictor
 from parts.ranks import of_rank
 from tests.support import ROOT, TOOLS, InFolder, needs_command, needs_libpfm4, needs_program, run_program, run_tool
@@ -216,7 +217,7 @@ class RealProgram(InFolder):
     def test_totals_of_lackey(self) -> None:
         done = run_tool("record", "-o", self.stream, self.program)
         self.assertEqual(done.returncode, 0, done.stderr)
-        told = subprocess.run(["valgrind", "--tool=lackey", "--detailed-counts=yes", self.program], capture_output=True, text=True, check=True).stderr
+        told = subprocess.run(["valgrind", "--tool=lackey", *unchased(), "--detailed-counts=yes", self.program], capture_output=True, text=True, check=True).stderr
         instructions = int(re.findall(r"guest instrs: +([\d,]+)", told)[0].replace(",", ""))
         rows = re.findall(r"== +[IFDV]\d+ +([\d,]+) +([\d,]+) ", told)
         loads, stores = (sum(int(row[column].replace(",", "")) for row in rows) for column in (0, 1))

@@ -1,0 +1,215 @@
+"""tools/count: programs that know what their own counts are."""
+
+from __future__ import annotations
+
+import subprocess
+import tempfile
+from pathlib import Path
+
+from tests.support import ROOT, TOOLS, InFolder, needs_command, needs_library
+
+HEAD = """
+#include <papi.h>
+#include <stdio.h>
+#include <stdlib.h>
+static int made(const char *name) {
+    int set = PAPI_NULL;
+    if (PAPI_library_init(PAPI_VER_CURRENT) != PAPI_VER_CURRENT || PAPI_create_eventset(&set) || PAPI_add_named_event(set, name)) exit(9);
+    return set;
+}
+static void loop(long turns) { __asm__ volatile("1: dec %0\\n jnz 1b" : "+r"(turns) : : "cc"); }
+"""
+
+
+@needs_command("valgrind", "valgrind")
+@needs_command("objdump", "binutils")
+@needs_command("cc", "a C compiler")
+@needs_library
+class Programs(InFolder):
+    library: str
+
+    @classmethod
+    def setUpClass(cls) -> None:
+        folder = tempfile.TemporaryDirectory()
+        cls.addClassCleanup(folder.cleanup)
+        cls.library = folder.name
+        subprocess.run([str(ROOT / "c/build"), cls.library], check=True, capture_output=True)
+
+    def compile(self, text: str, *words: str) -> str:
+        """A program over the shared library."""
+        source, program = self.write("program.c", HEAD + text), str(self.folder / "program")
+        words = words or (f"-L{self.library}", "-lpapi")
+        subprocess.run(["cc", "-O1", f"-I{ROOT / 'include'}", "-o", program, source, *words, "-lpthread"], check=True)
+        return program
+
+    def count(self, *words: str, text: str = "") -> subprocess.CompletedProcess[str]:
+        return subprocess.run([str(TOOLS / "count"), "--library", self.library, *words], input=text, capture_output=True, text=True)
+
+    # Two loops of known lengths: what they count differs by what the longer one runs more.
+    LOOPS = """
+    int main(int count, char **words) {
+        for (int i = 1; i < count; i++) {
+            int set = made(words[i]);
+            long long one, other;
+            PAPI_start(set); loop(1000); PAPI_stop(set, &one);
+            PAPI_start(set); loop(3000); PAPI_stop(set, &other);
+            printf("%s %lld\\n", words[i], other - one);
+        }
+        return 5;
+    }
+    """
+    WANTED = {"PAPI_TOT_INS": 4000, "PAPI_BR_INS": 2000, "PAPI_BR_TKN": 2000, "PAPI_BR_NTK": 0, "PAPI_LD_INS": 0, "PAPI_BR_MSP": None}
+
+    def check_loops(self, program: str) -> None:
+        done = self.count(program, *self.WANTED)
+        self.assertEqual((done.stderr, done.returncode), ("", 5))
+        counts = dict(line.split() for line in done.stdout.splitlines())
+        self.assertEqual({name: int(counts[name]) for name, wanted in self.WANTED.items() if wanted is not None},
+                         {name: wanted for name, wanted in self.WANTED.items() if wanted is not None})
+        self.assertLess(abs(int(counts["PAPI_BR_MSP"])), 50)
+
+    def test_loops_with_the_shared_library(self) -> None:
+        self.check_loops(self.compile(self.LOOPS))
+
+    def test_loops_with_the_library_in_the_program(self) -> None:
+        self.check_loops(self.compile(self.LOOPS, f"{self.library}/libkistalub.a"))
+
+    def test_nothing_is_nothing_but_the_call(self) -> None:
+        """Between start and stop stand the call and its arguments."""
+        program = self.compile("""
+            int main(void) { int set = made("PAPI_TOT_INS"); long long count; PAPI_start(set); PAPI_stop(set, &count); return (int)count; }
+        """)
+        status = self.count(program).returncode
+        self.assertTrue(3 <= status <= 8, status)
+
+    def test_the_same_bytes_twice(self) -> None:
+        program = self.compile(self.LOOPS)
+        kept = [str(self.folder / "one"), str(self.folder / "two")]
+        for name in kept:
+            self.count("--keep", name, program, "PAPI_TOT_CYC")
+        for ending in ("", ".calls"):
+            one, two = (Path(name + ending).read_bytes() for name in kept)
+            self.assertTrue(one == two and one, ending)
+
+    def test_operations(self) -> None:
+        program = self.compile("""
+            int main(void) {
+                static double a[100]; static float b[400]; long long count; int set = made("PAPI_FP_OPS");
+                __asm__ volatile("" : : : "memory");
+                PAPI_start(set);
+                for (int i = 0; i < 100; i++) __asm__ volatile("addsd %0, %%xmm0\\n mulpd %%xmm1, %%xmm2\\n subps %%xmm3, %%xmm4\\n movapd %%xmm1, %%xmm2" : : "m"(a[i]) : "xmm0", "xmm2", "xmm4");
+                for (int i = 0; i < 100; i++) __asm__ volatile("fadds %0" : : "m"(b[i]));
+                PAPI_stop(set, &count);
+                printf("%lld\\n", count);
+                return 0;
+            }
+        """)
+        self.assertEqual(self.count(program).stdout, f"{100 * (1 + 2 + 4 + 1)}\n")
+
+    def test_misses_of_a_walk(self) -> None:
+        """64 KiB in lines of 64 bytes: 1,024 misses of a cache of 32 KiB, with a few of the call; none of one of 1 MiB."""
+        program = self.compile("""
+            static volatile char block[65536] __attribute__((aligned(4096)));
+            int main(void) {
+                long long count; int set = made("PAPI_L1_DCM");
+                for (int i = 0; i < 65536; i++) block[i] = 1;
+                PAPI_start(set);
+                for (int i = 0; i < 65536; i += 64) (void)block[i];
+                PAPI_stop(set, &count);
+                printf("%lld\\n", count);
+                return 0;
+            }
+        """)
+        self.assertIn(int(self.count(program).stdout), range(1024, 1029))
+        self.assertEqual(int(self.count("--l1d", "1048576,8,64", program).stdout), 0)
+
+    def test_standard_input_is_read_by_both_runs(self) -> None:
+        program = self.compile("""
+            int main(void) {
+                long turns; int set = made("PAPI_BR_TKN");
+                while (scanf("%ld", &turns) == 1) { long long count; PAPI_start(set); loop(turns); PAPI_stop(set, &count); printf("%lld\\n", count); }
+                return 0;
+            }
+        """)
+        self.assertEqual(self.count(program, text="5 50\n500\n").stdout, "4\n49\n499\n")
+
+    OTHER_CALLS = """
+    int main(void) {
+        long long count; int set = made("PAPI_BR_TKN");
+        for (int i = 1; i <= 3; i++) {
+            PAPI_start(set); loop(100 * i); PAPI_stop(set, &count);
+            printf("%lld\\n", count);
+            if (!count) return 1;
+        }
+        return 0;
+    }
+    """
+
+    def test_calls_that_differ_are_told_once(self) -> None:
+        done = self.count(self.compile(self.OTHER_CALLS))
+        self.assertEqual((done.stdout, done.returncode), ("99\n0\n", 1))
+        self.assertEqual(done.stderr, "kistalub: the calls are not those that were recorded: call 6 is PAPI_start, and was the end\n")
+
+    def test_rounds_until_the_calls_agree(self) -> None:
+        done = self.count("--rounds", "4", self.compile(self.OTHER_CALLS))
+        self.assertEqual((done.stdout, done.stderr, done.returncode), ("99\n199\n299\n", "", 0))
+
+    def test_fewer_calls_are_told(self) -> None:
+        program = self.compile("""
+            int main(void) { long long count; int set = made("PAPI_TOT_INS"); PAPI_start(set); PAPI_stop(set, &count); if (!count) PAPI_read(set, &count); return 0; }
+        """)
+        self.assertRegex(self.count(program).stderr, r"^kistalub: the calls are not those that were recorded: call 6 is the end, and was PAPI_read\n$")
+
+    def test_a_second_thread(self) -> None:
+        text = """
+            #include <pthread.h>
+            static void *other(void *calls) { loop(10); if (calls) made("PAPI_TOT_INS"); return NULL; }
+            int main(int count, char **words) {
+                (void)words;
+                long long taken; pthread_t thread; int set = made("PAPI_BR_TKN");
+                PAPI_start(set);
+                loop(100);
+                if (pthread_create(&thread, NULL, other, count > 1 ? &thread : NULL) || pthread_join(thread, NULL)) return 8;
+                PAPI_stop(set, &taken);
+                return taken >= 99 ? 0 : 7;
+            }
+        """
+        program = self.compile(text)
+        done = self.count(program)
+        self.assertEqual((done.stdout, done.returncode), ("", 1))
+        self.assertIn("started a second thread", done.stderr)
+        self.assertEqual(self.count("--first-thread", program).returncode, 0)
+        self.assertEqual(self.count("--first-thread", program, "calls").returncode, 1)
+
+    def test_a_process_that_forks(self) -> None:
+        program = self.compile("""
+            #include <sys/wait.h>
+            #include <unistd.h>
+            int main(void) {
+                long long count; int set = made("PAPI_BR_TKN");
+                PAPI_start(set);
+                loop(100);
+                PAPI_stop(set, &count);
+                if (fork() == 0) { loop(1000); PAPI_start(set); return 0; }
+                wait(NULL);
+                printf("%lld\\n", count);
+                return 0;
+            }
+        """)
+        done = self.count(program)
+        self.assertEqual((done.stdout, done.stderr), ("99\n", ""))
+
+    def test_refusals(self) -> None:
+        done = self.count("true")
+        self.assertEqual((done.stdout, done.returncode), ("", 1))
+        self.assertIn("made no call of PAPI", done.stderr)
+        self.assertEqual(self.count("nosuchprogram").stderr, "count: nosuchprogram: no such program\n")
+        for words in ((), ("--rounds", "0", "true"), ("--nothing", "true")):
+            self.assertEqual(self.count(*words).returncode, 2, words)
+
+    def test_a_signal_is_the_status_of_a_shell(self) -> None:
+        program = self.compile("""
+            #include <signal.h>
+            int main(void) { made("PAPI_TOT_INS"); raise(SIGKILL); return 0; }
+        """)
+        self.assertEqual(self.count(program).returncode, 128 + 9)
