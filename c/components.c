@@ -29,16 +29,35 @@ static int is_disabled(int component, const char *name) {
     return is;
 }
 
+static int is_any_disabled(void) {
+    pthread_mutex_lock(&component_lock);
+    int is = disabled || disabled_count;
+    pthread_mutex_unlock(&component_lock);
+    return is;
+}
+
 int kl_is_disabled(thread_state *t, int component) {
     char name[PAPI_MAX_STR_LEN];
-    pthread_mutex_lock(&component_lock);
-    int some = disabled || disabled_count;
-    pthread_mutex_unlock(&component_lock);
-    if (!some || kl_component_text(t, component, KISTALUB_COMPONENT_NAME, 0, name, sizeof name) != PAPI_OK || component >= MOST_COMPONENTS) return 0;
+    if (!is_any_disabled() || kl_component_text(t, component, KISTALUB_COMPONENT_NAME, 0, name, sizeof name) != PAPI_OK || component >= MOST_COMPONENTS) return 0;
     pthread_mutex_lock(&component_lock);
     int is = is_disabled(component, name);
     pthread_mutex_unlock(&component_lock);
     return is;
+}
+
+/* The event of a code of the thread's library can't be counted where its component is disabled: PAPI_ENOEVNT. */
+int kl_is_enabled(thread_state *t, uint32_t own) {
+    uint32_t component = 0;
+    if (!is_any_disabled() || kistalub_component_of(&t->library, own, &component) != PAPI_OK) return PAPI_OK;
+    return kl_is_disabled(t, (int)component) ? PAPI_ENOEVNT : PAPI_OK;
+}
+
+/* The same of an event by its name. */
+int kl_is_known(thread_state *t, const char *name) {
+    uint32_t own = 0;
+    if (!is_any_disabled()) return PAPI_OK;
+    int code = kistalub_name_to_code(&t->library, (const unsigned char *)name, strlen(name), &own);
+    return code == PAPI_OK ? kl_is_enabled(t, own) : PAPI_OK;
 }
 
 /* How many presets derive from native events of a component. */

@@ -9,7 +9,8 @@ int PAPI_event_name_to_code(const char *in, int *out) {
     uint32_t event = 0;
     HERE(t);
     if (!in || !out) RETURN(PAPI_EINVAL);
-    int code = kistalub_name_to_code(&t->library, (const unsigned char *)in, strlen(in), &event);
+    int code = kl_is_known(t, in);
+    if (code == PAPI_OK) code = kistalub_name_to_code(&t->library, (const unsigned char *)in, strlen(in), &event);
     RETURN(code == PAPI_OK ? kl_code_outward(t, event, out) : code);
 }
 
