@@ -11,6 +11,7 @@
 
 #include <pthread.h>
 #include <stdatomic.h>
+#include <stdbool.h>
 #include <stddef.h>
 #include <stdint.h>
 
@@ -189,8 +190,13 @@ int kl_rate_runs(void);
 int kl_begin_library(void);
 int kl_high_level_runs(void);
 
+/* hierarchy.c: fills in the caches that the environment names */
+void kl_take_hierarchy(PAPI_mh_info_t *into);
+
 /* marks.c: the outermost call of this thread enters and leaves. Around a function or a handler of the user it leaves and enters again. */
 void kl_call_enters(int number);
+/* Whether the calling thread goes on by a recording, and the cycles of its program that were recorded up to now. */
+bool kl_recorded_cycles(uint64_t *cycles);
 void kl_call_leaves(int number);
 typedef struct { int depth, number; } kl_outside;
 kl_outside kl_user_begins(void);

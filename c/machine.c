@@ -69,6 +69,7 @@ static void describe_hardware(const char *pmu) {
     hardware.vendor = vendor_of(pmu, &vendor);
     snprintf(hardware.vendor_string, sizeof hardware.vendor_string, "%s", vendor);
     snprintf(hardware.model_string, sizeof hardware.model_string, "%s", pmu);
+    kl_take_hierarchy(&hardware.mem_hierarchy);
     hardware.cpu_max_mhz = hardware.cpu_min_mhz = hardware.clock_mhz = mhz;
     hardware.mhz = (float)mhz;
 }

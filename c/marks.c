@@ -20,8 +20,9 @@ static const char *const names[] = {KL_FUNCTIONS(KL_NAME)};
 
 static pthread_once_t once = PTHREAD_ONCE_INIT;
 static volatile uint32_t *page; /* KISTALUB_MARKS */
-static FILE *calls;             /* KISTALUB_CALLS: a line `FUNCTION LINES` for each call */
+static FILE *calls;             /* KISTALUB_CALLS: a line `FUNCTION LINES CYCLES` for each call */
 static unsigned long made;      /* calls of the list so far */
+static uint64_t passed;         /* the cycles before them */
 static bool has_told;
 static pthread_t first; /* the list is that of the thread that calls first */
 static pid_t process;
@@ -33,20 +34,22 @@ static NEAR bool is_going_on, is_counting;
 
 /* Says where the calls differ from those that were recorded, once. */
 static void tell(const char *made_call, const char *recorded) {
-    if (!has_told) fprintf(stderr, "kistalub: the calls are not those that were recorded: call %lu is %s, and was %s\n", made, made_call, recorded);
+    if (!has_told) fprintf(stderr, "papi: the calls are not those that were recorded: call %lu is %s, and was %s\n", made, made_call, recorded);
     has_told = true;
 }
 
-static bool read_call(unsigned long *number, unsigned long *lines) {
+typedef struct { unsigned long number, lines; unsigned long long cycles; } recorded_call;
+
+static bool read_call(recorded_call *c) {
     char line[LONGEST_LINE];
-    return calls && fgets(line, sizeof line, calls) && sscanf(line, "%lu %lu", number, lines) == 2 && *number < KL_FUNCTION_COUNT;
+    return calls && fgets(line, sizeof line, calls) && sscanf(line, "%lu %lu %llu", &c->number, &c->lines, &c->cycles) == 3 && c->number < KL_FUNCTION_COUNT;
 }
 
 static void process_ends(void) {
-    unsigned long number, lines;
-    if (getpid() != process || has_told || !read_call(&number, &lines)) return;
+    recorded_call recorded;
+    if (getpid() != process || has_told || !read_call(&recorded)) return;
     made++;
-    tell("the end", names[number]);
+    tell("the end", names[recorded.number]);
 }
 
 static void begin(void) {
@@ -57,11 +60,11 @@ static void begin(void) {
         void *place = (void *)(uintptr_t)strtoull(address, NULL, 16);
         void *got = mmap(place, PAGE, PROT_READ | PROT_WRITE, MAP_PRIVATE | MAP_ANONYMOUS | MAP_FIXED_NOREPLACE, -1, 0);
         if (got == place) page = got;
-        else fprintf(stderr, "kistalub: no page can be at KISTALUB_MARKS=%s\n", address);
+        else fprintf(stderr, "papi: no page can be at KISTALUB_MARKS=%s\n", address);
     }
     if (!list) return;
     calls = fopen(list, "r");
-    if (!calls) fprintf(stderr, "kistalub: can't read KISTALUB_CALLS=%s\n", list);
+    if (!calls) fprintf(stderr, "papi: can't read KISTALUB_CALLS=%s\n", list);
     else atexit(process_ends);
 }
 
@@ -94,17 +97,29 @@ static bool counts(void) {
     return false;
 }
 
+/* Whether the calling thread makes the calls of the list. */
+static bool is_replaying(void) { return calls && getpid() == process && pthread_equal(pthread_self(), first); }
+
 /* The occurrences that were recorded before this call happen. Handlers that are called meanwhile belong to it. */
 static void go_on_before(int call) {
-    unsigned long number, lines = 0;
-    if (!calls || getpid() != process || !pthread_equal(pthread_self(), first)) return;
+    recorded_call recorded;
+    if (!is_replaying()) return;
     made++;
-    if (!read_call(&number, &lines)) tell(names[call], "the end");
-    else if (number != (unsigned long)call) tell(names[call], names[number]);
-    if (!lines) return;
+    if (!read_call(&recorded)) {
+        tell(names[call], "the end");
+        return;
+    }
+    if (recorded.number != (unsigned long)call) tell(names[call], names[recorded.number]);
+    passed += recorded.cycles;
+    if (!recorded.lines) return;
     is_going_on = true;
-    kistalub_go((uint32_t)lines, NULL);
+    kistalub_go((uint32_t)recorded.lines, NULL);
     is_going_on = false;
+}
+
+bool kl_recorded_cycles(uint64_t *cycles) {
+    *cycles = passed;
+    return is_replaying();
 }
 
 void kl_call_enters(int number) {

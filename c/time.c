@@ -1,4 +1,5 @@
-/* Time: the model's, in which each occurrence of the thread's stream takes a cycle, so that it repeats; with KISTALUB_CLOCK=real the machine's. */
+/* Time: the model's, in which each occurrence of the thread's stream takes a cycle, so that it repeats; with KISTALUB_CLOCK=real the machine's. In a run
+ * over a recording (KISTALUB_CALLS) it is that of the program's recorded cycles. */
 #include "internal.h"
 
 #include <stdio.h>
@@ -45,9 +46,11 @@ static struct timespec machine_time(clockid_t clock) {
     return now;
 }
 
-/* How many occurrences of the calling thread's stream have happened. */
+/* How many occurrences of the calling thread's stream have happened, or the cycles of a recording. */
 static uint64_t occurrences(void) {
     int code;
+    uint64_t recorded;
+    if (kl_recorded_cycles(&recorded)) return recorded;
     const thread_state *t = kl_here(&code);
     return t ? t->happened : 0;
 }

@@ -19,7 +19,7 @@ from parts.ranks import rank
 from parts.recording import FULL_STATUS, MOST_BYTES, Recorded, Wanted, record, where
 
 EXAMPLES = Path(__file__).resolve().parent.parent.parent / "examples"
-DIFFERENT_CALLS = "kistalub: the calls are not those that were recorded"
+DIFFERENT_CALLS = "papi: the calls are not those that were recorded"
 BY_SIGNAL = 128  # what a shell adds to the number of a signal
 
 
@@ -78,7 +78,7 @@ def _environment(counting: Counting, folder: Path) -> dict[str, str]:
     given = {"KISTALUB_UNIT": counting.unit, "KISTALUB_PRESETS": counting.presets, "KISTALUB_CPU": counting.cpu}
     usual = {"KISTALUB_UNIT": str(EXAMPLES / "recorded.unit"), "KISTALUB_PRESETS": str(EXAMPLES / "recorded.presets"), "KISTALUB_CPU": "recorded"}
     environment = {name: given[name] or os.environ.get(name) or usual[name] for name in usual}
-    environment.update(KISTALUB_STREAM=str(folder / "none.%t"), LD_BIND_NOW="1")
+    environment.update(KISTALUB_STREAM=str(folder / "none.%t"), KISTALUB_CACHES=counting.machine.caches(), LD_BIND_NOW="1")
     if counting.library:
         paths = [str(Path(counting.library).resolve()), *filter(None, [os.environ.get("LD_LIBRARY_PATH")])]
         environment["LD_LIBRARY_PATH"] = ":".join(paths)

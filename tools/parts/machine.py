@@ -38,6 +38,11 @@ class Machine:
     def with_shapes(self, shapes: dict[str, Shape | None]) -> Machine:
         return replace(self, shapes={**self.shapes, **shapes})
 
+    def caches(self) -> str:
+        """As the library for C takes them: KISTALUB_CACHES."""
+        known = [(name, shape) for name, shape in self.shapes.items() if shape]
+        return " ".join(f"{name}={shape.lines * (1 if name in BUFFERS else shape.line)},{shape.ways},{shape.line}" for name, shape in known)
+
     def words(self) -> list[str]:
         """As the recorder takes them."""
         words = ["--predictor", str(self.predictor), "--costs", ",".join(map(str, self.costs))]

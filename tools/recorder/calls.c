@@ -6,7 +6,7 @@
 #define WORD 8
 #define UPPER 4
 
-static uint64_t first, made, lines_before;
+static uint64_t first, made, lines_before, cycles_before;
 static bool inside, counting;
 static FILE *out;
 
@@ -20,11 +20,12 @@ enum mark mark_at(uint64_t address) {
     return address - first < HALF ? ENTERS : LEAVES;
 }
 
-void call_enters(uint64_t address, uint64_t lines) {
+void call_enters(uint64_t address, uint64_t lines, uint64_t cycles) {
     inside = true;
     made++;
-    if (out) fprintf(out, "%" PRIu64 " %" PRIu64 "\n", (address - first) / WORD, lines - lines_before);
+    if (out) fprintf(out, "%" PRIu64 " %" PRIu64 " %" PRIu64 "\n", (address - first) / WORD, lines - lines_before, cycles - cycles_before);
     lines_before = lines;
+    cycles_before = cycles;
 }
 
 void call_leaves(uint64_t address) {

@@ -12,14 +12,15 @@
 
 enum mark { NO_MARK, ENTERS, LEAVES };
 
-/* Calls are marked in the page at this address, or not where it is 0. Each is written to `list`, if there is one, as `FUNCTION LINES`. */
+/* Calls are marked in the page at this address, or not where it is 0. Each is written to `list`, if there is one, as `FUNCTION LINES CYCLES`: the
+ * lines of the stream and the cycles of the model since the call before it. */
 void calls_begin(uint64_t page, FILE *list);
 
 /* Which mark a store to this address is. */
 enum mark mark_at(uint64_t address);
 
-/* A call enters after so many lines of the stream. */
-void call_enters(uint64_t address, uint64_t lines);
+/* A call enters after so many lines of the stream and cycles of the model. */
+void call_enters(uint64_t address, uint64_t lines, uint64_t cycles);
 void call_leaves(uint64_t address);
 
 bool is_in_call(void);

@@ -59,6 +59,7 @@ enum { BY_LOAD, BY_STORE, BY_FETCH };
 static machine *hardware;
 static bool each, noting;
 static uint64_t totals[KINDS];
+static uint64_t cycles;
 static uint64_t current;                      /* the address of the instruction that was run last */
 static uint64_t block, block_size, block_end; /* the first address of a block, its instructions so far, and what follows it */
 static struct { bool is_open, is_noted; uint64_t address, after; uint8_t class; } branch;
@@ -75,6 +76,7 @@ static void note(unsigned kind, uint64_t place, uint64_t amount) {
 }
 
 static void stall(uint64_t place, unsigned cost) {
+    cycles += hardware->costs[cost];
     note(CYCLES, place, hardware->costs[cost]);
     note(STALLS, place, hardware->costs[cost]);
 }
@@ -119,6 +121,7 @@ static void compute(uint8_t class) {
 void model_instruction(uint64_t address, uint64_t size, uint8_t class) {
     if (address != block_end) model_block_ends();
     if (!block_size++) block = address;
+    cycles++;
     current = address;
     block_end = address + size;
     fetch(address, size);
@@ -164,6 +167,8 @@ void model_access(enum access kind, uint64_t address, uint64_t size) {
         ask_levels(side, address, size);
     }
 }
+
+uint64_t model_cycles(void) { return cycles; }
 
 const char *model_total(unsigned kind, uint64_t *total) {
     if (kind >= KINDS) return NULL;

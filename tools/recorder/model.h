@@ -37,6 +37,9 @@ void model_goes_on(uint64_t address);
 /* What was gathered of a block becomes lines. */
 void model_block_ends(void);
 
+/* The cycles so far, noted or not. */
+uint64_t model_cycles(void);
+
 /* The names and the amounts of all kinds that were noted, one after another until NULL. */
 const char *model_total(unsigned kind, uint64_t *total);
 

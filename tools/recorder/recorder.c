@@ -102,7 +102,7 @@ static void see_mark(enum mark mark, uint64_t address) {
     else {
         end_window();
         used_bytes = stream_bytes();
-        call_enters(address, stream_lines());
+        call_enters(address, stream_lines(), model_cycles());
     }
 }
 

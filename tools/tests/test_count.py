@@ -123,6 +123,22 @@ class Programs(InFolder):
         self.assertIn(int(self.count(program).stdout), range(1024, 1029))
         self.assertEqual(int(self.count("--l1d", "1048576,8,64", program).stdout), 0)
 
+    def test_time_is_that_of_the_cycles_and_the_caches_are_told(self) -> None:
+        program = self.compile("""
+            int main(void) {
+                long long count; int set = made("PAPI_TOT_CYC");
+                long long before = PAPI_get_real_cyc();
+                PAPI_start(set); loop(5000); PAPI_stop(set, &count);
+                const PAPI_mh_info_t *m = &PAPI_get_hardware_info()->mem_hierarchy;
+                printf("%lld %d %d %d\\n", PAPI_get_real_cyc() - before - count, m->levels, m->level[0].cache[1].size, m->level[1].cache[0].associativity);
+                return count < 10000;
+            }
+        """)
+        done = self.count("--l1d", "16384,4,64", "--l2", "65536,2,64", "--l3", "none", program)
+        between, *told = map(int, done.stdout.split())
+        self.assertEqual((told, done.returncode), ([2, 16384, 2], 0))
+        self.assertTrue(0 < between < 2000, between)
+
     def test_standard_input_is_read_by_both_runs(self) -> None:
         program = self.compile("""
             int main(void) {
@@ -148,7 +164,7 @@ class Programs(InFolder):
     def test_calls_that_differ_are_told_once(self) -> None:
         done = self.count(self.compile(self.OTHER_CALLS))
         self.assertEqual((done.stdout, done.returncode), ("99\n0\n", 1))
-        self.assertEqual(done.stderr, "kistalub: the calls are not those that were recorded: call 6 is PAPI_start, and was the end\n")
+        self.assertEqual(done.stderr, "papi: the calls are not those that were recorded: call 6 is PAPI_start, and was the end\n")
 
     def test_rounds_until_the_calls_agree(self) -> None:
         done = self.count("--rounds", "4", self.compile(self.OTHER_CALLS))
@@ -158,7 +174,7 @@ class Programs(InFolder):
         program = self.compile("""
             int main(void) { long long count; int set = made("PAPI_TOT_INS"); PAPI_start(set); PAPI_stop(set, &count); if (!count) PAPI_read(set, &count); return 0; }
         """)
-        self.assertRegex(self.count(program).stderr, r"^kistalub: the calls are not those that were recorded: call 6 is the end, and was PAPI_read\n$")
+        self.assertRegex(self.count(program).stderr, r"^papi: the calls are not those that were recorded: call 6 is the end, and was PAPI_read\n$")
 
     def test_a_second_thread(self) -> None:
         text = """

@@ -161,7 +161,7 @@ class Lines(InFolder):
         calls = self.folder / "calls"
         lines, told, _ = self.filter(trace, "--page", f"{page:x}", "--calls", str(calls))
         self.assertEqual(lines, ["0 c0 00 u 2 4", "0 3c 00 u 2 4"])
-        self.assertEqual(calls.read_text(encoding="ascii"), "3 0\n2 0\n1 2\n")
+        self.assertEqual(calls.read_text(encoding="ascii"), "3 0 1\n2 0 1\n1 2 2\n")
         self.assertIn("calls 3", told)
 
     def test_what_follows_the_last_call_is_cut(self) -> None:
