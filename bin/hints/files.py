@@ -44,7 +44,7 @@ def read_rows(content: bytes) -> list[Row]:
         if match[0].startswith(b"#"):
             line += match[0].rstrip(b"\r").count(b"\r")
         else:
-            rows.append(Row(line, match[0].decode("utf-8", "backslashreplace")))
+            rows.append(Row(line, match[0].decode("utf-8", "surrogateescape")))
     return rows
 
 
@@ -53,9 +53,9 @@ def read_table(name: str) -> list[Row]:
 
 
 def read_lines(name: str) -> list[str]:
-    """The lines of a script, without a carriage return at their ends."""
-    lines = _content(name).decode("utf-8", "backslashreplace").split("\n")
-    return [line[:-1] if line.endswith("\r") else line for line in lines]
+    """The lines of a script. A carriage return before a newline is dropped."""
+    *lines, last = _content(name).decode("utf-8", "surrogateescape").split("\n")
+    return [line.removesuffix("\r") for line in lines] + [last]
 
 
 def line_of(name: str, number: int) -> tuple[str, bool]:
@@ -65,8 +65,8 @@ def line_of(name: str, number: int) -> tuple[str, bool]:
         first = file.readline(LONGEST_LINE)
         file.seek(0)
         found = next(islice(file, number - 1, number), b"")
-    text = found.removesuffix(b"\n").removesuffix(b"\r")
-    return text.decode("utf-8", "backslashreplace"), first.rstrip(b"\r\n") == b"version 2"
+    text = found[:-1].removesuffix(b"\r") if found.endswith(b"\n") else found
+    return text.decode("utf-8", "surrogateescape"), first.rstrip(b"\r\n") == b"version 2"
 
 
 def _content(name: str) -> bytes:

@@ -34,6 +34,7 @@ MAP_FIELDS = {
 }
 TITLES = {"COMPONENT": "name,pmu", "COUNTER": "name,width,P", "EVENT": "name,select code,counters,description", "UMASK": "name,bits,flags,description"}
 TITLES["RANGE"] = "name,START,WIDTH,BUCKETS"
+MOST_OF_UNIT = {"COMPONENT": "16 components", "COUNTER": "32 counters of a component", "EVENT": "1,024 events of a component", "UMASK": "16 umasks of an event"}
 MOST_NATIVES = 8
 TOKENS_TAKE = {"+": 2, "-": 2, "*": 2, "/": 2}
 
@@ -69,7 +70,7 @@ def unit_fault(rows: list[Row], place: int, cause: str) -> str:
         return f"no row above has the counter {shown(missing)} in its component{near(missing, own)}"
     if cause == "repeated name":
         return _repeated(rows, place)
-    return ""
+    return f"at most {MOST_OF_UNIT[fields[0]]} are taken" if cause == "over a limit" else ""
 
 
 def _component(above: list[list[str]]) -> list[list[str]]:
@@ -135,7 +136,7 @@ def _end(fields: list[str]) -> int:
 
 
 def preset_fault(rows: list[Row], place: int, cause: str) -> str:
-    _, *fields = rows[place].fields()
+    kind, *fields = rows[place].fields()
     entry = entry_of(fields)
     if cause == "preset before cpu":
         return "a row CPU,name is wanted above it"
@@ -147,8 +148,8 @@ def preset_fault(rows: list[Row], place: int, cause: str) -> str:
         return ""
     if entry.kind not in (*COMPUTED, *READ_ALONE):
         return f"the type is {shown(entry.kind)}{near(entry.kind, (*COMPUTED, *READ_ALONE))}"
-    if not re.fullmatch(r"(?!PAPI_)[A-Za-z0-9_]{1,32}", fields[0]) and not fields[0].startswith("PAPI_"):
-        return f"the name is {shown(fields[0])}; wanted: 1 to 32 letters, digits and _"
+    if kind.upper() == "EVENT" and not re.fullmatch(r"(?!PAPI_)[A-Za-z0-9_]{1,32}", fields[0]):
+        return f"the name is {shown(fields[0])}; wanted: 1 to 32 letters, digits and _, and not PAPI_ before them"
     odd = next((text for text in (entry.formula, *entry.natives) if not re.fullmatch(r"[ -~]*", text)), None)
     return f"{shown(odd)} has a character that is not from a space to ~" if odd is not None else ""
 

@@ -54,7 +54,10 @@ def calls_of(lines: list[str]) -> list[Call]:
 
 def line_fault(text: str, cause: str, calls: Mapping[str, tuple[str, ...]]) -> str:
     """What is wrong with a line whose cause the program says, or nothing where the cause says it all."""
-    thread, name, *arguments = [*words_of(text), "", ""][: max(2, len(words_of(text)))]
+    words = words_of(text)
+    if not words:
+        return "the line has spaces alone; an empty line has none"
+    thread, name, *arguments = [*words, ""][: max(2, len(words))]
     if cause == "bad thread":
         return f"{shown(thread)} stands where the thread is wanted, 0 to 63: 0 {thread.lower() if thread.lower() in calls else next(iter(calls))}"
     if cause == "unknown call":

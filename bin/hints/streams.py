@@ -15,7 +15,8 @@ FIELDS = (
     ("the amount", r"[1-9][0-9]?|1[0-9]{2}|2[0-4][0-9]|25[0-5]", "a number from 1 to 255"),
     ("the program counter", r"[0-9A-Fa-f]{1,16}", "1 to 16 hexadecimal digits without 0x"),
 )
-STAMP = ("the stamp", r"0|[1-9][0-9]{0,9}", "a number from 0 to 4294967294")
+LAST_STAMP = 4_294_967_294
+STAMP = ("the stamp", r"0|[1-9][0-9]{0,9}", f"a number from 0 to {LAST_STAMP}")
 MOST_BYTES = 128
 
 
@@ -29,7 +30,7 @@ def stream_fault(text: str, has_stamps: bool, cause: str) -> str:
         return _number_fault(text, fields, form)
     if cause == "bad field":
         for number, (field, (what, wanted_form, wanted)) in enumerate(zip(fields, form), start=1):
-            if not re.fullmatch(wanted_form, field):
+            if not re.fullmatch(wanted_form, field) or (number > len(FIELDS) and int(field) > LAST_STAMP):
                 return f"field {number}, {what}, is {shown(field)}, and {wanted} is wanted"
     return ""
 

@@ -22,8 +22,13 @@ def cut(text: str) -> str:
 
 
 def plain(text: str) -> str:
-    """A text on one line, with other characters than printable ones as in a program of C or Python."""
-    return "".join(letter if letter.isprintable() else repr(letter)[1:-1] for letter in text)
+    """A text on one line. Other characters than printable ones, and bytes that are not UTF-8, are written as in a program of Python."""
+    return "".join(letter if letter.isprintable() else _escaped(letter) for letter in text)
+
+
+def _escaped(letter: str) -> str:
+    byte = ord(letter) - 0xDC00  # as surrogateescape keeps a byte that is not UTF-8
+    return f"\\x{byte:02x}" if 0x80 <= byte <= 0xFF else repr(letter)[1:-1]
 
 
 def near(text: str, names: Iterable[str]) -> str:

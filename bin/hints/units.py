@@ -10,7 +10,7 @@ from texts import near, shown
 
 MODIFIERS = ("u", "k", "e", "i", "c")
 SWITCH = re.compile(r"[01nyft]", re.IGNORECASE)
-NUMBER = re.compile(r"0|[1-9][0-9]{0,2}|0x[0-9a-f]{1,2}", re.IGNORECASE)
+NUMBER = re.compile(r"0|[1-9][0-9]{0,2}|0x[0-9A-Fa-f]{1,2}")
 
 
 @dataclass(frozen=True)

@@ -15,9 +15,10 @@ EVENTS = re.compile(r"[!-~]+")
 
 @dataclass
 class Words:
-    """The values of the options, the words that are none, and what could not be split."""
+    """The values of the options, those that lack theirs, the words that are none, and what could not be split."""
 
     options: dict[str, str] = field(default_factory=dict)
+    lacking: set[str] = field(default_factory=set)
     others: list[str] = field(default_factory=list)
     faults: list[str] = field(default_factory=list)
 
@@ -41,7 +42,7 @@ class Words:
         option = form.options.get(name)
         if option is None:
             self.faults.append(f"{form.tool} has no option {shown(name)}{near(name, form.options)}")
-        elif name in self.options:
+        elif name in self.options or name in self.lacking:
             self.faults.append(f"{name} stands twice")
         elif option.value:
             self._take_value(form, option, attached, rest)
@@ -59,7 +60,7 @@ class Words:
         elif rest and (rest[0] == "-" or not rest[0].startswith("-")):
             self.options[option.word] = rest.pop(0)
         else:
-            self.options[option.word] = ""
+            self.lacking.add(option.word)
             is_value = rest and _name_and_value(rest[0])[0] not in form.options
             ending = f": a value that begins with - is attached, {option.word}{rest.pop(0)}" if is_value else ""
             self.faults.append(f"{option.word} has no {option.value}{ending}")
@@ -84,13 +85,15 @@ def word_faults(form: Form, read: Words) -> list[str]:
 
 def _option_faults(form: Form, option: Option, read: Words) -> list[str]:
     value = read.options.get(option.word)
+    if option.word in read.lacking:
+        return []
     if value is None:
         if option.is_needed:
             return [f"{option.text()} is missing: {_short(option.meaning)}"]
-        if option.partner in read.options:
+        if option.partner in read.options or option.partner in read.lacking:
             return [f"{option.text()} is missing: {form.options[option.partner].text()} goes with it"]
         return []
-    if option.word == "-C" and value and not CPU.fullmatch(value):
+    if option.word == "-C" and not CPU.fullmatch(value):
         return [f"-C {shown(value)}: a processor's name has 1 to 64 printable characters, no comma, and no space at its ends"]
     if option.word == "--events":
         return _event_faults(value)
@@ -101,7 +104,7 @@ def _event_faults(value: str) -> list[str]:
     events = value.split(",")
     if len(events) > MOST_EVENTS:
         return [f"--events: {len(events)} events, and at most {MOST_EVENTS} are counted"]
-    if value and not all(EVENTS.fullmatch(event) for event in events):
+    if not all(EVENTS.fullmatch(event) for event in events):
         return ["--events: names with one comma between two, and no spaces"]
     return []
 
@@ -109,7 +112,7 @@ def _event_faults(value: str) -> list[str]:
 def _number_faults(word: str, name: str, meaning: str, value: str) -> list[str]:
     """For a word whose value is a number. Its name has one letter, or is SIZE."""
     limits = limits_of(meaning)
-    if limits is None or len(name) > 1 and name != "SIZE" or not value:
+    if limits is None or len(name) > 1 and name != "SIZE":
         return []
     if re.fullmatch("[0-9]{1,9}", value) and limits[0] <= int(value) <= limits[1]:
         return []
