@@ -4,14 +4,21 @@
 #include <stdio.h>
 #include <string.h>
 
+/* The code of an event that can be counted. */
+static int code_named(thread_state *t, const char *name, int *event) {
+    uint32_t own = 0;
+    int code = kl_is_known(t, name);
+    if (code == PAPI_OK) code = kistalub_name_to_code(&t->library, (const unsigned char *)name, strlen(name), &own);
+    return code == PAPI_OK ? kl_code_outward(t, own, event) : code;
+}
+
+/* A preset has its code also where it is not available. */
 int PAPI_event_name_to_code(const char *in, int *out) {
     CALL(PAPI_event_name_to_code);
-    uint32_t event = 0;
     HERE(t);
     if (!in || !out) RETURN(PAPI_EINVAL);
-    int code = kl_is_known(t, in);
-    if (code == PAPI_OK) code = kistalub_name_to_code(&t->library, (const unsigned char *)in, strlen(in), &event);
-    RETURN(code == PAPI_OK ? kl_code_outward(t, event, out) : code);
+    int code = code_named(t, in, out);
+    RETURN(code == PAPI_ENOEVNT ? kl_preset_named(in, out) : code);
 }
 
 /* Ends a text of this length; one that had no room is PAPI_EBUF. */
@@ -29,6 +36,10 @@ int kl_name_in(int event, char *name) {
     if (kl_is_row(event)) {
         int found = kl_place_of(t, event, &at);
         return found == PAPI_OK ? kl_native_text(t, at, KISTALUB_ROW_NAME, 0, name, NAME_ROOM) : found;
+    }
+    if (kl_preset_name(event)) {
+        snprintf(name, NAME_ROOM, "%s", kl_preset_name(event));
+        return PAPI_OK;
     }
     uint32_t own;
     int code = kl_code_in_library(t, event, &own);
@@ -59,14 +70,20 @@ int PAPI_event_code_to_name(int event, char *out) {
 int PAPI_query_named_event(const char *name) {
     CALL(PAPI_query_named_event);
     int event;
-    RETURN(PAPI_event_name_to_code(name, &event));
+    HERE(t);
+    RETURN(name ? code_named(t, name, &event) : PAPI_EINVAL);
 }
 
 int PAPI_query_event(int event) {
     CALL(PAPI_query_event);
     char name[NAME_ROOM];
-    int code = kl_name_in(event, name);
-    RETURN(code == PAPI_OK && !kl_is_row(event) ? PAPI_query_named_event(name) : code);
+    uint32_t own = 0, component = 0;
+    HERE(t);
+    if (IS_PRESET(event) && (event & PAPI_PRESET_AND_MASK) >= PAPI_MAX_PRESET_EVENTS) RETURN(PAPI_ENOTPRESET);
+    if (!(event & PAPI_PRESET_MASK)) RETURN(kl_name_in(event, name));
+    int code = kl_code_in_library(t, event, &own);
+    if (code == PAPI_OK) code = kistalub_component_of(&t->library, own, &component);
+    RETURN(code == PAPI_OK ? kl_is_enabled(t, own) : code);
 }
 
 /* What the unit's file says of a native event. Where it has one umask, the description of that stands behind the event's own. */
@@ -88,6 +105,7 @@ static int native_info(thread_state *t, native_place at, PAPI_event_info_t *info
 /* What is derived in a preset or a user event that is available: its type, its formula and its native events. */
 static int derived_info(thread_state *t, uint32_t code, PAPI_event_info_t *info) {
     int answer = info_in(t, code, KISTALUB_DESCRIPTION, 0, info->long_descr, sizeof info->long_descr);
+    if (answer == PAPI_ENOEVNT && IS_PRESET((int)info->event_code)) return PAPI_OK; /* a preset of which the model knows the name alone */
     if (answer == PAPI_OK) answer = info_in(t, code, KISTALUB_DERIVED_TYPE, 0, info->derived, sizeof info->derived);
     if (answer == PAPI_OK) answer = info_in(t, code, KISTALUB_FORMULA, 0, info->postfix, sizeof info->postfix);
     while (answer == PAPI_OK && info->count < PAPI_MAX_INFO_TERMS) {

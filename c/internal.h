@@ -171,6 +171,10 @@ int kl_code_in_library(thread_state *t, int event, uint32_t *code);
 int kl_place_of(thread_state *t, int event, native_place *at);
 int kl_native_text(thread_state *t, native_place at, uint32_t part, uint32_t mask, char *text, size_t room);
 
+/* preset_names.c */
+const char *kl_preset_name(int code);
+int kl_preset_named(const char *name, int *code);
+
 /* preset_kinds.c */
 unsigned kl_preset_kinds(int event);
 
