@@ -13,7 +13,7 @@ use Rattle.session_model.specs.World.{met_by}
 use Rattle.plan_runner.specs.declared.result.ReplyLine.{ReplyLine}
 use Rattle.plan_runner.specs.Marks.{mark_at, marks_in}
 use Rattle.papi_tools.specs.Marks.{is_bad, is_fault, outcome_at}
-use Rattle.papi_tools.specs.declared.status.Outcome.TheVariants.{Whole, Refused, ReadFault}
+use Rattle.papi_tools.specs.declared.status.Outcome.TheVariants.{Whole, No, Refused, ReadFault}
 
 -- some reply says that the source failed
 abbrev pub SomeFault : List ReplyLine → Type 0
@@ -77,6 +77,15 @@ by_tests : (faults bad : Bool) → (if faults then ReadFault else if bad then Re
 by_tests true bad e = refl
 by_tests false true e = cc
 by_tests false false e = cc
+
+no_by_tests : (faults bad : Bool) → (if faults then ReadFault else if bad then Refused else Whole) ≡ No → ⊥
+no_by_tests true bad e = cc
+no_by_tests false true e = cc
+no_by_tests false false e = cc
+
+-- a call whose runs met marks does not say no
+pub never_no : (marks : List (Option Ended)) → outcome_at marks ≡ No → ⊥
+never_no marks e = no_by_tests (list_any is_fault marks) (list_any is_bad marks) e
 
 -- the runs' marks end a call by a fault only where a reply says so
 pub fault_replied : (lines : List ReplyLine) → outcome_at (marks_in lines) ≡ ReadFault → SomeFault lines

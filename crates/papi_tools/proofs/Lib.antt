@@ -1,7 +1,8 @@
 pub mod CarriedLemmas
 pub mod CauseLemmas
 pub mod FaultLemmas
-pub mod LookingLemmas
+pub mod KnownLemmas
+mod LookingLemmas
 pub mod OpeningLemmas
 pub mod PositionLemmas
 pub mod ProfilLemmas

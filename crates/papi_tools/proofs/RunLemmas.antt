@@ -1,5 +1,5 @@
 -- What is said of a run is what the definition says.
-use Rattle.std.proofs.Common.{◌≡◌, ◌<◌, ◌≤◌, ◌+◌, ℕ, zero, suc, Bool, true, false, List, [], ◌∷◌, length, map, Option, Some, None, IfSome, IfOk, IsOkAnd, Result, Ok, Err, Vec, Global, vec_len, refl, sym, ap, ◌∙◌, arith, All, cond, if◌then◌else◌, inl, inr, is_some, slice_index_or, zero-add}
+use Rattle.std.proofs.Common.{◌≡◌, ◌≢◌, ◌<◌, ◌≤◌, ◌+◌, ℕ, zero, suc, Bool, true, false, List, [], ◌∷◌, length, map, Option, Some, None, IfSome, IfOk, IsOkAnd, Result, Ok, Err, Vec, Global, vec_len, refl, sym, ap, ◌∙◌, arith, All, cond, if◌then◌else◌, inl, inr, is_some, slice_index_or, zero-add}
 use Rattle.std.proofs.lemmas.List.{length-map}
 use Rattle.std.specs.List.{range_with_len}
 use Rattle.std.specs.Option.{option_map, option_map_or}
@@ -37,7 +37,7 @@ use Rattle.papi_tools.specs.declared.refusal.Stop.TheVariants as stop
 use Rattle.papi_tools.specs.declared.said.Said.{Said}
 use Rattle.papi_tools.specs.declared.status.Outcome.{Outcome}
 use Rattle.papi_tools.specs.declared.status.Outcome.TheVariants.{Whole, No, Refused, ReadFault}
-use Rattle.papi_tools.proofs.FaultLemmas.{SomeFault, fault_replied}
+use Rattle.papi_tools.proofs.FaultLemmas.{SomeFault, fault_replied, never_no}
 use Rattle.papi_tools.proofs.StreamLemmas.{sources_in-append}
 use Rattle.papi_tools.proofs.TellingLemmas.{added_begun, none_added, none_begun}
 
@@ -175,6 +175,14 @@ met_in_said lines marks text before after (Ok said) e m h =
     let same : marked_said marks text ≡ said = cc e in
     rw (← same) (met_of lines marks text before after m h (outcome_at marks) refl)
 met_in_said lines marks text before after (Err s) e m h = tt
+
+-- what is said of a run is no no
+pub marked_yes : (lines : List ReplyLine) (marks : List (Option Ended)) (text : List ℕ) (answer : Result Said Stop) → Answers answer (Ok (marked_said marks text)) → marks ≡ marks_in lines →
+    IfOk answer (λ said. said.outcome ≢ No)
+marked_yes lines marks text (Ok said) e m =
+    let same : marked_said marks text ≡ said = cc e in
+    rw (← same) (never_no marks)
+marked_yes lines marks text (Err s) e m = tt
 
 -- ---- the whole of it
 

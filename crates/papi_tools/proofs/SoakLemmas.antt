@@ -148,8 +148,3 @@ run_refused words rounds s same h = rw (← same) (refused_by (soak_given rounds
 pub none_told : (expected : Result Verdict Refusal) (lists : List (List Note)) (s : Stop) → AnswersSaid (Err s) expected → TellsBy (Err s) (notes_in expected) lists lists
 none_told expected lists (stop.Refused refusal) h = let e : expected ≡ Err refusal = h in rw e (none_added lists [] refl)
 none_told expected lists stop.Memory h = none_begun lists (notes_in expected)
-
--- whatever files are told
-pub whatever : {P : Type 0} (told : Option Held) → P → IfSome told (λ held. P)
-whatever None h = tt
-whatever (Some held) h = h

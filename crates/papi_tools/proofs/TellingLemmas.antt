@@ -7,7 +7,7 @@ use Rattle.overflow_dispatch.specs.Notes.{EachAdded, EachBegun, EachGrown}
 use Rattle.papi_tools.specs.Saying.{Tells}
 use Rattle.papi_tools.specs.Steps.{Verdict}
 use Rattle.papi_tools.specs.Carried.{TellsHandlers}
-use Rattle.papi_tools.specs.Verdict.{ended, notes_in, verdict}
+use Rattle.papi_tools.specs.Verdict.{ended, known_verdict, notes_in}
 use Rattle.papi_tools.specs.declared.refusal.Refusal.{Refusal}
 use Rattle.papi_tools.specs.declared.status.Status.{Status}
 use Rattle.papi_tools.specs.declared.status.Status.TheVariants.{Whole, No, Refused, ReadFault, Memory, WriteFault}
@@ -32,9 +32,9 @@ by_status Memory before given after h = added_begun before given after h
 by_status WriteFault before given after h = h
 
 -- all notes are told, whatever was written
-pub all_told : (told : Option Held) (given : Held → List (List Note)) (s : Status) (before after : List (List Note)) → IfSome told (λ held. EachAdded before (given held) after) → IfSome told (λ held. Tells s (given held) before after)
-all_told None given s before after h = tt
-all_told (Some held) given s before after h = by_status s before (given held) after h
+pub all_told : (verdict : Option Verdict) (s : Status) (before after : List (List Note)) → IfSome verdict (λ v. EachAdded before v.notes after) → IfSome verdict (λ v. Tells s v.notes before after)
+all_told None s before after h = tt
+all_told (Some v) s before after h = by_status s before v.notes after h
 
 -- the notes of what is expected
 pub same_notes : (expected : Result Verdict Refusal) → notes_in expected ≡ (ended expected).notes
@@ -51,10 +51,10 @@ none_begun lists given = record { same_length = refl; begun = λ t small. (0, om
 pub none_grown : (lists : List (List Note)) → EachGrown lists lists
 none_grown lists = record { same_length = refl; grown = λ t small. ([], sym (append-nil _)) }
 
-begun_told : (words : List (List ℕ)) (held : Option Held) (lists : List (List Note)) → IfSome held (λ h. Tells Memory (verdict words h).notes lists lists)
-begun_told words None lists = tt
-begun_told words (Some held) lists = none_begun lists (verdict words held).notes
+begun_told : (verdict : Option Verdict) (lists : List (List Note)) → IfSome verdict (λ v. Tells Memory v.notes lists lists)
+begun_told None lists = tt
+begun_told (Some v) lists = none_begun lists v.notes
 
 -- nothing has been told, for memory ran out
 pub untold : (words : List (List ℕ)) (held : Option Held) (lists : List (List Note)) → TellsHandlers words Memory held lists lists
-untold words held lists = record { tells = begun_told words held lists; grown = none_grown lists }
+untold words held lists = record { tells = begun_told (known_verdict words held) lists; grown = none_grown lists }

@@ -1,8 +1,9 @@
 -- What the words and the counts of the files show of what is said, where nothing is told.
-use Rattle.std.specs.Prelude.{◌≡◌, ◌⊎◌, List, Option, None}
+use Rattle.std.specs.Prelude.{◌≡◌, ◌⊎◌, List, Option, Some, None, IsSome}
 use Rattle.papi_base.specs.Outside.{Rose}
 use Rattle.session_model.specs.declared.reply.Ended.{Ended}
 use Rattle.tool_words.specs.declared.command.Command.{Command}
+use Rattle.tool_words.specs.declared.command.Command.TheVariants.{Avail, NativeAvail, EventChooser, Encode, Regions}
 use Rattle.papi_tools.specs.Looking.{HasFileCause}
 use Rattle.papi_tools.specs.Marks.{mark_lines, outcome_at}
 use Rattle.papi_tools.specs.Seen.{FilesSeen}
@@ -24,6 +25,15 @@ MetCause outcome.No before after said = Unit {0}
 MetCause outcome.Refused before after said = MetBad said
 MetCause outcome.ReadFault before after said = Rose before.faults after.faults
 
+-- the tools that may say no: to the name of an event, to names, or to events that do not go together
+abbrev pub SaysNo : Option Command → Type 0
+SaysNo (Some (Avail words)) = IsSome words.event
+SaysNo (Some (NativeAvail words)) = IsSome words.event
+SaysNo (Some (EventChooser words)) = Unit {0}
+SaysNo (Some (Encode words)) = Unit {0}
+SaysNo (Some (Regions words)) = Unit {0}
+SaysNo _ = ⊥
+
 -- a tool that looks at files alone ends with its text, which may say no
 abbrev pub IsTextual : Outcome → Type 0
 IsTextual outcome.Whole = Unit {0}
@@ -42,7 +52,7 @@ IsRefusal command before after said = (refusal : Refusal) × (said ≡ refused_s
 -- what is said with this outcome has its cause
 abbrev pub CauseFor : Outcome → Option Command → FilesSeen → FilesSeen → Said → Type 0
 CauseFor outcome.Whole command before after said = Unit {0}
-CauseFor outcome.No command before after said = Unit {0}
+CauseFor outcome.No command before after said = SaysNo command
 CauseFor outcome.Refused command before after said = IsRefusal command before after said ⊎ MetBad said
 CauseFor outcome.ReadFault command before after said = Rose before.faults after.faults
 

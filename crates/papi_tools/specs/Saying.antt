@@ -1,6 +1,6 @@
 -- What a call writes, by its status, and what the counts of faults show of it.
 use Rattle.std.specs.Prelude.{◌≡◌, ◌-◌, ◌⊎◌, ℕ, List, length, take, Option}
-use Rattle.papi_base.specs.Outside.{appended, Rose}
+use Rattle.papi_base.specs.Outside.{appended, next_count}
 use Rattle.overflow_dispatch.specs.declared.handler.Note.{Note}
 use Rattle.overflow_dispatch.specs.Notes.{EachAdded, EachBegun}
 use Rattle.papi_tools.specs.declared.status.Status.{Status}
@@ -33,10 +33,9 @@ abbrev pub Tells : Status → List (List Note) → List (List Note) → List (Li
 Tells status.Memory given before after = EachBegun before given after
 Tells s given before after = EachAdded before given after
 
--- Status 5 only where a sink's count rose; the counts stay where the status is neither 5 nor 4.
+-- Status 5 only where one of the sinks failed, once: after a failed write nothing more is handed to it. The counts stay where the status is another one.
 abbrev pub HasSinkCause : Status → ℕ → ℕ → ℕ → ℕ → Type 0
-HasSinkCause status.Memory out out' err err' = Unit {0}
-HasSinkCause status.WriteFault out out' err err' = Rose out out' ⊎ Rose err err'
+HasSinkCause status.WriteFault out out' err err' = ((out' ≡ next_count out) × (err' ≡ err)) ⊎ ((out' ≡ out) × (err' ≡ next_count err))
 HasSinkCause s out out' err err' = (out' ≡ out) × (err' ≡ err)
 
 -- a status that stands for a judgment, or for out of memory

@@ -1,5 +1,6 @@
 -- What a call of the program comes to, as a function of its words and of the files that are held.
 use Rattle.std.specs.Prelude.{◌≡◌, ℕ, List, [], Option, Some, None, IsOkAnd, Result, Ok, Err}
+use Rattle.std.specs.Option.{option_map}
 use Rattle.papi_base.specs.Outside.{Held}
 use Rattle.overflow_dispatch.specs.declared.handler.Note.{Note}
 use Rattle.overflow_dispatch.specs.Notes.{EachAdded, EachBegun}
@@ -53,6 +54,21 @@ ended (Err refusal) = record { said = refused_said refusal; notes = [] }
 -- What a call of the program comes to: both outputs, the outcome, and the notes of each thread, by its words and by what the files hold.
 abbrev pub verdict : List (List ℕ) → Held → Verdict
 verdict words held = ended (verdict_for held (form words))
+
+-- what the words come to where no file matters: words that are refused, and a soak
+abbrev pub fileless : Option Command → Option (Result Verdict Refusal)
+fileless None = Some (Err BadWords)
+fileless (Some (Soak words)) = Some (soak_verdict words)
+fileless (Some _) = None
+
+-- what the words come to, where it is known: by what the files hold, where they tell it, or where no file matters
+abbrev pub known : Option Command → Option Held → Option (Result Verdict Refusal)
+known asked None = fileless asked
+known asked (Some held) = Some (verdict_for held asked)
+
+-- The verdict, where it is known: that of the words and of what the files hold, where they tell it; and where no file matters, the same.
+abbrev pub known_verdict : List (List ℕ) → Option Held → Option Verdict
+known_verdict words held = option_map ended (known (form words) held)
 
 -- the notes of what is expected: a refusal has none
 abbrev pub notes_in : Result Verdict Refusal → List (List Note)

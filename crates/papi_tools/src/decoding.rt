@@ -1,10 +1,11 @@
 //! `papi_decode`: gives the presets and user events of a cpu.
-ghost use Rattle.std.specs.Prelude.{◌≡◌, IfOk, IfSome};
+ghost use Rattle.std.specs.Prelude.{◌≡◌, ◌≢◌, IfOk, IfSome};
 ghost use Rattle.papi_tools.specs.Answers.{Answers};
 ghost use Rattle.papi_tools.specs.Causes.{IsTextual};
 ghost use Rattle.papi_tools.specs.Decoding.{decode_verdict, decoded_said, shown_in};
 ghost use Rattle.papi_tools.specs.Looking.{Looked, StopsByFile};
 ghost use Rattle.papi_tools.specs.Seen.{FilesSeen, files_seen};
+ghost use Rattle.papi_tools.specs.declared.status.Outcome.TheVariants as outcome;
 
 use crate::preset_file::{presets_in, read_preset_bytes};
 use crate::unit_file::read_unit_file;
@@ -41,6 +42,7 @@ fn shown_of(
 fn said_of(alloc: Global, presets: &Extended) -> Result<Said, AllocError>
     ensures said { IfOk result (λ said. said ≡ decoded_said presets.now) }
     ensures textual { IfOk result (λ said. IsTextual said.outcome) }
+    ensures yes { IfOk result (λ said. said.outcome ≢ outcome.No) }
 {
     let text = write_extended(alloc, presets)?;
     Ok(Said::text(alloc, true, Bytes::new(text)))
@@ -56,6 +58,7 @@ pub fn decode_presets<F: Files>(
 ) -> Result<Said, Stop>
     ensures told { IfSome (F.held files.old) (λ held. Answers result (decode_verdict held words.now)) }
     ensures textual { IfOk result (λ said. IsTextual said.outcome) }
+    ensures yes { IfOk result (λ said. said.outcome ≢ outcome.No) }
     ensures looked { Looked result 0 (files_seen F.held F.misses F.faults F.lent files.old) (files_seen F.held F.misses F.faults F.lent files.new) }
 {
     let tables = read_unit_file(alloc, files, words.unit.as_str())?;

@@ -37,5 +37,8 @@ pub use output::Output;
 pub use refusal::{Refusal, Stop};
 pub use said::Said;
 pub use status::{Outcome, Status, status_number};
-pub use tool::{avail, decode, encode_tool, event_chooser, native_avail, run_tool, soak};
+pub use tool::{
+    avail, decode, encode_tool, event_chooser, native_avail, profil_tool, regions_tool, run_tool,
+    soak,
+};
 pub use top::papi_main;

@@ -1,10 +1,11 @@
 //! `papi_native_avail`: lists the native events of a unit, or says what one of them is.
-ghost use Rattle.std.specs.Prelude.{◌≡◌, IfOk, IfSome, option_map};
+ghost use Rattle.std.specs.Prelude.{◌≡◌, IfOk, IfSome, IsSome, option_map};
 ghost use Rattle.papi_tools.specs.Answers.{Answers};
 ghost use Rattle.papi_tools.specs.Causes.{IsTextual};
 ghost use Rattle.papi_tools.specs.Looking.{Looked};
 ghost use Rattle.papi_tools.specs.NativeListing.{native_avail_verdict, natives_said};
 ghost use Rattle.papi_tools.specs.Seen.{files_seen};
+ghost use Rattle.papi_tools.specs.declared.status.Outcome.TheVariants as outcome;
 
 use crate::unit_file::read_unit_file;
 use crate::{Said, Stop};
@@ -28,6 +29,7 @@ fn str_of(text: &Option<Text>) -> Option<&str>
 fn said_of(alloc: Global, tables: &Tables, words: &NativeAvailWords) -> Result<Said, AllocError>
     ensures said { IfOk result (λ said. said ≡ natives_said tables.now words.now words.now.event) }
     ensures textual { IfOk result (λ said. IsTextual said.outcome) }
+    ensures no { IfOk result (λ said. said.outcome ≡ outcome.No → IsSome words.now.event) }
 {
     match &words.event {
         None => {
@@ -53,6 +55,7 @@ pub fn list_natives<F: Files>(
 ) -> Result<Said, Stop>
     ensures told { IfSome (F.held files.old) (λ held. Answers result (native_avail_verdict held words.now)) }
     ensures textual { IfOk result (λ said. IsTextual said.outcome) }
+    ensures no { IfOk result (λ said. said.outcome ≡ outcome.No → IsSome words.now.event) }
     ensures looked { Looked result 0 (files_seen F.held F.misses F.faults F.lent files.old) (files_seen F.held F.misses F.faults F.lent files.new) }
 {
     let tables = read_unit_file(alloc, files, words.unit.as_str())?;

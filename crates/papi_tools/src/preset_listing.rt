@@ -1,10 +1,11 @@
 //! `papi_avail`: lists the presets and user events of a cpu, or says what one of them is.
-ghost use Rattle.std.specs.Prelude.{◌≡◌, IfOk, IfSome};
+ghost use Rattle.std.specs.Prelude.{◌≡◌, IfOk, IfSome, IsSome};
 ghost use Rattle.papi_tools.specs.Answers.{Answers};
 ghost use Rattle.papi_tools.specs.Causes.{IsTextual};
 ghost use Rattle.papi_tools.specs.Looking.{Looked};
 ghost use Rattle.papi_tools.specs.PresetListing.{avail_verdict, presets_said};
 ghost use Rattle.papi_tools.specs.Seen.{files_seen};
+ghost use Rattle.papi_tools.specs.declared.status.Outcome.TheVariants as outcome;
 
 use crate::tables::read_preset_catalog;
 use crate::{Said, Stop};
@@ -23,6 +24,7 @@ fn said_of(
 ) -> Result<Said, AllocError>
     ensures said { IfOk result (λ said. said ≡ presets_said catalog.now available event.now) }
     ensures textual { IfOk result (λ said. IsTextual said.outcome) }
+    ensures no { IfOk result (λ said. said.outcome ≡ outcome.No → IsSome event.now) }
 {
     match event {
         None => {
@@ -46,6 +48,7 @@ pub fn list_presets<F: Files>(
 ) -> Result<Said, Stop>
     ensures told { IfSome (F.held files.old) (λ held. Answers result (avail_verdict held words.now)) }
     ensures textual { IfOk result (λ said. IsTextual said.outcome) }
+    ensures no { IfOk result (λ said. said.outcome ≡ outcome.No → IsSome words.now.event) }
     ensures looked { Looked result 0 (files_seen F.held F.misses F.faults F.lent files.old) (files_seen F.held F.misses F.faults F.lent files.new) }
 {
     let catalog = read_preset_catalog(alloc, files, &words.unit, &words.presets)?;

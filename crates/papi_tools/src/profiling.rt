@@ -1,5 +1,5 @@
 //! `papi_profil`: counts where in a program the thresholds of an event were passed.
-ghost use Rattle.std.specs.Prelude.{◌≡◌, ◌≤◌, ◌<◌, ◌-◌, ◌+◌, ◌^◌, ◌∷◌, ◌++◌, All, IfOk, IfSome};
+ghost use Rattle.std.specs.Prelude.{◌≡◌, ◌≢◌, ◌≤◌, ◌<◌, ◌-◌, ◌+◌, ◌^◌, ◌∷◌, ◌++◌, All, IfOk, IfSome};
 ghost use Rattle.std.specs.Prelude.{IsOkAnd, OnOk, ℕ, [], List, drop, length, map, slice_get, slice_index_or, vec_len};
 ghost use Rattle.overflow_dispatch.specs.Notes.{EachGrown};
 ghost use Rattle.profil_hist.specs.Histograms.{IsHistogram};
@@ -11,6 +11,7 @@ ghost use Rattle.papi_tools.specs.Profiling.{IsProfiled, Profiled, counted_in, i
 ghost use Rattle.papi_tools.specs.Seen.{FilesSeen, files_seen};
 ghost use Rattle.papi_tools.specs.Streams.{sources_in};
 ghost use Rattle.papi_tools.specs.Verdict.{AnswersSaid, TellsBy, notes_in};
+ghost use Rattle.papi_tools.specs.declared.status.Outcome.TheVariants as outcome;
 
 use crate::map_file::read_map_file;
 use crate::marks::{lines_of, outcome_of};
@@ -199,6 +200,7 @@ fn carry_out<R: Threads + Sync, F: Files>(
     ensures grown { EachGrown (map (λ b. notes b) handlers.old.items) (map (λ b. notes b) handlers.new.items) }
     ensures met { IfOk result (λ said. MetCause said.outcome
         (files_seen F.held F.misses F.faults F.lent files.old) (files_seen F.held F.misses F.faults F.lent files.new) said) }
+    ensures yes { IfOk result (λ said. said.outcome ≢ outcome.No) }
     ensures cause { (before after : FilesSeen) → StopsByFile result before after }
     ensures lent { F.lent files.new ≡ F.lent files.old - sources_in input.readers.items }
     ensures misses_stay { F.misses files.old ≤ F.misses files.new }
@@ -244,6 +246,7 @@ pub fn profile<R: Threads + Sync, F: Files>(
     ensures grown { EachGrown (map (λ b. notes b) handlers.old.items) (map (λ b. notes b) handlers.new.items) }
     ensures met { IfOk result (λ said. MetCause said.outcome
         (files_seen F.held F.misses F.faults F.lent files.old) (files_seen F.held F.misses F.faults F.lent files.new) said) }
+    ensures yes { IfOk result (λ said. said.outcome ≢ outcome.No) }
     ensures looked { Looked result 0 (files_seen F.held F.misses F.faults F.lent files.old) (files_seen F.held F.misses F.faults F.lent files.new) }
 {
     match open_input(alloc, files, words) {

@@ -1,5 +1,5 @@
 //! `papi_run`: carries out a script.
-ghost use Rattle.std.specs.Prelude.{◌≡◌, ◌≤◌, ◌-◌, All, IfOk, IfSome, IsOkAnd, if◌then◌else◌, [], length, map, vec_len};
+ghost use Rattle.std.specs.Prelude.{◌≡◌, ◌≢◌, ◌≤◌, ◌-◌, All, IfOk, IfSome, IsOkAnd, if◌then◌else◌, [], length, map, vec_len};
 ghost use Rattle.overflow_dispatch.specs.Notes.{EachGrown, told_since};
 ghost use Rattle.thread_session.specs.SessionView.{IsFresh};
 ghost use Rattle.papi_tools.specs.Answers.{Answers, AnswersBy};
@@ -10,6 +10,7 @@ ghost use Rattle.papi_tools.specs.Running.{Given, IsGiven};
 ghost use Rattle.papi_tools.specs.Seen.{FilesSeen, files_seen};
 ghost use Rattle.papi_tools.specs.Streams.{sources_in};
 ghost use Rattle.papi_tools.specs.Verdict.{AnswersSaid, TellsBy, notes_in};
+ghost use Rattle.papi_tools.specs.declared.status.Outcome.TheVariants as outcome;
 
 use crate::marks::{lines_of, outcome_of};
 use crate::running::{Ran, run_script};
@@ -118,6 +119,7 @@ fn carry_out<R: Threads + Sync, F: Files>(
     ensures grown { EachGrown (map (λ b. notes b) handlers.old.items) (map (λ b. notes b) handlers.new.items) }
     ensures met { IfOk result (λ said. MetCause said.outcome
         (files_seen F.held F.misses F.faults F.lent files.old) (files_seen F.held F.misses F.faults F.lent files.new) said) }
+    ensures yes { IfOk result (λ said. said.outcome ≢ outcome.No) }
     ensures cause { (before after : FilesSeen) → StopsByFile result before after }
     ensures lent { F.lent files.new ≡ F.lent files.old - sources_in input.readers.items }
     ensures misses_stay { F.misses files.old ≤ F.misses files.new }
@@ -162,6 +164,7 @@ pub fn run<R: Threads + Sync, F: Files>(
     ensures grown { EachGrown (map (λ b. notes b) handlers.old.items) (map (λ b. notes b) handlers.new.items) }
     ensures met { IfOk result (λ said. MetCause said.outcome
         (files_seen F.held F.misses F.faults F.lent files.old) (files_seen F.held F.misses F.faults F.lent files.new) said) }
+    ensures yes { IfOk result (λ said. said.outcome ≢ outcome.No) }
     ensures looked { Looked result 0 (files_seen F.held F.misses F.faults F.lent files.old) (files_seen F.held F.misses F.faults F.lent files.new) }
 {
     match open_input(alloc, files, words) {

@@ -1,5 +1,5 @@
 //! `papi_soak`: counts a large input that it makes out of a number.
-ghost use Rattle.std.specs.Prelude.{◌≡◌, All, IfOk, IsOkAnd, codes, length, map, vec_len};
+ghost use Rattle.std.specs.Prelude.{◌≡◌, ◌≢◌, All, IfOk, IsOkAnd, codes, length, map, vec_len};
 ghost use Rattle.overflow_dispatch.specs.Notes.{EachGrown};
 ghost use Rattle.soak_input.specs.Script as soak_script;
 ghost use Rattle.soak_input.specs.Unit as soak_unit;
@@ -15,6 +15,7 @@ ghost use Rattle.papi_tools.specs.Soaking.{soak_given, soak_tapes, soak_verdict,
 ghost use Rattle.papi_tools.specs.Streams.{TellStreams, streams_of};
 ghost use Rattle.papi_tools.specs.UnitFile.{unit_of};
 ghost use Rattle.papi_tools.specs.Verdict.{AnswersSaid, TellsBy, notes_in};
+ghost use Rattle.papi_tools.specs.declared.status.Outcome.TheVariants as outcome;
 
 use crate::running::{Ran, run_script};
 use crate::script_file::script_in;
@@ -98,6 +99,7 @@ fn said_of(alloc: Global, ran: &Ran, handlers: &Vec<Box<dyn Handler + Send>>) ->
     ensures said { Answers result (Ok (summary_said
         (totals_between ran.now.lines.items ran.now.noted.items (map (λ b. length (notes b)) handlers.now.items)) (length ran.now.lines.items))) }
     ensures textual { IfOk result (λ said. IsTextual said.outcome) }
+    ensures yes { IfOk result (λ said. said.outcome ≢ outcome.No) }
     ensures cause { (before after : FilesSeen) → StopsByFile result before after }
 {
     let noted = counts_of(alloc, handlers)?;
@@ -128,6 +130,7 @@ fn carry_out<R: Threads + Sync>(
         → TellsBy result (soaked given).notes (map (λ b. notes b) handlers.old.items) (map (λ b. notes b) handlers.new.items) }
     ensures grown { EachGrown (map (λ b. notes b) handlers.old.items) (map (λ b. notes b) handlers.new.items) }
     ensures textual { IfOk result (λ said. IsTextual said.outcome) }
+    ensures yes { IfOk result (λ said. said.outcome ≢ outcome.No) }
     ensures cause { (before after : FilesSeen) → StopsByFile result before after }
 {
     let SoakRun {
@@ -164,6 +167,7 @@ pub fn soak<R: Threads + Sync>(
     ensures tells { TellsBy result (notes_in (soak_verdict words.now)) (map (λ b. notes b) handlers.old.items) (map (λ b. notes b) handlers.new.items) }
     ensures grown { EachGrown (map (λ b. notes b) handlers.old.items) (map (λ b. notes b) handlers.new.items) }
     ensures textual { IfOk result (λ said. IsTextual said.outcome) }
+    ensures yes { IfOk result (λ said. said.outcome ≢ outcome.No) }
     ensures cause { (before after : FilesSeen) → StopsByFile result before after }
 {
     match make_run(alloc, words.rounds.get()) {

@@ -24,6 +24,31 @@ fn named(alloc: Global, tool: &str, words: &[String]) -> Result<Vec<String>, All
     Ok(all)
 }
 
+// A tool that tells the handlers what was passed, over the words after its name, as `papi_main` does it.
+fn telling_tool<R: Threads + Sync, F: Files, K: Sink>(
+    rt: &R,
+    alloc: Global,
+    tool: &str,
+    words: &[String],
+    files: &mut F,
+    out: &mut K,
+    err: &mut K,
+    handlers: &mut Vec<Box<dyn Handler + Send>>,
+) -> Status
+    requires handlers { vec_len handlers.old ≡ THREADS }
+    ensures len { vec_len handlers.new ≡ THREADS }
+    ensures carries_out { CarriesOut (tool.now ∷ map string_bytes words.now) result
+        (files_seen F.held F.misses F.faults F.lent files.old) (files_seen F.held F.misses F.faults F.lent files.new)
+        (sink_seen K.taken K.faults out.old) (sink_seen K.taken K.faults out.new) (sink_seen K.taken K.faults err.old) (sink_seen K.taken K.faults err.new) }
+    ensures tells { TellsHandlers (tool.now ∷ map string_bytes words.now) result (F.held files.old)
+        (map (λ b. notes b) handlers.old.items) (map (λ b. notes b) handlers.new.items) }
+{
+    match named(alloc, tool, words) {
+        Ok(all) => papi_main(rt, alloc, &all, files, out, err, handlers),
+        Err(_) => Status::Memory,
+    }
+}
+
 /// `papi_run` over the words after its name, as `papi_main` does it.
 pub fn run_tool<R: Threads + Sync, F: Files, K: Sink>(
     rt: &R,
@@ -42,10 +67,28 @@ pub fn run_tool<R: Threads + Sync, F: Files, K: Sink>(
     ensures tells { TellsHandlers (codes "papi_run" ∷ map string_bytes words.now) result (F.held files.old)
         (map (λ b. notes b) handlers.old.items) (map (λ b. notes b) handlers.new.items) }
 {
-    match named(alloc, "papi_run", words) {
-        Ok(all) => papi_main(rt, alloc, &all, files, out, err, handlers),
-        Err(_) => Status::Memory,
-    }
+    telling_tool(rt, alloc, "papi_run", words, files, out, err, handlers)
+}
+
+/// `papi_profil` over the words after its name, as `papi_main` does it.
+pub fn profil_tool<R: Threads + Sync, F: Files, K: Sink>(
+    rt: &R,
+    alloc: Global,
+    words: &[String],
+    files: &mut F,
+    out: &mut K,
+    err: &mut K,
+    handlers: &mut Vec<Box<dyn Handler + Send>>,
+) -> Status
+    requires handlers { vec_len handlers.old ≡ THREADS }
+    ensures len { vec_len handlers.new ≡ THREADS }
+    ensures carries_out { CarriesOut (codes "papi_profil" ∷ map string_bytes words.now) result
+        (files_seen F.held F.misses F.faults F.lent files.old) (files_seen F.held F.misses F.faults F.lent files.new)
+        (sink_seen K.taken K.faults out.old) (sink_seen K.taken K.faults out.new) (sink_seen K.taken K.faults err.old) (sink_seen K.taken K.faults err.new) }
+    ensures tells { TellsHandlers (codes "papi_profil" ∷ map string_bytes words.now) result (F.held files.old)
+        (map (λ b. notes b) handlers.old.items) (map (λ b. notes b) handlers.new.items) }
+{
+    telling_tool(rt, alloc, "papi_profil", words, files, out, err, handlers)
 }
 
 // A tool that tells handlers nothing, over the words after its name, as `papi_main` does it with handlers that nobody reads.
@@ -155,6 +198,22 @@ pub fn encode_tool<R: Threads + Sync, F: Files, K: Sink>(
         (sink_seen K.taken K.faults out.old) (sink_seen K.taken K.faults out.new) (sink_seen K.taken K.faults err.old) (sink_seen K.taken K.faults err.new) }
 {
     quiet_tool(rt, alloc, "papi_encode", words, files, out, err)
+}
+
+/// `papi_regions` over the words after its name, as `papi_main` does it.
+pub fn regions_tool<R: Threads + Sync, F: Files, K: Sink>(
+    rt: &R,
+    alloc: Global,
+    words: &[String],
+    files: &mut F,
+    out: &mut K,
+    err: &mut K,
+) -> Status
+    ensures { CarriesOut (codes "papi_regions" ∷ map string_bytes words.now) result
+        (files_seen F.held F.misses F.faults F.lent files.old) (files_seen F.held F.misses F.faults F.lent files.new)
+        (sink_seen K.taken K.faults out.old) (sink_seen K.taken K.faults out.new) (sink_seen K.taken K.faults err.old) (sink_seen K.taken K.faults err.new) }
+{
+    quiet_tool(rt, alloc, "papi_regions", words, files, out, err)
 }
 
 /// `papi_soak` over the words after its name, as `papi_main` does it over no files.

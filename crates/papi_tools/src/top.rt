@@ -1,12 +1,13 @@
 //! The top call.
-ghost use Rattle.std.specs.Prelude.{◌≡◌, IfOk, IfSome, OnErr, OnOk, map, string_bytes, vec_len};
+ghost use Rattle.std.specs.Prelude.{◌≡◌, IfOk, IfSome, OnErr, OnOk, Some, map, string_bytes, vec_len};
 ghost use Rattle.overflow_dispatch.specs.Notes.{EachAdded, EachBegun, EachGrown};
 ghost use Rattle.tool_words.specs.Form.{form};
 ghost use Rattle.papi_tools.specs.Carried.{CarriesOut, TellsHandlers};
-ghost use Rattle.papi_tools.specs.Causes.{IsCaused, MetCause};
+ghost use Rattle.papi_tools.specs.Causes.{IsCaused, MetCause, SaysNo};
 ghost use Rattle.papi_tools.specs.Looking.{Looked};
 ghost use Rattle.papi_tools.specs.Seen.{files_seen, sink_seen};
-ghost use Rattle.papi_tools.specs.Verdict.{AnswersSaid, TellsBy, command_verdict, notes_in, verdict};
+ghost use Rattle.papi_tools.specs.Verdict.{AnswersSaid, TellsBy, known, known_verdict, notes_in};
+ghost use Rattle.papi_tools.specs.declared.status.Outcome.TheVariants as outcome;
 
 use crate::choosing::choose_events;
 use crate::decoding::decode_presets;
@@ -37,12 +38,13 @@ fn carried_out<R: Threads + Sync, F: Files>(
 ) -> Result<Said, Stop>
     requires handlers { vec_len handlers.old ≡ THREADS }
     ensures len { vec_len handlers.new ≡ THREADS }
-    ensures told { IfSome (F.held files.old) (λ held. AnswersSaid result (command_verdict held command.now)) }
-    ensures tells { IfSome (F.held files.old) (λ held. TellsBy result (notes_in (command_verdict held command.now))
+    ensures told { IfSome (known (Some command.now) (F.held files.old)) (λ expected. AnswersSaid result expected) }
+    ensures tells { IfSome (known (Some command.now) (F.held files.old)) (λ expected. TellsBy result (notes_in expected)
         (map (λ b. notes b) handlers.old.items) (map (λ b. notes b) handlers.new.items)) }
     ensures grown { EachGrown (map (λ b. notes b) handlers.old.items) (map (λ b. notes b) handlers.new.items) }
     ensures met { IfOk result (λ said. MetCause said.outcome
         (files_seen F.held F.misses F.faults F.lent files.old) (files_seen F.held F.misses F.faults F.lent files.new) said) }
+    ensures no { IfOk result (λ said. said.outcome ≡ outcome.No → SaysNo (Some command.now)) }
     ensures looked { Looked result 0 (files_seen F.held F.misses F.faults F.lent files.old) (files_seen F.held F.misses F.faults F.lent files.new) }
 {
     match command {
@@ -68,11 +70,11 @@ fn said_of<R: Threads + Sync, F: Files>(
 ) -> Result<Said, AllocError>
     requires handlers { vec_len handlers.old ≡ THREADS }
     ensures len { vec_len handlers.new ≡ THREADS }
-    ensures told { IfSome (F.held files.old) (λ held. IfOk result (λ said. said ≡ (verdict (map string_bytes words.now.items) held).said)) }
-    ensures tells { IfSome (F.held files.old) (λ held. OnOk result (EachAdded (map (λ b. notes b) handlers.old.items)
-        (verdict (map string_bytes words.now.items) held).notes (map (λ b. notes b) handlers.new.items))) }
-    ensures begun { IfSome (F.held files.old) (λ held. OnErr result (EachBegun (map (λ b. notes b) handlers.old.items)
-        (verdict (map string_bytes words.now.items) held).notes (map (λ b. notes b) handlers.new.items))) }
+    ensures told { IfSome (known_verdict (map string_bytes words.now.items) (F.held files.old)) (λ verdict. IfOk result (λ said. said ≡ verdict.said)) }
+    ensures tells { IfSome (known_verdict (map string_bytes words.now.items) (F.held files.old)) (λ verdict.
+        OnOk result (EachAdded (map (λ b. notes b) handlers.old.items) verdict.notes (map (λ b. notes b) handlers.new.items))) }
+    ensures begun { IfSome (known_verdict (map string_bytes words.now.items) (F.held files.old)) (λ verdict.
+        OnErr result (EachBegun (map (λ b. notes b) handlers.old.items) verdict.notes (map (λ b. notes b) handlers.new.items))) }
     ensures grown { EachGrown (map (λ b. notes b) handlers.old.items) (map (λ b. notes b) handlers.new.items) }
     ensures cause { IfOk result (IsCaused (form (map string_bytes words.now.items))
         (files_seen F.held F.misses F.faults F.lent files.old) (files_seen F.held F.misses F.faults F.lent files.new)) }

@@ -1,5 +1,5 @@
 use Rattle.papi_tools.proofs.ProfilLemmas.{added_tells, begun_tells, said_told}
-use Rattle.papi_tools.proofs.RunLemmas.{met_in_said}
+use Rattle.papi_tools.proofs.RunLemmas.{marked_yes, met_in_said}
 use Rattle.papi_tools.proofs.profiling.carry_out.Goals as goal
 
 pub returns-in-Ok-clause-told : goal.returns-in-Ok-clause-told
@@ -16,3 +16,6 @@ returns-in-Ok-clause-met g c =
 
 pub returns-in-Err-clause-tells : goal.returns-in-Err-clause-tells
 returns-in-Err-clause-tells g c given is = begun_tells c.args.words.now given _ _ (c.in-Err.ensures.begun given.run is.run)
+
+pub returns-in-Ok-clause-yes : goal.returns-in-Ok-clause-yes
+returns-in-Ok-clause-yes g c = marked_yes _ _ _ c.said_of.result c.said_of.ensures.said c.in-Ok.ensures.marks

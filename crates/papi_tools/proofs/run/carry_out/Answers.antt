@@ -1,4 +1,4 @@
-use Rattle.papi_tools.proofs.RunLemmas.{added_tells, begun_tells, met_in_said, said_told}
+use Rattle.papi_tools.proofs.RunLemmas.{added_tells, begun_tells, marked_yes, met_in_said, said_told}
 use Rattle.papi_tools.proofs.run.carry_out.Goals as goal
 
 pub returns-in-Ok-clause-told : goal.returns-in-Ok-clause-told
@@ -15,3 +15,6 @@ returns-in-Ok-clause-met g c =
 
 pub returns-in-Err-clause-tells : goal.returns-in-Err-clause-tells
 returns-in-Err-clause-tells g c given is = begun_tells _ given _ _ (c.in-Err.ensures.begun given is)
+
+pub returns-in-Ok-clause-yes : goal.returns-in-Ok-clause-yes
+returns-in-Ok-clause-yes g c = marked_yes _ _ _ c.said_of.result c.said_of.ensures.said c.in-Ok.ensures.marks

@@ -1,5 +1,3 @@
-use Rattle.std.proofs.Common.{map, string_bytes}
-use Rattle.papi_tools.specs.Verdict.{verdict}
 use Rattle.papi_tools.proofs.CarriedLemmas.{carried, starved}
 use Rattle.papi_tools.proofs.TellingLemmas.{all_told}
 use Rattle.papi_tools.proofs.top.papi_main.Goals as goal
@@ -10,7 +8,7 @@ returns-in-Ok-clause-carries_out g c =
 
 pub returns-in-Ok-clause-tells : goal.returns-in-Ok-clause-tells
 returns-in-Ok-clause-tells g c = record {
-  tells = all_told _ (λ held. (verdict (map string_bytes c.args.words.now.items) held).notes) c.say.result _ _ c.in-Ok.ensures.tells;
+  tells = all_told _ c.say.result _ _ c.in-Ok.ensures.tells;
   grown = c.in-Ok.ensures.grown;
 }
 

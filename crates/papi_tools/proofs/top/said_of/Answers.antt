@@ -1,4 +1,4 @@
-use Rattle.papi_tools.proofs.SettlingLemmas.{refused_caused, settled_begun, settled_caused, settled_tells, settled_told}
+use Rattle.papi_tools.proofs.SettlingLemmas.{refused_begun, refused_caused, refused_tells, refused_told, settled_begun, settled_caused, settled_tells, settled_told}
 use Rattle.papi_tools.proofs.top.said_of.Goals as goal
 
 pub returns-clause-told : goal.returns-clause-told
@@ -15,8 +15,21 @@ returns-clause-begun g c =
 
 pub returns-clause-cause : goal.returns-clause-cause
 returns-clause-cause g c =
-    settled_caused _ c.carried_out-answer.result _ _ _ c.carried_out-answer.ensures.met c.carried_out-answer.ensures.looked c.settled.ensures
+    settled_caused _ c.in-Ok.command c.carried_out-answer.result _ _ _ (rw c.as_slice.ensures.value at c.in-Ok.ensures) c.carried_out-answer.ensures.met c.carried_out-answer.ensures.no
+    c.carried_out-answer.ensures.looked c.settled.ensures
 
 pub returns-in-Err-BadWords-clause-cause : goal.returns-in-Err-BadWords-clause-cause
 returns-in-Err-BadWords-clause-cause g c =
     refused_caused _ _ _ _ (rw (c.in-Err-BadWords.field-0-is, c.as_slice.ensures.value) at c.in-Err-BadWords.ensures) c.refused.ensures
+
+pub returns-in-Err-BadWords-clause-told : goal.returns-in-Err-BadWords-clause-told
+returns-in-Err-BadWords-clause-told g c =
+    refused_told _ _ c.refused.result (rw (c.in-Err-BadWords.field-0-is, c.as_slice.ensures.value) at c.in-Err-BadWords.ensures) c.refused.ensures
+
+pub returns-in-Err-BadWords-clause-tells : goal.returns-in-Err-BadWords-clause-tells
+returns-in-Err-BadWords-clause-tells g c =
+    refused_tells _ _ _ c.refused.result (rw (c.in-Err-BadWords.field-0-is, c.as_slice.ensures.value) at c.in-Err-BadWords.ensures)
+
+pub returns-in-Err-BadWords-clause-begun : goal.returns-in-Err-BadWords-clause-begun
+returns-in-Err-BadWords-clause-begun g c =
+    refused_begun _ _ _ c.refused.result (rw (c.in-Err-BadWords.field-0-is, c.as_slice.ensures.value) at c.in-Err-BadWords.ensures)

@@ -1,7 +1,7 @@
 use Rattle.std.proofs.Common.{refl}
 use Rattle.papi_tools.proofs.CarriedLemmas.{starved}
 use Rattle.papi_tools.proofs.TellingLemmas.{untold}
-use Rattle.papi_tools.proofs.tool.run_tool.Goals as goal
+use Rattle.papi_tools.proofs.tool.telling_tool.Goals as goal
 
 pub returns-in-Err-clause-carries_out : goal.returns-in-Err-clause-carries_out
 returns-in-Err-clause-carries_out g c = starved _ _ _ _ _ refl
