@@ -77,6 +77,12 @@ static void prepare(void) {
     is_prepared = pthread_key_create(&key, thread_ends) == 0 && pthread_atfork(kl_before_fork, kl_after_fork, child_begins) == 0;
 }
 
+/* A shared library that is unloaded leaves no function of its own to be called. */
+__attribute__((destructor)) static void unload(void) {
+    if (is_prepared) pthread_key_delete(key);
+    is_prepared = 0;
+}
+
 int kl_prepare(void) {
     pthread_once(&once, prepare);
     return is_prepared ? PAPI_OK : PAPI_ENOMEM;
