@@ -57,6 +57,7 @@ int main(void) {
     WANT(PAPI_hl_region_end("whole"), PAPI_OK);
     WANT(PAPI_hl_stop(), PAPI_OK);
     WANT(PAPI_hl_stop(), PAPI_ENOEVNT);
+    PAPI_shutdown();
     fflush(stdout);
     return 0;
 }
