@@ -1,6 +1,7 @@
 /* The names of PAPI's presets. The unit's presets are some of them; the others can be named too, and are not available. */
 #include "internal.h"
 
+#include <string.h>
 #include <strings.h>
 
 #define NAMED(name) [name##_idx] = #name
@@ -31,9 +32,9 @@ const char *kl_preset_name(int code) {
     return IS_PRESET(code) && place < PAPI_END_idx ? names[place] : NULL;
 }
 
-/* The code of a preset by its name, without regard to case, or PAPI_ENOEVNT. */
+/* The code of a preset by its name, or PAPI_ENOEVNT. After PAPI_ the name is compared without regard to case, as PAPI does. */
 int kl_preset_named(const char *name, int *code) {
-    for (int place = 0; place < PAPI_END_idx; place++)
+    for (int place = 0; !strncmp(name, "PAPI_", 5) && place < PAPI_END_idx; place++)
         if (!strcasecmp(name, names[place])) {
             *code = place | PAPI_PRESET_MASK;
             return PAPI_OK;

@@ -2,6 +2,9 @@
 
 from __future__ import annotations
 
+import re
+import unittest
+
 from parts.c_header import Member, read_header
 from parts.c_probe import probe
 from parts.command import Fault
@@ -66,6 +69,17 @@ class Headers(InFolder):
         self.assertEqual(probe("small.h", self.folder, rows), {
             "five": "5 int", "b": "7 int", "sum": "3 long", "first": "4 bytes at 24", "high": "40=f8 unsigned", "name": "that type", "call": "another type",
         })
+
+
+@needs_command("cc", "a C compiler")
+class Interface(unittest.TestCase):
+    def test_the_document_has_each_function(self) -> None:
+        declared = set(read_header("papi.h", ROOT / "include").functions)
+        text = (ROOT / "docs/C_PROGRAMS.md").read_text(encoding="utf-8")
+        table = text.partition("\n## The functions\n")[2].partition("\n## ")[0]
+        named = [name for row in table.splitlines() if row.startswith("| `PAPI_") for name in re.findall(r"`(PAPI_\w+)`", row.split("|")[1])]
+        self.assertEqual(len(declared), 89)
+        self.assertEqual(sorted(named), sorted(declared))
 
 
 class Fortran(InFolder):
