@@ -3,6 +3,7 @@
 from __future__ import annotations
 
 from dataclasses import dataclass, field
+from pathlib import Path
 from random import Random
 
 from running import EXAMPLES, RUNNING
@@ -39,6 +40,7 @@ CODES = ["0x40000000", "0x40000001", "0x80000032", "0x8000003b", "0x0", "0xfffff
 MODIFIERS = ["u", "k", "e", "i", "u=0", "k=1", "e=y", "i=n", "c=0", "c=1", "c=2", "c=255", "c=0xff", "c=256", "c=01", "c", "u=2", "u=", "=1", "x", ""]
 
 
+STREAMS = 3
 ODD_FILES = ["absent", "folder", "unit/x", "/dev/null", "/dev/zero", "/proc/self/mem", ""]
 ODD_WORDS = ["", "-", "--", "-U", "-P", "-C", "-a", "-e", "-x", "--notes", "--workers", "--events", "--help", "-h", "--version", "-Uunit", "x" * 5000]
 
@@ -430,3 +432,20 @@ def words_changed(rng: Random, words: list[str]) -> list[str]:
     else:
         rng.shuffle(words)
     return words
+
+
+def case(rng: Random, tool: str, folder: Path) -> list[str]:
+    """Writes the files of a case, and gives its words."""
+
+    def write(name: str, text: str) -> None:
+        (folder / name).write_bytes(text.encode("latin-1" if text.isascii() or rng.randrange(2) else "utf-8", "replace"))
+
+    drawn = unit(rng)
+    write("unit", drawn.text)
+    write("presets", presets(rng, drawn))
+    runs = tool in RUNNING
+    write("map", address_map(rng) if tool == "papi_profil" else "")
+    write("script", regions(rng) if tool == "papi_regions" else script(rng, drawn) if runs else "")
+    for index in range(STREAMS):
+        write(f"stream{index}", stream(rng, drawn) if runs else "")
+    return words_of(rng, tool, drawn)

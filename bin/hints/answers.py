@@ -79,10 +79,10 @@ def _of_run(read: Words, unit: Unit, presets: Presets | None) -> list[str]:
 
 
 def _of_profil(read: Words, unit: Unit, presets: Presets | None) -> list[str]:
-    return [_why_no_total(read), *_of_run(read, unit, presets)]
+    return [why_no_total(read), *_of_run(read, unit, presets)]
 
 
-def _why_no_total(read: Words) -> str:
+def why_no_total(read: Words) -> str:
     """Why the total of a profile is 0, where that can be told without a run."""
     thread, number, index = (int(read.options.get(option, "0")) for option in ("--thread", "--set", "--index"))
     streams = len(read.others) - 1
