@@ -14,7 +14,7 @@ static void say_fault(const thread_state *t, const kistalub_fault *fault) {
     else fprintf(stderr, "papi: stream %u: line %llu: %.*s\n", (unsigned)t->number, (unsigned long long)fault->line, (int)length, (const char *)words);
 }
 
-/* Up to n occurrences happen. Where an event has a watch it is one, since what watches it comes before the next. */
+/* Up to n occurrences happen. If an event has a watch it is one, since what watches it comes before the next. */
 static int some_happen(thread_state *t, uint32_t n, uint32_t *consumed) {
     kistalub_passing passings[MOST_EVENTS];
     kistalub_fault fault = { 0, 0 };
@@ -50,7 +50,7 @@ int kistalub_go(uint32_t n, uint32_t *went) {
     return t ? kl_go(t, n, went) : code;
 }
 
-/* The step before a call that reads, or what is left of it where memory was refused in it and the call is made again. */
+/* The step before a call that reads, or what is left of it if memory was refused in it and the call is made again. */
 static int goes_on(thread_state *t) {
     uint32_t n = t->owed ? t->owed : t->step, went = 0;
     if (n == 0 || t->in_handler) return PAPI_OK;

@@ -40,7 +40,7 @@ void PAPI_perror(const char *msg) {
     fprintf(stderr, "%s\n", message_of(last_error));
 }
 
-/* The library's own handler: a line on standard error, unless it is to be quiet, and the end of the program where that is asked for. */
+/* The library's own handler: a line on standard error, unless it is to be quiet, and the end of the program if that is asked for. */
 static int own_handler(int code) {
     int asked = atomic_load(&level), system_error = errno;
     if (asked == PAPI_QUIET) return code;

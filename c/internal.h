@@ -61,7 +61,7 @@ typedef struct thread_state {
     PAPI_thread_id_t id;
     int has_id, registered;
     void *kept[PAPI_NUM_TLS];
-    uint32_t step, owed; /* what happens before a call that reads, and what is left of it where memory was refused in it */
+    uint32_t step, owed; /* what happens before a call that reads, and what is left of it if memory was refused in it */
     uint64_t happened;   /* how many occurrences have */
     int is_watched;      /* an event has a watch */
     int in_handler;      /* a handler of the thread runs: time stands */
@@ -92,7 +92,7 @@ int kl_answer(int code);
     thread_state *t = kl_here(&code_); \
     if (!t) RETURN(code_)
 
-/* process.c. The generation is the number of the library that is begun, and 0 where none is. */
+/* process.c. The generation is the number of the library that is begun, and 0 if none is. */
 extern pthread_mutex_t kl_lock;
 extern atomic_uint kl_generation;
 kl_files *kl_hold_files(void);
@@ -101,7 +101,7 @@ int kl_takes_files(kl_files *made);
 void kl_before_fork(void);
 void kl_after_fork(void);
 
-/* files.c. Where a file or a variable is faulty, a line on standard error says so, and the answer is PAPI_ESYS. */
+/* files.c. If a file or a variable is faulty, a line on standard error says so, and the answer is PAPI_ESYS. */
 int kl_read_files(const char *unit, const char *presets, const char *cpu, const char *streams, kl_files **made);
 void kl_free_files(kl_files *files);
 int kl_read_stream(const kl_files *files, uint32_t number, text *into);

@@ -81,7 +81,7 @@ static int are_scaled(const PAPI_sprofil_t *regions, int count) {
     return 1;
 }
 
-/* Profiles an event by these regions, or ends its profile. They are the program's, or stand in the watch where there is one region of its own. */
+/* Profiles an event by these regions, or ends its profile. They are the program's, or the watch has one of its own. */
 static int set_profile(thread_state *t, int set, int event, int threshold, int flags, const PAPI_sprofil_t *regions, int count, int is_own) {
     uint32_t own_code = 0;
     kl_watch *w = NULL;

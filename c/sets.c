@@ -128,7 +128,7 @@ int PAPI_remove_named_event(int set, const char *name) {
     RETURN(code);
 }
 
-/* The number of those that were taken before one was refused, where one was. */
+/* The number of those that were taken before one was refused, if it was not the first. */
 static int each(int (*call)(int, int), int set, const int *events, int number) {
     if (!events || number <= 0) return PAPI_EINVAL;
     for (int i = 0; i < number; i++) {

@@ -6,7 +6,7 @@
  *
  * The functions answer PAPI's codes: 0, or a number below 0 (papi.h names them). A handle without a library answers -16,
  * PAPI_ENOINIT. Texts and arrays are a pointer and a length, and the pointer is never null. Names and codes that are given
- * back go into an array where it has room for all of them; else nothing is written but how much room it takes, and the answer
+ * back go into an array if it has room for all of them; else nothing is written but how much room it takes, and the answer
  * is -1, PAPI_EINVAL. Values go into an array as far as there is room. These functions are proved up to here; this header
  * itself is not. */
 #ifndef KISTALUB_H
@@ -26,7 +26,7 @@ typedef struct { void *at; } kistalub;
 typedef struct { uint32_t set, index; uint64_t address; } kistalub_passing;
 
 /* Opens the library of a thread over the text of a unit file, of a preset file (of length 0: no presets) for a cpu, and of a
- * stream. The texts are not needed afterwards. -1 where a file is faulty, -2 where memory is refused: the handle is then as it
+ * stream. The texts are not needed afterwards. -1 if a file is faulty, -2 if memory is refused: the handle is then as it
  * was. A library that was open in the handle is closed. */
 int kistalub_open(kistalub *h, const unsigned char *unit, size_t unit_len, const unsigned char *presets, size_t presets_len,
                   const unsigned char *cpu, size_t cpu_len, uint32_t thread, const unsigned char *stream, size_t stream_len);
@@ -42,7 +42,7 @@ int kistalub_assign_component(kistalub *h, uint32_t set, uint32_t component);
 int kistalub_set_domain(kistalub *h, uint32_t set, uint32_t bits);
 int kistalub_set_multiplex(kistalub *h, uint32_t set, uint32_t slice);
 
-/* Events by name: -1 where the name is not UTF-8. */
+/* Events by name: -1 if the name is not UTF-8. */
 int kistalub_add_named(kistalub *h, uint32_t set, const unsigned char *name, size_t name_len);
 int kistalub_remove_named(kistalub *h, uint32_t set, const unsigned char *name, size_t name_len);
 int kistalub_overflow_named(kistalub *h, uint32_t set, const unsigned char *name, size_t name_len, uint64_t threshold);
@@ -55,7 +55,7 @@ int kistalub_name_to_code(kistalub *h, const unsigned char *name, size_t name_le
 int kistalub_code_to_name(kistalub *h, uint32_t code, unsigned char *name, size_t room, uint64_t *length);
 int kistalub_list_events(kistalub *h, uint32_t set, uint32_t *codes, size_t room, uint64_t *count);
 
-/* A part of what is told of the event of a code, empty where the event has none: its name, its description, and of an available
+/* A part of what is told of the event of a code, empty if the event has none: its name, its description, and of an available
  * preset or user event the derived type, the formula, and the name of the native event in a place from 0. */
 #define KISTALUB_NAME 0
 #define KISTALUB_DESCRIPTION 1
@@ -67,7 +67,7 @@ int kistalub_info(kistalub *h, uint32_t code, uint32_t part, uint32_t place, uns
 /* The presets and then the user events in order: the code in a row. -7 past the last. */
 int kistalub_code_in_row(kistalub *h, uint32_t row, uint32_t *code);
 
-/* A part of what the unit's file says of a component: its name, the name of its pmu, and the name of the counter in a place from 0. -7 where
+/* A part of what the unit's file says of a component: its name, the name of its pmu, and the name of the counter in a place from 0. -7 if
  * there is no such component or counter. */
 #define KISTALUB_COMPONENT_NAME 0
 #define KISTALUB_COMPONENT_PMU 1
@@ -75,14 +75,14 @@ int kistalub_code_in_row(kistalub *h, uint32_t row, uint32_t *code);
 int kistalub_component(kistalub *h, uint32_t component, uint32_t part, uint32_t place, unsigned char *text, size_t room, uint64_t *length);
 
 /* A part of what the unit's file says of the native event in a row of a component, both from 0: its name PMU::EVENT and its description, and
- * of its umask in a place from 0 the name PMU::EVENT:UMASK and the description. -7 where there is no such row or umask. */
+ * of its umask in a place from 0 the name PMU::EVENT:UMASK and the description. -7 if there is no such row or umask. */
 #define KISTALUB_ROW_NAME 0
 #define KISTALUB_ROW_DESCRIPTION 1
 #define KISTALUB_ROW_MASK 2
 #define KISTALUB_ROW_MASK_DESCRIPTION 3
 int kistalub_native(kistalub *h, uint32_t component, uint32_t row, uint32_t part, uint32_t place, unsigned char *text, size_t room, uint64_t *length);
 
-/* The component of the event of a code, -7 where it is the code of no event that is available; and the row of a native event in it. */
+/* The component of the event of a code, -7 if it is the code of no event that is available; and the row of a native event in it. */
 int kistalub_component_of(kistalub *h, uint32_t code, uint32_t *component);
 int kistalub_row_of(kistalub *h, uint32_t code, uint32_t *row);
 
@@ -94,25 +94,25 @@ int kistalub_accum(kistalub *h, uint32_t set, int64_t *values, size_t room, uint
 int kistalub_reset(kistalub *h, uint32_t set);
 int kistalub_state(kistalub *h, uint32_t set, uint32_t *bits);
 
-/* How many counters and how many native events a component has, -17 where there is no such component. */
+/* How many counters and how many native events a component has, -17 if there is no such component. */
 int kistalub_counters(kistalub *h, uint32_t component);
 int kistalub_natives(kistalub *h, uint32_t component);
 
-/* What ended a stream: the line, from 1, and the number of the cause; both 0 where nothing did. A read that failed has no line. */
+/* What ended a stream: the line, from 1, and the number of the cause; both 0 if nothing did. A read that failed has no line. */
 typedef struct { uint64_t line; uint32_t cause; } kistalub_fault;
 
-/* The words of a cause, as papi_run says them; none where no cause has the number. */
+/* The words of a cause, as papi_run says them; none if no cause has the number. */
 int kistalub_cause(uint32_t cause, unsigned char *words, size_t room, uint64_t *length);
 
-/* The first faulty row of a unit file or of a preset file for a cpu, from 1, and the words of its cause; row 0 and no words where none is faulty. */
+/* The first faulty row of a unit file or of a preset file for a cpu, from 1, and the words of its cause; row 0 and no words if none is faulty. */
 int kistalub_unit_fault(const unsigned char *unit, size_t unit_len, uint64_t *row, unsigned char *words, size_t room, uint64_t *length);
 int kistalub_presets_fault(const unsigned char *presets, size_t presets_len, const unsigned char *cpu, size_t cpu_len, uint64_t *row,
                            unsigned char *words, size_t room, uint64_t *length);
 
 /* Consumes up to n occurrences of the stream, and says how many. Each threshold that is passed is written into the array, in order. At one
- * occurrence at most 32 are passed: where fewer have room it stops before the next occurrence with -20, PAPI_EBUF, and a further call goes
- * on, so that none is lost. With n = 1 an array of 32 is always enough. -3 once where the stream is faulty: `fault` then says where and why,
- * and after that the stream has ended. -2 where memory is refused, and nothing happened then. */
+ * occurrence at most 32 are passed: if fewer have room it stops before the next occurrence with -20, PAPI_EBUF, and a further call goes
+ * on, so that none is lost. With n = 1 an array of 32 is always enough. -3 once if the stream is faulty: `fault` then says where and why,
+ * and after that the stream has ended. -2 if memory is refused, and nothing happened then. */
 int kistalub_run(kistalub *h, uint32_t n, uint32_t *consumed, kistalub_passing *passings, size_t room, uint64_t *told, kistalub_fault *fault);
 
 /* What follows is C over the functions above (the sources in c/), and is not proved. */
