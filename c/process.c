@@ -90,7 +90,8 @@ static int begin(void) {
     if (code == PAPI_OK) code = kl_options_begin();
     if (code == PAPI_OK) code = kl_time_begins();
     if (code == PAPI_OK) code = files_of_environment();
-    if (code == PAPI_OK) code = begin_library();
+    if (code != PAPI_OK) return code;
+    code = begin_library();
     if (code != PAPI_OK) end_library();
     return code;
 }

@@ -26,6 +26,18 @@ static void *work(void *unused) {
     WANT(number, 2);
     WANT(listed[0], cycles);
     WANT(listed[1], inst);
+    /* with too little room as many as it takes, and without any how many there are */
+    number = 1;
+    listed[1] = 0;
+    WANT(PAPI_list_events(set, listed, &number), PAPI_OK);
+    WANT(number, 1);
+    WANT(listed[1], 0);
+    number = 0;
+    WANT(PAPI_list_events(set, NULL, &number), PAPI_OK);
+    WANT(number, 2);
+    number = 1;
+    WANT(PAPI_list_events(set, NULL, &number), PAPI_EINVAL);
+    WANT(PAPI_list_events(set, NULL, NULL), PAPI_EINVAL);
     WANT(PAPI_remove_event(set, cycles), PAPI_OK);
     WANT(PAPI_event_name_to_code("REF", &code), PAPI_OK);
     return unused;
