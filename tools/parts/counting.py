@@ -20,6 +20,7 @@ from parts.recording import FULL_STATUS, MOST_BYTES, Recorded, Wanted, record, w
 
 EXAMPLES = Path(__file__).resolve().parent.parent.parent / "examples"
 DIFFERENT_CALLS = "papi: the calls are not those that were recorded"
+CALLS_ENDING = ".calls"
 BY_SIGNAL = 128  # what a shell adds to the number of a signal
 
 
@@ -68,9 +69,38 @@ def count(counting: Counting) -> int:
                 break
         if counting.keep:
             shutil.copyfile(recordings[0], counting.keep)
-            shutil.copyfile(recordings[1], f"{counting.keep}.calls")
-        returned = _run(counting, environment, source).returncode
-        return returned if returned >= 0 else BY_SIGNAL - returned
+            shutil.copyfile(recordings[1], counting.keep + CALLS_ENDING)
+        return _run_at_last(counting, environment, source)
+
+
+def record_alone(counting: Counting) -> None:
+    """The first run, into the files that are kept."""
+    with ExitStack() as stack:
+        folder = Path(stack.enter_context(tempfile.TemporaryDirectory(prefix="count-")))
+        stream = Path(counting.keep or folder / "stream")
+        recordings = stream, stream.with_name(stream.name + CALLS_ENDING)
+        _check(counting, _record(counting, recordings, _environment(counting, folder), _source(stack), "count: instructions"))
+
+
+def replay_alone(counting: Counting) -> int:
+    """The second run over files that were kept, and its status."""
+    with ExitStack() as stack:
+        folder = Path(stack.enter_context(tempfile.TemporaryDirectory(prefix="count-")))
+        stream = Path(counting.keep or "").resolve()
+        calls = stream.with_name(stream.name + CALLS_ENDING)
+        for file in (stream, calls):
+            if not file.is_file():
+                raise Fault(f"{file}: no such file")
+        (folder / "stream.0").symlink_to(stream)
+        environment = _environment(counting, folder)
+        environment.update(KISTALUB_STREAM=str(folder / "stream.%t"), KISTALUB_CALLS=str(calls))
+        return _run_at_last(counting, environment, _source(stack))
+
+
+def _run_at_last(counting: Counting, environment: dict[str, str], source: Source | None) -> int:
+    """The run whose output is the program's, and its status as a shell has it."""
+    returned = _run(counting, environment, source).returncode
+    return returned if returned >= 0 else BY_SIGNAL - returned
 
 
 def _environment(counting: Counting, folder: Path) -> dict[str, str]:
@@ -87,7 +117,7 @@ def _environment(counting: Counting, folder: Path) -> dict[str, str]:
 
 def _record(counting: Counting, recordings: tuple[Path, Path], environment: dict[str, str], source: Source | None, label: str) -> Recorded:
     """Records into new files, which then take the places of those that this run has read."""
-    parts = [path.with_suffix(".new") for path in recordings]
+    parts = [path.with_name(path.name + ".new") for path in recordings]
     wanted = Wanted(
         counting.program, counting.arguments, counting.machine, counting.symbol, True, str(parts[1]), counting.is_each, counting.window,
         counting.first_thread, environment, subprocess.DEVNULL, subprocess.DEVNULL, source.again() if source else None,

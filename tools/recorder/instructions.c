@@ -93,12 +93,13 @@ static bool is_on_strings(const char *name) {
 
 uint8_t class_of(const char *text) {
     size_t length;
-    bool repeats = false;
+    bool repeats = false, locks = false;
     for (;;) {
         text += strspn(text, " \t");
         length = strcspn(text, " \t\n");
         if (!length || !is_prefix(text, length)) break;
         if (starts(text, "rep")) repeats = true;
+        if (starts(text, "lock")) locks = true;
         text += length;
     }
     char name[LONGEST_NAME];
@@ -109,5 +110,6 @@ uint8_t class_of(const char *text) {
     if (class == PLAIN) class = vector_class(name, length, text + length);
     if (class == PLAIN && name[0] == 'f' && is_x87(name, length)) class = X87;
     if (class == PLAIN && repeats && is_on_strings(name)) class = REPEATED;
+    if ((locks && !starts(name, "cmpxchg")) || (starts(name, "xchg") && strchr(text, '('))) class |= LOCKED;
     return class;
 }

@@ -25,6 +25,7 @@ enum {
 #define CLASS_BITS 0x0f
 #define TWICE 0x10
 #define REPEATED 0x20 /* an instruction on strings that goes on by itself */
+#define LOCKED 0x40   /* changes memory in one piece, whatever is there: valgrind tries that until nothing came between */
 #define KNOWN 0x80 /* objdump has an instruction at this place */
 
 /* The class of an instruction of objdump's text, in the syntax of AT&T: its words after the address. */

@@ -34,7 +34,10 @@ static FILE *report;
 static int status = WHOLE;
 static bool is_from_met, is_dropped, is_other_thread;
 static uint64_t seen, unknown, last_address, in_window;
-static uint64_t turns; /* of instructions that repeat themselves, beside the first */
+static uint64_t repeated; /* instructions that repeat themselves */
+static uint64_t turns;    /* of these, beside the first */
+static uint64_t locked;   /* instructions that change memory in one piece */
+static uint64_t modifies; /* accesses that are a load and a store */
 static uint64_t used_bytes; /* of the stream up to the last call */
 
 static void end_with(int code, const char *text) {
@@ -88,6 +91,8 @@ static void see_instruction(uint64_t address, uint64_t size) {
         turns += is_noted;
         return;
     }
+    repeated += is_noted && class & REPEATED;
+    locked += is_noted && class & LOCKED;
     unknown += is_noted && !(class & KNOWN);
     model_instruction(address, size, class);
     if (++in_window >= words.window) end_window();
@@ -109,7 +114,10 @@ static void see_mark(enum mark mark, uint64_t address) {
 static void see_access(char kind, uint64_t address, uint64_t size) {
     enum mark mark = kind == STORE ? mark_at(address) : NO_MARK;
     if (mark != NO_MARK) see_mark(mark, address);
-    else if (!is_other_thread && !is_dropped) model_access((enum access)kind, address, size);
+    else if (!is_other_thread && !is_dropped) {
+        modifies += kind == MODIFY && is_recorded();
+        model_access((enum access)kind, address, size);
+    }
 }
 
 static void see_thread(unsigned long number) {
@@ -136,7 +144,7 @@ static void tell_totals(void) {
     const char *name;
     uint64_t total;
     for (unsigned kind = 0; (name = model_total(kind, &total)); kind++) fprintf(report, "total %s %" PRIu64 "\n", name, total);
-    fprintf(report, "total turns %" PRIu64 "\ncalls %" PRIu64 "\nunknown %" PRIu64 "\nfrom %d\n", turns, calls_made(), unknown, is_from_met);
+    fprintf(report, "total locked %" PRIu64 "\ntotal repeated %" PRIu64 "\ntotal turns %" PRIu64 "\ntotal modifies %" PRIu64 "\ncalls %" PRIu64 "\nunknown %" PRIu64 "\nfrom %d\n", locked, repeated, turns, modifies, calls_made(), unknown, is_from_met);
 }
 
 /* `NAME=LINES,WAYS,BYTES`, or `NAME=none`. */

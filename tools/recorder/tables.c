@@ -15,7 +15,7 @@
 #include <sys/wait.h>
 #include <unistd.h>
 
-#define TABLE_VERSION 2 /* to be raised with each change of the classes */
+#define TABLE_VERSION 4 /* to be raised with each change of the classes */
 #define LONGEST_NAME 4096
 #define LONGEST_LINE 4096
 

@@ -73,7 +73,7 @@ class Classes(InFolder):
         cases = {
             "mov    %rsp,%rbp": "plain", "movsd  (%rax),%xmm0": "plain", "cmpsd  $1,%xmm0,%xmm1": "plain", "paddd  %xmm0,%xmm1": "plain", "pminsd %xmm0,%xmm1": "plain",
             "cvtsi2sd %eax,%xmm0": "plain", "ucomisd %xmm0,%xmm1": "plain", "fld1": "plain", "fstpl  (%rax)": "plain", "stos %al,%es:(%rdi)": "plain", "": "plain",
-            "rep stos %al,%es:(%rdi)": "plain repeated", "repz cmpsb %es:(%rdi),%ds:(%rsi)": "plain repeated",
+            "rep stos %al,%es:(%rdi)": "plain repeated", "repz cmpsb %es:(%rdi),%ds:(%rsi)": "plain repeated", "lock xadd %eax,(%rdx)": "plain locked", "xchg   %eax,(%rdx)": "plain locked", "xchg   %ax,%ax": "plain",
             "jne    401136 <main+0x10>": "conditional", "jrcxz  10 <f>": "conditional", "loop   10 <f>": "conditional", "jmp    10 <f>": "jump",
             "bnd jmp *0x2fe5(%rip)": "jump", "notrack jmp *%rax": "jump", "call   10 <f>": "call", "callq  *%rax": "call", "repz ret": "return", "retq": "return",
             "addsd  %xmm0,%xmm1": "scalar double", "vmulss (%rax),%xmm0,%xmm1": "scalar single", "sqrtsd %xmm0,%xmm1": "scalar double", "addpd  %xmm0,%xmm1": "double 128",
@@ -82,7 +82,7 @@ class Classes(InFolder):
             "dppd   $1,%xmm0,%xmm1": "double 128 twice", "fadds  (%rax)": "x87", "fmulp  %st,%st(1)": "x87", "fsqrt": "x87", "haddps %xmm0,%xmm1": "single 128",
         }
         written = subprocess.run([program], input="\n".join(cases) + "\n", capture_output=True, text=True, check=True).stdout.split()
-        found = [self.KINDS[int(number) & 15] + " twice" * (int(number) >> 4 & 1) + " repeated" * (int(number) >> 5 & 1) for number in written]
+        found = [self.KINDS[int(number) & 15] + " twice" * (int(number) >> 4 & 1) + " repeated" * (int(number) >> 5 & 1) + " locked" * (int(number) >> 6 & 1) for number in written]
         self.assertEqual(dict(zip(cases, found)), cases)
 
 
