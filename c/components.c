@@ -7,7 +7,7 @@
 
 static PAPI_component_info_t infos[MOST_COMPONENTS];
 static char pmus[MOST_COMPONENTS][PAPI_MAX_STR_LEN];
-static pthread_mutex_t component_lock = PTHREAD_MUTEX_INITIALIZER;
+pthread_mutex_t kl_component_lock = PTHREAD_MUTEX_INITIALIZER;
 
 /* What the program disabled before PAPI_library_init, by numbers as bits and by names. */
 static unsigned disabled;
@@ -30,18 +30,18 @@ static int is_disabled(int component, const char *name) {
 }
 
 static int is_any_disabled(void) {
-    pthread_mutex_lock(&component_lock);
+    pthread_mutex_lock(&kl_component_lock);
     int is = disabled || disabled_count;
-    pthread_mutex_unlock(&component_lock);
+    pthread_mutex_unlock(&kl_component_lock);
     return is;
 }
 
 int kl_is_disabled(thread_state *t, int component) {
     char name[PAPI_MAX_STR_LEN];
     if (!is_any_disabled() || kl_component_text(t, component, KISTALUB_COMPONENT_NAME, 0, name, sizeof name) != PAPI_OK || component >= MOST_COMPONENTS) return 0;
-    pthread_mutex_lock(&component_lock);
+    pthread_mutex_lock(&kl_component_lock);
     int is = is_disabled(component, name);
-    pthread_mutex_unlock(&component_lock);
+    pthread_mutex_unlock(&kl_component_lock);
     return is;
 }
 
@@ -87,7 +87,6 @@ static void describe(thread_state *t, int component, const char *name, const cha
     info->num_mpx_cntrs = MOST_EVENTS;
     info->num_preset_events = presets_of(t, (uint32_t)component);
     info->num_native_events = kistalub_natives(&t->library, (uint32_t)component);
-    info->default_domain = PAPI_DOM_USER;
     info->available_domains = PAPI_DOM_USER | PAPI_DOM_KERNEL;
     info->default_granularity = info->available_granularities = PAPI_GRN_THR;
     info->hardware_intr = info->kernel_multiplex = info->cntr_umasks = 1;
@@ -102,23 +101,24 @@ const PAPI_component_info_t *PAPI_get_component_info(int component) {
     if (!t || component < 0 || component >= MOST_COMPONENTS) return NULL;
     if (kl_component_text(t, component, KISTALUB_COMPONENT_NAME, 0, name, sizeof name) != PAPI_OK) return NULL;
     if (kl_component_text(t, component, KISTALUB_COMPONENT_PMU, 0, pmu, sizeof pmu) != PAPI_OK) return NULL;
-    pthread_mutex_lock(&component_lock);
+    pthread_mutex_lock(&kl_component_lock);
     if (strcmp(infos[component].name, name) || strcmp(pmus[component], pmu)) describe(t, component, name, pmu);
+    infos[component].default_domain = kl_default_domain((uint32_t)component);
     if (is_disabled(component, name)) {
         infos[component].disabled = PAPI_ECMP_DISABLED;
         snprintf(infos[component].disabled_reason, sizeof infos[component].disabled_reason, "Disabled by PAPI_disable_component()");
     }
-    pthread_mutex_unlock(&component_lock);
+    pthread_mutex_unlock(&kl_component_lock);
     return &infos[component];
 }
 
 /* What is known of the components of one unit ends with it. */
 void kl_components_end(void) {
-    pthread_mutex_lock(&component_lock);
+    pthread_mutex_lock(&kl_component_lock);
     memset(infos, 0, sizeof infos);
     disabled = 0;
     disabled_count = 0;
-    pthread_mutex_unlock(&component_lock);
+    pthread_mutex_unlock(&kl_component_lock);
 }
 
 int PAPI_get_component_index(const char *name) {
@@ -136,9 +136,9 @@ int PAPI_disable_component(int component) {
     CALL(PAPI_disable_component);
     if (PAPI_is_initialized() != PAPI_NOT_INITED) RETURN(PAPI_ENOINIT);
     if (component < 0 || component >= MOST_COMPONENTS) RETURN(PAPI_ENOCMP);
-    pthread_mutex_lock(&component_lock);
+    pthread_mutex_lock(&kl_component_lock);
     disabled |= 1u << component;
-    pthread_mutex_unlock(&component_lock);
+    pthread_mutex_unlock(&kl_component_lock);
     return PAPI_OK;
 }
 
@@ -146,10 +146,10 @@ int PAPI_disable_component_by_name(const char *name) {
     CALL(PAPI_disable_component_by_name);
     if (PAPI_is_initialized() != PAPI_NOT_INITED) RETURN(PAPI_ENOINIT);
     if (!name || strlen(name) >= PAPI_MAX_STR_LEN) RETURN(PAPI_ENOCMP);
-    pthread_mutex_lock(&component_lock);
+    pthread_mutex_lock(&kl_component_lock);
     int has_room = disabled_count < MOST_COMPONENTS;
     if (has_room) strcpy(disabled_names[disabled_count++], name);
-    pthread_mutex_unlock(&component_lock);
+    pthread_mutex_unlock(&kl_component_lock);
     RETURN(has_room ? PAPI_OK : PAPI_ENOCMP);
 }
 

@@ -9,7 +9,7 @@
 /* What is counted where PAPI_EVENTS names nothing that can be: those of these that are available. */
 static const char *const usual_events[] = { "PAPI_TOT_INS", "PAPI_TOT_CYC", "PAPI_FP_INS", "PAPI_FP_OPS" };
 
-static pthread_mutex_t region_lock = PTHREAD_MUTEX_INITIALIZER;
+pthread_mutex_t kl_region_lock = PTHREAD_MUTEX_INITIALIZER;
 static counted_events counted;
 static region_thread *threads;
 static int is_begun, has_failed;
@@ -101,7 +101,7 @@ static int choose_events(void) {
 }
 
 static void end_of_process(void) {
-    pthread_mutex_lock(&region_lock);
+    pthread_mutex_lock(&kl_region_lock);
     kl_write_regions(&counted, has_failed ? NULL : threads);
     while (threads) {
         region_thread *thread = threads;
@@ -117,7 +117,7 @@ static void end_of_process(void) {
     }
     own = NULL;
     has_failed = 1;
-    pthread_mutex_unlock(&region_lock);
+    pthread_mutex_unlock(&kl_region_lock);
 }
 
 static unsigned long own_id(void) { return (unsigned long)pthread_self(); }
@@ -232,18 +232,18 @@ static region *open_region_of(const char *name) {
 /* After a failure nothing more is counted or written. */
 static int fail(int code) {
     say("Error: ", PAPI_strerror(code) ? PAPI_strerror(code) : "");
-    pthread_mutex_lock(&region_lock);
+    pthread_mutex_lock(&kl_region_lock);
     has_failed = 1;
-    pthread_mutex_unlock(&region_lock);
+    pthread_mutex_unlock(&kl_region_lock);
     return code;
 }
 
 /* What the calling thread needs before its regions. No handler of the user is called under the lock, here and below. */
 static int prepare(void) {
-    pthread_mutex_lock(&region_lock);
+    pthread_mutex_lock(&kl_region_lock);
     int code = has_failed ? PAPI_EMISC : begin_process();
     if (code == PAPI_OK) code = begin_thread();
-    pthread_mutex_unlock(&region_lock);
+    pthread_mutex_unlock(&kl_region_lock);
     if (code == PAPI_OK) code = make_sets();
     if (code == PAPI_OK) code = start_sets();
     return code;
@@ -256,9 +256,9 @@ static int begin_region(const char *name) {
     if (code == PAPI_OK && own->depth == MOST_NESTED) code = PAPI_ENOMEM;
     if (code == PAPI_OK) code = read_values(now);
     if (code == PAPI_OK) {
-        pthread_mutex_lock(&region_lock);
+        pthread_mutex_lock(&kl_region_lock);
         code = open_region(name, now);
-        pthread_mutex_unlock(&region_lock);
+        pthread_mutex_unlock(&kl_region_lock);
     }
     return code == PAPI_OK ? PAPI_OK : fail(code);
 }
@@ -283,9 +283,9 @@ static int note_values(region *r, const long long *now, int ends) {
 static int read_region(const char *name, int ends) {
     long long now[MOST_VALUES] = { 0 };
     if (!name) return PAPI_EINVAL;
-    pthread_mutex_lock(&region_lock);
+    pthread_mutex_lock(&kl_region_lock);
     int failed = has_failed;
-    pthread_mutex_unlock(&region_lock);
+    pthread_mutex_unlock(&kl_region_lock);
     if (failed || !own || !own->begun) return PAPI_EMISC;
     if (!own->runs) return PAPI_ENOTRUN;
     region *r = open_region_of(name);
@@ -295,9 +295,9 @@ static int read_region(const char *name, int ends) {
     }
     int code = read_values(now);
     if (code != PAPI_OK) return fail(code);
-    pthread_mutex_lock(&region_lock);
+    pthread_mutex_lock(&kl_region_lock);
     code = note_values(r, now, ends);
-    pthread_mutex_unlock(&region_lock);
+    pthread_mutex_unlock(&kl_region_lock);
     return code;
 }
 

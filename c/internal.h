@@ -93,7 +93,7 @@ int kl_answer(int code);
     if (!t) RETURN(code_)
 
 /* process.c. The generation is the number of the library that is begun, and 0 if none is. */
-extern pthread_mutex_t kl_lock;
+extern pthread_mutex_t kl_lock, kl_region_lock, kl_component_lock, kl_machine_lock, kl_guards[PAPI_NUM_LOCK];
 extern atomic_uint kl_generation;
 kl_files *kl_hold_files(void);
 void kl_release_files(kl_files *held);
@@ -184,6 +184,9 @@ int kl_is_disabled(thread_state *t, int component);
 int kl_is_enabled(thread_state *t, uint32_t own);
 int kl_is_known(thread_state *t, const char *name);
 void kl_components_end(void);
+
+/* machine.c */
+void kl_machine_ends(void);
 
 /* time.c */
 uint32_t kl_mhz(void);

@@ -36,7 +36,8 @@ static const char *const intel[] = {
 };
 
 static PAPI_hw_info_t hardware;
-static pthread_mutex_t machine_lock = PTHREAD_MUTEX_INITIALIZER;
+static int is_described; /* under the lock */
+pthread_mutex_t kl_machine_lock = PTHREAD_MUTEX_INITIALIZER;
 
 /* Whether a pmu's name is this one, or begins with it and an underscore. */
 static int is_of(const char *pmu, const char *front) {
@@ -80,10 +81,18 @@ const PAPI_hw_info_t *PAPI_get_hardware_info(void) {
     int code;
     thread_state *t = kl_here(&code);
     if (!t || kl_component_text(t, 0, KISTALUB_COMPONENT_PMU, 0, pmu, sizeof pmu) != PAPI_OK) return NULL;
-    pthread_mutex_lock(&machine_lock);
-    describe_hardware(pmu);
-    pthread_mutex_unlock(&machine_lock);
+    pthread_mutex_lock(&kl_machine_lock);
+    if (!is_described) describe_hardware(pmu);
+    is_described = 1;
+    pthread_mutex_unlock(&kl_machine_lock);
     return &hardware;
+}
+
+/* What is known of the processor ends with the library. */
+void kl_machine_ends(void) {
+    pthread_mutex_lock(&kl_machine_lock);
+    is_described = 0;
+    pthread_mutex_unlock(&kl_machine_lock);
 }
 
 /* The number that follows a name on a line of /proc/self/status, in KiB. */
@@ -176,17 +185,17 @@ static void look_at_objects(void) {
 const PAPI_exe_info_t *PAPI_get_executable_info(void) {
     CALL(PAPI_get_executable_info);
     if (!kl_is_open()) return NULL;
-    pthread_mutex_lock(&machine_lock);
+    pthread_mutex_lock(&kl_machine_lock);
     look_at_objects();
-    pthread_mutex_unlock(&machine_lock);
+    pthread_mutex_unlock(&kl_machine_lock);
     return &executable;
 }
 
 const PAPI_shlib_info_t *PAPI_get_shared_lib_info(void) {
     CALL(PAPI_get_shared_lib_info);
     if (!kl_is_open()) return NULL;
-    pthread_mutex_lock(&machine_lock);
+    pthread_mutex_lock(&kl_machine_lock);
     look_at_objects();
-    pthread_mutex_unlock(&machine_lock);
+    pthread_mutex_unlock(&kl_machine_lock);
     return &libraries;
 }

@@ -77,6 +77,7 @@ static void end_library(void) {
     kl_forget_ids();
     kl_forget_codes();
     kl_components_end();
+    kl_machine_ends();
     release(held);
 }
 
@@ -112,13 +113,17 @@ void PAPI_shutdown(void) {
     if (atomic_load(&kl_generation)) end_library();
 }
 
-/* Around fork no other thread holds a lock, so that the child finds what the locks guard whole. Of the threads it has the calling one. */
+/* The locks of all sources, in the order in which one is taken under another. Around a fork no other thread holds one, so that the child finds what
+ * they guard whole. Of the threads it has the calling one. */
+static pthread_mutex_t *const locks[] = {
+    &kl_region_lock, &beginning, &kl_component_lock, &kl_machine_lock, &kl_lock, &kl_guards[PAPI_USR1_LOCK], &kl_guards[PAPI_USR2_LOCK],
+};
+#define LOCKS (sizeof locks / sizeof *locks)
+
 void kl_before_fork(void) {
-    pthread_mutex_lock(&beginning);
-    pthread_mutex_lock(&kl_lock);
+    for (size_t i = 0; i < LOCKS; i++) pthread_mutex_lock(locks[i]);
 }
 
 void kl_after_fork(void) {
-    pthread_mutex_unlock(&kl_lock);
-    pthread_mutex_unlock(&beginning);
+    for (size_t i = LOCKS; i > 0; i--) pthread_mutex_unlock(locks[i - 1]);
 }

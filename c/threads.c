@@ -127,27 +127,25 @@ int PAPI_set_thr_specific(int tag, void *ptr) {
 }
 
 /* The program's locks. Any thread may unlock one, as in PAPI. */
-static struct { pthread_mutex_t guard; pthread_cond_t freed; int held; } locks[PAPI_NUM_LOCK] = {
-    { PTHREAD_MUTEX_INITIALIZER, PTHREAD_COND_INITIALIZER, 0 },
-    { PTHREAD_MUTEX_INITIALIZER, PTHREAD_COND_INITIALIZER, 0 },
-};
+pthread_mutex_t kl_guards[PAPI_NUM_LOCK] = { PTHREAD_MUTEX_INITIALIZER, PTHREAD_MUTEX_INITIALIZER };
+static struct { pthread_cond_t freed; int held; } locks[PAPI_NUM_LOCK] = { { PTHREAD_COND_INITIALIZER, 0 }, { PTHREAD_COND_INITIALIZER, 0 } };
 
 int PAPI_lock(int lock) {
     CALL(PAPI_lock);
     if (lock < 0 || lock >= PAPI_NUM_LOCK) RETURN(PAPI_EINVAL);
-    pthread_mutex_lock(&locks[lock].guard);
-    while (locks[lock].held) pthread_cond_wait(&locks[lock].freed, &locks[lock].guard);
+    pthread_mutex_lock(&kl_guards[lock]);
+    while (locks[lock].held) pthread_cond_wait(&locks[lock].freed, &kl_guards[lock]);
     locks[lock].held = 1;
-    pthread_mutex_unlock(&locks[lock].guard);
+    pthread_mutex_unlock(&kl_guards[lock]);
     return PAPI_OK;
 }
 
 int PAPI_unlock(int lock) {
     CALL(PAPI_unlock);
     if (lock < 0 || lock >= PAPI_NUM_LOCK) RETURN(PAPI_EINVAL);
-    pthread_mutex_lock(&locks[lock].guard);
+    pthread_mutex_lock(&kl_guards[lock]);
     locks[lock].held = 0;
     pthread_cond_signal(&locks[lock].freed);
-    pthread_mutex_unlock(&locks[lock].guard);
+    pthread_mutex_unlock(&kl_guards[lock]);
     return PAPI_OK;
 }
