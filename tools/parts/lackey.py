@@ -13,10 +13,22 @@ from parts.command import Fault
 from parts.symbols import is_loaded_anywhere
 
 PAGE = 4096
+STACK_ROOM = 1 << 16
+POINTER = 8
+PADDING = "KISTALUB_PADDING"
+NO_LIBRARIES = "/nowhere"  # Debian's script of valgrind sets this variable, and so it is always there
 LONGEST_WAIT = 60.0  # seconds until the program is loaded
 WORDS = ["--tool=lackey", "--basic-counts=no", "--trace-mem=yes", "--trace-syscalls=yes", "--trace-sched=yes", "--child-silent-after-fork=yes"]
 # Where blocks are chased valgrind may run a block before it is known to be reached, and then its instructions are traced without being the program's.
 UNCHASED = ("--vex-guest-chase=no", "--vex-guest-chase-thresh=0")
+
+
+def padded(words: list[str], environment: Mapping[str, str]) -> dict[str, str]:
+    """The environment with a variable as long as it takes for the stack to begin at the same place, whatever else is in it: words and variables stand above."""
+    strings = [os.fsencode(word) for word in words] + [os.fsencode(f"{name}={value}") for name, value in environment.items() if name != PADDING]
+    size = sum(len(string) + 1 + POINTER for string in strings) + len(PADDING) + 2 + POINTER
+    size += len(os.fsencode(words[0])) + 1  # the program's path stands there once more
+    return {**environment, PADDING: "." * (-size % STACK_ROOM)}
 
 
 def unchased() -> list[str]:
@@ -39,7 +51,9 @@ class TracedRun:
         self.trace, writer = os.pipe()
         fill_with_blank_lines(writer)
         words = ["valgrind", *WORDS, *unchased(), f"--log-fd={writer}", path, *arguments]
-        self._process = subprocess.Popen(words, pass_fds=[writer], stdin=source, stdout=output, stderr=errors, env={**os.environ, **environment})
+        libraries = {"LD_LIBRARY_PATH": os.environ.get("LD_LIBRARY_PATH") or NO_LIBRARIES}
+        whole = padded([path, *arguments], {**os.environ, **libraries, **environment})
+        self._process = subprocess.Popen(words, pass_fds=[writer], stdin=source, stdout=output, stderr=errors, env=whole)
         os.close(writer)
 
     @property
