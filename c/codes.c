@@ -87,7 +87,7 @@ void kl_drop_code_map(kl_code_map *codes) {
 static uint32_t noted(const uint32_t *numbers, uint32_t count, uint32_t at) { return at < count ? numbers[at] : 0; }
 
 /* Notes a number, with 1 added. */
-static int note(uint32_t **numbers, uint32_t *count, uint32_t at, uint32_t number) {
+int kl_note(uint32_t **numbers, uint32_t *count, uint32_t at, uint32_t number) {
     if (at >= *count) {
         uint32_t room = *count ? *count : FIRST_ROOM;
         while (room <= at) room *= 2;
@@ -103,8 +103,8 @@ static int note(uint32_t **numbers, uint32_t *count, uint32_t at, uint32_t numbe
 
 static int match(thread_state *t, uint32_t place, uint32_t own) {
     kl_code_map *c = &t->codes;
-    int code = note(&c->inward, &c->inward_count, place, own);
-    return code == PAPI_OK ? note(&c->outward, &c->outward_count, own, place) : code;
+    int code = kl_note(&c->inward, &c->inward_count, place, own);
+    return code == PAPI_OK ? kl_note(&c->outward, &c->outward_count, own, place) : code;
 }
 
 int kl_code_inward(thread_state *t, int code, uint32_t *own) {

@@ -176,7 +176,7 @@ int PAPI_get_eventset_component(int set) {
     int code = PAPI_list_events(set, events, &number);
     if (code != PAPI_OK) RETURN(code);
     if (number > 0) RETURN(PAPI_get_event_component(events[0]));
-    RETURN(set < MOST_SETS && t->sets[set].component ? t->sets[set].component - 1 : PAPI_ENOCMP);
+    RETURN(kl_set_of(t, set)->component ? kl_set_of(t, set)->component - 1 : PAPI_ENOCMP);
 }
 
 int PAPI_num_cmp_hwctrs(int component) {

@@ -64,13 +64,13 @@ static int goes_on(thread_state *t) {
 int PAPI_start(int set) {
     CALL(PAPI_start);
     HERE(t);
-    RETURN(kistalub_start(&t->library, kl_set_number(set)));
+    RETURN(kistalub_start(&t->library, kl_set_number(t, set)));
 }
 
 int PAPI_reset(int set) {
     CALL(PAPI_reset);
     HERE(t);
-    RETURN(kistalub_reset(&t->library, kl_set_number(set)));
+    RETURN(kistalub_reset(&t->library, kl_set_number(t, set)));
 }
 
 typedef int (*giving)(kistalub *, uint32_t, int64_t *, size_t, uint32_t *);
@@ -83,7 +83,7 @@ static int given(giving call, int set, long long *values, int adding) {
     thread_state *t = kl_here(&code);
     if (t) code = goes_on(t);
     if (code != PAPI_OK) return code;
-    code = call(&t->library, kl_set_number(set), all, MOST_EVENTS, &count);
+    code = call(&t->library, kl_set_number(t, set), all, MOST_EVENTS, &count);
     for (uint32_t i = 0; code == PAPI_OK && values && i < count; i++)
         values[i] = adding ? (long long)((unsigned long long)values[i] + (unsigned long long)all[i]) : all[i];
     return code;

@@ -41,6 +41,7 @@ typedef struct {
 
 /* What an event set has besides the model's part: the place of a watch is that of its event. */
 typedef struct {
+    int is_made, number; /* the one that the program knows */
     PAPI_overflow_handler_t handler;
     int component; /* the one that it was assigned, from 1, or 0 */
     int domain;
@@ -69,7 +70,8 @@ typedef struct thread_state {
     int left;            /* the thread has no more to do with it: the last of these calls closes it */
     uint32_t drawn;      /* the last number of the generator of profiles */
     kl_code_map codes;
-    kl_set sets[MOST_SETS];
+    uint32_t *own_sets, own_set_count; /* by the number that the program knows, that of the thread's library, with 1 added */
+    kl_set sets[MOST_SETS];            /* by that of the thread's library */
 } thread_state;
 
 /* The number of each function. */
@@ -129,7 +131,6 @@ int kl_get_debug(PAPI_debug_option_t *debug);
 int kl_set_debug(const PAPI_debug_option_t *debug);
 
 /* sets.c. The codes are those of the thread's library; the place of an event is -1 if the set does not have it. */
-static inline uint32_t kl_set_number(int set) { return set < 0 ? UINT32_MAX : (uint32_t)set; }
 typedef struct { uint32_t codes[MOST_EVENTS]; uint64_t count; } kl_events;
 int kl_events_in(thread_state *t, int set, kl_events *events);
 int kl_index_in(const kl_events *events, uint32_t code);
@@ -139,9 +140,24 @@ int kl_set_domain(thread_state *t, int set, int domain);
 /* counting.c */
 int kl_go(thread_state *t, uint32_t n, uint32_t *went);
 
+/* set_numbers.c. A set is given by the number that the program knows. `kl_set_number` is that of the thread's library, which no set has if the thread has
+ * no such set; `kl_set_of` is NULL then. */
+static inline uint32_t kl_set_number(const thread_state *t, int set) {
+    return set >= 0 && (uint32_t)set < t->own_set_count && t->own_sets[set] ? t->own_sets[set] - 1 : UINT32_MAX;
+}
+static inline kl_set *kl_set_of(thread_state *t, int set) {
+    uint32_t own = kl_set_number(t, set);
+    return own < MOST_SETS ? &t->sets[own] : NULL;
+}
+int kl_number_set(thread_state *t, uint32_t own, int *set);
+void kl_unnumber_set(thread_state *t, kl_set *s);
+void kl_unnumber_sets(thread_state *t);
+void kl_forget_set_numbers(void);
+
 /* codes.c. Inward: the code of the thread's library for a code of the process. Outward: back. PAPI_ENOMEM. */
 int kl_code_inward(thread_state *t, int code, uint32_t *own);
 int kl_code_outward(thread_state *t, uint32_t own, int *code);
+int kl_note(uint32_t **numbers, uint32_t *count, uint32_t at, uint32_t number);
 void kl_drop_code_map(kl_code_map *codes);
 void kl_forget_codes(void);
 
@@ -152,11 +168,11 @@ int kl_options_begin(void);
 
 /* overflow.c and profile.c */
 int kl_find_watch(thread_state *t, int set, int event, uint32_t *own, kl_watch **found);
-int kl_set_threshold(thread_state *t, int set, uint32_t own, int threshold, kl_watch *w);
+int kl_set_threshold(thread_state *t, int set, uint32_t event, int threshold, kl_watch *w);
 void kl_note_watches(thread_state *t);
-int kl_has_handler(const thread_state *t, int set);
-int kl_has_profile(const thread_state *t, int set);
-void kl_forget_set(thread_state *t, int set);
+int kl_has_handler(const kl_set *s);
+int kl_has_profile(const kl_set *s);
+void kl_forget_set(thread_state *t, kl_set *s);
 void kl_tell(thread_state *t, const kistalub_passing *passings, uint64_t told);
 void kl_hit(thread_state *t, kl_watch *w, unsigned long long address);
 

@@ -79,16 +79,17 @@ static int nanoseconds_of(uint32_t ticks) { return (int)((uint64_t)ticks * 1000 
 /* Multiplexes a set. An interval of 0 is the usual slice. */
 static int multiplex(thread_state *t, PAPI_multiplex_option_t *o) {
     uint32_t bits = 0;
-    int code = kistalub_state(&t->library, kl_set_number(o->eventset), &bits);
+    int code = kistalub_state(&t->library, kl_set_number(t, o->eventset), &bits);
     if (code != PAPI_OK) return code;
     if (bits & PAPI_RUNNING) return PAPI_EISRUN;
     if (bits & PAPI_MULTIPLEXING || o->ns < 0) return PAPI_EINVAL;
     uint32_t slice = o->ns ? ticks_of(o->ns) : atomic_load(&kl_slice);
-    code = kistalub_set_multiplex(&t->library, kl_set_number(o->eventset), slice);
+    code = kistalub_set_multiplex(&t->library, kl_set_number(t, o->eventset), slice);
     if (code != PAPI_OK) return code;
     o->ns = nanoseconds_of(slice);
-    t->sets[o->eventset].multiplex_ns = o->ns;
-    t->sets[o->eventset].multiplex_flags = o->flags;
+    kl_set *s = kl_set_of(t, o->eventset);
+    s->multiplex_ns = o->ns;
+    s->multiplex_flags = o->flags;
     return PAPI_OK;
 }
 
@@ -140,10 +141,11 @@ int PAPI_set_opt(int option, PAPI_option_t *o) {
 /* Whether the set is multiplexed. */
 static int get_multiplex(thread_state *t, PAPI_multiplex_option_t *o) {
     uint32_t bits = 0;
-    int code = kistalub_state(&t->library, kl_set_number(o->eventset), &bits);
+    int code = kistalub_state(&t->library, kl_set_number(t, o->eventset), &bits);
     if (code != PAPI_OK) return code;
-    o->ns = t->sets[o->eventset].multiplex_ns;
-    o->flags = t->sets[o->eventset].multiplex_flags;
+    const kl_set *s = kl_set_of(t, o->eventset);
+    o->ns = s->multiplex_ns;
+    o->flags = s->multiplex_flags;
     return (bits & PAPI_MULTIPLEXING) != 0;
 }
 
@@ -167,8 +169,9 @@ static int get_preload(PAPI_preload_info_t *info) {
 }
 
 static int get_domain(thread_state *t, PAPI_domain_option_t *o) {
-    if (kl_is_stopped(t, o->eventset) == PAPI_ENOEVST) return PAPI_ENOEVST;
-    o->domain = t->sets[o->eventset].domain;
+    const kl_set *s = kl_set_of(t, o->eventset);
+    if (!s) return PAPI_ENOEVST;
+    o->domain = s->domain;
     return PAPI_OK;
 }
 

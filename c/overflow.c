@@ -3,39 +3,36 @@
 
 #include <string.h>
 
-/* Whether some event of the set has a watch, a handled one, or a profiled one. */
-static int has(const thread_state *t, int set, int handled, int profiled) {
-    if (set < 0 || set >= MOST_SETS) return 0;
+/* Whether some event of the set has a watch that calls the handler, or one that is a profile. */
+static int has(const kl_set *s, int handled, int profiled) {
     for (int i = 0; i < MOST_EVENTS; i++)
-        if ((handled && t->sets[set].watches[i].handled) || (profiled && t->sets[set].watches[i].profiled)) return 1;
+        if ((handled && s->watches[i].handled) || (profiled && s->watches[i].profiled)) return 1;
     return 0;
 }
 
-int kl_has_handler(const thread_state *t, int set) { return has(t, set, 1, 0); }
-int kl_has_profile(const thread_state *t, int set) { return has(t, set, 0, 1); }
+int kl_has_handler(const kl_set *s) { return has(s, 1, 0); }
+int kl_has_profile(const kl_set *s) { return has(s, 0, 1); }
 
 /* Finds out whether some event has a watch. */
 void kl_note_watches(thread_state *t) {
     t->is_watched = 0;
-    for (int set = 0; set < MOST_SETS && !t->is_watched; set++) t->is_watched = has(t, set, 1, 1);
+    for (int i = 0; i < MOST_SETS && !t->is_watched; i++) t->is_watched = has(&t->sets[i], 1, 1);
 }
 
-/* The set is as when it was made, but for its domain. */
-void kl_forget_set(thread_state *t, int set) {
-    if (set < 0 || set >= MOST_SETS) return;
-    int domain = t->sets[set].domain;
-    memset(&t->sets[set], 0, sizeof t->sets[set]);
-    t->sets[set].domain = domain;
+/* The set is as when it was made, but for its number and its domain. */
+void kl_forget_set(thread_state *t, kl_set *s) {
+    const kl_set made = { .is_made = s->is_made, .number = s->number, .domain = s->domain };
+    *s = made;
     kl_note_watches(t);
 }
 
 /* Calls the handler of a set. */
-static void call_handler(thread_state *t, int set, unsigned long long address, long long vector) {
-    PAPI_overflow_handler_t handler = t->sets[set].handler;
+static void call_handler(thread_state *t, const kl_set *s, unsigned long long address, long long vector) {
+    PAPI_overflow_handler_t handler = s->handler;
     if (!handler) return;
     kl_outside before = kl_user_begins();
     t->in_handler = 1;
-    handler(set, (void *)(uintptr_t)address, vector, NULL);
+    handler(s->number, (void *)(uintptr_t)address, vector, NULL);
     t->in_handler = 0;
     kl_user_ends(before);
 }
@@ -53,7 +50,7 @@ void kl_tell(thread_state *t, const kistalub_passing *passings, uint64_t told) {
             if (w->handled) vector |= 1LL << place;
             if (w->profiled) kl_hit(t, w, address);
         }
-        if (vector) call_handler(t, (int)set, address, vector);
+        if (vector) call_handler(t, &t->sets[set], address, vector);
     }
 }
 
@@ -65,17 +62,18 @@ int kl_find_watch(thread_state *t, int set, int event, uint32_t *own, kl_watch *
     if (code == PAPI_OK) code = kl_events_in(t, set, &events);
     if (code != PAPI_OK) return code;
     int place = kl_index_in(&events, *own);
-    if (place < 0 || place >= MOST_EVENTS || set >= MOST_SETS) return PAPI_ENOEVNT;
-    *found = &t->sets[set].watches[place];
+    if (place < 0 || place >= MOST_EVENTS) return PAPI_ENOEVNT;
+    *found = &kl_set_of(t, set)->watches[place];
     return PAPI_OK;
 }
 
 /* Sets the threshold of an event, or clears it with what watches it. */
-int kl_set_threshold(thread_state *t, int set, uint32_t own, int threshold, kl_watch *w) {
-    int code = kistalub_overflow(&t->library, kl_set_number(set), own, (uint64_t)threshold);
+int kl_set_threshold(thread_state *t, int set, uint32_t event, int threshold, kl_watch *w) {
+    int code = kistalub_overflow(&t->library, kl_set_number(t, set), event, (uint64_t)threshold);
     if (code == PAPI_OK && threshold == 0) {
+        kl_set *s = kl_set_of(t, set);
         memset(w, 0, sizeof *w);
-        if (!kl_has_handler(t, set)) t->sets[set].handler = NULL;
+        if (!kl_has_handler(s)) s->handler = NULL;
         kl_note_watches(t);
     }
     return code;
@@ -90,7 +88,7 @@ static int set_handler(thread_state *t, int set, int event, int threshold, PAPI_
     code = kl_set_threshold(t, set, own, threshold, w);
     if (code != PAPI_OK || threshold == 0) return code;
     w->handled = t->is_watched = 1;
-    t->sets[set].handler = handler;
+    kl_set_of(t, set)->handler = handler;
     return PAPI_OK;
 }
 

@@ -76,6 +76,7 @@ static void end_library(void) {
     pthread_mutex_unlock(&kl_lock);
     kl_forget_ids();
     kl_forget_codes();
+    kl_forget_set_numbers();
     kl_components_end();
     kl_machine_ends();
     release(held);

@@ -5,19 +5,26 @@
 
 /* Gives the set another domain. */
 int kl_set_domain(thread_state *t, int set, int domain) {
-    if (set >= 0 && set < MOST_SETS && t->sets[set].domain == domain) return PAPI_OK;
-    int code = kistalub_set_domain(&t->library, kl_set_number(set), (uint32_t)domain);
-    if (code == PAPI_OK) t->sets[set].domain = domain;
+    kl_set *s = kl_set_of(t, set);
+    if (!s) return PAPI_ENOEVST;
+    if (s->domain == domain) return PAPI_OK;
+    int code = kistalub_set_domain(&t->library, kl_set_number(t, set), (uint32_t)domain);
+    if (code == PAPI_OK) s->domain = domain;
     return code;
 }
 
 static int make_set(thread_state *t, int *set) {
-    uint32_t number = 0;
-    int code = kistalub_create(&t->library, &number);
+    uint32_t own = 0;
+    int code = kistalub_create(&t->library, &own);
     if (code != PAPI_OK) return code;
-    *set = (int)number;
-    kl_forget_set(t, *set);
-    t->sets[*set].domain = PAPI_DOM_USER;
+    if (own >= MOST_SETS) return PAPI_ECOUNT;
+    code = kl_number_set(t, own, set);
+    if (code != PAPI_OK) {
+        kistalub_destroy(&t->library, own);
+        return code;
+    }
+    kl_forget_set(t, &t->sets[own]);
+    t->sets[own].domain = PAPI_DOM_USER;
     return kl_set_domain(t, *set, kl_default_domain(0));
 }
 
@@ -32,22 +39,24 @@ int PAPI_destroy_eventset(int *set) {
     CALL(PAPI_destroy_eventset);
     HERE(t);
     if (!set) RETURN(PAPI_EINVAL);
-    int code = kistalub_destroy(&t->library, kl_set_number(*set));
-    if (code == PAPI_OK) *set = PAPI_NULL;
-    RETURN(code);
+    int code = kistalub_destroy(&t->library, kl_set_number(t, *set));
+    if (code != PAPI_OK) RETURN(code);
+    kl_unnumber_set(t, kl_set_of(t, *set));
+    *set = PAPI_NULL;
+    return PAPI_OK;
 }
 
 int PAPI_cleanup_eventset(int set) {
     CALL(PAPI_cleanup_eventset);
     HERE(t);
-    int code = kistalub_cleanup(&t->library, kl_set_number(set));
-    if (code == PAPI_OK) kl_forget_set(t, set);
+    int code = kistalub_cleanup(&t->library, kl_set_number(t, set));
+    if (code == PAPI_OK) kl_forget_set(t, kl_set_of(t, set));
     RETURN(code);
 }
 
 int kl_events_in(thread_state *t, int set, kl_events *events) {
     events->count = 0;
-    return kistalub_list_events(&t->library, kl_set_number(set), events->codes, MOST_EVENTS, &events->count);
+    return kistalub_list_events(&t->library, kl_set_number(t, set), events->codes, MOST_EVENTS, &events->count);
 }
 
 int kl_index_in(const kl_events *events, uint32_t code) {
@@ -59,31 +68,33 @@ int kl_index_in(const kl_events *events, uint32_t code) {
 /* PAPI_ENOEVST, and PAPI_EISRUN if the set runs. */
 int kl_is_stopped(thread_state *t, int set) {
     uint32_t bits = 0;
-    int code = kistalub_state(&t->library, kl_set_number(set), &bits);
+    int code = kistalub_state(&t->library, kl_set_number(t, set), &bits);
     return code == PAPI_OK && bits & PAPI_RUNNING ? PAPI_EISRUN : code;
 }
 
 /* One of these events was taken out: its watch goes, and those after it follow their events. */
 static void watches_follow(thread_state *t, int set, const kl_events *before) {
     kl_events after;
-    kl_watch *watches = t->sets[set].watches;
+    kl_set *s = kl_set_of(t, set);
+    kl_watch *watches = s->watches;
     uint64_t place = 0;
     if (kl_events_in(t, set, &after) != PAPI_OK) return;
     while (place < after.count && before->codes[place] == after.codes[place]) place++;
     memmove(watches + place, watches + place + 1, (MOST_EVENTS - 1 - place) * sizeof *watches);
     memset(watches + MOST_EVENTS - 1, 0, sizeof *watches);
-    if (!kl_has_handler(t, set)) t->sets[set].handler = NULL;
+    if (!kl_has_handler(s)) s->handler = NULL;
     kl_note_watches(t);
 }
 
 /* The first event binds a set to its component. The set takes the domain of that, unless it has one of its own. */
 static int bind(thread_state *t, int set) {
     kl_events events;
+    const kl_set *s = kl_set_of(t, set);
     uint32_t component = 0;
     int code = kl_events_in(t, set, &events);
-    if (code != PAPI_OK || events.count != 1 || t->sets[set].component) return code;
+    if (code != PAPI_OK || events.count != 1 || s->component) return code;
     if (kistalub_component_of(&t->library, events.codes[0], &component) != PAPI_OK) return PAPI_OK;
-    return t->sets[set].domain == kl_default_domain(0) ? kl_set_domain(t, set, kl_default_domain(component)) : PAPI_OK;
+    return s->domain == kl_default_domain(0) ? kl_set_domain(t, set, kl_default_domain(component)) : PAPI_OK;
 }
 
 int PAPI_add_event(int set, int event) {
@@ -92,7 +103,7 @@ int PAPI_add_event(int set, int event) {
     uint32_t own;
     int code = kl_code_in_library(t, event, &own);
     if (code == PAPI_OK) code = kl_is_enabled(t, own);
-    if (code == PAPI_OK) code = kistalub_add(&t->library, kl_set_number(set), own);
+    if (code == PAPI_OK) code = kistalub_add(&t->library, kl_set_number(t, set), own);
     RETURN(code == PAPI_OK ? bind(t, set) : code);
 }
 
@@ -103,7 +114,7 @@ int PAPI_remove_event(int set, int event) {
     uint32_t own;
     int code = kl_events_in(t, set, &before);
     if (code == PAPI_OK) code = kl_code_in_library(t, event, &own);
-    if (code == PAPI_OK) code = kistalub_remove(&t->library, kl_set_number(set), own);
+    if (code == PAPI_OK) code = kistalub_remove(&t->library, kl_set_number(t, set), own);
     if (code == PAPI_OK) watches_follow(t, set, &before);
     RETURN(code);
 }
@@ -113,7 +124,7 @@ int PAPI_add_named_event(int set, const char *name) {
     HERE(t);
     if (!name) RETURN(PAPI_EINVAL);
     int code = kl_is_known(t, name);
-    if (code == PAPI_OK) code = kistalub_add_named(&t->library, kl_set_number(set), (const unsigned char *)name, strlen(name));
+    if (code == PAPI_OK) code = kistalub_add_named(&t->library, kl_set_number(t, set), (const unsigned char *)name, strlen(name));
     RETURN(code == PAPI_OK ? bind(t, set) : code);
 }
 
@@ -123,7 +134,7 @@ int PAPI_remove_named_event(int set, const char *name) {
     kl_events before;
     if (!name) RETURN(PAPI_EINVAL);
     int code = kl_events_in(t, set, &before);
-    if (code == PAPI_OK) code = kistalub_remove_named(&t->library, kl_set_number(set), (const unsigned char *)name, strlen(name));
+    if (code == PAPI_OK) code = kistalub_remove_named(&t->library, kl_set_number(t, set), (const unsigned char *)name, strlen(name));
     if (code == PAPI_OK) watches_follow(t, set, &before);
     RETURN(code);
 }
@@ -152,9 +163,9 @@ int PAPI_assign_eventset_component(int set, int component) {
     CALL(PAPI_assign_eventset_component);
     HERE(t);
     uint32_t number = component < 0 ? UINT32_MAX : (uint32_t)component;
-    int code = kistalub_assign_component(&t->library, kl_set_number(set), number);
+    int code = kistalub_assign_component(&t->library, kl_set_number(t, set), number);
     if (code != PAPI_OK) RETURN(code);
-    t->sets[set].component = component + 1;
+    kl_set_of(t, set)->component = component + 1;
     RETURN(kl_set_domain(t, set, kl_default_domain(number)));
 }
 
@@ -194,8 +205,8 @@ int PAPI_state(int set, int *status) {
     HERE(t);
     uint32_t bits = 0;
     if (!status) RETURN(PAPI_EINVAL);
-    int code = kistalub_state(&t->library, kl_set_number(set), &bits);
-    if (code == PAPI_OK) *status = (int)bits | (kl_has_profile(t, set) ? PAPI_PROFILING : 0);
+    int code = kistalub_state(&t->library, kl_set_number(t, set), &bits);
+    if (code == PAPI_OK) *status = (int)bits | (kl_has_profile(kl_set_of(t, set)) ? PAPI_PROFILING : 0);
     RETURN(code);
 }
 

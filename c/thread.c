@@ -15,6 +15,7 @@ static uint32_t next_number; /* under kl_lock */
 static void close_state(thread_state *t) {
     kistalub_close(&t->library);
     kl_drop_code_map(&t->codes);
+    kl_unnumber_sets(t);
     free(t);
 }
 

@@ -1,15 +1,20 @@
-/* A code of an event is the process's: each thread may use what another one learned, in whatever order each learned its own. */
+/* A code of an event is the process's: each thread may use what another one learned, in whatever order each learned its own. So is the number of a
+ * set, which no other thread has. */
 #include "papi.h"
 #include "wanted.h"
 #include <pthread.h>
 #include <string.h>
 
-static int inst, cycles, loads;
+static int inst, cycles, loads, main_set = PAPI_NULL;
 
 static void *work(void *unused) {
     int set = PAPI_NULL, code, listed[3], number = 3;
     char name[PAPI_MAX_STR_LEN];
     WANT(PAPI_create_eventset(&set), PAPI_OK);
+    WANT(set, main_set + 1);
+    WANT(PAPI_num_events(main_set), PAPI_ENOEVST);
+    WANT(PAPI_add_event(main_set, inst), PAPI_ENOEVST);
+    WANT(PAPI_destroy_eventset(&main_set), PAPI_ENOEVST);
     /* this thread's library meets them in another order, and one of them without its code */
     WANT(PAPI_add_named_event(set, "CYCLES"), PAPI_OK);
     WANT(PAPI_event_name_to_code("BR_INST:TAKEN", &code), PAPI_OK);
@@ -46,10 +51,12 @@ static void *work(void *unused) {
 int main(void) {
     pthread_t thread;
     char name[PAPI_MAX_STR_LEN];
-    int reference, set = PAPI_NULL;
+    int reference, others[3] = { PAPI_NULL, PAPI_NULL, PAPI_NULL };
     WANT(PAPI_library_init(PAPI_VER_CURRENT), PAPI_VER_CURRENT);
-    WANT(PAPI_create_eventset(&set), PAPI_OK);
-    WANT(PAPI_add_event(set, PAPI_NATIVE_MASK), PAPI_ENOEVNT);
+    for (int i = 0; i < 3; i++) WANT(PAPI_create_eventset(&others[i]), PAPI_OK);
+    WANT(PAPI_create_eventset(&main_set), PAPI_OK);
+    WANT(main_set, 3);
+    WANT(PAPI_add_event(main_set, PAPI_NATIVE_MASK), PAPI_ENOEVNT);
     WANT(PAPI_event_name_to_code("INST_RETIRED", &inst), PAPI_OK);
     WANT(PAPI_event_name_to_code("CYCLES", &cycles), PAPI_OK);
     WANT(PAPI_event_name_to_code("MEM:LOADS", &loads), PAPI_OK);
@@ -63,6 +70,10 @@ int main(void) {
     WANT(PAPI_event_name_to_code("REF", &reference), PAPI_OK);
     WANT(reference, PAPI_NATIVE_MASK + 4);
     WANT(PAPI_event_code_to_name(PAPI_NATIVE_MASK + 5, name), PAPI_ENOEVNT);
+    /* the least number that is free is given */
+    WANT(PAPI_destroy_eventset(&others[1]), PAPI_OK);
+    WANT(PAPI_create_eventset(&others[1]), PAPI_OK);
+    WANT(others[1], 1);
     printf("%#x %#x %#x %#x\n", (unsigned)inst, (unsigned)cycles, (unsigned)loads, (unsigned)reference);
     PAPI_shutdown();
     return 0;

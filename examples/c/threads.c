@@ -1,4 +1,4 @@
-/* Eight threads, each with its stream, its sets and its codes. */
+/* Eight threads, each with its stream and its sets. */
 #include "papi.h"
 #include "wanted.h"
 #include <pthread.h>
@@ -9,7 +9,6 @@ static void *work(void *result) {
     int set = PAPI_NULL;
     WANT(PAPI_register_thread(), PAPI_OK);
     WANT(PAPI_create_eventset(&set), PAPI_OK);
-    WANT(set, 0);
     WANT(PAPI_add_named_event(set, "INST_RETIRED"), PAPI_OK);
     WANT(PAPI_start(set), PAPI_OK);
     WANT(PAPI_unregister_thread(), PAPI_EISRUN);
