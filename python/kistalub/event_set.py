@@ -1,0 +1,223 @@
+"""Event sets: events that are counted together (PAPI_create_eventset(3) and the calls after it)."""
+
+from __future__ import annotations
+
+import ctypes
+import threading
+from contextlib import contextmanager
+from enum import IntFlag
+from types import TracebackType
+from typing import Callable, Iterator
+
+from .binding import (
+    NULL_SET,
+    OPTION_DOMAIN,
+    OPTION_MULTIPLEX,
+    OVERFLOW_HANDLER,
+    RUNNING,
+    DomainOption,
+    MultiplexOption,
+    Option,
+    call,
+    has_raised,
+    keep_raised,
+)
+from .errors import ENOEVNT, ENOINIT
+from .events import code_of
+from .library import begun
+
+# Called with the name of the event whose count passed its threshold, and the address of the occurrence.
+Handler = Callable[[str, int], None]
+
+
+class Domain(IntFlag):
+    """Which occurrences a set counts: those in user mode, in kernel mode, or both."""
+
+    USER = 1
+    KERNEL = 2
+
+
+class EventSet:
+    """A set of events, which counts from `start` to `stop`: `with EventSet("INST_RETIRED", "CYCLES") as events:`. Leaving it stops and destroys the set.
+
+    Counts are dictionaries, a number for each event by the name that it was added with, in the order in which they were added. A set belongs to the thread that
+    made it: its calls in others raise `ENOEVST`. At most 64 sets a thread and 32 events a set.
+
+    A `multiplexed` set takes events that do not fit on the counters together. They take turns of `slice_ns` nanoseconds of the model's clock, each an occurrence
+    at the usual 1000 MHz (0: the library's slice, KISTALUB_SLICE), and counts are estimates. `domain` is which occurrences count, the library's if it is None.
+
+    `ENOINIT` without a library, and what `add` raises.
+    """
+
+    def __init__(self, *names: str, multiplexed: bool = False, slice_ns: int = 0, domain: Domain | None = None):
+        self._names: list[str] = []
+        self._handlers: dict[str, Handler] = {}
+        self._number = ctypes.c_int(NULL_SET)
+        call("PAPI_create_eventset", ctypes.byref(self._number))
+        self._library = begun()
+        try:
+            if multiplexed:
+                call("PAPI_set_opt", OPTION_MULTIPLEX, Option(multiplex=MultiplexOption(self.number, slice_ns, 0)))
+            if domain is not None:
+                call("PAPI_set_opt", OPTION_DOMAIN, Option(domain=DomainOption(0, self.number, int(domain))))
+            self.add(*names)
+        except BaseException:
+            self.close()
+            raise
+
+    @property
+    def number(self) -> int:
+        """The number of the set in PAPI's calls. `ENOINIT` if the set was closed, or its library has ended."""
+        if self._number.value == NULL_SET or self._library != begun():
+            raise ENOINIT("EventSet", "the set is closed, or its library has ended")
+        return self._number.value
+
+    @property
+    def events(self) -> tuple[str, ...]:
+        """The names of the events, in the order of their counts."""
+        return tuple(self._names)
+
+    @property
+    def running(self) -> bool:
+        """Whether the set counts."""
+        state = ctypes.c_int(0)
+        call("PAPI_state", self.number, ctypes.byref(state))
+        return bool(state.value & RUNNING)
+
+    def add(self, *names: str) -> None:
+        """Adds events, one after the other. `ENOEVNT` if there is no such event, `ECNFLCT` if it does not fit on the counters, `EINVAL` if the set has it or is full,
+        `EISRUN` if the set runs. Those before the refused one stay."""
+        for name in names:
+            call("PAPI_add_named_event", self.number, name.encode())
+            self._names.append(name)
+
+    def remove(self, *names: str) -> None:
+        """Removes events by the names that they were added with. `ENOEVNT` if the set has none of this name, `EISRUN` if it runs."""
+        for name in names:
+            self._place_of(name)
+            call("PAPI_remove_named_event", self.number, name.encode())
+            self._names.remove(name)
+            self._handlers.pop(name, None)
+
+    def start(self) -> None:
+        """Begins to count, from 0. `EISRUN` if the set runs, `ECNFLCT` if another running set has the counters, `EINVAL` if the set is empty."""
+        call("PAPI_start", self.number)
+
+    def stop(self) -> dict[str, int]:
+        """Ends counting, and gives the counts. `ENOTRUN` if the set does not run."""
+        return self._counted("PAPI_stop")
+
+    def read(self) -> dict[str, int]:
+        """The counts so far, or those of the last run."""
+        return self._counted("PAPI_read")
+
+    def accumulate(self, totals: dict[str, int]) -> None:
+        """Adds the counts to the numbers of the events in `totals` (0 if one is not there), and counts from 0 again."""
+        values = self._values(totals)
+        call("PAPI_accum", self.number, values)
+        totals.update(zip(self._names, values))
+
+    def reset(self) -> None:
+        """Counts from 0 again."""
+        call("PAPI_reset", self.number)
+
+    @contextmanager
+    def counting(self) -> Iterator[dict[str, int]]:
+        """Counts what happens in a block: `with events.counting() as counts:`. The dictionary is empty in the block, and has the counts after it."""
+        counts: dict[str, int] = {}
+        self.start()
+        try:
+            yield counts
+        finally:
+            counts.update(self.stop())
+
+    def on_overflow(self, name: str, threshold: int, handler: Handler) -> None:
+        """`handler(name, address)` is called each time that the count of the event passes a multiple of `threshold` (256 to 2147483647), before the next occurrence.
+        While it runs time stands: it may read sets, and `go` raises `EISRUN`. What it raises ends the handlers, and is raised by the call in which time went on.
+
+        `ENOEVNT` if the event is not in the set, `EINVAL` if the threshold is not in its range or the event is derived, `ECOMBO` if the set is multiplexed, `EISRUN` if it runs.
+        """
+        self._place_of(name)
+        call("PAPI_overflow", self.number, code_of(name), threshold, 0, _handler)
+        self._handlers[name] = handler
+        _watched.sets[self.number] = self
+
+    def end_overflow(self, name: str) -> None:
+        """Takes the threshold of an event away. `ENOEVNT` if the event is not in the set, `EINVAL` if it has none, `EISRUN` if the set runs."""
+        self._place_of(name)
+        call("PAPI_overflow", self.number, code_of(name), 0, 0, _handler)
+        self._handlers.pop(name, None)
+
+    def close(self) -> None:
+        """Stops the set if it runs, and destroys it. A set that is closed, or whose library has ended, stays as it is."""
+        if self._number.value == NULL_SET or self._library != begun():
+            return
+        _watched.sets.pop(self._number.value, None)
+        try:
+            if self.running:
+                call("PAPI_stop", self.number, self._values({}))
+            call("PAPI_cleanup_eventset", self.number)
+            call("PAPI_destroy_eventset", ctypes.byref(self._number))
+        except ENOINIT:
+            self._number.value = NULL_SET
+
+    def _place_of(self, name: str) -> int:
+        if name not in self._names:
+            raise ENOEVNT("EventSet", f"the set has no event {name!r}")
+        return self._names.index(name)
+
+    def _values(self, totals: dict[str, int]) -> ctypes.Array[ctypes.c_longlong]:
+        """A number for each event, from `totals` or 0. There is room for one at least."""
+        return (ctypes.c_longlong * max(len(self._names), 1))(*(totals.get(name, 0) for name in self._names))
+
+    def _counted(self, name: str) -> dict[str, int]:
+        values = self._values({})
+        call(name, self.number, values)
+        return dict(zip(self._names, values))
+
+    def _tell(self, vector: int, address: int) -> None:
+        """Calls the handlers of the events whose thresholds were passed: bit N of the vector stands for the event in place N."""
+        for place, name in enumerate(self.events):
+            if vector >> place & 1 and name in self._handlers and not has_raised():
+                try:
+                    self._handlers[name](name, address)
+                except BaseException as error:
+                    keep_raised(error)
+
+    def __enter__(self) -> EventSet:
+        return self
+
+    def __exit__(self, kind: type[BaseException] | None, error: BaseException | None, trace: TracebackType | None) -> None:
+        self.close()
+
+    def __len__(self) -> int:
+        return len(self._names)
+
+    def __contains__(self, name: object) -> bool:
+        return name in self._names
+
+    def __iter__(self) -> Iterator[str]:
+        return iter(self.events)
+
+    def __repr__(self) -> str:
+        return f"EventSet({', '.join(map(repr, self._names))})"
+
+
+class _Watched(threading.local):
+    """The sets of the thread that have handlers, by their numbers."""
+
+    def __init__(self) -> None:
+        self.sets: dict[int, EventSet] = {}
+
+
+_watched = _Watched()
+
+
+def _on_passing(number: int, address: int | None, vector: int, context: int | None) -> None:
+    """What C calls for a set."""
+    events = _watched.sets.get(number)
+    if events is not None:
+        events._tell(vector, address or 0)
+
+
+_handler = OVERFLOW_HANDLER(_on_passing)  # C keeps it, so it lives as long as the process

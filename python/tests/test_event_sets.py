@@ -1,0 +1,225 @@
+"""Event sets: counts, refusals, handlers, turns, domains and threads, over the lab unit."""
+
+from __future__ import annotations
+
+import threading
+
+from shared_library import EXAMPLES, UNIT, OverLibrary
+
+import kistalub
+from kistalub import Domain, EventSet, Library
+
+FIRST = EXAMPLES / "c/first.stream"  # two instructions, and seven cycles between them
+LARGE = EXAMPLES / "c/overflow.stream"  # eight occurrences of 255 instructions, at the addresses 1 to 8
+
+
+class Counting(OverLibrary):
+    def test_counts_are_dictionaries_in_the_order_of_the_events(self) -> None:
+        with Library(UNIT, stream=FIRST), EventSet("CYCLES", "INST_RETIRED") as events:
+            events.start()
+            self.assertTrue(events.running)
+            self.assertEqual(kistalub.go(2), 2)
+            self.assertEqual(list(events.read().items()), [("CYCLES", 7), ("INST_RETIRED", 1)])
+            self.assertEqual(kistalub.go(), 1)
+            self.assertEqual(events.stop(), {"CYCLES": 7, "INST_RETIRED": 2})
+            self.assertFalse(events.running)
+
+    def test_a_block_of_counting(self) -> None:
+        with Library(UNIT, stream=FIRST), EventSet("INST_RETIRED") as events:
+            with events.counting() as counts:
+                kistalub.go(1)
+                self.assertEqual(counts, {})
+            self.assertEqual(counts, {"INST_RETIRED": 1})
+            with self.assertRaises(KeyError), events.counting() as counts:
+                kistalub.go()
+                raise KeyError
+            self.assertEqual((counts, events.running), ({"INST_RETIRED": 1}, False))
+
+    def test_counts_are_added_and_zeroed(self) -> None:
+        with Library(UNIT, stream=LARGE), EventSet("INST_RETIRED") as events:
+            totals = {"INST_RETIRED": 1000, "other": 3}
+            events.start()
+            kistalub.go(2)
+            events.accumulate(totals)
+            self.assertEqual(totals, {"INST_RETIRED": 1510, "other": 3})
+            kistalub.go(1)
+            self.assertEqual(events.read(), {"INST_RETIRED": 255})
+            events.reset()
+            self.assertEqual(events.stop(), {"INST_RETIRED": 0})
+
+    def test_events_of_a_set(self) -> None:
+        with Library(UNIT, stream=FIRST), EventSet() as events:
+            events.add("INST_RETIRED", "REF", "CYCLES")
+            events.remove("REF")
+            self.assertEqual((len(events), list(events), "REF" in events, "CYCLES" in events), (2, ["INST_RETIRED", "CYCLES"], False, True))
+            with events.counting() as counts:
+                kistalub.go()
+            self.assertEqual(counts, {"INST_RETIRED": 2, "CYCLES": 7})
+            self.assertEqual(repr(events), "EventSet('INST_RETIRED', 'CYCLES')")
+
+    def test_domains(self) -> None:
+        stream = self.stream("0 c0 00 u 3 1", "0 c0 00 k 5 2")
+        for domain, wanted in ((None, 3), (Domain.USER, 3), (Domain.KERNEL, 5), (Domain.USER | Domain.KERNEL, 8)):
+            with Library(UNIT, stream=stream), EventSet("INST_RETIRED", domain=domain) as events:
+                with events.counting() as counts:
+                    kistalub.go()
+                self.assertEqual(counts, {"INST_RETIRED": wanted}, domain)
+
+    def test_a_multiplexed_set_estimates(self) -> None:
+        """Branches and mispredictions by turns of two ticks: each group sees two of its four, in half of the time."""
+        with Library(UNIT, stream=EXAMPLES / "c/multiplex.stream"), EventSet("BR_INST", "BR_MISP", multiplexed=True, slice_ns=2) as events:
+            with events.counting() as counts:
+                kistalub.go()
+            self.assertEqual(counts, {"BR_INST": 4, "BR_MISP": 4})
+
+    def test_presets(self) -> None:
+        with Library(UNIT, presets=EXAMPLES / "lab.presets", cpu="lab2", stream=FIRST), EventSet("PAPI_RES_STL") as events:
+            with events.counting() as counts:
+                kistalub.go()
+            self.assertEqual(counts, {"PAPI_RES_STL": 5})  # cycles less instructions
+
+
+class Refusals(OverLibrary):
+    def test_each_has_its_exception(self) -> None:
+        with Library(UNIT, stream=FIRST), EventSet("INST_RETIRED") as events, EventSet("BR_INST") as branches:
+            cases = (
+                ("no such event", kistalub.ENOEVNT, lambda: events.add("NO_SUCH")),
+                ("an event that is there", kistalub.EINVAL, lambda: events.add("INST_RETIRED")),
+                ("one counter for two", kistalub.ECNFLCT, lambda: branches.add("BR_MISP")),
+                ("not in the set", kistalub.ENOEVNT, lambda: events.remove("CYCLES")),
+                ("does not run", kistalub.ENOTRUN, events.stop),
+                ("a threshold of an event that is not there", kistalub.ENOEVNT, lambda: events.on_overflow("CYCLES", 256, print)),
+                ("a threshold that is too small", kistalub.EINVAL, lambda: events.on_overflow("INST_RETIRED", 255, print)),
+                ("no threshold to take away", kistalub.EINVAL, lambda: events.end_overflow("INST_RETIRED")),
+                ("a library in a library", kistalub.EINVAL, Library(UNIT).__enter__),
+                ("a domain that there is not", kistalub.EINVAL_DOM, lambda: EventSet(domain=Domain(4))),
+            )
+            for title, kind, act in cases:
+                with self.subTest(title), self.assertRaises(kind):
+                    act()
+            events.start()
+            for act in (events.start, lambda: events.add("CYCLES"), lambda: events.remove("INST_RETIRED")):
+                self.assertRaises(kistalub.EISRUN, act)
+
+    def test_what_an_exception_says(self) -> None:
+        with Library(UNIT), self.assertRaises(kistalub.PapiError) as raised:
+            EventSet("NO_SUCH")
+        error = raised.exception
+        self.assertEqual((error.code, error.name, error.call), (-7, "PAPI_ENOEVNT", "PAPI_add_named_event"))
+        self.assertEqual(str(error), "PAPI_add_named_event: PAPI_ENOEVNT: Event does not exist")
+
+    def test_a_refused_set_is_destroyed(self) -> None:
+        with Library(UNIT):
+            for _ in range(100):
+                self.assertRaises(kistalub.ENOEVNT, EventSet, "INST_RETIRED", "NO_SUCH")
+            EventSet("INST_RETIRED").close()
+
+    def test_without_a_library(self) -> None:
+        with Library(UNIT, stream=FIRST):
+            events = EventSet("INST_RETIRED")
+        for act in (events.start, events.read, EventSet, kistalub.go, kistalub.native_events):
+            self.assertRaises(kistalub.ENOINIT, act)
+        events.close()
+        with Library(UNIT, stream=FIRST):
+            self.assertRaises(kistalub.ENOINIT, events.start)
+            events.close()
+
+    def test_numbers_out_of_range(self) -> None:
+        with Library(UNIT):
+            self.assertRaises(ValueError, kistalub.go, -1)
+            self.assertRaises(ValueError, kistalub.thread, 1 << 32)
+            self.assertEqual(kistalub.go(0), 0)
+
+
+class Handlers(OverLibrary):
+    def test_each_passing_in_order(self) -> None:
+        told = []
+        with Library(UNIT, stream=LARGE), EventSet("INST_RETIRED") as events:
+            events.on_overflow("INST_RETIRED", 1000, lambda name, address: told.append((name, address, events.read()[name])))
+            events.start()
+            self.assertEqual(kistalub.go(), 8)
+            self.assertEqual(events.stop(), {"INST_RETIRED": 2040})
+        self.assertEqual(told, [("INST_RETIRED", 4, 1020), ("INST_RETIRED", 8, 2040)])
+
+    def test_two_events_at_one_occurrence(self) -> None:
+        told = []
+        stream = self.stream(*["0 c0 00 u 255 7", "0 3c 00 u 255 8"] * 4)
+        with Library(UNIT, stream=stream), EventSet("INST_RETIRED", "CYCLES") as events:
+            events.on_overflow("INST_RETIRED", 500, lambda name, address: told.append((name, address)))
+            events.on_overflow("CYCLES", 1000, lambda name, address: told.append((name, address)))
+            events.start()
+            kistalub.go()
+        self.assertEqual(told, [("INST_RETIRED", 7), ("INST_RETIRED", 7), ("CYCLES", 8)])
+
+    def test_a_threshold_is_taken_away(self) -> None:
+        told = []
+        with Library(UNIT, stream=LARGE), EventSet("INST_RETIRED") as events:
+            events.on_overflow("INST_RETIRED", 1000, lambda name, address: told.append(address))
+            events.end_overflow("INST_RETIRED")
+            events.start()
+            kistalub.go()
+        self.assertEqual(told, [])
+
+    def test_what_a_handler_raises(self) -> None:
+        told = []
+
+        def fail(name: str, address: int) -> None:
+            told.append(address)
+            raise KeyError(address)
+
+        with Library(UNIT, stream=LARGE), EventSet("INST_RETIRED") as events:
+            events.on_overflow("INST_RETIRED", 500, fail)
+            events.start()
+            with self.assertRaises(KeyError):
+                kistalub.go()
+            self.assertEqual((told, events.stop()), ([2], {"INST_RETIRED": 2040}))
+
+    def test_time_stands_in_a_handler(self) -> None:
+        with Library(UNIT, stream=LARGE), EventSet("INST_RETIRED") as events:
+            events.on_overflow("INST_RETIRED", 1000, lambda name, address: kistalub.go(1))
+            events.start()
+            with self.assertRaises(kistalub.EISRUN):
+                kistalub.go()
+
+    def test_none_in_a_multiplexed_set(self) -> None:
+        with Library(UNIT), EventSet("INST_RETIRED", multiplexed=True) as events, self.assertRaises(kistalub.ECOMBO):
+            events.on_overflow("INST_RETIRED", 1000, print)
+
+
+class Threads(OverLibrary):
+    def test_each_has_its_stream_and_its_sets(self) -> None:
+        self.stream("0 c0 00 u 1 1", name="0.stream")
+        self.stream("0 c0 00 u 20 1", name="1.stream")
+        self.stream("0 c0 00 u 30 1", name="2.stream")
+        counts: dict[int, dict[str, int]] = {}
+
+        def work(number: int) -> None:
+            kistalub.thread(number)
+            with EventSet("INST_RETIRED") as events:
+                events.start()
+                kistalub.go()
+                counts[number] = events.stop()
+
+        with Library(UNIT, stream=self.folder / "%t.stream"):
+            threads = [threading.Thread(target=work, args=(number,)) for number in (2, 1)]
+            for thread in threads:
+                thread.start()
+            for thread in threads:
+                thread.join()
+            work(0)
+        self.assertEqual(counts, {0: {"INST_RETIRED": 1}, 1: {"INST_RETIRED": 20}, 2: {"INST_RETIRED": 30}})
+
+    def test_a_set_of_another_thread(self) -> None:
+        refused = []
+
+        def work(events: EventSet) -> None:
+            try:
+                events.start()
+            except kistalub.ENOEVST as error:
+                refused.append(error.name)
+
+        with Library(UNIT, stream=FIRST), EventSet("INST_RETIRED") as events:
+            thread = threading.Thread(target=work, args=(events,))
+            thread.start()
+            thread.join()
+        self.assertEqual(refused, ["PAPI_ENOEVST"])

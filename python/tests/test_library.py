@@ -1,0 +1,113 @@
+"""The library of a process: its files, its events, the codes of its errors, and where the shared library is found."""
+
+from __future__ import annotations
+
+import re
+
+from shared_library import EXAMPLES, ROOT, UNIT, OverLibrary
+
+import kistalub
+from kistalub import Library
+from kistalub.errors import BY_CODE
+
+PRESETS = EXAMPLES / "lab.presets"
+
+
+class Files(OverLibrary):
+    def test_what_is_wrong_is_said(self) -> None:
+        faulty = self.stream("COMPONENT,cpu,lab", "COUNTER,P0,99,P", name="faulty.unit")
+        cases = (
+            (f"Library({str(self.folder / 'none.unit')!r})", f"papi: no such file: {self.folder}/none.unit"),
+            (f"Library({str(faulty)!r})", f"papi: {faulty}: row 2: width out of range"),
+        )
+        for call, line in cases:
+            ran = self.run_python("-c", f"import kistalub\ntry: kistalub.{call}.__enter__()\nexcept kistalub.ESYS as error: print(error.name)")
+            self.assertEqual((ran.stdout, ran.stderr), ("PAPI_ESYS\n", f"{line}\n"), call)
+
+    def test_a_faulty_line_of_a_stream(self) -> None:
+        stream = self.stream("0 c0 00 u 1 1", "0 c0 00 u x 1")
+        text = f"import kistalub\nwith kistalub.Library({str(UNIT)!r}, stream={str(stream)!r}):\n try: kistalub.go()\n except kistalub.ESYS: print(kistalub.go())"
+        ran = self.run_python("-c", text)
+        self.assertEqual((ran.stdout, ran.stderr), ("0\n", "papi: stream 0: line 2: bad field\n"))
+
+    def test_files_of_the_environment(self) -> None:
+        variables = {"KISTALUB_UNIT": str(UNIT), "KISTALUB_STREAM": str(EXAMPLES / "c/first.stream"), "KISTALUB_STEP": "3"}
+        text = "import kistalub\nwith kistalub.Library(), kistalub.EventSet('CYCLES') as events:\n events.start()\n print(events.stop())"
+        ran = self.run_python("-c", text, **variables)
+        self.assertEqual((ran.stdout, ran.stderr), ("{'CYCLES': 7}\n", ""))
+
+    def test_other_files_need_a_unit(self) -> None:
+        self.assertRaises(ValueError, Library, stream="some.stream")
+
+
+class Events(OverLibrary):
+    def test_native_events_are_those_of_the_unit_file(self) -> None:
+        names, masks, component = [], [], ""
+        for line in UNIT.read_text(encoding="ascii").splitlines():
+            row = line.split(",")
+            if row[0] == "COMPONENT":
+                component = row[2]
+            elif row[0] == "EVENT":
+                names.append(f"{component}::{row[1]}")
+                masks.append(names[-1])
+            elif row[0] == "UMASK":
+                masks.append(f"{names[-1]}:{row[1]}")
+        with Library(UNIT):
+            self.assertEqual(kistalub.native_events(), names)
+            self.assertEqual(kistalub.native_events(umasks=True), masks)
+            self.assertEqual((kistalub.preset_events(), kistalub.user_events()), ([], []))
+
+    def test_presets_are_those_that_papi_avail_has(self) -> None:
+        """PAPI_L1_DCM has no native event here, and PAPI_FP_OPS no formula that can be read."""
+        wanted = {"PAPI_TOT_INS", "PAPI_TOT_CYC", "PAPI_BR_INS", "PAPI_BR_MSP", "PAPI_RES_STL", "PAPI_LST_INS", "PAPI_BR_PRC"}
+        with Library(UNIT, presets=PRESETS, cpu="lab2"):
+            self.assertEqual(set(kistalub.preset_events()), wanted)
+        with Library(UNIT, presets=EXAMPLES / "user_events.presets", cpu="lab2"):
+            self.assertTrue(all(not name.startswith("PAPI_") for name in kistalub.user_events()))
+
+    def test_what_is_told_of_an_event(self) -> None:
+        with Library(UNIT, presets=PRESETS, cpu="lab2"):
+            info = kistalub.describe("PAPI_BR_PRC")
+            self.assertEqual((info.name, info.derived, info.formula), ("PAPI_BR_PRC", "DERIVED_POSTFIX", "N0|N1|-|"))
+            self.assertEqual(info.natives, ("lab::BR_INST:ALL", "lab::BR_MISP"))
+            self.assertEqual((kistalub.describe("PACKETS").component, kistalub.describe("PACKETS").natives), (1, ()))
+            self.assertIn("Packets seen", kistalub.describe("wire::PACKETS").description)
+            self.assertRaises(kistalub.ENOEVNT, kistalub.describe, "NO_SUCH")
+
+
+class Codes(OverLibrary):
+    def test_each_code_of_the_header_has_its_exception(self) -> None:
+        """PAPI_ESBSTR is an old name of PAPI_ECMP."""
+        text = (ROOT / "include/papi_constants.h").read_text(encoding="ascii")
+        codes = {name: int(number) for name, number in re.findall(r"#define PAPI_(E[A-Z_]+) (-\d+)\n", text) if name != "ESBSTR"}
+        self.assertGreater(len(codes), 20)
+        self.assertEqual({kind.__name__: code for code, kind in BY_CODE.items()}, codes)
+        self.assertTrue(all(getattr(kistalub, name) is BY_CODE[code] for name, code in codes.items()))
+
+
+class Finding(OverLibrary):
+    def test_where_there_is_none(self) -> None:
+        text = "import kistalub.binding as binding\nbinding.PREFIXES = ('/no/such/prefix',)\nbinding.loaded()"
+        ran = self.run_python("-c", text, KISTALUB_LIBRARY="")
+        self.assertIn("FileNotFoundError: kistalub: no libpapi.so.7.0 in lib/kistalub under /no/such/prefix: KISTALUB_LIBRARY names it", ran.stderr)
+
+    def test_another_library(self) -> None:
+        ran = self.run_python("-c", "import kistalub\nkistalub.go()", KISTALUB_LIBRARY="libc.so.6")
+        self.assertIn("ImportError: libc.so.6: this is not Kistalub's library", ran.stderr)
+
+
+class Examples(OverLibrary):
+    def test_each_prints_what_is_expected(self) -> None:
+        for path in sorted((EXAMPLES / "python").glob("*.py")):
+            ran = self.run_python(str(path))
+            self.assertEqual((ran.stdout, ran.stderr), (path.with_suffix(".expected").read_text(encoding="utf-8"), ""), path.name)
+
+    def test_the_estimates_of_slices_are_those_of_the_definition(self) -> None:
+        """The count in the turns of the first of two groups, scaled by the whole time over the time of these turns, rounded down (docs/FORMATS.md)."""
+        weights = ([9, 0] * 100 + [1, 0] * 100) * 50
+        lines = (EXAMPLES / "python/slices.expected").read_text(encoding="ascii").splitlines()
+        self.assertEqual(lines[0], f"BR_INST: exactly {sum(weights):,}")
+        for line in lines[2:]:
+            ticks, estimate = (int(word.replace(",", "")) for word in line.split()[:2])
+            own = [weight for tick, weight in enumerate(weights) if tick // ticks % 2 == 0]
+            self.assertEqual(estimate, sum(own) * len(weights) // len(own), line)
