@@ -27,6 +27,6 @@ pub use infix_reading::read_infix;
 pub use infix_token::InfixToken;
 pub use reading::read_postfix;
 pub use rule::{Rule, value_of};
-pub use stack::eval;
+pub use stack::{apply, eval};
 pub use token::{Operator, Token};
 pub use writing::write_formula;

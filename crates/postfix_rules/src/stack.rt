@@ -8,7 +8,7 @@ use crate::{Formula, Operator, Token};
 
 /// The value of an operator at two numbers.
 #[tactic(auto, unfolding(crate::specs::Values::divided))]
-fn apply(operator: Operator, x: i64, y: i64) -> i64
+pub fn apply(operator: Operator, x: i64, y: i64) -> i64
     ensures { result ≡ applied operator x y }
 {
     match operator {

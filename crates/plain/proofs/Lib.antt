@@ -1,0 +1,5 @@
+pub mod Choices
+pub mod LastTokens
+pub mod Sets
+pub mod Sums
+pub mod Turning

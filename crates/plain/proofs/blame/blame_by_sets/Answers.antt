@@ -1,0 +1,20 @@
+use Rattle.std.proofs.Common.{ℕ, List, ◌∙◌, ap, ap₂, length, take}
+use Rattle.counter_alloc.specs.Assignments.{counters_of}
+use Rattle.counter_alloc.specs.BlameOf as BlameOf
+use Rattle.counter_alloc.specs.declared.matching.Blame.{Blame}
+use Rattle.plain.proofs.blame.blame_by_sets.Goals as goal
+
+-- a set of places with the counters that it is allowed
+abbrev blame : ℕ → ℕ → Blame
+blame members counters = record { members = members; counters = counters }
+
+abbrev blame_in : List ℕ → Blame
+blame_in prefix = let members : ℕ = BlameOf.in_each_set (length prefix) (BlameOf.deficient_sets prefix) in blame members (counters_of prefix members)
+
+pub returns : goal.returns
+unfolding BlameOf.blame_of
+returns c =
+    let prefix : List ℕ = take c.shortest_prefix.result c.args.allowed.now in
+    let members = c.in_each_deficient-members.ensures in
+    ap₂ blame members (c.counters_of.ensures ∙ ap (counters_of prefix) members)
+    ∙ ap (λ n. blame_in (take n c.args.allowed.now)) c.shortest_prefix.ensures.shortest
