@@ -23,14 +23,15 @@ SUPPORT += [f"validation_tests/{name}.c" for name in (
     "flops_testcode", "instructions_testcode", "busy_work", "display_error", "cache_helper", "branches_testcode", "cache_testcode", "matrix_multiply")]
 PROFILING = "prof_utils"
 
-# How many rounds of the stream happen before each call that reads. These want as many events as they have floating point operations, or
-# that thresholds are passed at many addresses.
-ROUNDS = {"first": 100, "sprofile": 100, "byte_profile": 300, "overflow_pthreads": 300}
+# How many rounds of the stream happen before each call that reads. Most of these want as many events as they have floating point operations,
+# or that thresholds are passed at many addresses; one wants no more cycles than it takes.
+ROUNDS = {"first": 70, "profile": 70, "profile_pthreads": 70, "profile_twoevents": 70, "sprofile": 70, "byte_profile": 200,
+          "overflow_pthreads": 200, "zero_named": 1}
 USUAL_ROUNDS = 10
-# Each of a thousand threads would hold the stream.
-STREAMLESS = ("pthrtough2",)
+# Each thread would read the stream, of which these make a thousand, or give theirs a second to begin.
+STREAMLESS = ("pthrtough2", "thrspecific")
 # The tests sleep and take the time, and some have a threshold that grows with the rate of the clock.
-SETTINGS = {"KISTALUB_CLOCK": "real", "KISTALUB_MHZ": "50", "OMP_NUM_THREADS": "2"}
+SETTINGS = {"KISTALUB_CLOCK": "real", "KISTALUB_MHZ": "50", "OMP_NUM_THREADS": "2", "OMP_WAIT_POLICY": "passive"}
 
 PASS, SKIP, FAIL, UNBUILT = "pass", "skip", "fail", "not built"
 

@@ -3,19 +3,18 @@
 from __future__ import annotations
 
 import csv
-from math import lcm
 from pathlib import Path
 from typing import Iterator
 
 # Where a program that is built without position independence has its code: 0x401000 and what follows.
 FIRST_ADDRESS = 0x401000
-ADDRESSES = 0x3000
+ADDRESSES = 0x6000
 STRIDE = 0x10
 
 # What happens between two others: cycles and instructions, in the two modes.
 CYCLES, INSTRUCTIONS = 0x3C, 0xC0
 AMOUNT = 255
-KERNEL_EVERY = 10
+KERNEL_EVERY = 7
 
 
 def kinds(unit: Path) -> list[tuple[int, int, int]]:
@@ -40,8 +39,9 @@ def lines(unit: Path, count: int) -> Iterator[str]:
     around = [(0, CYCLES, 0), (0, INSTRUCTIONS, 0)]
     happening = [kind for other in kinds(unit) for kind in (*around, other)]
     for place in range(count):
-        component, select, mask = happening[place % len(happening)]
-        mode = "k" if place // 3 % KERNEL_EVERY == 0 else "u"
+        turn, index = divmod(place, len(happening))
+        component, select, mask = happening[index]
+        mode = "k" if (turn + index // 3) % KERNEL_EVERY == 0 else "u"
         address = FIRST_ADDRESS + place // 3 * STRIDE % ADDRESSES
         yield f"{component} {select:02x} {mask:02x} {mode} {AMOUNT} {address:x}\n"
 
@@ -54,4 +54,4 @@ def write(unit: Path, stream: Path, count: int) -> None:
 
 def round_of(unit: Path) -> int:
     """How many occurrences there are until all has happened in both modes, over and over again the same."""
-    return 3 * lcm(len(kinds(unit)), KERNEL_EVERY)
+    return 3 * len(kinds(unit)) * KERNEL_EVERY

@@ -1,0 +1,69 @@
+"""What checks/papi_programs takes PAPI's own tests to say, and the stream that it makes."""
+
+from __future__ import annotations
+
+import re
+import sys
+import tempfile
+import unittest
+from pathlib import Path
+
+from tests.support import ROOT
+
+sys.path.append(str(ROOT / "checks"))
+
+import papi_stream
+from papi_ctests import FAIL, PASS, SKIP, UNBUILT, expectations, verdict_of
+from papi_library import Ran, run
+
+LINE = re.compile(r"\d+ [0-9a-f]{2} [0-9a-f]{2} [uk] \d+ [0-9a-f]{1,16}\n")
+
+
+class Verdicts(unittest.TestCase):
+    def verdict(self, status: int | None, out: str) -> str:
+        return verdict_of(Ran(status, out, ""))[0]
+
+    def test_what_a_test_says(self) -> None:
+        self.assertEqual(self.verdict(0, "counts ..\nPASSED\n"), PASS)
+        self.assertEqual(self.verdict(0, "\x1b[1;32mPASSED\x1b[0m with WARNING\n"), PASS)
+        self.assertEqual(self.verdict(0, "no counters\nSKIPPED\n"), SKIP)
+        self.assertEqual(self.verdict(1, "FAILED!!!\nLine # 7 Error: counts\n"), FAIL)
+
+    def test_how_it_ends(self) -> None:
+        self.assertEqual(self.verdict(0, ""), PASS)
+        self.assertEqual(self.verdict(3, "PASSED\n"), FAIL)
+        self.assertEqual(self.verdict(0, "PASSED\nFAILED!!!\n"), FAIL)
+        self.assertEqual(verdict_of(Ran(-11, "PASSED\n", "")), (FAIL, "signal SIGSEGV"))
+        self.assertEqual(verdict_of(Ran(None, "PASSED\n", "")), (FAIL, "no end in time"))
+
+    def test_each_expectation_has_a_reason(self) -> None:
+        for name, (verdict, why) in expectations().items():
+            self.assertIn(verdict, (SKIP, FAIL, UNBUILT), name)
+            self.assertTrue(why, name)
+
+
+class Programs(unittest.TestCase):
+    def test_what_a_program_leaves_behind_is_ended(self) -> None:
+        with tempfile.TemporaryDirectory() as folder:
+            ran = run(["/bin/sh", "-c", "echo begun; sleep 60 & exit 3"], {}, 10, Path(folder))
+        self.assertEqual((ran.status, ran.out), (3, "begun\n"))
+
+    def test_one_that_does_not_end(self) -> None:
+        with tempfile.TemporaryDirectory() as folder:
+            self.assertIsNone(run(["/bin/sh", "-c", "sleep 60"], {}, 1, Path(folder)).status)
+
+
+class Stream(unittest.TestCase):
+    unit = ROOT / "examples/lab.unit"
+
+    def test_each_event_happens_in_both_modes(self) -> None:
+        lines = list(papi_stream.lines(self.unit, papi_stream.round_of(self.unit)))
+        self.assertTrue(all(LINE.fullmatch(line) for line in lines))
+        happening = {tuple(line.split()[:4]) for line in lines}
+        for event in (("0", "c4", "02", "u"), ("0", "d0", "01", "k"), ("1", "10", "00", "u"), ("0", "2e", "00", "k")):
+            self.assertIn(event, happening)
+
+    def test_rounds_are_alike(self) -> None:
+        count = papi_stream.round_of(self.unit)
+        lines = [line.rsplit(" ", 1)[0] for line in papi_stream.lines(self.unit, 2 * count)]
+        self.assertEqual(lines[:count], lines[count:])
