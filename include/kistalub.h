@@ -15,6 +15,9 @@
 #include <stddef.h>
 #include <stdint.h>
 
+/* The version of these files. */
+#define KISTALUB_VERSION "1.0.0"
+
 #ifdef __cplusplus
 extern "C" {
 #endif
