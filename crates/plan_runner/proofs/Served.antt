@@ -17,13 +17,16 @@ use Rattle.session_model.specs.Account.{Account, opening}
 use Rattle.session_model.specs.Conditions.{IsGood}
 use Rattle.session_model.specs.Fitness.{IsShape}
 use Rattle.session_model.specs.Step.{notes_to}
-use Rattle.stream_reader.specs.Reader.{ReaderView, coming}
+use Rattle.papi_base.specs.Outside.{Tape}
+use Rattle.papi_base.specs.declared.outside.Ending.TheVariants.{End}
+use Rattle.stream_reader.specs.Reader.{ReaderView, comes, coming, tape_of}
 use Rattle.thread_core.proofs.Opening.{opening_agrees, opening_stands}
 use Rattle.thread_session.specs.Faults.{FaultsRose, IsFault, fault_count}
+use Rattle.thread_session.specs.Prospects.{CanCome}
 use Rattle.thread_session.specs.Stands.{Stands}
 use Rattle.thread_session.proofs.Failing.{kept_same}
 use Rattle.thread_session.proofs.Growing.{grown_same}
-use Rattle.thread_registry.specs.Seen.{Seen, Worked, Finished, Cut, CanWork}
+use Rattle.thread_registry.specs.Seen.{Seen, Worked, Finished, FinishedTo, Cut, CanWork}
 use Rattle.plan_runner.specs.declared.plan.Planned.{Planned}
 use Rattle.plan_runner.specs.declared.plan.Planned.TheVariants as planned
 use Rattle.plan_runner.specs.declared.plan.PlanLine.{PlanLine}
@@ -121,6 +124,23 @@ done-by : (book : Book) (a : Account) (x y : Seen) (b : Bool) → b ≡ false �
 done-by book a x y true e h = absurd (cc)
 done-by book a x y false e h = h
 
+begun-to-by : (book : Book) (a : Account) (x y : Seen) (left : Coming) (b : Bool) → MatchBool b (Cut book a x y) (FinishedTo book a x y left) → Begun x.notes (notes_to book x.session.core.shape a x.calls) y.notes
+begun-to-by book a x y left true h = h.notes
+begun-to-by book a x y left false h =
+    let ns = notes_to book x.session.core.shape a x.calls in
+    (length ns, omega arith, h.notes ∙ ap (λ v. x.notes ++ v) (sym (take_all (length ns) ns (omega arith))))
+
+done-to-by : (book : Book) (a : Account) (x y : Seen) (left : Coming) (b : Bool) → b ≡ false → MatchBool b (Cut book a x y) (FinishedTo book a x y left) → FinishedTo book a x y left
+done-to-by book a x y left true e h = absurd (cc)
+done-to-by book a x y left false e h = h
+
+-- something can come of each reader
+pub some_coming : (reader : ReaderView) → (c : Coming) × CanCome reader c
+some_coming reader = go (tape_of reader) refl where
+  go : (told : Option Tape) → tape_of reader ≡ told → (c : Coming) × CanCome reader c
+  go None e = (comes reader End [], record { tape = record { bytes = []; ending = End }; told = rw e tt; says = refl })
+  go (Some t) e = (comes reader t.ending t.bytes, record { tape = t; told = rw e refl; says = refl })
+
 no-idle : (calls : List Call) → 0 < length calls → calls ≡ [] → ⊥
 no-idle calls some none = omega (arith, some, ap length none)
 
@@ -143,6 +163,18 @@ served-job book shape refused t reader calls notes y shaped some w whole =
           λ z stream e.
           let f = done-by book (opening t stream.rest stream.mark) x y y.starved (whole z) (w.outcome (opening t stream.rest stream.mark) (stands stream e)) in
           (f.notes, f.replies);
+      possible =
+          let left = some_coming y.session.reader in
+          let to = w.towards left.0 left.1 in
+          let a = opening t to.expected.rest to.expected.mark in
+          let outcome : MatchBool y.starved (Cut book a x y) (FinishedTo book a x y left.0) = to.outcome a (opening_stands book t shape to.expected.rest to.expected.mark shaped) refl in (
+            to.expected,
+            to.can_come,
+            record {
+              begun = begun-to-by book a x y left.0 y.starved outcome;
+              done = λ z. (let f = done-to-by book a x y left.0 y.starved (whole z) outcome in (f.notes, f.replies));
+            },
+          );
     }
 
 -- a thread without calls
@@ -156,6 +188,9 @@ served-idle book shape refused t reader notes =
       counted = λ z. refl;
       begun = λ stream e. (0, omega arith, sym (append-nil notes));
       done = λ z stream e. (sym (append-nil notes), refl);
+      possible =
+          let c = some_coming reader in
+          (c.0, c.1, record { begun = (0, omega arith, sym (append-nil notes)); done = λ z. (sym (append-nil notes), refl) });
     }
 
 served-one : (book : Book) (shape : Widths) (refused : Bool) (t : ℕ) (reader : ReaderView) (calls : List Call) (notes : List Note) (y : Seen)

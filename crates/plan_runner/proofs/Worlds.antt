@@ -21,17 +21,18 @@ use Rattle.session_laws.proofs.ByThread.{opens_by_thread, notes_by_thread}
 use Rattle.session_laws.proofs.Merging.{merges_to_world}
 use Rattle.stream_reader.specs.Reader.{ReaderView, coming}
 use Rattle.thread_session.specs.Faults.{FaultsKept, FaultsRose, IsFault, fault_count}
+use Rattle.thread_session.specs.Prospects.{CanCome}
 use Rattle.thread_session.proofs.Failing.{kept_same}
 use Rattle.thread_session.proofs.Growing.{grown_same}
 use Rattle.plan_runner.specs.declared.plan.PlanLine.{PlanLine}
 use Rattle.plan_runner.specs.declared.result.ReplyLine.{ReplyLine}
 use Rattle.plan_runner.specs.Plans.{AreThreads, planned_at}
 use Rattle.plan_runner.specs.Merges.{lines_by}
-use Rattle.plan_runner.specs.Runs.{AllKept, IdleStay, Tells, reply_lines, world_told}
+use Rattle.plan_runner.specs.Runs.{AllKept, CanEachCome, IdleStay, IsPlannedFrom, Tells, reply_lines, world_told}
 use Rattle.plan_runner.specs.Runs as runs
-use Rattle.plan_runner.specs.Served.{AreServed}
+use Rattle.plan_runner.specs.Served.{AreServed, ServedAs}
 use Rattle.plan_runner.proofs.Filled.{all-none}
-use Rattle.plan_runner.proofs.Served.{with_some}
+use Rattle.plan_runner.proofs.Served.{some_coming, with_some}
 use Rattle.plan_runner.proofs.Scripts.{lines-speak, lines-told, merged-same, planned-script, script-threads}
 
 -- what a thread's reader tells
@@ -54,45 +55,70 @@ notes-at at script streams t h =
     get_or-map-range_with_len (λ k. notes_of_thread k (world_told at script streams)) 0 64 t t [] h (omega arith)
     ∙ notes_by_thread at (opening_world streams) script t (opening_at streams t) (opens_by_thread streams t h)
 
+-- each thread got what it gets where these streams are to come
+abbrev AllServedAs : Book → Widths → Bool → List PlanLine → List (List Note) → List (List Note) → List (List Reply) → List Coming → Type 0
+AllServedAs book shape refused plan before after replies streams =
+    (t : ℕ) → t < 64 → ServedAs book shape refused t (planned_at t plan) (get_or before t []) (get_or after t []) (get_or replies t []) (get_or streams t no_stream)
+
+-- so it is where the readers tell them
+told-as : (streams : List Coming) (book : Book) (shape : Widths) (plan : List PlanLine) (readers readers_then : List ReaderView) (before after : List (List Note)) (refused : Bool) (replies : List (List Reply))
+    → length readers ≡ 64 → AreServed book shape refused plan readers readers_then before after replies
+    → map (λ r. coming r) readers ≡ map (λ s. Some s) streams → AllServedAs book shape refused plan before after replies streams
+told-as streams book shape plan readers readers_then before after refused replies rl got_all told t few =
+    with_some readers (omega (arith, rl))
+    (λ r.
+    let got = got_all.each t r few in
+    let is = coming-at readers streams told t r no_stream (omega (arith, few, rl)) in
+    record { begun = got.begun (get_or streams t no_stream) is; done = λ z. got.done z (get_or streams t no_stream) is })
+
+planned-from : (at : Setting) (script : List Line) (streams : List Coming) (book : Book) (shape : Widths) (plan : List PlanLine) (readers : List ReaderView) → Tells at script streams book shape plan readers → IsPlannedFrom at script book shape plan
+planned-from at script streams book shape plan readers tells = record { same_book = tells.same_book; same_shape = tells.same_shape; looked_up = tells.looked_up }
+
+-- the notes of a thread in the world are those of its calls in the plan
+given-at : (at : Setting) (script : List Line) (streams : List Coming) (book : Book) (shape : Widths) (plan : List PlanLine) (t : ℕ) → t < 64 → IsPlannedFrom at script book shape plan
+    → get_or (runs.notes_by_thread (world_told at script streams)) t [] ≡ notes_to book shape (opening_at streams t) (planned_at t plan)
+given-at at script streams book shape plan t few from =
+    notes-at at script streams t few
+    ∙ (ap₂ (λ (k : Book) (w : Widths). notes_to k w (opening_at streams t) (calls_at t script)) from.same_book from.same_shape
+    ∙ ap (notes_to book shape (opening_at streams t)) (sym (planned-script at [] script plan from.looked_up.asks t)))
+
+pub begun-as : (at : Setting) (script : List Line) (streams : List Coming) (book : Book) (shape : Widths) (plan : List PlanLine) (before after : List (List Note)) (refused : Bool) (replies : List (List Reply))
+    → length before ≡ 64 → length after ≡ 64 → AllServedAs book shape refused plan before after replies streams
+    → IsPlannedFrom at script book shape plan → EachBegun before (runs.notes_by_thread (world_told at script streams)) after
+begun-as at script streams book shape plan before after refused replies e n got from =
+    record {
+      same_length = n ∙ sym e;
+      begun =
+          λ t h.
+          let few : t < 64 = omega (arith, h, e) in
+          subst (λ ns. Begun (get_or before t []) ns (get_or after t [])) (sym (given-at at script streams book shape plan t few from)) (got t few).begun;
+    }
+
+pub added-as : (at : Setting) (script : List Line) (streams : List Coming) (book : Book) (shape : Widths) (plan : List PlanLine) (before after : List (List Note)) (refused : Bool) (replies : List (List Reply))
+    → length before ≡ 64 → length after ≡ 64 → AllServedAs book shape refused plan before after replies streams → refused ≡ false
+    → IsPlannedFrom at script book shape plan → EachAdded before (runs.notes_by_thread (world_told at script streams)) after
+added-as at script streams book shape plan before after refused replies e n got whole from =
+    record {
+      same_length = n ∙ sym e;
+      added =
+          λ t h.
+          let few : t < 64 = omega (arith, h, e) in
+          ((got t few).done whole).0 ∙ ap (λ ns. get_or before t [] ++ ns) (sym (given-at at script streams book shape plan t few from));
+    }
+
 pub begun-all : (at : Setting) (script : List Line) (streams : List Coming) (book : Book) (shape : Widths) (plan : List PlanLine) (readers readers_then : List ReaderView) (before after : List (List Note)) (refused : Bool) (replies : List (List Reply))
     → length readers ≡ 64 → length before ≡ 64 → AreServed book shape refused plan readers readers_then before after replies
     → Tells at script streams book shape plan readers → EachBegun before (runs.notes_by_thread (world_told at script streams)) after
 begun-all at script streams book shape plan readers readers_then before after refused replies rl e got_all tells =
-    record {
-      same_length = got_all.notes_len ∙ sym e;
-      begun =
-          λ t h.
-          let few : t < 64 = omega (arith, h, e) in
-          with_some readers (omega (arith, rl))
-          (λ r.
-          let got = got_all.each t r few in
-          let b = got.begun (get_or streams t no_stream) (coming-at readers streams tells.streams_told t r no_stream (omega (arith, few, rl))) in
-          let given : get_or (runs.notes_by_thread (world_told at script streams)) t [] ≡ notes_to book shape (opening_at streams t) (planned_at t plan) =
-          notes-at at script streams t few
-          ∙ (ap₂ (λ (k : Book) (w : Widths). notes_to k w (opening_at streams t) (calls_at t script)) tells.same_book tells.same_shape
-          ∙ ap (notes_to book shape (opening_at streams t)) (sym (planned-script at [] script plan tells.looked_up.asks t))) in
-          subst (λ ns. Begun (get_or before t []) ns (get_or after t [])) (sym given) b);
-    }
+    begun-as at script streams book shape plan before after refused replies e got_all.notes_len
+    (told-as streams book shape plan readers readers_then before after refused replies rl got_all tells.streams_told) (planned-from at script streams book shape plan readers tells)
 
 pub added-all : (at : Setting) (script : List Line) (streams : List Coming) (book : Book) (shape : Widths) (plan : List PlanLine) (readers readers_then : List ReaderView) (before after : List (List Note)) (refused : Bool) (replies : List (List Reply))
     → length readers ≡ 64 → length before ≡ 64 → AreServed book shape refused plan readers readers_then before after replies → refused ≡ false
     → Tells at script streams book shape plan readers → EachAdded before (runs.notes_by_thread (world_told at script streams)) after
 added-all at script streams book shape plan readers readers_then before after refused replies rl e got_all whole tells =
-    record {
-      same_length = got_all.notes_len ∙ sym e;
-      added =
-          λ t h.
-          let few : t < 64 = omega (arith, h, e) in
-          with_some readers (omega (arith, rl))
-          (λ r.
-          let got = got_all.each t r few in
-          let b = got.done whole (get_or streams t no_stream) (coming-at readers streams tells.streams_told t r no_stream (omega (arith, few, rl))) in
-          let given : get_or (runs.notes_by_thread (world_told at script streams)) t [] ≡ notes_to book shape (opening_at streams t) (planned_at t plan) =
-          notes-at at script streams t few
-          ∙ (ap₂ (λ (k : Book) (w : Widths). notes_to k w (opening_at streams t) (calls_at t script)) tells.same_book tells.same_shape
-          ∙ ap (notes_to book shape (opening_at streams t)) (sym (planned-script at [] script plan tells.looked_up.asks t))) in
-          b.0 ∙ ap (λ ns. get_or before t [] ++ ns) (sym given));
-    }
+    added-as at script streams book shape plan before after refused replies e got_all.notes_len
+    (told-as streams book shape plan readers readers_then before after refused replies rl got_all tells.streams_told) whole (planned-from at script streams book shape plan readers tells)
 
 -- ---- the replies
 
@@ -109,33 +135,90 @@ opening-length (suc n) t (s ∷ ss) = let h = opening-length n (t + 1) ss in ome
 one-some : {X : Type 0} (x y : X) → Some x ≡ Some y → x ≡ y
 one-some x y e = cc
 
-pub lines-all : (at : Setting) (script : List Line) (streams : List Coming) (book : Book) (shape : Widths) (plan : List PlanLine) (readers readers_then : List ReaderView) (before after : List (List Note)) (refused : Bool) (replies : List (List Reply))
-    → length readers ≡ 64 → length before ≡ 64 → AreServed book shape refused plan readers readers_then before after replies → refused ≡ false → AreThreads plan
-    → Tells at script streams book shape plan readers → lines_by (record { flags = replicate 64 false; replies = replies }) plan ≡ reply_lines plan (world_told at script streams)
-lines-all at script streams book shape plan readers readers_then before after refused replies rl e got_all whole few tells =
+pub lines-as : (at : Setting) (script : List Line) (streams : List Coming) (book : Book) (shape : Widths) (plan : List PlanLine) (before after : List (List Note)) (refused : Bool) (replies : List (List Reply))
+    → length replies ≡ 64 → AllServedAs book shape refused plan before after replies streams → refused ≡ false → AreThreads plan
+    → IsPlannedFrom at script book shape plan → lines_by (record { flags = replicate 64 false; replies = replies }) plan ≡ reply_lines plan (world_told at script streams)
+lines-as at script streams book shape plan before after refused replies n got whole few from =
     let x : Ahead = record { flags = replicate 64 false; replies = replies } in
     let accounts = (opening_world streams).accounts in
     let long : length accounts ≡ 64 = opening-length 64 0 streams in
     let ahead : IsAhead at accounts script x =
     record {
       registered = sym (opening-flags 64 0 streams);
-      same_length = got_all.replies_len ∙ sym long;
+      same_length = n ∙ sym long;
       replies_each =
           λ t a is.
           let inside : t < 64 = omega (arith, slice_get_within accounts t a is, long) in
           let a_is : a ≡ opening_at streams t = one-some _ _ (sym is ∙ opens_by_thread streams t inside) in
-          with_some readers (omega (arith, rl))
-          (λ r.
-          let got = got_all.each t r inside in
-          let b = got.done whole (get_or streams t no_stream) (coming-at readers streams tells.streams_told t r no_stream (omega (arith, inside, rl))) in
-          b.1
-          ∙ (ap (replies_to book shape (opening_at streams t)) (planned-script at [] script plan tells.looked_up.asks t)
-          ∙ (ap₂ (λ (k : Book) (w : Widths). replies_to k w (opening_at streams t) (calls_at t script)) (sym tells.same_book) (sym tells.same_shape)
-          ∙ ap (λ v. replies_to at.book at.shape v (calls_at t script)) (sym a_is))));
+          ((got t inside).done whole).1
+          ∙ (ap (replies_to book shape (opening_at streams t)) (planned-script at [] script plan from.looked_up.asks t)
+          ∙ (ap₂ (λ (k : Book) (w : Widths). replies_to k w (opening_at streams t) (calls_at t script)) (sym from.same_book) (sym from.same_shape)
+          ∙ ap (λ v. replies_to at.book at.shape v (calls_at t script)) (sym a_is)));
     } in
-    let small : All (λ l. l.thread < length accounts) script = subst (λ n. All (λ (l : Line). l.thread < n) script) (sym long) (script-threads at [] script plan tells.looked_up.asks few.each) in
+    let small : All (λ l. l.thread < length accounts) script = subst (λ n. All (λ (l : Line). l.thread < n) script) (sym long) (script-threads at [] script plan from.looked_up.asks few.each) in
     lines-told plan x (world_told at script streams)
-    (merged-same at [] script plan x tells.looked_up.asks ∙ merges_to_world at (opening_world streams) script x small ahead)
+    (merged-same at [] script plan x from.looked_up.asks ∙ merges_to_world at (opening_world streams) script x small ahead)
+
+pub lines-all : (at : Setting) (script : List Line) (streams : List Coming) (book : Book) (shape : Widths) (plan : List PlanLine) (readers readers_then : List ReaderView) (before after : List (List Note)) (refused : Bool) (replies : List (List Reply))
+    → length readers ≡ 64 → length before ≡ 64 → AreServed book shape refused plan readers readers_then before after replies → refused ≡ false → AreThreads plan
+    → Tells at script streams book shape plan readers → lines_by (record { flags = replicate 64 false; replies = replies }) plan ≡ reply_lines plan (world_told at script streams)
+lines-all at script streams book shape plan readers readers_then before after refused replies rl e got_all whole few tells =
+    lines-as at script streams book shape plan before after refused replies got_all.replies_len
+    (told-as streams book shape plan readers readers_then before after refused replies rl got_all tells.streams_told) whole few (planned-from at script streams book shape plan readers tells)
+
+-- ---- where nothing is told
+
+-- what stands at a place that is there
+get_or-any : {X : Type 0} (xs : List X) (k : ℕ) (d e : X) → k < length xs → get_or xs k d ≡ get_or xs k e
+get_or-any [] k d e h = absurd (omega (arith, h))
+get_or-any (x ∷ xs) zero d e h = refl
+get_or-any (x ∷ xs) (suc k) d e h = get_or-any xs k d e (omega (arith, h))
+
+-- a list of what is there for each place
+listed : (P : ℕ → Coming → Type 0) (n k : ℕ) → ((t : ℕ) → t < n → (c : Coming) × P (k + t) c) → (cs : List Coming) × (length cs ≡ n) × ((t : ℕ) → t < n → P (k + t) (get_or cs t no_stream))
+listed P zero k each = ([], refl, λ t h. absurd (omega (arith, h)))
+listed P (suc n) k each =
+    let first = each 0 (omega arith) in
+    let rest = listed P n (k + 1) (λ t h. subst (λ (j : ℕ). (c : Coming) × P j c) (let q : k + suc t ≡ k + 1 + t = omega arith in q) (each (suc t) (omega (arith, h)))) in (
+      first.0 ∷ rest.0,
+      ap suc rest.1,
+      at first.0 first.1 rest.0 rest.2,
+    ) where
+      at : (c : Coming) → P (k + 0) c → (cs : List Coming) → ((t : ℕ) → t < n → P (k + 1 + t) (get_or cs t no_stream)) → (t : ℕ) → t < suc n → P (k + t) (get_or (c ∷ cs) t no_stream)
+      at c p cs rest zero h = p
+      at c p cs rest (suc t) h = subst (λ (j : ℕ). P j (get_or cs t no_stream)) (let q : k + 1 + t ≡ k + suc t = omega arith in q) (rest t (omega (arith, h)))
+
+can-each-come : (readers : List ReaderView) (streams : List Coming) (r : ReaderView) → length readers ≡ 64 → length streams ≡ 64
+    → ((t : ℕ) → t < 64 → CanCome (get_or readers t r) (get_or streams t no_stream)) → CanEachCome readers streams
+can-each-come readers streams r rl sl each = record {
+  same_length = sl ∙ sym rl;
+  each =
+      λ t q s h.
+      let few : t < 64 = omega (arith, h, rl) in
+      subst (λ (v : ReaderView). CanCome v (get_or streams t s)) (get_or-any readers t r q h)
+      (subst (λ (v : Coming). CanCome (get_or readers t r) v) (get_or-any streams t no_stream s (omega (arith, few, sl))) (each t few));
+}
+
+-- there are such streams, whatever is told
+pub some-streams : (readers : List ReaderView) → length readers ≡ 64 → (streams : List Coming) × CanEachCome readers streams
+some-streams readers rl =
+    with_some readers (omega (arith, rl))
+    (λ r.
+    let all = listed (λ t c. CanCome (get_or readers t r) c) 64 0 (λ t h. some_coming (get_or readers (0 + t) r)) in
+    (all.0, can-each-come readers all.0 r rl all.1 (λ t h. subst (λ (j : ℕ). CanCome (get_or readers j r) (get_or all.0 t no_stream)) (let q : 0 + t ≡ t = omega arith in q) (all.2 t h))))
+
+-- there are streams that can come of the readers, with which each thread got what it gets
+pub possible-streams : (book : Book) (shape : Widths) (plan : List PlanLine) (readers readers_then : List ReaderView) (before after : List (List Note)) (refused : Bool) (replies : List (List Reply))
+    → length readers ≡ 64 → AreServed book shape refused plan readers readers_then before after replies
+    → (streams : List Coming) × CanEachCome readers streams × AllServedAs book shape refused plan before after replies streams
+possible-streams book shape plan readers readers_then before after refused replies rl got_all =
+    with_some readers (omega (arith, rl))
+    (λ r.
+    let all = listed (λ t c. CanCome (get_or readers t r) c × ServedAs book shape refused t (planned_at t plan) (get_or before t []) (get_or after t []) (get_or replies t []) c) 64 0
+    (λ t h. (let p = (got_all.each (0 + t) r (omega (arith, h))).possible in (p.0, (p.1, p.2)))) in
+    let each : (t : ℕ) → t < 64 → CanCome (get_or readers t r) (get_or all.0 t no_stream) × ServedAs book shape refused t (planned_at t plan) (get_or before t []) (get_or after t []) (get_or replies t []) (get_or all.0 t no_stream) =
+    λ t h. subst (λ (j : ℕ). CanCome (get_or readers j r) (get_or all.0 t no_stream) × ServedAs book shape refused j (planned_at j plan) (get_or before j []) (get_or after j []) (get_or replies j []) (get_or all.0 t no_stream)) (let q : 0 + t ≡ t = omega arith in q) (all.2 t h) in
+    (all.0, can-each-come readers all.0 r rl all.1 (λ t h. (each t h).0), λ t h. (each t h).1))
 
 -- ---- what is so whether or not anything is told
 

@@ -1,5 +1,5 @@
 -- What a run of a plan gives: the world of the script's lines, in their order.
-use Rattle.std.specs.Prelude.{ℕ, ◌≡◌, List, [], ◌∷◌, length, map, slice_get, slice_index_or, Option, Some, None}
+use Rattle.std.specs.Prelude.{ℕ, ◌≡◌, ◌<◌, List, [], ◌∷◌, length, map, slice_get, slice_index_or, Option, Some, None}
 use Rattle.std.specs.List.{range_with_len}
 use Rattle.overflow_dispatch.specs.declared.handler.Note.{Note}
 use Rattle.papi_base.specs.Streams.{Coming}
@@ -9,6 +9,7 @@ use Rattle.session_model.specs.declared.line.Line.{Line}
 use Rattle.session_model.specs.World.{Setting, Told, told, opening_world, notes_of_thread}
 use Rattle.stream_reader.specs.Reader.{ReaderView, coming}
 use Rattle.thread_session.specs.Faults.{FaultsKept}
+use Rattle.thread_session.specs.Prospects.{CanCome}
 use Rattle.plan_runner.specs.declared.plan.PlanLine.{PlanLine}
 use Rattle.plan_runner.specs.declared.result.ReplyLine.{ReplyLine}
 use Rattle.plan_runner.specs.Plans.{IsPlanOf, planned_at}
@@ -21,6 +22,17 @@ pub record Tells (at : Setting) (script : List Line) (streams : List Coming) (bo
   pub same_shape : at.shape ≡ shape
   pub looked_up : IsPlanOf at script plan
   pub streams_told : map (λ r. coming r) readers ≡ map (λ s. Some s) streams
+
+-- The plan is that of the script's lines in the setting, with this book and shape.
+pub record IsPlannedFrom (at : Setting) (script : List Line) (book : Book) (shape : Widths) (plan : List PlanLine) : Type 0 where
+  pub same_book : at.book ≡ book
+  pub same_shape : at.shape ≡ shape
+  pub looked_up : IsPlanOf at script plan
+
+-- These can come of the readers, one of each: what a reader tells, where it tells.
+pub record CanEachCome (readers : List ReaderView) (streams : List Coming) : Type 0 where
+  pub same_length : length streams ≡ length readers
+  pub each : (t : ℕ) (r : ReaderView) (s : Coming) → t < length readers → CanCome (slice_index_or readers t r) (slice_index_or streams t s)
 
 -- what is told of the script's lines where the threads have these streams
 abbrev pub world_told : Setting → List Line → List Coming → List Told

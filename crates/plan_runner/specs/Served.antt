@@ -11,9 +11,19 @@ use Rattle.session_model.specs.Account.{opening}
 use Rattle.session_model.specs.Step.{notes_to, replies_to}
 use Rattle.stream_reader.specs.Reader.{ReaderView, coming}
 use Rattle.thread_session.specs.Faults.{FaultsKept, FaultsRose, IsFault, fault_count}
+use Rattle.thread_session.specs.Prospects.{CanCome}
 use Rattle.plan_runner.specs.declared.plan.PlanLine.{PlanLine}
 use Rattle.plan_runner.specs.Plans.{planned_at}
 use Rattle.papi_base.specs.declared.limits.TheConstants.{THREADS}
+
+-- Where this was to come, the thread's handler was told the notes of the calls, or where memory was refused some of the first; and these are the replies.
+pub record ServedAs (book : Book) (shape : Widths) (refused : Bool) (t : ℕ) (calls : List Call) (before after : List Note) (replies : List Reply)
+    (stream : Coming) : Type 0 where
+  pub begun : Begun before (notes_to book shape (opening t stream.rest stream.mark) calls) after
+  pub done :
+      refused ≡ false
+      → (after ≡ before ++ notes_to book shape (opening t stream.rest stream.mark) calls)
+      × (replies ≡ replies_to book shape (opening t stream.rest stream.mark) calls)
 
 -- The thread made these calls over its reader, and its handler was told of them; or memory was refused in some job.
 pub record Served (book : Book) (shape : Widths) (refused : Bool) (t : ℕ) (reader reader_then : ReaderView) (calls : List Call)
@@ -28,6 +38,7 @@ pub record Served (book : Book) (shape : Widths) (refused : Bool) (t : ℕ) (rea
       refused ≡ false → (stream : Coming) → coming reader ≡ Some stream
       → (after ≡ before ++ notes_to book shape (opening t stream.rest stream.mark) calls)
       × (replies ≡ replies_to book shape (opening t stream.rest stream.mark) calls)
+  pub possible : (stream : Coming) × CanCome reader stream × ServedAs book shape refused t calls before after replies stream
 
 -- Each thread made its calls of the plan.
 pub record AreServed (book : Book) (shape : Widths) (refused : Bool) (plan : List PlanLine) (readers readers_then : List ReaderView)

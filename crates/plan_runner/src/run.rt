@@ -13,7 +13,7 @@ ghost use Rattle.thread_session.specs.Faults.{FaultsRose, IsFault, fault_count};
 ghost use Rattle.plan_runner.specs.Marks.{marks_in};
 ghost use Rattle.plan_runner.specs.Merges.{lines_by};
 ghost use Rattle.plan_runner.specs.Plans.{AreGood, AreThreads, planned_at};
-ghost use Rattle.plan_runner.specs.Runs.{AllKept, AreInOrder, IdleStay, Tells, notes_by_thread, reply_lines, world_told};
+ghost use Rattle.plan_runner.specs.Runs.{AllKept, AreInOrder, CanEachCome, IdleStay, IsPlannedFrom, Tells, notes_by_thread, reply_lines, world_told};
 ghost use Rattle.plan_runner.specs.Served.{AreServed};
 ghost use Rattle.plan_runner.specs.Works.{AreWorks, calls_of};
 
@@ -175,6 +175,11 @@ pub fn run_plan<R: Threads + Sync, S: Source + Send>(
         → EachBegun (map (λ b. notes b) handlers.old.items) (notes_by_thread (world_told at script streams)) (map (λ b. notes b) handlers.new.items) }
 
     // Told or not.
+    ensures possible { (streams : List Coming) × CanEachCome readers.old.items streams
+        × ((at : Setting) (script : List Line) → IsPlannedFrom at script book.now shape.now plan
+        → IfOk result (λ run. run.lines.items ≡ reply_lines plan (world_told at script streams))
+        × OnOk result (EachAdded (map (λ b. notes b) handlers.old.items) (notes_by_thread (world_told at script streams)) (map (λ b. notes b) handlers.new.items))
+        × EachBegun (map (λ b. notes b) handlers.old.items) (notes_by_thread (world_told at script streams)) (map (λ b. notes b) handlers.new.items)) }
     ensures grown { EachGrown (map (λ b. notes b) handlers.old.items) (map (λ b. notes b) handlers.new.items) }
     ensures idle { IdleStay plan readers.old.items readers.new.items (map (λ b. notes b) handlers.old.items) (map (λ b. notes b) handlers.new.items) }
     ensures order { IfOk result (λ run. AreInOrder plan run.lines.items) }

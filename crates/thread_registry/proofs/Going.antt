@@ -13,8 +13,13 @@ use Rattle.session_model.specs.Account.{Account}
 use Rattle.session_model.specs.Step.{step, account_after, replies_to, notes_to}
 use Rattle.thread_session.specs.Faults.{FaultsKept, FaultsRose, IsFault, fault_count}
 use Rattle.thread_session.specs.SessionView.{SessionView}
-use Rattle.thread_session.specs.Stands.{IsReady, Stands}
-use Rattle.thread_registry.specs.Seen.{Seen, Worked, Finished, Cut, seen_of}
+use Rattle.papi_base.specs.Streams.{Coming}
+use Rattle.event_sets.specs.AtRest.{Widths}
+use Rattle.thread_core.specs.Stands.{CoreStands}
+use Rattle.thread_session.specs.Follows.{FollowsTo, IsCutTo, expecting}
+use Rattle.thread_session.specs.Prospects.{CanCome}
+use Rattle.thread_session.specs.Stands.{IsReady, Stands, to_come}
+use Rattle.thread_registry.specs.Seen.{Seen, Worked, Finished, FinishedTo, Cut, seen_of}
 use Rattle.thread_registry.proofs.Folds.{after-more, replies-more, notes-more, replies-front, notes-part}
 use Rattle.thread_registry.proofs.Faults.{kept-same, kept-kept, kept-rose, rose-kept}
 
@@ -23,6 +28,18 @@ pub record Along (book : Book) (a : Account) (x y : Seen) (k : ℕ) : Type 0 whe
   pub stands : Stands book y.session (account_after book x.session.core.shape a (take k x.calls))
   pub replies : y.replies ≡ x.replies ++ replies_to book x.session.core.shape a (take k x.calls)
   pub notes : y.notes ≡ x.notes ++ notes_to book x.session.core.shape a (take k x.calls)
+
+-- so where it is not told, and this is left to come
+pub record AlongTo (book : Book) (a : Account) (x y : Seen) (k : ℕ) (left : Coming) : Type 0 where
+  pub core : CoreStands book y.session.core (account_after book x.session.core.shape a (take k x.calls))
+  pub comes_then : to_come (account_after book x.session.core.shape a (take k x.calls)) ≡ left
+  pub replies : y.replies ≡ x.replies ++ replies_to book x.session.core.shape a (take k x.calls)
+  pub notes : y.notes ≡ x.notes ++ notes_to book x.session.core.shape a (take k x.calls)
+
+pub record GoingTo (book : Book) (x y : Seen) (k : ℕ) (left : Coming) : Type 0 where
+  pub expected : Coming
+  pub can_come : CanCome x.session.reader expected
+  pub along : (a : Account) → CoreStands book x.session.core a → to_come a ≡ expected → AlongTo book a x y k left
 
 -- the replies that were made by k calls
 pub record Made (x y : Seen) (k : ℕ) (made : List Reply) : Type 0 where
@@ -40,6 +57,7 @@ pub record Going (book : Book) (x y : Seen) (k : ℕ) : Type 0 where
   pub grown : Grown x.notes y.notes
   pub made : (made : List Reply) × Made x y k made
   pub along : (a : Account) → Stands book x.session a → Along book a x y k
+  pub towards : (left : Coming) → CanCome y.session.reader left → GoingTo book x y k left
 
 All-nil : {X : Type 0} (P : X → Type 0) → All P []
 All-nil P = λ k d l. absurd (omega (arith, l))
@@ -62,6 +80,13 @@ going-none book x y ready e q =
       grown = grown-none x.notes;
       made = ([], record { appended = sym (append-nil x.replies); counted = refl; faulty = All-nil (λ r. IsFault r → FaultsRose (fault_count x.session.reader) (fault_count x.session.reader)) });
       along = λ a s. record { stands = s; replies = sym (append-nil x.replies); notes = sym (append-nil x.notes) };
+      towards =
+          λ left h.
+          record {
+            expected = left;
+            can_come = h;
+            along = λ a s e. record { core = s; comes_then = e; replies = sym (append-nil x.replies); notes = sym (append-nil x.notes) };
+          };
     })
 
 -- what a call gave
@@ -75,6 +100,7 @@ pub record Called (book : Book) (y z : Seen) (c : Call) (r : Reply) : Type 0 whe
       → Stands book z.session (step book y.session.core.shape a c).account
       × (r ≡ (step book y.session.core.shape a c).reply)
       × (z.notes ≡ y.notes ++ (step book y.session.core.shape a c).notes)
+  pub towards : (left : Coming) → CanCome z.session.reader left → FollowsTo book y.session z.session c r y.notes z.notes left
 
 -- replies that spoke of a fault before speak so still
 still : (u v w : SessionView) (rs : List Reply) → FaultsKept (fault_count u.reader) (fault_count v.reader) → FaultsKept (fault_count v.reader) (fault_count w.reader)
@@ -117,6 +143,46 @@ along-more book x y z k c r a h e shape called p g =
           ∙ ap (λ v. x.notes ++ v) (sym (notes-more book w a x.calls k c h e))));
     }
 
+-- what the step of a call does, where this is left
+record StepsTo (book : Book) (y z : Seen) (c : Call) (r : Reply) (left : Coming) (w : Widths) (a : Account) : Type 0 where
+  pub core : CoreStands book z.session.core (step book w a c).account
+  pub comes_then : to_come (step book w a c).account ≡ left
+  pub reply : r ≡ (step book w a c).reply
+  pub notes : z.notes ≡ y.notes ++ (step book w a c).notes
+
+along-to-more : (book : Book) (x y z : Seen) (k : ℕ) (c : Call) (r : Reply) (left : Coming) (a : Account) → k < length x.calls → get_or x.calls k c ≡ c
+    → y.session.core.shape ≡ x.session.core.shape → (f : FollowsTo book y.session z.session c r y.notes z.notes left) → z.replies ≡ y.replies ++ r ∷ []
+    → AlongTo book a x y k f.expected → AlongTo book a x z (k + 1) left
+along-to-more book x y z k c r left a h e shape f p g =
+    let w = x.session.core.shape in
+    let b = account_after book w a (take k x.calls) in
+    let same : expecting f.expected b ≡ b = ap (λ (q : Coming). expecting q b) (sym g.comes_then) in
+    let here : StepsTo book y z c r left y.session.core.shape (expecting f.expected b) = record { core = f.core b g.core; comes_then = f.comes_then b g.core; reply = f.reply b g.core; notes = f.notes b g.core } in
+    let s : StepsTo book y z c r left w b = subst (λ (v : Widths). StepsTo book y z c r left v b) shape (subst (λ (q : Account). StepsTo book y z c r left y.session.core.shape q) same here) in
+    record {
+      core = subst (CoreStands book z.session.core) (sym (after-more book w a x.calls k c h e)) s.core;
+      comes_then = ap to_come (after-more book w a x.calls k c h e) ∙ s.comes_then;
+      replies =
+          p
+          ∙ (ap₂ (λ u v. u ++ v ∷ []) g.replies s.reply
+          ∙ (append_assoc x.replies (replies_to book w a (take k x.calls)) ((step book w b c).reply ∷ [])
+          ∙ ap (λ v. x.replies ++ v) (sym (replies-more book w a x.calls k c h e))));
+      notes =
+          s.notes
+          ∙ (ap (λ u. u ++ (step book w b c).notes) g.notes
+          ∙ (append_assoc x.notes (notes_to book w a (take k x.calls)) (step book w b c).notes
+          ∙ ap (λ v. x.notes ++ v) (sym (notes-more book w a x.calls k c h e))));
+    }
+
+going-to-more : (book : Book) (x y z : Seen) (k : ℕ) (c : Call) (r : Reply) (left : Coming) → k < length x.calls → get_or x.calls k c ≡ c
+    → y.session.core.shape ≡ x.session.core.shape → (f : FollowsTo book y.session z.session c r y.notes z.notes left) → z.replies ≡ y.replies ++ r ∷ []
+    → GoingTo book x y k f.expected → GoingTo book x z (k + 1) left
+going-to-more book x y z k c r left h e shape f p g = record {
+  expected = g.expected;
+  can_come = g.can_come;
+  along = λ a s q. along-to-more book x y z k c r left a h e shape f p (g.along a s q);
+}
+
 pub going-more : (book : Book) (x y z : Seen) (k : ℕ) (c : Call) (r : Reply) → Going book x y k → k < length x.calls → get_or x.calls k c ≡ c
     → Called book y z c r → z.calls ≡ y.calls → z.starved ≡ false → z.replies ≡ y.replies ++ r ∷ []
     → Going book x z (k + 1)
@@ -130,7 +196,17 @@ going-more book x y z k c r g h e called p q rs =
       grown = grown-more x.notes y.notes z.notes g.grown called.grown;
       made = (g.made.0 ++ r ∷ [], made-more x y z k r g.made.0 g.faults called.faults called.faulty rs g.made.1);
       along = λ a s. along-more book x y z k c r a h e g.shape called rs (g.along a s);
+      towards =
+          λ left n.
+          let f = called.towards left n in
+          going-to-more book x y z k c r left h e g.shape f rs (g.towards f.expected f.can_come);
     }
+
+-- some of the first notes of a call to which memory was refused, where this is left to come
+pub record RefusedTo (book : Book) (y z : Seen) (c : Call) : Type 0 where
+  pub expected : Coming
+  pub can_come : CanCome y.session.reader expected
+  pub part : (a : Account) → CoreStands book y.session.core a → Begun y.notes (step book y.session.core.shape (expecting expected a) c).notes z.notes
 
 -- what a call left to which memory was refused
 pub record Refused (book : Book) (y z : Seen) (c : Call) : Type 0 where
@@ -139,6 +215,7 @@ pub record Refused (book : Book) (y z : Seen) (c : Call) : Type 0 where
   pub faults : FaultsKept (fault_count y.session.reader) (fault_count z.session.reader)
   pub grown : Grown y.notes z.notes
   pub part : (a : Account) → Stands book y.session a → Begun y.notes (step book y.session.core.shape a c).notes z.notes
+  pub towards : (left : Coming) → CanCome z.session.reader left → RefusedTo book y z c
 
 begun-of : (before given after : List Note) (n : ℕ) → after ≡ before ++ take n given → Begun before given after
 begun-of before given after n e =
@@ -147,24 +224,57 @@ begun-of before given after n e =
       | inr l ↦ (length given, omega arith, e ∙ ap (λ v. before ++ v) (take_all n given (omega arith) ∙ sym (take_all (length given) given (omega arith))))
     ]
 
-cut-along : (book : Book) (x y z : Seen) (k : ℕ) (c : Call) (a : Account) → k < length x.calls → get_or x.calls k c ≡ c
-    → y.session.core.shape ≡ x.session.core.shape → Refused book y z c → z.replies ≡ y.replies
-    → Along book a x y k → Cut book a x z
-cut-along book x y z k c a h e shape refused p g =
+cut-by : (book : Book) (x y z : Seen) (k : ℕ) (c : Call) (a : Account) → k < length x.calls → get_or x.calls k c ≡ c
+    → z.replies ≡ y.replies → y.replies ≡ x.replies ++ replies_to book x.session.core.shape a (take k x.calls) → y.notes ≡ x.notes ++ notes_to book x.session.core.shape a (take k x.calls)
+    → Begun y.notes (step book x.session.core.shape (account_after book x.session.core.shape a (take k x.calls)) c).notes z.notes → Cut book a x z
+cut-by book x y z k c a h e p replies notes part =
     let w = x.session.core.shape in
     let b = account_after book w a (take k x.calls) in
     let ps = notes_to book w a (take k x.calls) in
-    let part = subst (λ v. Begun y.notes (step book v b c).notes z.notes) shape (refused.part b g.stands) in
     let n = part.0 in
     let front = notes-part book w a x.calls k n c h e part.1 in
     let all = notes_to book w a x.calls in
     record {
-      replies = (k, h, p ∙ (g.replies ∙ ap (λ v. x.replies ++ v) (replies-front book w a x.calls k (omega arith))));
-      notes = begun-of x.notes all z.notes (length ps + n) (part.2 ∙ (ap (λ u. u ++ take n (step book w b c).notes) g.notes ∙ (append_assoc x.notes ps (take n (step book w b c).notes) ∙ ap (λ v. x.notes ++ v) front)));
+      replies = (k, h, p ∙ (replies ∙ ap (λ v. x.replies ++ v) (replies-front book w a x.calls k (omega arith))));
+      notes = begun-of x.notes all z.notes (length ps + n) (part.2 ∙ (ap (λ u. u ++ take n (step book w b c).notes) notes ∙ (append_assoc x.notes ps (take n (step book w b c).notes) ∙ ap (λ v. x.notes ++ v) front)));
     }
+
+cut-along : (book : Book) (x y z : Seen) (k : ℕ) (c : Call) (a : Account) → k < length x.calls → get_or x.calls k c ≡ c
+    → y.session.core.shape ≡ x.session.core.shape → Refused book y z c → z.replies ≡ y.replies
+    → Along book a x y k → Cut book a x z
+cut-along book x y z k c a h e shape refused p g =
+    let b = account_after book x.session.core.shape a (take k x.calls) in
+    cut-by book x y z k c a h e p g.replies g.notes (subst (λ v. Begun y.notes (step book v b c).notes z.notes) shape (refused.part b g.stands))
+
+cut-along-to : (book : Book) (x y z : Seen) (k : ℕ) (c : Call) (a : Account) → k < length x.calls → get_or x.calls k c ≡ c
+    → y.session.core.shape ≡ x.session.core.shape → (refused : RefusedTo book y z c) → z.replies ≡ y.replies
+    → AlongTo book a x y k refused.expected → Cut book a x z
+cut-along-to book x y z k c a h e shape refused p g =
+    let b = account_after book x.session.core.shape a (take k x.calls) in
+    let same : expecting refused.expected b ≡ b = ap (λ (q : Coming). expecting q b) (sym g.comes_then) in
+    cut-by book x y z k c a h e p g.replies g.notes
+    (subst (λ v. Begun y.notes (step book v b c).notes z.notes) shape (subst (λ (q : Account). Begun y.notes (step book y.session.core.shape q c).notes z.notes) same (refused.part b g.core)))
 
 pub begun-of-part : (before given after : List Note) → PartAdded before given after → Begun before given after
 begun-of-part before given after h = (h.0, omega (arith, h.1), h.2)
+
+-- all notes are some of the first
+begun-of-all : (before given after : List Note) → after ≡ before ++ given → Begun before given after
+begun-of-all before given after e = (length given, omega arith, e ∙ ap (λ v. before ++ v) (sym (take_all (length given) given (omega arith))))
+
+pub refused-to-of-cut : (book : Book) (y z : Seen) (c : Call) (left : Coming) → IsCutTo book y.session c y.notes z.notes left → RefusedTo book y z c
+refused-to-of-cut book y z c left cut = record {
+  expected = cut.expected;
+  can_come = cut.can_come;
+  part = λ a s. begun-of-part y.notes (step book y.session.core.shape (expecting cut.expected a) c).notes z.notes (cut.notes a s);
+}
+
+refused-to-of-made : (book : Book) (y z : Seen) (c : Call) (r : Reply) (left : Coming) → FollowsTo book y.session z.session c r y.notes z.notes left → RefusedTo book y z c
+refused-to-of-made book y z c r left f = record {
+  expected = f.expected;
+  can_come = f.can_come;
+  part = λ a s. begun-of-all y.notes (step book y.session.core.shape (expecting f.expected a) c).notes z.notes (f.notes a s);
+}
 
 -- a call that was made, where its reply could not be kept
 pub refused-of : (book : Book) (y z : Seen) (c : Call) (r : Reply) → Called book y z c r → Refused book y z c
@@ -178,6 +288,7 @@ refused-of book y z c r called =
           λ a s.
           let ns = (step book y.session.core.shape a c).notes in
           (length ns, omega arith, (called.follows a s).2 ∙ ap (λ v. y.notes ++ v) (sym (take_all (length ns) ns (omega arith))));
+      towards = λ left h. refused-to-of-made book y z c r left (called.towards left h);
     }
 
 pub going-cut : (book : Book) (x y z : Seen) (k : ℕ) (c : Call) → Going book x y k → k < length x.calls → get_or x.calls k c ≡ c
@@ -199,6 +310,15 @@ going-cut book x y z k c g h e refused p q rs =
         },
       );
       outcome = λ a s. subst (λ b. MatchBool b (Cut book a x z) (Finished book a x z)) (sym q) (cut-along book x y z k c a h e g.shape refused rs (g.along a s));
+      towards =
+          λ left n.
+          let f = refused.towards left n in
+          let way = g.towards f.expected f.can_come in
+          record {
+            expected = way.expected;
+            can_come = way.can_come;
+            outcome = λ a s t. subst (λ b. MatchBool b (Cut book a x z) (FinishedTo book a x z left)) (sym q) (cut-along-to book x y z k c a h e g.shape f rs (way.along a s t));
+          };
     }
 
 -- all calls were made
@@ -227,6 +347,24 @@ going-end book x y k g e =
             notes = f.notes ∙ ap (λ cs. x.notes ++ notes_to book w a cs) all;
           } in
           subst (λ b. MatchBool b (Cut book a x y) (Finished book a x y)) (sym g.starved) done;
+      towards =
+          λ left n.
+          let way = g.towards left n in
+          record {
+            expected = way.expected;
+            can_come = way.can_come;
+            outcome =
+                λ a s t.
+                let f = way.along a s t in
+                let done : FinishedTo book a x y left =
+                record {
+                  core = subst (λ cs. CoreStands book y.session.core (account_after book w a cs)) all f.core;
+                  comes_then = ap (λ cs. to_come (account_after book w a cs)) (sym all) ∙ f.comes_then;
+                  replies = f.replies ∙ ap (λ cs. x.replies ++ replies_to book w a cs) all;
+                  notes = f.notes ∙ ap (λ cs. x.notes ++ notes_to book w a cs) all;
+                } in
+                subst (λ b. MatchBool b (Cut book a x y) (FinishedTo book a x y left)) (sym g.starved) done;
+          };
     }
 
 -- how it ended does not look at whether memory was refused before
@@ -235,6 +373,12 @@ outcome-as : (book : Book) (a : Account) (x y : Seen) (before b : Bool)
     → MatchBool b (Cut book a (seen_of x.session x.notes x.calls x.replies before) y) (Finished book a (seen_of x.session x.notes x.calls x.replies before) y)
 outcome-as book a x y before true h = record { replies = h.replies; notes = h.notes }
 outcome-as book a x y before false h = record { stands = h.stands; replies = h.replies; notes = h.notes }
+
+outcome-to-as : (book : Book) (a : Account) (x y : Seen) (left : Coming) (before b : Bool)
+    → MatchBool b (Cut book a x y) (FinishedTo book a x y left)
+    → MatchBool b (Cut book a (seen_of x.session x.notes x.calls x.replies before) y) (FinishedTo book a (seen_of x.session x.notes x.calls x.replies before) y left)
+outcome-to-as book a x y left before true h = record { replies = h.replies; notes = h.notes }
+outcome-to-as book a x y left before false h = record { core = h.core; comes_then = h.comes_then; replies = h.replies; notes = h.notes }
 
 -- the job is seen the same by its parts
 pub worked-same : (book : Book) (x x' y y' : Seen) → Worked book x y
@@ -252,6 +396,10 @@ worked-same book x x' y y' w a n c r a' n' c' r' s' =
       grown = w.grown;
       replied = (w.replied.0, record { appended = w.replied.1.appended; counted = w.replied.1.counted; faulty = w.replied.1.faulty });
       outcome = λ e s. outcome-as book e x y b y.starved (w.outcome e s);
+      towards =
+          λ left h.
+          let t = w.towards left h in
+          record { expected = t.expected; can_come = t.can_come; outcome = λ e s q. outcome-to-as book e x y left b y.starved (t.outcome e s q) };
     } in
     let p1 = subst (λ v. Worked book (seen_of v x.notes x.calls x.replies b) y) (sym a) p0 in
     let p2 = subst (λ v. Worked book (seen_of x'.session v x.calls x.replies b) y) (sym n) p1 in

@@ -11,7 +11,10 @@ use Rattle.session_model.specs.Conditions.{IsGood}
 use Rattle.session_model.specs.Step.{account_after, replies_to, notes_to}
 use Rattle.thread_session.specs.Faults.{FaultsKept, FaultsRose, IsFault, fault_count}
 use Rattle.thread_session.specs.SessionView.{SessionView}
-use Rattle.thread_session.specs.Stands.{IsReady, Stands}
+use Rattle.papi_base.specs.Streams.{Coming}
+use Rattle.thread_core.specs.Stands.{CoreStands}
+use Rattle.thread_session.specs.Prospects.{CanCome}
+use Rattle.thread_session.specs.Stands.{IsReady, Stands, to_come}
 
 -- the session, what the handler was told, the calls to make, the replies so far, and whether memory was refused
 pub record Seen : Type 0 where
@@ -43,6 +46,19 @@ pub record Cut (book : Book) (a : Account) (x y : Seen) : Type 0 where
   pub replies : (k : ℕ) × (k < length x.calls) × (y.replies ≡ x.replies ++ take k (replies_to book x.session.core.shape a x.calls))
   pub notes : Begun x.notes (notes_to book x.session.core.shape a x.calls) y.notes
 
+-- all calls were made, and this is left to come
+pub record FinishedTo (book : Book) (a : Account) (x y : Seen) (left : Coming) : Type 0 where
+  pub core : CoreStands book y.session.core (account_after book x.session.core.shape a x.calls)
+  pub comes_then : to_come (account_after book x.session.core.shape a x.calls) ≡ left
+  pub replies : y.replies ≡ x.replies ++ replies_to book x.session.core.shape a x.calls
+  pub notes : y.notes ≡ x.notes ++ notes_to book x.session.core.shape a x.calls
+
+-- Told or not, the calls were made as if that was to come of which this is left.
+pub record WorkedTo (book : Book) (x y : Seen) (left : Coming) : Type 0 where
+  pub expected : Coming
+  pub can_come : CanCome x.session.reader expected
+  pub outcome : (a : Account) → CoreStands book x.session.core a → to_come a ≡ expected → MatchBool y.starved (Cut book a x y) (FinishedTo book a x y left)
+
 -- y is the job x after its work
 pub record Worked (book : Book) (x y : Seen) : Type 0 where
   pub calls : y.calls ≡ x.calls
@@ -52,6 +68,7 @@ pub record Worked (book : Book) (x y : Seen) : Type 0 where
   pub grown : Grown x.notes y.notes
   pub replied : (made : List Reply) × Replied x y made
   pub outcome : (a : Account) → Stands book x.session a → MatchBool y.starved (Cut book a x y) (Finished book a x y)
+  pub towards : (left : Coming) → CanCome y.session.reader left → WorkedTo book x y left
 
 -- a job by its parts
 abbrev pub seen_of : SessionView → List Note → List Call → List Reply → Bool → Seen

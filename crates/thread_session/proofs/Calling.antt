@@ -22,7 +22,8 @@ use Rattle.thread_core.specs.CoreView.{CoreView}
 use Rattle.thread_core.specs.Following.{Follows}
 use Rattle.thread_core.specs.Stands.{AgreesWith}
 use Rattle.thread_session.specs.Faults.{IsFault, IsFaultBody}
-use Rattle.thread_session.specs.Follows.{Does, FollowsAs, expecting, is_run}
+use Rattle.thread_session.specs.Follows.{Does, FollowsAs, FollowsTo, expecting, is_run}
+use Rattle.thread_session.specs.Prospects.{CanCome}
 use Rattle.thread_session.specs.SessionView.{AreInStep, SessionView}
 use Rattle.thread_session.proofs.Endings.{core_at, follows_reply, follows_stands}
 
@@ -80,6 +81,21 @@ call_follows book old core made reply notes still f =
       notes = λ a h. sym (ap (λ (xs : List Note). notes ++ xs) (q a).none ∙ append-nil notes);
       told = expected_told (coming old.reader);
       left = λ a h t. t ∙ ap₂ (λ (r : List Occ) (m : Mark). Some (record { rest = r; mark = m })) (sym (q a).rest) (sym (q a).mark);
+    }
+
+-- what is left is all that was to come
+pub does_towards : (book : Book) (old new : SessionView) (made : Call) (reply : Reply) (notes : List Note) → is_run made ≡ false → Does book old new made reply
+    → (left : Coming) → CanCome new.reader left → FollowsTo book old new made reply notes notes left
+does_towards book old new made reply notes still d c h =
+    let q : (a : Account) → IsQuiet (expecting c a) (step book old.core.shape (expecting c a) made).account (step book old.core.shape (expecting c a) made).reply (step book old.core.shape (expecting c a) made).notes =
+    λ a. step_quiet book old.core.shape (expecting c a) made still in
+    record {
+      expected = c;
+      can_come = subst (λ (r : ReaderView). CanCome r c) d.reader h;
+      core = λ a s. d.kept.account (expecting c a) (core_at book old.core a c.rest c.mark s);
+      reply = λ a s. d.kept.reply (expecting c a) (core_at book old.core a c.rest c.mark s);
+      notes = λ a s. sym (ap (λ (xs : List Note). notes ++ xs) (q a).none ∙ append-nil notes);
+      comes_then = λ a s. ap₂ (λ (r : List Occ) (m : Mark). record { rest = r; mark = m }) (q a).rest (q a).mark;
     }
 
 -- the source did not fail

@@ -1,8 +1,9 @@
 -- A run in which memory was refused.
-use Rattle.std.proofs.Common.{◌≡◌, ℕ, suc, ◌+◌, ◌-◌, ◌<◌, List, [], ◌∷◌, ◌++◌, length, map, take, min, ap, ap₂, sym, subst, ◌∙◌, arith, append_assoc, length-append}
+use Rattle.std.proofs.Common.{◌≡◌, ℕ, suc, ◌+◌, ◌-◌, ◌<◌, List, [], ◌∷◌, ◌++◌, length, map, take, min, refl, ap, ap₂, sym, subst, ◌∙◌, arith, append_assoc, length-append}
 use Rattle.std.proofs.Math.Seq.{take-append-add}
 use Rattle.std.proofs.lemmas.List.{take-append-le}
 use Rattle.papi_base.specs.declared.occurrence.Occ.{Occ}
+use Rattle.papi_base.specs.Streams.{Coming}
 use Rattle.overflow_dispatch.specs.Notes.{PartAdded}
 use Rattle.overflow_dispatch.specs.declared.handler.Note.{Note}
 use Rattle.postfix_rules.specs.Presets.{Book}
@@ -11,12 +12,15 @@ use Rattle.session_model.specs.Account.{Account}
 use Rattle.session_model.specs.Step.{step}
 use Rattle.session_model.specs.Thresholds.{note, notes_at, notes_over}
 use Rattle.stream_reader.specs.declared.next.Next.TheVariants as next
-use Rattle.stream_reader.specs.Reader.{NextGives, ReaderView, coming}
+use Rattle.stream_reader.specs.Reader.{NextGives, ReaderView, Takes, coming}
 use Rattle.thread_core.specs.CoreView.{CoreView}
 use Rattle.thread_core.specs.Stands.{CoreStands, consumed}
 use Rattle.thread_session.specs.SessionView.{SessionView}
 use Rattle.thread_session.specs.Stands.{Stands}
-use Rattle.thread_session.specs.Follows.{IsCut, consuming}
+use Rattle.thread_session.specs.Follows.{IsCut, IsCutTo, consuming, expecting}
+use Rattle.thread_session.specs.Prospects.{CanCome}
+use Rattle.thread_session.proofs.Endings.{core_at}
+use Rattle.thread_session.proofs.Possible.{before_answer}
 use Rattle.thread_session.proofs.Runs.{Running, notes_over-append}
 use Rattle.thread_session.proofs.Telling.{gave_more}
 
@@ -26,9 +30,10 @@ pub cut_at : (book : Book) (old : SessionView) (core core_then : CoreView) (read
     → ((b : Book) (a : Account) → CoreStands b core a → CoreStands b core_then (consumed a o))
     → ((b : Book) (a : Account) → CoreStands b core a → notes_at b a.thread a.past o 0 a.sets ≡ map (note a.thread set o) passed)
     → NextGives (coming reader) (next.Occ o) (coming reader_then)
+    → Takes reader (next.Occ o) reader_then
     → PartAdded after (map (note thread set o) passed) after_then
     → Running book old core reader before after k count → IsCut book old (record { core = core_then; reader = reader_then }) n before after_then
-cut_at book old core core_then reader reader_then before after after_then k count n thread set passed o less same stands notes gives part r =
+cut_at book old core core_then reader reader_then before after after_then k count n thread set passed o less same stands notes gives takes part r =
     let its : (a : Account) → CoreStands book old.core a → map (note thread set o) passed ≡ notes_at book a.thread (a.past ++ r.os) o 0 a.sets =
     λ a h. ap (λ (t : ℕ). map (note t set o) passed) (same ∙ h.thread) ∙ sym (notes book (consuming r.os a) (r.taking.stands a h)) in
     record {
@@ -44,6 +49,7 @@ cut_at book old core core_then reader reader_then before after after_then k coun
       told = λ a h.
           let g = gave_more (record { rest = a.rest; mark = a.mark }) r.os (coming reader) (coming reader_then) o (r.taking.told (record { rest = a.rest; mark = a.mark }) h.told) gives in
           (g.later, g.rest ∙ append_assoc r.os (o ∷ []) g.later, g.left);
+      came = λ later h. r.came (record { rest = o ∷ later.rest; mark = later.mark }) (before_answer reader reader_then (next.Occ o) later takes h);
     }
 
 -- a proper prefix of the middle, after the first part, is one of the whole
@@ -62,15 +68,28 @@ take_past earlier later o k less =
     let is : k ≡ length earlier + suc j = omega (arith, less) in
     ap (λ (x : ℕ). take x (earlier ++ o ∷ later)) is ∙ take-append-add earlier (o ∷ later) (suc j)
 
+-- the notes of the step, where these were to come and then others
+pub cut_notes : (book : Book) (old new : SessionView) (n : ℕ) (before after : List Note) (a : Account) (later : List Occ) (cut : IsCut book old new n before after) → a.rest ≡ cut.earlier ++ cut.last ∷ later → CoreStands book old.core a
+    → PartAdded before (step book old.core.shape a (Run n)).notes after
+cut_notes book old new n before after a later cut e h =
+    let k : ℕ = min n (length a.rest) in
+    let long : length a.rest ≡ length cut.earlier + suc (length later) = ap length e ∙ length-append cut.earlier (cut.last ∷ later) in
+    let less : length cut.earlier < k = omega (arith, cut.below, long) in
+    let j : ℕ = k - (length cut.earlier + 1) in
+    let taken : take k a.rest ≡ cut.earlier ++ (cut.last ∷ [] ++ take j later) = ap (λ (xs : List Occ). take k xs) e ∙ take_past cut.earlier later cut.last k less in
+    let is : (step book old.core.shape a (Run n)).notes ≡ notes_over book a.thread a.sets a.past cut.earlier ++ (notes_at book a.thread (a.past ++ cut.earlier) cut.last 0 a.sets ++ notes_over book a.thread a.sets ((a.past ++ cut.earlier) ++ cut.last ∷ []) (take j later)) =
+    ap (λ (xs : List Occ). notes_over book a.thread a.sets a.past xs) taken ∙ notes_over-append book a.thread a.sets a.past cut.earlier (cut.last ∷ [] ++ take j later) in
+    subst (λ (xs : List Note). PartAdded before xs after) (sym is) (part_of before (notes_over book a.thread a.sets a.past cut.earlier) (notes_at book a.thread (a.past ++ cut.earlier) cut.last 0 a.sets)
+    (notes_over book a.thread a.sets ((a.past ++ cut.earlier) ++ cut.last ∷ []) (take j later)) after (cut.notes a h))
+
 pub cut_part : (book : Book) (old new : SessionView) (n : ℕ) (before after : List Note) (a : Account) → IsCut book old new n before after → Stands book old a → PartAdded before (step book old.core.shape a (Run n)).notes after
 cut_part book old new n before after a cut h =
     let t = cut.told a h in
-    let k : ℕ = min n (length a.rest) in
-    let long : length a.rest ≡ length cut.earlier + suc (length t.0) = ap length t.1 ∙ length-append cut.earlier (cut.last ∷ t.0) in
-    let less : length cut.earlier < k = omega (arith, cut.below, long) in
-    let j : ℕ = k - (length cut.earlier + 1) in
-    let taken : take k a.rest ≡ cut.earlier ++ (cut.last ∷ [] ++ take j t.0) = ap (λ (xs : List Occ). take k xs) t.1 ∙ take_past cut.earlier t.0 cut.last k less in
-    let is : (step book old.core.shape a (Run n)).notes ≡ notes_over book a.thread a.sets a.past cut.earlier ++ (notes_at book a.thread (a.past ++ cut.earlier) cut.last 0 a.sets ++ notes_over book a.thread a.sets ((a.past ++ cut.earlier) ++ cut.last ∷ []) (take j t.0)) =
-    ap (λ (xs : List Occ). notes_over book a.thread a.sets a.past xs) taken ∙ notes_over-append book a.thread a.sets a.past cut.earlier (cut.last ∷ [] ++ take j t.0) in
-    subst (λ (xs : List Note). PartAdded before xs after) (sym is) (part_of before (notes_over book a.thread a.sets a.past cut.earlier) (notes_at book a.thread (a.past ++ cut.earlier) cut.last 0 a.sets)
-    (notes_over book a.thread a.sets ((a.past ++ cut.earlier) ++ cut.last ∷ []) (take j t.0)) after (cut.notes a h.kept))
+    cut_notes book old new n before after a t.0 cut t.1 h.kept
+
+pub cut_to : (book : Book) (old new : SessionView) (n : ℕ) (before after : List Note) → IsCut book old new n before after → (left : Coming) → CanCome new.reader left → IsCutTo book old (Run n) before after left
+cut_to book old new n before after cut left h = record {
+  expected = record { rest = cut.earlier ++ cut.last ∷ left.rest; mark = left.mark };
+  can_come = cut.came left h;
+  notes = λ a s. cut_notes book old new n before after (expecting (record { rest = cut.earlier ++ cut.last ∷ left.rest; mark = left.mark }) a) left.rest cut refl (core_at book old.core a (cut.earlier ++ cut.last ∷ left.rest) left.mark s);
+}

@@ -1,5 +1,5 @@
 -- How a run ends that was not cut.
-use Rattle.std.proofs.Common.{◌≡◌, ℕ, ◌<◌, List, [], ◌++◌, length, refl, ap, ap₂, sym, subst, ◌∙◌, arith, Option, Some, None}
+use Rattle.std.proofs.Common.{◌≡◌, ℕ, ◌<◌, true, List, [], ◌++◌, length, refl, ap, ap₂, sym, subst, ◌∙◌, arith, Option, Some, None}
 use Rattle.papi_base.specs.declared.occurrence.Occ.{Occ}
 use Rattle.papi_base.specs.Streams.{Coming, Mark, Dry}
 use Rattle.overflow_dispatch.specs.declared.handler.Note.{Note}
@@ -12,12 +12,14 @@ use Rattle.session_model.specs.declared.reply.Reply.{Reply}
 use Rattle.session_model.specs.Account.{Account}
 use Rattle.session_model.specs.Step.{Outcome, ended_at, step}
 use Rattle.session_model.specs.Thresholds.{notes_over}
-use Rattle.stream_reader.specs.Reader.{NextGives, ReaderView, at_mark, coming, nothing}
+use Rattle.stream_reader.specs.Reader.{NextGives, ReaderView, Takes, at_mark, coming, nothing}
 use Rattle.thread_core.specs.CoreView.{CoreView}
 use Rattle.thread_core.specs.Stands.{CoreStands}
 use Rattle.thread_session.specs.SessionView.{SessionView}
 use Rattle.thread_session.specs.Stands.{Stands}
-use Rattle.thread_session.specs.Follows.{FollowsAs, consuming, expecting, run_reply}
+use Rattle.thread_session.specs.Follows.{FollowsAs, FollowsTo, consuming, expecting, run_reply}
+use Rattle.thread_session.specs.Prospects.{CanCome}
+use Rattle.thread_session.proofs.Possible.{came_to_mark, nothing_left}
 use Rattle.thread_session.proofs.Outcomes.{ran_to, short, whole}
 use Rattle.thread_session.proofs.Runs.{Running}
 use Rattle.thread_session.proofs.Telling.{Closed, GaveAll, gave_mark}
@@ -102,6 +104,38 @@ pub run_short : (book : Book) (old : SessionView) (core : CoreView) (reader then
 run_short book old core reader then before after k count n m e less so gives r =
     let x = expects_end (coming old.reader) (coming then) r.os m (λ c h. gave_mark c r.os (coming reader) (coming then) m (r.taking.told c h) gives) in
     follows_by book old core reader before after k count n e _ _ r then x (λ a. short book old.core.shape a n r.os m (omega (arith, r.number, less)) ∙ ap (ran_to book a r.os [] Dry) (sym so))
+
+-- ---- where it is not told
+
+-- the run is the step, by the occurrences that it took, as if these were to come and then what is left
+towards_by : (book : Book) (old : SessionView) (core : CoreView) (reader : ReaderView) (before after : List Note) (k count n : ℕ) (e : Ended) (first last : Coming) (r : Running book old core reader before after k count)
+    (then : ReaderView) → CanCome old.reader first
+    → ((a : Account) → step book old.core.shape (expecting first a) (Run n) ≡ ran_to book a r.os last.rest last.mark e)
+    → FollowsTo book old (record { core = core; reader = then }) (Run n) (run_reply (record { consumed = k; notes = count; ended = e })) before after last
+towards_by book old core reader before after k count n e first last r then can is = record {
+  expected = first;
+  can_come = can;
+  core = λ a h. subst (λ (x : Outcome). CoreStands book core x.account) (sym (is a)) (core_at book core (consuming r.os a) last.rest last.mark (r.taking.stands a h));
+  reply = λ a h. reply_is k count e r.os (notes_over book a.thread a.sets a.past r.os) r.number (r.counted a h) ∙ ap (λ (x : Outcome). x.reply) (sym (is a));
+  notes = λ a h. r.taking.notes a h ∙ ap (λ (x : Outcome). before ++ x.notes) (sym (is a));
+  comes_then = λ a h. ap (λ (x : Outcome). record { rest = x.account.rest; mark = x.account.mark }) (is a);
+}
+
+-- all that were asked for
+pub towards_whole : (book : Book) (old : SessionView) (core : CoreView) (reader : ReaderView) (before after : List Note) (k count n : ℕ) (e : Ended) → k ≡ n → e ≡ ended.Going → Running book old core reader before after k count
+    → (later : Coming) → CanCome reader later → FollowsTo book old (record { core = core; reader = reader }) (Run n) (run_reply (record { consumed = k; notes = count; ended = e })) before after later
+towards_whole book old core reader before after k count n e all going r later h =
+    towards_by book old core reader before after k count n e (record { rest = r.os ++ later.rest; mark = later.mark }) later r reader (r.came later h)
+    (λ a. whole book old.core.shape a n r.os later.rest later.mark (r.number ∙ all) ∙ ap (ran_to book a r.os later.rest later.mark) (sym going))
+
+-- the stream ended before
+pub towards_short : (book : Book) (old : SessionView) (core : CoreView) (reader then : ReaderView) (before after : List Note) (k count n : ℕ) (m : Mark) (e : Ended) → k < n → e ≡ ended_at m → Takes reader (at_mark m) then → then.over ≡ true
+    → Running book old core reader before after k count
+    → (later : Coming) → CanCome then later → FollowsTo book old (record { core = core; reader = then }) (Run n) (run_reply (record { consumed = k; notes = count; ended = e })) before after later
+towards_short book old core reader then before after k count n m e less so takes over r later h =
+    subst (λ (c : Coming). FollowsTo book old (record { core = core; reader = then }) (Run n) (run_reply (record { consumed = k; notes = count; ended = e })) before after c) (nothing_left then later over h)
+    (towards_by book old core reader before after k count n e (record { rest = r.os; mark = m }) nothing r then (came_to_mark old.reader reader then r.os m r.came takes over later h)
+    (λ a. short book old.core.shape a n r.os m (omega (arith, r.number, less)) ∙ ap (ran_to book a r.os [] Dry) (sym so)))
 
 -- ---- where what is to come is told
 

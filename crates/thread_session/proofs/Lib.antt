@@ -1,4 +1,5 @@
 pub mod Telling
+pub mod Possible
 pub mod Runs
 pub mod Outcomes
 pub mod Endings

@@ -11,11 +11,13 @@ use Rattle.session_model.specs.Account.{Account, Kept, time_after}
 use Rattle.session_model.specs.Thresholds.{note, notes_at, notes_over}
 use Rattle.stream_reader.specs.declared.next.Next.TheVariants as next
 use Rattle.stream_reader.specs.Judged.{is_above}
-use Rattle.stream_reader.specs.Reader.{GaveOne, NextGives, ReaderView, coming}
+use Rattle.stream_reader.specs.Reader.{GaveOne, NextGives, ReaderView, Takes, coming}
 use Rattle.thread_core.specs.CoreView.{CoreView}
 use Rattle.thread_core.specs.Stands.{CoreStands, consumed}
 use Rattle.thread_session.specs.SessionView.{AreInStep, SessionView}
 use Rattle.thread_session.specs.Follows.{consuming}
+use Rattle.thread_session.specs.Prospects.{CanCome}
+use Rattle.thread_session.proofs.Possible.{came_more}
 use Rattle.thread_session.proofs.Telling.{GaveAll, gave_more, gave_none}
 
 pub notes_over-append : (book : Book) (thread : ℕ) (sets : List (Option Kept)) (past os ps : List Occ) → notes_over book thread sets past (os ++ ps) ≡ notes_over book thread sets past os ++ notes_over book thread sets (past ++ os) ps
@@ -36,6 +38,7 @@ pub record Running (book : Book) (old : SessionView) (core : CoreView) (reader :
   pub number : length os ≡ consumed
   pub taking : Taking book old core reader os before after
   pub counted : (a : Account) → CoreStands book old.core a → count ≡ length (notes_over book a.thread a.sets a.past os)
+  pub came : (later : Coming) → CanCome reader later → CanCome old.reader (record { rest = os ++ later.rest; mark = later.mark })
 
 pub at_start : (book : Book) (old : SessionView) (before : List Note) → Running book old old.core old.reader before before 0 0
 at_start book old before = record {
@@ -47,6 +50,7 @@ at_start book old before = record {
     told = λ c e. gave_none c (coming old.reader) e;
   };
   counted = λ a h. refl;
+  came = λ later h. h;
 }
 
 pub one_more : (book : Book) (old : SessionView) (core core_then : CoreView) (reader reader_then : ReaderView) (before after after_then : List Note) (consumed_so count more thread set : ℕ) (passed : List ℕ) (o : Occ)
@@ -55,9 +59,10 @@ pub one_more : (book : Book) (old : SessionView) (core core_then : CoreView) (re
     → ((b : Book) (a : Account) → CoreStands b core a → CoreStands b core_then (consumed a o))
     → ((b : Book) (a : Account) → CoreStands b core a → notes_at b a.thread a.past o 0 a.sets ≡ map (note a.thread set o) passed)
     → NextGives (coming reader) (next.Occ o) (coming reader_then)
+    → Takes reader (next.Occ o) reader_then
     → after_then ≡ after ++ map (note thread set o) passed
     → Running book old core reader before after consumed_so count → Running book old core_then reader_then before after_then (consumed_so + 1) (count + more)
-one_more book old core core_then reader reader_then before after after_then k count more thread set passed o same so_many stands notes gives delivered r =
+one_more book old core core_then reader reader_then before after after_then k count more thread set passed o same so_many stands notes gives takes delivered r =
     let its : (a : Account) → CoreStands book old.core a → map (note thread set o) passed ≡ notes_at book a.thread (a.past ++ r.os) o 0 a.sets =
     λ a h. ap (λ (t : ℕ). map (note t set o) passed) (same ∙ h.thread) ∙ sym (notes book (consuming r.os a) (r.taking.stands a h)) in
     let over : (a : Account) → CoreStands book old.core a → notes_over book a.thread a.sets a.past (r.os ++ o ∷ []) ≡ notes_over book a.thread a.sets a.past r.os ++ map (note thread set o) passed =
@@ -73,6 +78,7 @@ one_more book old core core_then reader reader_then before after after_then k co
       };
       counted = λ a h. ap₂ (λ (x y : ℕ). x + y) (r.counted a h) (so_many ∙ sym (length-map passed (note thread set o)))
           ∙ sym (length-append (notes_over book a.thread a.sets a.past r.os) (map (note thread set o) passed)) ∙ ap length (sym (over a h));
+      came = came_more old.reader reader reader_then r.os o r.came takes;
     }
 
 -- the stamp of a next occurrence is not before the core's time

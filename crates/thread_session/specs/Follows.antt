@@ -16,6 +16,7 @@ use Rattle.session_model.specs.Thresholds.{notes_at, notes_over}
 use Rattle.stream_reader.specs.Reader.{coming}
 use Rattle.thread_core.specs.Following.{Follows}
 use Rattle.thread_core.specs.Stands.{CoreStands}
+use Rattle.thread_session.specs.Prospects.{CanCome}
 use Rattle.thread_session.specs.SessionView.{SessionView}
 use Rattle.thread_session.specs.Stands.{Stands, to_come}
 
@@ -42,6 +43,21 @@ pub record FollowsAs (book : Book) (old new : SessionView) (made : Call) (answer
   pub left : (a : Account) → CoreStands book old.core a → coming old.reader ≡ Some expected
       → coming new.reader ≡ Some (to_come (step book old.core.shape (expecting expected a) made).account)
 
+-- Told or not, the call does and replies and notes what the step does, as if that was to come of which this is left.
+pub record FollowsTo (book : Book) (old new : SessionView) (made : Call) (answer : Reply) (before after : List Note) (left : Coming) : Type 0 where
+  pub expected : Coming
+  pub can_come : CanCome old.reader expected
+  pub core : (a : Account) → CoreStands book old.core a → CoreStands book new.core (step book old.core.shape (expecting expected a) made).account
+  pub reply : (a : Account) → CoreStands book old.core a → answer ≡ (step book old.core.shape (expecting expected a) made).reply
+  pub notes : (a : Account) → CoreStands book old.core a → after ≡ before ++ (step book old.core.shape (expecting expected a) made).notes
+  pub comes_then : (a : Account) → CoreStands book old.core a → to_come (step book old.core.shape (expecting expected a) made).account ≡ left
+
+-- Told or not, memory was refused in the call: some of the first notes of the step were taken, as if that was to come of which this is left.
+pub record IsCutTo (book : Book) (old : SessionView) (made : Call) (before after : List Note) (left : Coming) : Type 0 where
+  pub expected : Coming
+  pub can_come : CanCome old.reader expected
+  pub notes : (a : Account) → CoreStands book old.core a → PartAdded before (step book old.core.shape (expecting expected a) made).notes after
+
 -- the account after these occurrences
 abbrev pub consuming : List Occ → Account → Account
 consuming os a = record a { past = a.past ++ os }
@@ -57,6 +73,7 @@ pub record IsCut (book : Book) (old new : SessionView) (n : ℕ) (before after :
       → PartAdded (before ++ notes_over book a.thread a.sets a.past earlier) (notes_at book a.thread (a.past ++ earlier) last 0 a.sets) after
   pub told : (a : Account) → Stands book old a
       → (later : List Occ) × (a.rest ≡ earlier ++ last ∷ later) × (coming new.reader ≡ Some (record { rest = later; mark = a.mark }))
+  pub came : (left : Coming) → CanCome new.reader left → CanCome old.reader (record { rest = earlier ++ last ∷ left.rest; mark = left.mark })
 
 -- No other call is refused memory.
 abbrev pub IsCutIn : Book → SessionView → SessionView → Call → List Note → List Note → Type 0

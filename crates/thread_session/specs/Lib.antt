@@ -1,5 +1,6 @@
 pub mod SessionView
 pub mod Faults
+pub mod Prospects
 pub mod Stands
 pub mod Follows
 pub mod Folds

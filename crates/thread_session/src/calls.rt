@@ -2,6 +2,7 @@
 ghost use Rattle.std.specs.Prelude.{◌≡◌, ◌≢◌, ◌++◌, IfOk, OnErr, OnOk, false};
 ghost use Rattle.overflow_dispatch.specs.Notes.{Grown, PartAdded};
 ghost use Rattle.papi_base.specs.declared.code.Code.TheVariants as code;
+ghost use Rattle.papi_base.specs.Streams.{Coming};
 ghost use Rattle.session_model.specs.Account.{Account};
 ghost use Rattle.session_model.specs.Conditions.{IsGood};
 ghost use Rattle.postfix_rules.specs.Fitting.{IsNamed};
@@ -22,7 +23,8 @@ use std::alloc::AllocError;
 
 impl<S: Source> Session<S> {
     ghost use Rattle.thread_session.specs.Faults.{FaultsKept, FaultsRose, IsFault, fault_count};
-    ghost use Rattle.thread_session.specs.Follows.{Does, FollowsAs, IsCutIn, is_run};
+    ghost use Rattle.thread_session.specs.Follows.{Does, FollowsAs, FollowsTo, IsCutIn, IsCutTo, is_run};
+    ghost use Rattle.thread_session.specs.Prospects.{CanCome};
     ghost use Rattle.thread_session.specs.Stands.{IsReady, Stands};
 
     /// Registers the thread: PAPI_register_thread(3).
@@ -232,6 +234,10 @@ impl<S: Source> Session<S> {
         // Told or not.
         ensures follows { IfOk result (λ r. FollowsAs book.now self.old self.new c.now r (notes h.old) (notes h.new)) }
         ensures cut { OnErr result (IsCutIn book.now self.old self.new c.now (notes h.old) (notes h.new)) }
+        ensures towards { (left : Coming) → CanCome self.new.reader left
+            → IfOk result (λ r. FollowsTo book.now self.old self.new c.now r (notes h.old) (notes h.new) left) }
+        ensures cut_to { (left : Coming) → CanCome self.new.reader left
+            → OnErr result (IsCutTo book.now self.old c.now (notes h.old) (notes h.new) left) }
         ensures grown { Grown (notes h.old) (notes h.new) }
         ensures ready { IsReady book.now self.new }
         ensures shape { self.new.core.shape ≡ self.old.core.shape }

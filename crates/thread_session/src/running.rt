@@ -1,6 +1,7 @@
 //! Runs: a session consumes occurrences of its stream.
 ghost use Rattle.std.specs.Prelude.{◌≡◌, ◌++◌, IfOk, OnErr, OnOk};
 ghost use Rattle.overflow_dispatch.specs.Notes.{Grown, PartAdded};
+ghost use Rattle.papi_base.specs.Streams.{Coming};
 ghost use Rattle.session_model.specs.Account.{Account};
 ghost use Rattle.session_model.specs.Step.{step};
 ghost use Rattle.session_model.specs.declared.call.Call.TheVariants.{Run};
@@ -17,7 +18,8 @@ use stream_reader::Next;
 
 impl<S: Source> Session<S> {
     ghost use Rattle.thread_session.specs.Faults.{FaultsKept, FaultsRose, fault_count};
-    ghost use Rattle.thread_session.specs.Follows.{FollowsAs, IsCut, run_reply};
+    ghost use Rattle.thread_session.specs.Follows.{FollowsAs, FollowsTo, IsCut, IsCutTo, run_reply};
+    ghost use Rattle.thread_session.specs.Prospects.{CanCome};
     ghost use Rattle.thread_session.specs.Stands.{IsReady, Stands};
 
     // Consumes up to `n` occurrences.
@@ -25,6 +27,8 @@ impl<S: Source> Session<S> {
         requires ready { IsReady book.now self.old }
         ensures follows { IfOk result (λ ran. FollowsAs book.now self.old self.new (Run n) (run_reply ran) (notes h.old) (notes h.new)) }
         ensures cut { OnErr result (IsCut book.now self.old self.new n (notes h.old) (notes h.new)) }
+        ensures towards { (left : Coming) → CanCome self.new.reader left
+            → IfOk result (λ ran. FollowsTo book.now self.old self.new (Run n) (run_reply ran) (notes h.old) (notes h.new) left) }
         ensures ready { IsReady book.now self.new }
         ensures shape { self.new.core.shape ≡ self.old.core.shape }
         ensures faults { FaultsKept (fault_count self.old.reader) (fault_count self.new.reader) }
@@ -77,6 +81,10 @@ impl<S: Source> Session<S> {
         // Told or not.
         ensures follows { IfOk result (λ ran. FollowsAs book.now self.old self.new (Run n) (run_reply ran) (notes h.old) (notes h.new)) }
         ensures cut { OnErr result (IsCut book.now self.old self.new n (notes h.old) (notes h.new)) }
+        ensures towards { (left : Coming) → CanCome self.new.reader left
+            → IfOk result (λ ran. FollowsTo book.now self.old self.new (Run n) (run_reply ran) (notes h.old) (notes h.new) left) }
+        ensures cut_to { (left : Coming) → CanCome self.new.reader left
+            → OnErr result (IsCutTo book.now self.old (Run n) (notes h.old) (notes h.new) left) }
         ensures grown { Grown (notes h.old) (notes h.new) }
         ensures ready { IsReady book.now self.new }
         ensures shape { self.new.core.shape ≡ self.old.core.shape }

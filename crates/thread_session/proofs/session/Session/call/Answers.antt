@@ -3,7 +3,7 @@ use Rattle.std.specs.Prelude.{false, ◌≡◌}
 use Rattle.stream_reader.specs.Reader.{ReaderView}
 use Rattle.thread_session.specs.Faults.{FaultsKept, fault_count}
 use Rattle.thread_session.specs.Follows.{is_run}
-use Rattle.thread_session.proofs.Calling.{call_sound, does_follows, part_of_call, still_by}
+use Rattle.thread_session.proofs.Calling.{call_sound, does_follows, does_towards, part_of_call, still_by}
 use Rattle.thread_session.proofs.Endings.{follows_notes}
 use Rattle.thread_session.proofs.Failing.{kept_same}
 use Rattle.thread_session.proofs.Growing.{grown_same}
@@ -27,6 +27,8 @@ returns-in_default g c =
       part = λ a h. tt;
       follows = does_follows c.args.book.now old c.make.new.self c.args.c.now c.make.result notes still d;
       cut = tt;
+      towards = does_towards c.args.book.now old c.make.new.self c.args.c.now c.make.result notes still d;
+      cut_to = λ left h. tt;
       grown = grown_same notes;
       ready = record { agrees = d.kept.agrees };
       shape = d.kept.shape;

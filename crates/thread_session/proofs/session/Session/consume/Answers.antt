@@ -4,7 +4,7 @@ use Rattle.thread_session.specs.Faults.{FaultsKept, fault_count}
 use Rattle.thread_session.specs.SessionView.{SessionView}
 use Rattle.thread_core.specs.Stands.{AgreesWith}
 use Rattle.thread_session.proofs.Cuts.{cut_at}
-use Rattle.thread_session.proofs.Endings.{run_short, run_whole}
+use Rattle.thread_session.proofs.Endings.{run_short, run_whole, towards_short, towards_whole}
 use Rattle.thread_session.proofs.Failing.{kept_on, kept_same}
 use Rattle.thread_session.proofs.Results.{on_err}
 use Rattle.thread_session.proofs.Runs.{Running, at_start, in_step_then, one_more}
@@ -42,12 +42,12 @@ loop-consumed-preserved g c =
       in_step = in_step_then c.loop-consumed.self-inside.core c.take-taken.new.self c.loop-consumed.self-inside.reader c.next.new.self c.in-Occ.o c.take-taken.ensures.taken c.take-taken.ensures.last c.in-Occ.ensures.within.few inv.in_step c.in-Occ.ensures.counts;
       faults = kept_on c.args.self.now.reader c.loop-consumed.self-inside.reader c.next.new.self inv.faults c.in-Occ.ensures.kept c.in-Occ.ensures.faults;
       running = one_more c.args.book.now c.args.self.now c.loop-consumed.self-inside.core c.take-taken.new.self c.loop-consumed.self-inside.reader c.next.new.self before so_far told c.loop-consumed.consumed c.loop-consumed.notes c.from-notes.result c.thread-thread.result c.take-taken.result.set c.take-taken.result.passed c.in-Occ.o inv.own (c.from-notes.ensures ∙ c.len.ensures.length)
-          c.take-taken.ensures.stands c.take-taken.ensures.notes c.in-Occ.ensures.told c.in_ok-deliver-in-Occ.ensures.whole inv.running;
+          c.take-taken.ensures.stands c.take-taken.ensures.notes c.in-Occ.ensures.told c.in-Occ.ensures.takes c.in_ok-deliver-in-Occ.ensures.whole inv.running;
     }
 
 pub returns-in_err-deliver-in-Occ-clause-cut : goal.returns-in_err-deliver-in-Occ-clause-cut
 returns-in_err-deliver-in-Occ-clause-cut g c = on_err c.from_residual.result (cut_at _ _ _ _ _ _ _ _ _ _ _ _ c.thread-thread.result c.take-taken.result.set c.take-taken.result.passed c.in-Occ.o c.loop-consumed-test.true c.loop-consumed.invariant.own
-    c.take-taken.ensures.stands c.take-taken.ensures.notes c.in-Occ.ensures.told c.in_err-deliver-in-Occ.ensures.part c.loop-consumed.invariant.running)
+    c.take-taken.ensures.stands c.take-taken.ensures.notes c.in-Occ.ensures.told c.in-Occ.ensures.takes c.in_err-deliver-in-Occ.ensures.part c.loop-consumed.invariant.running)
 
 pub returns-after-loop-consumed-clause-follows : goal.returns-after-loop-consumed-clause-follows
 returns-after-loop-consumed-clause-follows g c = run_whole _ _ _ _ _ _ _ _ _ _ (omega (arith, c.loop-consumed-test.false, c.loop-consumed.invariant.most)) c.loop-consumed.invariant.going c.loop-consumed.invariant.running
@@ -60,3 +60,19 @@ returns-in-Bad-clause-follows g c = run_short _ _ _ _ _ _ _ _ _ _ (Bad c.in-Bad.
 
 pub returns-in-ReadFault-clause-follows : goal.returns-in-ReadFault-clause-follows
 returns-in-ReadFault-clause-follows g c = run_short _ _ _ _ _ _ _ _ _ _ Fault _ c.loop-consumed-test.true refl c.in-ReadFault.ensures.told c.loop-consumed.invariant.running
+
+pub returns-after-loop-consumed-clause-towards : goal.returns-after-loop-consumed-clause-towards
+returns-after-loop-consumed-clause-towards g c left h =
+    towards_whole _ _ _ _ _ _ _ _ _ _ (omega (arith, c.loop-consumed-test.false, c.loop-consumed.invariant.most)) c.loop-consumed.invariant.going c.loop-consumed.invariant.running left h
+
+pub returns-in-End-clause-towards : goal.returns-in-End-clause-towards
+returns-in-End-clause-towards g c left h =
+    towards_short _ _ _ _ _ _ _ _ _ _ Dry _ c.loop-consumed-test.true c.loop-consumed.invariant.going c.in-End.ensures.takes (c.in-End.ensures.over refl) c.loop-consumed.invariant.running left h
+
+pub returns-in-Bad-clause-towards : goal.returns-in-Bad-clause-towards
+returns-in-Bad-clause-towards g c left h =
+    towards_short _ _ _ _ _ _ _ _ _ _ (Bad c.in-Bad.line c.in-Bad.cause) _ c.loop-consumed-test.true refl c.in-Bad.ensures.takes (c.in-Bad.ensures.over refl) c.loop-consumed.invariant.running left h
+
+pub returns-in-ReadFault-clause-towards : goal.returns-in-ReadFault-clause-towards
+returns-in-ReadFault-clause-towards g c left h =
+    towards_short _ _ _ _ _ _ _ _ _ _ Fault _ c.loop-consumed-test.true refl c.in-ReadFault.ensures.takes (c.in-ReadFault.ensures.over refl) c.loop-consumed.invariant.running left h

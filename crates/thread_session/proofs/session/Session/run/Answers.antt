@@ -1,4 +1,4 @@
-use Rattle.thread_session.proofs.Cuts.{cut_part}
+use Rattle.thread_session.proofs.Cuts.{cut_part, cut_to}
 use Rattle.thread_session.proofs.Endings.{follows_notes, follows_reply, follows_stands}
 use Rattle.thread_session.specs.Follows.{run_reply}
 use Rattle.thread_session.proofs.Growing.{grown_by}
@@ -19,3 +19,6 @@ returns-clause-part g c a h = err_gives c.consume.result (λ cut. cut_part _ _ _
 
 pub returns-clause-grown : goal.returns-clause-grown
 returns-clause-grown g c = grown_by c.consume.result run_reply _ _ _ _ _ _ _ c.requires.ready c.consume.ensures.follows c.consume.ensures.cut
+
+pub returns-clause-cut_to : goal.returns-clause-cut_to
+returns-clause-cut_to g c left h = err_gives c.consume.result (λ cut. cut_to _ _ _ _ _ _ cut left h) c.consume.ensures.cut

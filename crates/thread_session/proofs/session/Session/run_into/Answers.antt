@@ -50,7 +50,7 @@ loop-consumed-preserved g c =
       rest = subst (λ k. drop k c.place.new.out ≡ drop k c.args.out.now) (sym same) (c.place.ensures.rest ∙ later_rest c.loop-consumed.out c.args.out.now notes (length c.take-taken.result.passed) inv.rest);
       running = one_more c.args.book.now c.args.self.now c.loop-consumed.self-inside.core c.take-taken.new.self c.loop-consumed.self-inside.reader c.next.new.self [] (take notes c.loop-consumed.out) (take (notes + c.len-passed.result) c.place.new.out)
           c.loop-consumed.consumed notes c.len-passed.result c.thread-thread.result c.take-taken.result.set c.take-taken.result.passed c.in-Occ.o inv.own so_many
-          c.take-taken.ensures.stands c.take-taken.ensures.notes c.in-Occ.ensures.told (ap (λ k. take k c.place.new.out) same ∙ c.place.ensures.written) inv.running;
+          c.take-taken.ensures.stands c.take-taken.ensures.notes c.in-Occ.ensures.told c.in-Occ.ensures.takes (ap (λ k. take k c.place.new.out) same ∙ c.place.ensures.written) inv.running;
     }
 
 pub returns-after-loop-consumed-clause-follows : goal.returns-after-loop-consumed-clause-follows
