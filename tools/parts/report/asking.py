@@ -1,0 +1,120 @@
+"""The tools of this repository, run by their scripts in bin/. All that a report shows is what they print."""
+
+from __future__ import annotations
+
+import os
+import subprocess
+import sys
+import tempfile
+from dataclasses import dataclass
+from pathlib import Path
+from typing import Sequence
+
+from parts.command import Fault
+
+ROOT = Path(__file__).resolve().parents[3]
+DONE, SAYS_NO, REFUSED, READ_FAULT = range(4)
+OF_BUILD = "papi: the proved program "  # the scripts of bin/ begin so what they say of the program itself
+
+
+@dataclass(frozen=True)
+class Tables:
+    """A unit file, and a preset file with the processor whose presets are read, or neither."""
+
+    unit: str
+    presets: str | None = None
+    cpu: str | None = None
+
+    def words(self, with_presets: bool = True) -> list[str]:
+        given = [f"-U{self.unit}"]
+        return [*given, f"-P{self.presets}", f"-C{self.cpu}"] if with_presets and self.presets is not None else given
+
+
+@dataclass(frozen=True)
+class Answer:
+    status: int
+    lines: list[str]
+    errors: list[str]
+
+    def said(self) -> list[str]:
+        """What was said of the files, and of nothing else."""
+        return [line for line in self.errors if not line.startswith(OF_BUILD)]
+
+
+class Tools:
+    """Runs the tools over the same tables. Scripts that it is given as lines go through a file of its own."""
+
+    def __init__(self, tables: Tables):
+        self.tables = tables
+        self._folder = tempfile.TemporaryDirectory(prefix="report.")
+        self._natives: dict[str, tuple[str, ...]] = {}
+        self._presets: set[str] = set()
+        self._counters: dict[str, tuple[str, ...]] = {}
+
+    def __enter__(self) -> Tools:
+        return self
+
+    def __exit__(self, *error: object) -> None:
+        self._folder.cleanup()
+
+    def ask(self, tool: str, options: Sequence[str] = (), words: Sequence[str] = (), hints: bool = False) -> Answer:
+        """What a tool answers: its lines on both outputs, and its status. A refusal without an output is a fault."""
+        command = [str(ROOT / "bin" / tool), *self.tables.words(tool != "papi_native_avail"), *options, *(["--", *words] if words else [])]
+        done = subprocess.run(command, stdin=subprocess.DEVNULL, capture_output=True, env={**os.environ, "KISTALUB_HINTS": "1" if hints else "0"})
+        out, errors = (output.decode("utf-8", "surrogateescape").splitlines() for output in (done.stdout, done.stderr))
+        answer = Answer(done.returncode, out, errors)
+        if answer.status not in (DONE, SAYS_NO) and (answer.status not in (REFUSED, READ_FAULT) or not out):
+            raise Fault("\n".join(answer.said()) or f"{tool} ended with status {answer.status}", max(answer.status, 1))
+        return answer
+
+    def written(self, name: str, lines: Sequence[str]) -> str:
+        """A file with these lines."""
+        path = Path(self._folder.name) / name
+        path.write_text("".join(f"{line}\n" for line in lines), encoding="utf-8", errors="surrogateescape")
+        return str(path)
+
+    def run(self, script: Sequence[str], streams: Sequence[str] = ()) -> Answer:
+        """What papi_run answers to the lines of a script, with the notes."""
+        return self.ask("papi_run", ["--notes"], [self.written("script", script), *streams])
+
+    def natives_of(self, event: str) -> tuple[str, ...]:
+        """The canonical names of the native events of an event, whatever names it: none where nothing has this name."""
+        if event not in self._natives:
+            self._natives[event] = self._of_preset(event) or self._of_native(event)
+        return self._natives[event]
+
+    def is_preset(self, event: str) -> bool:
+        """Whether an event is a preset or a user event."""
+        natives = self.natives_of(event)
+        return bool(natives) and event in self._presets
+
+    def counters_of(self, native: str) -> tuple[str, ...]:
+        """The counters that a native event is allowed."""
+        self.natives_of(native)
+        return self._counters.get(native, ())
+
+    def _of_preset(self, event: str) -> tuple[str, ...]:
+        if self.tables.presets is None or ":" in event:
+            return ()
+        natives = tuple(value for name, value in self._fields("papi_avail", event).items() if name.startswith("Native "))
+        if natives:
+            self._presets.add(event)
+        return natives
+
+    def _of_native(self, event: str) -> tuple[str, ...]:
+        fields = self._fields("papi_native_avail", event)
+        if "Counters" not in fields:
+            return ()
+        self._counters[fields["Name"]] = tuple(fields["Counters"].split())
+        return (fields["Name"],)
+
+    def _fields(self, tool: str, event: str) -> dict[str, str]:
+        """The lines `NAME: VALUE` of a tool about one event."""
+        answer = self.ask(tool, [f"-e{event}"])
+        return {} if answer.status else dict(line.partition(": ")[::2] for line in answer.lines)
+
+
+def tell(errors: Sequence[str]) -> None:
+    """Passes on what a tool said on standard error."""
+    for line in errors:
+        print(line, file=sys.stderr)

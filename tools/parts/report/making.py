@@ -1,0 +1,207 @@
+"""A report from its files: the tools are run, their answers are read as a story, and each section is drawn."""
+
+from __future__ import annotations
+
+from dataclasses import dataclass, field
+from typing import Sequence
+
+from scripts import calls_of
+
+from parts.command import counted, read_file
+from parts.report.asking import Answer, Tables, Tools, tell
+from parts.report.curves import draw_curves
+from parts.report.markup import Markup, element
+from parts.report.matrix import draw, why_not
+from parts.report.page import Section, make_page
+from parts.report.probe import probe_of
+from parts.report.profiles import Place, draw_profiles
+from parts.report.region_rows import draw_regions
+from parts.report.region_tree import read_tree
+from parts.report.replies import Note, Step, read_replies
+from parts.report.rules import read_rules
+from parts.report.script_table import draw_script
+from parts.report.sets import Group, Pictures, groups_of
+from parts.report.story import Setup, Span, Story, tell_story
+from parts.report.summary import draw_tiles, draw_totals, totals_of
+from parts.report.timeline import MOST_TURNS, Timing, draw_timelines
+from parts.report.turns import Clock, clock_of, turns_of
+from parts.report.unit_counters import read_counters
+
+MOST_PICTURES = 60
+
+
+@dataclass(frozen=True)
+class Asked:
+    """What a report is made of."""
+
+    tables: Tables
+    script: str
+    streams: tuple[str, ...] = ()
+    place: Place = field(default_factory=Place)
+    regions: str | None = None
+    events: str = ""
+    every: int | None = None
+    title: str | None = None
+
+
+class Report:
+    def __init__(self, tools: Tools, asked: Asked):
+        self.tools = tools
+        self.asked = asked
+        self.answer: Answer = tools.ask("papi_run", ["--notes"], [asked.script, *asked.streams], hints=True)
+        tell(self.answer.errors)
+        self.steps, self.notes = read_replies(calls_of(read_file(asked.script).split("\n")), self.answer.lines)
+        self.story = self._tell()
+        self.pictures = Pictures(tools, read_counters(asked.tables.unit))
+        self.rules, self.name_faults = read_rules()
+        self.groups: dict[tuple[str, ...], list[Group]] = {}
+        self.clocks: dict[int, Clock] = {}
+
+    def _tell(self) -> Story:
+        probe = probe_of(self.steps, self.asked.every)
+        answer = self.tools.run(probe.lines, self.asked.streams)
+        steps, notes = read_replies(calls_of(probe.lines), answer.lines)
+        self._lines = probe.origins
+        return tell_story(steps, probe.origins, notes)
+
+    def page(self) -> str:
+        asked = self.asked
+        named = [("unit", asked.tables.unit), ("presets", asked.tables.presets), ("processor", asked.tables.cpu), ("script", asked.script)]
+        named += [(f"stream {thread}", stream) for thread, stream in enumerate(asked.streams)]
+        named += [("map", asked.place.map), ("program", asked.place.program), ("regions", asked.regions)]
+        files = [(kind, name) for kind, name in named if name is not None]
+        title = asked.title if asked.title is not None else asked.script.rpartition("/")[2]
+        return make_page(title, files, draw_tiles(self.steps, self.story, len(self.notes)), self.story, self.sections())
+
+    def sections(self) -> list[Section]:
+        streams = dict(enumerate(self.asked.streams))
+        totals = totals_of(self.story, streams)
+        return [
+            Section("errors", "What the tools said", "", [element("pre", "\n".join(self.answer.said()), class_="notice")] if self.answer.said() else []),
+            Section("totals", "Totals", "The last value of each event, and the occurrences of the thread over which it was counted.", draw_totals(totals)),
+            Section("time", "Threads in time", "From left to right the occurrences that a thread consumed. A bar is a stretch in which a set ran, a triangle a threshold "
+                    "that was passed, an upright line a place at which the count was zeroed, and a colour within a bar the group that had its turn.",
+                    draw_timelines(self.story, streams, self.timing_of) if self.story.spans else []),
+            Section("curves", "Counts over time", self._read_every(), self._curves()),
+            Section("counters", "Events and counters", "A ring is a counter that a native event may have, a disc the one that it has.", self._setups()),
+            Section("conflicts", "Conflicts", "Events fit if each finds a counter of its own. They do not where some of them are together allowed fewer counters than they are: "
+                    "those are marked.", self._conflicts()),
+            Section("profile", "Where thresholds were passed", "", draw_profiles(self.tools, self.asked.place, self.asked.script, self.asked.streams, self.notes,
+                                                                                self._names_of_notes())),
+            Section("regions", "Regions", "What each region counted, by the regions that it stands in. The bar is its share of the first event.", self._regions()),
+            Section("script", "Script and replies", "Each call with what it was answered.", draw_script(self.steps, self.story.names, self.rules)),
+            Section("rules", "Rules", "A call is refused by the first of these that holds, in this order. ENOEVST is a set that is not there, EISRUN one that runs, "
+                    "ENOTRUN one that does not.", self._rules()),
+        ]
+
+    def timing_of(self, span: Span) -> Timing | None:
+        """The groups and turns of a span, or none where its set takes none."""
+        if not span.setup.slice:
+            return None
+        clock = self._clock(span.thread)
+        groups = self._groups(span.setup)
+        turns = turns_of(span, max(len(groups), 1), clock, MOST_TURNS) if groups else []
+        return Timing(groups, turns, -(-(clock.at(span.end) - clock.at(span.start)) // span.setup.slice))
+
+    def _clock(self, thread: int) -> Clock:
+        if thread not in self.clocks:
+            self.clocks[thread] = clock_of(self.asked.streams[thread] if thread < len(self.asked.streams) else None)
+        return self.clocks[thread]
+
+    def _groups(self, setup: Setup) -> list[Group]:
+        if setup.events not in self.groups:
+            self.groups[setup.events] = groups_of(self.tools, setup.events)
+        return self.groups[setup.events]
+
+    def _read_every(self) -> str:
+        how = f"Each set is read every {counted(self.asked.every, 'occurrence')} of its thread." if self.asked.every else \
+            "Each set is read at some 240 places of its thread, and where the script reads it."
+        return f"{how} A set counts from its start, or from where it was zeroed."
+
+    def _curves(self) -> list[Markup]:
+        made = []
+        for span in self.story.spans:
+            if charts := draw_curves(span):
+                until = "the end" if span.is_open else f"{span.end:,}"
+                head = element("h3", f"Set {span.set} of thread {span.thread}", element("small", f"from occurrence {span.start:,} to {until}"))
+                made.append(element("section", head, element("div", charts, class_="curves"), data_thread=span.thread, data_set=f"{span.thread}.{span.set}"))
+        return made
+
+    def _setups(self) -> list[Markup]:
+        """A picture for each set as it ran, and as it is now if it never did."""
+        shown: list[tuple[int, int, Setup]] = []
+        for span in self.story.spans:
+            if all((span.thread, span.set) != (thread, number) or span.setup.events != setup.events for thread, number, setup in shown):
+                shown.append((span.thread, span.set, span.setup))
+        ran = {(thread, number) for thread, number, _ in shown}
+        shown += [(*key, setup) for key, setup in sorted(self.story.setups.items()) if key not in ran and setup.events]
+        made = [part for thread, number, setup in shown[:MOST_PICTURES] for part in self._setup(thread, number, setup)]
+        return [element("div", made, class_="pictures")] * bool(made) + _left_out(len(shown), "set")
+
+    def _setup(self, thread: int, number: int, setup: Setup) -> list[Markup]:
+        name = f"Set {number} of thread {thread}"
+        if not setup.slice:
+            picture = self.pictures.of_setup(setup)
+            return [_figure(name, "", draw(picture), thread, number)] if picture is not None else []
+        made = []
+        groups = self._groups(setup)
+        for place, group in enumerate(groups):
+            picture = self.pictures.of_group(setup, group)
+            if picture is not None:
+                told = f", group {place}: turns of {counted(setup.slice, 'tick')}"
+                made.append(_figure(name, told, draw(picture), thread, number))
+        return made
+
+    def _conflicts(self) -> list[Markup]:
+        made = []
+        for conflict in self.story.conflicts[:MOST_PICTURES]:
+            picture = self.pictures.of_conflict(conflict)
+            if picture is not None:
+                call = conflict.step.call
+                line = self._line_of(conflict.step)
+                told = f": {conflict.event} does not fit into set {call.arguments[0]} of thread {call.thread}. {why_not(len(conflict.blamed), conflict.counters)}"
+                link = element("a", f"Line {line}", href=f"#line-{line}")
+                made.append(_figure(link, told, draw(picture), call.thread, int(call.arguments[0]), f"conflict-{line}"))
+        return [element("div", made, class_="pictures")] * bool(made) + _left_out(len(self.story.conflicts), "conflict")
+
+    def _line_of(self, step: Step) -> int:
+        return self._lines[step.call.line - 1] or 0
+
+    def _names_of_notes(self) -> dict[tuple[int, int, int], str]:
+        names = {}
+        for span in self.story.spans:
+            for passing in span.passings:
+                note = passing.note
+                names[(note.thread, note.set, note.index)] = span.setup.events[note.index]
+        return names
+
+    def _regions(self) -> list[Markup]:
+        if self.asked.regions is None:
+            return []
+        return draw_regions(read_tree(self.tools, self.asked.regions, self.asked.events, self.asked.streams), self.asked.events.split(","))
+
+    def _rules(self) -> list[Markup]:
+        refused = [step for step in self.steps if step.is_refused]
+        calls = sorted({step.call.name for step in refused} & set(self.rules))
+        if not calls:
+            return []
+        rows = [[element("dt", call, id=f"rule-{call}"), element("dd", self.rules[call])] for call in calls]
+        named = any("the name's code" in self.rules[call] for call in calls)
+        faults = [[element("dt", code), element("dd", f"{where} ({fault})")] for fault, where, code in self.name_faults] if named else []
+        more = [element("h3", "The name's code"), element("dl", faults)] if faults else []
+        return [element("dl", rows), *more]
+
+
+def _figure(head: Markup | str, told: str, picture: Markup, thread: int, number: int, key: str | None = None) -> Markup:
+    caption = element("figcaption", element("b", head), told)
+    return element("figure", caption, element("div", picture, class_="wide"), class_="picture", data_thread=thread, data_set=f"{thread}.{number}", id=key)
+
+
+def _left_out(number: int, word: str) -> list[Markup]:
+    left_out = number - MOST_PICTURES
+    return [element("p", f"{counted(left_out, 'more ' + word)} left out.", class_="quiet")] if left_out > 0 else []
+
+
+def make_report(asked: Asked) -> str:
+    with Tools(asked.tables) as tools:
+        return Report(tools, asked).page()

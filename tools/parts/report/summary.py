@@ -1,0 +1,105 @@
+"""The summary: what was run, what each event counted in all, and estimates beside exact values."""
+
+from __future__ import annotations
+
+from dataclasses import dataclass
+from typing import Sequence
+
+from parts.report.markup import Markup, element
+from parts.report.numbers import shown
+from parts.report.replies import Step
+from parts.report.story import Span, Story
+
+TONES = 8
+
+
+@dataclass(frozen=True)
+class Window:
+    """What a value was counted over: the occurrences of a stream, and the domain."""
+
+    stream: str
+    start: int
+    end: int
+    domain: int
+
+
+@dataclass(frozen=True)
+class Total:
+    """The last value of an event in a stretch in which its set ran."""
+
+    span: Span
+    event: str
+    window: Window
+    value: int
+    exact: int | None = None  # beside an estimate
+
+    @property
+    def is_estimate(self) -> bool:
+        return bool(self.span.setup.slice)
+
+
+def totals_of(story: Story, streams: dict[int, str]) -> list[Total]:
+    """The last values of each span. An estimate has the exact value beside it that another set counted over the same occurrences."""
+    totals: list[Total] = []
+    for span in story.spans:
+        if (last := span.last) is None:
+            continue
+        window = Window(streams.get(span.thread, ""), span.counted_from, last.position, span.setup.domain)
+        totals += [Total(span, event, window, value) for event, value in zip(span.setup.events, last.values)]
+    exact = {(total.window, total.event): total.value for total in totals if not total.is_estimate}
+    return [
+        Total(total.span, total.event, total.window, total.value, exact.get((total.window, total.event))) if total.is_estimate else total for total in totals
+    ]
+
+
+def draw_tiles(steps: Sequence[Step], story: Story, notes: int) -> Markup:
+    refused = sum(step.is_refused for step in steps)
+    tiles = [
+        ("calls", len(steps), ""),
+        ("refused", refused, "bad" if refused else ""),
+        ("threads", len(story.positions), ""),
+        ("event sets", len(story.setups), ""),
+        ("occurrences", sum(story.positions.values()), ""),
+        ("thresholds passed", notes, ""),
+    ]
+    return element("div", [element("div", element("strong", shown(number)), element("span", name), class_=f"tile {tone}".strip()) for name, number, tone in tiles],
+                   class_="tiles")
+
+
+def draw_totals(totals: Sequence[Total]) -> list[Markup]:
+    if not totals:
+        return []
+    compared = any(total.exact is not None for total in totals)
+    heads = ["thread", "set", "event", "occurrences", "value"] + (["exact", "estimate off by"] if compared else [])
+    head = element("thead", element("tr", [element("th", text, scope="col", class_="number" if place > 2 else None) for place, text in enumerate(heads)]))
+    rows = [_row(total, compared) for total in totals]
+    return [element("div", element("table", head, element("tbody", rows), class_="totals"), class_="wide")]
+
+
+def _row(total: Total, compared: bool) -> Markup:
+    span = total.span
+    more = _compared(total) if compared else []
+    return element(
+        "tr",
+        element("td", element("span", span.thread, class_=f"chip tone{span.thread % TONES}")),
+        element("td", span.set),
+        element("td", element("code", total.event)),
+        element("td", f"{shown(total.window.start)} to {shown(total.window.end)}", class_="number quiet"),
+        element("td", element("b", shown(total.value)), element("span", "estimate", class_="badge") if total.is_estimate else None, class_="number"),
+        more,
+        data_thread=span.thread,
+        data_set=f"{span.thread}.{span.set}",
+    )
+
+
+def _compared(total: Total) -> list[Markup]:
+    if total.exact is None:
+        return [element("td", class_="number"), element("td", class_="number")]
+    return [element("td", shown(total.exact), class_="number"), element("td", off_by(total.value, total.exact), class_="number")]
+
+
+def off_by(estimate: int, exact: int) -> str:
+    """How far an estimate is from the exact value, in percent of it."""
+    if exact == 0:
+        return "0.0 %" if estimate == 0 else "exact is 0"
+    return f"{100 * (estimate - exact) / abs(exact):+.1f} %"
