@@ -2,6 +2,8 @@
 #![tactic(auto)]
 
 #[cfg(test)]
+mod counter_alloc_tests;
+#[cfg(test)]
 mod overflow_dispatch_tests;
 #[cfg(test)]
 mod parallel_tasks_tests;

@@ -95,6 +95,24 @@ fn try_runs<R: Threads + Sync>(
     Ok(())
 }
 
+// Whether there is a file of this name, among these.
+fn has_file(files: &[RowFile], name: &str) -> bool {
+    files.iter().any(|file| file.name.as_str() == name)
+}
+
+// Says of each fault of a row that is of no file.
+fn say_faults(shared: &[RowFile], row: &Row, text: &mut String) -> Result<(), AllocError> {
+    for fault in &row.faults {
+        let name = fault.name.as_str();
+        if !has_file(shared, name) && !has_file(row.files.as_slice(), name) {
+            text.push_str("a fault of no file: ")?;
+            text.push_str(name)?;
+            text.push_str("\n")?;
+        }
+    }
+    Ok(())
+}
+
 // Carries out a row with each of its lists of words and numbers of workers.
 fn try_row<R: Threads + Sync>(
     rt: &R,
@@ -103,6 +121,7 @@ fn try_row<R: Threads + Sync>(
     row: &Row,
     text: &mut String,
 ) -> Result<(), AllocError> {
+    say_faults(shared, row, text)?;
     let (first, end) = numbers_of(row);
     if row.words.is_empty() || first >= end {
         text.push_str("nothing to carry out: ")?;

@@ -75,13 +75,18 @@ fn amount(text: &str) -> Option<Amount> {
     }
 }
 
+// The number of bytes that stands after this verb.
+fn bytes_in(text: &str, verb: &str) -> Option<Amount> {
+    amount(between(text, verb, " bytes")?)
+}
+
 // The numbers of `for k ..`.
 fn runs_of(text: &str) -> Option<Runs> {
     match text {
-        "below the length of out" => Some(Runs::BelowOut),
-        "below the length of err" => Some(Runs::BelowErr),
+        "k below the length of out" => Some(Runs::BelowOut),
+        "k below the length of err" => Some(Runs::BelowErr),
         _ => {
-            let (first, last) = parted(between(text, "from ", "")?, " to ");
+            let (first, last) = parted(between(text, "k from ", "")?, " to ");
             match (first.parse::<u64>(), last.parse::<u64>()) {
                 (Ok(first), Ok(last)) => Some(Runs::Between(first, last.saturating_add(1))),
                 _ => None,
@@ -186,49 +191,77 @@ impl RowReader {
 
     // `NAME fails after N bytes`. Gives whether the line is such a one.
     fn take_fault(&mut self, line: &str) -> Result<bool, AllocError> {
-        let (name, rest) = parted(line, " fails after ");
-        match amount(parted(rest, " ").0) {
-            Some(after) => {
-                let name = String::from_str(self.alloc, name)?;
-                self.row.faults.push(Fault { name, after })?;
-                Ok(true)
-            }
-            None => Ok(false),
-        }
-    }
-
-    // A setting. Gives whether the line is one.
-    fn take_setting(&mut self, line: &str) -> Result<bool, AllocError> {
-        let (subject, rest) = parted(line, " ");
-        let (verb, rest) = parted(rest, " ");
-        let (third, _) = parted(rest, " ");
-        match subject {
-            "status" => match verb.parse::<u64>() {
-                Ok(status) => self.row.status = status,
-                Err(_) => return Ok(false),
-            },
-            "opening" => match verb.parse::<u64>() {
-                Ok(number) => self.row.failing.push(number)?,
-                Err(_) => return Ok(false),
-            },
-            "out" => self.row.out_room = amount(third),
-            "err" => self.row.err_room = amount(third),
-            "reads" => match amount(third) {
-                Some(piece) => self.row.piece = piece,
-                None => return Ok(false),
-            },
-            "for" if verb == "workers" => return self.take_workers(rest),
-            "for" => match runs_of(rest) {
-                Some(runs) => self.row.runs = runs,
-                None => return Ok(false),
-            },
-            "notes" => self.row.gives_notes = false,
-            _ => return self.take_fault(line),
-        }
+        let Some((name, rest)) = line.split_once(" fails after ") else {
+            return Ok(false);
+        };
+        let Some(after) = bytes_in(rest, "") else {
+            return Ok(false);
+        };
+        let name = String::from_str(self.alloc, name)?;
+        self.row.faults.push(Fault { name, after })?;
         Ok(true)
     }
 
-    // A line that begins a section, or a setting. Gives whether it is one of both.
+    // `opening N fails`. Gives whether the line is such a one.
+    fn take_opening(&mut self, rest: &str) -> Result<bool, AllocError> {
+        let (number, verb) = parted(rest, " ");
+        match number.parse::<u64>() {
+            Ok(number) if verb == "fails" => {
+                self.row.failing.push(number)?;
+                Ok(true)
+            }
+            _ => Ok(false),
+        }
+    }
+
+    // A setting of one value. Gives whether the line is one.
+    fn take_value(&mut self, subject: &str, rest: &str) -> bool {
+        match (
+            subject,
+            rest.parse::<u64>(),
+            bytes_in(rest, "takes "),
+            bytes_in(rest, "give "),
+        ) {
+            ("status", Ok(status), _, _) => self.row.status = status,
+            ("out", _, Some(room), _) => self.row.out_room = Some(room),
+            ("err", _, Some(room), _) => self.row.err_room = Some(room),
+            ("reads", _, _, Some(piece)) => self.row.piece = piece,
+            _ => return false,
+        }
+        true
+    }
+
+    // `workers N ..` or `k from N to M` behind `for`. Gives whether it is one of both.
+    fn take_runs(&mut self, text: &str) -> Result<bool, AllocError> {
+        if let Some(workers) = between(text, "workers ", "") {
+            return self.take_workers(workers);
+        }
+        let Some(runs) = runs_of(text) else {
+            return Ok(false);
+        };
+        self.row.runs = runs;
+        Ok(true)
+    }
+
+    // A setting. Gives whether the line is one, to its end.
+    fn take_setting(&mut self, line: &str) -> Result<bool, AllocError> {
+        let (subject, rest) = parted(line, " ");
+        match subject {
+            "opening" => self.take_opening(rest),
+            "for" => self.take_runs(rest),
+            "notes" if rest == "unread" => {
+                self.row.gives_notes = false;
+                Ok(true)
+            }
+            _ => Ok(self.take_value(subject, rest) || self.take_fault(line)?),
+        }
+    }
+
+    // A line that begins a section, or a setting, below the row's title. Gives whether it is one of both.
+    fn take_line(&mut self, line: &str) -> Result<bool, AllocError> {
+        Ok(self.take_keyword(line)? && !self.row.title.is_empty())
+    }
+
     fn take_keyword(&mut self, line: &str) -> Result<bool, AllocError> {
         let (keyword, rest) = parted(line, " ");
         match keyword {
@@ -270,7 +303,7 @@ pub fn read_row(alloc: Global, block: &str) -> Result<Option<Row>, NoRow> {
     for line in block.lines() {
         let taken = match line.strip_prefix("  ") {
             Some(content) => reader.take_content(content)?,
-            None => line.is_empty() || line.starts_with("#") || reader.take_keyword(line)?,
+            None => line.is_empty() || line.starts_with("#") || reader.take_line(line)?,
         };
         if !taken {
             return Err(NoRow::Line(String::from_str(alloc, line)?));
