@@ -8,6 +8,8 @@ mod overflow_dispatch_tests;
 #[cfg(test)]
 mod parallel_tasks_tests;
 #[cfg(test)]
+mod plain_tests;
+#[cfg(test)]
 mod plan_runner_tests;
 #[cfg(test)]
 mod stream_reader_tests;

@@ -1,0 +1,311 @@
+//! Plain programs beside the fast bodies, over drawn inputs.
+ghost use Rattle.std.specs.Prelude.{◌≤◌, ◌<◌, [], ◌∷◌, length};
+ghost use Rattle.thread_session.specs.Folds.{AreGood};
+
+use counter_alloc::{Blame, Matching};
+use overflow_dispatch::Recorder;
+use papi_base::{
+    CompShape, Domain, Ending, EventRef, MemSource, Mods, Native, Occ, Places, Shape, Values,
+};
+use plain::{Turn, Window, blame_by_sets, count, estimate, first_assignment, value_by_tree};
+use postfix_rules::{PresetBook, eval, read_postfix};
+use session_model::{Body, Call};
+use std::alloc::{AllocError, Global};
+use std::test::Fail;
+use stream_reader::StreamReader;
+use thread_session::Session;
+
+/// Numbers drawn by the generator of MMIX, which takes x to 6364136223846793005 x + 1442695040888963407 modulo 2^64, from the state 1 on.
+/// Of each the 31 highest bits count.
+#[derive(Drop)]
+struct Draws {
+    state: u64,
+}
+
+impl Draws {
+    fn new() -> Draws {
+        Draws { state: 1 }
+    }
+
+    // A number below the bound.
+    fn below(&mut self, bound: u32) -> u32
+        requires { 0 < bound }
+        ensures { result < bound }
+    {
+        self.state = self
+            .state
+            .wrapping_mul(6_364_136_223_846_793_005)
+            .wrapping_add(1_442_695_040_888_963_407);
+        (self.state >> 33) as u32 % bound
+    }
+}
+
+// Sets of the four counters, of at most six native events.
+fn draw_masks(alloc: Global, draws: &mut Draws) -> Result<Vec<u32>, AllocError> {
+    let mut masks = Vec::new(alloc);
+    for _ in 0..draws.below(6) + 1 {
+        masks.push(draws.below(15) + 1)?;
+    }
+    Ok(masks)
+}
+
+// The assignment that a matching gives, or its blame.
+fn matched(masks: &[u32]) -> Result<Places, Blame>
+    requires few { length masks.now ≤ 6 }
+{
+    let mut matching = Matching::empty(4);
+    for mask in masks {
+        matching.add(*mask % 16)?;
+    }
+    Ok(matching.least())
+}
+
+fn are_same(first: &Places, second: &Places) -> bool {
+    (0..32).all(|i| first.get(i) == second.get(i))
+}
+
+#[test]
+fn assignments_and_blames(rt: HostRuntime) -> Result<(), Fail> {
+    let mut draws = Draws::new();
+    let mut refused = 0u32;
+    for _ in 0..400u32 {
+        let masks = draw_masks(rt.alloc(), &mut draws)?;
+        if masks.len() <= 6 {
+            match matched(&masks) {
+                Ok(places) => {
+                    let first = first_assignment(&masks).expect(&rt, "an assignment");
+                    assert!(&rt; are_same(&first, &places), "{masks:?}");
+                }
+                Err(blame) => {
+                    assert_eq!(&rt; blame_by_sets(&masks), blame, "{masks:?}");
+                    assert!(&rt; first_assignment(&masks).is_none());
+                    refused = refused.wrapping_add(1);
+                }
+            }
+        }
+    }
+    // Both come often.
+    assert!(&rt; refused > 50 && refused < 350, "{refused} refused");
+    Ok(())
+}
+
+const SIGNS: [&str; 4] = ["+|", "-|", "*|", "/|"];
+
+// A formula over three native events in postfix order, of at most twelve tokens before the operators that end it.
+fn draw_formula(alloc: Global, draws: &mut Draws) -> Result<String, AllocError> {
+    let mut text = String::new(alloc);
+    let mut height = 0u32;
+    for _ in 0..draws.below(12) + 1 {
+        if height >= 2 && draws.below(2) == 0 {
+            text.push_str(SIGNS[draws.below(4) as usize])?;
+            height -= 1;
+        } else {
+            let operand = if draws.below(2) == 0 {
+                format!(in alloc; "N{}|", draws.below(3))?
+            } else {
+                format!(in alloc; "{}|", draws.below(1000))?
+            };
+            text.push_str(&operand)?;
+            height = height.wrapping_add(1);
+        }
+    }
+    for _ in 1..height {
+        text.push_str(SIGNS[draws.below(4) as usize])?;
+    }
+    Ok(text)
+}
+
+#[test]
+fn values_of_formulas(rt: HostRuntime) -> Result<(), Fail> {
+    let mut draws = Draws::new();
+    for _ in 0..400u32 {
+        let text = draw_formula(rt.alloc(), &mut draws)?;
+        let mut counts = [0i64; 3];
+        for i in 0..3 {
+            counts[i] = i64::from(draws.below(1 << 31)) - (1 << 30);
+        }
+        let read = read_postfix(rt.alloc(), &text, 3);
+        let f = read.ok().expect(&rt, "a formula");
+        assert_eq!(&rt; value_by_tree(&f, &counts), eval(&f, &counts), "{text}");
+    }
+    Ok(())
+}
+
+const PLAIN: Mods = Mods {
+    user: false,
+    kernel: false,
+    edge: false,
+    invert: false,
+    cmask: 0,
+};
+
+// It counts where it begins.
+const EDGE: Mods = Mods {
+    user: false,
+    kernel: false,
+    edge: true,
+    invert: false,
+    cmask: 0,
+};
+
+// Retired instructions on the first counter.
+const INST: Native = Native {
+    comp: 0,
+    event: 0,
+    select: 0xc0,
+    masks: 0,
+    umask: 0,
+    mods: PLAIN,
+    allowed: 1,
+};
+
+// Runs of branches on the second counter.
+const BRANCH_RUNS: Native = Native {
+    comp: 0,
+    event: 1,
+    select: 0xc4,
+    masks: 0,
+    umask: 0,
+    mods: EDGE,
+    allowed: 2,
+};
+
+// Branches on the first counter.
+const BRANCHES: Native = Native {
+    comp: 0,
+    event: 1,
+    select: 0xc4,
+    masks: 0,
+    umask: 0,
+    mods: PLAIN,
+    allowed: 1,
+};
+
+// A stream of forty occurrences of two events in both modes, and the same as a list.
+fn draw_stream(alloc: Global, draws: &mut Draws) -> Result<(String, Vec<Occ>), AllocError> {
+    let mut text = String::new(alloc);
+    let mut occs = Vec::new(alloc);
+    for stamp in 0..40u64 {
+        let select = if draws.below(2) == 0 { 0xc0u8 } else { 0xc4 };
+        let kernel = draws.below(4) == 0;
+        let amount = draws.below(5) as u8 + 1;
+        let mode = if kernel { "k" } else { "u" };
+        let line = format!(in alloc; "0 {select:02x} 00 {mode} {amount} 1\n")?;
+        text.push_str(&line)?;
+        occs.push(Occ {
+            comp: 0,
+            select,
+            umask: 0,
+            kernel,
+            amount,
+            pc: 1,
+            stamp,
+        })?;
+    }
+    Ok((text, occs))
+}
+
+// The last values that these calls reply over the stream.
+fn values_of(alloc: Global, text: &str, calls: &[Call]) -> Result<Values, AllocError>
+    requires { AreGood [] ((48 ∷ 48 ∷ []) ∷ []) calls.now }
+{
+    let book = PresetBook::new(Vec::new(alloc));
+    let mut comp = CompShape::new();
+    comp.push(48);
+    comp.push(48);
+    let mut shape = Shape::new();
+    shape.push(comp);
+    let source = MemSource::new(text.as_bytes().to_vec(alloc)?, Ending::End, 4096);
+    let mut session = Session::new(alloc, 0, shape, StreamReader::new(source))?;
+    let replies = session.call_all(alloc, &book, calls, &mut Recorder::new(alloc))?;
+    let mut last = Values::new();
+    for reply in &replies {
+        if let Body::Values(values) = &reply.body {
+            last = values.copy();
+        }
+    }
+    Ok(last)
+}
+
+#[test]
+fn counts_of_windows(rt: HostRuntime) -> Result<(), Fail> {
+    let mut draws = Draws::new();
+    for _ in 0..40u32 {
+        let (text, past) = draw_stream(rt.alloc(), &mut draws)?;
+        let from = draws.below(20);
+        let n = draws.below(20);
+        let calls = [
+            Call::Create,
+            Call::Add {
+                set: 0,
+                e: Ok(EventRef::Native(INST)),
+            },
+            Call::Add {
+                set: 0,
+                e: Ok(EventRef::Native(BRANCH_RUNS)),
+            },
+            Call::Run { n: from },
+            Call::Start { set: 0 },
+            Call::Run { n },
+            Call::Stop { set: 0 },
+        ];
+        let values = values_of(rt.alloc(), &text, &calls)?;
+        let window = Window {
+            from: from as usize,
+            to: (from + n) as usize,
+            domain: Domain::USER,
+        };
+        if past.len() == 40 {
+            for (i, native) in [INST, BRANCH_RUNS].iter().enumerate() {
+                let value = i64::try_from(count(&past, window, native)).ok();
+                assert_eq!(&rt; values.get(i as u32), value, "{text}");
+            }
+        }
+    }
+    Ok(())
+}
+
+#[test]
+fn estimates_of_turns(rt: HostRuntime) -> Result<(), Fail> {
+    let mut draws = Draws::new();
+    for _ in 0..40u32 {
+        let (text, past) = draw_stream(rt.alloc(), &mut draws)?;
+        let from = draws.below(20);
+        let n = draws.below(20);
+        let slice = draws.below(9) + 1;
+        let calls = [
+            Call::Create,
+            Call::SetMultiplex { set: 0, slice },
+            Call::Add {
+                set: 0,
+                e: Ok(EventRef::Native(INST)),
+            },
+            Call::Add {
+                set: 0,
+                e: Ok(EventRef::Native(BRANCHES)),
+            },
+            Call::Run { n: from },
+            Call::Start { set: 0 },
+            Call::Run { n },
+            Call::Stop { set: 0 },
+        ];
+        let values = values_of(rt.alloc(), &text, &calls)?;
+        let window = Window {
+            from: from as usize,
+            to: (from + n) as usize,
+            domain: Domain::USER,
+        };
+        if past.len() == 40 {
+            for (group, native) in [INST, BRANCHES].iter().enumerate() {
+                let turn = Turn {
+                    slice: u64::from(slice),
+                    groups: 2,
+                    group: group as u64,
+                };
+                let value = i64::try_from(estimate(&past, window, &turn, native)).ok();
+                assert_eq!(&rt; values.get(group as u32), value, "{text}");
+            }
+        }
+    }
+    Ok(())
+}
