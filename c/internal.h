@@ -123,7 +123,7 @@ extern thread_state *kl_first; /* the list, under kl_lock */
 void kl_forget_threads(void);
 
 /* threads.c */
-void kl_name_thread(thread_state *t);
+int kl_name_thread(thread_state *t);
 void kl_forget_ids(void);
 
 /* errors.c */

@@ -151,19 +151,17 @@ static int open_state(thread_state *t) {
     if (code != PAPI_OK) return code;
     t->step = atomic_load(&kl_step);
     t->opened = 1;
-    pthread_mutex_lock(&kl_lock);
-    t->registered = 1;
-    pthread_mutex_unlock(&kl_lock);
     return PAPI_OK;
 }
 
+/* A thread is listed before its stream is read. The function that gives its id may make calls, which then open the library. */
 thread_state *kl_here(int *code) {
     thread_state *t = kl_known();
     *code = PAPI_OK;
-    if (t && t->has_id) return t;
+    if (t && t->opened && t->has_id) return t;
     if (!t) *code = kl_enters(NULL, 0);
+    if (*code == PAPI_OK && !own->has_id) *code = kl_name_thread(own);
     if (*code == PAPI_OK && !own->opened) *code = open_state(own);
-    if (*code == PAPI_OK) kl_name_thread(own);
     return *code == PAPI_OK ? own : NULL;
 }
 

@@ -16,13 +16,16 @@ static PAPI_thread_id_t id_here(void) {
     return id;
 }
 
-/* Takes the id of the calling thread. */
-void kl_name_thread(thread_state *t) {
+/* Takes the id of the calling thread, and lists it. PAPI_ENOINIT if the program's function ends the library. */
+int kl_name_thread(thread_state *t) {
     t->has_id = 1;
+    kl_hold(t);
     PAPI_thread_id_t id = id_here();
     pthread_mutex_lock(&kl_lock);
     t->id = id;
+    t->registered = 1;
     pthread_mutex_unlock(&kl_lock);
+    return kl_let_go(t);
 }
 
 void kl_forget_ids(void) {
@@ -57,8 +60,7 @@ int PAPI_thread_init(unsigned long (*id_fn)(void)) {
     if (atomic_exchange(&is_threaded, 1)) return PAPI_OK;
     if (list_ids(NULL, NULL, 0, 0) > 1) RETURN(PAPI_EINVAL);
     atomic_store(&id_function, id_fn);
-    kl_name_thread(t);
-    return PAPI_OK;
+    RETURN(kl_name_thread(t));
 }
 
 unsigned long PAPI_thread_id(void) {
@@ -71,11 +73,7 @@ int PAPI_register_thread(void) {
     HERE(t);
     int code = kistalub_register(&t->library);
     if (code != PAPI_OK) RETURN(code);
-    pthread_mutex_lock(&kl_lock);
-    t->registered = 1;
-    pthread_mutex_unlock(&kl_lock);
-    kl_name_thread(t);
-    return PAPI_OK;
+    RETURN(kl_name_thread(t));
 }
 
 /* PAPI_EMISC if the thread is not registered. Its event sets and its stream stay. */

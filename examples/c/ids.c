@@ -78,6 +78,18 @@ static void threads(void) {
     WANT(left[0], 0);
 }
 
+/* A function that ends the library in which it is called. */
+static unsigned long last_id(void) {
+    PAPI_shutdown();
+    return 1;
+}
+
+static void ended_by_its_id(void) {
+    WANT(PAPI_library_init(PAPI_VER_CURRENT), PAPI_VER_CURRENT);
+    WANT(PAPI_thread_init(last_id), PAPI_ENOINIT);
+    WANT(PAPI_is_initialized(), PAPI_NOT_INITED);
+}
+
 int main(void) {
     int number = 1;
     unsigned long id;
@@ -110,6 +122,7 @@ int main(void) {
     WANT(PAPI_thread_init(own_id), PAPI_OK);
     WANT(PAPI_thread_id(), (unsigned long)PAPI_EMISC);
     PAPI_shutdown();
+    ended_by_its_id();
     puts("each as wanted");
     return 0;
 }
