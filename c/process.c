@@ -1,13 +1,14 @@
 /* The process: the library begins and ends. */
 #include "internal.h"
 
+#include <stdio.h>
 #include <stdlib.h>
 #include <unistd.h>
 
 pthread_mutex_t kl_lock = PTHREAD_MUTEX_INITIALIZER;
 atomic_uint kl_generation;
 
-/* Held while the library begins, also while files are read; taken before kl_lock. */
+/* Held while the library begins or ends, also while files are read; taken before kl_lock. */
 static pthread_mutex_t beginning = PTHREAD_MUTEX_INITIALIZER;
 /* While it is held: the number of the last library, and the process that began it. */
 static unsigned generations;
@@ -15,14 +16,14 @@ static pid_t process;
 /* Under kl_lock: what kistalub_init gave or the library was begun with. */
 static kl_files *files;
 
-static void release(kl_files *held) {
+void kl_release_files(kl_files *held) {
     pthread_mutex_lock(&kl_lock);
     int last = held && --held->holders == 0;
     pthread_mutex_unlock(&kl_lock);
     if (last) kl_free_files(held);
 }
 
-/* The files that the library was begun with, or NULL. The caller gives them back by kl_release. */
+/* The files that the library was begun with, or NULL. The caller gives them back by kl_release_files. */
 kl_files *kl_hold_files(void) {
     pthread_mutex_lock(&kl_lock);
     kl_files *held = files;
@@ -31,8 +32,6 @@ kl_files *kl_hold_files(void) {
     return held;
 }
 
-void kl_release_files(kl_files *held) { release(held); }
-
 /* Puts files in place of those that there are. PAPI_EINVAL if a library is begun. */
 int kl_takes_files(kl_files *made) {
     pthread_mutex_lock(&kl_lock);
@@ -40,18 +39,21 @@ int kl_takes_files(kl_files *made) {
     kl_files *old = begun ? made : files;
     if (!begun) files = made;
     pthread_mutex_unlock(&kl_lock);
-    release(old);
+    kl_release_files(old);
     return begun ? PAPI_EINVAL : PAPI_OK;
 }
 
 static int files_of_environment(void) {
     kl_files *held = kl_hold_files(), *made = NULL;
     if (held) {
-        release(held);
+        kl_release_files(held);
         return PAPI_OK;
     }
     const char *unit = getenv("KISTALUB_UNIT");
-    if (!unit) return PAPI_ESYS;
+    if (!unit) {
+        fprintf(stderr, "papi: no unit file: KISTALUB_UNIT is not set\n");
+        return PAPI_ESYS;
+    }
     int code = kl_read_files(unit, getenv("KISTALUB_PRESETS"), getenv("KISTALUB_CPU"), getenv("KISTALUB_STREAM"), &made);
     return code == PAPI_OK ? kl_takes_files(made) : code;
 }
@@ -79,7 +81,7 @@ static void end_library(void) {
     kl_forget_set_numbers();
     kl_components_end();
     kl_machine_ends();
-    release(held);
+    kl_release_files(held);
 }
 
 /* A process that was forked after the library began begins another one. */
@@ -111,7 +113,9 @@ int PAPI_library_init(int version) {
 
 void PAPI_shutdown(void) {
     CALL(PAPI_shutdown);
-    if (atomic_load(&kl_generation)) end_library();
+    pthread_mutex_lock(&beginning);
+    if (kl_is_open()) end_library();
+    pthread_mutex_unlock(&beginning);
 }
 
 /* The locks of all sources, in the order in which one is taken under another. Around a fork no other thread holds one, so that the child finds what

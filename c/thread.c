@@ -41,7 +41,7 @@ void kl_leaves(void) {
     thread_state *t = own;
     if (!t) return;
     own = NULL;
-    pthread_setspecific(key, NULL);
+    if (is_prepared) pthread_setspecific(key, NULL);
     leave(t);
 }
 
@@ -167,7 +167,7 @@ thread_state *kl_here(int *code) {
 
 int kistalub_thread(uint32_t number) {
     const thread_state *t = kl_known();
-    if (!atomic_load(&kl_generation)) return PAPI_ENOINIT;
+    if (!kl_is_open()) return PAPI_ENOINIT;
     if (t) return t->number == number ? PAPI_OK : PAPI_EINVAL;
     return kl_enters(&number, 0);
 }

@@ -138,6 +138,8 @@ int main(void) {
     streams();
     unreadable();
     tables();
+    unsetenv("KISTALUB_UNIT");
+    WANT(PAPI_library_init(PAPI_VER_CURRENT), PAPI_ESYS);
     variable("KISTALUB_STEP", "abc");
     variable("KISTALUB_STEP", "-1");
     variable("KISTALUB_STEP", "");

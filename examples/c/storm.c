@@ -1,4 +1,4 @@
-/* Threads make calls while the library begins and ends over and over again. Each call answers, and what a thread counts within one library is whole. */
+/* Threads make calls, and begin and end the library, over and over again. Each call answers, and what a thread counts within one library is whole. */
 #include "papi.h"
 #include "wanted.h"
 #include <pthread.h>
@@ -38,8 +38,10 @@ static void count(void) {
 
 static void *work(void *unused) {
     unsigned long ids[THREADS + 1];
-    while (!atomic_load(&is_over)) {
+    for (int i = 0; !atomic_load(&is_over); i++) {
         int number = THREADS + 1;
+        if (i % 3 == 0) PAPI_library_init(PAPI_VER_CURRENT);
+        if (i % 7 == 0) PAPI_shutdown();
         count();
         PAPI_list_threads(ids, &number);
         PAPI_lock(PAPI_USR1_LOCK);
@@ -52,13 +54,15 @@ int main(void) {
     pthread_t threads[THREADS];
     for (int i = 0; i < THREADS; i++) WANT(pthread_create(&threads[i], NULL, work, NULL), 0);
     for (int life = 0; life < LIVES || !atomic_load(&counted); life++) {
-        WANT(PAPI_library_init(PAPI_VER_CURRENT), PAPI_VER_CURRENT);
+        int begun = PAPI_library_init(PAPI_VER_CURRENT);
+        WANT(begun == PAPI_VER_CURRENT || begun == PAPI_ENOINIT, 1);
         count();
         PAPI_set_domain(PAPI_DOM_ALL);
         PAPI_shutdown();
     }
     atomic_store(&is_over, 1);
     for (int i = 0; i < THREADS; i++) WANT(pthread_join(threads[i], NULL), 0);
+    PAPI_shutdown();
     puts("each call answers");
     return 0;
 }
