@@ -57,7 +57,7 @@ typedef struct thread_state {
     struct thread_state *next; /* in the list of the process, under kl_lock, as are the number, the id, `registered` and `kept` */
     unsigned generation;       /* of the library that it is a part of */
     uint32_t number;
-    int opened;
+    int opened, is_refused; /* its stream was read, or can't be */
     kistalub library;
     PAPI_thread_id_t id;
     int has_id, registered;

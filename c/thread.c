@@ -146,8 +146,10 @@ static int open_library(thread_state *t) {
     return code;
 }
 
+/* What is wrong with a stream is said once, and answered by each call of the thread. */
 static int open_state(thread_state *t) {
-    int code = open_library(t);
+    int code = t->is_refused ? PAPI_ESYS : open_library(t);
+    t->is_refused = code == PAPI_ESYS;
     if (code != PAPI_OK) return code;
     t->step = atomic_load(&kl_step);
     t->opened = 1;

@@ -2,6 +2,7 @@
 #include "papi.h"
 #include "wanted.h"
 #include <fcntl.h>
+#include <pthread.h>
 #include <string.h>
 #include <sys/stat.h>
 #include <unistd.h>
@@ -111,6 +112,28 @@ static void unreadable(void) {
     PAPI_shutdown();
 }
 
+/* The first thread has its stream, and the second one none that can be read. It is told once, and each of its calls is refused. */
+static void *refused(void *unused) {
+    int set = PAPI_NULL;
+    WANT(PAPI_register_thread(), PAPI_ESYS);
+    WANT(PAPI_create_eventset(&set), PAPI_ESYS);
+    WANT(kistalub_go(1, NULL), PAPI_ESYS);
+    return unused;
+}
+
+static void of_a_thread(void) {
+    pthread_t thread;
+    write_file("part.0", "0 c0 00 u 5 1\n");
+    WANT(mkdir("part.1", 0700), 0);
+    WANT(begin(unit, NULL, "part.%t"), PAPI_VER_CURRENT);
+    WANT(pthread_create(&thread, NULL, refused, NULL), 0);
+    WANT(pthread_join(thread, NULL), 0);
+    WANT(kistalub_go(1, NULL), PAPI_OK);
+    PAPI_shutdown();
+    WANT(unlink("part.0"), 0);
+    WANT(rmdir("part.1"), 0);
+}
+
 static void tables(void) {
     write_file("faulty.unit", "COMPONENT,cpu,lab\nCOUNTER,P0,16,P\nCOUNTER,P1,99,P\n");
     write_file("faulty.presets", "CPU,lab1\nPRESET,PAPI_TOT_INS,NOT_DERIVED,INST_RETIRED\nPRESET,PAPI_TOT_CYC,DERIVED_WRONG,CYCLES\n");
@@ -137,6 +160,7 @@ int main(void) {
     setenv("KISTALUB_STEP", "9", 1);
     streams();
     unreadable();
+    of_a_thread();
     tables();
     unsetenv("KISTALUB_UNIT");
     WANT(PAPI_library_init(PAPI_VER_CURRENT), PAPI_ESYS);
