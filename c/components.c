@@ -45,19 +45,19 @@ int kl_is_disabled(thread_state *t, int component) {
     return is;
 }
 
-/* The event of a code of the thread's library can't be counted where its component is disabled: PAPI_ENOEVNT. */
-int kl_is_enabled(thread_state *t, uint32_t own) {
+/* PAPI_ENOEVNT where the component of an event is disabled. The code is that of the thread's library. */
+int kl_check_enabled(thread_state *t, uint32_t own) {
     uint32_t component = 0;
     if (!is_any_disabled() || kistalub_component_of(&t->library, own, &component) != PAPI_OK) return PAPI_OK;
     return kl_is_disabled(t, (int)component) ? PAPI_ENOEVNT : PAPI_OK;
 }
 
 /* The same of an event by its name. */
-int kl_is_known(thread_state *t, const char *name) {
+int kl_check_known(thread_state *t, const char *name) {
     uint32_t own = 0;
     if (!is_any_disabled()) return PAPI_OK;
     int code = kistalub_name_to_code(&t->library, (const unsigned char *)name, strlen(name), &own);
-    return code == PAPI_OK ? kl_is_enabled(t, own) : PAPI_OK;
+    return code == PAPI_OK ? kl_check_enabled(t, own) : PAPI_OK;
 }
 
 /* How many presets derive from native events of a component. */

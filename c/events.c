@@ -7,7 +7,7 @@
 /* The code of an event that can be counted. */
 static int code_named(thread_state *t, const char *name, int *event) {
     uint32_t own = 0;
-    int code = kl_is_known(t, name);
+    int code = kl_check_known(t, name);
     if (code == PAPI_OK) code = kistalub_name_to_code(&t->library, (const unsigned char *)name, strlen(name), &own);
     return code == PAPI_OK ? kl_code_outward(t, own, event) : code;
 }
@@ -83,7 +83,7 @@ int PAPI_query_event(int event) {
     if (!(event & PAPI_PRESET_MASK)) RETURN(kl_name_in(event, name));
     int code = kl_code_in_library(t, event, &own);
     if (code == PAPI_OK) code = kistalub_component_of(&t->library, own, &component);
-    RETURN(code == PAPI_OK ? kl_is_enabled(t, own) : code);
+    RETURN(code == PAPI_OK ? kl_check_enabled(t, own) : code);
 }
 
 /* What the unit's file says of a native event. Where it has one umask, the description of that stands behind the event's own. */

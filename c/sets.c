@@ -102,7 +102,7 @@ int PAPI_add_event(int set, int event) {
     HERE(t);
     uint32_t own;
     int code = kl_code_in_library(t, event, &own);
-    if (code == PAPI_OK) code = kl_is_enabled(t, own);
+    if (code == PAPI_OK) code = kl_check_enabled(t, own);
     if (code == PAPI_OK) code = kistalub_add(&t->library, kl_set_number(t, set), own);
     RETURN(code == PAPI_OK ? bind(t, set) : code);
 }
@@ -123,7 +123,7 @@ int PAPI_add_named_event(int set, const char *name) {
     CALL(PAPI_add_named_event);
     HERE(t);
     if (!name) RETURN(PAPI_EINVAL);
-    int code = kl_is_known(t, name);
+    int code = kl_check_known(t, name);
     if (code == PAPI_OK) code = kistalub_add_named(&t->library, kl_set_number(t, set), (const unsigned char *)name, strlen(name));
     RETURN(code == PAPI_OK ? bind(t, set) : code);
 }
