@@ -103,12 +103,17 @@ def _run_at_last(counting: Counting, environment: dict[str, str], source: Source
     return returned if returned >= 0 else BY_SIGNAL - returned
 
 
+def named_files(unit: str | None, presets: str | None, cpu: str | None) -> dict[str, str]:
+    """The files of the library: those that are given, or the environment's, or those of recordings."""
+    given = {"KISTALUB_UNIT": unit, "KISTALUB_PRESETS": presets, "KISTALUB_CPU": cpu}
+    usual = {"KISTALUB_UNIT": str(EXAMPLES / "recorded.unit"), "KISTALUB_PRESETS": str(EXAMPLES / "recorded.presets"), "KISTALUB_CPU": "recorded"}
+    return {name: given[name] or os.environ.get(name) or usual[name] for name in usual}
+
+
 def _environment(counting: Counting, folder: Path) -> dict[str, str]:
     """What the library is told in both runs. The first one has no stream."""
-    given = {"KISTALUB_UNIT": counting.unit, "KISTALUB_PRESETS": counting.presets, "KISTALUB_CPU": counting.cpu}
-    usual = {"KISTALUB_UNIT": str(EXAMPLES / "recorded.unit"), "KISTALUB_PRESETS": str(EXAMPLES / "recorded.presets"), "KISTALUB_CPU": "recorded"}
-    environment = {name: given[name] or os.environ.get(name) or usual[name] for name in usual}
-    environment.update(KISTALUB_STREAM=str(folder / "none.%t"), KISTALUB_CACHES=counting.machine.caches(), LD_BIND_NOW="1")
+    environment = named_files(counting.unit, counting.presets, counting.cpu)
+    environment.update(KISTALUB_STREAM=str(folder / "none.%t"), KISTALUB_STEP="0", KISTALUB_CACHES=counting.machine.caches(), LD_BIND_NOW="1")
     if counting.library:
         paths = [str(Path(counting.library).resolve()), *filter(None, [os.environ.get("LD_LIBRARY_PATH")])]
         environment["LD_LIBRARY_PATH"] = ":".join(paths)

@@ -46,7 +46,7 @@ class Words(unittest.TestCase):
             self.assertEqual(set(machine.shapes), {"l1d", "l1i", "l2", "l3", "dtlb", "itlb"}, name)
 
     def test_bad_words(self) -> None:
-        for words in ((), ("--nothing", "true"), ("--l1d",), ("--l1d", "1,2", "true"), ("--machine", "x", "true"), ("--calls", "x", "true"), ("--window", "0", "true")):
+        for words in ((), ("--nothing", "true"), ("--l1d",), ("--l1d", "1,2", "true"), ("--machine", "x", "true"), ("--window", "0", "true")):
             self.assertEqual(run_tool("record", *words).returncode, 2, words)
         self.assertEqual(run_tool("record", "--help").returncode, 0)
 
