@@ -65,6 +65,7 @@ static void take_event(const char *name, int is_instant) {
     if (code >= 0) code = fits(event.group, event.code);
     if (code == PAPI_OK) insert(&event);
     else say("Warning: cannot count ", name);
+    if (counted.group_count && counted.groups[counted.group_count - 1].count == 0) counted.group_count--;
 }
 
 /* Takes an event of PAPI_EVENTS: a name, which =instant or =delta may follow, with spaces that mean nothing. */

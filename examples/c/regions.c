@@ -42,7 +42,7 @@ int main(void) {
     WANT(mkdtemp(above) != NULL, 1);
     atexit(remove_output);
     setenv("PAPI_OUTPUT_DIRECTORY", above, 1);
-    setenv("PAPI_EVENTS", "PAPI_TOT_INS, lab::BR_INST:TAKEN =instant,PAPI_FP_OPS", 1);
+    setenv("PAPI_EVENTS", "PAPI_BR_PRC,PAPI_TOT_INS, lab::BR_INST:TAKEN =instant,PAPI_FP_OPS", 1);
     setenv("PAPI_REPORT", "1", 1);
     setenv("SLURM_PROCID", "3", 1);
     rates();
