@@ -311,3 +311,11 @@ class Presets(unittest.TestCase):
         events = [line.split() for line in listed.stdout.splitlines() if " 0x" in line]
         self.assertGreaterEqual(len(events), 26)
         self.assertEqual([event[0] for event in events if event[2] != "Yes"], [])
+
+
+@needs_command("cc", "a C compiler")
+class Sources(unittest.TestCase):
+    def test_the_recorder_compiles_without_a_warning(self) -> None:
+        words = ["cc", "-std=c11", "-Wall", "-Wextra", "-Wconversion", "-Werror", "-fsyntax-only", *map(str, sorted(SOURCES.glob("*.c")))]
+        done = subprocess.run(words, capture_output=True, text=True)
+        self.assertEqual((done.returncode, done.stderr), (0, ""))
