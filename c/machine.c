@@ -154,32 +154,38 @@ static void take_parts(const struct dl_phdr_info *object, PAPI_address_map_t *ma
     }
 }
 
+/* Another thread may read what was given before: it is written only where it has changed. */
+static void keep(void *at, const void *now, size_t size) {
+    if (memcmp(at, now, size)) memcpy(at, now, size);
+}
+
+/* How far the objects were looked at. */
+typedef struct { int is_first, count; } looked;
+
 /* Takes the executable, which comes first and has no name, and the libraries, which have one. */
 static int take_object(struct dl_phdr_info *object, size_t size, void *seen) {
     (void)size;
-    int *first = seen;
-    if (*first) {
-        *first = 0;
-        memset(&executable.address_info, 0, sizeof executable.address_info);
-        take_parts(object, &executable.address_info);
-    } else if (object->dlpi_name && *object->dlpi_name && libraries.count < MOST_LIBRARIES) {
-        PAPI_address_map_t *map = &maps[libraries.count++];
-        memset(map, 0, sizeof *map);
-        snprintf(map->name, sizeof map->name, "%s", object->dlpi_name);
-        take_parts(object, map);
-    }
+    looked *l = seen;
+    const char *name = l->is_first ? executable.fullname : object->dlpi_name ? object->dlpi_name : "";
+    const char *slash = l->is_first ? strrchr(name, '/') : NULL;
+    PAPI_address_map_t now;
+    memset(&now, 0, sizeof now);
+    snprintf(now.name, sizeof now.name, "%s", slash ? slash + 1 : name);
+    take_parts(object, &now);
+    if (l->is_first) keep(&executable.address_info, &now, sizeof now);
+    else if (*name && l->count < MOST_LIBRARIES) keep(&maps[l->count++], &now, sizeof now);
+    l->is_first = 0;
     return 0;
 }
 
 /* Looks at what is loaded now. */
 static void look_at_objects(void) {
-    int first = 1;
-    ssize_t n = readlink("/proc/self/exe", executable.fullname, sizeof executable.fullname - 1);
-    executable.fullname[n < 0 ? 0 : n] = 0;
-    libraries.count = 0;
-    dl_iterate_phdr(take_object, &first);
-    const char *slash = strrchr(executable.fullname, '/');
-    snprintf(executable.address_info.name, sizeof executable.address_info.name, "%s", slash ? slash + 1 : executable.fullname);
+    looked l = { 1, 0 };
+    char path[sizeof executable.fullname] = "";
+    ssize_t n = readlink("/proc/self/exe", path, sizeof path - 1);
+    if (n > 0) keep(executable.fullname, path, sizeof path);
+    dl_iterate_phdr(take_object, &l);
+    keep(&libraries.count, &l.count, sizeof l.count);
 }
 
 const PAPI_exe_info_t *PAPI_get_executable_info(void) {
