@@ -61,6 +61,11 @@ class Conflicts(unittest.TestCase):
         self.assertEqual(texts(picture, "m-bold"), ["PAPI_BR_PRC does not fit", "P0", "2 events", "1 counter"])
         self.assertIn("to be added; for PAPI_BR_PRC", texts(picture, "m-quiet"))
 
+    def test_an_event_without_a_counter(self) -> None:
+        picture = self.draw("CYCLES", "REF:c=2")
+        self.assertEqual(texts(picture, "m-bold"), ["REF:c=2 does not fit", "1 event"])
+        self.assertIn("This event is allowed no counter.", texts(picture, "m-quiet"))
+
     def test_events_that_fit(self) -> None:
         picture = self.draw("INST_RETIRED", "CYCLES", "BR_INST")
         self.assertEqual(texts(picture, "m-bold"), ["3 events, each with a counter of its own"])

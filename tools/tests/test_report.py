@@ -185,6 +185,8 @@ class Asking(InFolder):
             self.assertEqual((tools.is_preset("PAPI_BR_PRC"), tools.is_preset("CYCLES")), (True, False))
             self.assertEqual(tools.counters_of("lab::INST_RETIRED"), ("P0", "P1", "F0"))
             self.assertEqual(tools.counters_of("lab::INST_RETIRED:c=2"), ("P0", "P1"))
+            # A counter mask needs a programmable counter, and REF stands on a fixed one alone.
+            self.assertEqual((tools.natives_of("REF:c=2"), tools.counters_of("lab::REF:c=2")), (("lab::REF:c=2",), ()))
         self.assertEqual([counter.name for counter in read_counters(LAB)["lab"]], ["P0", "P1", "F0"])
 
     def test_groups(self) -> None:

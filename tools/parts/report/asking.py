@@ -3,6 +3,7 @@
 from __future__ import annotations
 
 import os
+import re
 import subprocess
 import sys
 import tempfile
@@ -103,15 +104,15 @@ class Tools:
 
     def _of_native(self, event: str) -> tuple[str, ...]:
         fields = self._fields("papi_native_avail", event)
-        if "Counters" not in fields:
+        if "Name" not in fields:
             return ()
-        self._counters[fields["Name"]] = tuple(fields["Counters"].split())
+        self._counters[fields["Name"]] = tuple(fields.get("Counters", "").split())
         return (fields["Name"],)
 
     def _fields(self, tool: str, event: str) -> dict[str, str]:
         """The lines `NAME: VALUE` of a tool about one event."""
         answer = self.ask(tool, [f"-e{event}"])
-        return {} if answer.status else dict(line.partition(": ")[::2] for line in answer.lines)
+        return {} if answer.status else dict(re.split(": ?", line, maxsplit=1) for line in answer.lines)
 
 
 def tell(errors: Sequence[str]) -> None:
