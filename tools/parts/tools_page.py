@@ -18,6 +18,9 @@ The commands on this page are run at the top of the repository. What they print 
 Lines that begin with `hint: ` are not the program's. The scripts in `bin/` add them to standard error, where the status is 1 or 2, or where nothing is found of what was asked for. They
 say which word, line, field or name is meant, and what is near. They need Python 3.9, and are left out where there is none. `KISTALUB_HINTS=0` leaves them out too.
 
+If standard error is a terminal, the scripts show there how far a run of more than half a second is: the seconds, and how much of the streams was read. The line is gone before the output comes.
+With the word `--quiet` a script adds nothing, neither hints nor this line.
+
 """
 STATUSES = """## Statuses
 

@@ -1,0 +1,113 @@
+"""The progress line of the scripts in bin/, over a program of sh: on a terminal alone, gone before the output, and nothing else changes."""
+
+from __future__ import annotations
+
+import os
+import pty
+import re
+import signal
+import subprocess
+import unittest
+from pathlib import Path
+from typing import Callable
+
+from tests.support import ROOT, InFolder
+from tests.test_hints import PLACE, make_tree
+
+LINE = re.compile(rb"\rpapi_run: [0-9]+ s\x1b\[K")
+GONE = b"\r\x1b[K"
+PATIENCE = 20  # seconds
+UNTIL_SEEN = ("tries=0", f"until [ -e go ] || [ $tries = {10 * PATIENCE} ]; do sleep 0.1; tries=$((tries + 1)); done")
+
+
+class Progress(InFolder):
+    def setUp(self) -> None:
+        super().setUp()
+        self.tool = str(make_tree(self.folder) / "papi_run")
+
+    def program(self, *lines: str) -> None:
+        path = self.write(PLACE, "\n".join(("#!/bin/sh", *lines, "")))
+        os.chmod(path, 0o755)
+
+    def start(self, words: str, out: int | None, **variables: str) -> tuple[subprocess.Popen[bytes], int]:
+        """A call whose standard error is a terminal, and its output too where there is no other. Gives the other end of the terminal."""
+        ours, terminal = pty.openpty()
+        environment = {**os.environ, "TERM": "xterm", **variables}
+        child = subprocess.Popen(["/bin/sh", "-c", f"exec {self.tool} {words}"], stdin=subprocess.DEVNULL, stdout=terminal if out is None else out, stderr=terminal,
+                                 cwd=self.folder, env=environment, start_new_session=True)
+        os.close(terminal)
+        return child, ours
+
+    def shown(self, terminal: int, seen: Callable[[], object] = lambda: None) -> bytes:
+        """All that comes to a terminal, until nobody has it open. The first progress line makes the file `go`, for which a program may wait."""
+        written = b""
+        while True:
+            try:
+                piece = os.read(terminal, 4096)
+            except OSError:  # Linux ends a terminal so
+                piece = b""
+            if not piece:
+                os.close(terminal)
+                return written.replace(b"\r\n", b"\n")
+            written += piece
+            if LINE.search(written) and not (self.folder / "go").exists():
+                (self.folder / "go").touch()
+                seen()
+
+    def call(self, words: str, **variables: str) -> tuple[int, bytes]:
+        child, terminal = self.start(words, None, **variables)
+        shown = self.shown(terminal)
+        return child.wait(PATIENCE), shown
+
+    def test_the_line_is_gone_before_the_output(self) -> None:
+        self.program(*UNTIL_SEEN, "printf 'a\\n\\nb\\n\\n'", "echo 'papi: stream 0: line 1: bad field' >&2", "exit 2")
+        status, shown = self.call("s t", KISTALUB_HINTS="0")
+        line, gone, rest = shown.partition(GONE)
+        self.assertEqual((status, gone, rest), (2, GONE, b"a\n\nb\n\npapi: stream 0: line 1: bad field\n"))
+        self.assertEqual(LINE.sub(b"", line), b"")
+        self.assertGreaterEqual(len(LINE.findall(line)), 1)
+
+    def test_hints_come_after_it(self) -> None:
+        self.program(*UNTIL_SEEN, "echo 'papi: bad words' >&2", "exit 2")
+        status, shown = self.call("s")
+        self.assertEqual((status, LINE.sub(b"", shown).startswith(GONE + b"papi: bad words\nhint: ")), (2, True), shown)
+
+    def test_an_output_elsewhere_has_the_programs_bytes_alone(self) -> None:
+        self.program(*UNTIL_SEEN, "printf 'a\\n\\nx'", "exit 3")
+        path = self.folder / "out"
+        with open(path, "wb") as out:
+            child, terminal = self.start("s t", out.fileno())
+            shown = self.shown(terminal)
+        self.assertEqual((child.wait(PATIENCE), path.read_bytes(), LINE.sub(b"", shown)), (3, b"a\n\nx", GONE))
+
+    def test_no_line_where_none_is_wanted(self) -> None:
+        self.program('echo "$@"', "sleep 1", "echo 'papi: bad words' >&2", "exit 2")
+        words = b"papi_run s t\n"
+        self.assertEqual(self.call("--quiet s t"), (2, words + b"papi: bad words\n"))
+        self.assertEqual(self.call("s --quiet t"), (2, words + b"papi: bad words\n"))
+        self.assertEqual(self.call("s t", TERM="dumb", KISTALUB_HINTS="0"), (2, words + b"papi: bad words\n"))
+        self.assertEqual(self.call("s -- --quiet", TERM="dumb", KISTALUB_HINTS="0"), (2, b"papi_run s -- --quiet\npapi: bad words\n"))
+        piped = subprocess.run([self.tool, "s", "t"], capture_output=True, cwd=self.folder, env={**os.environ, "TERM": "xterm", "KISTALUB_HINTS": "0"})
+        self.assertEqual((piped.returncode, piped.stdout, piped.stderr), (2, words, b"papi: bad words\n"))
+
+    def test_short_runs_have_none(self) -> None:
+        self.program("echo out", "exit 1")
+        self.assertEqual(self.call("s t", KISTALUB_HINTS="0"), (1, b"out\n"))
+
+    def test_an_interrupt_ends_all(self) -> None:
+        self.program("sleep 30", "echo out")
+        child, terminal = self.start("s t", None)
+        shown = self.shown(terminal, lambda: os.killpg(child.pid, signal.SIGINT))
+        self.assertNotEqual(child.wait(PATIENCE), 0)
+        self.assertNotIn(b"out", shown)
+        self.assertTrue(shown.endswith(GONE), shown)
+
+
+class PartRead(InFolder):
+    @unittest.skipUnless(Path("/proc/self/fdinfo").exists(), "there is no /proc/self/fdinfo")
+    def test_how_much_was_read(self) -> None:
+        self.write("a", "a" * 1000)
+        self.write("b", "b" * 3000)
+        script = f". {ROOT}/bin/hints/progress.sh; exec 5<a 6<b; dd bs=500 count=2 <&6 >/dev/null 2>&1; part_read $$; exec 5<&- 6<&-; part_read $$"
+        done = subprocess.run(["/bin/sh", "-c", script], capture_output=True, text=True, cwd=self.folder)
+        self.assertEqual((done.stdout, done.stderr), (", 25 % of the streams read\n", ""))
