@@ -1,5 +1,5 @@
-# Completion of the tools for bash: source this file.
-_kistalub_folder=$(CDPATH='' cd -- "$(dirname -- "${BASH_SOURCE[0]}")" && pwd)
+# Completion of the tools for bash: source this file, or a link to it.
+_kistalub_folder=$(dirname -- "$(realpath -- "${BASH_SOURCE[0]}")")
 
 # The words are cut at blanks alone, since names of events have colons in them.
 _kistalub() {

@@ -1,4 +1,5 @@
-# Completion of the tools for zsh: source this file after compinit.
+#compdef papi_avail papi_decode papi_encode papi_event_chooser papi_native_avail papi_profil papi_regions papi_run papi_soak
+# Completion of the tools for zsh: source this file after compinit, or put a link to it into a folder of fpath, as _kistalub.
 _kistalub_folder=${${(%):-%x}:A:h}
 
 _kistalub() {
@@ -11,4 +12,8 @@ _kistalub() {
     fi
 }
 
-compdef _kistalub papi_avail papi_decode papi_encode papi_event_chooser papi_native_avail papi_profil papi_regions papi_run papi_soak
+if [[ ${funcstack[1]-} == _kistalub* ]]; then
+    _kistalub
+else
+    compdef _kistalub papi_avail papi_decode papi_encode papi_event_chooser papi_native_avail papi_profil papi_regions papi_run papi_soak
+fi
