@@ -105,7 +105,7 @@ CALLS: dict[str, Calls] = {
     "multiplex of a set without a component": calls("create", "multiplex 0 1000"),
     "overflow of an event that is not in the set": calls(*READY, f"overflow 0 {B} 1000"),
     "overflow at a threshold of 255": calls(*READY, f"overflow 0 {A} 255"),
-    "overflow with threshold 0 where none is set": calls(*READY, f"overflow 0 {A} 0"),
+    "overflow with threshold 0 if none is set": calls(*READY, f"overflow 0 {A} 0"),
     "read of a stopped set to which an event was added": calls(*STOPPED, f"add 0 {B}", "read 0", shown=first_value_or_stop),
     "create of a 65th set": calls(*["create"] * 65),
 }

@@ -17,7 +17,7 @@ STATUSES = (
     ("5", "A write failed. What was written is a prefix of the output."),
 )
 HINTS = "The script that runs the tool adds lines that begin with hint: to standard error, on what was refused or not found. With 0 it adds none. " \
-    "The word --quiet leaves them out too, and the line that shows on a terminal how far a run is."
+    "The word --quiet leaves them out too, and the line that shows on a terminal how far a run has come."
 
 WIDTH = 78
 

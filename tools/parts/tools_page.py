@@ -15,10 +15,10 @@ Each tool has a script in `bin/`. It prints its usage without words and with `--
 
 The commands on this page are run at the top of the repository. What they print is shown, on standard output and then on standard error.
 
-Lines that begin with `hint: ` are not the program's. The scripts in `bin/` add them to standard error, where the status is 1 or 2, or where nothing is found of what was asked for. They
-say which word, line, field or name is meant, and what is near. They need Python 3.9, and are left out where there is none. `KISTALUB_HINTS=0` leaves them out too.
+Lines that begin with `hint: ` are not the program's. The scripts in `bin/` add them to standard error if the status is 1 or 2, or if nothing is found of what was asked for. They
+say which word, line, field or name is meant, and what is near. They need Python 3.9, and are left out if there is none. `KISTALUB_HINTS=0` leaves them out too.
 
-If standard error is a terminal, the scripts show there how far a run of more than half a second is: the seconds, and how much of the streams was read. The line is gone before the output comes.
+If standard error is a terminal, the scripts show there how far a run of more than half a second has come: the seconds, and how much of the streams was read. The line is gone before the output comes.
 With the word `--quiet` a script adds nothing, neither hints nor this line.
 
 """
@@ -28,13 +28,13 @@ STATUSES = """## Statuses
 |---|---|---|
 | 0 | done | whole |
 | 1 | the tool says no: a name is not known, or a given event is refused | whole |
-| 2 | the words, a file, or a line of a stream are refused | empty, or whole where it is a line of a stream |
-| 3 | an opening or a read failed | empty, or whole where it is a read of a stream |
+| 2 | the words, a file, or a line of a stream are refused | empty, or whole if it is a line of a stream |
+| 3 | an opening or a read failed | empty, or whole if it is a read of a stream |
 | 4 | out of memory | a prefix |
 | 5 | a write failed | a prefix |
 | 127 | a script in `bin/` found neither a built program nor `rt` | empty |
 
-Where several hold after the runs of a script, 5 takes precedence over 3, and 3 over 2. A refused call of a script is a reply like any other
+If several hold after the runs of a script, 5 takes precedence over 3, and 3 over 2. A refused call of a script is a reply like any other
 and leaves the status 0.
 
 """
