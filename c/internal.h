@@ -213,6 +213,10 @@ int kl_rate_runs(void);
 int kl_begin_library(void);
 int kl_high_level_runs(void);
 
+/* places.c: takes a line `# START END FILE` of recorded code, and finds it in this run; the address here of one that was recorded */
+void kl_take_place(const char *line);
+uint64_t kl_native_address(uint64_t recorded);
+
 /* hierarchy.c: fills in the caches that the environment names */
 void kl_take_hierarchy(PAPI_mh_info_t *into);
 

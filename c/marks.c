@@ -11,7 +11,7 @@
 
 #define PAGE 4096
 #define HALF (PAGE / 2 / sizeof(uint32_t))
-#define LONGEST_LINE 64
+#define LONGEST_LINE 4224
 
 _Static_assert(2 * KL_FUNCTION_COUNT <= HALF, "each function has a word in half a page");
 
@@ -45,6 +45,18 @@ static bool read_call(recorded_call *c) {
     return calls && fgets(line, sizeof line, calls) && sscanf(line, "%lu %lu %llu", &c->number, &c->lines, &c->cycles) == 3 && c->number < KL_FUNCTION_COUNT;
 }
 
+/* The lines before those of the calls say where the recorded code was. */
+static void read_places(void) {
+    char line[LONGEST_LINE];
+    int next;
+    while ((next = getc(calls)) == '#') {
+        ungetc(next, calls);
+        if (!fgets(line, sizeof line, calls)) return;
+        kl_take_place(line);
+    }
+    if (next != EOF) ungetc(next, calls);
+}
+
 static void process_ends(void) {
     recorded_call recorded;
     if (getpid() != process || has_told || !read_call(&recorded)) return;
@@ -65,7 +77,10 @@ static void begin(void) {
     if (!list) return;
     calls = fopen(list, "r");
     if (!calls) fprintf(stderr, "papi: can't read KISTALUB_CALLS=%s\n", list);
-    else atexit(process_ends);
+    else {
+        read_places();
+        atexit(process_ends);
+    }
 }
 
 static bool may_start_or_stop(int number) {

@@ -41,7 +41,7 @@ static void call_handler(thread_state *t, const kl_set *s, unsigned long long ad
 void kl_tell(thread_state *t, const kistalub_passing *passings, uint64_t told) {
     for (uint64_t i = 0; i < told && !t->left;) {
         uint32_t set = passings[i].set;
-        unsigned long long address = passings[i].address;
+        unsigned long long address = kl_native_address(passings[i].address);
         long long vector = 0;
         for (; i < told && passings[i].set == set; i++) {
             uint32_t place = passings[i].index;

@@ -68,6 +68,10 @@ bool objects_from_maps(const char *path) {
     return is_whole;
 }
 
+void objects_list(FILE *to) {
+    for (unsigned i = 0; i < count; i++) fprintf(to, "# %" PRIx64 " %" PRIx64 " %s\n", objects[i]->start, objects[i]->end, objects[i]->path);
+}
+
 object *object_at(uint64_t address) {
     if (last && address >= last->start && address < last->end) return last;
     for (unsigned i = 0; i < count; i++)

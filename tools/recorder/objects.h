@@ -4,6 +4,7 @@
 
 #include <stdbool.h>
 #include <stdint.h>
+#include <stdio.h>
 
 #define MOST_OBJECTS 4096
 #define LONGEST_PATH 4096
@@ -25,6 +26,9 @@ void object_unmapped(uint64_t start, uint64_t size);
 
 /* Reads a table of mappings in the form of /proc/PID/maps. */
 bool objects_from_maps(const char *path);
+
+/* Writes a line `# START END FILE` for each. */
+void objects_list(FILE *to);
 
 /* The object at an address, or NULL. */
 object *object_at(uint64_t address);

@@ -30,7 +30,7 @@ static struct {
 } words = {.window = 1u << 16, .report = 2, .folder = "/tmp", .program = ""};
 
 static machine hardware;
-static FILE *report;
+static FILE *report, *list; /* list: of the calls, if it is wanted */
 static int status = WHOLE;
 static bool is_from_met, is_dropped, is_other_thread;
 static uint64_t seen, unknown, last_address, in_window;
@@ -107,6 +107,7 @@ static void see_mark(enum mark mark, uint64_t address) {
     else {
         end_window();
         used_bytes = stream_bytes();
+        if (list && !calls_made()) objects_list(list);
         call_enters(address, stream_lines(), model_cycles());
     }
 }
@@ -215,7 +216,8 @@ static bool read_words(int count, char **texts) {
 /* Opens what is written, and reads where the program is. NULL, or what is wrong. */
 static const char *begin(void) {
     char head[64];
-    FILE *out = words.out ? fopen(words.out, "w") : stdout, *list = words.calls ? fopen(words.calls, "w") : NULL;
+    FILE *out = words.out ? fopen(words.out, "w") : stdout;
+    list = words.calls ? fopen(words.calls, "w") : NULL;
     if (!out || (words.calls && !list)) return "failed a file can't be opened";
     snprintf(head, sizeof head, "# loaded at 0x%" PRIx64 "\n", words.base);
     if (!stream_begins(out, head, words.is_each)) return "failed the stream can't be written";

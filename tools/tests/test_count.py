@@ -139,6 +139,28 @@ class Programs(InFolder):
         self.assertEqual((told, done.returncode), ([2, 16384, 2], 0))
         self.assertTrue(0 < between < 2000, between)
 
+    def test_a_handler_sees_the_programs_own_addresses(self) -> None:
+        """The program is loaded elsewhere than it was when it was recorded."""
+        program = self.compile("""
+            __attribute__((noinline)) static void work(void) { loop(100000); }
+            __attribute__((noinline)) static void after(void) { __asm__ volatile("nop"); }
+            static int inside, outside;
+            static void note(int set, void *address, long long vector, void *context) {
+                (void)set; (void)vector; (void)context;
+                char *at = address, *start = (char *)work;
+                if (at >= start && at < start + 64) inside++; else outside++;
+            }
+            int main(void) {
+                long long count; int set = made("PAPI_TOT_INS"), event;
+                if (PAPI_event_name_to_code("PAPI_TOT_INS", &event) || PAPI_overflow(set, event, 10000, 0, note)) return 7;
+                PAPI_start(set); work(); PAPI_stop(set, &count);
+                after();
+                printf("%d %d\\n", inside, outside);
+                return 0;
+            }
+        """)
+        self.assertEqual(self.count(program).stdout, "20 0\n")
+
     def test_standard_input_is_read_by_both_runs(self) -> None:
         program = self.compile("""
             int main(void) {
