@@ -48,19 +48,22 @@ def read_profile(lines: Iterable[str]) -> Profile:
 
 def _take(profile: Profile, words: list[str], ended: str) -> str:
     """Takes one line. `outside` stands after all ranges, and `total` after it."""
-    match words:
-        case ["range", name, hits] if not ended:
-            profile.functions.append(FunctionHits(name, int(hits)))
-        case ["outside", hits] if not ended:
-            profile.outside = int(hits)
-            return "outside"
-        case ["total", hits] if ended == "outside":
-            profile.total = int(hits)
-            return "total"
-        case [address, hits] if profile.functions and not ended:
-            profile.functions[-1].buckets.append(Bucket(int(address, 16), int(hits)))
-        case _:
-            raise ValueError
+    *kind, last = words or [""]
+    hits = int(last)
+    if kind == ["outside"] and not ended:
+        profile.outside = hits
+        return "outside"
+    if kind == ["total"] and ended == "outside":
+        profile.total = hits
+        return "total"
+    if ended:
+        raise ValueError
+    if len(kind) == 2 and kind[0] == "range":
+        profile.functions.append(FunctionHits(kind[1], hits))
+    elif len(kind) == 1 and profile.functions:
+        profile.functions[-1].buckets.append(Bucket(int(kind[0], 16), hits))
+    else:
+        raise ValueError
     return ended
 
 

@@ -20,8 +20,8 @@ from parts.report.replies import Step, read_replies
 from parts.report.rules import CALLS_HEAD, DOCUMENT, SENTENCES, read_rules
 from parts.report.sets import groups_of
 from parts.report.source_lines import source_lines
-from parts.report.story import Setup, Span, Story, tell_story
-from parts.report.summary import off_by
+from parts.report.story import Reading, Setup, Span, Story, tell_story
+from parts.report.summary import off_by, totals_of
 from parts.report.turns import Clock, Turn, clock_of, turns_of
 from parts.report.unit_counters import read_counters
 from scripts import CALLS, Call, calls_of
@@ -146,6 +146,27 @@ class Probes(unittest.TestCase):
             read_replies([Call(1, 0, "create", ())], [])
 
 
+class Totals(unittest.TestCase):
+    def span(self, thread: int, slice_: int = 0, domain: int = 1, end: int = 9, zeroed: tuple[int, ...] = ()) -> Span:
+        readings = [Reading(0, (0,)), Reading(end, (100 + thread,))]
+        return Span(thread, 0, Setup(("X",), {}, slice_, domain), 0, end, readings, list(zeroed))
+
+    def exact(self, *others: Span, streams: tuple[str, ...] = ("a", "a")) -> int | None:
+        """The exact value beside the estimate of thread 0."""
+        totals = totals_of(Story(spans=[self.span(0, slice_=5), *others]), dict(enumerate(streams)))
+        self.assertEqual((totals[0].value, totals[0].is_estimate), (100, True))
+        return totals[0].exact
+
+    def test_an_exact_value_is_of_the_same_occurrences(self) -> None:
+        self.assertEqual(self.exact(self.span(1)), 101)
+        self.assertIsNone(self.exact())
+        self.assertIsNone(self.exact(self.span(1, slice_=5)))
+        self.assertIsNone(self.exact(self.span(1, domain=3)))
+        self.assertIsNone(self.exact(self.span(1, end=8)))
+        self.assertIsNone(self.exact(self.span(1, zeroed=(2,))))
+        self.assertIsNone(self.exact(self.span(1), streams=("a", "b")))
+
+
 class Turning(InFolder):
     def span(self, start: int, end: int, slice_: int, zeroed: tuple[int, ...] = ()) -> Span:
         return Span(0, 0, Setup(("X", "Y"), {}, slice_), start, end, [], list(zeroed))
@@ -217,7 +238,8 @@ class Asking(InFolder):
     def test_regions_by_the_way_to_them(self) -> None:
         stream = self.write("stream", "0 c0 00 u 1 1\n0 c0 00 u 2 1\n0 c0 00 u 4 1\n0 c0 00 u 8 1\n")
         regions = self.write("regions", "\n".join((
-            "0 begin a", "0 begin x", "0 run 1", "0 read x", "0 end x", "0 run 1", "0 end a", "0 begin b", "0 begin x", "0 run 1", "0 end x", "0 end b", "1 begin a", "1 end a",
+            "0 begin a", "0 begin x", "0 run 1", "0 read x", "0 end x", "0 run 1", "0 end a",
+            "0 begin b", "0 begin x", "0 run 1", "0 end x", "0 end b", "1 begin a", "1 end a",
         )))
         with Tools(Tables(LAB)) as tools:
             roots = read_tree(tools, regions, "INST_RETIRED", [stream])

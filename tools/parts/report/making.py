@@ -3,7 +3,6 @@
 from __future__ import annotations
 
 from dataclasses import dataclass, field
-from typing import Sequence
 
 from scripts import calls_of
 
@@ -17,7 +16,7 @@ from parts.report.probe import probe_of
 from parts.report.profiles import Place, draw_profiles
 from parts.report.region_rows import draw_regions
 from parts.report.region_tree import read_tree
-from parts.report.replies import Note, Step, read_replies
+from parts.report.replies import Step, read_replies
 from parts.report.rules import read_rules
 from parts.report.script_table import draw_script
 from parts.report.sets import Group, Pictures, groups_of
@@ -84,10 +83,9 @@ class Report:
                     draw_timelines(self.story, streams, self.timing_of) if self.story.spans else []),
             Section("curves", "Counts over time", self._read_every(), self._curves()),
             Section("counters", "Events and counters", "A ring is a counter that a native event may have, a disc the one that it has.", self._setups()),
-            Section("conflicts", "Conflicts", "Events fit if each finds a counter of its own. They do not where some of them are together allowed fewer counters than they are: "
-                    "those are marked.", self._conflicts()),
-            Section("profile", "Where thresholds were passed", "", draw_profiles(self.tools, self.asked.place, self.asked.script, self.asked.streams, self.notes,
-                                                                                self._names_of_notes())),
+            Section("conflicts", "Conflicts", "Events fit if each finds a counter of its own. They do not fit if some of them are together allowed fewer "
+                    "counters than they are: those are marked.", self._conflicts()),
+            Section("profile", "Where thresholds were passed", "", self._profiles()),
             Section("regions", "Regions", "What each region counted, by the regions that it stands in. The bar is its share of the first event.", self._regions()),
             Section("script", "Script and replies", "Each call with what it was answered.", draw_script(self.steps, self.story.names, self.rules)),
             Section("rules", "Rules", "A call is refused by the first of these that holds, in this order. ENOEVST is a set that is not there, EISRUN one that runs, "
@@ -163,6 +161,9 @@ class Report:
                 link = element("a", f"Line {line}", href=f"#line-{line}")
                 made.append(_figure(link, told, draw(picture), call.thread, int(call.arguments[0]), f"conflict-{line}"))
         return [element("div", made, class_="pictures")] * bool(made) + _left_out(len(self.story.conflicts), "conflict")
+
+    def _profiles(self) -> list[Markup]:
+        return draw_profiles(self.tools, self.asked.place, self.asked.script, self.asked.streams, self.notes, self._names_of_notes())
 
     def _line_of(self, step: Step) -> int:
         return self._lines[step.call.line - 1] or 0

@@ -74,7 +74,8 @@ def why_not(events: int, counters: Sequence[str]) -> str:
     if not counters:
         return f"{'This event is' if events == 1 else 'These events are'} allowed no counter."
     told = counters[0] if len(counters) == 1 else f"{', '.join(counters[:-1])} and {counters[-1]}"
-    return f"These {counted(events, 'event')} are allowed {counted(len(counters), 'counter')}, {told}, and no others. So {_without(events - len(counters))} no place."
+    allowed = f"{counted(len(counters), 'counter')}, {told}, and no others"
+    return f"These {counted(events, 'event')} are allowed {allowed}. So {_without(events - len(counters))} no place."
 
 
 def _without(events: int) -> str:
@@ -97,7 +98,8 @@ class _Drawing:
         return self.left + self.column * (self.place[counter] + 0.5)
 
     def parts(self) -> list[Markup]:
-        return self._title() + self._bands() + self._heads() + [part for number, row in enumerate(self.picture.rows) for part in self._row(number, row)] + self._brackets()
+        rows = [part for number, row in enumerate(self.picture.rows) for part in self._row(number, row)]
+        return self._title() + self._bands() + self._heads() + rows + self._brackets()
 
     def size(self) -> tuple[float, float]:
         extra = BRACKET if self.picture.is_conflict else 0

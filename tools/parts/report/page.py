@@ -58,7 +58,8 @@ def make_page(title: str, files: Sequence[tuple[str, str]], tiles: Markup, story
     header = element("header", element("p", "Kistalub report", class_="over"), element("h1", title), element("p", listed, class_="files"), tiles)
     bar = element("div", element("nav", links), _filter(story), class_="bar-top")
     body = [
-        element("section", element("h2", section.title), element("p", section.lead, class_="lead") if section.lead else None, section.body, id=section.key, class_="card")
+        element("section", element("h2", section.title), [element("p", section.lead, class_="lead")] * bool(section.lead), section.body,
+                id=section.key, class_="card")
         for section in kept
     ]
     script = element("script", Markup((FOLDER / "page.js").read_text(encoding="utf-8")))

@@ -45,7 +45,7 @@ def draw_profiles(tools: Tools, place: Place, script: str, streams: Sequence[str
         base = read_base(streams[thread]) if place.program is not None and is_loaded_anywhere(place.program) else 0
         map_file = _map_of(tools, place, base)
         if map_file is None:
-            body = _addresses(own)
+            body = [_addresses(own)]
         else:
             words = [f"-M{map_file}", "--thread", str(thread), "--set", str(number), "--index", str(index)]
             profile = read_profile(tools.ask("papi_profil", words, [script, *streams]).lines)

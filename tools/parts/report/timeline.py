@@ -73,8 +73,8 @@ def _bar(span: Span, top: int, scale: Scale, timing: Timing | None) -> list[Mark
     left, right = scale.at(span.start), scale.at(span.end)
     end = "to the end" if span.is_open else f"to {shown(span.end)}"
     told = f"set {span.set} ran from {shown(span.start)} {end}: {', '.join(span.setup.events)}"
-    bar = element("rect", element("title", told), class_=f"bar fill{span.set % TONES}", x=f"{left:.2f}", y=top, width=f"{max(right - left, 2):.2f}", height=BAR, rx=3)
-    made = [bar]
+    made = [element("rect", element("title", told), class_=f"bar fill{span.set % TONES}", x=f"{left:.2f}", y=top, width=f"{max(right - left, 2):.2f}",
+                    height=BAR, rx=3)]
     if timing is not None:
         made += _turns(span, top, scale, timing)
     for position in span.zeroed:
