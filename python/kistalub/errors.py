@@ -15,6 +15,10 @@ class PapiError(Exception):
         self.message = message
         super().__init__(f"{call}: {self.name}: {message}")
 
+    def __reduce__(self) -> tuple[type[PapiError], tuple[str, str, int]]:
+        """So that another process can be given it."""
+        return type(self), (self.call, self.message, self.code)
+
     @property
     def name(self) -> str:
         """The name of the code, as `PAPI_ENOEVNT`."""

@@ -2,6 +2,7 @@
 
 from __future__ import annotations
 
+import pickle
 import threading
 
 from shared_library import EXAMPLES, UNIT, OverLibrary
@@ -107,6 +108,8 @@ class Refusals(OverLibrary):
         error = raised.exception
         self.assertEqual((error.code, error.name, error.call), (-7, "PAPI_ENOEVNT", "PAPI_add_named_event"))
         self.assertEqual(str(error), "PAPI_add_named_event: PAPI_ENOEVNT: Event does not exist")
+        copied = pickle.loads(pickle.dumps(error))
+        self.assertEqual((type(copied), str(copied), copied.code), (type(error), str(error), error.code))
 
     def test_a_refused_set_is_destroyed(self) -> None:
         with Library(UNIT):
