@@ -302,6 +302,13 @@ class Pages(InFolder):
         self.assertNotIn("img", page.elements)
         self.assertIn(hostile, page.rows[2])
 
+    def test_a_line_says_what_is_left_out(self) -> None:
+        runs = "0 start 0\n0 run 1\n0 stop 0\n" * 1400
+        page = self.page("-U", LAB, self.write("script", f"0 create\n0 add 0 INST_RETIRED\n0 add 0 CYCLES\n{runs}"))
+        self.assertEqual((len(page.rows), max(page.rows)), (4000, 4000))
+        for section, line in (("script", "Left out: 203 calls more."), ("totals", "Left out: 800 values more."), ("curves", "Left out: 1,280 runs more.")):
+            self.assertTrue(page.text[section].endswith(line), section)
+
     def test_the_same_page_each_time(self) -> None:
         words = ("-U", LAB, "--every", "1", "examples/turns.script", "examples/turns.stream")
         self.assertEqual(run_tool("report", *words, folder=ROOT).stdout, run_tool("report", *words, folder=ROOT).stdout)

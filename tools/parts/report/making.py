@@ -27,6 +27,7 @@ from parts.report.turns import Clock, clock_of, turns_of
 from parts.report.unit_counters import read_counters
 
 MOST_PICTURES = 60
+MOST_CHARTS = 240
 
 
 @dataclass(frozen=True)
@@ -117,9 +118,14 @@ class Report:
         return f"{how} A set counts from its start, or from where it was zeroed."
 
     def _curves(self) -> list[Markup]:
-        made = []
-        for span in self.story.spans:
+        made: list[Markup] = []
+        drawn = 0
+        spans = [span for span in self.story.spans if span.last is not None]
+        for place, span in enumerate(spans):
+            if drawn >= MOST_CHARTS:
+                return made + _left_out(len(spans) - place, "run", 0)
             if charts := draw_curves(span):
+                drawn += len(charts)
                 until = "the end" if span.is_open else f"{span.end:,}"
                 head = element("h3", f"Set {span.set} of thread {span.thread}", element("small", f"from occurrence {span.start:,} to {until}"))
                 made.append(element("section", head, element("div", charts, class_="curves"), data_thread=span.thread, data_set=f"{span.thread}.{span.set}"))
@@ -198,9 +204,8 @@ def _figure(head: Markup | str, told: str, picture: Markup, thread: int, number:
     return element("figure", caption, element("div", picture, class_="wide"), class_="picture", data_thread=thread, data_set=f"{thread}.{number}", id=key)
 
 
-def _left_out(number: int, word: str) -> list[Markup]:
-    left_out = number - MOST_PICTURES
-    return [element("p", f"{counted(left_out, 'more ' + word)} left out.", class_="quiet")] if left_out > 0 else []
+def _left_out(number: int, word: str, most: int = MOST_PICTURES) -> list[Markup]:
+    return [element("p", f"Left out: {counted(number - most, word)} more.", class_="quiet")] if number > most else []
 
 
 def make_report(asked: Asked) -> str:

@@ -19,7 +19,7 @@ def draw_script(steps: Sequence[Step], names: dict[int, tuple[str, ...]], rules:
     rows = [_row(step, names.get(step.call.line, ()), step.call.name in rules) for step in steps[:MOST_ROWS]]
     table = element("div", element("table", head, element("tbody", rows), class_="script"), class_="wide")
     left_out = len(steps) - MOST_ROWS
-    return [table] + ([element("p", f"{counted(left_out, 'more call')} left out.", class_="quiet")] if left_out > 0 else [])
+    return [table] + [element("p", f"Left out: {counted(left_out, 'call')} more.", class_="quiet")] * (left_out > 0)
 
 
 def _row(step: Step, names: tuple[str, ...], has_rule: bool) -> Markup:

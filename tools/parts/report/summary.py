@@ -5,12 +5,14 @@ from __future__ import annotations
 from dataclasses import dataclass
 from typing import Sequence
 
+from parts.command import counted
 from parts.report.markup import Markup, element
 from parts.report.numbers import shown
 from parts.report.replies import Step
 from parts.report.story import Span, Story
 
 TONES = 8
+MOST_ROWS = 2000
 
 
 @dataclass(frozen=True)
@@ -72,8 +74,10 @@ def draw_totals(totals: Sequence[Total]) -> list[Markup]:
     compared = any(total.exact is not None for total in totals)
     heads = ["thread", "set", "event", "occurrences", "value"] + (["exact", "estimate off by"] if compared else [])
     head = element("thead", element("tr", [element("th", text, scope="col", class_="number" if place > 2 else None) for place, text in enumerate(heads)]))
-    rows = [_row(total, compared) for total in totals]
-    return [element("div", element("table", head, element("tbody", rows), class_="totals"), class_="wide")]
+    rows = [_row(total, compared) for total in totals[:MOST_ROWS]]
+    table = element("div", element("table", head, element("tbody", rows), class_="totals"), class_="wide")
+    left_out = len(totals) - MOST_ROWS
+    return [table] + [element("p", f"Left out: {counted(left_out, 'value')} more.", class_="quiet")] * (left_out > 0)
 
 
 def _row(total: Total, compared: bool) -> Markup:
