@@ -212,6 +212,38 @@ class Threads(OverLibrary):
             work(0)
         self.assertEqual(counts, {0: {"INST_RETIRED": 1}, 1: {"INST_RETIRED": 20}, 2: {"INST_RETIRED": 30}})
 
+    def test_handlers_of_many_threads(self) -> None:
+        """Each thread is told of its own passings alone, and what a handler raises stays in its thread."""
+        told: dict[int, list[int]] = {number: [] for number in range(1, 9)}
+        raised: list[int] = []
+        for number in told:
+            self.stream(*[f"0 c0 00 u 255 {number:x}{place:02x}" for place in range(200)], name=f"{number}.stream")
+
+        def work(number: int) -> None:
+            def handler(name: str, address: int) -> None:
+                told[number].append(address)
+                if number == 3:
+                    raise KeyError(number)
+
+            kistalub.thread(number)
+            with EventSet("INST_RETIRED") as events:
+                events.on_overflow("INST_RETIRED", 256, handler)
+                events.start()
+                try:
+                    kistalub.go()
+                except KeyError as error:
+                    raised.append(error.args[0])
+
+        with Library(UNIT, stream=self.folder / "%t.stream"):
+            threads = [threading.Thread(target=work, args=(number,)) for number in told]
+            for thread in threads:
+                thread.start()
+            for thread in threads:
+                thread.join()
+        passings = [place for place in range(200) if 255 * (place + 1) // 256 > 255 * place // 256]
+        wanted = {number: [number * 256 + place for place in passings] for number in told}
+        self.assertEqual((told, raised), ({**wanted, 3: wanted[3][:1]}, [3]))
+
     def test_a_set_of_another_thread(self) -> None:
         refused = []
 
