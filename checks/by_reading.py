@@ -11,7 +11,7 @@ SCRIPT = "readings"
 
 
 def by_reading(program: Program, words: list[str], folder: Path) -> Run | None:
-    """The run that is wanted of these words, or nothing where it is not worked out: where words are changed, or no thread has a line."""
+    """The run that is wanted of these words, or nothing if it is not worked out: if words are changed, or no thread has a line."""
     if words.count("--events") != 1 or words.count("script") != 1 or "--" in words or words[-1] == "--events":
         return None
     place = words.index("--events")

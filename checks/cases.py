@@ -34,7 +34,7 @@ def read_tables(document: Path) -> list[dict[str, list[str]]]:
 
 
 def _rows(document: Path, sections: dict[str, str], section: str) -> dict[str, list[str]]:
-    """The rows of all tables of a section. Where there is one cell after the first, it is that of both sides."""
+    """The rows of all tables of a section. If there is one cell after the first, it is that of both sides."""
     if section not in sections:
         raise Fault(f"{document}: there is no section {section}")
     lines = sections[section].splitlines()
@@ -61,7 +61,7 @@ def value_or_stop(replies: Replies) -> str:
 
 
 def first_value_or_stop(replies: Replies) -> str:
-    """The same of the first event, where a call stood between the two."""
+    """The same of the first event, if a call stood between the two."""
     first = " ".join(replies[-1].split()[:2])
     return value_or_stop([replies[-3], first])
 

@@ -91,7 +91,7 @@ def anchors_of(path: Path) -> frozenset[str]:
 def lines_with_names(path: Path) -> list[tuple[int, list[Path], list[str]]]:
     """The rows of tables that say where a thing stands: the files, and the names in the last cell that must occur there.
 
-    Where the last column is headed `Functions` the row has a link to its file, and where it is headed `Where` its first cell has its crates.
+    If the last column is headed `Functions` the row has a link to its file, and if it is headed `Where` its first cell has its crates.
     """
     rows = []
     head: list[str] = []

@@ -3,7 +3,7 @@
 //   FAILING_KIND   alloc, alloc_from, io, io_from, short, short_from, empty, thread
 //   FAILING_AT     the number of the first call that fails, from 1
 //   FAILING_ERRNO  the error of a call of a file (EIO)
-//   FAILING_LOG    a file that gets the number of calls and, where some failed, the first of these: `alloc`, `thread`, `open NAME`,
+//   FAILING_LOG    a file that gets the number of calls and, if some failed, the first of these: `alloc`, `thread`, `open NAME`,
 //                  `read NAME`, or `write` and the descriptor
 // alloc: the call at that number gives no memory. io: that opening, read or write fails. short: that read or write moves one byte.
 // empty: that write takes nothing. thread: that thread is not started. `from`: that call and all later ones.

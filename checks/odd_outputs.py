@@ -79,7 +79,7 @@ OUTPUT_EXAMPLES = [*EXAMPLE_OF.values(), "overflow", "threads", "event_chooser_r
 
 
 def wanted_of(example: Example, output: str, takes: int) -> Run:
-    """A run whose output `out` or `err` takes so many bytes. A failed write ends the writing, and `out` is written first."""
+    """A run whose output `out` or `err` takes a limited number of bytes. A failed write ends the writing, and `out` is written first."""
     wanted = example.wanted
     if output == "out" and len(wanted.out) > takes:
         return Run(WRITE_FAULT, wanted.out[:takes], b"")
@@ -155,7 +155,7 @@ def run_long(program: Program, folder: Path, **how: object) -> Run:
 
 
 def read_some(descriptor: int, pieces: int, size: int) -> bytes:
-    """Reads so many pieces of a pipe, and closes it."""
+    """Reads this many pieces of a pipe, and closes it."""
     taken = b""
     for _ in range(pieces):
         piece = os.read(descriptor, size)

@@ -120,7 +120,7 @@ class Tests:
 
 
 def try_tests(tests: Tests, names: list[str], environment: dict[str, str], round_of: int) -> list[Result]:
-    """Builds and runs these tests, in their order. A round of the stream has so many occurrences."""
+    """Builds and runs these tests, in their order. `round_of` is how many occurrences a round of the stream has."""
 
     def one(name: str) -> Result:
         why = tests.build(name)

@@ -35,7 +35,7 @@ def kinds(unit: Path) -> list[tuple[int, int, int]]:
 
 
 def lines(unit: Path, count: int) -> Iterator[str]:
-    """So many lines of a stream, over and over again what can happen, each time between a cycle and an instruction."""
+    """`count` lines of a stream: over and over again what can happen, each time between a cycle and an instruction."""
     around = [(0, CYCLES, 0), (0, INSTRUCTIONS, 0)]
     happening = [kind for other in kinds(unit) for kind in (*around, other)]
     for place in range(count):
@@ -47,7 +47,7 @@ def lines(unit: Path, count: int) -> Iterator[str]:
 
 
 def write(unit: Path, stream: Path, count: int) -> None:
-    """Writes a stream of so many lines."""
+    """Writes a stream of `count` lines."""
     with stream.open("w") as file:
         file.writelines(lines(unit, count))
 

@@ -126,7 +126,7 @@ class Tally:
         self.failed = 0
 
     def judge(self, name: str, why: str) -> bool:
-        """Counts a run. `why` is empty where it passed."""
+        """Counts a run. `why` is empty if it passed."""
         self.passed += not why
         self.failed += bool(why)
         if why:
@@ -186,7 +186,7 @@ STREAM_LINE = rf"papi: stream ([0-9]|[1-5][0-9]|6[0-3]): (?:line [1-9][0-9]*: {_
 
 
 def _ending(err: bytes, words: list[Word]) -> int | None:
-    """The status of the line that ended a call, or None where this is not such a line."""
+    """The status of the line that ended a call, or None if this is not such a line."""
     for pattern, status in ENDINGS:
         match = re.fullmatch(pattern.encode(), err, re.DOTALL)
         if match:
@@ -197,7 +197,7 @@ def _ending(err: bytes, words: list[Word]) -> int | None:
 
 
 def _stream_status(err: bytes) -> int | None:
-    """The status of the lines after the runs, or none where these are other lines, or not in the order of the threads."""
+    """The status of the lines after the runs, or none if these are other lines, or not in the order of the threads."""
     if not re.fullmatch(rf"(?:{STREAM_LINE})+".encode(), err):
         return None
     lines = re.findall(STREAM_LINE.encode(), err)

@@ -33,7 +33,7 @@ def preset_calls(symbol: str) -> list[str]:
 
 
 def preset_value(row: str, replies: list[str]) -> str:
-    """The value where the row is about a value, and else whether the preset counts."""
+    """The value if the row is about a value, and else whether the preset counts."""
     if len(replies) < 5 or not replies[1].startswith("PAPI_OK"):
         return "not available"
     return replies[4].removeprefix("PAPI_OK ") if row.endswith(" formula") else "counts"
@@ -69,7 +69,7 @@ class Papi7Side:
         return "the program is ended" if replies is None else preset_value(row, replies)
 
     def _replies(self, script: list[str], environment: dict[str, str]) -> list[str] | None:
-        """One reply for each line, or nothing where the process was ended."""
+        """One reply for each line, or nothing if the process was ended."""
         words = [sys.executable, "-B", str(PAPI7)]
         text = "\n".join(script) + "\n"
         done = subprocess.run(words, input=text, capture_output=True, text=True, env={**os.environ, **environment})

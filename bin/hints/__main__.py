@@ -1,7 +1,7 @@
 """Hints on what a tool answered: hints NAME STATUS TOOL WORD.., with what the program wrote on standard error as standard input.
 
 Prints lines `hint: ..` for a person who wonders what to do. It reads the files that the words name, as far as they are regular files, and never
-runs the program. The program is proved and these hints are not: where they are wrong its own lines hold.
+runs the program. The program is proved and these hints are not: if they are wrong its own lines hold.
 """
 
 from __future__ import annotations

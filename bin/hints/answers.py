@@ -83,7 +83,7 @@ def _of_profil(read: Words, unit: Unit, presets: Presets | None) -> list[str]:
 
 
 def why_no_total(read: Words) -> str:
-    """Why the total of a profile is 0, where that can be told without a run."""
+    """Why the total of a profile is 0, if that can be told without a run."""
     thread, number, index = (int(read.options.get(option, "0")) for option in ("--thread", "--set", "--index"))
     streams = len(read.others) - 1
     calls = [call for call in calls_of(read_lines(read.others[0])) if call.thread == thread]

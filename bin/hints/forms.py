@@ -44,7 +44,7 @@ class Form:
 
     @classmethod
     def of(cls, tool: str) -> Form | None:
-        """The form of a tool, or none where there is no such tool."""
+        """The form of a tool, or none if there is no such tool."""
         path = USAGE / tool
         if not re.fullmatch(r"papi_\w+", tool) or not path.is_file():
             return None

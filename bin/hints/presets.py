@@ -60,7 +60,7 @@ def read_presets(name: str, cpu: str) -> Presets:
 
 
 def entry_of(fields: list[str]) -> Entry:
-    """The fields of a row after its kind: the name, the type, a formula where the type has one, and the native events."""
+    """The fields of a row after its kind: the name, the type, a formula if the type has one, and the native events."""
     kind = fields[1] if len(fields) > 1 else ""
     rest = fields[2:]
     formula = rest.pop(0) if kind in FORMULAS and rest else ""
@@ -79,7 +79,7 @@ def cpu_fault(presets: Presets) -> str:
 
 
 def why_unavailable(presets: Presets, unit: Unit, name: str) -> str:
-    """Why a preset or user event of the file is not available, or nothing where it is."""
+    """Why a preset or user event of the file is not available, or nothing if it is."""
     entry = presets.entries.get(name)
     if entry is None:
         return f"the preset file has no row of {name} for the processor {presets.cpu}"
@@ -99,7 +99,7 @@ def why_unavailable(presets: Presets, unit: Unit, name: str) -> str:
 
 
 def name_fault(presets: Presets | None, unit: Unit, name: str) -> str:
-    """Why a text of a script or a word names no event that can be counted, or nothing where it names one."""
+    """Why a text of a script or a word names no event that can be counted, or nothing if it names one."""
     if presets is not None and name in presets.entries:
         return why_unavailable(presets, unit, name)
     if not name.startswith("PAPI_"):

@@ -40,7 +40,7 @@ TOKENS_TAKE = {"+": 2, "-": 2, "*": 2, "/": 2}
 
 
 def form_fault(row: Row, forms: Mapping[str, tuple[tuple[str, str, str], ...]]) -> str:
-    """Which field of a row is out of its form, or nothing where all are in it."""
+    """Which field of a row is out of its form, or nothing if all are in it."""
     kind, *fields = row.fields()
     form = forms.get(kind)
     if form is None:

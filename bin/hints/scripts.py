@@ -53,7 +53,7 @@ def calls_of(lines: list[str]) -> list[Call]:
 
 
 def line_fault(text: str, cause: str, calls: Mapping[str, tuple[str, ...]]) -> str:
-    """What is wrong with a line whose cause the program says, or nothing where the cause says it all."""
+    """What is wrong with a line whose cause the program says, or nothing if the cause says it all."""
     words = words_of(text)
     if not words:
         return "the line has spaces alone; an empty line has none"
@@ -95,7 +95,7 @@ def _number_fault(kind: str, text: str) -> str:
 
 
 def region_fault(lines: list[str], last: int) -> str:
-    """Which region is the innermost open one where a line reads or ends another, or at the end of the file."""
+    """Which region is the innermost open one if a line reads or ends another, or at the end of the file."""
     is_end = last > len(lines) or not is_call(lines[last - 1])
     thread = -1 if is_end else calls_of(lines[last - 1 : last])[0].thread
     open_regions: dict[int, list[str]] = {}

@@ -21,7 +21,7 @@ MOST_BYTES = 128
 
 
 def stream_fault(text: str, has_stamps: bool, cause: str) -> str:
-    """What is wrong with a line whose cause the program says, or nothing where the cause says it all."""
+    """What is wrong with a line whose cause the program says, or nothing if the cause says it all."""
     form = (*FIELDS, STAMP) if has_stamps else FIELDS
     fields = text.split(" ")
     if cause == "line too long":

@@ -12,12 +12,12 @@ MOST_LISTED = 8
 
 
 def shown(text: str) -> str:
-    """A word or a field in quotes, or its beginning where it is long."""
+    """A word or a field in quotes, or its beginning if it is long."""
     return f'"{cut(text)}"'
 
 
 def cut(text: str) -> str:
-    """A text, or its beginning where it is long."""
+    """A text, or its beginning if it is long."""
     return text if len(text) <= LONGEST else text[:LONGEST] + ".."
 
 
@@ -32,7 +32,7 @@ def _escaped(letter: str) -> str:
 
 
 def near(text: str, names: Iterable[str]) -> str:
-    """` (near: A, B)`, or all that there are where nothing is near, or how many."""
+    """` (near: A, B)`, or all that there are if nothing is near, or how many."""
     by_case: dict[str, str] = {}
     for name in names:
         by_case.setdefault(name.upper(), name)
@@ -48,7 +48,7 @@ def _nearest(text: str, names: Iterable[str]) -> list[str]:
 
 
 def listed(names: Iterable[str]) -> str:
-    """` (there are: A, B)`, or how many there are where they are many."""
+    """` (there are: A, B)`, or how many there are if they are many."""
     every = list(names)
     if len(every) > MOST_LISTED:
         return f" (none of the {len(every)} that there are is near)"

@@ -75,7 +75,7 @@ def parts_of(text: str) -> tuple[str | None, str | None, str, list[str]]:
 
 
 def fault_of(unit: Unit, text: str) -> str:
-    """Why a text names no native event, or nothing where it names one."""
+    """Why a text names no native event, or nothing if it names one."""
     event = unit.find(text)
     if event is None:
         return _unknown(unit, text)

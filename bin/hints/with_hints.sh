@@ -1,8 +1,8 @@
 # Read by the scripts of the tools, which define run_program: it runs the program with a tool and its words, in place of the shell.
 #
 # with_hints HINTS NAME TOOL WORD.. runs the tool, and ends with its status. What the program writes stays as it is. After it come lines `hint: ..` on standard
-# error, where the program says no or refuses something, or a list is empty. HINTS is the folder of this file, and NAME what the tool is called by.
-# Without hints the tool runs as it is: with KISTALUB_HINTS=0, without Python, and where standard output or error is closed.
+# error, if the program says no or refuses something, or a list is empty. HINTS is the folder of this file, and NAME what the tool is called by.
+# Without hints the tool runs as it is: with KISTALUB_HINTS=0, without Python, and if standard output or error is closed.
 # If standard error is a terminal, a long run has a line there that says how far it is (progress.sh). With the word --quiet nothing is added, neither hints nor that line.
 
 with_hints() {

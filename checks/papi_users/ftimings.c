@@ -1,4 +1,4 @@
-/* The calls of a library of timers: each event that it knows is added where the processor has it, and all are read at each timer. */
+/* The calls of a library of timers: each event that it knows is added if the processor has it, and all are read at each timer. */
 #include <papi.h>
 #include <stdio.h>
 

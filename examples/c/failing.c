@@ -17,7 +17,7 @@ static size_t file(const char *path, unsigned char *into) {
     return n;
 }
 
-/* Makes the calls, and says how many were refused memory. Where the first is refused there is no library. */
+/* Makes the calls, and says how many were refused memory. If the first is refused there is no library. */
 static int live_once(void) {
     kistalub h = KISTALUB_SHUT;
     uint32_t set = 7, code = 0, consumed = 0, count = 0;

@@ -7,7 +7,7 @@
 #include <stdlib.h>
 #include <string.h>
 
-/* Makes a call, and once more where an allocation was refused in it. */
+/* Makes a call, and once more if an allocation was refused in it. */
 #define MADE(call, wanted) do { \
     long before_ = refusals, answer_ = (call); \
     if (refusals != before_) { WANT(answer_, PAPI_ENOMEM); answer_ = (call); } \
@@ -23,7 +23,7 @@ static void handler(int set, void *address, long long vector, void *context) {
 
 static unsigned long own_id(void) { return (unsigned long)pthread_self(); }
 
-/* So many occurrences happen, those of a call that was refused memory among them. */
+/* A number of occurrences happen, those of a call that was refused memory among them. */
 static void go(uint32_t n) {
     uint32_t went;
     for (; n > 0; n -= went) {

@@ -1,4 +1,4 @@
-/* Refuses one allocation of a program, after so many as `left` says, and counts those that are live and those that were refused.
+/* Refuses one allocation of a program, after as many as `left` says, and counts those that are live and those that were refused.
  * For programs linked with --wrap=malloc, --wrap=calloc, --wrap=realloc and --wrap=free. */
 #ifndef REFUSING_H
 #define REFUSING_H

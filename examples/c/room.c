@@ -1,4 +1,4 @@
-/* A run into an array of fixed room: it stops where a passing more might find no place, and a further run goes on. */
+/* A run into an array of fixed room: it stops if a passing more might find no place, and a further run goes on. */
 #include "kistalub.h"
 #include "wanted.h"
 #include <stdlib.h>

@@ -40,7 +40,7 @@ def end_with(tool: str, work: Callable[[], None]) -> None:
 
 
 class Progress:
-    """One line on standard error that is written over again and again, where that is a terminal."""
+    """One line on standard error that is written again and again, if that is a terminal."""
 
     def __init__(self, label: str, total: int = 0):
         self.label = label

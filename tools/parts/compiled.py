@@ -16,7 +16,7 @@ FLAGS = ["-std=c11", "-O2"]
 
 
 def cache_folder() -> Path:
-    """Where compiled programs and tables of instructions are kept. It is made where it is not there."""
+    """Where compiled programs and tables of instructions are kept. It is made if it is not there."""
     home = os.environ.get("XDG_CACHE_HOME") or os.path.join(os.path.expanduser("~"), ".cache")
     folder = Path(home) / "kistalub"
     try:
@@ -27,7 +27,7 @@ def cache_folder() -> Path:
 
 
 def recorder() -> Path:
-    """The recorder, compiled where it is not there yet."""
+    """The recorder, compiled if it is not there yet."""
     sources = sorted(SOURCES.glob("*.[ch]"))
     checksum = hashlib.sha256(b"\0".join(source.read_bytes() for source in sources)).hexdigest()
     program = cache_folder() / f"recorder-{checksum[:32]}"

@@ -42,7 +42,7 @@ def nearest(cited: dict[str, list[str]]) -> dict[str, list[str]]:
 
 
 def levels(cited: dict[str, list[str]]) -> dict[str, int]:
-    """The level of each crate: 0 where it cites none, else one above the highest that it cites."""
+    """The level of each crate: 0 if it cites none, else one above the highest that it cites."""
     level: dict[str, int] = {}
 
     def of(name: str) -> int:

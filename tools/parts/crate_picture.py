@@ -64,7 +64,7 @@ def draw_crates(listed: dict[str, list[str]]) -> str:
         f'<rect class="page" width="{width}" height="{height}" rx="6"/>',
         f'<text class="title" x="{MARGIN}" y="{MARGIN + 12}">The crates, each above all that it stands on</text>',
         f'<text class="quiet" x="{MARGIN}" y="{MARGIN + 32}">A line goes down to a crate that is cited. '
-        "It is left out where another line leads there too.</text>",
+        "It is left out if another line leads there too.</text>",
         f'<text class="quiet" x="{MARGIN}" y="{MARGIN + 50}">{"Not drawn are the tests: " + ", ".join(tests) + "." if tests else ""}</text>',
     ]
     lines += _legend(cited, layout.width)

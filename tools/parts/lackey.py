@@ -19,7 +19,7 @@ PADDING = "KISTALUB_PADDING"
 NO_LIBRARIES = "/nowhere"  # Debian's script of valgrind sets this variable, and so it is always there
 LONGEST_WAIT = 60.0  # seconds until the program is loaded
 WORDS = ["--tool=lackey", "--basic-counts=no", "--trace-mem=yes", "--trace-syscalls=yes", "--trace-sched=yes", "--child-silent-after-fork=yes"]
-# Where blocks are chased valgrind may run a block before it is known to be reached, and then its instructions are traced without being the program's.
+# If blocks are chased valgrind may run a block before it is known to be reached, and then its instructions are traced without being the program's.
 UNCHASED = ("--vex-guest-chase=no", "--vex-guest-chase-thresh=0")
 
 
@@ -62,7 +62,7 @@ class TracedRun:
         return Path(f"/proc/{self._process.pid}/maps")
 
     def base(self) -> int:
-        """Where the program was loaded, or 0 where its symbols have whole addresses. Asked before its trace is read, since it may end after that."""
+        """Where the program was loaded, or 0 if its symbols have whole addresses. Asked before its trace is read, since it may end after that."""
         anywhere = is_loaded_anywhere(self.path)
         end = time.monotonic() + LONGEST_WAIT
         while self._process.poll() is None and time.monotonic() < end:

@@ -126,7 +126,7 @@ class Libpfm4:
             number = self._library.pfm_get_event_next(number)
 
     def encode(self, name: str) -> tuple[int, ...]:
-        """The codes of a name, for user and kernel where it asks for neither."""
+        """The codes of a name, for user and kernel if it asks for neither."""
         codes = (c_uint64 * MOST_CODES)()
         encoding = _Encoding(codes=codes, size=sizeof(_Encoding), count=MOST_CODES)
         result = self._library.pfm_get_os_event_encoding(name.encode(), USER_AND_KERNEL, OS_NONE, byref(encoding))

@@ -30,7 +30,7 @@ class Wanted:
     program: str
     arguments: list[str]
     machine: Machine
-    symbol: str | None = None  # begin where this function is entered first
+    symbol: str | None = None  # begin when this function is first entered
     only_calls: bool = False  # between calls of PAPI while a set counts
     calls: str | None = None  # the file for the list of calls
     is_each: bool = False
@@ -155,7 +155,7 @@ def _take(recorded: Recorded, progress: Progress, line: str) -> None:
 
 
 def where(wanted: Wanted, address: int) -> str:
-    """An address, and the function it is in where it is one of a program that has whole addresses."""
+    """An address, and the function it is in if it is one of a program that has whole addresses."""
     path = shutil.which(wanted.program) or wanted.program
     for function in read_functions(str(Path(path).resolve())):
         if function.address <= address < function.address + function.size:

@@ -45,7 +45,7 @@ def add_words(parser: argparse.ArgumentParser) -> None:
                          help="cycles of an access that the second level, the third or the memory serves, of a page that is missed, and of a "
                          "mispredicted branch, beside the one of each instruction (8,38,200,20,16)")
     lines = parser.add_argument_group("the stream")
-    lines.add_argument("--from", metavar="SYMBOL", dest="symbol", help="begin where this function is entered first")
+    lines.add_argument("--from", metavar="SYMBOL", dest="symbol", help="begin when this function is first entered")
     lines.add_argument("--each", action="store_true", help="a line for each instruction, load and so on, in their order; without it, those at one "
                        "place are gathered to lines of up to 255")
     lines.add_argument("--window", metavar="N", type=word(_window), default=65_536, help="gather among N instructions (65536): a larger one gives a "

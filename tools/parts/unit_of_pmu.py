@@ -1,6 +1,6 @@
 """A unit file's rows out of libpfm4's table of a PMU, and what cannot be said in them.
 
-Every name is encoded by libpfm4, and what its code is made of decides. So where both accept a name they give it the
+Every name is encoded by libpfm4, and what its code is made of decides. So if both accept a name they give it the
 same code. The unit also accepts some modifiers that libpfm4 refuses: it has all of them for all events.
 """
 
@@ -76,7 +76,7 @@ class Converter:
     """Makes one unit, and keeps the account of what it left out."""
 
     def __init__(self, library: Libpfm4, pmu: Pmu, table: CounterTable | None = None, width: int = 48, most: int | None = None):
-        """`most` is how many programmable counters are taken, where it is given."""
+        """`most` is how many programmable counters are taken, if it is given."""
         self.library = library
         self.pmu = pmu
         self.table = table
@@ -130,7 +130,7 @@ class Converter:
         return unit_file.Event(event.name, coded[0].select, counters, event.description, umasks)
 
     def _event_without_umasks(self, event: Event) -> unit_file.Event:
-        """Where the code has umask bits all the same, they become the default umask `0x..`, which libpfm4 reads as well."""
+        """If the code has umask bits all the same, they become the default umask `0x..`, which libpfm4 reads as well."""
         select, bits = self._code(event.name)
         umasks: tuple[unit_file.Umask, ...] = ()
         if bits:
@@ -177,7 +177,7 @@ class Converter:
         return coded
 
     def _default(self, event: Event, coded: list[CodedUmask]) -> CodedUmask | None:
-        """The umask that the bare name stands for, where it is one of these."""
+        """The umask that the bare name stands for, if it is one of these."""
         try:
             code = self._code(event.name)
         except LeftOut:
@@ -229,7 +229,7 @@ class Converter:
         """The names of an event's counters, and those of its codes that may stand on all of them.
 
         An event has one list of counters: that of its default, or else the one that most of its codes may stand on. A
-        code of which nothing is known goes with the others. A fixed counter is taken where all codes may stand on it.
+        code of which nothing is known goes with the others. A fixed counter is taken if all codes may stand on it.
         """
         known = {code: self._known(code) for code in codes}
         if all(places == NOWHERE for places in known.values()) or (default and known[default] == NOWHERE):

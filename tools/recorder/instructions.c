@@ -38,7 +38,7 @@ static bool is_fused(const char *name, size_t length) {
     return false;
 }
 
-/* Whether the name, without v and its ending, is arithmetic: 0, 1, or 2 where it counts twice. */
+/* Whether the name, without v and its ending, is arithmetic: 0, 1, or 2 if it counts twice. */
 static int times(const char *name, size_t length) {
     if (is_fused(name, length)) return 2;
     for (size_t i = 0; i < sizeof arithmetic / sizeof *arithmetic; i++)

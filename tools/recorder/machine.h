@@ -23,7 +23,7 @@ typedef struct {
     uint64_t history, last;
 } predictor;
 
-/* Makes an empty cache of so many lines. False where the shape is none (not powers of two, or over a limit), or memory is out. */
+/* Makes an empty cache of this many lines. False if the shape is not a cache's (not powers of two, or over a limit), or if memory is out. */
 bool cache_begins(cache *c, uint64_t lines, uint64_t ways, uint64_t bytes_of_line);
 
 /* Uses the lines of `size` bytes from an address on, and says whether one of them was not there. */

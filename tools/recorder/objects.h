@@ -20,7 +20,7 @@ typedef struct {
 /* Where the tables of classes are kept, and what is told of a file that is read by objdump. */
 void objects_begin(const char *cache_folder, void (*tell_reading)(const char *path));
 
-/* Notes a mapping. Earlier mappings in its place go. False where memory is out. */
+/* Notes a mapping. Earlier mappings in its place go. False if memory is out. */
 bool object_mapped(uint64_t start, uint64_t size, uint64_t offset, const char *path);
 void object_unmapped(uint64_t start, uint64_t size);
 

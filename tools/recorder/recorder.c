@@ -98,7 +98,7 @@ static void see_instruction(uint64_t address, uint64_t size) {
     if (++in_window >= words.window) end_window();
 }
 
-/* A call enters or leaves. The library's own code is known by its marks, where it is a file of its own. */
+/* A call enters or leaves. The library's own code is known by its marks, if it is a file of its own. */
 static void see_mark(enum mark mark, uint64_t address) {
     object *o = object_at(last_address);
     if (o && !o->is_library && strcmp(o->path, words.program)) o->is_library = true;
@@ -223,7 +223,7 @@ static const char *begin(void) {
     if (!stream_begins(out, head, words.is_each)) return "failed the stream can't be written";
     used_bytes = stream_bytes();
     objects_begin(words.folder, tell_reading);
-    if (words.maps && !objects_from_maps(words.maps)) return "failed where the program is can't be read";
+    if (words.maps && !objects_from_maps(words.maps)) return "failed the program's mappings can't be read";
     calls_begin(words.page, list);
     model_begins(&hardware, words.is_each);
     is_from_met = !words.from;

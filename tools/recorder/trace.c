@@ -35,7 +35,7 @@ static uint64_t read_hex(const char **at) {
     }
 }
 
-/* `ADDRESS,SIZE`, ended by a newline. False where it is something else. */
+/* `ADDRESS,SIZE`, ended by a newline. False if it is something else. */
 static bool read_place(const char *at, uint64_t *address, uint64_t *size) {
     const char *begin = at;
     *address = read_hex(&at);
@@ -123,7 +123,7 @@ static void rest(void) {
 bool trace_read(const trace_reader *reader) {
     static char text[ROOM];
     size_t kept = 0;
-    (void)fcntl(STDIN_FILENO, F_SETPIPE_SZ, PIPE_ROOM); /* where this is refused the pipe stays as it is */
+    (void)fcntl(STDIN_FILENO, F_SETPIPE_SZ, PIPE_ROOM); /* if this is refused the pipe stays as it is */
     while (reader->goes_on()) {
         ssize_t got = read(STDIN_FILENO, text + kept, sizeof text - kept);
         if (got < 0 && errno == EINTR) continue;

@@ -16,7 +16,7 @@ typedef struct {
     bool (*goes_on)(void); /* whether the rest is to be read; asked from time to time */
 } trace_reader;
 
-/* Reads a trace from standard input to its end, or as long as it goes on. False where a read fails. */
+/* Reads a trace from standard input to its end, or as long as it goes on. False if a read fails. */
 bool trace_read(const trace_reader *reader);
 
 #endif

@@ -30,7 +30,7 @@ class Progress(InFolder):
         os.chmod(path, 0o755)
 
     def start(self, words: str, out: int | None, **variables: str) -> tuple[subprocess.Popen[bytes], int]:
-        """A call whose standard error is a terminal, and its output too where there is no other. Gives the other end of the terminal."""
+        """A call whose standard error is a terminal, and its output too if there is no other. Gives the other end of the terminal."""
         ours, terminal = pty.openpty()
         environment = {**os.environ, "TERM": "xterm", **variables}
         child = subprocess.Popen(["/bin/sh", "-c", f"exec {self.tool} {words}"], stdin=subprocess.DEVNULL, stdout=terminal if out is None else out, stderr=terminal,

@@ -79,7 +79,7 @@ class Tools:
         return self.ask("papi_run", ["--notes"], [self.written("script", script), *streams])
 
     def natives_of(self, event: str) -> tuple[str, ...]:
-        """The canonical names of the native events of an event, whatever names it: none where nothing has this name."""
+        """The canonical names of the native events of an event, whatever names it: none if nothing has this name."""
         if event not in self._natives:
             self._natives[event] = self._of_preset(event) or self._of_native(event)
         return self._natives[event]

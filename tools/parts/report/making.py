@@ -94,7 +94,7 @@ class Report:
         ]
 
     def timing_of(self, span: Span) -> Timing | None:
-        """The groups and turns of a span, or none where its set takes none."""
+        """The groups and turns of a span, or none if its set takes none."""
         if not span.setup.slice:
             return None
         clock = self._clock(span.thread)

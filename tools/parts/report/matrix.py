@@ -70,7 +70,7 @@ class Picture:
 
 
 def why_not(events: int, counters: Sequence[str]) -> str:
-    """Why so many events do not fit, in a sentence or two."""
+    """Why a number of events do not fit, in a sentence or two."""
     if not counters:
         return f"{'This event is' if events == 1 else 'These events are'} allowed no counter."
     told = counters[0] if len(counters) == 1 else f"{', '.join(counters[:-1])} and {counters[-1]}"

@@ -12,7 +12,7 @@ from parts.command import Fault
 from parts.report.replies import Step
 
 MOST_CALLS = 100_000  # of a script
-READINGS = 240  # of a thread, where no distance is given
+READINGS = 240  # of a thread, if no distance is given
 CHANGES = ("add", "remove")
 
 
@@ -37,7 +37,7 @@ def consumed_by_thread(steps: Sequence[Step]) -> dict[int, int]:
 
 
 def probe_of(steps: Sequence[Step], every: int | None) -> Probe:
-    """The script of these steps with readings every so many occurrences, or about READINGS of each thread. Without room for them it is the script as it is."""
+    """The script of these steps with readings every n occurrences, or about READINGS of each thread. Without room for them it is the script as it is."""
     if every is not None:
         probe = _Making(dict.fromkeys(consumed_by_thread(steps), every)).made_of(steps)
         if len(probe.lines) > MOST_CALLS:

@@ -1,4 +1,4 @@
-"""Where thresholds were passed: by function, by line of source where the program is at hand, or else by address."""
+"""Where thresholds were passed: by function, by line of source if the program is at hand, or else by address."""
 
 from __future__ import annotations
 

@@ -58,7 +58,7 @@ class Pictures:
         self.counters = counters
 
     def of_setup(self, setup: Setup, title: str = "") -> Picture | None:
-        """The assignment of a set, or none where it has no events."""
+        """The assignment of a set, or none if it has no events."""
         return self._of(natives_of(self.tools, setup.events), setup.counters, title)
 
     def of_group(self, setup: Setup, group: Group, title: str = "") -> Picture | None:

@@ -12,7 +12,7 @@ USER = 1  # the domain of a new set
 
 @dataclass(frozen=True)
 class Reading:
-    """The values of a set's events after so many occurrences of its thread."""
+    """The values of a set's events after a number of occurrences of its thread."""
 
     position: int
     values: tuple[int, ...]
@@ -29,7 +29,7 @@ class Passing:
 
 @dataclass
 class Setup:
-    """What a set is when it runs. The slice is 0 where its events take no turns."""
+    """What a set is when it runs. The slice is 0 if its events take no turns."""
 
     events: tuple[str, ...] = ()
     counters: dict[str, str] = field(default_factory=dict)

@@ -60,7 +60,7 @@ def clock_of(stream: str | None) -> Clock:
 
 
 def turns_of(span: Span, groups: int, clock: Clock, most: int) -> list[Turn] | None:
-    """The turns of a span, or none where there are more than `most`."""
+    """The turns of a span, or none if there are more than `most`."""
     starts = [span.start, *span.zeroed]
     turns: list[Turn] = []
     for start, end in zip(starts, [*starts[1:], span.end]):
