@@ -23,6 +23,7 @@ NATIVE_MASK = 1 << 30
 RUNNING = 0x02
 OPTION_MULTIPLEX, OPTION_DOMAIN = 3, 5
 ENUM_EVENTS, ENUM_FIRST, ENUM_UMASKS = 0, 1, 15
+MOST = (1 << 31) - 1  # the largest int
 SHORT, LONG, LONGEST, TERMS = 64, 256, 1024, 12  # lengths of texts in bytes, and how many native events an event has at most
 
 # PAPI_overflow_handler_t: the set, the address of the occurrence, a bit for each place in the set, and no context.
@@ -115,6 +116,14 @@ def loaded() -> ctypes.CDLL:
     library.PAPI_shutdown.argtypes = []
     library.PAPI_shutdown.restype = None
     return library
+
+
+def text_of(text: str | bytes) -> bytes:
+    """A text for C. ValueError if it has a NUL, which would end it."""
+    encoded = text.encode() if isinstance(text, str) else text
+    if b"\0" in encoded:
+        raise ValueError(f"a text with a NUL: {text!r}")
+    return encoded
 
 
 class _Raised(threading.local):

@@ -10,6 +10,7 @@ from types import TracebackType
 from typing import Callable, Iterator
 
 from .binding import (
+    MOST,
     NULL_SET,
     OPTION_DOMAIN,
     OPTION_MULTIPLEX,
@@ -21,13 +22,20 @@ from .binding import (
     call,
     has_raised,
     keep_raised,
+    text_of,
 )
-from .errors import ENOEVNT, ENOINIT
+from .errors import EINVAL, ENOEVNT, ENOINIT
 from .events import code_of
 from .library import begun
 
 # Called with the name of the event whose count passed its threshold, and the address of the occurrence.
 Handler = Callable[[str, int], None]
+
+
+def _check_int(call_name: str, number: int, least: int) -> None:
+    """`EINVAL` if C would take a number for another one, or for no number."""
+    if not least <= number <= MOST:
+        raise EINVAL(call_name, f"not a number from {least} to {MOST}: {number}")
 
 
 class Domain(IntFlag):
@@ -57,6 +65,7 @@ class EventSet:
         self._library = begun()
         try:
             if multiplexed:
+                _check_int("PAPI_set_opt", slice_ns, 0)
                 call("PAPI_set_opt", OPTION_MULTIPLEX, Option(multiplex=MultiplexOption(self.number, slice_ns, 0)))
             if domain is not None:
                 call("PAPI_set_opt", OPTION_DOMAIN, Option(domain=DomainOption(0, self.number, int(domain))))
@@ -88,14 +97,14 @@ class EventSet:
         """Adds events, one after the other. `ENOEVNT` if there is no such event, `ECNFLCT` if it does not fit on the counters, `EINVAL` if the set has it or is full,
         `EISRUN` if the set runs. Those before the refused one stay."""
         for name in names:
-            call("PAPI_add_named_event", self.number, name.encode())
+            call("PAPI_add_named_event", self.number, text_of(name))
             self._names.append(name)
 
     def remove(self, *names: str) -> None:
         """Removes events by the names that they were added with. `ENOEVNT` if the set has none of this name, `EISRUN` if it runs."""
         for name in names:
             self._place_of(name)
-            call("PAPI_remove_named_event", self.number, name.encode())
+            call("PAPI_remove_named_event", self.number, text_of(name))
             self._names.remove(name)
             self._handlers.pop(name, None)
 
@@ -138,6 +147,7 @@ class EventSet:
         `ENOEVNT` if the event is not in the set, `EINVAL` if the threshold is not in its range or the event is derived, `ECOMBO` if the set is multiplexed, `EISRUN` if it runs.
         """
         self._place_of(name)
+        _check_int("PAPI_overflow", threshold, 1)
         call("PAPI_overflow", self.number, code_of(name), threshold, 0, _handler)
         self._handlers[name] = handler
         _watched.sets[self.number] = self

@@ -6,7 +6,7 @@ import ctypes
 from dataclasses import dataclass
 from typing import Iterator
 
-from .binding import ENUM_EVENTS, ENUM_FIRST, ENUM_UMASKS, LONGEST, NATIVE_MASK, PRESET_MASK, Info, call
+from .binding import ENUM_EVENTS, ENUM_FIRST, ENUM_UMASKS, LONGEST, NATIVE_MASK, PRESET_MASK, Info, call, text_of
 from .errors import ENOEVNT
 
 
@@ -23,9 +23,9 @@ class EventInfo:
 
 
 def code_of(name: str) -> int:
-    """The code of an event. `ENOEVNT` if there is no such event."""
+    """The code of an event. `ENOEVNT` if there is no such event, ValueError if the name has a NUL."""
     code = ctypes.c_int(0)
-    call("PAPI_event_name_to_code", name.encode(), ctypes.byref(code))
+    call("PAPI_event_name_to_code", text_of(name), ctypes.byref(code))
     return code.value
 
 

@@ -7,7 +7,7 @@ import os
 from types import TracebackType
 from typing import Union
 
-from .binding import VERSION_7, call, loaded
+from .binding import VERSION_7, call, loaded, text_of
 
 MOST_AT_ONCE = 0xFFFFFFFF  # what one call of kistalub_go takes
 FilePath = Union[str, "os.PathLike[str]"]
@@ -29,7 +29,7 @@ class Library:
 
     In the name of the stream `%t` stands for the number of the thread, from 0. Without a unit the files are those of KISTALUB_UNIT, KISTALUB_PRESETS,
     KISTALUB_CPU and KISTALUB_STREAM. Entering it raises `ESYS` if a file is missing or faulty, whose row and cause are said on standard error, `EINVAL` if a
-    library is begun already, and `ValueError` if other files are named without a unit. Leaving it ends all sets of all threads. It can be entered again.
+    library is begun already, and `ValueError` if other files are named without a unit, or a name has a NUL. Leaving it ends all sets of all threads. It can be entered again.
     """
 
     def __init__(self, unit: FilePath | None = None, *, presets: FilePath | None = None, cpu: str | None = None, stream: FilePath | None = None):
@@ -40,7 +40,7 @@ class Library:
 
     def __enter__(self) -> Library:
         if self._unit is not None:
-            call("kistalub_init", os.fsencode(self._unit), *(None if word is None else os.fsencode(word) for word in self._others))
+            call("kistalub_init", *(None if word is None else text_of(os.fsencode(word)) for word in (self._unit, *self._others)))
         call("PAPI_library_init", VERSION_7)
         _Begun.number += 1
         return self

@@ -132,6 +132,12 @@ class Refusals(OverLibrary):
             self.assertRaises(ValueError, kistalub.go, -1)
             self.assertRaises(ValueError, kistalub.thread, 1 << 32)
             self.assertEqual(kistalub.go(0), 0)
+            self.assertRaises(ValueError, EventSet, "INST_RETIRED\0")
+            self.assertRaises(kistalub.EINVAL, lambda: EventSet(multiplexed=True, slice_ns=(1 << 32) + 5))
+            with EventSet("INST_RETIRED") as events:
+                for threshold in (-1, 0, 255, (1 << 32) + 300):
+                    self.assertRaises(kistalub.EINVAL, events.on_overflow, "INST_RETIRED", threshold, print)
+        self.assertRaises(ValueError, Library(f"{UNIT}\0").__enter__)
 
 
 class Handlers(OverLibrary):
