@@ -2,8 +2,11 @@
 
 from __future__ import annotations
 
+import os
 import re
+import shutil
 import subprocess
+import sys
 import unittest
 from collections import Counter
 from pathlib import Path
@@ -311,6 +314,25 @@ class Presets(unittest.TestCase):
         events = [line.split() for line in listed.stdout.splitlines() if " 0x" in line]
         self.assertGreaterEqual(len(events), 26)
         self.assertEqual([event[0] for event in events if event[2] != "Yes"], [])
+
+
+@needs_command("cc", "a C compiler")
+class Missing(InFolder):
+    @needs_command("objdump", "binutils")
+    def test_what_is_not_installed_is_named(self) -> None:
+        """The recorder is there in the last case, so that no compiler is asked for."""
+        recorder()
+        for there, kept, cause in (((), "cache", "objdump"), (("objdump", "nm"), "cache", "cc"), (("objdump", "nm"), None, "valgrind")):
+            folder = self.folder / f"without-{cause}"
+            folder.mkdir()
+            for command in there:
+                (folder / command).symlink_to(shutil.which(command) or command)
+            environment = {**os.environ, "PATH": str(folder)}
+            if kept:
+                environment["XDG_CACHE_HOME"] = str(folder / kept)
+            done = subprocess.run([sys.executable, str(TOOLS / "record"), "-o", str(folder / "stream"), "/bin/true"], env=environment, capture_output=True, text=True)
+            self.assertEqual(done.returncode, 1)
+            self.assertRegex(done.stderr, rf"^record: {cause} is not installed \(apt-get install \w+\)\n$")
 
 
 @needs_command("cc", "a C compiler")
