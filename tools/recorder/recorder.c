@@ -27,7 +27,7 @@ static struct {
     bool is_each, is_first_thread;
     range library[MOST_RANGES]; /* functions of the library for C that stand in the program */
     unsigned ranges;
-} words = {.window = 1u << 16, .report = 2, .folder = "/tmp", .program = ""};
+} words = {.window = 1u << 16, .report = 2, .folder = ".", .program = ""};
 
 static machine hardware;
 static FILE *report, *list; /* list: of the calls, if it is wanted */
@@ -145,7 +145,8 @@ static void tell_totals(void) {
     const char *name;
     uint64_t total;
     for (unsigned kind = 0; (name = model_total(kind, &total)); kind++) fprintf(report, "total %s %" PRIu64 "\n", name, total);
-    fprintf(report, "total locked %" PRIu64 "\ntotal repeated %" PRIu64 "\ntotal turns %" PRIu64 "\ntotal modifies %" PRIu64 "\ncalls %" PRIu64 "\nunknown %" PRIu64 "\nfrom %d\n", locked, repeated, turns, modifies, calls_made(), unknown, is_from_met);
+    fprintf(report, "total locked %" PRIu64 "\ntotal repeated %" PRIu64 "\ntotal turns %" PRIu64 "\ntotal modifies %" PRIu64 "\n", locked, repeated, turns, modifies);
+    fprintf(report, "calls %" PRIu64 "\nunknown %" PRIu64 "\nfrom %d\n", calls_made(), unknown, is_from_met);
 }
 
 /* `NAME=LINES,WAYS,BYTES`, or `NAME=none`. */
