@@ -1,156 +1,178 @@
-/* The work of papi_run by hand, for each row of bench/run: count KIND STREAM
- * Prints what the replies of `run`, `read` and `stop` have after PAPI_OK, a line each. */
+/* The work of papi_run, papi_profil and a program of PAPI_read by hand, for each row of bench/run: count KIND STREAM..
+ * Each stream has a thread of its own. Prints what the replies of `run`, `read` and `stop` have after PAPI_OK, a line each, or the histogram. */
 #include "read_stream.h"
 #include <fcntl.h>
+#include <pthread.h>
 #include <stdlib.h>
 
-static struct stream stream;
-static uint64_t totals[32];
+enum { COUNTERS = 32, THRESHOLD = 1000, SMALL_THRESHOLD = 256, SLICE = 1000, READINGS = 1000000 };
 
-static void print_run(uint64_t consumed, uint64_t notes) {
-    printf("%llu %llu\n", (unsigned long long)consumed, (unsigned long long)notes);
-}
-
-static void print_values(int first, int n) {
-    for (int i = 0; i < n; i++) printf("%llu%c", (unsigned long long)totals[first + i], i + 1 < n ? ' ' : '\n');
-}
-
-/* No set runs. */
-
-static void count_nothing(const struct occurrence *o) {
-    (void)o;
-}
-
-/* INST_RETIRED, CYCLES and BR_INST:ALL of component 0, in user mode. */
-
-INLINE int event_of(const struct occurrence *o) {
-    if (o->comp != 0 || o->kernel) return -1;
-    if (o->select == 0xc0) return 0;
-    if (o->select == 0x3c) return 1;
-    return o->select == 0xc4 && (o->umask & 1) ? 2 : -1;
-}
-
-static void count_three(const struct occurrence *o) {
-    int event = event_of(o);
-    if (event >= 0) totals[event] += o->amount;
-}
-
-/* BR_INST:ALL in both modes: a tenth of the lines. */
-
-static void count_branches(const struct occurrence *o) {
-    if (o->comp == 0 && o->select == 0xc4 && (o->umask & 1)) totals[0] += o->amount;
-}
-
-/* The three events, each with a threshold, and a list of the notes. */
-
-enum { THRESHOLD = 1000 };
+/* The map of the row with a histogram. */
+enum { START = 0x400000, WIDTH = 16, BUCKETS = 65536 };
 
 struct note {
     uint32_t thread, set, index;
     uint64_t pc;
 };
 
-static struct note *notes;
-static size_t noted, room_for_notes;
-static int left[3] = {THRESHOLD, THRESHOLD, THRESHOLD};
+struct work {
+    uint64_t totals[COUNTERS + 1]; /* the last one is of no event */
+    int left[4];
+    struct note *notes;
+    size_t noted, room;
+    int group, left_of_turn;
+    uint64_t active[2];
+    uint64_t sum;
+    uint32_t hits[BUCKETS], outside;
+    struct reader reader;
+    const char *stream;
+    const struct kind *kind;
+    int status;
+};
 
-static void note(int event, uint64_t pc) {
-    if (noted == room_for_notes) {
-        room_for_notes = room_for_notes ? 2 * room_for_notes : 16;
-        notes = realloc(notes, room_for_notes * sizeof *notes);
-        if (notes == NULL) exit(4);
-    }
-    notes[noted++] = (struct note){0, 0, (uint32_t)event, pc};
+/* No set runs. */
+
+INLINE void count_nothing(void *to, const struct occurrence *o) {
+    (void)to, (void)o;
 }
 
-static void count_thresholds(const struct occurrence *o) {
-    int event = event_of(o);
-    if (event < 0) return;
-    totals[event] += o->amount;
-    left[event] -= (int)o->amount;
-    if (left[event] <= 0) {
+/* INST_RETIRED, CYCLES and BR_INST:ALL of component 0, in user mode. Amounts are added under a mask: a processor cannot foresee which count. */
+
+INLINE unsigned under(unsigned amount, int counts) {
+    return amount & (0u - (unsigned)counts);
+}
+
+INLINE void count_three(void *to, const struct occurrence *o) {
+    struct work *w = to;
+    unsigned amount = under(o->amount, (o->comp == 0) & !o->kernel);
+    w->totals[0] += under(amount, o->select == 0xc0);
+    w->totals[1] += under(amount, o->select == 0x3c);
+    w->totals[2] += under(amount, (o->select == 0xc4) & (int)(o->umask & 1));
+}
+
+/* BR_INST:ALL in both modes: a tenth of the lines. */
+
+INLINE void count_branches(void *to, const struct occurrence *o) {
+    struct work *w = to;
+    w->totals[0] += under(o->amount, (o->comp == 0) & (o->select == 0xc4) & (int)(o->umask & 1));
+}
+
+/* The three events, each with a threshold, and a list of the notes. */
+
+static void note(struct work *w, unsigned event, uint64_t pc) {
+    if (w->noted == w->room) {
+        w->room = w->room ? 2 * w->room : 16;
+        w->notes = realloc(w->notes, w->room * sizeof *w->notes);
+        if (w->notes == NULL) exit(4);
+    }
+    w->notes[w->noted++] = (struct note){0, 0, event, pc};
+}
+
+INLINE void count_thresholds(void *to, const struct occurrence *o) {
+    static const unsigned char events[256] = {[0xc0] = 1, [0x3c] = 2, [0xc4] = 3};
+    struct work *w = to;
+    unsigned event = events[o->select];
+    unsigned amount = under(o->amount, (o->comp == 0) & !o->kernel & ((event != 3) | (int)(o->umask & 1)));
+    amount = under(amount, event != 0);
+    w->totals[(event - 1) & 31] += amount;
+    w->left[event] -= (int)amount;
+    if (w->left[event] <= 0) {
         /* (an amount is below the threshold) */
-        left[event] += THRESHOLD;
-        note(event, o->pc);
+        w->left[event] += THRESHOLD;
+        note(w, event - 1, o->pc);
     }
 }
 
 /* 32 events of one select code: 16 umasks, each in user and in kernel mode. */
 
-static uint8_t umasks[32];
-static uint32_t wanted_mode[2][32];
+static uint64_t wanted[2][4][32];
 
 static void prepare_alike(void) {
-    for (int i = 0; i < 32; i++) {
-        umasks[i] = (uint8_t)(i / 2 % 3 + 1);
-        wanted_mode[i % 2][i] = ~0u;
-    }
+    for (unsigned umask = 0; umask < 4; umask++)
+        for (unsigned i = 0; i < 32; i++) wanted[i % 2][umask][i] = umask & (i / 2 % 3 + 1) ? UINT64_MAX : 0;
 }
 
-static void count_alike(const struct occurrence *o) {
+INLINE void count_alike(void *to, const struct occurrence *o) {
+    struct work *w = to;
     if (o->comp != 0 || o->select != 0xc0) return;
-    const uint32_t *wanted = wanted_mode[o->kernel];
-    for (int i = 0; i < 32; i++) totals[i] += umasks[i] & o->umask ? wanted[i] & o->amount : 0;
+    const uint64_t *masks = wanted[o->kernel][o->umask & 3];
+    for (int i = 0; i < 32; i++) w->totals[i] += masks[i] & o->amount;
 }
 
 /* The third of these umasks in user mode. */
 
-static void count_one(const struct occurrence *o) {
-    if (o->comp == 0 && o->select == 0xc0 && (o->umask & 3) && !o->kernel) totals[0] += o->amount;
+INLINE void count_one(void *to, const struct occurrence *o) {
+    struct work *w = to;
+    w->totals[0] += under(o->amount, (o->comp == 0) & (o->select == 0xc0) & ((o->umask & 3) != 0) & !o->kernel);
 }
 
 /* Six events in two groups, which take turns of 1,000 ticks. In version 1 each occurrence is a tick. */
 
-enum { SLICE = 1000 };
-
-static int group, left_of_turn = SLICE;
-static uint64_t active[2];
-
-static void count_turns(const struct occurrence *o) {
-    if (o->comp == 0 && group == 0) {
-        int event = event_of(o);
-        if (event >= 0) totals[event] += o->amount;
-    } else if (o->comp == 0) {
-        if (o->select == 0xc5 && !o->kernel) totals[3] += o->amount;
-        if (o->select == 0x2e && !o->kernel) totals[4] += o->amount;
-        if (o->select == 0xc0 && o->kernel) totals[5] += o->amount;
+INLINE void count_turns(void *to, const struct occurrence *o) {
+    struct work *w = to;
+    if (w->group == 0) {
+        count_three(to, o);
+    } else {
+        unsigned amount = under(o->amount, o->comp == 0);
+        w->totals[3] += under(amount, (o->select == 0xc5) & !o->kernel);
+        w->totals[4] += under(amount, (o->select == 0x2e) & !o->kernel);
+        w->totals[5] += under(amount, (o->select == 0xc0) & o->kernel);
     }
-    active[group]++;
-    if (--left_of_turn == 0) {
-        left_of_turn = SLICE;
-        group = 1 - group;
+    if (--w->left_of_turn == 0) {
+        w->active[w->group] += SLICE;
+        w->left_of_turn = SLICE;
+        w->group = 1 - w->group;
     }
 }
 
-static void estimate(void) {
+static void estimate(struct work *w) {
+    w->active[w->group] += (uint64_t)(SLICE - w->left_of_turn);
     for (int i = 0; i < 6; i++) {
-        uint64_t own = active[i / 3];
-        totals[i] = own ? totals[i] * (active[0] + active[1]) / own : 0;
+        uint64_t own = w->active[i / 3];
+        w->totals[i] = own ? w->totals[i] * (w->active[0] + w->active[1]) / own : 0;
     }
 }
 
 /* One event of each of 16 components. */
 
-static void count_components(const struct occurrence *o) {
-    if (o->select == 0xc0 && !o->kernel) totals[o->comp] += o->amount;
+INLINE void count_components(void *to, const struct occurrence *o) {
+    struct work *w = to;
+    w->totals[o->comp] += under(o->amount, (o->select == 0xc0) & !o->kernel);
 }
 
-/* The three events, read after each 32 occurrences. */
+/* INST_RETIRED with a small threshold: in which bucket each threshold was passed. */
 
-enum { EACH = 32 };
+INLINE void count_hits(void *to, const struct occurrence *o) {
+    struct work *w = to;
+    w->left[0] -= (int)under(o->amount, (o->comp == 0) & (o->select == 0xc0) & !o->kernel);
+    if (w->left[0] > 0) return;
+    w->left[0] += SMALL_THRESHOLD;
+    uint64_t bucket = (o->pc - START) / WIDTH;
+    if (o->pc >= START && bucket < BUCKETS) w->hits[bucket]++;
+    else w->outside++;
+}
 
-static void count_runs(const struct occurrence *o) {
-    count_three(o);
-    if (stream.consumed % EACH == 0) {
-        print_run(EACH, 0);
-        print_values(0, 3);
-    }
+static void print_hits(const struct work *w) {
+    uint64_t hits = 0;
+    for (int i = 0; i < BUCKETS; i++) hits += w->hits[i];
+    printf("range code %llu\n", (unsigned long long)hits);
+    for (unsigned i = 0; i < BUCKETS; i++)
+        if (w->hits[i]) printf("0x%x %u\n", START + i * WIDTH, w->hits[i]);
+    printf("outside %u\ntotal %llu\n", w->outside, (unsigned long long)(hits + w->outside));
+}
+
+/* The three events, read after each occurrence: the sum of all that was read. */
+
+INLINE void count_readings(void *to, const struct occurrence *o) {
+    struct work *w = to;
+    count_three(to, o);
+    if (w->reader.consumed <= READINGS) w->sum += w->totals[0] + 3 * w->totals[1] + 5 * w->totals[2];
 }
 
 /* The kinds of work. Each has a reader of its own, into which the compiler puts its counting. */
 
 #define READER(name, count) \
-    static int name(int file) { return read_stream(file, &stream, count); }
+    static int name(struct work *w) { return consume(&w->reader, UINT64_MAX, count, w); }
 
 READER(read_nothing, count_nothing)
 READER(read_three, count_three)
@@ -160,36 +182,75 @@ READER(read_alike, count_alike)
 READER(read_one, count_one)
 READER(read_turns, count_turns)
 READER(read_components, count_components)
-READER(read_runs, count_runs)
+READER(read_hits, count_hits)
 
-static const struct work {
-    const char *kind;
-    int (*read)(int file);
+static int read_steps(struct work *w) {
+    return consume(&w->reader, READINGS + 1, count_readings, w);
+}
+
+static const struct kind {
+    const char *name;
+    int (*read)(struct work *w);
     int values, sets;
-} works[] = {
-    {"nothing", read_nothing, 0, 0},       {"three", read_three, 3, 1}, {"branches", read_branches, 1, 1},
-    {"thresholds", read_thresholds, 3, 1}, {"alike", read_alike, 32, 1}, {"one", read_one, 1, 1},
-    {"turns", read_turns, 6, 1},           {"components", read_components, 16, 16}, {"runs", read_runs, 3, 1},
+} kinds[] = {
+    {"nothing", read_nothing, 0, 0},         {"three", read_three, 3, 1},  {"branches", read_branches, 1, 1},
+    {"thresholds", read_thresholds, 3, 1},   {"alike", read_alike, 32, 1}, {"one", read_one, 1, 1},
+    {"turns", read_turns, 6, 1},             {"hits", read_hits, 0, 0},    {"steps", read_steps, 3, 1},
+    {"components", read_components, 16, 16},
 };
 
-static const struct work *work_of(const char *kind) {
-    for (size_t i = 0; i < sizeof works / sizeof *works; i++)
-        if (strcmp(works[i].kind, kind) == 0) return &works[i];
+static const struct kind *kind_of(const char *name) {
+    for (size_t i = 0; i < sizeof kinds / sizeof *kinds; i++)
+        if (strcmp(kinds[i].name, name) == 0) return &kinds[i];
+    return NULL;
+}
+
+static void print_values(const uint64_t *totals, int n) {
+    for (int i = 0; i < n; i++) printf("%llu%c", (unsigned long long)totals[i], i + 1 < n ? ' ' : '\n');
+}
+
+static void print_work(const struct work *w) {
+    int each = w->kind->sets ? w->kind->values / w->kind->sets : 0;
+    if (w->kind->read == read_hits) print_hits(w);
+    else if (w->kind->read == read_steps) printf("%llu\n", (unsigned long long)w->sum);
+    else printf("%llu %zu\n", (unsigned long long)w->reader.consumed, w->noted);
+    for (int set = 0; set < w->kind->sets; set++) print_values(w->totals + set * each, each);
+}
+
+static void *do_work(void *argument) {
+    struct work *w = argument;
+    int file = open(w->stream, O_RDONLY);
+    if (file < 0) perror(w->stream);
+    w->left_of_turn = SLICE;
+    for (int i = 0; i < 4; i++) w->left[i] = w->kind->read == read_hits ? SMALL_THRESHOLD : THRESHOLD;
+    w->status = file < 0 || begin_reading(&w->reader, file) < 0 || w->kind->read(w) < 0;
+    if (w->kind->read == read_turns) estimate(w);
     return NULL;
 }
 
 int main(int argc, char **argv) {
-    const struct work *work = argc == 3 ? work_of(argv[1]) : NULL;
-    int file = work ? open(argv[2], O_RDONLY) : -1;
-    if (file < 0) {
-        fprintf(stderr, "usage: count KIND STREAM\n");
+    enum { MOST = 64 };
+    static pthread_t threads[MOST];
+    const struct kind *kind = argc > 2 && argc - 2 <= MOST ? kind_of(argv[1]) : NULL;
+    struct work *works = kind ? calloc((size_t)argc - 2, sizeof *works) : NULL;
+    if (works == NULL) {
+        fprintf(stderr, "usage: count KIND STREAM..\n");
         return 2;
     }
     prepare_alike();
-    int status = work->read(file);
-    if (status != 0) return status;
-    if (work->read == read_turns) estimate();
-    if (work->read != read_runs) print_run(stream.consumed, noted);
-    for (int set = 0; set < work->sets; set++) print_values(set * work->values / work->sets, work->values / work->sets);
+    int streams = argc - 2;
+    for (int i = 0; i < streams; i++) {
+        works[i].kind = kind;
+        works[i].stream = argv[2 + i];
+        if (i > 0 && pthread_create(&threads[i], NULL, do_work, &works[i]) != 0) return 4;
+    }
+    do_work(&works[0]);
+    for (int i = 1; i < streams; i++) pthread_join(threads[i], NULL);
+    for (int i = 0; i < streams; i++) {
+        if (works[i].status != 0) return 2;
+        print_work(&works[i]);
+        free(works[i].notes);
+    }
+    free(works);
     return fflush(stdout) == 0 ? 0 : 5;
 }
