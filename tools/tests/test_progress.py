@@ -20,6 +20,11 @@ PATIENCE = 20  # seconds
 UNTIL_SEEN = ("tries=0", f"until [ -e go ] || [ $tries = {10 * PATIENCE} ]; do sleep 0.1; tries=$((tries + 1)); done")
 
 
+def take_interrupts() -> None:
+    """A shell starts what it puts in the background with interrupts ignored, and so would the tests be."""
+    signal.signal(signal.SIGINT, signal.SIG_DFL)
+
+
 class Progress(InFolder):
     def setUp(self) -> None:
         super().setUp()
@@ -34,7 +39,7 @@ class Progress(InFolder):
         ours, terminal = pty.openpty()
         environment = {**os.environ, "TERM": "xterm", **variables}
         child = subprocess.Popen(["/bin/sh", "-c", f"exec {self.tool} {words}"], stdin=subprocess.DEVNULL, stdout=terminal if out is None else out, stderr=terminal,
-                                 cwd=self.folder, env=environment, start_new_session=True)
+                                 cwd=self.folder, env=environment, start_new_session=True, preexec_fn=take_interrupts)
         os.close(terminal)
         return child, ours
 
