@@ -23,8 +23,10 @@ WORDS = ["--tool=lackey", "--basic-counts=no", "--trace-mem=yes", "--trace-sysca
 UNCHASED = ("--vex-guest-chase=no", "--vex-guest-chase-thresh=0")
 
 
-def padded(words: list[str], environment: Mapping[str, str]) -> dict[str, str]:
-    """The environment with a variable as long as it takes for the stack to begin at the same place, whatever else is in it: words and variables stand above."""
+def padded(words: list[str], changes: Mapping[str, str]) -> dict[str, str]:
+    """This process's environment with these changes, for a program with these words, and with a variable as long as it takes for the stack to begin at the
+    same place whatever else is in it: words and variables stand above."""
+    environment = {**os.environ, "LD_LIBRARY_PATH": os.environ.get("LD_LIBRARY_PATH") or NO_LIBRARIES, **changes}
     strings = [os.fsencode(word) for word in words] + [os.fsencode(f"{name}={value}") for name, value in environment.items() if name != PADDING]
     size = sum(len(string) + 1 + POINTER for string in strings) + len(PADDING) + 2 + POINTER
     size += len(os.fsencode(words[0])) + 1  # the program's path stands there once more
@@ -51,8 +53,7 @@ class TracedRun:
         self.trace, writer = os.pipe()
         fill_with_blank_lines(writer)
         words = ["valgrind", *WORDS, *unchased(), f"--log-fd={writer}", path, *arguments]
-        libraries = {"LD_LIBRARY_PATH": os.environ.get("LD_LIBRARY_PATH") or NO_LIBRARIES}
-        whole = padded([path, *arguments], {**os.environ, **libraries, **environment})
+        whole = padded([path, *arguments], environment)
         self._process = subprocess.Popen(words, pass_fds=[writer], stdin=source, stdout=output, stderr=errors, env=whole)
         os.close(writer)
 
