@@ -1,7 +1,8 @@
 //! Which counters an occurrence can move by its select code, its mode and its umask, so that it looks at these alone.
-ghost use Rattle.std.specs.Prelude.{◌≡◌, ℕ, ◌<◌, List, None, Option, length, slice_set, replicate};
+ghost use Rattle.std.specs.Prelude.{◌≡◌, ℕ, ◌<◌, true, List, None, Option, length, slice_set, replicate};
 ghost use Rattle.std.specs.Int.{bit_at};
 ghost use Rattle.counter_unit.specs.declared.registers.Register.{Register};
+ghost use Rattle.counter_unit.specs.declared.selects.Key.{Key};
 ghost use Rattle.counter_unit.specs.Counting.{at_place};
 ghost use Rattle.counter_unit.specs.Selects.{AreSelects, IsRemarked, admits, bit_of, has};
 
@@ -73,6 +74,24 @@ fn mark(masks: &mut [u32; 256], key: Key, c: u32, place: &Option<Register>)
     }
 }
 
+/// Whether occurrences can move both or none, by all that the tables tell of them.
+fn are_alike(old: &Option<Register>, new: &Option<Register>) -> bool
+    ensures { result ≡ true → (key : Key) (code : ℕ) → has key code old.now ≡ has key code new.now }
+{
+    match (old, new) {
+        (Some(old), Some(new)) => {
+            let m = &old.native.mods;
+            let n = &new.native.mods;
+            (old.native.select == new.native.select)
+                & (old.native.umask == new.native.umask)
+                & (m.user == n.user)
+                & (m.kernel == n.kernel)
+                & (old.domain.0 == new.domain.0)
+        }
+        _ => false,
+    }
+}
+
 impl Selects {
     /// No counter is programmed.
     pub(crate) fn none() -> Selects
@@ -98,13 +117,16 @@ impl Selects {
         coded & self.umasks[o.umask as usize]
     }
 
-    /// Another place, or none, is programmed on a counter.
-    pub(crate) fn put(&mut self, c: u32, place: &Option<Register>)
+    /// Another place, or none, is programmed on a counter, in place of this one.
+    pub(crate) fn put(&mut self, c: u32, old: &Option<Register>, place: &Option<Register>)
         requires { c < 32 }
         ensures { (registers : List (Option Register))
-            → c < length registers → AreSelects self.old registers
+            → c < length registers → at_place registers c ≡ old.now → AreSelects self.old registers
             → AreSelects self.new (slice_set registers c place.now) }
     {
+        if are_alike(old, place) {
+            return;
+        }
         mark(&mut self.user, Key::User, c, place);
         mark(&mut self.kernel, Key::Kernel, c, place);
         mark(&mut self.umasks, Key::Umask, c, place);

@@ -158,13 +158,14 @@ impl Unit {
         self.put(c, place);
     }
 
-    /// Another register, or none, is on the counter.
+    /// Another register, or none, is on the counter. The tables stay if it counts what was counted there.
     fn put(&mut self, c: u32, place: Option<Register>)
         requires exists { c < length self.old.widths }
         requires sound { IsSound (slice_index self.old.widths c) place }
         ensures { self.new ≡ record self.old { registers = slice_set self.old.registers c place } }
     {
-        self.selects.put(c, &place);
+        let old = self.registers[c as usize];
+        self.selects.put(c, &old, &place);
         self.registers[c as usize] = place;
     }
 

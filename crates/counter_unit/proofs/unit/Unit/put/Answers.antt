@@ -1,6 +1,6 @@
-use Rattle.std.proofs.Common.{◌≡◌, ◌<◌, ap, arith, length, take, set, ◌∙◌}
+use Rattle.std.proofs.Common.{◌≡◌, ◌<◌, ap, arith, length, take, set, ◌∙◌, None}
 use Rattle.std.proofs.Math.Seq.{take-set-lt}
-use Rattle.std.proofs.lemmas.List.{length-set}
+use Rattle.std.proofs.lemmas.List.{get_or-take, length-set}
 use Rattle.counter_unit.specs.Counting.{UnitView}
 use Rattle.counter_unit.proofs.Places.{AreSound-put}
 use Rattle.counter_unit.proofs.unit.Unit.put.Goals as goal
@@ -16,12 +16,13 @@ invariant_of-self c =
     let exists : c.args.c < length ws = rw shape c.requires.exists in
     let long = c.self.invariant.sound.same_length in
     let put = take-set-lt (length ws) c.self.inside.registers c.args.c c.args.place exists in
+    let stood = get_or-take (length ws) c.self.inside.registers c.args.c None exists in
     record {
       few = c.self.invariant.few;
       are_widths = c.self.invariant.are_widths;
       long = length-set c.self.inside.registers c.args.c c.args.place ∙ c.self.invariant.long;
       sound = rw put (AreSound-put ws rs c.args.c c.args.place exists (rw shape c.requires.sound) c.self.invariant.sound);
-      selects = rw put (c.put.ensures rs (omega arith) c.self.invariant.selects);
+      selects = rw put (c.put.ensures rs (omega arith) stood c.self.invariant.selects);
     }
 
 pub returns : goal.returns
