@@ -7,3 +7,4 @@ pub mod Turning
 pub mod Telling
 pub mod Searching
 pub mod Beginning
+pub mod Keyed

@@ -2,7 +2,17 @@
 use Rattle.thread_slots.proofs.Words.{◌≡◌, ℕ, zero, suc, ◌+◌, List, [], ◌∷◌, ◌++◌, length, get_or, set, take, drop, refl, ap, sym, ◌∙◌, arith, Option, Some}
 use Rattle.thread_slots.proofs.Words.{slice_get, ◌==◌, if◌then◌else◌, cond-true, cond-false, eq-eqb, ne_eqb, in_place_put, in_place_skip, in_place_number}
 use Rattle.thread_slots.proofs.Words.{number_at, Occ, Native, Domain, weight_of, with_turn}
-use Rattle.std.proofs.Common.{◌<◌}
+use Rattle.std.proofs.Common.{◌<◌, Bool, true, false, ◌&&◌, ◌||◌}
+use Rattle.papi_base.specs.Weight.{holds, in_mode, share}
+
+unheld : (event umask mode reaches code : Bool) → code ≡ false → ((event && code && umask && mode) && reaches) ≡ false
+unheld true umask mode reaches code other = rw other refl
+unheld false umask mode reaches code other = refl
+
+-- an occurrence with another select code adds nothing
+pub weight_of_another : (n : Native) (d : Domain) (before : Option Occ) (o : Occ) → (n.select ≡ o.select → ⊥) → weight_of n d before o ≡ 0
+weight_of_another n d before o other =
+    cond-false (holds n d o) _ 0 (unheld (n.comp == o.comp) ((n.umask == 0) || share n.umask o.umask) (in_mode n d o) _ (n.select == o.select) (ne_eqb n.select o.select other))
 
 pub length-with_turn : (d : Domain) (before : Option Occ) (o : Occ) (g : ℕ) (ns : List Native) (gs ks : List ℕ) → length gs ≡ length ns → length ks ≡ length ns → length (with_turn d before o g ns gs ks) ≡ length ks
 length-with_turn d before o g [] gs [] e f = refl

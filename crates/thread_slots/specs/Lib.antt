@@ -10,3 +10,4 @@ pub mod Zeroed
 pub mod Accumulated
 pub mod RawRegister
 pub mod Altering
+pub mod FirstPlaces

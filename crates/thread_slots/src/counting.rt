@@ -1,6 +1,7 @@
 //! What one occurrence does to the sets and the units.
 ghost use Rattle.std.specs.Prelude.{◌≡◌, ℕ, ◌^◌, ◌<◌, ◌==◌, if◌then◌else◌, map, length, All, None, Some};
 ghost use Rattle.std.specs.Option.{option_copied, option_map};
+ghost use Rattle.papi_base.specs.Weight.{weight_of};
 ghost use Rattle.thread_slots.specs.declared.slot.Slot.{Slot};
 ghost use Rattle.thread_slots.specs.Countable.{AreCountable, IsCountable};
 ghost use Rattle.thread_slots.specs.Counted.{counted_all, counted_place, with_turn};
@@ -11,7 +12,7 @@ use crate::slot::{Counting, Slot};
 use counter_unit::Unit;
 use multiplex::Rotation;
 use overflow_dispatch::Passed;
-use papi_base::{Counts, Domain, Natives, Occ, weight};
+use papi_base::{Counts, Domain, Native, Natives, Occ, weight};
 
 /// The events whose thresholds one occurrence passed, by their indexes, and the number of their set, 0 where there are
 /// none: PAPI_overflow(3).
@@ -19,6 +20,19 @@ use papi_base::{Counts, Domain, Natives, Occ, weight};
 pub struct Taken {
     pub set: u32,
     pub passed: Passed,
+}
+
+/// What the occurrence adds to the native event's count, which is 0 at once if it has another select code.
+#[inline(always)]
+#[tactic(auto, using(crate::proofs::Turning::weight_of_another))]
+fn weight_in_turn(n: &Native, domain: Domain, before: Option<&Occ>, o: &Occ) -> u8
+    ensures { result ≡ weight_of n.now domain (option_copied before.entry) o.now }
+{
+    if n.select == o.select {
+        weight(n, domain, before, o)
+    } else {
+        0
+    }
 }
 
 /// Counts one occurrence in the native events of this group.
@@ -39,7 +53,7 @@ fn count_turn(
 {
     for i in 0..natives.len() {
         if rotation.group_of(i) == group {
-            let w = weight(&natives.at(i), domain, before, o);
+            let w = weight_in_turn(&natives.at(i), domain, before, o);
             let count = counts.at(i);
             counts.put(i, count + u64::from(w));
         }

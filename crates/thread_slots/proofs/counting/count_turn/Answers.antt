@@ -31,7 +31,7 @@ loop-i-preserved c =
     let done : c.if-group_of-group.counts ≡ take (c.loop-i.i + 1) all ++ drop (c.loop-i.i + 1) c.args.counts.now = elim c.if-group_of-group.branch [
       | then-group_of-group w ↦
           let is : get_or r.numbers c.loop-i.i 0 ≡ g = sym c.group_of.ensures.group ∙ w.if-group_of-group.true in
-          w.counts-is ∙ w.put.ensures.put ∙ rw (w.at-count.ensures.item, w.from.ensures, w.weight-w.ensures.weight) (turn_put c.args.domain (option_copied c.args.before) c.args.o.now g c.args.natives.now r.numbers c.args.counts.now c.loop-i.counts c.loop-i.i w.at.result c.requires.grouped c.requires.same_length w.at.ensures.item below is c.loop-i.invariant.done)
+          w.counts-is ∙ w.put.ensures.put ∙ rw (w.at-count.ensures.item, w.from.ensures, w.weight_in_turn-w.ensures) (turn_put c.args.domain (option_copied c.args.before) c.args.o.now g c.args.natives.now r.numbers c.args.counts.now c.loop-i.counts c.loop-i.i w.at.result c.requires.grouped c.requires.same_length w.at.ensures.item below is c.loop-i.invariant.done)
       | else-group_of-group w ↦
           let n = get_at c.args.natives.now c.loop-i.i (omega arith) in
           w.counts-is ∙ turn_skip c.args.domain (option_copied c.args.before) c.args.o.now g c.args.natives.now r.numbers c.args.counts.now c.loop-i.counts c.loop-i.i n.0 c.requires.grouped c.requires.same_length n.1 below (λ is. w.if-group_of-group.false (c.group_of.ensures.group ∙ is)) c.loop-i.invariant.done

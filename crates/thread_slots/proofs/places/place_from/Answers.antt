@@ -1,6 +1,6 @@
 use Rattle.thread_slots.proofs.Words.{◌≡◌, false, sym, ◌∙◌, arith, same_native}
 use Rattle.thread_slots.proofs.Searching.{found_later}
-use Rattle.thread_slots.proofs.places.place_of.Goals as goal
+use Rattle.thread_slots.proofs.places.place_from.Goals as goal
 
 pub loop-i-preserved : goal.loop-i-preserved
 loop-i-preserved c =
