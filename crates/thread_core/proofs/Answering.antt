@@ -7,7 +7,7 @@ pub use Rattle.thread_core.proofs.Following.{values_refused, goes, time_is, agre
 pub use Rattle.thread_core.proofs.Known.{counts_known, forgotten, runner_below, counted_known}
 pub use Rattle.thread_core.proofs.Looking.{absent_follows, comp_below, goes_there, Has, Calls, calls, named, reads, reads_some}
 pub use Rattle.std.specs.Option.{option_copied}
-pub use Rattle.thread_core.proofs.Shows.{has_unit, tellable, assign_follows, assign_refused, list_follows, read_follows, state_follows}
+pub use Rattle.thread_core.proofs.Shows.{has_unit, tellable, rested_tellable, assign_follows, assign_refused, list_follows, read_follows, state_follows}
 pub use Rattle.thread_core.proofs.Starting.{accum_lengths, accum_follows, reset_follows, start_ready, start_follows, stop_follows}
 pub use Rattle.thread_core.proofs.Words.{is_absent, slot_faces, false, refl, here, sym, ◌∙◌, Plain, Err, subst, CoreView, IsNamed, Ok, ap, rest_code}
 pub use Rattle.thread_core.proofs.Words.{code_before, IsFor, ◌≡◌, free, arith, [], ap₂, List, UnitView, Option, Slot, register_shown, face_of_slot, at, ℕ}

@@ -10,7 +10,7 @@ use Rattle.thread_core.proofs.Words.{weight_of, groups, masks_of, weighed, weigh
 use Rattle.thread_core.proofs.Words.{same_some, RotationView, subst₂, ℤ, Follows, done, Face, option_map_or, is_multiplexed, unit_numbers}
 use Rattle.thread_core.proofs.Words.{turn_numbers, IsTellable, IsInTurns, position_is, rule_of_event, natives_of_event, pos, state_bits, assigned}
 use Rattle.thread_core.proofs.Words.{face_of_slot, is_counting, AreOnUnit, HasUnit, AreWidths, IsFit, widths_at, get_at, unwrap_or, is_none, is_some, Refusal}
-use Rattle.thread_core.proofs.Words.{if◌then◌else◌, Plain, Enoevst, Ecombo, Bool, refusal_of, slot_faces}
+use Rattle.thread_core.proofs.Words.{if◌then◌else◌, Plain, Enoevst, Ecombo, Bool, refusal_of, slot_faces, rested}
 use Rattle.session_model.specs.declared.reply.Body.TheVariants as body
 use Rattle.session_model.specs.declared.call.Call.TheVariants as call
 use Rattle.thread_core.proofs.Squares.{numbers-length, kept_as, kept_cases}
@@ -216,6 +216,16 @@ tellable {book} {core} k {slot = slot} time agrees given =
           (λ j d below. measured_small book a.past s s.set.slice (get_or (set_natives book s.set) j d) few short h.rises within));
       held = fit.agrees.held;
     })
+
+-- a set that stopped tells of the numbers that it kept
+pub rested_tellable : {book : Book} {units : List UnitView} {now : ℕ} {slot : Slot} (after : List UnitView) → IsTellable book units now slot
+    → IsTellable book after now (rested (numbers_shown units now slot) slot)
+rested_tellable after t = record {
+  measurable = record { has_unit = λ pins armed is. cc; in_turns = λ r begun kept is. cc };
+  same_length = t.same_length;
+  small = t.small;
+  held = t.held;
+}
 
 -- ---- calls that show something of a set
 

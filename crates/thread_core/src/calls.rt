@@ -189,8 +189,8 @@ impl Core {
         let Some(slot) = &mut self.slots[set as usize] else {
             return Code::Enoevst;
         };
-        *into = slot.read(&self.units, book, now);
         slot.stop(&mut self.units, &self.shape, now);
+        *into = slot.read(&self.units, book, now);
         Code::Ok
     }
 

@@ -1,8 +1,8 @@
 use Rattle.thread_core.proofs.Answering.{refl, arith, ap, ◌∙◌, List, UnitView, values_shown, numbers_shown, rested, is_absent, slot_faces, not, runs}
-use Rattle.thread_core.proofs.Answering.{values_refused, at, ◌≡◌, Some, seen, Calls, calls, reads, reads_some, time_is, tellable, comp_below, stop_follows}
+use Rattle.thread_core.proofs.Answering.{values_refused, at, ◌≡◌, Some, Slot, seen, Calls, calls, reads, reads_some, time_is, tellable, comp_below, stop_follows, rested_tellable}
 use Rattle.thread_core.proofs.Answering.{forgotten, with_items_is, Stop}
 use Rattle.thread_core.proofs.thread.Core.stop.Goals as goal
-use Rattle.thread_core.proofs.thread.Core.stop.Goals.{In_default, In-Some-index_mut}
+use Rattle.thread_core.proofs.thread.Core.stop.Goals.{In_default, In-Some-index_mut, After-stop}
 
 -- the call, and the set that it names
 call : (c : In_default) → Calls c.args.book.now (seen c.self.inside) (Stop c.args.set) c.args.set
@@ -23,12 +23,6 @@ pub returns-in_default-index_mut : goal.returns-in_default-index_mut
 returns-in_default-index_mut c =
     absurd (reads_some (call (goal.at.returns-in_default-index_mut c).In_default).has c.index_mut.ensures.value c.in_default-index_mut.is)
 
-pub read-requires : goal.read-requires
-read-requires c =
-    let w = goal.at.read-requires c in
-    rw c.deref.ensures.value
-    (tellable c.args.set (time_is c.self.view_is c.time-now.ensures) (call w.In_default).goes.agrees (lent w.In-Some-index_mut))
-
 pub stop-requires : goal.stop-requires
 stop-requires c =
     let w = goal.at.stop-requires c in
@@ -40,16 +34,27 @@ stop-requires c =
       measurable = (tellable c.args.set (time_is c.self.view_is c.time-now.ensures) agrees here).measurable;
     })
 
+-- what is left of the set
+kept : (c : After-stop) → c.stop.new.self ≡ rested (numbers_shown c.self.inside.units.items c.time-now.result c.in-Some-index_mut.slot) c.in-Some-index_mut.slot
+kept c =
+    let slot = c.in-Some-index_mut.slot in
+    c.stop.ensures.slot ∙ ap (λ (us : List UnitView). rested (numbers_shown us c.time-now.result slot) slot) c.deref_mut.ensures.value
+
+pub read-requires : goal.read-requires
+read-requires c =
+    let w = goal.at.read-requires c in
+    rw (kept w.After-stop) (rested_tellable _
+    (tellable c.args.set (time_is c.self.view_is c.time-now.ensures) (call w.In_default).goes.agrees (lent w.In-Some-index_mut)))
+
 pub returns-clause-follows : goal.returns-clause-follows
 returns-clause-follows c =
     let w = goal.at.returns-clause-follows c in
-    let slot = c.in-Some-index_mut.slot in
-    let told = c.read.ensures ∙ ap (λ (us : List UnitView). values_shown c.args.book.now us c.time-now.result slot) c.deref.ensures.value in
+    let now = c.time-now.result in
+    let told = c.read.ensures ∙ ap (λ (s : Slot). values_shown c.args.book.now c.deref.result.now now s) (kept w.After-stop) in
     let stopped = rw c.deref_mut.ensures.value at c.stop.ensures in
-    let kept = stopped.slot ∙ ap (λ (us : List UnitView). rested (numbers_shown us c.time-now.result slot) slot) c.deref_mut.ensures.value in
     let back = with_items_is c.self.inside.units c.stop.new.units (omega arith) in
     rw (← c.self.view_is) (stop_follows _ _ c.args.set _ _ _ _ _ (call w.In_default).goes (time_is c.self.view_is c.time-now.ensures)
-    (lent w.In-Some-index_mut) told (λ comp ws on is. back ∙ stopped.units comp ws on is) (λ none. back ∙ stopped.same_units none) kept)
+    (lent w.In-Some-index_mut) told (λ comp ws on is. back ∙ stopped.units comp ws on is) (λ none. back ∙ stopped.same_units none) (kept w.After-stop))
 
 pub invariant_of-self-2 : goal.invariant_of-self-2
 invariant_of-self-2 c = let f = returns-clause-follows c in (record { book = _; agrees = f.agrees }, forgotten _ _ c.forget.ensures)
