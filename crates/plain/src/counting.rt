@@ -8,7 +8,8 @@ ghost use Rattle.session_model.specs.Counts as Counts;
 ghost use Rattle.session_model.specs.Estimates.{estimated_in};
 ghost use Rattle.plain.specs.Windows.{IsOver, turns_in};
 
-use papi_base::{Domain, Native, Occ, weight};
+use crate::weighing::plain_weight;
+use papi_base::{Domain, Native, Occ};
 
 /// The positions of a list of occurrences over which a set counted, and the domain in which it counted.
 #[derive(Clone, Copy, Debug)]
@@ -31,7 +32,7 @@ fn weight_at(past: &[Occ], i: usize, n: &Native, domain: Domain) -> u8
     requires { i < length past.now }
     ensures { slice_get (along (weight_of n.now domain) None past.now) i ≡ Some result }
 {
-    weight(n, domain, past[..i].last(), &past[i])
+    plain_weight(n, domain, past[..i].last(), &past[i])
 }
 
 /// How much of a native event was counted over a window: the sum of what each occurrence adds.

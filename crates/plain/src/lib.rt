@@ -6,8 +6,11 @@ mod assignment;
 mod blame;
 mod counting;
 mod formula;
+mod tape;
+mod weighing;
 
 pub use assignment::first_assignment;
 pub use blame::blame_by_sets;
 pub use counting::{Turn, Window, count, estimate};
 pub use formula::value_by_tree;
+pub use tape::{BadLine, Said, said_by};

@@ -11,4 +11,4 @@ returns c =
     let o : Occ = get_or c.args.past.now c.args.i none in
     along_at (weight_of c.args.n.now c.args.domain) None c.args.past.now c.args.i o (slice_get-get_or c.args.past.now c.args.i none c.requires)
     ∙ ap (λ before. Some (weight_of c.args.n.now c.args.domain before o)) (sym (c.last.ensures.value ∙ last_is (take c.args.i c.args.past.now)))
-    ∙ ap Some (sym c.weight.ensures.weight)
+    ∙ ap Some (sym c.plain_weight.ensures)
