@@ -49,7 +49,9 @@ fn count_turn(
     requires same_length { length counts.old ≡ length natives.now }
     requires grouped { length rotation.now.numbers ≡ length natives.now }
     requires room { All (λ t. t < 2 ^ 32) counts.old }
-    ensures { counts.new ≡ with_turn domain (option_copied before.entry) o.now group natives.now rotation.now.numbers counts.old }
+    ensures { let before = option_copied before.entry
+        in let numbers = rotation.now.numbers
+        in counts.new ≡ with_turn domain before o.now group natives.now numbers counts.old }
 {
     for i in 0..natives.len() {
         if rotation.group_of(i) == group {
@@ -66,9 +68,12 @@ fn count_turn(
 #[tactic(auto, using(crate::proofs::Carries::passed_none))]
 fn count_place(unit: &mut Unit, place: &mut Option<Slot>, before: Option<&Occ>, o: &Occ) -> Passed
     requires { (slot : Slot) → place.old ≡ Some slot → IsCountable slot }
-    ensures unit { unit.new ≡ (counted_place (option_copied before.entry) o.now unit.old place.old).unit }
-    ensures place { place.new ≡ (counted_place (option_copied before.entry) o.now unit.old place.old).place }
-    ensures passed { result ≡ (counted_place (option_copied before.entry) o.now unit.old place.old).passed }
+    ensures unit { let after = counted_place (option_copied before.entry) o.now unit.old place.old
+        in unit.new ≡ after.unit }
+    ensures place { let after = counted_place (option_copied before.entry) o.now unit.old place.old
+        in place.new ≡ after.place }
+    ensures passed { let after = counted_place (option_copied before.entry) o.now unit.old place.old
+        in result ≡ after.passed }
 {
     let Some(slot) = place else {
         return Passed::new();
@@ -114,14 +119,23 @@ pub fn count_all(
     runner: Option<u32>,
 ) -> Taken
     requires places { length slots.old.items ≡ 64 }
-    requires runner { runner ≡ owner_from o.now.comp 0 (map (option_map face_of_slot) slots.old.items) }
+    requires runner { let faces = map (option_map face_of_slot) slots.old.items
+        in runner ≡ owner_from o.now.comp 0 faces }
     requires countable { (k : ℕ)
         → owner_from o.now.comp 0 (map (option_map face_of_slot) slots.old.items) ≡ Some k
         → AreCountable units.old.items slots.old.items o.now.comp k }
-    ensures units { units.new.items ≡ (counted_all (option_copied before.entry) o.now units.old.items slots.old.items).units }
-    ensures slots { slots.new.items ≡ (counted_all (option_copied before.entry) o.now units.old.items slots.old.items).slots }
-    ensures set { result.set ≡ (counted_all (option_copied before.entry) o.now units.old.items slots.old.items).set }
-    ensures passed { result.passed ≡ (counted_all (option_copied before.entry) o.now units.old.items slots.old.items).passed }
+    ensures units {
+        let after = counted_all (option_copied before.entry) o.now units.old.items slots.old.items
+        in units.new.items ≡ after.units }
+    ensures slots {
+        let after = counted_all (option_copied before.entry) o.now units.old.items slots.old.items
+        in slots.new.items ≡ after.slots }
+    ensures set {
+        let after = counted_all (option_copied before.entry) o.now units.old.items slots.old.items
+        in result.set ≡ after.set }
+    ensures passed {
+        let after = counted_all (option_copied before.entry) o.now units.old.items slots.old.items
+        in result.passed ≡ after.passed }
 {
     let comp = u32::from(o.comp);
     match runner {

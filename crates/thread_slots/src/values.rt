@@ -36,7 +36,8 @@ fn own_numbers(
     requires same_length { length numbers.now ≡ length natives.now }
     requires small { All (λ t. t < 2 ^ 48) numbers.now }
     requires few { length own.now ≤ 8 }
-    ensures { take (length own.now) result ≡ map (λ n. pos (number_in natives.now numbers.now n)) own.now }
+    ensures { take (length own.now) result
+        ≡ map (λ n. pos (number_in natives.now numbers.now n)) own.now }
 {
     let mut counts = [0i64; 8];
     for i in 0..own.len() {
@@ -79,7 +80,8 @@ pub fn values_of(book: &PresetBook, set: &EventSet, numbers: &Counts) -> Values
     requires same_length { length numbers.now ≡ length set.now.natives }
     requires small { All (λ t. t < 2 ^ 48) numbers.now }
     requires held { All (IsHeld book.now) set.now.rest.events }
-    ensures { result ≡ map (event_value book.now (number_in set.now.natives numbers.now)) set.now.rest.events }
+    ensures { let number = number_in set.now.natives numbers.now
+        in result ≡ map (event_value book.now number) set.now.rest.events }
 {
     let mut values = Values::new();
     let events = set.events();
