@@ -1,7 +1,8 @@
 -- The counters that occurrences with each code can move, as the registers change.
 use Rattle.std.proofs.Common.{◌≡◌, ℕ, ◌+◌, ◌<◌, inl, inr, List, length, set, get_or, replicate, refl, ap, sym, ◌∙◌, arith, Option, Some, None}
 use Rattle.std.specs.Int.{bit_at}
-use Rattle.std.proofs.lemmas.Bool.{cases_eq}
+use Rattle.std.specs.Prelude.{◌==◌, false}
+use Rattle.std.proofs.lemmas.Bool.{and_left, cases_eq, ne_eqb}
 use Rattle.std.proofs.lemmas.List.{length-set, length-replicate, get_or-replicate, get_or-set_same, get_or-set_other}
 use Rattle.std.proofs.lemmas.Nat.Bits.{bit_at-zero}
 use Rattle.papi_base.specs.declared.occurrence.Occ.{Occ}
@@ -10,7 +11,7 @@ use Rattle.counter_unit.specs.declared.selects.Key.{Key}
 use Rattle.counter_unit.specs.declared.selects.Key.TheVariants as key
 use Rattle.counter_unit.specs.declared.selects.Selects.{Selects}
 use Rattle.counter_unit.specs.Counting.{all_moved, at_place, moved_place}
-use Rattle.counter_unit.specs.Selects.{AreMarked, AreSelects, IsRemarked, bit_of, has}
+use Rattle.counter_unit.specs.Selects.{AreMarked, AreSelects, IsMarkedAt, IsRemarked, bit_of, has}
 use Rattle.counter_unit.proofs.Places.{at_place-all_moved, at_place-replicate}
 
 pub no_bit : (n : ℕ) → n ≡ 1 → n ≡ 0 → ⊥
@@ -30,6 +31,36 @@ AreMarked-put k old new rs c place exists r h = record {
     | inr apart ↦ r.there code i small below apart ∙ h.each code i small below ∙ sym (ap (λ p. bit_of (has k code p)) (get_or-set_other rs c i place None apart))
   ];
 }
+
+-- no other code than its own moves a register
+pub code_alone : (code : ℕ) (r : Register) → (code ≡ r.native.select → ⊥) → (has key.User code (Some r) ≡ false) × (has key.Kernel code (Some r) ≡ false)
+code_alone code r other =
+    let no : (r.native.select == code) ≡ false = ne_eqb r.native.select code (λ e. other (sym e)) in
+    (and_left (r.native.select == code) _ no, and_left (r.native.select == code) _ no)
+
+-- the bits of the code that was, and of that which is, are set: no other can have been on, or be on
+pub AreMarked-at : (k : Key) (old mid new : List ℕ) (rs : List (Option Register)) (c was is : ℕ) (before place : Option Register)
+    → c < length rs → at_place rs c ≡ before → ((code : ℕ) → (code ≡ was → ⊥) → has k code before ≡ false) → ((code : ℕ) → (code ≡ is → ⊥) → has k code place ≡ false)
+    → IsMarkedAt k was c place old mid → IsMarkedAt k is c place mid new → AreMarked k old rs → AreMarked k new (set rs c place)
+AreMarked-at k old mid new rs c was is before place exists stood none_was none_is first second h = record {
+  codes = second.codes ∙ first.codes ∙ h.codes;
+  each = λ code i small below. elim (cases_eq i c) [
+    | inl here ↦ rw (here, get_or-set_same rs c place None exists) (bits code small (let c_below : c < 32 = rw (← here) below in c_below))
+    | inr apart ↦
+        second.there code i small below (λ e f. apart f) ∙ first.there code i small below (λ e f. apart f) ∙ h.each code i small below
+        ∙ sym (ap (λ p. bit_of (has k code p)) (get_or-set_other rs c i place None apart))
+  ];
+} where
+  bits : (code : ℕ) → code < 256 → c < 32 → bit_at (get_or new code 0) c ≡ bit_of (has k code place)
+  bits code small below = elim (cases_eq code is) [
+    | inl same ↦ rw same second.here
+    | inr other ↦ second.there code c small below (λ e f. other e) ∙ elim (cases_eq code was) [
+        | inl same ↦ rw same first.here
+        | inr neither ↦
+            first.there code c small below (λ e f. neither e) ∙ h.each code c small below
+            ∙ ap bit_of (ap (has k code) stood ∙ none_was code neither ∙ sym (none_is code other))
+      ]
+  ]
 
 -- a register that moves keeps its codes
 pub AreSelects-moved : (before : Option Occ) (o : Occ) (selects : Selects) (ws : List ℕ) (rs : List (Option Register)) → length rs ≡ length ws → AreSelects selects rs → AreSelects selects (all_moved before o ws rs)

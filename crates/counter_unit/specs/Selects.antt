@@ -50,3 +50,13 @@ pub record IsRemarked (key : Key) (c : ℕ) (place : Option Register) (old new :
   pub codes : length new ≡ length old
   pub here : (code : ℕ) → code < 256 → bit_at (slice_index new code) c ≡ bit_of (has key code place)
   pub there : (code k : ℕ) → code < 256 → k < 32 → (k ≡ c → ⊥) → bit_at (slice_index new code) k ≡ bit_at (slice_index old code) k
+
+-- no other select code than this can move what is programmed on a counter
+abbrev pub IsCodeOf : ℕ → Option Register → Type 0
+IsCodeOf select place = (code : ℕ) → (code ≡ select → ⊥) → (has key.User code place ≡ false) × (has key.Kernel code place ≡ false)
+
+-- a table in which the bit of one counter is that of this place for one code, and all others as before
+pub record IsMarkedAt (key : Key) (select c : ℕ) (place : Option Register) (old new : List ℕ) : Type 0 where
+  pub codes : length new ≡ length old
+  pub here : bit_at (slice_index new select) c ≡ bit_of (has key select place)
+  pub there : (code k : ℕ) → code < 256 → k < 32 → (code ≡ select → k ≡ c → ⊥) → bit_at (slice_index new code) k ≡ bit_at (slice_index old code) k

@@ -4,7 +4,7 @@ ghost use Rattle.std.specs.Int.{bit_at};
 ghost use Rattle.counter_unit.specs.declared.registers.Register.{Register};
 ghost use Rattle.counter_unit.specs.declared.selects.Key.{Key};
 ghost use Rattle.counter_unit.specs.Counting.{at_place};
-ghost use Rattle.counter_unit.specs.Selects.{AreSelects, IsRemarked, admits, bit_of, has};
+ghost use Rattle.counter_unit.specs.Selects.{AreSelects, IsCodeOf, IsMarkedAt, IsRemarked, admits, bit_of, has};
 
 use crate::modes::{counts_kernel, counts_user};
 use crate::registers::Register;
@@ -74,6 +74,28 @@ fn mark(masks: &mut [u32; 256], key: Key, c: u32, place: &Option<Register>)
     }
 }
 
+/// The select code of what is programmed on a counter, 0 where nothing is.
+#[inline(always)]
+#[tactic(auto, using(crate::proofs::Tables::code_alone))]
+fn code_of(place: &Option<Register>) -> u8
+    ensures { IsCodeOf result place.now }
+{
+    match place {
+        Some(register) => register.native.select,
+        None => 0,
+    }
+}
+
+/// Sets the bit of a counter for one code to that of what is programmed on it.
+#[inline(always)]
+fn mark_at(masks: &mut [u32; 256], key: Key, select: u8, c: u32, place: &Option<Register>)
+    requires { c < 32 }
+    ensures { IsMarkedAt key select c place.now masks.old masks.new }
+{
+    let mask = masks[select as usize];
+    masks[select as usize] = with_bit(mask, c, has(key, u32::from(select), place));
+}
+
 /// Whether occurrences can move both or none, by all that the tables tell of them.
 fn are_alike(old: &Option<Register>, new: &Option<Register>) -> bool
     ensures { result ≡ true → (key : Key) (code : ℕ) → has key code old.now ≡ has key code new.now }
@@ -127,8 +149,11 @@ impl Selects {
         if are_alike(old, place) {
             return;
         }
-        mark(&mut self.user, Key::User, c, place);
-        mark(&mut self.kernel, Key::Kernel, c, place);
+        let (was, is) = (code_of(old), code_of(place));
+        mark_at(&mut self.user, Key::User, was, c, place);
+        mark_at(&mut self.user, Key::User, is, c, place);
+        mark_at(&mut self.kernel, Key::Kernel, was, c, place);
+        mark_at(&mut self.kernel, Key::Kernel, is, c, place);
         mark(&mut self.umasks, Key::Umask, c, place);
     }
 }
