@@ -1,15 +1,28 @@
 //! The files of the disk.
-ghost use Rattle.std.specs.Prelude.{None};
+ghost use Rattle.std.specs.Prelude.{◌≡◌, None, IfOk};
+ghost use Rattle.std.specs.Io.Buffered.{reader_capacity, reader_inner};
 
 use papi_base::{Failed, Files, OpenFail, ReadSource, Source};
 use std::fs;
 use std::fs::File;
-use std::io::ErrorKind;
+use std::io;
+use std::io::{BufReader, ErrorKind};
 
-/// A file of the disk that is read.
+/// How many bytes the system is asked for at a time.
+const DISK_PIECE: usize = 65_536;
+
+/// A file of the disk that is read, in larger pieces than it is asked for. What a read of the file gives is handed on before the next one.
 #[derive(Drop)]
 pub struct DiskSource {
-    reader: ReadSource<File>,
+    reader: ReadSource<BufReader<File>>,
+}
+
+// A file read in large pieces.
+fn in_large_pieces(rt: &HostRuntime, file: File) -> io::Result<BufReader<File>>
+    ensures file { IfOk result (λ reader. reader_inner reader ≡ file) }
+    ensures piece { IfOk result (λ reader. reader_capacity reader ≡ DISK_PIECE) }
+{
+    BufReader::with_capacity(rt.alloc(), DISK_PIECE, file)
 }
 
 impl Source for DiskSource {
@@ -58,15 +71,18 @@ impl<'a> Files for DiskFiles<'a> {
 
     fn open_source(&mut self, name: &str) -> Result<DiskSource, OpenFail> {
         match fs::open(self.rt, name) {
-            Ok(file) => match self.lent.checked_add(1) {
-                Some(lent) => {
-                    self.lent = lent;
-                    Ok(DiskSource {
-                        reader: ReadSource::new(file),
-                    })
-                }
-                None => Err(OpenFail::Memory),
-            },
+            Ok(file) => {
+                let Some(lent) = self.lent.checked_add(1) else {
+                    return Err(OpenFail::Memory);
+                };
+                let Ok(reader) = in_large_pieces(self.rt, file) else {
+                    return Err(OpenFail::Memory);
+                };
+                self.lent = lent;
+                Ok(DiskSource {
+                    reader: ReadSource::new(reader),
+                })
+            }
             Err(error) => {
                 if error.kind() == ErrorKind::NotFound {
                     self.misses = self.misses.saturating_add(1);
