@@ -50,17 +50,21 @@ text-is start t o l e above =
     let fields : fields_judged start (fields_of t) ≡ Occurs o = judged-some start t o (sym e) ∙ is-occurrence start o above in
     rw (l.version, and-false (start.number == 1), l.skipped, fields) refl
 
-line-is : (start : LineStart) (t : List ℕ) (o : Occ) → length t ≤ 128 → start.passed + length t ≤ 67108864 → without_return t ≡ t → text_judged start t ≡ Occurs o → judged start (record { bytes = t; ended = true }) ≡ Occurs o
+line-is : (start : LineStart) (t fields : List ℕ) (o : Occ) → length t ≤ 128 → start.passed + length t ≤ 67108864 → without_return t ≡ fields → text_judged start fields ≡ Occurs o
+    → judged start (record { bytes = t; ended = true }) ≡ Occurs o
 unfolding judged
-line-is start t o short small whole e = rw (le-ltb 128 (length t) short, le-ltb 67108864 (start.passed + length t) small, whole, e) refl
+line-is start t fields o short small whole e = rw (le-ltb 128 (length t) short, le-ltb 67108864 (start.passed + length t) small, whole, e) refl
 
 pub holds-line : (v : ReaderView) (r : CommonLine) → BeginsWith v.start v.held r → (v.start.stamped ≡ true → is_above v.start.last r.occ.stamp ≡ true) → v.start.passed + r.size ≤ 67108864 → HoldsLine v r
 holds-line v r b above small =
     let t = take r.size v.held in
-    let long : length t ≡ r.size = length-take-le r.size v.held (let w = b.within in omega arith) in
+    let within : r.size < length v.held = b.within in
+    let few : b.fields ≤ r.size = b.few in
+    let long : length t ≡ r.size = length-take-le r.size v.held (omega arith) in
     record {
       size = b.within;
       one = b.one;
       is = sym (take-append-drop r.size v.held) ∙ ap (λ u. t ++ u) (rw (add-one, ← b.newline) (drop-cons v.held r.size 0 b.within));
-      judged = sym (line-is v.start t r.occ (let s = b.short in omega (arith, long)) (omega (arith, long)) b.whole (text-is v.start t r.occ (a-line v.held r.size b.some b.within b.digit) b.occurs above));
+      judged = sym (line-is v.start t (take b.fields v.held) r.occ (let s = b.short in omega (arith, long)) (omega (arith, long)) b.whole
+          (text-is v.start (take b.fields v.held) r.occ (a-line v.held b.fields b.some (omega arith) b.digit) b.occurs above));
     }

@@ -78,6 +78,18 @@ plain-whole [] h = refl
 plain-whole (b ∷ []) h = let p = and_parts (is_plain b) true h in rw (no-return b p.0) refl
 plain-whole (b ∷ c ∷ t) h = let p = and_parts (is_plain b) (list_all is_plain (c ∷ t)) h in ap (λ u. b ∷ u) (plain-whole (c ∷ t) p.1)
 
+-- ---- a carriage return after a text
+
+pub return-one : (t : List ℕ) → list_all is_plain t ≡ true → AllByRecursion (λ b. (b == 10) ≡ false) (t ++ 13 ∷ [])
+return-one [] h = (refl, tt)
+return-one (b ∷ t) h = let p = and_parts (is_plain b) (list_all is_plain t) h in (no-newline b p.0, return-one t p.1)
+
+pub return-whole : (t : List ℕ) → without_return (t ++ 13 ∷ []) ≡ t
+unfolding without_return
+return-whole [] = refl
+return-whole (b ∷ []) = refl
+return-whole (b ∷ c ∷ t) = ap (λ u. b ∷ u) (return-whole (c ∷ t))
+
 -- ---- six fields, and what comes after them
 
 abbrev pub line : List ℕ → List ℕ → List ℕ → List ℕ → List ℕ → List ℕ → List ℕ → List ℕ

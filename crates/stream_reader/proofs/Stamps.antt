@@ -48,8 +48,8 @@ digits-inner [] h = refl
 digits-inner (b ∷ f) h = let p = and_parts (is_digit b) (list_all is_digit f) h in rw (digit-inner b p.0, digits-inner f p.1) refl
 
 pub stamp-is : (t : List ℕ) (stamp : Field) → 12 ≤ length t → get_or t 0 0 ≡ 32 → IsDigits (drop 1 t) stamp → has_form stamp.size (get_or (drop 1 t) 0 0) ≡ true
-    → get_or (drop 1 t) stamp.size 0 ≡ 10 → stamp.value ≤ 4294967294 → IsStamp t stamp
-stamp-is t stamp long space digits form newline most =
+    → stamp.value ≤ 4294967294 → IsStamp t stamp
+stamp-is t stamp long space digits form most =
     let u = drop 1 t in
     let f = take stamp.size u in
     let few : stamp.size ≤ 10 = digits.few in
@@ -62,29 +62,24 @@ stamp-is t stamp long space digits form newline most =
       space = space;
       value = decimal-of 4294967294 f digits.each form_of (omega (arith, digits.value)) ∙ ap Some (sym digits.value);
       inner = record { each = digits-inner f digits.each };
-      newline = sym (get_or-drop 1 t stamp.size 0) ∙ newline;
     }
 
--- ---- what stands before the newline
+-- ---- what stands after the program counter
 
--- what stands between the program counter and the newline gives the stamp
+-- what stands between the program counter and the line's end gives the stamp
 pub record IsEnding (start : LineStart) (t : List ℕ) (ending : Field) : Type 0 where
   pub few : ending.size ≤ 11
-  pub within : ending.size < length t
   pub field : first_field (take ending.size t) ≡ []
   pub value : stamp_after start.stamped start.given (after_field (take ending.size t)) ≡ Some ending.value
   pub plain : list_all is_plain (take ending.size t) ≡ true
-  pub newline : get_or t ending.size 0 ≡ 10
 
-pub ending-1 : (start : LineStart) (t : List ℕ) → start.stamped ≡ false → 0 < length t → get_or t 0 0 ≡ 10 → IsEnding start t (record { value = start.given; size = 0 })
+pub ending-1 : (start : LineStart) (t : List ℕ) → start.stamped ≡ false → IsEnding start t (record { value = start.given; size = 0 })
 unfolding first_field after_field
-ending-1 start t plain some newline = record {
+ending-1 start t plain = record {
   few = omega arith;
-  within = some;
   field = refl;
   value = rw plain refl;
   plain = refl;
-  newline = newline;
 }
 
 stamp-after : (count n : ℕ) (f : List ℕ) → first_field f ≡ f → after_field f ≡ None → decimal_in 0 4294967294 f ≡ Some n → stamp_after true count (after_field (32 ∷ f)) ≡ Some n
@@ -97,9 +92,7 @@ ending-2 start t stamp stamped s =
     let whole : take (1 + stamp.size) t ≡ 32 ∷ f = take-add 1 stamp.size t ∙ rw (take-one t (let w = s.within in omega arith), s.space) refl in
     record {
       few = let few = s.few in omega arith;
-      within = s.within;
       field = ap first_field whole ∙ space-first f;
       value = rw (stamped, whole) (stamp-after start.given stamp.value f (last-first f s.inner.each) (last-after f s.inner.each) s.value);
       plain = ap (list_all is_plain) whole ∙ all-plain f s.inner.each;
-      newline = s.newline;
     }

@@ -1,9 +1,9 @@
 -- A whole line from its fields.
-use Rattle.std.proofs.Common.{◌≡◌, ◌∙◌, ◌+◌, ◌-◌, ◌<◌, ◌≤◌, ◌++◌, ◌∷◌, ℕ, true, false, List, [], Some, length, drop, take, get_or, refl, sym, ap, subst, arith}
-use Rattle.std.specs.List.{list_all}
+use Rattle.std.proofs.Common.{◌≡◌, ◌∙◌, ◌+◌, ◌-◌, ◌<◌, ◌≤◌, ◌==◌, ◌++◌, ◌∷◌, ℕ, true, false, List, [], Some, length, drop, take, get_or, refl, sym, ap, subst, inl, inr, arith}
+use Rattle.std.specs.List.{list_all, AllByRecursion}
 use Rattle.std.specs.Str.Parse.{digits_value}
 use Rattle.std.proofs.Math.Seq.{take-add}
-use Rattle.std.proofs.lemmas.List.{take_more, get_or-drop, drop-drop, length-take-le, length-drop, append_assoc}
+use Rattle.std.proofs.lemmas.List.{take_more, drop-drop, length-take-le, length-drop, append_assoc}
 use Rattle.std.proofs.lemmas.List.Folds.{list_all-append}
 use Rattle.std.proofs.lemmas.Bool.{and_parts, le-leb}
 use Rattle.papi_base.specs.Numerals.{hex_in, is_hex_digit}
@@ -13,9 +13,10 @@ use Rattle.stream_reader.specs.declared.field.Field.{Field}
 use Rattle.stream_reader.specs.declared.line.LineStart.{LineStart}
 use Rattle.stream_reader.specs.Digits.{IsHexadecimal, piece}
 use Rattle.stream_reader.specs.Fields.{occurrence_on}
-use Rattle.stream_reader.specs.CommonLines.{BeginsWith, HasHeadSpaces, IsAmount, IsComponent, IsFront, IsHead, IsStamp, is_inner, is_plain, occ_with}
+use Rattle.stream_reader.specs.Judged.{without_return}
+use Rattle.stream_reader.specs.CommonLines.{BeginsWith, EndsAt, HasHeadSpaces, IsAmount, IsComponent, IsFront, IsHead, IsStamp, is_inner, is_plain, occ_with}
 use Rattle.stream_reader.proofs.LineHeads.{inner-hex}
-use Rattle.stream_reader.proofs.LineFields.{AreInner, fields-plain, line, line-is, plain-one, plain-whole}
+use Rattle.stream_reader.proofs.LineFields.{AreInner, fields-plain, line, line-is, plain-one, plain-whole, return-one, return-whole}
 use Rattle.stream_reader.proofs.Stamps.{IsEnding, ending-1, ending-2}
 
 hex-inner : (f : List ℕ) → list_all is_hex_digit f ≡ true → list_all is_inner f ≡ true
@@ -110,38 +111,69 @@ front t comp h amount pc long c head am digits some =
           ∙ line-is stamped count (take n t) _ _ _ amt hex s comp.value h amount.value pc.value stamp all ends c.value head.select head.umask head.kernel am.value hex_in_range value;
     }
 
-pub begins : (start : LineStart) (t : List ℕ) (front : Front) (ending : Field) → IsFront t front → IsEnding start (drop front.size t) ending
-    → BeginsWith start t (record { occ = occ_with front ending.value; size = front.size + ending.size })
-begins start t front ending f e =
+-- ---- the end of the line
+
+-- the bytes of a line that ends after these fields
+record IsLine (t : List ℕ) (place size : ℕ) : Type 0 where
+  least : place ≤ size
+  most : size ≤ place + 1
+  whole : without_return (take size t) ≡ take place t
+  one : AllByRecursion (λ b. (b == 10) ≡ false) (take size t)
+
+ends : (t : List ℕ) (place size : ℕ) → place < length t → list_all is_plain (take place t) ≡ true → EndsAt t place size → IsLine t place size
+ends t place size long plain e = elim e.fields [
+  | inl same ↦ subst (IsLine t place) (sym same) (record {
+    least = omega arith;
+    most = omega arith;
+    whole = plain-whole (take place t) plain;
+    one = plain-one (take place t) plain;
+  })
+  | inr more ↦
+      let f = take place t in
+      let with_return : take (place + 1) t ≡ f ++ 13 ∷ [] = take_more t place 0 long ∙ rw more.1 refl in
+      subst (IsLine t place) (sym more.0) (record {
+        least = omega arith;
+        most = omega arith;
+        whole = rw with_return (return-whole f);
+        one = rw with_return (return-one f plain);
+      })
+]
+
+pub begins : (start : LineStart) (t : List ℕ) (front : Front) (ending : Field) (size : ℕ) → IsFront t front → IsEnding start (drop front.size t) ending → front.size + ending.size + 1 < length t
+    → EndsAt t (front.size + ending.size) size → BeginsWith start t (record { occ = occ_with front ending.value; size = size })
+begins start t front ending size f e long at =
     let n = front.size in
-    let size = n + ending.size in
+    let place = n + ending.size in
     let tail = take ending.size (drop n t) in
-    let whole : take size t ≡ take n t ++ tail = take-add n ending.size t in
-    let plain : list_all is_plain (take size t) ≡ true = ap (list_all is_plain) whole ∙ list_all-append is_plain (take n t) tail ∙ rw (f.plain, e.plain) refl in
+    let fields : take place t ≡ take n t ++ tail = take-add n ending.size t in
+    let plain : list_all is_plain (take place t) ≡ true = ap (list_all is_plain) fields ∙ list_all-append is_plain (take n t) tail ∙ rw (f.plain, e.plain) refl in
     let few : n < 32 = f.few in
     let some : 0 < n = f.some in
     let e_few : ending.size ≤ 11 = e.few in
-    let e_within : ending.size < length (drop n t) = e.within in
-    let long : length (drop n t) ≡ length t - n = length-drop n t in
+    let l = ends t place size (omega arith) plain at in
+    let least : place ≤ size = l.least in
+    let most : size ≤ place + 1 = l.most in
     record {
       within = omega arith;
       short = omega arith;
+      newline = at.newline;
+      one = record { each = l.one };
+      fields = place;
       some = omega arith;
+      few = least;
       digit = f.digit;
-      whole = plain-whole (take size t) plain;
-      newline = sym (get_or-drop n t ending.size 0) ∙ e.newline;
-      one = record { each = plain-one (take size t) plain };
-      occurs = ap (occurrence_on start.stamped start.given) whole ∙ f.occurs start.stamped start.given ending.value tail e.field e.value;
+      whole = l.whole;
+      occurs = ap (occurrence_on start.stamped start.given) fields ∙ f.occurs start.stamped start.given ending.value tail e.field e.value;
     }
 
--- in version 1 nothing stands before the newline
-pub begins-1 : (start : LineStart) (t : List ℕ) (front : Front) → start.stamped ≡ false → IsFront t front → get_or t front.size 0 ≡ 10 → BeginsWith start t (record { occ = occ_with front start.given; size = front.size })
-begins-1 start t front plain f newline =
-    let e = ending-1 start (drop front.size t) plain (let w = f.within in omega (arith, length-drop front.size t)) (get_or-drop front.size t 0 0 ∙ ap (λ m. get_or t m 0) (omega arith) ∙ newline) in
-    let same : front.size + 0 ≡ front.size = omega arith in
-    subst (λ m. BeginsWith start t (record { occ = occ_with front start.given; size = m })) same (begins start t front (record { value = start.given; size = 0 }) f e)
+-- in version 1 nothing stands after the program counter
+pub begins-1 : (start : LineStart) (t : List ℕ) (front : Front) (size : ℕ) → start.stamped ≡ false → IsFront t front → front.size + 1 < length t → EndsAt t front.size size
+    → BeginsWith start t (record { occ = occ_with front start.given; size = size })
+begins-1 start t front size plain f long at =
+    let same : front.size ≡ front.size + 0 = omega arith in
+    begins start t front (record { value = start.given; size = 0 }) size f (ending-1 start (drop front.size t) plain) (omega arith) (subst (λ place. EndsAt t place size) same at)
 
 -- in version 2 a space and the stamp
-pub begins-2 : (start : LineStart) (t : List ℕ) (front : Front) (stamp : Field) → start.stamped ≡ true → IsFront t front → IsStamp (drop front.size t) stamp
-    → BeginsWith start t (record { occ = occ_with front stamp.value; size = front.size + (1 + stamp.size) })
-begins-2 start t front stamp stamped f s = begins start t front (record { value = stamp.value; size = 1 + stamp.size }) f (ending-2 start (drop front.size t) stamp stamped s)
+pub begins-2 : (start : LineStart) (t : List ℕ) (front : Front) (stamp : Field) (size : ℕ) → start.stamped ≡ true → IsFront t front → IsStamp (drop front.size t) stamp
+    → front.size + (1 + stamp.size) + 1 < length t → EndsAt t (front.size + (1 + stamp.size)) size → BeginsWith start t (record { occ = occ_with front stamp.value; size = size })
+begins-2 start t front stamp size stamped f s long at = begins start t front (record { value = stamp.value; size = 1 + stamp.size }) size f (ending-2 start (drop front.size t) stamp stamped s) long at

@@ -1,5 +1,5 @@
 -- Lines of the common form: this project's own stream format, docs/FORMATS.md.
-use Rattle.std.specs.Prelude.{◌≡◌, ◌≤◌, ◌<◌, ◌+◌, ◌++◌, ◌==◌, ◌||◌, ℕ, Bool, true, not, List, [], ◌∷◌, length, take, drop, slice_index, Some}
+use Rattle.std.specs.Prelude.{◌≡◌, ◌≤◌, ◌<◌, ◌+◌, ◌⊎◌, ◌++◌, ◌==◌, ◌||◌, ℕ, Bool, true, not, List, [], ◌∷◌, length, take, drop, slice_index, Some}
 use Rattle.std.specs.List.{list_all}
 use Rattle.std.specs.Str.Parse.{digits_value}
 use Rattle.papi_base.specs.Numerals.{decimal_in, hex_in, is_digit}
@@ -87,25 +87,32 @@ pub record IsDigits (t : List ℕ) (digits : Field) : Type 0 where
   pub each : list_all is_digit (take digits.size t) ≡ true
   pub value : digits.value ≡ digits_value 10 (take digits.size t)
 
--- a space, a stamp, and the newline
+-- a space and a stamp
 pub record IsStamp (t : List ℕ) (stamp : Field) : Type 0 where
   pub few : stamp.size ≤ LONGEST_STAMP
   pub within : 1 + stamp.size < length t
   pub space : slice_index t 0 ≡ 32
   pub value : decimal_in 0 4294967294 (piece 1 stamp.size t) ≡ Some stamp.value
   pub inner : IsInner (piece 1 stamp.size t)
-  pub newline : slice_index t (1 + stamp.size) ≡ 10
 
--- a text begins with a line that writes an occurrence, and then the newline
+-- the line whose fields end at this place has this length: a carriage return may stand after them, and then comes the newline
+pub record EndsAt (t : List ℕ) (place size : ℕ) : Type 0 where
+  pub newline : slice_index t size ≡ 10
+  pub fields : (size ≡ place) ⊎ ((size ≡ place + 1) × (slice_index t place ≡ 13))
+
+-- a text begins with a line whose fields write an occurrence, and then the newline
 pub record BeginsWith (start : LineStart) (t : List ℕ) (line : CommonLine) : Type 0 where
   pub within : line.size < length t
   pub short : line.size ≤ LONGEST_LINE
-  pub some : 0 < line.size
-  pub digit : is_digit (slice_index t 0) ≡ true
-  pub whole : without_return (take line.size t) ≡ take line.size t
   pub newline : slice_index t line.size ≡ 10
   pub one : IsOneLine (take line.size t)
-  pub occurs : occurrence_on start.stamped start.given (take line.size t) ≡ Some line.occ
+  -- the length of the fields, with no carriage return
+  pub fields : ℕ
+  pub some : 0 < fields
+  pub few : fields ≤ line.size
+  pub digit : is_digit (slice_index t 0) ≡ true
+  pub whole : without_return (take line.size t) ≡ take fields t
+  pub occurs : occurrence_on start.stamped start.given (take fields t) ≡ Some line.occ
 
 -- the bytes held begin with this line, and it is judged to be its occurrence
 pub record HoldsLine (v : ReaderView) (line : CommonLine) : Type 0 where

@@ -1,7 +1,7 @@
-//! Lines of the common form, read at fixed places: an occurrence of either version, and a newline with no carriage return before
-//! it. Every other line, good or bad, is left to `line`.
-ghost use Rattle.std.specs.Prelude.{◌≡◌, ◌≤◌, ◌+◌, ◌*◌, true, false, length, IfSome};
-ghost use Rattle.stream_reader.specs.CommonLines.{HasHeadSpaces, IsComponent, IsHead, IsAmount, IsFront, IsDigits, IsStamp, BeginsWith, occ_with};
+//! Lines of the common form, read at fixed places: an occurrence of either version, and a newline, with a carriage return before it
+//! or not. Every other line, good or bad, is left to `line`.
+ghost use Rattle.std.specs.Prelude.{◌≡◌, ◌<◌, ◌≤◌, ◌+◌, ◌*◌, true, false, length, IfSome};
+ghost use Rattle.stream_reader.specs.CommonLines.{HasHeadSpaces, IsComponent, IsHead, IsAmount, IsFront, IsDigits, IsStamp, BeginsWith, EndsAt, occ_with};
 
 use crate::byte_tables::{digit_or_255, mode_or_255};
 use crate::digit_vector::hexadecimal_at;
@@ -46,7 +46,7 @@ const LONGEST_REST: usize = HEAD + 3 + 1 + 16 + 1;
 // The digits of the longest stamp.
 const LONGEST_STAMP: usize = 10;
 
-// The bytes of the longest line of version 1, with its newline.
+// The bytes of the longest line of version 1, with its newline. A line may have a carriage return more.
 const LONGEST_NUMBERED: usize = 2 + LONGEST_REST;
 
 // The bytes of the longest line of version 2, which has a space and the stamp more.
@@ -222,7 +222,7 @@ fn decimal_digits(text: &[u8]) -> Field
     Field { value, size }
 }
 
-// The stamp after a space, where a newline ends it.
+// The stamp after a space.
 #[inline(always)]
 fn read_stamp(text: &[u8]) -> Option<Field>
     requires { LONGEST_STAMP + 2 ≤ length text.now }
@@ -233,7 +233,7 @@ fn read_stamp(text: &[u8]) -> Option<Field>
     }
     let digits = &text[1..];
     let stamp = decimal_digits(digits);
-    if !has_form(digits, stamp.size) || digits[stamp.size] != b'\n' {
+    if !has_form(digits, stamp.size) {
         return None;
     }
     if stamp.value > 4_294_967_294 {
@@ -258,22 +258,35 @@ fn occ_with(front: Front, stamp: u64) -> Occ
     }
 }
 
+// The length of the line whose fields end at this place, where a newline comes then, or a carriage return and a newline.
+#[inline(always)]
+fn line_size(text: &[u8], place: usize) -> Option<usize>
+    requires { place + 1 < length text.now }
+    ensures { IfSome result (λ size. EndsAt text.now place size) }
+{
+    if text[place] == b'\n' {
+        return Some(place);
+    }
+    if text[place] == b'\r' && text[place + 1] == b'\n' {
+        return Some(place + 1);
+    }
+    None
+}
+
 // The line in version 1, where the stamp is the number of occurrences before.
 #[inline(always)]
 fn numbered_line(start: &LineStart, text: &[u8]) -> Option<CommonLine>
     requires { start.now.stamped ≡ false }
     ensures { IfSome result (λ line. BeginsWith start.now text.now line) }
 {
-    if text.len() < LONGEST_NUMBERED {
+    if text.len() <= LONGEST_NUMBERED {
         return None;
     }
     let front = read_front(text)?;
-    if text[front.size] != b'\n' {
-        return None;
-    }
+    let size = line_size(text, front.size)?;
     Some(CommonLine {
         occ: occ_with(front, start.given),
-        size: front.size,
+        size,
     })
 }
 
@@ -283,14 +296,15 @@ fn stamped_line(start: &LineStart, text: &[u8]) -> Option<CommonLine>
     requires { start.now.stamped ≡ true }
     ensures { IfSome result (λ line. BeginsWith start.now text.now line) }
 {
-    if text.len() < LONGEST_STAMPED {
+    if text.len() <= LONGEST_STAMPED {
         return None;
     }
     let front = read_front(text)?;
     let stamp = read_stamp(&text[front.size..])?;
+    let size = line_size(text, front.size + (1 + stamp.size))?;
     Some(CommonLine {
         occ: occ_with(front, stamp.value),
-        size: front.size + (1 + stamp.size),
+        size,
     })
 }
 
