@@ -1,11 +1,12 @@
--- The two tables of bytes, place by place.
+-- The tables of bytes, place by place.
 use Rattle.std.proofs.Common.{◌≡◌, ◌<◌, ◌≤◌, ◌==◌, ◌&&◌, ℕ, zero, suc, Bool, true, false, Some, None, inl, inr, slice_index, refl, arith}
-use Rattle.std.specs.Prelude.{if◌then◌else◌}
+use Rattle.std.specs.Prelude.{if◌then◌else◌, nat_le}
 use Rattle.std.specs.Char.{digit_value}
-use Rattle.std.proofs.lemmas.Bool.{and_parts, cases_lt, eqb-true, ltb-true}
-use Rattle.papi_base.specs.Numerals.{is_hex_digit}
-use Rattle.stream_reader.specs.declared.byte_tables.TheConstants.{DIGITS, MODES}
-use Rattle.stream_reader.specs.ByteTables.{digit_or_255, mode_or_255}
+use Rattle.std.proofs.lemmas.Bool.{and_parts, cases_lt, eqb-true, leb-true, ltb-true}
+use Rattle.papi_base.specs.Numerals.{is_digit, is_hex_digit}
+use Rattle.stream_reader.specs.declared.byte_tables.TheConstants.{DECIMALS, DIGITS, MODES}
+use Rattle.stream_reader.specs.ByteTables.{decimal_or_256, digit_or_256, mode_or_256}
+use Rattle.stream_reader.proofs.DecimalBytes.{digit}
 
 -- the test of the places below n, which computes
 abbrev pub all_same : (ℕ → ℕ) → (ℕ → ℕ) → ℕ → Bool
@@ -23,22 +24,49 @@ at-place f g (suc n) b h lt =
           rw e (eqb-true (f n) (g n) parts.0)
     ]
 
-pub digits-at : (b : ℕ) → b < 256 → slice_index DIGITS b ≡ digit_or_255 b
-digits-at b h = at-place (λ n. slice_index DIGITS n) digit_or_255 256 b refl h
+pub digits-at : (b : ℕ) → b < 256 → slice_index DIGITS b ≡ digit_or_256 b
+digits-at b h = at-place (λ n. slice_index DIGITS n) digit_or_256 256 b refl h
 
-pub modes-at : (b : ℕ) → b < 256 → slice_index MODES b ≡ mode_or_255 b
-modes-at b h = at-place (λ n. slice_index MODES n) mode_or_255 256 b refl h
+pub decimals-at : (b : ℕ) → b < 256 → slice_index DECIMALS b ≡ decimal_or_256 b
+decimals-at b h = at-place (λ n. slice_index DECIMALS n) decimal_or_256 256 b refl h
 
-pub some-digit : (b : ℕ) → digit_or_255 b < 16 → Some (digit_or_255 b) ≡ (if is_hex_digit b then Some (digit_value b) else None)
+pub modes-at : (b : ℕ) → b < 256 → slice_index MODES b ≡ mode_or_256 b
+modes-at b h = at-place (λ n. slice_index MODES n) mode_or_256 256 b refl h
+
+pub digit-most : (b : ℕ) → digit_or_256 b ≤ 256
+digit-most b = go (is_hex_digit b) refl
+  where
+    go : (x : Bool) → is_hex_digit b ≡ x → (if x then digit_value b else 256) ≤ 256
+    go true p = omega (arith, ltb-true (digit_value b) 16 p)
+    go false p = omega arith
+
+pub decimal-most : (b : ℕ) → decimal_or_256 b ≤ 256
+decimal-most b = go (is_digit b) refl
+  where
+    go : (x : Bool) → is_digit b ≡ x → (if x then digit_value b else 256) ≤ 256
+    go true p =
+        let parts = and_parts (nat_le 48 b) (nat_le b 57) p in
+        omega (arith, leb-true b 57 parts.1, (digit b (leb-true 48 b parts.0) (leb-true b 57 parts.1)).value)
+    go false p = omega arith
+
+pub mode-most : (b : ℕ) → mode_or_256 b ≤ 256
+mode-most b = go (b == 117) (b == 107)
+  where
+    go : (x y : Bool) → (if x then 0 else if y then 1 else 256) ≤ 256
+    go true y = omega arith
+    go false true = omega arith
+    go false false = omega arith
+
+pub some-digit : (b : ℕ) → digit_or_256 b < 16 → Some (digit_or_256 b) ≡ (if is_hex_digit b then Some (digit_value b) else None)
 some-digit b h = go (is_hex_digit b) h
   where
-    go : (x : Bool) → (if x then digit_value b else 255) < 16 → Some (if x then digit_value b else 255) ≡ (if x then Some (digit_value b) else None)
+    go : (x : Bool) → (if x then digit_value b else 256) < 16 → Some (if x then digit_value b else 256) ≡ (if x then Some (digit_value b) else None)
     go true p = refl
     go false p = absurd (omega arith)
 
-pub no-digit : (b : ℕ) → 16 ≤ digit_or_255 b → None ≡ (if is_hex_digit b then Some (digit_value b) else None)
+pub no-digit : (b : ℕ) → 16 ≤ digit_or_256 b → None ≡ (if is_hex_digit b then Some (digit_value b) else None)
 no-digit b h = go (is_hex_digit b) refl h
   where
-    go : (x : Bool) → is_hex_digit b ≡ x → 16 ≤ (if x then digit_value b else 255) → None ≡ (if x then Some (digit_value b) else None)
+    go : (x : Bool) → is_hex_digit b ≡ x → 16 ≤ (if x then digit_value b else 256) → None ≡ (if x then Some (digit_value b) else None)
     go true p q = absurd (omega (arith, ltb-true (digit_value b) 16 p))
     go false p q = refl

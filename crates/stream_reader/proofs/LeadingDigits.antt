@@ -10,44 +10,50 @@ use lib.Lanes.{Each1, chunk}
 use Rattle.std.proofs.lemmas.Simd.{length-chunk}
 use Rattle.std.proofs.lemmas.List.{length-map, take-take}
 use Rattle.papi_base.specs.Numerals.{is_hex_digit}
-use Rattle.stream_reader.specs.ByteTables.{digit_or_255}
-use Rattle.stream_reader.specs.Digits.{IsHexadecimal, is_value, number_after, piece}
+use Rattle.stream_reader.specs.Digits.{HasValue, HaveValues, IsHexadecimal, is_value, number_after, piece}
 use Rattle.stream_reader.proofs.ByteTables.{at-place}
 use Rattle.stream_reader.proofs.JoinedDigits.{low, small}
 use Rattle.stream_reader.proofs.DigitRuns.{run-le}
-use Rattle.stream_reader.proofs.LineHeads.{IsHex, is-hex}
-
-abbrev values : List ℕ → List ℕ
-values xs = map digit_or_255 xs
 
 -- the first of the lanes up to k
-record Goes (x k : ℕ) (xs : List ℕ) : Type 0 where
-  digit : IsHex x
-  rest : k ≤ prefix_len is_value (values xs)
+record Goes (x v k : ℕ) (vs : List ℕ) : Type 0 where
+  test : is_hex_digit x ≡ true
+  value : v ≡ digit_value x
+  rest : k ≤ prefix_len is_value vs
 
-goes : (x k : ℕ) (xs : List ℕ) → suc k ≤ prefix_len is_value (values (x ∷ xs)) → Goes x k xs
-goes x k xs h = go (nat_le 16 (digit_or_255 x)) refl h
+goes : (x v k : ℕ) (vs : List ℕ) → HasValue x v → suc k ≤ prefix_len is_value (v ∷ vs) → Goes x v k vs
+goes x v k vs f h = go (nat_le 16 v) refl (is_hex_digit x) refl h
   where
-    below : (v : ℕ) → nat_le 16 v ≡ false → v ≤ 15
-    below v e = omega (arith, leb-false 16 v e)
+    go : (b : Bool) → nat_le 16 v ≡ b → (d : Bool) → is_hex_digit x ≡ d → suc k ≤ cond (not b) (1 + prefix_len is_value vs) 0 → Goes x v k vs
+    go true e d p l = absurd (omega arith)
+    go false e true p l = record { test = p; value = f.digit p; rest = omega arith }
+    go false e false p l = absurd (omega (arith, f.other p, leb-false 16 v e))
 
-    go : (b : Bool) → nat_le 16 (digit_or_255 x) ≡ b → suc k ≤ cond (not b) (1 + prefix_len is_value (values xs)) 0 → Goes x k xs
-    go true e l = absurd (omega arith)
-    go false e l = record { digit = is-hex x (below (digit_or_255 x) e); rest = omega arith }
+heads-hex : (k : ℕ) (xs vs : List ℕ) → HaveValues xs vs → k ≤ prefix_len is_value vs → list_all is_hex_digit (take k xs) ≡ true
+unfolding HaveValues
+heads-hex zero xs vs f h = refl
+heads-hex (suc k) [] [] f h = absurd (omega arith)
+heads-hex (suc k) [] (v ∷ vs) f h = absurd f
+heads-hex (suc k) (x ∷ xs) [] f h = absurd f
+heads-hex (suc k) (x ∷ xs) (v ∷ vs) f h = let g = goes x v k vs f.0 h in rw (g.test, heads-hex k xs vs f.1 g.rest) refl
 
-heads-hex : (k : ℕ) (xs : List ℕ) → k ≤ prefix_len is_value (values xs) → list_all is_hex_digit (take k xs) ≡ true
-heads-hex zero xs h = refl
-heads-hex (suc k) [] h = absurd (omega arith)
-heads-hex (suc k) (x ∷ xs) h = let g = goes x k xs h in rw (g.digit.test, heads-hex k xs g.rest) refl
+heads-value : (k n : ℕ) (xs vs : List ℕ) → HaveValues xs vs → k ≤ prefix_len is_value vs → number_after n (take k (map low vs)) ≡ digits_value_after 16 n (take k xs)
+unfolding HaveValues number_after
+heads-value zero n xs vs f h = refl
+heads-value (suc k) n [] [] f h = absurd (omega arith)
+heads-value (suc k) n [] (v ∷ vs) f h = absurd f
+heads-value (suc k) n (x ∷ xs) [] f h = absurd f
+heads-value (suc k) n (x ∷ xs) (v ∷ vs) f h =
+    let g = goes x v k vs f.0 h in
+    let same : low v ≡ digit_value x = omega (arith, g.value, ltb-true (digit_value x) 16 g.test) in
+    ap (λ d. number_after (n * 16 + d) (take k (map low vs))) same ∙ heads-value k (n * 16 + digit_value x) xs vs f.1 g.rest
 
-heads-value : (k n : ℕ) (xs : List ℕ) → k ≤ prefix_len is_value (values xs) → number_after n (take k (map low (values xs))) ≡ digits_value_after 16 n (take k xs)
-unfolding number_after
-heads-value zero n xs h = refl
-heads-value (suc k) n [] h = absurd (omega arith)
-heads-value (suc k) n (x ∷ xs) h =
-    let g = goes x k xs h in
-    let same : low (digit_or_255 x) ≡ digit_value x = omega (arith, g.digit.value, ltb-true (digit_value x) 16 g.digit.test) in
-    ap (λ d. number_after (n * 16 + d) (take k (map low (values xs)))) same ∙ heads-value k (n * 16 + digit_value x) xs g.rest
+as-many : (xs vs : List ℕ) → HaveValues xs vs → length xs ≡ length vs
+unfolding HaveValues
+as-many [] [] f = refl
+as-many [] (v ∷ vs) f = absurd f
+as-many (x ∷ xs) [] f = absurd f
+as-many (x ∷ xs) (v ∷ vs) f = ap suc (as-many xs vs f.1)
 
 -- a division drops the digits after the first k
 rest-goes : (n : ℕ) (ys : List ℕ) → Each1 (λ y. y < 16) ys → number_after n ys / 16 ^ length ys ≡ n
@@ -68,21 +74,20 @@ first-stay (suc k) n (y ∷ ys) l h = ap (λ m. number_after (n * 16 + y) ys / 1
 powers : (k : ℕ) → k < 17 → 2 ^ (64 - 4 * k) ≡ 16 ^ (16 - k)
 powers k h = at-place (λ n. 2 ^ (64 - 4 * n)) (λ n. 16 ^ (16 - n)) 17 k refl h
 
-pub digits-are : (t : List ℕ) (at k joined : ℕ) → at + 16 ≤ length t → k ≡ prefix_len is_value (values (chunk at 16 t)) → joined ≡ number_after 0 (map low (values (chunk at 16 t)))
+pub digits-are : (t : List ℕ) (at k joined : ℕ) (vs : List ℕ) → at + 16 ≤ length t → HaveValues (chunk at 16 t) vs → k ≡ prefix_len is_value vs → joined ≡ number_after 0 (map low vs)
     → IsHexadecimal t at (record { value = joined / 2 ^ (64 - 4 * k); size = k })
-digits-are t at k joined room e f =
+digits-are t at k joined vs room have e f =
     let xs = chunk at 16 t in
-    let ys = map low (values xs) in
-    let xs_long : length xs ≡ 16 = length-chunk at 16 t room in
-    let vs_long : length (values xs) ≡ 16 = length-map xs digit_or_255 ∙ xs_long in
-    let ys_long : length ys ≡ 16 = length-map (values xs) low ∙ vs_long in
-    let most : k ≤ 16 = omega (arith, run-le (values xs) vs_long) in
-    let within : k ≤ prefix_len is_value (values xs) = omega (arith, e) in
+    let ys = map low vs in
+    let vs_long : length vs ≡ 16 = sym (as-many xs vs have) ∙ length-chunk at 16 t room in
+    let ys_long : length ys ≡ 16 = length-map vs low ∙ vs_long in
+    let most : k ≤ 16 = omega (arith, run-le vs vs_long) in
+    let within : k ≤ prefix_len is_value vs = omega (arith, e) in
     let same : take k xs ≡ piece at k t = take-take k 16 (drop at t) most in
     record {
       few = most;
-      each = ap (list_all is_hex_digit) (sym same) ∙ heads-hex k xs within;
+      each = ap (list_all is_hex_digit) (sym same) ∙ heads-hex k xs vs have within;
       value =
           ap (λ p. joined / p) (powers k (omega arith)) ∙ ap (λ j. j / 16 ^ (16 - k)) f ∙ ap (λ m. number_after 0 ys / 16 ^ (m - k)) (sym ys_long)
-          ∙ first-stay k 0 ys (omega arith) (small (values xs)) ∙ heads-value k 0 xs within ∙ ap (digits_value 16) same;
+          ∙ first-stay k 0 ys (omega arith) (small vs) ∙ heads-value k 0 xs vs have within ∙ ap (digits_value 16) same;
     }

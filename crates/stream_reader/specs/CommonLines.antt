@@ -66,6 +66,13 @@ pub record IsAmount (t : List ℕ) (amount : Field) : Type 0 where
   pub inner : IsInner (piece HEAD amount.size t)
   pub space : slice_index t (HEAD + amount.size) ≡ 32
 
+-- a number with this value and so many digits, from the least one to 255
+pub record IsAmountOf (n digits least : ℕ) (amount : Field) : Type 0 where
+  pub value : amount.value ≡ n
+  pub size : amount.size ≡ digits
+  pub above : least ≤ n
+  pub within : n ≤ 255
+
 -- the occurrence of these fields with this stamp
 abbrev pub occ_with : Front → ℕ → Occ
 occ_with front stamp =

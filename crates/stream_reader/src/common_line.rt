@@ -1,9 +1,10 @@
 //! Lines of the common form, read at fixed places: an occurrence of either version, and a newline, with a carriage return before it
 //! or not. Every other line, good or bad, is left to `line`.
 ghost use Rattle.std.specs.Prelude.{◌≡◌, ◌<◌, ◌≤◌, ◌+◌, ◌*◌, true, false, length, IfSome};
-ghost use Rattle.stream_reader.specs.CommonLines.{HasHeadSpaces, IsComponent, IsHead, IsAmount, IsFront, IsDigits, IsStamp, BeginsWith, EndsAt, occ_with};
+ghost use Rattle.stream_reader.specs.ByteTables.{digit_or_256};
+ghost use Rattle.stream_reader.specs.CommonLines.{HasHeadSpaces, IsComponent, IsHead, IsAmount, IsAmountOf, IsFront, IsDigits, IsStamp, BeginsWith, EndsAt, occ_with};
 
-use crate::byte_tables::{digit_or_255, mode_or_255};
+use crate::byte_tables::{decimal_or_256, digit_or_256, mode_or_256};
 use crate::digit_vector::hexadecimal_at;
 use crate::field::{Field, has_form};
 use crate::line::LineStart;
@@ -93,14 +94,12 @@ fn has_head_spaces(text: &[u8]) -> bool
     text[0] == b' ' && text[3] == b' ' && text[6] == b' ' && text[8] == b' '
 }
 
-// The byte that has these two hexadecimal digits.
+// The byte that has these two hexadecimal digits, and more than 255 if one of them is none.
 #[inline(always)]
-fn byte_of(high: u8, low: u8) -> u8
-    requires high { high ≤ 15 }
-    requires low { low ≤ 15 }
-    ensures { result ≡ high * 16 + low }
+fn byte_or_more(high: u8, low: u8) -> u32
+    ensures { result ≡ digit_or_256 high * 16 + digit_or_256 low }
 {
-    high * 16 + low
+    digit_or_256(high) * 16 + digit_or_256(low)
 }
 
 // The fields after the component and before the amount.
@@ -109,21 +108,33 @@ fn read_head(text: &[u8]) -> Option<Head>
     requires { LONGEST_REST ≤ length text.now }
     ensures { IfSome result (λ head. IsHead text.now head) }
 {
-    let select_high = digit_or_255(text[1]);
-    let select_low = digit_or_255(text[2]);
-    let umask_high = digit_or_255(text[4]);
-    let umask_low = digit_or_255(text[5]);
-    let mode = mode_or_255(text[7]);
+    let select = byte_or_more(text[1], text[2]);
+    let umask = byte_or_more(text[4], text[5]);
+    let mode = mode_or_256(text[7]);
     if !has_head_spaces(text) {
         return None;
     }
-    if (select_high | select_low | umask_high | umask_low | mode) > 15 {
+    if (select | umask | mode) > 255 {
         return None;
     }
     Some(Head {
-        select: byte_of(select_high, select_low),
-        umask: byte_of(umask_high, umask_low),
+        select: select as u8,
+        umask: umask as u8,
         kernel: mode == 1,
+    })
+}
+
+// The amount of this value and length, unless it is above 255. It is below the least number of its length if its first digit is 0.
+#[inline(always)]
+fn amount_of(value: u32, size: usize, least: u32) -> Option<Field>
+    ensures { IfSome result (λ amount. IsAmountOf value size least amount) }
+{
+    if value < least || value > 255 {
+        return None;
+    }
+    Some(Field {
+        value: u64::from(value),
+        size,
     })
 }
 
@@ -133,35 +144,19 @@ fn read_amount(text: &[u8]) -> Option<Field>
     requires { LONGEST_REST ≤ length text.now }
     ensures { IfSome result (λ amount. IsAmount text.now amount) }
 {
-    let first = text[HEAD].wrapping_sub(b'0');
-    let second = text[HEAD + 1].wrapping_sub(b'0');
-    let third = text[HEAD + 2].wrapping_sub(b'0');
-    if first == 0 || first > 9 {
-        return None;
-    }
+    let first = decimal_or_256(text[HEAD]);
+    let second = decimal_or_256(text[HEAD + 1]);
     if text[HEAD + 2] == b' ' {
-        if second > 9 {
-            return None;
-        }
-        return Some(Field {
-            value: u64::from(first * 10 + second),
-            size: 2,
-        });
+        return amount_of(first * 10 + second, 2, 10);
     }
     if text[HEAD + 1] == b' ' {
-        return Some(Field {
-            value: u64::from(first),
-            size: 1,
-        });
+        return amount_of(first, 1, 1);
     }
-    if second > 9 || third > 9 || text[HEAD + 3] != b' ' {
+    let third = decimal_or_256(text[HEAD + 2]);
+    if text[HEAD + 3] != b' ' {
         return None;
     }
-    let value = u64::from(first) * 100 + u64::from(second) * 10 + u64::from(third);
-    if value > 255 {
-        return None;
-    }
-    Some(Field { value, size: 3 })
+    amount_of(first * 100 + second * 10 + third, 3, 100)
 }
 
 // The fields before the stamp, where this is the component.

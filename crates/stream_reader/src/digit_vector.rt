@@ -1,25 +1,24 @@
 //! Hexadecimal digits, sixteen at a time: the bytes are the lanes of a vector, the first byte the first lane.
 ghost use Rattle.std.specs.Prelude.{◌≡◌, ◌≤◌, ◌+◌, ◌%◌, length, map};
 ghost use Rattle.std.specs.List.{prefix_len};
-ghost use Rattle.stream_reader.specs.ByteTables.{digit_or_255};
-ghost use Rattle.stream_reader.specs.Digits.{IsHexadecimal, is_value, number_after};
+ghost use Rattle.stream_reader.specs.Digits.{HaveValues, IsHexadecimal, is_value, number_after};
 
 use crate::field::Field;
 use std::simd::prelude::*;
 
-// The value of each lane that is a hexadecimal digit in either case, and 255 for the others.
+// The value of each lane that is a hexadecimal digit in either case, and 16 or more for the others.
+//
+// `digit` has the values of 0 to 9, by way of 246 to 255 and 240 to 249, and `letter` those of the letters. Both have 16 or more for
+// all other bytes, so the smaller one is the value.
 #[inline(always)]
-fn digits_or_255(bytes: u8x16) -> u8x16
-    ensures { result ≡ map digit_or_255 bytes }
+fn digits_or_more(bytes: u8x16) -> u8x16
+    ensures { HaveValues bytes result }
 {
-    let digit = bytes - u8x16::splat(b'0');
-    let letter = (bytes | u8x16::splat(32)) - u8x16::splat(b'a');
-    digit.simd_le(u8x16::splat(9)).select(
-        digit,
-        letter
-            .simd_le(u8x16::splat(5))
-            .select(letter + u8x16::splat(10), u8x16::splat(255)),
-    )
+    let from_246 = bytes + u8x16::splat(255 - b'9');
+    let digit = from_246.saturating_sub(u8x16::splat(6)) - u8x16::splat(240);
+    let capital = bytes & u8x16::splat(0xdf);
+    let letter = (capital - u8x16::splat(b'A')).simd_min(u8x16::splat(200)) + u8x16::splat(10);
+    digit.simd_min(letter)
 }
 
 // How many digits come before the first lane that is not one.
@@ -53,7 +52,7 @@ pub(crate) fn hexadecimal_at(text: &[u8], place: usize) -> Field
     requires { place + 16 ≤ length text.now }
     ensures { IsHexadecimal text.now place result }
 {
-    let values = digits_or_255(u8x16::from_slice(&text[place..]));
+    let values = digits_or_more(u8x16::from_slice(&text[place..]));
     let size = leading_digits(values);
     if size == 0 {
         return Field { value: 0, size };

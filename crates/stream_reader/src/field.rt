@@ -6,7 +6,7 @@ ghost use Rattle.papi_base.specs.Numerals.{decimal_in, hex_in, is_hex_digit};
 ghost use Rattle.stream_reader.specs.Judged.{mode_of};
 ghost use Rattle.stream_reader.specs.Fields.{first_field, after_field, digits_on, has_form, hex_on, is_one_byte};
 
-use crate::byte_tables::digit_or_255;
+use crate::byte_tables::digit_or_256;
 
 /// The number that a field writes, and the field's length.
 #[derive(Clone, Copy)]
@@ -73,7 +73,7 @@ pub(crate) fn decimal(text: &[u8], least: u64, greatest: u64) -> Option<Field>
 fn hex_digit(byte: u8) -> Option<u64>
     ensures { result ≡ (if is_hex_digit byte then Some (digit_value byte) else None) }
 {
-    let value = digit_or_255(byte);
+    let value = digit_or_256(byte);
     if value < 16 {
         Some(u64::from(value))
     } else {

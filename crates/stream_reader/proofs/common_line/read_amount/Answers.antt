@@ -1,24 +1,18 @@
-use Rattle.std.proofs.Common.{◌<◌, get_or, arith}
-use Rattle.stream_reader.proofs.Amounts.{amount-1, amount-2, amount-3}
+use Rattle.std.proofs.Common.{refl}
+use Rattle.stream_reader.proofs.Amounts.{amount-1, amount-2, amount-3, some-amount}
 use Rattle.stream_reader.proofs.common_line.read_amount.Goals as goal
 
 pub returns-then-text-eq32 : goal.returns-then-text-eq32
 returns-then-text-eq32 c =
-    let t = c.args.text.now in
-    let x : get_or t 9 0 < 256 = omega (arith, (c.type_inv.text 9).fits) in
-    let y : get_or t 10 0 < 256 = omega (arith, (c.type_inv.text 10).fits) in
-    amount-2 t _ c.requires (omega (arith, c.if-first-eq0.false)) (omega arith) (omega arith) (omega arith) c.if-text-eq32.true (omega (arith, c.from.ensures))
+    some-amount _ _ (λ amount h. amount-2 c.args.text.now _ amount c.requires c.if-text-eq32.true
+    (rw (c.decimal_or_256-first.ensures.value, c.decimal_or_256-second.ensures.value) refl) h) c.amount_of.result c.amount_of.ensures
 
 pub returns-then-text-eq32-2 : goal.returns-then-text-eq32-2
 returns-then-text-eq32-2 c =
-    let t = c.args.text.now in
-    let x : get_or t 9 0 < 256 = omega (arith, (c.type_inv.text 9).fits) in
-    amount-1 t _ c.requires (omega (arith, c.if-first-eq0.false)) (omega arith) c.if-text-eq32-2.true (omega (arith, c.from-then-text-eq32-2.ensures))
+    some-amount _ _ (λ amount h. amount-1 c.args.text.now _ amount c.requires c.if-text-eq32-2.true c.decimal_or_256-first.ensures.value h)
+    c.amount_of-then-text-eq32-2.result c.amount_of-then-text-eq32-2.ensures
 
 pub returns : goal.returns
 returns c =
-    let t = c.args.text.now in
-    let x : get_or t 9 0 < 256 = omega (arith, (c.type_inv.text 9).fits) in
-    let y : get_or t 10 0 < 256 = omega (arith, (c.type_inv.text 10).fits) in
-    let z : get_or t 11 0 < 256 = omega (arith, (c.type_inv.text 11).fits) in
-    amount-3 t _ c.requires (omega (arith, c.if-first-eq0.false)) (omega arith) (omega arith) (omega arith) (omega arith) (omega arith) c.if-text-ne32.false (omega (arith, c.from-2.ensures, c.from-3.ensures, c.from-4.ensures)) (omega arith)
+    some-amount _ _ (λ amount h. amount-3 c.args.text.now _ amount c.requires c.if-text-ne32.false
+    (rw (c.decimal_or_256-first.ensures.value, c.decimal_or_256-second.ensures.value, c.decimal_or_256-third.ensures.value) refl) h) c.amount_of-2.result c.amount_of-2.ensures
