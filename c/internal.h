@@ -207,6 +207,7 @@ void kl_machine_ends(void);
 /* time.c */
 uint32_t kl_mhz(void);
 int kl_time_begins(void);
+bool kl_is_model_time(void);
 
 /* rates.c, high_level.c: whether a rate or regions are counted in the calling thread */
 int kl_rate_runs(void);
@@ -229,5 +230,32 @@ typedef struct { int depth, number; } kl_outside;
 kl_outside kl_user_begins(void);
 void kl_user_ends(kl_outside before);
 int kl_is_nested(void);
+
+/* What marks.c knows of the calling thread. Between a function's begin and its mark nothing but the library's own instructions is run: no call of another
+ * library looks this up. */
+typedef struct {
+    volatile uint32_t *still; /* the page, if the thread's clock stands in a recording */
+    unsigned generation;      /* of the library in which it does */
+    int depth, outermost;
+    bool is_counting, is_going_on;
+} kl_marking;
+extern _Thread_local kl_marking kl_marks __attribute__((tls_model("initial-exec")));
+
+/* Nothing happens to the calling thread in the library of this generation, or something may if it is 0. */
+void kl_clock_stands(unsigned generation);
+
+/* The word of the page for a call that enters, and that for one that leaves: each function has two of each. */
+#define KL_ENTERS(number) (2 * (number))
+#define KL_LEAVES(number, is_counting) (KL_MARKS_HALF + 2 * (number) + (is_counting))
+#define KL_MARKS_HALF 512
+
+/* Marks a call for the time, if its clock stands, and nothing else: a program that is recorded may make a million, and each instruction is traced. */
+static inline bool kl_is_but_marked(int number) {
+    const kl_marking *m = &kl_marks;
+    if (!m->still || m->depth || m->generation != atomic_load_explicit(&kl_generation, memory_order_relaxed)) return false;
+    m->still[KL_ENTERS(number)] = 1;
+    m->still[KL_LEAVES(number, m->is_counting)] = 1;
+    return true;
+}
 
 #endif

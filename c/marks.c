@@ -10,10 +10,9 @@
 #include <unistd.h>
 
 #define PAGE 4096
-#define HALF (PAGE / 2 / sizeof(uint32_t))
 #define LONGEST_LINE 4224
 
-_Static_assert(2 * KL_FUNCTION_COUNT <= HALF, "each function has a word in half a page");
+_Static_assert(KL_MARKS_HALF * sizeof(uint32_t) == PAGE / 2 && 2 * KL_FUNCTION_COUNT <= KL_MARKS_HALF, "each function has two words in half a page");
 
 #define KL_NAME(name) #name,
 static const char *const names[] = {KL_FUNCTIONS(KL_NAME)};
@@ -27,10 +26,7 @@ static bool has_told;
 static pthread_t first; /* the list is that of the thread that calls first */
 static pid_t process;
 
-/* Between a function's begin and its mark nothing but the library's own instructions is run: no call of another library looks these up. */
-#define NEAR _Thread_local __attribute__((tls_model("initial-exec")))
-static NEAR int depth, outermost;
-static NEAR bool is_going_on, is_counting;
+_Thread_local kl_marking kl_marks __attribute__((tls_model("initial-exec")));
 
 /* Says where the calls differ from those that were recorded, once. */
 static void tell(const char *made_call, const char *recorded) {
@@ -127,9 +123,9 @@ static void go_on_before(int call) {
     if (recorded.number != (unsigned long)call) tell(names[call], names[recorded.number]);
     passed += recorded.cycles;
     if (!recorded.lines) return;
-    is_going_on = true;
+    kl_marks.is_going_on = true;
     kistalub_go((uint32_t)recorded.lines, NULL);
-    is_going_on = false;
+    kl_marks.is_going_on = false;
 }
 
 bool kl_recorded_cycles(uint64_t *cycles) {
@@ -138,42 +134,47 @@ bool kl_recorded_cycles(uint64_t *cycles) {
 }
 
 void kl_call_enters(int number) {
-    if (is_going_on) return;
+    if (kl_marks.is_going_on) return;
     if (!page) pthread_once(&once, begin);
-    if (page) page[2 * number] = 1;
+    if (page) page[KL_ENTERS(number)] = 1;
     go_on_before(number);
 }
 
 void kl_call_leaves(int number) {
-    if (is_going_on || !page) return;
-    if (may_start_or_stop(number)) is_counting = counts();
-    page[HALF + 2 * (unsigned)number + is_counting] = 1;
+    if (kl_marks.is_going_on || !page) return;
+    if (may_start_or_stop(number)) kl_marks.is_counting = counts();
+    page[KL_LEAVES(number, kl_marks.is_counting)] = 1;
+}
+
+void kl_clock_stands(unsigned generation) {
+    kl_marks.still = generation && !calls ? page : NULL;
+    kl_marks.generation = generation;
 }
 
 int kl_call_begins(int number) {
-    if (depth++ == 0) {
-        outermost = number;
+    if (kl_marks.depth++ == 0) {
+        kl_marks.outermost = number;
         kl_call_enters(number);
     }
     return number;
 }
 
 void kl_call_ends(const int *number) {
-    if (--depth == 0) kl_call_leaves(*number);
+    if (--kl_marks.depth == 0) kl_call_leaves(*number);
 }
 
 /* Whether the call is one that another function of the library makes. */
-int kl_is_nested(void) { return depth > 1; }
+int kl_is_nested(void) { return kl_marks.depth > 1; }
 
 kl_outside kl_user_begins(void) {
-    kl_outside before = { depth, outermost };
-    if (depth) kl_call_leaves(outermost);
-    depth = 0;
+    kl_outside before = { kl_marks.depth, kl_marks.outermost };
+    if (before.depth) kl_call_leaves(before.number);
+    kl_marks.depth = 0;
     return before;
 }
 
 void kl_user_ends(kl_outside before) {
-    depth = before.depth;
-    outermost = before.number;
-    if (depth) kl_call_enters(outermost);
+    kl_marks.depth = before.depth;
+    kl_marks.outermost = before.number;
+    if (before.depth) kl_call_enters(before.number);
 }

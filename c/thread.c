@@ -141,6 +141,7 @@ static int open_library(thread_state *t) {
                              files->presets.length, (const unsigned char *)files->cpu, strlen(files->cpu), t->number,
                              stream.bytes ? stream.bytes : nothing, stream.length);
     free(stream.bytes);
+    if (code == PAPI_OK) kl_clock_stands(stream.length == 0 && kl_is_model_time() ? t->generation : 0);
     kl_release_files(files);
     if (code == PAPI_OK) code = kistalub_register(&t->library);
     return code;

@@ -29,6 +29,8 @@ int kl_time_begins(void) {
     return code;
 }
 
+bool kl_is_model_time(void) { return !atomic_load(&is_real); }
+
 /* Cycles in nanoseconds, at the rate of the clock: whole seconds first, so that nothing overflows. */
 static long long nanoseconds_of(uint64_t cycles) {
     uint64_t second = (uint64_t)mhz * 1000000;
@@ -67,35 +69,20 @@ static long long nanoseconds(clockid_t clock) {
     return (long long)now.tv_sec * 1000000000 + now.tv_nsec;
 }
 
-long long PAPI_get_real_cyc(void) {
-    CALL(PAPI_get_real_cyc);
-    return cycles(CLOCK_MONOTONIC);
-}
+/* A function that tells the time. While a program is recorded its clock may stand at 0: then the call is but marked. */
+#define CLOCK(name, answer) \
+    static __attribute__((noinline)) long long kl_##name(void) { \
+        CALL(name); \
+        return answer; \
+    } \
+    long long name(void) { return kl_is_but_marked(KL_##name) ? 0 : kl_##name(); }
 
-long long PAPI_get_real_nsec(void) {
-    CALL(PAPI_get_real_nsec);
-    return nanoseconds(CLOCK_MONOTONIC);
-}
-
-long long PAPI_get_real_usec(void) {
-    CALL(PAPI_get_real_usec);
-    return nanoseconds(CLOCK_MONOTONIC) / 1000;
-}
-
-long long PAPI_get_virt_cyc(void) {
-    CALL(PAPI_get_virt_cyc);
-    return kl_is_open() ? cycles(CLOCK_THREAD_CPUTIME_ID) : PAPI_ENOINIT;
-}
-
-long long PAPI_get_virt_nsec(void) {
-    CALL(PAPI_get_virt_nsec);
-    return kl_is_open() ? nanoseconds(CLOCK_THREAD_CPUTIME_ID) : PAPI_ENOINIT;
-}
-
-long long PAPI_get_virt_usec(void) {
-    CALL(PAPI_get_virt_usec);
-    return kl_is_open() ? nanoseconds(CLOCK_THREAD_CPUTIME_ID) / 1000 : PAPI_ENOINIT;
-}
+CLOCK(PAPI_get_real_cyc, cycles(CLOCK_MONOTONIC))
+CLOCK(PAPI_get_real_nsec, nanoseconds(CLOCK_MONOTONIC))
+CLOCK(PAPI_get_real_usec, nanoseconds(CLOCK_MONOTONIC) / 1000)
+CLOCK(PAPI_get_virt_cyc, kl_is_open() ? cycles(CLOCK_THREAD_CPUTIME_ID) : PAPI_ENOINIT)
+CLOCK(PAPI_get_virt_nsec, kl_is_open() ? nanoseconds(CLOCK_THREAD_CPUTIME_ID) : PAPI_ENOINIT)
+CLOCK(PAPI_get_virt_usec, kl_is_open() ? nanoseconds(CLOCK_THREAD_CPUTIME_ID) / 1000 : PAPI_ENOINIT)
 
 int PAPI_read_ts(int set, long long *values, long long *cyc) {
     CALL(PAPI_read_ts);
