@@ -71,7 +71,7 @@ int PAPI_query_named_event(const char *name) {
     CALL(PAPI_query_named_event);
     int event;
     HERE(t);
-    RETURN(name ? code_named(t, name, &event) : PAPI_EINVAL);
+    RETURN(name ? code_named(t, kl_spelled(name), &event) : PAPI_EINVAL);
 }
 
 int PAPI_query_event(int event) {

@@ -190,6 +190,7 @@ int kl_native_text(thread_state *t, native_place at, uint32_t part, uint32_t mas
 /* preset_names.c */
 const char *kl_preset_name(int code);
 int kl_preset_named(const char *name, int *code);
+const char *kl_spelled(const char *name);
 
 /* preset_kinds.c */
 unsigned kl_preset_kinds(int event);

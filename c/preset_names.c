@@ -41,3 +41,9 @@ int kl_preset_named(const char *name, int *code) {
         }
     return PAPI_ENOEVNT;
 }
+
+/* A preset's name as the unit's tables spell it; any other name is itself. */
+const char *kl_spelled(const char *name) {
+    int code;
+    return kl_preset_named(name, &code) == PAPI_OK ? kl_preset_name(code) : name;
+}

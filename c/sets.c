@@ -123,6 +123,7 @@ int PAPI_add_named_event(int set, const char *name) {
     CALL(PAPI_add_named_event);
     HERE(t);
     if (!name) RETURN(PAPI_EINVAL);
+    name = kl_spelled(name);
     int code = kl_check_known(t, name);
     if (code == PAPI_OK) code = kistalub_add_named(&t->library, kl_set_number(t, set), (const unsigned char *)name, strlen(name));
     RETURN(code == PAPI_OK ? bind(t, set) : code);
@@ -133,6 +134,7 @@ int PAPI_remove_named_event(int set, const char *name) {
     HERE(t);
     kl_events before;
     if (!name) RETURN(PAPI_EINVAL);
+    name = kl_spelled(name);
     int code = kl_events_in(t, set, &before);
     if (code == PAPI_OK) code = kistalub_remove_named(&t->library, kl_set_number(t, set), (const unsigned char *)name, strlen(name));
     if (code == PAPI_OK) watches_follow(t, set, &before);

@@ -13,6 +13,10 @@ int main(void) {
         modifier = PAPI_ENUM_EVENTS;
     }
     WANT(PAPI_create_eventset(&set), PAPI_OK);
+    WANT(PAPI_query_named_event("PAPI_Tot_Ins"), PAPI_OK); /* in letters of any case after PAPI_ */
+    WANT(PAPI_add_named_event(set, "PAPI_tot_ins"), PAPI_OK);
+    WANT(PAPI_remove_named_event(set, "PAPI_Tot_ins"), PAPI_OK);
+    WANT(PAPI_add_named_event(set, "papi_tot_ins"), PAPI_ENOEVNT);
     WANT(PAPI_add_events(set, events, 2), PAPI_OK);
     WANT(PAPI_add_event(set, PAPI_L1_DCM), PAPI_ENOEVNT);
     WANT(PAPI_start(set), PAPI_OK);
