@@ -5,6 +5,7 @@ from __future__ import annotations
 import os
 import signal
 import sys
+from pathlib import Path
 from typing import Callable
 
 
@@ -14,6 +15,11 @@ class Fault(Exception):
     def __init__(self, text: str, status: int = 1):
         super().__init__(text)
         self.status = status
+
+
+def own_name() -> str:
+    """What this process was started as: an installed tool may have a suffix."""
+    return Path(sys.argv[0]).name
 
 
 def end_by_termination() -> None:

@@ -13,12 +13,13 @@ from dataclasses import dataclass
 from pathlib import Path
 from typing import IO
 
-from parts.command import Fault
+from parts.command import Fault, own_name
 from parts.machine import Machine
 from parts.ranks import rank
 from parts.recording import FULL_STATUS, MOST_BYTES, Recorded, Wanted, record, where
 
 EXAMPLES = Path(__file__).resolve().parent.parent.parent / "examples"
+OWN_FUNCTION = b"kistalub_go"  # PAPI's library has none of this name
 DIFFERENT_CALLS = "papi: the calls are not those that were recorded"
 CALLS_ENDING = ".calls"
 BY_SIGNAL = 128  # what a shell adds to the number of a signal
@@ -62,7 +63,7 @@ def count(counting: Counting) -> int:
         recordings = folder / "stream.0", folder / "calls"
         environment = _environment(counting, folder)
         for number in range(counting.rounds):
-            recorded = _record(counting, recordings, environment, source, f"count: round {number + 1}: instructions")
+            recorded = _record(counting, recordings, environment, source, f"{own_name()}: round {number + 1}: instructions")
             _check(counting, recorded)
             environment.update(KISTALUB_STREAM=str(folder / "stream.%t"), KISTALUB_CALLS=str(folder / "calls"))
             if counting.rounds == 1 or _agrees(counting, environment, source):
@@ -79,7 +80,7 @@ def record_alone(counting: Counting) -> None:
         folder = Path(stack.enter_context(tempfile.TemporaryDirectory(prefix="count-")))
         stream = Path(counting.keep or folder / "stream")
         recordings = stream, stream.with_name(stream.name + CALLS_ENDING)
-        _check(counting, _record(counting, recordings, _environment(counting, folder), _source(stack), "count: instructions"))
+        _check(counting, _record(counting, recordings, _environment(counting, folder), _source(stack), f"{own_name()}: instructions"))
 
 
 def replay_alone(counting: Counting) -> int:
@@ -98,8 +99,12 @@ def replay_alone(counting: Counting) -> int:
 
 
 def _run_at_last(counting: Counting, environment: dict[str, str], source: Source | None) -> int:
-    """The run whose output is the program's, and its status as a shell has it."""
-    returned = _run(counting, environment, source).returncode
+    """The run whose output is the program's, and its status."""
+    return status_of(_run(counting, environment, source).returncode)
+
+
+def status_of(returned: int) -> int:
+    """The status of a process as a shell has it."""
     return returned if returned >= 0 else BY_SIGNAL - returned
 
 
@@ -142,14 +147,22 @@ def _check(counting: Counting, recorded: Recorded) -> None:
         raise Fault(recorded.failure)
     if recorded.second_thread:
         raise Fault(f"{program} started a second thread, or made a call of PAPI in one: one thread can be counted (--first-thread leaves others without calls out)")
-    if not recorded.calls:
-        raise Fault(f"{program} made no call of PAPI by the library of bin/install (--library names the folder of its libpapi.so.7.0)")
     if not recorded.is_from_met:
         raise Fault(f"{program} never entered {counting.symbol}")
+    if not recorded.calls:
+        _check_library(counting, recorded)
     if recorded.unknown:
-        print(f"count: {recorded.unknown:,} instructions are in no file that objdump reads: whether they branch or compute is not known", file=sys.stderr)
+        print(f"{own_name()}: {recorded.unknown:,} instructions are in no file that objdump reads: whether they branch or compute is not known", file=sys.stderr)
     if recorded.status < 0:
-        print(f"count: {program} was ended by signal {-recorded.status} while it was recorded", file=sys.stderr)
+        print(f"{own_name()}: {program} was ended by signal {-recorded.status} while it was recorded", file=sys.stderr)
+
+
+def _check_library(counting: Counting, recorded: Recorded) -> None:
+    """A program need not make a call of PAPI, and then nothing is counted. But its calls may have gone to another library."""
+    other = recorded.papi
+    if other and OWN_FUNCTION not in Path(other).read_bytes():
+        raise Fault(f"{counting.program} takes PAPI from {other}, which is not that of bin/install (--library names its folder)")
+    print(f"{own_name()}: {counting.program} made no call of PAPI by the library of bin/install: nothing was counted", file=sys.stderr)
 
 
 def _run(counting: Counting, environment: dict[str, str], source: Source | None, output: int | None = None, errors: int | None = None) -> subprocess.CompletedProcess[bytes]:

@@ -48,6 +48,7 @@ class Recorded:
 
     totals: dict[str, int] = field(default_factory=dict)
     calls: int = 0
+    papi: str | None = None  # the libpapi.so that the program loaded
     unknown: int = 0  # instructions in no file, or not known to objdump
     is_from_met: bool = True
     full_at: int | None = None
@@ -144,6 +145,8 @@ def _take(recorded: Recorded, progress: Progress, line: str) -> None:
         recorded.full_at = int(rest, 16)
     elif word == "thread":
         recorded.second_thread = True
+    elif word == "papi":
+        recorded.papi = rest
     elif word == "failed":
         recorded.failure = rest
     elif word == "calls":

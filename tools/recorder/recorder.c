@@ -1,6 +1,6 @@
 /* Reads the trace of a program from standard input, and writes the stream of what it did (docs/RECORDING.md). tools/record starts it; its words
  * are those that parts/recording.py gives it. It tells what it does on the descriptor of --report, line by line: `reading PATH`,
- * `progress N`, `total NAME N`, `calls N`, `unknown N`, `full ADDRESS`, `thread`, `failed CAUSE`. */
+ * `progress N`, `total NAME N`, `calls N`, `unknown N`, `papi PATH`, `full ADDRESS`, `thread`, `failed CAUSE`. */
 #define _POSIX_C_SOURCE 200809L
 #include "calls.h"
 #include "gather.h"
@@ -127,6 +127,8 @@ static void see_thread(unsigned long number) {
 }
 
 static void see_mapping(uint64_t start, uint64_t size, uint64_t offset, const char *path) {
+    const char *name = strrchr(path, '/');
+    if (name && !strncmp(name, "/libpapi.so", strlen("/libpapi.so"))) fprintf(report, "papi %s\n", path);
     if (!object_mapped(start, size, offset, path)) end_with(FAILED, "failed out of memory");
 }
 

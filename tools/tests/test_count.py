@@ -43,6 +43,7 @@ class Programs(InFolder):
         return program
 
     def count(self, *words: str, text: str = "") -> subprocess.CompletedProcess[str]:
+        """The last --library is the one that is taken."""
         return subprocess.run([str(TOOLS / "count"), "--library", self.library, *words], input=text, capture_output=True, text=True)
 
     # Two loops of known lengths: what they count differs by what the longer one runs more.
@@ -237,10 +238,80 @@ class Programs(InFolder):
         done = self.count(program)
         self.assertEqual((done.stdout, done.stderr), ("99\n", ""))
 
-    def test_refusals(self) -> None:
-        done = self.count("true")
+    def test_a_launcher_starts_both_runs(self) -> None:
+        launcher = self.folder / "launch"
+        launcher.write_text('#!/bin/sh\nranks=$1\nshift\nfor rank in $ranks; do PMI_RANK=$rank "$@" || exit; done\n', encoding="ascii")
+        launcher.chmod(0o755)
+        program = self.compile("""
+            int main(int count, char **words) {
+                long long branches; int set = made("PAPI_BR_TKN"), rank = atoi(getenv("PMI_RANK"));
+                PAPI_start(set); loop(100 * (rank + 1)); PAPI_stop(set, &branches);
+                printf("%s %d %lld\\n", words[count - 1], rank, branches);
+                return rank == 5 ? 6 : 0;
+            }
+        """)
+        words = ("--keep", str(self.folder / "run.%r"), "--window", "100", program, "--keep")
+        done = self.count("--launcher", f"'{launcher}' '0 1'", *words)
+        self.assertEqual((done.stdout, done.stderr, done.returncode), ("--keep 0 99\n--keep 1 199\n", "", 0))
+        self.assertTrue((self.folder / "run.1.calls").exists())
+        self.assertEqual(self.count(f"--launcher={launcher} 5", program).returncode, 6)
+        self.assertEqual(self.count("--launcher", "nosuchlauncher", program).stderr, "count: nosuchlauncher: No such file or directory\n")
+        self.assertEqual(self.count("--launcher", f"{launcher} 0", "--rounds", "2", program).returncode, 1)
+
+    def test_a_program_without_calls_is_not_at_fault(self) -> None:
+        program = self.compile("int main(void) { puts(\"done\"); return 3; }", f"-L{self.library}", "-Wl,--no-as-needed", "-lpapi")
+        said = f"count: {program} made no call of PAPI by the library of bin/install: nothing was counted\n"
+        for words in ((), ("--rounds", "3"), ("--keep", str(self.folder / "kept"))):
+            done = self.count(*words, program)
+            self.assertEqual((done.stdout, done.stderr, done.returncode), ("done\n", said, 3), words)
+
+    def test_another_library_of_papi_is_named(self) -> None:
+        other = self.folder / "other/libpapi.so.7.0"
+        other.parent.mkdir()
+        source = self.write("other.c", "int PAPI_is_initialized(void) { return 0; }")
+        subprocess.run(["cc", "-shared", "-fPIC", "-Wl,-soname,libpapi.so.7.0", "-o", str(other), source], check=True)
+        program = self.compile("int main(void) { return PAPI_is_initialized(); }", str(other))
+        done = self.count("--library", str(other.parent), program)
         self.assertEqual((done.stdout, done.returncode), ("", 1))
-        self.assertIn("made no call of PAPI", done.stderr)
+        self.assertEqual(done.stderr, f"count: {program} takes PAPI from {other}, which is not that of bin/install (--library names its folder)\n")
+
+    CLOCKS = """
+    int main(void) {
+        if (PAPI_get_virt_cyc() != PAPI_ENOINIT) return 7;
+        long long times[4], count, stamp; int set = made("PAPI_BR_TKN");
+        times[0] = PAPI_get_real_cyc(); loop(1000);
+        times[1] = PAPI_get_virt_cyc(); loop(3000);
+        times[2] = PAPI_get_real_nsec();
+        PAPI_start(set); loop(100); times[3] = PAPI_get_real_usec(); loop(100); PAPI_read_ts(set, &count, &stamp); loop(100); PAPI_stop(set, &count);
+        printf("%lld %lld %d\\n", times[2] - 2 * times[1] + times[0], count, stamp / 1000 == times[3] || stamp > times[2]);
+        return PAPI_shutdown(), PAPI_get_virt_cyc() != PAPI_ENOINIT;
+    }
+    """
+
+    def test_clocks_between_calls(self) -> None:
+        """A cycle is an instruction here, and a nanosecond. What is asked of the clock changes nothing of what is counted."""
+        for words in ((f"-L{self.library}", "-lpapi"), (f"{self.library}/libkistalub.a",)):
+            done = self.count("--costs", "0,0,0,0,0", self.compile(self.CLOCKS, *words))
+            self.assertEqual((done.stderr, done.returncode), ("", 0), words)
+            between, *others = map(int, done.stdout.split())
+            self.assertIn(between, range(3995, 4006), words)
+            self.assertEqual(others, [297, 1], words)
+
+    def test_a_million_clocks(self) -> None:
+        """Calls for the time are cheap to record."""
+        program = self.compile("""
+            int main(void) {
+                long long first, last = 0, least = 1000000; made("PAPI_TOT_INS");
+                for (int i = 0; i < 100000; i++) { first = PAPI_get_real_cyc(); last = PAPI_get_real_cyc() - first; if (last < least) least = last; }
+                printf("%lld\\n", least);
+                return 0;
+            }
+        """)
+        done = self.count("--keep", str(self.folder / "kept"), program)
+        self.assertIn(int(done.stdout), range(1, 20))
+        self.assertGreater(len((self.folder / "kept.calls").read_text(encoding="utf-8").splitlines()), 200_000)
+
+    def test_refusals(self) -> None:
         self.assertEqual(self.count("nosuchprogram").stderr, "count: nosuchprogram: no such program\n")
         for words in ((), ("--rounds", "0", "true"), ("--nothing", "true")):
             self.assertEqual(self.count(*words).returncode, 2, words)
