@@ -1,4 +1,5 @@
-"""The recorder, a program in C. It is compiled when it is used first, and kept in the user's folder for caches under a checksum of its text."""
+"""The recorder, a program in C. bin/install compiles it. In the repository it is compiled when it is used first, and kept in the user's folder for caches under a
+checksum of its text."""
 
 from __future__ import annotations
 
@@ -12,6 +13,7 @@ from pathlib import Path
 from parts.command import Fault
 
 SOURCES = Path(__file__).resolve().parent.parent / "recorder"
+INSTALLED = SOURCES.parent.parent / "recorder"
 FLAGS = ["-std=c11", "-O2"]
 
 
@@ -28,6 +30,8 @@ def cache_folder() -> Path:
 
 def recorder() -> Path:
     """The recorder, compiled if it is not there yet."""
+    if INSTALLED.is_file():
+        return INSTALLED
     sources = sorted(SOURCES.glob("*.[ch]"))
     checksum = hashlib.sha256(b"\0".join(source.read_bytes() for source in sources)).hexdigest()
     program = cache_folder() / f"recorder-{checksum[:32]}"

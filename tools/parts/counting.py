@@ -18,7 +18,9 @@ from parts.machine import Machine
 from parts.ranks import rank
 from parts.recording import FULL_STATUS, MOST_BYTES, Recorded, Wanted, record, where
 
-EXAMPLES = Path(__file__).resolve().parent.parent.parent / "examples"
+FOLDER = Path(__file__).resolve().parent.parent.parent
+EXAMPLES = FOLDER / "examples"
+INSTALLED_LIBRARY = FOLDER / "library"  # a link of bin/install
 OWN_FUNCTION = b"kistalub_go"  # PAPI's library has none of this name
 DIFFERENT_CALLS = "papi: the calls are not those that were recorded"
 CALLS_ENDING = ".calls"
@@ -119,8 +121,9 @@ def _environment(counting: Counting, folder: Path) -> dict[str, str]:
     """What the library is told in both runs. The first one has no stream."""
     environment = named_files(counting.unit, counting.presets, counting.cpu)
     environment.update(KISTALUB_STREAM=str(folder / "none.%t"), KISTALUB_STEP="0", KISTALUB_CACHES=counting.machine.caches(), LD_BIND_NOW="1")
-    if counting.library:
-        paths = [str(Path(counting.library).resolve()), *filter(None, [os.environ.get("LD_LIBRARY_PATH")])]
+    library = counting.library or (INSTALLED_LIBRARY if INSTALLED_LIBRARY.is_dir() else None)
+    if library:
+        paths = [str(Path(library).resolve()), *filter(None, [os.environ.get("LD_LIBRARY_PATH")])]
         environment["LD_LIBRARY_PATH"] = ":".join(paths)
     return environment
 

@@ -60,7 +60,8 @@ def count_words(name: str) -> argparse.ArgumentParser:
         "as it is, where it gets the counts of this recording. What it prints and its status are those of the second run. The program is linked "
         "with the library of bin/install, or finds its libpapi.so.7.0 in place of PAPI's.",
     )
-    parser.add_argument("--library", metavar="FOLDER", help="where libpapi.so.7.0 of bin/install is; a program that is linked with PAPI takes it from there")
+    parser.add_argument("--library", metavar="FOLDER", help="where libpapi.so.7.0 of bin/install is; a program that is linked with PAPI takes it from there. "
+                        "A tool that is installed knows its own")
     parser.add_argument("--unit", metavar="UNIT", help="the unit file (examples/recorded.unit, or KISTALUB_UNIT)")
     parser.add_argument("--presets", metavar="PRESETS", help="the preset file (examples/recorded.presets, or KISTALUB_PRESETS); goes with --cpu")
     parser.add_argument("--cpu", metavar="CPU", help="the processor of the preset file (recorded, or KISTALUB_CPU)")

@@ -2,11 +2,12 @@
 
 from __future__ import annotations
 
+import os
 import subprocess
 import tempfile
 from pathlib import Path
 
-from tests.support import ROOT, TOOLS, InFolder, needs_command, needs_library
+from tests.support import ROOT, TOOLS, InFolder, needs_command, needs_library, needs_program
 
 HEAD = """
 #include <papi.h>
@@ -322,3 +323,30 @@ class Programs(InFolder):
             int main(void) { made("PAPI_TOT_INS"); raise(SIGKILL); return 0; }
         """)
         self.assertEqual(self.count(program).returncode, 128 + 9)
+
+
+@needs_command("valgrind", "valgrind")
+@needs_command("objdump", "binutils")
+@needs_command("cc", "a C compiler")
+@needs_program
+@needs_library
+class Installed(InFolder):
+    """What bin/install has of it: it knows its recorder, its library and its files, and needs nothing of the repository."""
+
+    def test_counts_and_records(self) -> None:
+        prefix = self.folder / "a prefix"
+        subprocess.run([str(ROOT / "bin/install"), "--program-suffix", "-x", str(prefix)], check=True, capture_output=True)
+        source = self.write("program.c", HEAD + Programs.LOOPS)
+        program = str(self.folder / "program")
+        subprocess.run(["cc", "-O1", f"-I{ROOT / 'include'}", "-o", program, source, f"-L{prefix}/lib/kistalub", "-lpapi", "-lpthread"], check=True)
+        environment = {"PATH": os.environ["PATH"], "XDG_CACHE_HOME": str(self.folder)}
+        counted = subprocess.run([str(prefix / "bin/papi_count-x"), program, "PAPI_BR_TKN"], env=environment, capture_output=True, text=True)
+        self.assertEqual((counted.stdout, counted.stderr, counted.returncode), ("PAPI_BR_TKN 2000\n", "", 5))
+        recorded = subprocess.run([str(prefix / "bin/papi_record-x"), "-o", str(self.folder / "stream"), "true"], env=environment, capture_output=True, text=True)
+        self.assertRegex(recorded.stderr, r"^papi_record-x: [\d,]+ instructions, ")
+        self.assertEqual(recorded.returncode, 0)
+        self.assertEqual(list(self.folder.glob("kistalub/recorder*")), [], "the recorder is compiled by bin/install")
+        for name in ("record", "count"):
+            self.assertTrue((prefix / f"share/man/man1/papi_{name}-x.1").exists(), name)
+            used = subprocess.run([str(prefix / f"bin/papi_{name}-x"), "--help"], env=environment, capture_output=True, text=True)
+            self.assertIn(f"usage: papi_{name}-x ", used.stdout)

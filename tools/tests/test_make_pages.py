@@ -2,9 +2,11 @@
 
 from __future__ import annotations
 
+import argparse
 import subprocess
 import unittest
 
+from parts.command_page import Page, command_page
 from parts.manual_page import manual_page, synopsis
 from parts.usage import EXAMPLES, ROOT, read_errors, read_usage, summaries, tools
 from tests.support import needs_command
@@ -46,6 +48,15 @@ class Manuals(unittest.TestCase):
             done = subprocess.run(["mandoc", "-T", "lint"], input=page, capture_output=True, text=True)
             said = [line for line in done.stdout.splitlines() if "referenced manual not found" not in line]
             self.assertEqual(said, [], tool)
+
+    def test_words_that_argparse_reads(self) -> None:
+        parser = argparse.ArgumentParser(prog="papi_some", description="Does it.")
+        parser.add_argument("-o", "--out", metavar="A,B", help="where %%r is")
+        parser.add_argument("--kind", choices=("one", "two"), help="which")
+        parser.add_argument("program", metavar="PROGRAM", help="what")
+        page = command_page(parser, Page("does it", "[OPTIONS] PROGRAM", (("0", "Done."),), ()), "January 1, 2026").splitlines()
+        for line in (".Dt PAPI_SOME 1", ".Op Ar OPTIONS", ".It Ar PROGRAM", ".It Fl \\-out Ar A,B", "Where %r is.", ".It Fl \\-kind Ar one\\||two", ".It 0"):
+            self.assertIn(line, page)
 
 
 if __name__ == "__main__":

@@ -1,0 +1,68 @@
+"""The manual page of a tool whose words argparse reads (mdoc)."""
+
+from __future__ import annotations
+
+import argparse
+from dataclasses import dataclass
+from typing import Iterator
+
+from parts.manual_page import escaped, sentences, synopsis
+
+OWN_TITLES = ("the program", "the words before it")
+
+
+@dataclass(frozen=True)
+class Page:
+    """What a page says beside the words."""
+
+    summary: str
+    line: str  # the words as a synopsis has them
+    statuses: tuple[tuple[str, str], ...]
+    examples: tuple[tuple[str, str], ...]  # what it does, and the command
+
+
+def _word(action: argparse.Action) -> str:
+    """An option with its value, or a word, by mdoc's macros."""
+    name = max(action.option_strings, key=len, default="")
+    value = str(action.metavar or "|".join(action.choices or ()))
+    macros = ["Fl " + name[1:].replace("-", "\\-")] * bool(name) + ["Ar " + value.replace("|", "\\||")] * bool(value)
+    return " ".join(macros)
+
+
+def _items(actions: list[argparse.Action]) -> Iterator[str]:
+    for action in actions:
+        if action.help and action.dest != "help":
+            text = action.help.replace("%%", "%")
+            yield f".It {_word(action)}"
+            yield from sentences(text[0].upper() + text[1:] + ".")
+
+
+def _listed(items: list[str]) -> list[str]:
+    return [".Bl -tag -width Ds", *items, ".El"]
+
+
+def command_page(parser: argparse.ArgumentParser, page: Page, date: str) -> str:
+    name = parser.prog
+    lines = [
+        '.\\" Made by tools/make_pages out of the words of the tool. Change those, and run it again.',
+        f".Dd {date}",
+        f".Dt {name.upper()} 1",
+        ".Os",
+        ".Sh NAME",
+        f".Nm {name}",
+        f".Nd {escaped(page.summary)}",
+        ".Sh SYNOPSIS",
+        f".Nm {name}",
+        *synopsis(page.line),
+        ".Sh DESCRIPTION",
+        *sentences(parser.description or ""),
+    ]
+    for number, group in enumerate(parser._action_groups):  # the first two are argparse's own, and each version of Python has other titles for them
+        title = str(group.title) if number >= len(OWN_TITLES) else OWN_TITLES[number]
+        lines += [".Pp", *sentences(f"{title[0].upper()}{title[1:]}:"), *_listed(list(_items(group._group_actions)))]
+    lines += [".Sh EXIT STATUS", *_listed([line for number, meaning in page.statuses for line in (f".It {number}", *sentences(meaning))])]
+    lines += [".Sh EXAMPLES"]
+    for number, (title, command) in enumerate(page.examples):
+        lines += [".Pp"] * (number > 0) + [*sentences(title), ".Bd -literal -offset indent", escaped(f"$ {command}"), ".Ed"]
+    lines += [".Sh SEE ALSO", "docs/RECORDING.md says what is recorded, and how the machine is modelled."]
+    return "\n".join(lines) + "\n"
