@@ -13,6 +13,7 @@ from tests.support import ROOT
 sys.path.append(str(ROOT / "checks"))
 
 import papi_stream
+from papi_counted import why_of
 from papi_ctests import FAIL, PASS, SKIP, UNBUILT, expectations, verdict_of
 from papi_library import Ran, run
 
@@ -67,3 +68,28 @@ class Stream(unittest.TestCase):
         count = papi_stream.round_of(self.unit)
         lines = [line.rsplit(" ", 1)[0] for line in papi_stream.lines(self.unit, 2 * count)]
         self.assertEqual(lines[:count], lines[count:])
+
+
+class Counts(unittest.TestCase):
+    """What checks/papi_programs --counted takes for plausible."""
+
+    def why(self, name: str, out: str, err: str = "", status: int = 0) -> str:
+        return why_of(name, Ran(status, out, err), out)
+
+    def test_counts(self) -> None:
+        line = "PAPI_TOT_INS : \t{} \nPAPI_BR_INS : \t{} \n"
+        self.assertEqual(self.why("papi_command_line", line.format(123456, 45678)), "")
+        self.assertIn("[123456, 0]", self.why("papi_command_line", line.format(123456, 0)))
+        self.assertIn("finds []", self.why("papi_command_line", "no counts\n"))
+
+    def test_times(self) -> None:
+        line = "PAPI_get_real_cyc: min {0}.000  max 226.000 \nPAPI_get_virt_cyc: min {0}.000  max 9.000 \n"
+        self.assertEqual(self.why("papi_clockres", line.format(6)), "")
+        self.assertNotEqual(self.why("papi_clockres", line.format(0)), "")
+
+    def test_what_is_said(self) -> None:
+        said = "count: papi_version made no call of PAPI by the library of bin/install: nothing was counted\n"
+        self.assertEqual(self.why("papi_version", "PAPI Version: 7.0.0.0\n", said), "")
+        self.assertNotEqual(self.why("papi_version", "PAPI Version: 7.0.0.0\n"), "")
+        self.assertNotEqual(self.why("papi_avail", "", said), "")
+        self.assertNotEqual(self.why("papi_avail", "", status=1), "")
