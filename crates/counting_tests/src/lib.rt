@@ -4,9 +4,13 @@
 #[cfg(test)]
 mod counter_alloc_tests;
 #[cfg(test)]
+mod event_sets_tests;
+#[cfg(test)]
 mod overflow_dispatch_tests;
 #[cfg(test)]
 mod parallel_tasks_tests;
+#[cfg(test)]
+mod plain_tape_tests;
 #[cfg(test)]
 mod plain_tests;
 #[cfg(test)]

@@ -18,17 +18,17 @@ use thread_session::Session;
 /// Numbers drawn by the generator of MMIX, which takes x to 6364136223846793005 x + 1442695040888963407 modulo 2^64, from the state 1 on.
 /// Of each the 31 highest bits count.
 #[derive(Drop)]
-struct Draws {
+pub(crate) struct Draws {
     state: u64,
 }
 
 impl Draws {
-    fn new() -> Draws {
+    pub(crate) fn new() -> Draws {
         Draws { state: 1 }
     }
 
     // A number below the bound.
-    fn below(&mut self, bound: u32) -> u32
+    pub(crate) fn below(&mut self, bound: u32) -> u32
         requires { 0 < bound }
         ensures { result < bound }
     {
