@@ -1,0 +1,4 @@
+pub mod Armed
+pub mod Profiled
+pub mod Ranked
+pub mod Sampled

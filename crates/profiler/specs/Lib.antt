@@ -1,0 +1,3 @@
+pub mod Hottest
+pub mod Passings
+pub mod Profiles
