@@ -19,14 +19,15 @@ use Rattle.plan_runner.specs.declared.plan.PlanLine.{PlanLine}
 use Rattle.plan_runner.specs.declared.result.ReplyLine.{ReplyLine}
 use Rattle.plan_runner.specs.Marks.{marks_in}
 use Rattle.plan_runner.specs.Plans.{IsPlanOf}
-use Rattle.plan_runner.specs.Runs.{AllKept, Tells, reply_lines}
+use Rattle.plan_runner.specs.Runs.{AllKept, IsPlannedFrom, Tells, reply_lines}
+use Rattle.plan_runner.proofs.Worlds.{some-streams}
 use Rattle.script_runner.specs.Resolving.{lines_of, reply_lines_of, setting_of}
 use Rattle.tool_words.specs.declared.run.RunWords.{RunWords}
 use Rattle.papi_tools.specs.Answers.{Answers, AnswersBy}
 use Rattle.papi_tools.specs.Causes.{MetCause}
 use Rattle.papi_tools.specs.Marks.{marked_said, outcome_at}
 use Rattle.papi_tools.specs.Run.{given_under, ran_verdict, run_said, run_verdict, shown_notes}
-use Rattle.papi_tools.specs.Running.{Given, IsGiven, note_counts, ran_notes, ran_replies, told_in}
+use Rattle.papi_tools.specs.Running.{CanBeGiven, Given, IsGiven, note_counts, ran_notes, ran_replies, told_in}
 use Rattle.papi_tools.specs.Seen.{FilesSeen}
 use Rattle.papi_tools.specs.Streams.{SomeFailed, sources_in}
 use Rattle.papi_tools.specs.Steps.{Verdict, and_then}
@@ -53,6 +54,17 @@ tells catalog script given book shape plan readers is b w p = record {
   looked_up = let c : catalog ≡ given.catalog = is.catalog_is in let s : script ≡ given.script = is.script_is in rw (c, s) at p;
   streams_told = is.told.each;
 }
+
+-- the plan is that of what is given
+pub planned_from : (catalog : CatalogView) (script : List ScriptLine) (book : Book) (shape : Widths) (plan : List PlanLine) →
+    book ≡ catalog.book → shape ≡ shape_of catalog.tables → IsPlanOf (setting_of catalog) (lines_of catalog script) plan → IsPlannedFrom (setting_of catalog) (lines_of catalog script) book shape plan
+planned_from catalog script book shape plan b w p = record { same_book = sym b; same_shape = sym w; looked_up = p }
+
+-- nothing was run
+pub nothing_ran : (catalog : CatalogView) (script : List ScriptLine) (readers : List ReaderView) → length readers ≡ 64 → (given : Given) × CanBeGiven catalog script readers given
+nothing_ran catalog script readers long =
+    let some = some-streams readers long in
+    (record { catalog = catalog; script = script; streams = some.0 }, record { catalog_is = refl; script_is = refl; can_come = some.1 })
 
 -- the replies beside the plan's lines are those beside the script's
 pub replied : (given : Given) (script : List ScriptLine) (plan : List PlanLine) (lines : List ReplyLine) → script ≡ given.script → lines ≡ reply_lines plan (told_in given) →

@@ -6,7 +6,7 @@ use Rattle.session_model.specs.World.{Told}
 use Rattle.stream_reader.specs.Reader.{ReaderView}
 use Rattle.component_table.specs.Catalogs.{CatalogView}
 use Rattle.script_lines.specs.declared.script.ScriptLine.{ScriptLine}
-use Rattle.plan_runner.specs.Runs.{notes_by_thread, world_told}
+use Rattle.plan_runner.specs.Runs.{CanEachCome, notes_by_thread, world_told}
 use Rattle.plan_runner.specs.declared.result.ReplyLine.{ReplyLine}
 use Rattle.script_runner.specs.Resolving.{lines_of, reply_lines_of, setting_of}
 use Rattle.papi_tools.specs.Streams.{TellStreams}
@@ -22,6 +22,12 @@ pub record IsGiven (catalog : CatalogView) (script : List ScriptLine) (readers :
   pub catalog_is : catalog ≡ given.catalog
   pub script_is : script ≡ given.script
   pub told : TellStreams readers given.streams
+
+-- this catalog and this script are given, and the streams that are can come of the readers, whether or not these tell them
+pub record CanBeGiven (catalog : CatalogView) (script : List ScriptLine) (readers : List ReaderView) (given : Given) : Type 0 where
+  pub catalog_is : catalog ≡ given.catalog
+  pub script_is : script ≡ given.script
+  pub can_come : CanEachCome readers given.streams
 
 -- what one thread tells that goes through the whole script in order
 abbrev pub told_in : Given → List Told

@@ -4,7 +4,7 @@ ghost use Rattle.overflow_dispatch.specs.Notes.{EachAdded, EachBegun, EachGrown}
 ghost use Rattle.plan_runner.specs.Marks.{marks_in};
 ghost use Rattle.thread_session.specs.Faults.{IsFault};
 ghost use Rattle.thread_session.specs.SessionView.{IsFresh};
-ghost use Rattle.papi_tools.specs.Running.{Given, IsGiven, note_counts, ran_notes, ran_replies};
+ghost use Rattle.papi_tools.specs.Running.{CanBeGiven, Given, IsGiven, note_counts, ran_notes, ran_replies};
 ghost use Rattle.papi_tools.specs.Streams.{SomeFailed, sources_in};
 
 use component_table::{Catalog, NativeCodes};
@@ -55,7 +55,13 @@ pub fn run_script<R: Threads + Sync, S: Source + Send>(
     ensures begun { (given : Given) → IsGiven catalog.now script.now readers.old.items given
         → EachBegun (map (λ b. notes b) handlers.old.items) (ran_notes given) (map (λ b. notes b) handlers.new.items) }
 
-    // Told or not, the lists of notes have grown, the sources are those of before, and a reply of a fault shows one of a source.
+    // Told or not, there are streams that can come of the readers, of which these are the replies and the notes.
+    ensures possible { (given : Given) × CanBeGiven catalog.now script.now readers.old.items given
+        × IfOk result (λ ran. ran.lines.items ≡ ran_replies given)
+        × OnOk result (EachAdded (map (λ b. notes b) handlers.old.items) (ran_notes given) (map (λ b. notes b) handlers.new.items))
+        × EachBegun (map (λ b. notes b) handlers.old.items) (ran_notes given) (map (λ b. notes b) handlers.new.items) }
+
+    // The lists of notes have grown, the sources are those of before, and a reply of a fault shows one of a source.
     ensures grown { EachGrown (map (λ b. notes b) handlers.old.items) (map (λ b. notes b) handlers.new.items) }
     ensures sources { sources_in readers.new.items ≡ sources_in readers.old.items }
     ensures faulty { IfOk result (λ ran. Any (λ l. IsFault l.reply) ran.lines.items → SomeFailed readers.new.items) }

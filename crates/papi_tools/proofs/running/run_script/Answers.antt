@@ -1,5 +1,7 @@
-use Rattle.papi_tools.specs.Running.{ran_notes}
-use Rattle.papi_tools.proofs.RunLemmas.{counted, faulty, replied, sources_kept, tells}
+use Rattle.std.proofs.Common.{arith, refl, rules}
+use Rattle.papi_tools.specs.Running.{Given, ran_notes}
+use Rattle.papi_tools.proofs.RunLemmas.{counted, faulty, nothing_ran, planned_from, replied, sources_kept, tells}
+use Rattle.papi_tools.proofs.TellingLemmas.{none_begun}
 use Rattle.papi_tools.proofs.running.run_script.Goals as goal
 
 pub returns-in_err-lines-clause-begun : goal.returns-in_err-lines-clause-begun
@@ -34,3 +36,38 @@ returns-clause-sources g c = sources_kept _ _ c.in_ok-lines.ensures.readers
 
 pub returns-clause-faulty : goal.returns-clause-faulty
 returns-clause-faulty g c = λ some. faulty _ _ _ c.in_ok-lines.ensures.faulty some
+
+pub returns-in_err-noted-clause-possible : goal.returns-in_err-noted-clause-possible
+returns-in_err-noted-clause-possible g c =
+    let some = nothing_ran c.args.catalog.now c.args.script.now c.args.readers.now.items (omega (arith, c.requires.readers, c.args.readers.now.ok.0)) in
+    (some.0, some.1, search rules, search rules, none_begun _ _)
+
+pub returns-in_err-plan-clause-possible : goal.returns-in_err-plan-clause-possible
+returns-in_err-plan-clause-possible g c =
+    let some = nothing_ran c.args.catalog.now c.args.script.now c.args.readers.now.items (omega (arith, c.requires.readers, c.args.readers.now.ok.0)) in
+    (some.0, some.1, search rules, search rules, none_begun _ _)
+
+pub returns-in_err-lines-clause-possible : goal.returns-in_err-lines-clause-possible
+unfolding ran_notes
+returns-in_err-lines-clause-possible g c =
+    let p = c.in_err-lines.ensures.possible in
+    let from = planned_from c.args.catalog.now c.args.script.now _ _ _ c.book.ensures.book c.shape-shape.ensures.shape c.in_ok-plan.ensures.plan in (
+      record { catalog = c.args.catalog.now; script = c.args.script.now; streams = p.0 },
+      record { catalog_is = refl; script_is = refl; can_come = p.1 },
+      search rules,
+      search rules,
+      (p.2 _ _ from).2,
+    )
+
+pub returns-clause-possible : goal.returns-clause-possible
+unfolding ran_notes
+returns-clause-possible g c =
+    let p = c.in_ok-lines.ensures.possible in
+    let given : Given = record { catalog = c.args.catalog.now; script = c.args.script.now; streams = p.0 } in
+    let ran = p.2 _ _ (planned_from c.args.catalog.now c.args.script.now _ _ _ c.book.ensures.book c.shape-shape.ensures.shape c.in_ok-plan.ensures.plan) in (
+      given,
+      record { catalog_is = refl; script_is = refl; can_come = p.1 },
+      replied given c.args.script.now _ _ refl ran.0 c.in_ok-plan.ensures.heads,
+      ran.1,
+      ran.2,
+    )
