@@ -1,13 +1,14 @@
 //! Tasks, worked by several workers at the same time.
 #![tactic(auto)]
 
-ghost use Rattle.std.specs.Prelude.{ℕ, ◌≡◌, ◌≤◌, length};
+ghost use Rattle.std.specs.Prelude.{ℕ, ◌≡◌, ◌≤◌};
 ghost use Rattle.std.specs.Thread.{IsSync, IsSend};
+ghost use Rattle.parallel_tasks.specs.Cut.{busy};
 ghost use Rattle.parallel_tasks.specs.Each.{Each, AtEach};
 
 pub mod cut;
 
-use cut::cut;
+use cut::{count_busy, cut};
 use std::marker::{Send, Sync};
 use std::thread::{Threads, join_mut};
 
@@ -42,7 +43,7 @@ fn work_in_turn<B, T: Task<B>>(book: &B, tasks: &mut [T])
     }
 }
 
-/// Works the tasks by this many workers, each with at least one of them.
+/// Works the tasks by this many workers, each with at least one that asks for work.
 #[cycle(workers)]
 fn work_slice<R: Threads + Sync, B: Sync, T: Task<B> + Send>(
     rt: &R,
@@ -50,7 +51,7 @@ fn work_slice<R: Threads + Sync, B: Sync, T: Task<B> + Send>(
     workers: u32,
     tasks: &mut [T],
 )
-    requires enough { workers ≤ length tasks.old }
+    requires enough { workers ≤ busy T.load tasks.old }
     requires ready { AtEach (T.ready book.now) tasks.old }
     ensures { Each (T.done book.now) tasks.old tasks.new }
 {
@@ -74,26 +75,26 @@ fn work_parts<R: Threads + Sync, B: Sync, T: Task<B> + Send>(
     high: u32,
     back: &mut [T],
 )
-    requires low { low ≤ length front.old }
+    requires low { low ≤ busy T.load front.old }
     requires front { AtEach (T.ready book.now) front.old }
-    requires high { high ≤ length back.old }
+    requires high { high ≤ busy T.load back.old }
     requires back { AtEach (T.ready book.now) back.old }
     ensures front { Each (T.done book.now) front.old front.new }
     ensures back { Each (T.done book.now) back.old back.new }
 {
     let mut first = ||
-        requires { IsSync R.row × IsSync B.row × IsSend T.row × (low ≤ length front.now) × AtEach (T.ready book.now) front.now }
+        requires { IsSync R.row × IsSync B.row × IsSend T.row × (low ≤ busy T.load front.now) × AtEach (T.ready book.now) front.now }
         ensures { Each (T.done book.entry.now) front.entry.now front.exit.now }
     { work_slice(rt, book, low, front) };
     let mut second = ||
-        requires { IsSync R.row × IsSync B.row × IsSend T.row × (high ≤ length back.now) × AtEach (T.ready book.now) back.now }
+        requires { IsSync R.row × IsSync B.row × IsSend T.row × (high ≤ busy T.load back.now) × AtEach (T.ready book.now) back.now }
         ensures { Each (T.done book.entry.now) back.entry.now back.exit.now }
     { work_slice(rt, book, high, back) };
     join_mut(rt, &mut first, &mut second);
 }
 
-/// Works all tasks by at most this many workers. Each worker has a run of neighbours, so cut that each asks for about as much work; none has no task
-/// while there are as many tasks as workers. No memory is taken.
+/// Works all tasks by at most this many workers. Each worker has a run of neighbours, so cut that each asks for about as much work. Each has
+/// a task that asks for work if there are as many of these as workers, and no more work than there are. No memory is taken.
 pub fn work_tasks<R: Threads + Sync, B: Sync, T: Task<B> + Send>(
     rt: &R,
     book: &B,
@@ -104,6 +105,6 @@ pub fn work_tasks<R: Threads + Sync, B: Sync, T: Task<B> + Send>(
     requires ready { AtEach (T.ready book.now) tasks.old.items }
     ensures { Each (T.done book.now) tasks.old.items tasks.new.items }
 {
-    let parts = (workers as usize).min(tasks.len()) as u32;
+    let parts = (workers as usize).min(count_busy(tasks)) as u32;
     work_slice(rt, book, parts, tasks.as_mut_slice());
 }
