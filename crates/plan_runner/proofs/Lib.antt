@@ -1,5 +1,5 @@
 pub mod Ends
-pub mod Filled
+pub mod Lists
 pub mod Lent
 pub mod Dealt
 pub mod Opened

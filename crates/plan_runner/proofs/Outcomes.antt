@@ -1,18 +1,14 @@
 -- What the jobs left, in the order of the threads.
-use Rattle.std.proofs.Common.{◌≡◌, ℕ, ◌+◌, ◌-◌, ◌<◌, Bool, false, List, [], ◌∷◌, ◌++◌, All, length, map, reverse, get_or, refl, sym, ◌∙◌, ap, ap₂, subst, arith, Option, Some, None}
-use Rattle.std.specs.Option.{option_map}
+use Rattle.std.proofs.Common.{◌≡◌, ℕ, ◌-◌, ◌<◌, Bool, false, List, [], ◌∷◌, ◌++◌, All, length, map, reverse, get_or, refl, sym, ◌∙◌, ap, subst, arith}
 use Rattle.std.proofs.lemmas.List.{reverse-append, map-append, get_or-reverse, get_or-map, length-reverse, length-map, reverse-reverse}
-use Rattle.std.proofs.lemmas.List.Elements.{All-map, All-tail}
+use Rattle.std.proofs.lemmas.List.Elements.{All-map}
 use Rattle.overflow_dispatch.specs.declared.handler.Note.{Note}
 use Rattle.parallel_tasks.specs.Each.{Each}
 use Rattle.postfix_rules.specs.Presets.{Book}
-use Rattle.event_sets.specs.AtRest.{Widths}
-use Rattle.session_model.specs.declared.call.Call.{Call}
 use Rattle.session_model.specs.declared.reply.Reply.{Reply}
 use Rattle.stream_reader.specs.Reader.{ReaderView}
-use Rattle.thread_registry.specs.Seen.{Seen, Worked}
-use Rattle.plan_runner.specs.Jobs.{Left, befores_from, busy, filled, idle_of, idle_where}
-use Rattle.plan_runner.proofs.Filled.{all-cons, all-filled, all-none, each-filled, filled-map}
+use Rattle.thread_registry.specs.Seen.{Ran, Seen}
+use Rattle.plan_runner.specs.Jobs.{Left}
 
 pub map-reverse : {A B : Type 0} (f : A → B) (xs : List A) → map f (reverse xs) ≡ reverse (map f xs)
 map-reverse f [] = refl
@@ -64,60 +60,24 @@ ready-by f P js xs e all k d h =
     let turned = subst (All P) (sym e) (all-reverse P xs all) in
     subst P (get_or-map f js k d (f d) h) (turned k (f d) (omega (arith, h, length-map js f)))
 
--- what is kept of a thread, and what its job left
-view-of : {J X : Type 0} (f : J → Seen) (g : Seen → X) (places : List (Option X)) (xs : List Seen) (js : List J) (gs : List X)
-    → places ≡ reverse (map (λ x. option_map g (idle_of x)) xs) → gs ≡ filled (reverse places) (reverse (map (λ j. g (f j)) js))
-    → gs ≡ map g (filled (map idle_of xs) (reverse (map f js)))
-view-of f g places xs js gs p e =
-    let kept : reverse places ≡ map (option_map g) (map idle_of xs) =
-    ap reverse p ∙ (reverse-reverse (map (λ x. option_map g (idle_of x)) xs) ∙ sym (map-both idle_of (option_map g) xs)) in
-    let left : reverse (map (λ j. g (f j)) js) ≡ map g (reverse (map f js)) = sym (map-reverse g (map f js) ∙ ap reverse (map-both f g js)) in
-    e ∙ (ap₂ filled kept left ∙ sym (filled-map g (map idle_of xs) (reverse (map f js))))
-
--- a thread without calls has no replies
-none-replied : (xs : List Seen) → All (λ x. x.replies ≡ []) xs → map (option_map (λ (n : List Note). [])) (map (λ x. option_map (λ (y : Seen). y.notes) (idle_of x)) xs) ≡ map (λ x. option_map (λ (y : Seen). y.replies) (idle_of x)) xs
-none-replied [] all = refl
-none-replied (x ∷ xs) all = ap₂ ◌∷◌ (go x.calls (all 0 x (omega arith))) (none-replied xs (All-tail (λ (y : Seen). y.replies ≡ []) x xs all)) where
-  go : (cs : List Call) → x.replies ≡ [] → option_map (λ (n : List Note). []) (option_map (λ (y : Seen). y.notes) (idle_where cs x)) ≡ option_map (λ (y : Seen). y.replies) (idle_where cs x)
-  go [] e = ap (λ u. Some u) (sym e)
-  go (c ∷ cs) e = refl
-
-emptied : {I X Y : Type 0} (f : I → X) (y : Y) (is : List (Option I)) → map (option_map (λ (i : I). y)) is ≡ map (option_map (λ (x : X). y)) (map (option_map f) is)
-emptied f y [] = refl
-emptied f y (None ∷ is) = ap (λ u. None ∷ u) (emptied f y is)
-emptied f y (Some i ∷ is) = ap (λ u. Some y ∷ u) (emptied f y is)
+-- what is seen of the jobs
+view-of : {J X : Type 0} (f : J → Seen) (g : Seen → X) (js : List J) (gs : List X) → gs ≡ reverse (map (λ j. g (f j)) js) → gs ≡ map g (reverse (map f js))
+view-of f g js gs e = e ∙ sym (map-reverse g (map f js) ∙ ap reverse (map-both f g js))
 
 -- jobs were made, worked and taken apart
-pub left-of : {J I : Type 0} (f : J → Seen) (fn : I → List Note) (fr : I → ReaderView) (book : Book) (refused : Bool) (xs : List Seen) (js js' : List J) (is : List (Option I)) (notes : List (List Note)) (readers : List ReaderView) (replies : List (List Reply))
-    → All (λ x. x.replies ≡ []) xs → All (λ x. x.starved ≡ false) xs
-    → map f js ≡ reverse (busy xs) → map (option_map fn) is ≡ reverse (map (λ x. option_map (λ y. y.notes) (idle_of x)) xs) → map (option_map fr) is ≡ reverse (map (λ x. option_map (λ y. y.session.reader) (idle_of x)) xs)
-    → Each (λ x y. Worked book (f x) (f y)) js js'
-    → notes ≡ filled (reverse (map (option_map fn) is)) (reverse (map (λ j. (f j).notes) js')) → readers ≡ filled (reverse (map (option_map fr) is)) (reverse (map (λ j. (f j).session.reader) js'))
-    → replies ≡ filled (reverse (map (option_map (λ i. [])) is)) (reverse (map (λ j. (f j).replies) js'))
+pub left-of : {J : Type 0} (f : J → Seen) (book : Book) (refused : Bool) (xs : List Seen) (js js' : List J) (notes : List (List Note)) (readers : List ReaderView) (replies : List (List Reply))
+    → map f js ≡ reverse xs → Each (λ x y. Ran book (f x) (f y)) js js'
+    → notes ≡ reverse (map (λ j. (f j).notes) js') → readers ≡ reverse (map (λ j. (f j).session.reader) js') → replies ≡ reverse (map (λ j. (f j).replies) js')
     → (refused ≡ false → All (λ j. (f j).starved ≡ false) js')
     → Left book refused xs notes readers replies
-left-of f fn fr book refused xs js js' is notes readers replies none sated e kn kr w n r s d =
-    let back : reverse (map f js) ≡ busy xs = ap reverse e ∙ reverse-reverse (busy xs) in
+left-of f book refused xs js js' notes readers replies e w n r s d =
+    let back : reverse (map f js) ≡ xs = ap reverse e ∙ reverse-reverse xs in
     let done = reverse (map f js') in
-    let ip : map (option_map (λ i. [])) is ≡ reverse (map (λ x. option_map (λ (y : Seen). y.replies) (idle_of x)) xs) =
-    emptied fn [] is ∙ (ap (map (option_map (λ (n : List Note). []))) kn ∙ (map-reverse (option_map (λ (n : List Note). [])) (map (λ x. option_map (λ (y : Seen). y.notes) (idle_of x)) xs) ∙ ap reverse (none-replied xs none))) in
     record {
-      afters = filled (map idle_of xs) done;
-      ran = each-filled book xs done (subst (λ v. Each (Worked book) v done) back (each-reverse (Worked book) (map f js) (map f js') (each-map f (Worked book) js js' w)));
-      told = view-of f (λ (y : Seen). y.notes) _ xs js' notes kn n;
-      back = view-of f (λ (y : Seen). y.session.reader) _ xs js' readers kr r;
-      replied = view-of f (λ (y : Seen). y.replies) _ xs js' replies ip s;
-      whole = λ z. all-filled (λ (y : Seen). y.starved ≡ false) xs done sated (all-reverse (λ (y : Seen). y.starved ≡ false) (map f js') (All-map (λ (y : Seen). y.starved ≡ false) f js' (d z)));
+      afters = done;
+      ran = subst (λ v. Each (Ran book) v done) back (each-reverse (Ran book) (map f js) (map f js') (each-map f (Ran book) js js' w));
+      told = view-of f (λ (y : Seen). y.notes) js' notes n;
+      back = view-of f (λ (y : Seen). y.session.reader) js' readers r;
+      replied = view-of f (λ (y : Seen). y.replies) js' replies s;
+      whole = λ z. all-reverse (λ (y : Seen). y.starved ≡ false) (map f js') (All-map (λ (y : Seen). y.starved ≡ false) f js' (d z));
     }
-
-pub none-replied-before : (k : ℕ) (shape : Widths) (rs : List ReaderView) (nss : List (List Note)) (css : List (List Call)) → All (λ x. x.replies ≡ []) (befores_from k shape rs nss css)
-none-replied-before k shape [] nss css = all-none (λ (x : Seen). x.replies ≡ [])
-none-replied-before k shape (r ∷ rs) [] css = all-none (λ (x : Seen). x.replies ≡ [])
-none-replied-before k shape (r ∷ rs) (ns ∷ nss) [] = all-none (λ (x : Seen). x.replies ≡ [])
-none-replied-before k shape (r ∷ rs) (ns ∷ nss) (cs ∷ css) = all-cons (λ (x : Seen). x.replies ≡ []) _ _ refl (none-replied-before (k + 1) shape rs nss css)
-
-pub none-starved-before : (k : ℕ) (shape : Widths) (rs : List ReaderView) (nss : List (List Note)) (css : List (List Call)) → All (λ x. x.starved ≡ false) (befores_from k shape rs nss css)
-none-starved-before k shape [] nss css = all-none (λ (x : Seen). x.starved ≡ false)
-none-starved-before k shape (r ∷ rs) [] css = all-none (λ (x : Seen). x.starved ≡ false)
-none-starved-before k shape (r ∷ rs) (ns ∷ nss) [] = all-none (λ (x : Seen). x.starved ≡ false)
-none-starved-before k shape (r ∷ rs) (ns ∷ nss) (cs ∷ css) = all-cons (λ (x : Seen). x.starved ≡ false) _ _ refl (none-starved-before (k + 1) shape rs nss css)

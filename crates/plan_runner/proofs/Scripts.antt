@@ -20,7 +20,7 @@ use Rattle.plan_runner.specs.declared.result.ReplyLine.{ReplyLine}
 use Rattle.plan_runner.specs.Plans.{Ask, ask_of, asks_from, calls_in, event_by, looked_up, planned_at}
 use Rattle.plan_runner.specs.Merges.{ahead_then, lines_by, reply_by, rest_by}
 use Rattle.plan_runner.specs.Runs.{AreInOrder, reply_lines}
-use Rattle.plan_runner.proofs.Filled.{all-none, all-cons}
+use Rattle.plan_runner.proofs.Lists.{all-none, all-cons}
 
 -- ---- the same calls
 

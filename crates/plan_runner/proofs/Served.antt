@@ -26,16 +26,16 @@ use Rattle.thread_session.specs.Prospects.{CanCome}
 use Rattle.thread_session.specs.Stands.{Stands}
 use Rattle.thread_session.proofs.Failing.{kept_same}
 use Rattle.thread_session.proofs.Growing.{grown_same}
-use Rattle.thread_registry.specs.Seen.{Seen, Worked, Finished, FinishedTo, Cut, CanWork}
+use Rattle.thread_registry.specs.Seen.{Seen, Worked, Finished, FinishedTo, Cut, CanWork, Ran}
 use Rattle.plan_runner.specs.declared.plan.Planned.{Planned}
 use Rattle.plan_runner.specs.declared.plan.Planned.TheVariants as planned
 use Rattle.plan_runner.specs.declared.plan.PlanLine.{PlanLine}
 use Rattle.plan_runner.specs.declared.works.Work.{Work}
-use Rattle.plan_runner.specs.Jobs.{Left, RanWhere, before, befores_from, busy, job_where}
+use Rattle.plan_runner.specs.Jobs.{Left, before, befores_from}
 use Rattle.plan_runner.specs.Plans.{calls_in, calls_on, planned_at, IsGoodFor, AreGood, AreThreads}
 use Rattle.plan_runner.specs.Served.{AreServed, Served}
-use Rattle.plan_runner.specs.Works.{AreWorks, calls_of}
-use Rattle.plan_runner.proofs.Filled.{all-cons, all-none}
+use Rattle.plan_runner.specs.Works.{AreDealt, AreWorks, calls_of}
+use Rattle.plan_runner.proofs.Lists.{all-cons, all-none}
 use Rattle.plan_runner.proofs.Lent.{before-at, befores-length}
 
 -- a fact that some element helps to show
@@ -62,48 +62,46 @@ good-calls book shape t (l ∷ ls) all =
     (good-if book shape (l.thread == t) (calls_in l.planned) (good-in book shape l.planned (all 0 l (omega arith))))
     (good-calls book shape t ls (All-tail (λ (k : PlanLine). IsGoodFor book shape k.planned) l ls all))
 
--- the calls of a thread that has work
-found-calls : (works : List (Option Work)) (t : ℕ) (w : Option Work) → slice_get works t ≡ Some w → get_or (map calls_of works) t [] ≡ calls_of w
+-- the calls of a thread
+found-calls : (works : List Work) (t : ℕ) (w : Work) → slice_get works t ≡ Some w → get_or (map calls_of works) t [] ≡ calls_of w
 found-calls [] t w e = absurd (cc)
 found-calls (v ∷ works) zero w e = let same : v ≡ w = cc in ap calls_of same
 found-calls (v ∷ works) (suc t) w e = found-calls works t w e
 
-no-calls : (works : List (Option Work)) (t : ℕ) → slice_get works t ≡ None → get_or (map calls_of works) t [] ≡ []
+no-calls : (works : List Work) (t : ℕ) → slice_get works t ≡ None → get_or (map calls_of works) t [] ≡ []
 no-calls [] t e = refl
 no-calls (v ∷ works) zero e = absurd (cc)
 no-calls (v ∷ works) (suc t) e = no-calls works t e
 
-no-cons : (c : Call) (cs : List Call) → [] ≡ c ∷ cs → ⊥
-no-cons c cs e = omega (arith, ap length e)
-
 -- where some thread has calls, a core was made, so that the shape is one
-pub shaped-where : (shape : Widths) (works : List (Option Work)) → AreWorks shape works → (t : ℕ) (c : Call) (cs : List Call) → get_or (map calls_of works) t [] ≡ c ∷ cs → IsShape shape
-shaped-where shape works all t c cs is = go (slice_get works t) refl where
-  go : (o : Option (Option Work)) → slice_get works t ≡ o → IsShape shape
-  go None e = absurd (no-cons c cs (sym (no-calls works t e) ∙ is))
-  go (Some None) e = absurd (no-cons c cs (sym (found-calls works t None e) ∙ is))
-  go (Some (Some w)) e = (all.each t (Some w) e).shaped
+shaped-where : (shape : Widths) (works : List Work) → AreWorks shape works → (t : ℕ) → 0 < length (get_or (map calls_of works) t []) → IsShape shape
+shaped-where shape works all t some = go (slice_get works t) refl where
+  go : (o : Option Work) → slice_get works t ≡ o → IsShape shape
+  go None e = absurd (omega (arith, some, ap length (no-calls works t e)))
+  go (Some w) e = (all.each t w e).shaped (omega (arith, some, ap length (found-calls works t w e)))
+
+-- a job can be worked if it has calls
+abbrev Can : Book → Seen → Type 0
+Can book x = 0 < length x.calls → CanWork book x.session x.calls
+
+can-before : (book : Book) (shape : Widths) (t : ℕ) (r : ReaderView) (ns : List Note) (cs : List Call) → BookFits shape book
+    → (0 < length cs → IsShape shape) → All (IsGood book shape) cs → Can book (before shape t r ns cs)
+can-before book shape t r ns [] fits shaped good = λ some. absurd (omega (arith, some))
+can-before book shape t r ns (c ∷ cs) fits shaped good = λ some. record { ready = record { agrees = opening_agrees book t shape [] Dry (shaped some) fits }; good = good }
 
 can-from : (book : Book) (shape : Widths) (k : ℕ) (rs : List ReaderView) (nss : List (List Note)) (css : List (List Call)) → BookFits shape book
-    → ((t : ℕ) (c : Call) (cs : List Call) → get_or css t [] ≡ c ∷ cs → IsShape shape) → ((t : ℕ) → All (IsGood book shape) (get_or css t []))
-    → All (λ x. CanWork book x.session x.calls) (busy (befores_from k shape rs nss css))
-can-from book shape k [] nss css fits shaped good = all-none (λ (x : Seen). CanWork book x.session x.calls)
-can-from book shape k (r ∷ rs) [] css fits shaped good = all-none (λ (x : Seen). CanWork book x.session x.calls)
-can-from book shape k (r ∷ rs) (ns ∷ nss) [] fits shaped good = all-none (λ (x : Seen). CanWork book x.session x.calls)
+    → ((t : ℕ) → 0 < length (get_or css t []) → IsShape shape) → ((t : ℕ) → All (IsGood book shape) (get_or css t []))
+    → All (Can book) (befores_from k shape rs nss css)
+can-from book shape k [] nss css fits shaped good = all-none (Can book)
+can-from book shape k (r ∷ rs) [] css fits shaped good = all-none (Can book)
+can-from book shape k (r ∷ rs) (ns ∷ nss) [] fits shaped good = all-none (Can book)
 can-from book shape k (r ∷ rs) (ns ∷ nss) (cs ∷ css) fits shaped good =
-    let rest = can-from book shape (k + 1) rs nss css fits (λ t c ds e. shaped (suc t) c ds e) (λ t. good (suc t)) in
-    go cs (λ c ds e. shaped 0 c ds e) (good 0) rest where
-      go : (cs : List Call) → ((c : Call) (ds : List Call) → cs ≡ c ∷ ds → IsShape shape) → All (IsGood book shape) cs
-          → All (λ x. CanWork book x.session x.calls) (busy (befores_from (k + 1) shape rs nss css))
-          → All (λ x. CanWork book x.session x.calls) (job_where cs (before shape k r ns cs) ++ busy (befores_from (k + 1) shape rs nss css))
-      go [] is all rest = rest
-      go (c ∷ ds) is all rest =
-          all-cons (λ (x : Seen). CanWork book x.session x.calls) (before shape k r ns (c ∷ ds)) _
-          (record { ready = record { agrees = opening_agrees book k shape [] Dry (is c ds refl) fits }; good = all }) rest
+    all-cons (Can book) (before shape k r ns cs) _ (can-before book shape k r ns cs fits (shaped 0) (good 0))
+    (can-from book shape (k + 1) rs nss css fits (λ t. shaped (suc t)) (λ t. good (suc t)))
 
-pub can-work : (book : Book) (shape : Widths) (plan : List PlanLine) (readers : List ReaderView) (notes : List (List Note)) (works : List (Option Work))
-    → length works ≡ 64 → ((t : ℕ) → t < 64 → get_or (map calls_of works) t [] ≡ planned_at t plan) → AreWorks shape works → BookFits shape book → AreGood book shape plan
-    → All (λ x. CanWork book x.session x.calls) (busy (befores_from 0 shape readers notes (map calls_of works)))
+pub can-work : (book : Book) (shape : Widths) (plan : List PlanLine) (readers : List ReaderView) (notes : List (List Note)) (works : List Work)
+    → length works ≡ 64 → AreDealt plan works → AreWorks shape works → BookFits shape book → AreGood book shape plan
+    → All (Can book) (befores_from 0 shape readers notes (map calls_of works))
 can-work book shape plan readers notes works len dealt all fits good =
     can-from book shape 0 readers notes (map calls_of works) fits (shaped-where shape works all)
     (λ t.
@@ -141,19 +139,16 @@ some_coming reader = go (tape_of reader) refl where
   go None e = (comes reader End [], record { tape = record { bytes = []; ending = End }; told = rw e tt; says = refl })
   go (Some t) e = (comes reader t.ending t.bytes, record { tape = t; told = rw e refl; says = refl })
 
-no-idle : (calls : List Call) → 0 < length calls → calls ≡ [] → ⊥
-no-idle calls some none = omega (arith, some, ap length none)
-
 -- a thread with calls
-served-job : (book : Book) (shape : Widths) (refused : Bool) (t : ℕ) (reader : ReaderView) (calls : List Call) (notes : List Note) (y : Seen) → IsShape shape
-    → 0 < length calls → Worked book (before shape t reader notes calls) y → (refused ≡ false → y.starved ≡ false) → Served book shape refused t reader y.session.reader calls notes y.notes y.replies
-served-job book shape refused t reader calls notes y shaped some w whole =
-    let x = before shape t reader notes calls in
+served-job : (book : Book) (shape : Widths) (refused : Bool) (t : ℕ) (reader : ReaderView) (c : Call) (cs : List Call) (notes : List Note) (y : Seen) → IsShape shape
+    → Worked book (before shape t reader notes (c ∷ cs)) y → (refused ≡ false → y.starved ≡ false) → Served book shape refused t reader y.session.reader (c ∷ cs) notes y.notes y.replies
+served-job book shape refused t reader c cs notes y shaped w whole =
+    let x = before shape t reader notes (c ∷ cs) in
     let made : y.replies ≡ w.replied.0 = w.replied.1.appended in
     let stands : (stream : Coming) → coming reader ≡ Some stream → Stands book x.session (opening t stream.rest stream.mark) =
     λ stream e. record { kept = opening_stands book t shape stream.rest stream.mark shaped; told = e } in
     record {
-      idle = λ none. absurd (no-idle calls some none);
+      idle = λ none. absurd (omega (arith, ap length none));
       kept = w.faults;
       faulty = subst (All (λ r. IsFault r → FaultsRose (fault_count reader) (fault_count y.session.reader))) (sym made) w.replied.1.faulty;
       grown = w.grown;
@@ -194,15 +189,15 @@ served-idle book shape refused t reader notes =
     }
 
 served-one : (book : Book) (shape : Widths) (refused : Bool) (t : ℕ) (reader : ReaderView) (calls : List Call) (notes : List Note) (y : Seen)
-    → ((c : Call) (cs : List Call) → calls ≡ c ∷ cs → IsShape shape) → RanWhere calls book (before shape t reader notes calls) y → (refused ≡ false → y.starved ≡ false)
+    → (0 < length calls → IsShape shape) → Ran book (before shape t reader notes calls) y → (refused ≡ false → y.starved ≡ false)
     → Served book shape refused t reader y.session.reader calls notes y.notes y.replies
 served-one book shape refused t reader [] notes y shaped ran whole =
     subst (λ (z : Seen). Served book shape refused t reader z.session.reader [] notes z.notes z.replies) (sym ran) (served-idle book shape refused t reader notes)
-served-one book shape refused t reader (c ∷ cs) notes y shaped ran whole = served-job book shape refused t reader (c ∷ cs) notes y (shaped c cs refl) (omega arith) ran whole
+served-one book shape refused t reader (c ∷ cs) notes y shaped ran whole = served-job book shape refused t reader c cs notes y (shaped (omega arith)) ran whole
 
 -- each thread got so
-pub are-served : (book : Book) (shape : Widths) (refused : Bool) (plan : List PlanLine) (readers readers_then : List ReaderView) (before_all after : List (List Note)) (replies : List (List Reply)) (works : List (Option Work))
-    → length readers ≡ 64 → length before_all ≡ 64 → length works ≡ 64 → ((t : ℕ) → t < 64 → get_or (map calls_of works) t [] ≡ planned_at t plan) → AreWorks shape works
+pub are-served : (book : Book) (shape : Widths) (refused : Bool) (plan : List PlanLine) (readers readers_then : List ReaderView) (before_all after : List (List Note)) (replies : List (List Reply)) (works : List Work)
+    → length readers ≡ 64 → length before_all ≡ 64 → length works ≡ 64 → AreDealt plan works → AreWorks shape works
     → Left book refused (befores_from 0 shape readers before_all (map calls_of works)) after readers_then replies
     → AreServed book shape refused plan readers readers_then before_all after replies
 are-served book shape refused plan readers readers_then before_all after replies works rl nl wl dealt all left =
@@ -224,7 +219,7 @@ are-served book shape refused plan readers readers_then before_all after replies
           let is : get_or xs t x ≡ x =
           before-at 0 shape readers before_all css t x r (omega (arith, few, rl)) ns_long cs_long
           ∙ ap (λ n. before shape n (get_or readers t r) (get_or before_all t []) calls) (let q : 0 + t ≡ t = omega arith in q) in
-          let ran : RanWhere calls book x y = subst (λ (v : Seen). RanWhere v.calls book v y) is (left.ran.at t x (omega (arith, few, long, left.ran.len))) in
+          let ran : Ran book x y = subst (λ (v : Seen). Ran book v y) is (left.ran.at t x (omega (arith, few, long, left.ran.len))) in
           let got = served-one book shape refused t (get_or readers t r) calls (get_or before_all t []) y (shaped-where shape works all t) ran (λ z. left.whole z t x there) in
           let n : get_or after t [] ≡ y.notes = ap (λ l. get_or l t []) left.told ∙ get_or-map (λ (v : Seen). v.notes) left.afters t x [] there in
           let q : get_or replies t [] ≡ y.replies = ap (λ l. get_or l t []) left.replied ∙ get_or-map (λ (v : Seen). v.replies) left.afters t x [] there in

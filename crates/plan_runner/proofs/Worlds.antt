@@ -31,7 +31,7 @@ use Rattle.plan_runner.specs.Merges.{lines_by}
 use Rattle.plan_runner.specs.Runs.{AllKept, CanEachCome, IdleStay, IsPlannedFrom, Tells, reply_lines, world_told}
 use Rattle.plan_runner.specs.Runs as runs
 use Rattle.plan_runner.specs.Served.{AreServed, ServedAs}
-use Rattle.plan_runner.proofs.Filled.{all-none}
+use Rattle.plan_runner.proofs.Lists.{all-none}
 use Rattle.plan_runner.proofs.Served.{some_coming, with_some}
 use Rattle.plan_runner.proofs.Scripts.{lines-speak, lines-told, merged-same, planned-script, script-threads}
 

@@ -1,28 +1,33 @@
 -- What the jobs of the threads take, before the handlers and the readers are lent to them.
-use Rattle.std.specs.Prelude.{ℕ, ◌≡◌, ◌<◌, List, [], length, Option, Some, None, slice_get, ⊤}
+use Rattle.std.specs.Prelude.{ℕ, ◌≡◌, ◌<◌, List, [], ◌∷◌, length, Option, Some, None, map, slice_get, slice_index_or}
+use Rattle.papi_base.specs.declared.limits.TheConstants.{THREADS}
 use Rattle.event_sets.specs.AtRest.{Widths}
 use Rattle.session_model.specs.declared.call.Call.{Call}
 use Rattle.session_model.specs.Fitness.{IsShape}
-use Rattle.thread_core.specs.CoreView.{opening_core}
+use Rattle.thread_core.specs.CoreView.{CoreView, opening_core}
+use Rattle.plan_runner.specs.declared.plan.PlanLine.{PlanLine}
 use Rattle.plan_runner.specs.declared.works.Work.{Work}
+use Rattle.plan_runner.specs.Plans.{planned_at}
 
--- the thread's core is a new one, it has some calls, and none was replied to
+-- the calls of a thread
+abbrev pub calls_of : Work → List Call
+calls_of w = w.calls.items
+
+-- a new core for a thread that has calls
+abbrev pub core_for : Widths → ℕ → List Call → Option CoreView
+core_for shape thread [] = None
+core_for shape thread (c ∷ cs) = Some (opening_core thread shape)
+
+-- the thread has a new core if it has calls, and none was replied to
 pub record IsWork (shape : Widths) (thread : ℕ) (w : Work) : Type 0 where
-  pub core : w.core ≡ opening_core thread shape
-  pub shaped : IsShape shape
-  pub some : 0 < length w.calls.items
+  pub core : w.core ≡ core_for shape thread w.calls.items
+  pub shaped : 0 < length w.calls.items → IsShape shape
   pub none : w.replies.items ≡ []
 
--- so it is, where there is work
-abbrev pub IsWorkOf : Widths → ℕ → Option Work → Type 0
-IsWorkOf shape thread None = ⊤
-IsWorkOf shape thread (Some w) = IsWork shape thread w
-
 -- so is the work of each thread
-pub record AreWorks (shape : Widths) (works : List (Option Work)) : Type 0 where
-  pub each : (t : ℕ) (w : Option Work) → slice_get works t ≡ Some w → IsWorkOf shape t w
+pub record AreWorks (shape : Widths) (works : List Work) : Type 0 where
+  pub each : (t : ℕ) (w : Work) → slice_get works t ≡ Some w → IsWork shape t w
 
--- the calls of a thread, where there is work
-abbrev pub calls_of : Option Work → List Call
-calls_of None = []
-calls_of (Some w) = w.calls.items
+-- each thread has its calls of the plan
+abbrev pub AreDealt : List PlanLine → List Work → Type 0
+AreDealt plan works = (t : ℕ) → t < THREADS → slice_index_or (map calls_of works) t [] ≡ planned_at t plan

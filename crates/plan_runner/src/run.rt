@@ -12,14 +12,13 @@ ghost use Rattle.thread_session.specs.SessionView.{IsFresh};
 ghost use Rattle.thread_session.specs.Faults.{FaultsRose, IsFault, fault_count};
 ghost use Rattle.plan_runner.specs.Marks.{marks_in};
 ghost use Rattle.plan_runner.specs.Merges.{lines_by};
-ghost use Rattle.plan_runner.specs.Plans.{AreGood, AreThreads, planned_at};
+ghost use Rattle.plan_runner.specs.Plans.{AreGood, AreThreads};
 ghost use Rattle.plan_runner.specs.Runs.{AllKept, AreInOrder, CanEachCome, IdleStay, IsPlannedFrom, Tells, notes_by_thread, reply_lines, world_told};
 ghost use Rattle.plan_runner.specs.Served.{AreServed};
-ghost use Rattle.plan_runner.specs.Works.{AreWorks, calls_of};
+ghost use Rattle.plan_runner.specs.Works.{AreDealt, AreWorks};
 
 use crate::deal::deal;
 use crate::jobs::run_jobs;
-use crate::lending::Idle;
 use crate::marks::marks_of;
 use crate::merge::merge;
 use crate::plan::{Plan, PlanLine};
@@ -37,29 +36,24 @@ use thread_registry::Job;
 
 /// All that a run takes memory for, before the first handler is lent.
 struct Prepared<S: Source> {
-    works: Vec<Option<Work>>,
+    works: Vec<Work>,
     jobs: Vec<Job<S>>,
-    idle: Vec<Option<Idle<S>>>,
     replies: Vec<Vec<Reply>>,
     lines: Vec<ReplyLine>,
 }
 
-/// Opens the work of each thread that has calls in the plan.
-fn open_planned(
-    alloc: Global,
-    plan: &[PlanLine],
-    shape: &Shape,
-) -> Result<Vec<Option<Work>>, AllocError>
+/// Opens the work of each thread.
+fn open_planned(alloc: Global, plan: &[PlanLine], shape: &Shape) -> Result<Vec<Work>, AllocError>
     requires threads { AreThreads plan.now }
     ensures len { IfOk result (λ works. vec_len works ≡ THREADS) }
     ensures works { IfOk result (λ works. AreWorks shape.now works.items) }
-    ensures dealt { IfOk result (λ works. (t : ℕ) → t < THREADS → slice_index_or (map calls_of works.items) t [] ≡ planned_at t plan.now) }
+    ensures dealt { IfOk result (λ works. AreDealt plan.now works.items) }
 {
     let lists = deal(alloc, plan)?;
     open_works(alloc, shape, lists)
 }
 
-/// Takes the memory, and opens the work of each thread that has calls.
+/// Takes the memory, and opens the work of each thread.
 fn prepare<S: Source>(
     alloc: Global,
     plan: &[PlanLine],
@@ -67,21 +61,22 @@ fn prepare<S: Source>(
 ) -> Result<Prepared<S>, AllocError>
     requires threads { AreThreads plan.now }
     ensures len { IfOk result (λ p. vec_len p.works ≡ THREADS) }
-    ensures empty { IfOk result (λ p. (vec_len p.jobs ≡ 0) × (vec_len p.idle ≡ 0) × (vec_len p.replies ≡ 0) × (vec_len p.lines ≡ 0)) }
-    ensures room { IfOk result (λ p. (THREADS ≤ vec_capacity p.jobs) × (THREADS ≤ vec_capacity p.idle)
-        × (THREADS ≤ vec_capacity p.replies) × (length plan.now ≤ vec_capacity p.lines)) }
+    ensures no_jobs { IfOk result (λ p. vec_len p.jobs ≡ 0) }
+    ensures no_replies { IfOk result (λ p. vec_len p.replies ≡ 0) }
+    ensures no_lines { IfOk result (λ p. vec_len p.lines ≡ 0) }
+    ensures room { IfOk result (λ p. THREADS ≤ vec_capacity p.jobs) }
+    ensures reply_room { IfOk result (λ p. THREADS ≤ vec_capacity p.replies) }
+    ensures line_room { IfOk result (λ p. length plan.now ≤ vec_capacity p.lines) }
     ensures works { IfOk result (λ p. AreWorks shape.now p.works.items) }
-    ensures dealt { IfOk result (λ p. (t : ℕ) → t < THREADS → slice_index_or (map calls_of p.works.items) t [] ≡ planned_at t plan.now) }
+    ensures dealt { IfOk result (λ p. AreDealt plan.now p.works.items) }
 {
     let jobs = Vec::with_capacity(alloc, THREADS as usize)?;
-    let idle = Vec::with_capacity(alloc, THREADS as usize)?;
     let replies = Vec::with_capacity(alloc, THREADS as usize)?;
     let lines = Vec::with_capacity(alloc, plan.len())?;
     let works = open_planned(alloc, plan, shape)?;
     Ok(Prepared {
         works,
         jobs,
-        idle,
         replies,
         lines,
     })
@@ -90,7 +85,6 @@ fn prepare<S: Source>(
 /// Runs what was prepared.
 fn run_prepared<R: Threads + Sync, S: Source + Send>(
     rt: &R,
-    alloc: Global,
     plan: &[PlanLine],
     book: &PresetBook,
     workers: u32,
@@ -103,12 +97,16 @@ fn run_prepared<R: Threads + Sync, S: Source + Send>(
     requires readers { vec_len readers.old ≡ THREADS }
     requires fresh { All IsFresh readers.old.items }
     requires len { vec_len prepared.works ≡ THREADS }
-    requires empty { (vec_len prepared.jobs ≡ 0) × (vec_len prepared.idle ≡ 0) × (vec_len prepared.replies ≡ 0) × (vec_len prepared.lines ≡ 0) }
-    requires room { (THREADS ≤ vec_capacity prepared.jobs) × (THREADS ≤ vec_capacity prepared.idle)
-        × (THREADS ≤ vec_capacity prepared.replies) × (length plan.now ≤ vec_capacity prepared.lines) }
+    requires no_jobs { vec_len prepared.jobs ≡ 0 }
+    requires no_replies { vec_len prepared.replies ≡ 0 }
+    requires no_lines { vec_len prepared.lines ≡ 0 }
+    requires room { THREADS ≤ vec_capacity prepared.jobs }
+    requires reply_room { THREADS ≤ vec_capacity prepared.replies }
+    requires line_room { length plan.now ≤ vec_capacity prepared.lines }
     requires low { 1 ≤ workers }
-    requires works { (shape : Widths) × AreWorks shape prepared.works.items × BookFits shape book.now × AreGood book.now shape plan.now }
-    requires dealt { (t : ℕ) → t < THREADS → slice_index_or (map calls_of prepared.works.items) t [] ≡ planned_at t plan.now }
+    requires works { (shape : Widths) × AreWorks shape prepared.works.items
+        × BookFits shape book.now × AreGood book.now shape plan.now }
+    requires dealt { AreDealt plan.now prepared.works.items }
     ensures len { vec_len handlers.new ≡ THREADS }
     ensures readers_len { vec_len readers.new ≡ THREADS }
     ensures served { (shape : Widths) → AreWorks shape prepared.works.items → BookFits shape book.now → (replies : List (List Reply))
@@ -120,20 +118,17 @@ fn run_prepared<R: Threads + Sync, S: Source + Send>(
     let Prepared {
         works,
         jobs,
-        idle,
         mut replies,
         mut lines,
     } = prepared;
     if run_jobs(
         rt,
-        alloc,
         book,
         workers,
         works,
         handlers,
         readers,
         jobs,
-        idle,
         &mut replies,
     ) {
         return Err(AllocError);
@@ -190,14 +185,5 @@ pub fn run_plan<R: Threads + Sync, S: Source + Send>(
         (slice_index_or (map (λ r. fault_count r) readers.new.items) l.thread None)) run.lines.items) }
 {
     let prepared = prepare(alloc, plan.lines(), shape)?;
-    run_prepared(
-        rt,
-        alloc,
-        plan.lines(),
-        book,
-        workers,
-        prepared,
-        readers,
-        handlers,
-    )
+    run_prepared(rt, plan.lines(), book, workers, prepared, readers, handlers)
 }

@@ -1,17 +1,18 @@
 //! What the jobs of the threads take, before the handlers and the readers are lent to them.
 ghost use Rattle.std.specs.Prelude.{◌≡◌, ◌≤◌, IfOk, map, vec_len};
 ghost use Rattle.session_model.specs.Fitness.{IsShape};
-ghost use Rattle.plan_runner.specs.Works.{AreWorks, IsWorkOf, calls_of};
+ghost use Rattle.plan_runner.specs.Works.{AreWorks, IsWork, calls_of};
 
 use papi_base::{Shape, THREADS};
 use session_model::{Call, Reply};
 use std::alloc::{AllocError, Global};
 use thread_core::Core;
 
-/// What the job of a thread takes besides its handler and its reader: a new core, its calls, and room for their replies.
+/// What the job of a thread takes besides its handler and its reader: its calls, a new core if there are any, and room for their
+/// replies.
 #[derive(Drop)]
 pub struct Work {
-    pub core: Core,
+    pub core: Option<Core>,
     pub calls: Vec<Call>,
     pub replies: Vec<Reply>,
 }
@@ -27,26 +28,26 @@ fn copy_shape(shape: &Shape) -> Shape
     copy
 }
 
-/// The work of a thread that makes these calls. A thread without calls has none, and takes no memory.
+/// The work of a thread that makes these calls. Without calls it takes no memory.
 fn open_work(
     alloc: Global,
     thread: u32,
     shape: &Shape,
     calls: Vec<Call>,
-) -> Result<Option<Work>, AllocError>
-    ensures work { IfOk result (λ w. IsWorkOf shape.now thread w) }
+) -> Result<Work, AllocError>
+    ensures work { IfOk result (IsWork shape.now thread) }
     ensures calls { IfOk result (λ w. calls_of w ≡ calls.items) }
 {
-    if calls.is_empty() {
-        return Ok(None);
+    let mut core = None;
+    if !calls.is_empty() {
+        core = Some(Core::new(alloc, thread, copy_shape(shape))?);
     }
-    let core = Core::new(alloc, thread, copy_shape(shape))?;
     let replies = Vec::with_capacity(alloc, calls.len())?;
-    Ok(Some(Work {
+    Ok(Work {
         core,
         calls,
         replies,
-    }))
+    })
 }
 
 /// The work of each thread, in order.
@@ -54,7 +55,7 @@ pub fn open_works(
     alloc: Global,
     shape: &Shape,
     lists: Vec<Vec<Call>>,
-) -> Result<Vec<Option<Work>>, AllocError>
+) -> Result<Vec<Work>, AllocError>
     requires few { vec_len lists ≤ THREADS }
     ensures len { IfOk result (λ v. vec_len v ≡ vec_len lists) }
     ensures works { IfOk result (λ v. AreWorks shape.now v.items) }

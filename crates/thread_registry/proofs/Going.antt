@@ -19,7 +19,7 @@ use Rattle.thread_core.specs.Stands.{CoreStands}
 use Rattle.thread_session.specs.Follows.{FollowsTo, IsCutTo, expecting}
 use Rattle.thread_session.specs.Prospects.{CanCome}
 use Rattle.thread_session.specs.Stands.{IsReady, Stands, to_come}
-use Rattle.thread_registry.specs.Seen.{Seen, Worked, Finished, FinishedTo, Cut, seen_of}
+use Rattle.thread_registry.specs.Seen.{Seen, Worked, Finished, FinishedTo, Cut, Ran, RanWhere, seen_of}
 use Rattle.thread_registry.proofs.Folds.{after-more, replies-more, notes-more, replies-front, notes-part}
 use Rattle.thread_registry.proofs.Faults.{kept-same, kept-kept, kept-rose, rose-kept}
 
@@ -410,3 +410,10 @@ worked-same book x x' y y' w a n c r a' n' c' r' s' =
     let q3 = subst (λ v. Worked book x' (seen_of y'.session y'.notes v y.replies y.starved)) (sym c') q2 in
     let q4 = subst (λ v. Worked book x' (seen_of y'.session y'.notes y'.calls v y.starved)) (sym r') q3 in
     subst (λ v. Worked book x' (seen_of y'.session y'.notes y'.calls y'.replies v)) (sym s') q4
+
+-- a job with calls was worked
+pub ran-by : (book : Book) (x y : Seen) → 0 < length x.calls → Worked book x y → Ran book x y
+ran-by book x y some w = go x.calls some where
+  go : (cs : List Call) → 0 < length cs → RanWhere cs book x y
+  go [] h = absurd (omega (arith, h))
+  go (c ∷ cs) h = w

@@ -1,5 +1,5 @@
 -- What is seen of a thread's job, before and after its work.
-use Rattle.std.specs.Prelude.{◌≡◌, ℕ, ◌<◌, Bool, false, List, All, ◌++◌, length, take}
+use Rattle.std.specs.Prelude.{◌≡◌, ℕ, ◌<◌, Bool, false, List, [], ◌∷◌, All, ◌++◌, length, take}
 use Rattle.std.specs.Bool.{MatchBool}
 use Rattle.postfix_rules.specs.Presets.{Book}
 use Rattle.overflow_dispatch.specs.declared.handler.Note.{Note}
@@ -73,3 +73,12 @@ pub record Worked (book : Book) (x y : Seen) : Type 0 where
 -- a job by its parts
 abbrev pub seen_of : SessionView → List Note → List Call → List Reply → Bool → Seen
 seen_of session notes calls replies starved = record { session = session; notes = notes; calls = calls; replies = replies; starved = starved }
+
+-- a job without calls stays as it was, and another was worked
+abbrev pub RanWhere : List Call → Book → Seen → Seen → Type 0
+RanWhere [] book x y = y ≡ x
+RanWhere (c ∷ cs) book x y = Worked book x y
+
+-- y is the job x after its work, if it has any
+abbrev pub Ran : Book → Seen → Seen → Type 0
+Ran book x y = RanWhere x.calls book x y

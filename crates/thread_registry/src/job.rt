@@ -1,10 +1,11 @@
 //! The work of one thread.
 ghost use Rattle.std.specs.Prelude.{false};
 ghost use Rattle.std.specs.Result.{is_err};
-ghost use Rattle.thread_registry.specs.Seen.{Worked, CanWork, seen_of};
-ghost use Rattle.thread_registry.specs.JobView.{seen};
+ghost use Rattle.thread_registry.specs.Seen.{Worked, CanWork, Ran, seen_of};
+ghost use Rattle.thread_registry.specs.JobView.{CanBeWorked, seen};
 
 use crate::load::load_of;
+use crate::opened::Opened;
 use overflow_dispatch::Handler;
 use papi_base::Source;
 use parallel_tasks::Task;
@@ -15,9 +16,10 @@ use std::marker::Send;
 use thread_session::Session;
 
 /// A thread's session and handler, the calls that it is to make in order, the replies so far, and whether memory was refused.
+/// A thread without calls needs no session.
 #[derive(Drop)]
 pub struct Job<S: Source> {
-    pub session: Session<S>,
+    pub session: Opened<S>,
     pub handler: Box<dyn Handler + Send>,
     pub calls: Vec<Call>,
     pub replies: Vec<Reply>,
@@ -58,29 +60,31 @@ fn make_boxed<S: Source>(
     make_calls(session, book, &mut **h, calls, replies)
 }
 
-/// Makes the calls of the job.
+/// Makes the calls of the job. One without calls does nothing.
 fn work_job<S: Source>(job: &mut Job<S>, book: &PresetBook)
-    requires { CanWork book.now job.old.session job.old.calls.items }
-    ensures { Worked book.now (seen (notes job.old.handler) job.old) (seen (notes job.new.handler) job.new) }
+    requires { CanBeWorked book.now job.old.session job.old.calls.items }
+    ensures { Ran book.now (seen (notes job.old.handler) job.old) (seen (notes job.new.handler) job.new) }
 {
-    let made = make_boxed(
-        &mut job.session,
-        book,
-        &mut job.handler,
-        job.calls.as_slice(),
-        &mut job.replies,
-    );
-    job.starved = made.is_err();
+    if let Opened::Session(session) = &mut job.session {
+        let made = make_boxed(
+            session,
+            book,
+            &mut job.handler,
+            job.calls.as_slice(),
+            &mut job.replies,
+        );
+        job.starved = made.is_err();
+    }
 }
 
 impl<S: Source> Task<PresetBook> for Job<S> {
-    ghost use Rattle.thread_registry.specs.Seen.{Worked, CanWork};
-    ghost use Rattle.thread_registry.specs.JobView.{seen};
+    ghost use Rattle.thread_registry.specs.Seen.{Ran};
+    ghost use Rattle.thread_registry.specs.JobView.{CanBeWorked, seen};
     ghost use Rattle.thread_registry.specs.Load.{load_of};
 
-    ghost ready = { λ book j. CanWork book j.session j.calls.items };
+    ghost ready = { λ book j. CanBeWorked book j.session j.calls.items };
 
-    ghost done = { λ book x y. Worked book (seen ((Handler-box x.handler).notes x.handler.value) x) (seen ((Handler-box y.handler).notes y.handler.value) y) };
+    ghost done = { λ book x y. Ran book (seen ((Handler-box x.handler).notes x.handler.value) x) (seen ((Handler-box y.handler).notes y.handler.value) y) };
 
     ghost load = { λ j. load_of j.calls.items };
 

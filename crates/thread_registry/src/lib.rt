@@ -3,9 +3,11 @@
 
 pub mod job;
 pub mod load;
+pub mod opened;
 pub mod registry;
 pub mod work;
 
 pub use job::Job;
+pub use opened::Opened;
 pub use registry::Registry;
 pub use work::work_all;

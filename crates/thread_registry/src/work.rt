@@ -1,8 +1,8 @@
 //! All jobs, worked by several workers.
 ghost use Rattle.std.specs.Prelude.{ℕ, ◌≤◌};
 ghost use Rattle.parallel_tasks.specs.Each.{Each, AtEach};
-ghost use Rattle.thread_registry.specs.Seen.{Worked, CanWork};
-ghost use Rattle.thread_registry.specs.JobView.{seen};
+ghost use Rattle.thread_registry.specs.Seen.{Ran};
+ghost use Rattle.thread_registry.specs.JobView.{CanBeWorked, seen};
 
 use crate::job::Job;
 use papi_base::Source;
@@ -11,7 +11,8 @@ use postfix_rules::PresetBook;
 use std::marker::{Send, Sync};
 use std::thread::Threads;
 
-/// Makes the calls of all jobs, by at most this many workers. Each job's replies are those of its calls in order, whatever the number of workers.
+/// Makes the calls of all jobs, by at most this many workers. Each job's replies are those of its calls in order, whatever the
+/// number of workers. A job without calls keeps no worker.
 pub fn work_all<R: Threads + Sync, S: Source + Send>(
     rt: &R,
     jobs: &mut Vec<Job<S>>,
@@ -19,8 +20,9 @@ pub fn work_all<R: Threads + Sync, S: Source + Send>(
     workers: u32,
 )
     requires low { 1 ≤ workers }
-    requires ready { AtEach (λ j. CanWork book.now j.session j.calls.items) jobs.old.items }
-    ensures worked { Each (λ x y. Worked book.now (seen (notes x.handler) x) (seen (notes y.handler) y)) jobs.old.items jobs.new.items }
+    requires ready { AtEach (λ j. CanBeWorked book.now j.session j.calls.items) jobs.old.items }
+    ensures worked { Each (λ x y. Ran book.now (seen (notes x.handler) x) (seen (notes y.handler) y))
+        jobs.old.items jobs.new.items }
 {
     work_tasks(rt, book, jobs, workers);
 }

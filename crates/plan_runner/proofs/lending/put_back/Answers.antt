@@ -1,38 +1,46 @@
-use Rattle.std.proofs.Common.{arith, ◌∙◌}
-use Rattle.plan_runner.proofs.Filled.{neither, put-all, put-more}
-use Rattle.plan_runner.proofs.Lent.{gaps-last}
+use Rattle.std.proofs.Common.{false, arith, ap, ◌∙◌, ◌≡◌, ◌++◌, ◌∷◌, [], map, refl}
+use Rattle.plan_runner.proofs.Lists.{all-more, map-push, neither, no-items, put-all, put-more, put-none}
 use Rattle.plan_runner.proofs.lending.put_back.Goals as goal
+
+pub loop-put-init : goal.loop-put-init
+loop-put-init g c =
+    record {
+      jobs_len = omega arith;
+      handlers_len = c.requires.none;
+      readers_len = c.requires.no_readers;
+      replies_len = c.requires.no_replies;
+      room = refl;
+      reader_room = refl;
+      reply_room = refl;
+      handlers = put-none _ _ (ap (map _) (no-items c.args.handlers.now.items (omega (arith, c.requires.none, c.args.handlers.now.ok.0))));
+      readers = put-none _ _ (no-items c.args.readers.now.items (omega (arith, c.requires.no_readers, c.args.readers.now.ok.0)));
+      replies = put-none _ _ (ap (map _) (no-items c.args.replies.now.items (omega (arith, c.requires.no_replies, c.args.replies.now.ok.0))));
+      whole = λ e all. all;
+    }
 
 pub loop-put-preserved : goal.loop-put-preserved
 loop-put-preserved g c =
     let inv = c.loop-put.invariant in
-    let last = c.take_last-place.ensures.items in
-    let counted = gaps-last c.loop-put.idle.items c.take_last-place.new.self.items c.take_last-place.result last in
+    let last = c.take_last-session.ensures.items in
     record {
-      idle_len = omega arith;
-      as_many = omega (arith, counted, c.give_back-refused.ensures.jobs, inv.as_many);
-      handlers_len = omega (arith, c.give_back-refused.ensures.len, inv.handlers_len);
-      readers_len = omega (arith, c.give_back-refused.ensures.readers_len, inv.readers_len);
-      replies_len = omega (arith, c.give_back-refused.ensures.replies_len, inv.replies_len);
-      room = c.give_back-refused.ensures.capacity ∙ inv.room;
-      reader_room = c.give_back-refused.ensures.reader_capacity ∙ inv.reader_room;
-      reply_room = c.give_back-refused.ensures.reply_capacity ∙ inv.reply_room;
-      handlers = put-more _ _ _ _ _ c.loop-put.idle.items c.take_last-place.new.self.items c.take_last-place.result c.loop-put.jobs.items c.give_back-refused.new.jobs.items last c.give_back-refused.ensures.handlers inv.handlers;
-      readers = put-more _ _ _ _ _ c.loop-put.idle.items c.take_last-place.new.self.items c.take_last-place.result c.loop-put.jobs.items c.give_back-refused.new.jobs.items last c.give_back-refused.ensures.readers inv.readers;
-      replies = put-more _ _ _ _ _ c.loop-put.idle.items c.take_last-place.new.self.items c.take_last-place.result c.loop-put.jobs.items c.give_back-refused.new.jobs.items last c.give_back-refused.ensures.replies inv.replies;
-      whole = λ e all. inv.whole (neither c.loop-put.refused c.give_back-refused.result e).0 (c.give_back-refused.ensures.whole (neither c.loop-put.refused c.give_back-refused.result e).1 all);
+      jobs_len = omega arith;
+      handlers_len = omega (arith, c.push_reserved.ensures.len, inv.handlers_len);
+      readers_len = omega (arith, c.push_reserved-in-loop-put.ensures.len, inv.readers_len);
+      replies_len = omega (arith, c.push_reserved-in-loop-put-2.ensures.len, inv.replies_len);
+      room = c.push_reserved.ensures.capacity ∙ inv.room;
+      reader_room = c.push_reserved-in-loop-put.ensures.capacity ∙ inv.reader_room;
+      reply_room = c.push_reserved-in-loop-put-2.ensures.capacity ∙ inv.reply_room;
+      handlers = put-more _ _ _ _ _ _ _ last (map-push _ _ _ _ c.push_reserved.ensures.items) inv.handlers;
+      readers = put-more _ _ _ _ _ _ _ last (c.push_reserved-in-loop-put.ensures.items ∙ ap (λ r. c.loop-put.readers.items ++ r ∷ []) c.into_reader.ensures) inv.readers;
+      replies = put-more _ _ _ _ _ _ _ last (map-push _ _ _ _ c.push_reserved-in-loop-put-2.ensures.items) inv.replies;
+      whole = λ e all. inv.whole (neither c.loop-put.refused _ e).0 (all-more (λ j. j.starved ≡ false) _ _ _ last all (neither c.loop-put.refused _ e).1);
     }
 
-pub give_back-refused-requires-clause-job : goal.give_back-refused-requires-clause-job
-give_back-refused-requires-clause-job g c =
-    let counted = gaps-last c.loop-put.idle.items c.take_last-place.new.self.items c.take_last-place.result c.take_last-place.ensures.items in
-    omega (arith, counted, c.loop-put.invariant.as_many)
-
 pub returns-clause-handlers : goal.returns-clause-handlers
-returns-clause-handlers g c = put-all _ _ _ _ c.loop-put.idle.items (omega (arith, c.loop-put.invariant.idle_len, c.loop-put.idle.ok.0)) c.loop-put.invariant.handlers
+returns-clause-handlers g c = put-all _ _ _ c.loop-put.jobs.items (omega (arith, c.loop-put.invariant.jobs_len, c.loop-put.jobs.ok.0)) c.loop-put.invariant.handlers
 
 pub returns-clause-readers : goal.returns-clause-readers
-returns-clause-readers g c = put-all _ _ _ _ c.loop-put.idle.items (omega (arith, c.loop-put.invariant.idle_len, c.loop-put.idle.ok.0)) c.loop-put.invariant.readers
+returns-clause-readers g c = put-all _ _ _ c.loop-put.jobs.items (omega (arith, c.loop-put.invariant.jobs_len, c.loop-put.jobs.ok.0)) c.loop-put.invariant.readers
 
 pub returns-clause-replies : goal.returns-clause-replies
-returns-clause-replies g c = put-all _ _ _ _ c.loop-put.idle.items (omega (arith, c.loop-put.invariant.idle_len, c.loop-put.idle.ok.0)) c.loop-put.invariant.replies
+returns-clause-replies g c = put-all _ _ _ c.loop-put.jobs.items (omega (arith, c.loop-put.invariant.jobs_len, c.loop-put.jobs.ok.0)) c.loop-put.invariant.replies

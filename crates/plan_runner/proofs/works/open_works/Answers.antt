@@ -2,8 +2,8 @@ use Rattle.std.proofs.Common.{rules, arith, ap, ap₂, subst, sym, ◌∙◌, �
 use Rattle.std.proofs.lemmas.List.{length_push, map-append}
 use Rattle.std.proofs.lemmas.Iterator.Consumers.{YieldsList-end}
 use Rattle.std.proofs.lemmas.Iterator.Adapters.{YieldsList-from_vec}
-use Rattle.plan_runner.specs.Works.{AreWorks, IsWorkOf, calls_of}
-use Rattle.plan_runner.proofs.Filled.{map-push}
+use Rattle.plan_runner.specs.Works.{AreWorks, IsWork, calls_of}
+use Rattle.plan_runner.proofs.Lists.{map-push}
 use Rattle.plan_runner.proofs.Opened.{work-more}
 use Rattle.plan_runner.proofs.works.open_works.Goals as goal
 
@@ -15,7 +15,7 @@ loop-calls-preserved c =
       len = omega (arith, c.in_ok-push.ensures.len, inv.len, length_push c.loop-calls.yielded c.in-Some.calls);
       works =
           subst (AreWorks c.args.shape.now) (sym c.in_ok-push.ensures.items)
-          (work-more c.args.shape.now c.loop-calls.works.items c.in_ok-work.work inv.works (subst (λ n. IsWorkOf c.args.shape.now n c.in_ok-work.work) number c.in_ok-work.ensures.work));
+          (work-more c.args.shape.now c.loop-calls.works.items c.in_ok-work.work inv.works (subst (λ n. IsWork c.args.shape.now n c.in_ok-work.work) number c.in_ok-work.ensures.work));
       calls =
           map-push calls_of c.loop-calls.works.items _ c.in_ok-work.work c.in_ok-push.ensures.items
           ∙ (ap₂ (λ u v. u ++ v ∷ []) inv.calls c.in_ok-work.ensures.calls ∙ sym (map-append (λ v. v.items) c.loop-calls.yielded (c.in-Some.calls ∷ [])));
