@@ -1,5 +1,5 @@
 //! Tasks that several workers share.
-use parallel_tasks::cut::cut;
+use parallel_tasks::cut::{count_busy, cut};
 use parallel_tasks::{Task, work_tasks};
 use std::alloc::AllocError;
 use std::sync::atomic::{AtomicU64, Ordering};
@@ -97,9 +97,11 @@ fn the_cut_is_where_the_work_is_even(rt: HostRuntime) {
         ([900, 1, 1, 1], 1, 2, 1),
         ([900, 1, 1, 1], 2, 4, 2),
         ([4, 4, 4, 0], 1, 3, 1),
+        ([2, 0, 9, 9], 1, 3, 1),
     ];
     for (numbers, low, workers, want) in cuts {
         let tasks = numbers.map(|number| Adding { number });
+        assert!(rt; workers as usize <= count_busy(&tasks));
         assert_eq!(rt; cut(&tasks, low, workers), want, "{numbers:?}");
     }
 }
