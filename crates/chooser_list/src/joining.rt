@@ -6,7 +6,7 @@ ghost use Rattle.counter_alloc.specs.Masks.{masks_of};
 ghost use Rattle.postfix_rules.specs.Sameness.{among, joined_by, same_event};
 
 use event_sets::{is_same, is_same_event};
-use papi_base::{EventRef, Events, Native, Natives};
+use papi_base::{EventRef, Events, MOST_SET_NATIVES, Native, Natives};
 
 /// Whether the event is in the list.
 pub fn has_event(events: &Events, event: &EventRef) -> bool
@@ -54,10 +54,10 @@ pub fn joining(natives: &Natives, more: &Natives) -> Natives
 }
 
 /// The counters that each native event is allowed, as bits.
-pub fn masks(natives: &Natives) -> [u32; 32]
+pub fn masks(natives: &Natives) -> [u32; MOST_SET_NATIVES]
     ensures { take (length natives.now) result ≡ masks_of natives.now }
 {
-    let mut masks = [0; 32];
+    let mut masks = [0; MOST_SET_NATIVES];
     for i in 0..natives.len() {
         masks[i as usize] = natives.at(i).allowed;
     }

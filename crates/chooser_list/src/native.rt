@@ -3,6 +3,7 @@
 ghost use Rattle.std.specs.Prelude.{◌≡◌, ◌<◌, ◌≤◌, [], vec_len};
 ghost use Rattle.chooser_list.specs.Candidates as Candidates;
 ghost use Rattle.event_tables.specs.Tables.{ComponentText};
+ghost use Rattle.event_tables.specs.declared.limits.TheConstants.{MOST_UMASKS};
 ghost use Rattle.event_tables.specs.Views.{event_text};
 ghost use Rattle.name_encoder.specs.Names as Names;
 
@@ -35,7 +36,7 @@ pub fn without_umask(comp: u32, row: u32, event: &EventRow) -> Native
 /// The native event in a row of a component, with one of its umasks alone.
 pub fn with_umask(comp: u32, row: u32, event: &EventRow, umask: usize) -> Native
     requires there { umask < vec_len event.now.masks }
-    requires few { vec_len event.now.masks ≤ 16 }
+    requires few { vec_len event.now.masks ≤ MOST_UMASKS }
     ensures { (c : ComponentText) → result
         ≡ Names.native_of (Candidates.found comp row c (event_text event.now)) (Candidates.alone umask (event_text event.now).masks) Candidates.no_modifiers }
 {

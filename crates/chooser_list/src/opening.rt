@@ -1,6 +1,7 @@
 //! What a set would take.
 
 ghost use Rattle.std.specs.Prelude.{◌≡◌, ◌<◌, ◌≤◌, ◌^◌, ◌++◌, ◌&&◌, All, IfNone, IfSome, Some, true, length, nat_le};
+ghost use Rattle.papi_base.specs.declared.limits.TheConstants.{MOST_COUNTERS, MOST_SET_NATIVES};
 ghost use Rattle.counter_alloc.specs.Listing.{is_assignable};
 ghost use Rattle.counter_alloc.specs.Masks.{masks_of};
 ghost use Rattle.chooser_list.specs.Choosing.{takes};
@@ -14,7 +15,7 @@ use crate::joining::{has_event, joining, masks};
 use component_table::Catalog;
 use counter_alloc::Matching;
 use event_sets::{EventSet, natives_of};
-use papi_base::{EventRef, Natives};
+use papi_base::{EventRef, MOST_SET_EVENTS, MOST_SET_NATIVES, Natives};
 
 // Whether the set has another component.
 fn has_other(set: &EventSet, comp: u32) -> bool
@@ -47,12 +48,12 @@ pub fn opened(catalog: &Catalog, set: &EventSet, comp: u32) -> Option<Matching>
 
 // Whether there is room and counters for further native events beside those that the matching is of.
 fn fits(matching: &Matching, natives: &Natives, further: &Natives) -> bool
-    requires few { matching.now.counters ≤ 32 }
+    requires few { matching.now.counters ≤ MOST_COUNTERS }
     requires before { matching.now.allowed ≡ masks_of natives.now }
     requires in_range { All (λ n. n.allowed < 2 ^ matching.now.counters) (natives.now ++ further.now) }
-    ensures { result ≡ (nat_le (length (natives.now ++ further.now)) 32 && is_assignable (masks_of (natives.now ++ further.now))) }
+    ensures { result ≡ (nat_le (length (natives.now ++ further.now)) MOST_SET_NATIVES && is_assignable (masks_of (natives.now ++ further.now))) }
 {
-    natives.len() + further.len() <= 32
+    natives.len() + further.len() <= MOST_SET_NATIVES as u32
         && matching.would_fit(&masks(further)[..further.len() as usize])
 }
 
@@ -64,7 +65,7 @@ pub fn would_take(catalog: &Catalog, set: &EventSet, matching: &Matching, event:
     ensures { result ≡ takes catalog.now set.now.rest event.now }
 {
     let events = set.events();
-    if events.len() >= 32 || has_event(events, event) {
+    if events.len() >= MOST_SET_EVENTS as u32 || has_event(events, event) {
         return false;
     }
     let natives = set.natives();

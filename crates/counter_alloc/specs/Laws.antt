@@ -1,5 +1,6 @@
 -- Laws of the definitions, for those who stand on them.
 use Rattle.std.specs.Prelude.{◌≡◌, ◌≤◌, ◌↔◌, ◌++◌, true, false, List, ℕ, AllPairs, Contains, Some, length, take}
+use Rattle.papi_base.specs.declared.limits.TheConstants.{MOST_SET_NATIVES}
 use Rattle.counter_alloc.specs.Assignments.{IsAssignment, Assignable, IsLeast, IsLeastDeficient, IsShortestPrefix, counters_of}
 use Rattle.counter_alloc.specs.Listing.{assigns, least, is_assignable, IsBefore}
 use Rattle.counter_alloc.specs.Masks.{AreMasks}
@@ -47,4 +48,4 @@ pub record IsLeastSet (allowed : List ℕ) (blame : Blame) : Type 0 where
 
 -- each list of at most 32 places that is not assignable has a blame, which is deficient and lies in each deficient set: Hall's theorem
 abbrev pub LeastSet : Type 0
-LeastSet = (allowed : List ℕ) → AreMasks allowed → length allowed ≤ 32 → is_assignable allowed ≡ false → IsLeastSet allowed (blame_of allowed)
+LeastSet = (allowed : List ℕ) → AreMasks allowed → length allowed ≤ MOST_SET_NATIVES → is_assignable allowed ≡ false → IsLeastSet allowed (blame_of allowed)

@@ -1,5 +1,6 @@
 //! Native events on counters of their own.
 ghost use Rattle.std.specs.Prelude.{◌≡◌, ◌<◌, ◌≤◌, ◌+◌, ◌^◌, ◌∷◌, ◌++◌, ◌↔◌, [], ℕ, List, length, remove, slice_index, EachIndex, IfErr, OnOk, OnErr, IsTrue};
+ghost use Rattle.papi_base.specs.declared.limits.TheConstants.{MOST_COUNTERS, MOST_SET_NATIVES};
 ghost use Rattle.counter_alloc.specs.Assignments.{Assignable, IsLeast, Deficient, counters_of as counters_allowed};
 ghost use Rattle.counter_alloc.specs.Matchings.{MatchingView};
 ghost use Rattle.counter_alloc.specs.Listing.{least};
@@ -7,7 +8,7 @@ ghost use Rattle.counter_alloc.specs.Blames.{IsBlame};
 
 use crate::augment::{augment, has};
 use crate::lowest::settle_all;
-use papi_base::Places;
+use papi_base::{MOST_SET_NATIVES, Places};
 use std::marker::Model;
 
 /// Why a native event cannot be added: PAPI_ECNFLCT of PAPI_add_event(3).
@@ -26,8 +27,8 @@ pub struct Blame {
 pub struct Matching {
     counters: u32,
     count: usize,
-    allowed: [u32; 32],
-    chosen: [u8; 32],
+    allowed: [u32; MOST_SET_NATIVES],
+    chosen: [u8; MOST_SET_NATIVES],
 }
 
 impl Model for Matching {
@@ -43,7 +44,7 @@ impl Model for Matching {
 
 /// The counters that any member of the set of places is allowed.
 fn counters_of(allowed: &[u32], members: u32) -> u32
-    requires { length allowed.now ≤ 32 }
+    requires { length allowed.now ≤ MOST_SET_NATIVES }
     ensures { result ≡ counters_allowed allowed.now members }
 {
     let mut counters = 0;
@@ -58,27 +59,29 @@ fn counters_of(allowed: &[u32], members: u32) -> u32
 impl Matching {
     /// No native events yet, on so many counters.
     pub fn empty(counters: u32) -> Self
-        requires { counters ≤ 32 }
+        requires { counters ≤ MOST_COUNTERS }
         ensures { result ≡ record { counters = counters; allowed = [] } }
     {
         Matching {
             counters,
             count: 0,
-            allowed: [0; 32],
-            chosen: [0; 32],
+            allowed: [0; MOST_SET_NATIVES],
+            chosen: [0; MOST_SET_NATIVES],
         }
     }
 
     /// Adds a native event that is allowed these counters, where all can then have counters of their own. A refusal
     /// changes nothing.
     pub fn add(&mut self, allowed: u32) -> Result<(), Blame>
-        requires room { length self.old.allowed < 32 }
+        requires room { length self.old.allowed < MOST_SET_NATIVES }
         requires in_range { allowed < 2 ^ self.old.counters }
-        ensures added { OnOk result (self.new ≡ record self.old { allowed = self.old.allowed ++ allowed ∷ [] }) }
+        ensures added { OnOk result
+            (self.new ≡ record self.old { allowed = self.old.allowed ++ allowed ∷ [] }) }
         ensures assignable { OnOk result (Assignable (self.old.allowed ++ allowed ∷ [])) }
         ensures not_assignable { OnErr result (Assignable (self.old.allowed ++ allowed ∷ []) → ⊥) }
         ensures blame { IfErr result (IsBlame (self.old.allowed ++ allowed ∷ [])) }
-        ensures deficient { IfErr result (λ blame. Deficient (self.old.allowed ++ allowed ∷ []) blame.members) }
+        ensures deficient { IfErr result
+            (λ blame. Deficient (self.old.allowed ++ allowed ∷ []) blame.members) }
         ensures unchanged { OnErr result (self.new ≡ self.old) }
     {
         let place = self.count;
@@ -129,8 +132,9 @@ impl Matching {
 
     /// Whether all the further native events could be added.
     pub fn would_fit(&self, more: &[u32]) -> bool
-        requires room { length self.now.allowed + length more.now ≤ 32 }
-        requires in_range { EachIndex more.now (λ i. slice_index more.now i < 2 ^ self.now.counters) }
+        requires room { length self.now.allowed + length more.now ≤ MOST_SET_NATIVES }
+        requires in_range { EachIndex more.now
+            (λ i. slice_index more.now i < 2 ^ self.now.counters) }
         ensures { IsTrue result ↔ Assignable (self.now.allowed ++ more.now) }
     {
         let mut trial = self.copy();

@@ -55,11 +55,11 @@ AreMarked-at k old mid new rs c was is before place exists stood none_was none_i
   bits code small below = elim (cases_eq code is) [
     | inl same ↦ rw same second.here
     | inr other ↦ second.there code c small below (λ e f. other e) ∙ elim (cases_eq code was) [
-        | inl same ↦ rw same first.here
-        | inr neither ↦
-            first.there code c small below (λ e f. neither e) ∙ h.each code c small below
-            ∙ ap bit_of (ap (has k code) stood ∙ none_was code neither ∙ sym (none_is code other))
-      ]
+      | inl same ↦ rw same first.here
+      | inr neither ↦
+          first.there code c small below (λ e f. neither e) ∙ h.each code c small below
+          ∙ ap bit_of (ap (has k code) stood ∙ none_was code neither ∙ sym (none_is code other))
+    ]
   ]
 
 -- a register that moves keeps its codes

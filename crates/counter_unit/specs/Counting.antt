@@ -6,6 +6,7 @@ use Rattle.papi_base.specs.declared.occurrence.Occ.{Occ}
 use Rattle.papi_base.specs.declared.native.Native.{Native}
 use Rattle.papi_base.specs.declared.bits.Domain.{Domain}
 use Rattle.papi_base.specs.Weight.{weight_of}
+use Rattle.papi_base.specs.declared.limits.TheConstants.{LEAST_THRESHOLD}
 use Rattle.counter_unit.specs.declared.registers.Register.{Register}
 
 -- what contracts see of a unit: for each counter its width, and what is programmed on it, if anything
@@ -15,7 +16,7 @@ pub record UnitView : Type 0 where
 
 -- a threshold is 0, for none, or from 256 up to the greatest value of a register
 abbrev pub IsThreshold : ℕ → ℕ → Type 0
-IsThreshold width threshold = (threshold ≡ 0) ⊎ ((256 ≤ threshold) × (threshold < 2 ^ width))
+IsThreshold width threshold = (threshold ≡ 0) ⊎ ((LEAST_THRESHOLD ≤ threshold) × (threshold < 2 ^ width))
 
 -- how much is counted from one carry to the next
 abbrev pub period : ℕ → ℕ → ℕ

@@ -2,6 +2,7 @@
 use Rattle.std.specs.Prelude.{◌≡◌, ℕ, ◌+◌, ◌/◌, ◌^◌, ◌<◌, ◌≤◌, nat_lt}
 use Rattle.papi_base.specs.declared.native.Native.{Native}
 use Rattle.papi_base.specs.declared.bits.Domain.{Domain}
+use Rattle.papi_base.specs.declared.limits.TheConstants.{LARGEST_AMOUNT, LEAST_WIDTH}
 use Rattle.counter_unit.specs.Counting.{IsThreshold, period, moved, carries, register_at, whole, wrapped}
 
 -- what holds when a weight is added to a count: the register and its bank are those of the new count, and it carries where the
@@ -12,7 +13,7 @@ pub record Added (w : ℕ) (n : Native) (d : Domain) (t count more : ℕ) : Type
 
 -- it holds of every weight
 abbrev pub FollowsCount : Type 0
-FollowsCount = (w : ℕ) (n : Native) (d : Domain) (t count more : ℕ) → 16 ≤ w → IsThreshold w t → more ≤ 255 → Added w n d t count more
+FollowsCount = (w : ℕ) (n : Native) (d : Domain) (t count more : ℕ) → LEAST_WIDTH ≤ w → IsThreshold w t → more ≤ LARGEST_AMOUNT → Added w n d t count more
 
 -- what was carried away and what the register is above its beginning are the count in 64 bits: nothing else is lost
 abbrev pub LosesNothing : Type 0

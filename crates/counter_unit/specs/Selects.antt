@@ -4,6 +4,8 @@ use Rattle.std.specs.Prelude.{ℕ, ◌≡◌, ◌<◌, Bool, ◌&&◌, ◌||◌,
 use Rattle.std.specs.Int.{bit_at}
 use Rattle.papi_base.specs.declared.occurrence.Occ.{Occ}
 use Rattle.papi_base.specs.Weight.{share}
+use Rattle.papi_base.specs.declared.limits.TheConstants.{MOST_COUNTERS}
+use Rattle.counter_unit.specs.declared.selects.TheConstants.{CODES}
 use Rattle.counter_unit.specs.declared.registers.Register.{Register}
 use Rattle.counter_unit.specs.declared.selects.Key.{Key}
 use Rattle.counter_unit.specs.declared.selects.Key.TheVariants as key
@@ -36,8 +38,8 @@ bit_of b = if b then 1 else 0
 
 -- for each code a bit tells of each counter whether occurrences with this code can move it
 pub record AreMarked (key : Key) (masks : List ℕ) (registers : List (Option Register)) : Type 0 where
-  pub codes : length masks ≡ 256
-  pub each : (code c : ℕ) → code < 256 → c < 32 → bit_at (slice_index masks code) c ≡ bit_of (has key code (at_place registers c))
+  pub codes : length masks ≡ CODES
+  pub each : (code c : ℕ) → code < CODES → c < MOST_COUNTERS → bit_at (slice_index masks code) c ≡ bit_of (has key code (at_place registers c))
 
 -- the three tables of a unit
 pub record AreSelects (selects : Selects) (registers : List (Option Register)) : Type 0 where
@@ -48,8 +50,8 @@ pub record AreSelects (selects : Selects) (registers : List (Option Register)) :
 -- a table in which the bits of one counter are those of this place, and all others as before
 pub record IsRemarked (key : Key) (c : ℕ) (place : Option Register) (old new : List ℕ) : Type 0 where
   pub codes : length new ≡ length old
-  pub here : (code : ℕ) → code < 256 → bit_at (slice_index new code) c ≡ bit_of (has key code place)
-  pub there : (code k : ℕ) → code < 256 → k < 32 → (k ≡ c → ⊥) → bit_at (slice_index new code) k ≡ bit_at (slice_index old code) k
+  pub here : (code : ℕ) → code < CODES → bit_at (slice_index new code) c ≡ bit_of (has key code place)
+  pub there : (code k : ℕ) → code < CODES → k < MOST_COUNTERS → (k ≡ c → ⊥) → bit_at (slice_index new code) k ≡ bit_at (slice_index old code) k
 
 -- no other select code than this can move what is programmed on a counter
 abbrev pub IsCodeOf : ℕ → Option Register → Type 0
@@ -59,4 +61,4 @@ IsCodeOf select place = (code : ℕ) → (code ≡ select → ⊥) → (has key.
 pub record IsMarkedAt (key : Key) (select c : ℕ) (place : Option Register) (old new : List ℕ) : Type 0 where
   pub codes : length new ≡ length old
   pub here : bit_at (slice_index new select) c ≡ bit_of (has key select place)
-  pub there : (code k : ℕ) → code < 256 → k < 32 → (code ≡ select → k ≡ c → ⊥) → bit_at (slice_index new code) k ≡ bit_at (slice_index old code) k
+  pub there : (code k : ℕ) → code < CODES → k < MOST_COUNTERS → (code ≡ select → k ≡ c → ⊥) → bit_at (slice_index new code) k ≡ bit_at (slice_index old code) k

@@ -2,6 +2,7 @@
 -- can move.
 use Rattle.std.specs.Prelude.{ℕ, ◌≤◌, ◌≡◌, List, length, take, Option}
 use Rattle.papi_base.specs.Widths.{AreWidths}
+use Rattle.papi_base.specs.declared.limits.TheConstants.{MOST_COUNTERS}
 use Rattle.counter_unit.specs.declared.registers.Register.{Register}
 use Rattle.counter_unit.specs.declared.selects.Selects.{Selects}
 use Rattle.counter_unit.specs.Counting.{AreSound}
@@ -9,8 +10,8 @@ use Rattle.counter_unit.specs.Selects.{AreSelects}
 
 -- what holds of a unit between calls
 pub record IsUnit (widths : List ℕ) (places : List (Option Register)) (tables : Selects) : Type 0 where
-  pub few : length widths ≤ 32
+  pub few : length widths ≤ MOST_COUNTERS
   pub are_widths : AreWidths widths
-  pub long : length places ≡ 32
+  pub long : length places ≡ MOST_COUNTERS
   pub sound : AreSound widths (take (length widths) places)
   pub selects : AreSelects tables (take (length widths) places)

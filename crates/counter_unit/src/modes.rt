@@ -32,7 +32,8 @@ pub(crate) fn counts_kernel(n: &Native, d: Domain) -> bool
 #[tactic(auto, using(crate::proofs::Steps::weight_of_other))]
 pub(crate) fn weight_on(register: &Register, moves: bool, before: Option<&Occ>, o: &Occ) -> u8
     requires admitted { moves ≡ admits o.now (Some register.now) }
-    ensures { result ≡ weight_of register.now.native register.now.domain (option_copied before.entry) o.now }
+    ensures { result ≡ weight_of register.now.native register.now.domain
+        (option_copied before.entry) o.now }
 {
     let n = &register.native;
     if n.mods.edge || n.mods.cmask != 0 {

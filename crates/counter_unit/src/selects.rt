@@ -1,6 +1,7 @@
 //! Which counters an occurrence can move by its select code, its mode and its umask, so that it looks at these alone.
 ghost use Rattle.std.specs.Prelude.{◌≡◌, ℕ, ◌<◌, true, List, None, Option, length, slice_set, replicate};
 ghost use Rattle.std.specs.Int.{bit_at};
+ghost use Rattle.papi_base.specs.declared.limits.TheConstants.{MOST_COUNTERS};
 ghost use Rattle.counter_unit.specs.declared.registers.Register.{Register};
 ghost use Rattle.counter_unit.specs.declared.selects.Key.{Key};
 ghost use Rattle.counter_unit.specs.Counting.{at_place};
@@ -10,7 +11,10 @@ use crate::modes::{counts_kernel, counts_user};
 use crate::registers::Register;
 use papi_base::Occ;
 
-/// What the 256 codes of a table are: the select codes of occurrences in user mode, of those in kernel mode, or their umasks.
+/// How many codes a table has: those of a byte.
+pub(crate) const CODES: usize = 256;
+
+/// What the codes of a table are: the select codes of occurrences in user mode, of those in kernel mode, or their umasks.
 #[derive(Clone, Copy)]
 pub(crate) enum Key {
     User,
@@ -21,9 +25,9 @@ pub(crate) enum Key {
 /// For each code of each table the counters that an occurrence with this code can move, as bits.
 #[derive(Drop)]
 pub(crate) struct Selects {
-    pub(crate) user: [u32; 256],
-    pub(crate) kernel: [u32; 256],
-    pub(crate) umasks: [u32; 256],
+    pub(crate) user: [u32; CODES],
+    pub(crate) kernel: [u32; CODES],
+    pub(crate) umasks: [u32; CODES],
 }
 
 /// Whether occurrences with this code can move what is programmed on a counter.
@@ -47,7 +51,7 @@ fn has(key: Key, code: u32, place: &Option<Register>) -> bool
 /// Whether the bit of this counter is on.
 #[inline(always)]
 pub(crate) fn has_bit(mask: u32, c: u32) -> bool
-    requires { c < 32 }
+    requires { c < MOST_COUNTERS }
     ensures { bit_of result ≡ bit_at mask c }
 {
     mask >> c & 1 == 1
@@ -56,19 +60,19 @@ pub(crate) fn has_bit(mask: u32, c: u32) -> bool
 /// The bits with that of this counter on or off.
 #[inline(always)]
 pub(crate) fn with_bit(mask: u32, c: u32, on: bool) -> u32
-    requires { c < 32 }
+    requires { c < MOST_COUNTERS }
     ensures here { bit_at result c ≡ bit_of on }
-    ensures there { (k : ℕ) → k < 32 → (k ≡ c → ⊥) → bit_at result k ≡ bit_at mask k }
+    ensures there { (k : ℕ) → k < MOST_COUNTERS → (k ≡ c → ⊥) → bit_at result k ≡ bit_at mask k }
 {
     if on { mask | 1 << c } else { mask & !(1 << c) }
 }
 
 /// Sets the bits of a counter to those of what is programmed on it.
-fn mark(masks: &mut [u32; 256], key: Key, c: u32, place: &Option<Register>)
-    requires { c < 32 }
+fn mark(masks: &mut [u32; CODES], key: Key, c: u32, place: &Option<Register>)
+    requires { c < MOST_COUNTERS }
     ensures { IsRemarked key c place.now masks.old masks.new }
 {
-    for code in 0..256u32 {
+    for code in 0..CODES as u32 {
         let mask = masks[code as usize];
         masks[code as usize] = with_bit(mask, c, has(key, code, place));
     }
@@ -88,8 +92,8 @@ fn code_of(place: &Option<Register>) -> u8
 
 /// Sets the bit of a counter for one code to that of what is programmed on it.
 #[inline(always)]
-fn mark_at(masks: &mut [u32; 256], key: Key, select: u8, c: u32, place: &Option<Register>)
-    requires { c < 32 }
+fn mark_at(masks: &mut [u32; CODES], key: Key, select: u8, c: u32, place: &Option<Register>)
+    requires { c < MOST_COUNTERS }
     ensures { IsMarkedAt key select c place.now masks.old masks.new }
 {
     let mask = masks[select as usize];
@@ -120,9 +124,9 @@ impl Selects {
         ensures { (len : ℕ) → AreSelects result (replicate len None) }
     {
         Selects {
-            user: [0; 256],
-            kernel: [0; 256],
-            umasks: [0; 256],
+            user: [0; CODES],
+            kernel: [0; CODES],
+            umasks: [0; CODES],
         }
     }
 
@@ -130,7 +134,7 @@ impl Selects {
     #[inline(always)]
     pub(crate) fn at(&self, o: &Occ) -> u32
         ensures { (registers : List (Option Register)) (k : ℕ)
-            → AreSelects self.now registers → k < 32
+            → AreSelects self.now registers → k < MOST_COUNTERS
             → bit_at result k ≡ bit_of (admits o.now (at_place registers k)) }
     {
         let user = self.user[o.select as usize];
@@ -141,7 +145,7 @@ impl Selects {
 
     /// Another place, or none, is programmed on a counter, in place of this one.
     pub(crate) fn put(&mut self, c: u32, old: &Option<Register>, place: &Option<Register>)
-        requires { c < 32 }
+        requires { c < MOST_COUNTERS }
         ensures { (registers : List (Option Register))
             → c < length registers → at_place registers c ≡ old.now → AreSelects self.old registers
             → AreSelects self.new (slice_set registers c place.now) }

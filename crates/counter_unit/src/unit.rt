@@ -3,6 +3,7 @@
 ghost use Rattle.std.specs.Prelude.{◌≡◌, ◌+◌, ◌^◌, ◌<◌, ◌≤◌, ◌==◌, if◌then◌else◌, length, min, slice_index, slice_set, replicate, None, Some};
 ghost use Rattle.std.specs.Option.{option_copied, option_map};
 ghost use Rattle.papi_base.specs.Widths.{AreWidths};
+ghost use Rattle.papi_base.specs.declared.limits.TheConstants.{LEAST_WIDTH, MOST_COUNTERS, MOST_WIDTH};
 ghost use Rattle.counter_unit.specs.Selects.{admits};
 ghost use Rattle.counter_unit.specs.Counting.{IsThreshold, IsSound, beginning, period, at_place, begun, begun_again};
 ghost use Rattle.counter_unit.specs.Counting.{moved_place, all_moved, all_carries, bits_of, count_on};
@@ -10,7 +11,7 @@ ghost use Rattle.counter_unit.specs.Counting.{moved_place, all_moved, all_carrie
 use crate::modes::weight_on;
 use crate::registers::Register;
 use crate::selects::{Selects, has_bit, with_bit};
-use papi_base::{CompShape, Domain, Native, Occ};
+use papi_base::{CompShape, Domain, MOST_COUNTERS, Native, Occ};
 use std::marker::Model;
 
 /// The counters of one component. Contracts see for each its width in bits, and what is programmed on it.
@@ -18,7 +19,7 @@ use std::marker::Model;
 pub struct Unit {
     shape: CompShape,
     /// A place for each counter, and none beyond them.
-    registers: [Option<Register>; 32],
+    registers: [Option<Register>; MOST_COUNTERS],
     selects: Selects,
 }
 
@@ -37,9 +38,9 @@ impl Model for Unit {
 /// The values of a register of this width, and one more than the greatest.
 #[inline(always)]
 fn room(width: u8) -> u64
-    requires { width ≤ 48 }
+    requires { width ≤ MOST_WIDTH }
     ensures value { result ≡ 2 ^ width }
-    ensures least { 16 ≤ width → 65536 ≤ result }
+    ensures least { LEAST_WIDTH ≤ width → 2 ^ LEAST_WIDTH ≤ result }
 {
     1 << width
 }
@@ -47,7 +48,7 @@ fn room(width: u8) -> u64
 /// How much is counted from one carry to the next.
 #[inline(always)]
 fn period_of(width: u8, threshold: u64) -> u64
-    requires { width ≤ 48 }
+    requires { width ≤ MOST_WIDTH }
     ensures value { result ≡ period width threshold }
 {
     if threshold == 0 {
@@ -60,7 +61,7 @@ fn period_of(width: u8, threshold: u64) -> u64
 /// Where a register of this width begins.
 #[inline(always)]
 fn beginning_of(width: u8, threshold: u64) -> u64
-    requires width { width ≤ 48 }
+    requires width { width ≤ MOST_WIDTH }
     requires threshold { IsThreshold width threshold }
     ensures { result ≡ beginning width threshold }
 {
@@ -76,12 +77,14 @@ fn count_place(
     before: Option<&Occ>,
     o: &Occ,
 ) -> bool
-    requires low { 16 ≤ width }
-    requires high { width ≤ 48 }
+    requires low { LEAST_WIDTH ≤ width }
+    requires high { width ≤ MOST_WIDTH }
     requires sound { IsSound width place.old }
     requires admitted { moves ≡ admits o.now place.old }
-    ensures place { place.new ≡ (moved_place (option_copied before.entry) o.now width place.old).place }
-    ensures carried { result ≡ (moved_place (option_copied before.entry) o.now width place.old).carried }
+    ensures place { place.new
+        ≡ (moved_place (option_copied before.entry) o.now width place.old).place }
+    ensures carried { result
+        ≡ (moved_place (option_copied before.entry) o.now width place.old).carried }
 {
     match place {
         None => false,
@@ -111,7 +114,7 @@ fn one_at_least(moved: u32, counters: u32) -> u32
 
 /// The register at its beginning again, if the counter is programmed.
 fn again(place: Option<Register>, width: u8) -> Option<Register>
-    requires width { width ≤ 48 }
+    requires width { width ≤ MOST_WIDTH }
     requires sound { IsSound width place }
     ensures { result ≡ option_map (begun_again width) place }
 {
@@ -126,14 +129,17 @@ impl Unit {
 
     /// Nothing is programmed.
     pub fn new(shape: &CompShape) -> Unit
-        ensures unit { result ≡ record { widths = shape.now; registers = replicate (length shape.now) None } }
+        ensures unit { result ≡ record {
+          widths = shape.now;
+          registers = replicate (length shape.now) None;
+        } }
         ensures widths { AreWidths shape.now }
-        ensures few { length shape.now ≤ 32 }
+        ensures few { length shape.now ≤ MOST_COUNTERS }
     {
         let _counters = shape.counters();
         Unit {
             shape: shape.copy(),
-            registers: [None; 32],
+            registers: [None; MOST_COUNTERS],
             selects: Selects::none(),
         }
     }
@@ -183,8 +189,14 @@ impl Unit {
     /// is the counters that carried, as bits.
     #[inline(always)]
     pub fn step(&mut self, before: Option<&Occ>, o: &Occ) -> u32
-        ensures registers { self.new ≡ record self.old { registers = all_moved (option_copied before.entry) o.now self.old.widths self.old.registers } }
-        ensures carries { result ≡ bits_of (all_carries (option_copied before.entry) o.now self.old.widths self.old.registers) }
+        ensures registers { self.new
+            ≡ record self.old {
+              registers = all_moved (option_copied before.entry) o.now
+                  self.old.widths self.old.registers;
+            } }
+        ensures carries { result
+            ≡ bits_of (all_carries (option_copied before.entry) o.now self.old.widths
+            self.old.registers) }
     {
         // The contract speaks of the amount, which fits 8 bits.
         let _amount = o.amount;
@@ -233,7 +245,8 @@ impl Unit {
     /// The counter's register begins again, if it is programmed.
     pub fn zero(&mut self, c: u32)
         requires exists { c < length self.old.widths }
-        ensures { let again = option_map (begun_again (slice_index self.old.widths c)) (at_place self.old.registers c)
+        ensures { let again = option_map (begun_again (slice_index self.old.widths c))
+            (at_place self.old.registers c)
             in self.new ≡ record self.old { registers = slice_set self.old.registers c again } }
     {
         let width = self.shape.width(c);

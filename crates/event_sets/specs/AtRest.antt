@@ -6,6 +6,7 @@ use Rattle.std.specs.List.{list_any, position_or_len}
 use Rattle.papi_base.specs.declared.bits.Domain.{Domain}
 use Rattle.papi_base.specs.declared.native.Native.{Native}
 use Rattle.papi_base.specs.declared.native.EventRef.{EventRef}
+use Rattle.papi_base.specs.declared.limits.TheConstants.{LEAST_THRESHOLD, LONGEST_SLICE, MOST_SET_EVENTS, MOST_SET_NATIVES}
 use Rattle.postfix_rules.specs.declared.rule.Rule.{Rule}
 use Rattle.postfix_rules.specs.declared.rule.Rule.TheVariants as rule
 use Rattle.postfix_rules.specs.Sameness.{same_event, same_native}
@@ -54,7 +55,7 @@ cannot_take book e s = is_other s.component (component_of_event book e) || has_e
 
 -- events or natives would be more than 32
 abbrev pub is_full : Book → EventRef → AtRest → Bool
-is_full book e s = nat_le 32 (length s.events) || nat_lt 32 (length (natives_with book e s))
+is_full book e s = nat_le MOST_SET_EVENTS (length s.events) || nat_lt MOST_SET_NATIVES (length (natives_with book e s))
 
 -- the conflict of the set's natives with those of one more event, if there is one
 abbrev pub clash_with : Book → EventRef → AtRest → Option Clash
@@ -83,7 +84,7 @@ least_width (w ∷ v ∷ ws) = min w (least_width (v ∷ ws))
 
 -- the threshold is neither 0 nor from 256 to the last value of each register
 abbrev pub is_bad_threshold : Widths → ℕ → AtRest → Bool
-is_bad_threshold shape t s = not (t == 0) && not (nat_le 256 t && nat_lt t (2 ^ least_width (widths_at shape s.component)))
+is_bad_threshold shape t s = not (t == 0) && not (nat_le LEAST_THRESHOLD t && nat_lt t (2 ^ least_width (widths_at shape s.component)))
 
 -- the native is the event's first
 abbrev pub leads : Book → Native → EventRef → Bool
@@ -105,7 +106,7 @@ is_bad_domain bits = (bits == 0) || nat_lt 3 bits
 
 -- the slice is not from 1 to 1,000,000 ticks
 abbrev pub is_bad_slice : ℕ → Bool
-is_bad_slice slice = (slice == 0) || nat_lt 1000000 slice
+is_bad_slice slice = (slice == 0) || nat_lt LONGEST_SLICE slice
 
 -- PAPI_add_event(3): the event comes last, without a threshold, and its component is fixed
 abbrev pub with_event : Book → EventRef → AtRest → AtRest

@@ -2,6 +2,7 @@
 use Rattle.std.specs.Prelude.{ℕ, ◌≡◌, ◌<◌, ◌≤◌, ◌^◌, false, List, All, length, Some, None, slice_get}
 use Rattle.papi_base.specs.declared.native.Native.{Native}
 use Rattle.papi_base.specs.declared.native.EventRef.{EventRef}
+use Rattle.papi_base.specs.declared.limits.TheConstants.{MOST_COUNTERS, MOST_SET_EVENTS, MOST_SET_NATIVES}
 use Rattle.counter_alloc.specs.Assignments.{Assignable}
 use Rattle.counter_alloc.specs.Masks.{masks_of}
 use Rattle.counter_alloc.specs.Matchings.{MatchingView}
@@ -27,9 +28,9 @@ pub record IsShared (slice : ℕ) (s : SetView) : Type 0 where
 -- What each set keeps: no event stands twice, the natives are of the set's component and allowed only its counters, and not
 -- multiplexed they have counters of their own.
 pub record IsSound (s : SetView) : Type 0 where
-  pub few_events : length s.rest.events ≤ 32
-  pub few_natives : length s.natives ≤ 32
-  pub few_counters : s.counters ≤ 32
+  pub few_events : length s.rest.events ≤ MOST_SET_EVENTS
+  pub few_natives : length s.natives ≤ MOST_SET_NATIVES
+  pub few_counters : s.counters ≤ MOST_COUNTERS
   pub one_threshold_each : length s.rest.thresholds ≡ length s.rest.events
   pub distinct : (i j : ℕ) (e : EventRef) → slice_get s.rest.events i ≡ Some e → slice_get s.rest.events j ≡ Some e → i ≡ j
   pub owned : All (λ n. s.rest.component ≡ Some n.comp) s.natives

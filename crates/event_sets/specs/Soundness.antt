@@ -1,6 +1,7 @@
 -- What each set keeps is kept by a new set, and by each change that is not refused.
 use Rattle.std.specs.Prelude.{ℕ, ◌≡◌, ◌≤◌, false, All, None, Some, length}
 use Rattle.papi_base.specs.declared.native.EventRef.{EventRef}
+use Rattle.papi_base.specs.declared.limits.TheConstants.{MOST_COUNTERS}
 use Rattle.postfix_rules.specs.Presets.{Book, natives_of_event}
 use Rattle.event_sets.specs.AtRest.{AtRest, Widths, emptied, is_bad_domain, new_set, with_event, with_threshold, without_event}
 use Rattle.event_sets.specs.Adding.{add_refusal}
@@ -15,7 +16,7 @@ NewIsSound = (book : Book) (shape : Widths) → IsSound (set_view book shape new
 -- a sound set stays sound where an event is added: PAPI_add_event(3)
 abbrev pub AddedIsSound : Type 0
 AddedIsSound = (book : Book) (shape : Widths) (e : EventRef) (s : AtRest)
-    → IsHeld book e → All (Fits shape) (natives_of_event book e) → All (λ widths. length widths ≤ 32) shape
+    → IsHeld book e → All (Fits shape) (natives_of_event book e) → All (λ widths. length widths ≤ MOST_COUNTERS) shape
     → add_refusal book e s ≡ None → IsSound (set_view book shape s) → IsSound (set_view book shape (with_event book e s))
 
 -- a sound set stays sound where all its events are removed: PAPI_cleanup_eventset(3)
@@ -30,7 +31,7 @@ RemovedIsSound = (book : Book) (shape : Widths) (e : EventRef) (s : AtRest)
 -- a sound set stays sound where a component is assigned: PAPI_assign_eventset_component(3)
 abbrev pub AssignedIsSound : Type 0
 AssignedIsSound = (book : Book) (shape : Widths) (comp : ℕ) (s : AtRest)
-    → All (λ widths. length widths ≤ 32) shape → assign_refusal shape comp s ≡ None
+    → All (λ widths. length widths ≤ MOST_COUNTERS) shape → assign_refusal shape comp s ≡ None
     → IsSound (set_view book shape s) → IsSound (set_view book shape (record s { component = Some comp }))
 
 -- a sound set stays sound where its domain is set: PAPI_set_domain(3)

@@ -1,6 +1,7 @@
 //! What stands in the way of native events that are added to a set.
 ghost use Rattle.std.specs.Prelude.{◌≡◌, ℕ, ◌≤◌, ◌<◌, ◌^◌, ◌==◌, None, length, take, drop, find, All, IfErr, IsNone, OnErr, OnOk};
 ghost use Rattle.std.specs.Int.{bit_at};
+ghost use Rattle.papi_base.specs.declared.limits.TheConstants.{MOST_COUNTERS, MOST_SET_NATIVES};
 ghost use Rattle.counter_alloc.specs.Assignments.{Assignable};
 ghost use Rattle.counter_alloc.specs.Blames.{IsBlame};
 ghost use Rattle.counter_alloc.specs.Masks.{masks_of};
@@ -12,7 +13,7 @@ use papi_base::{Native, Natives};
 
 /// Whether the place is a member of the set of places.
 fn is_member(places: u32, place: u32) -> bool
-    requires { place < 32 }
+    requires { place < MOST_SET_NATIVES }
     ensures { result ≡ (bit_at places place == 1) }
 {
     (places >> place) & 1 == 1
@@ -48,7 +49,7 @@ fn without_counter(natives: &Natives, from: u32) -> Option<Native>
 /// Gives counters to the native events from the place on. The matching is of those before it.
 pub fn give_counters(matching: &mut Matching, natives: &Natives, from: u32) -> Result<(), Blame>
     requires from { from ≤ length natives.now }
-    requires few { matching.old.counters ≤ 32 }
+    requires few { matching.old.counters ≤ MOST_COUNTERS }
     requires in_range { All (λ n. n.allowed < 2 ^ matching.old.counters) natives.now }
     requires before { matching.old.allowed ≡ masks_of (take from natives.now) }
     requires assignable { Assignable matching.old.allowed }
@@ -72,7 +73,7 @@ pub fn clash(
     from: u32,
 ) -> Option<Clash>
     requires from { from ≤ length natives.now }
-    requires few { matching.old.counters ≤ 32 }
+    requires few { matching.old.counters ≤ MOST_COUNTERS }
     requires in_range { All (λ n. n.allowed < 2 ^ matching.old.counters) natives.now }
     requires before { slice ≡ None → matching.old.allowed ≡ masks_of (take from natives.now) }
     requires assignable { slice ≡ None → Assignable matching.old.allowed }

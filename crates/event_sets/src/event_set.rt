@@ -2,6 +2,7 @@
 ghost use Rattle.std.specs.Prelude.{◌≡◌, false, true, ◌<◌, ◌≤◌, ◌↔◌, if◌then◌else◌, [], All, IfErr, IfSome, IsNone, IsSome};
 ghost use Rattle.std.specs.Prelude.{OnErr, OnOk, None, Some, is_some, length, slice_index};
 ghost use Rattle.papi_base.specs.declared.code.Code.TheVariants.{Einval};
+ghost use Rattle.papi_base.specs.declared.limits.TheConstants.{MOST_COUNTERS};
 ghost use Rattle.counter_alloc.specs.Listing.{least};
 ghost use Rattle.counter_alloc.specs.Masks.{masks_of};
 ghost use Rattle.postfix_rules.specs.Presets.{natives_of_event};
@@ -19,7 +20,9 @@ use crate::removal::{counts_without, events_without, matched};
 use crate::sameness::{has_event, place_of};
 use crate::thresholds::{is_armed, is_bad_threshold, is_plain, shares_native};
 use counter_alloc::Matching;
-use papi_base::{Code, Counts, Domain, EventRef, Events, Natives, Places, Shape};
+use papi_base::{
+    Code, Counts, Domain, EventRef, Events, LONGEST_SLICE, MOST_SET_EVENTS, Natives, Places, Shape,
+};
 use postfix_rules::PresetBook;
 use std::marker::Model;
 
@@ -75,14 +78,14 @@ fn is_other(fixed: Option<u32>, comp: u32) -> bool
 fn counters_of(shape: &Shape, comp: u32) -> u32
     requires { comp < length shape.now }
     ensures counted { result ≡ length (widths_at shape.now (Some comp)) }
-    ensures few { result ≤ 32 }
+    ensures few { result ≤ MOST_COUNTERS }
 {
     shape.comp(comp).counters()
 }
 
 /// The matching to which native events are added: the one that is kept, or a new one where no component was fixed.
 fn begun(fixed: Option<u32>, kept: &Matching, counters: u32) -> Matching
-    requires { counters ≤ 32 }
+    requires { counters ≤ MOST_COUNTERS }
     ensures { result ≡ (if is_some fixed then kept.now else record { counters = counters; allowed = [] }) }
 {
     match fixed {
@@ -136,7 +139,7 @@ impl EventSet {
         if is_other(self.component, comp) || has_event(&self.events, e) {
             return Err(Refusal::Plain(Code::Einval));
         }
-        if self.events.len() >= 32 {
+        if self.events.len() >= MOST_SET_EVENTS as u32 {
             return Err(Refusal::Plain(Code::Ecount));
         }
         let Some(natives) = joined(&self.natives, &given) else {
@@ -212,7 +215,7 @@ impl EventSet {
         ensures refused { IfErr result (λ c. multiplex_refusal slice self.old.rest ≡ Some c) }
         ensures unchanged { OnErr result (self.new ≡ self.old) }
     {
-        if slice == 0 || slice > 1_000_000 {
+        if slice == 0 || slice > LONGEST_SLICE {
             return Err(Code::Einval);
         }
         if is_armed(&self.thresholds) {

@@ -1,10 +1,11 @@
 //! The native events of an event, and those of a set with them.
 ghost use Rattle.std.specs.Prelude.{◌≡◌, ◌<◌, ◌≤◌, length, IfSome, IfNone};
+ghost use Rattle.papi_base.specs.declared.limits.TheConstants.{MOST_SET_NATIVES};
 ghost use Rattle.postfix_rules.specs.Presets.{natives_of as natives_of_events, natives_of_event};
 ghost use Rattle.postfix_rules.specs.Sameness.{joined_by};
 
 use crate::sameness::has_native;
-use papi_base::{EventRef, Events, Natives};
+use papi_base::{EventRef, Events, MOST_SET_NATIVES, Natives};
 use postfix_rules::PresetBook;
 
 /// The native events of an event, in the preset's order; none of a preset that the book does not hold.
@@ -24,18 +25,18 @@ pub fn natives_of(book: &PresetBook, e: &EventRef) -> Natives
     }
 }
 
-/// The native events with those of `more` that are new, and none where these would be more than 32.
+/// The native events with those of `more` that are new, and none where these would be more than a set has.
 pub fn joined(natives: &Natives, more: &Natives) -> Option<Natives>
-    requires { length natives.now ≤ 32 }
-    ensures few { IfSome result (λ all. length all ≤ 32) }
+    requires { length natives.now ≤ MOST_SET_NATIVES }
+    ensures few { IfSome result (λ all. length all ≤ MOST_SET_NATIVES) }
     ensures some { IfSome result (λ all. all ≡ joined_by natives.now more.now) }
-    ensures none { IfNone result (32 < length (joined_by natives.now more.now)) }
+    ensures none { IfNone result (MOST_SET_NATIVES < length (joined_by natives.now more.now)) }
 {
     let mut all = natives.copy();
     for i in 0..more.len() {
         let n = more.at(i);
         if !has_native(&all, &n) {
-            if all.len() >= 32 {
+            if all.len() >= MOST_SET_NATIVES as u32 {
                 return None;
             }
             all.push(n);
@@ -46,7 +47,7 @@ pub fn joined(natives: &Natives, more: &Natives) -> Option<Natives>
 
 /// Joins those of `more` that are new, where there is room for them.
 fn join(natives: &mut Natives, more: &Natives)
-    requires { length (joined_by natives.old more.now) ≤ 32 }
+    requires { length (joined_by natives.old more.now) ≤ MOST_SET_NATIVES }
     ensures { natives.new ≡ joined_by natives.old more.now }
 {
     for i in 0..more.len() {
@@ -59,7 +60,7 @@ fn join(natives: &mut Natives, more: &Natives)
 
 /// The native events of the events in order, without later repeats.
 pub fn natives_of_all(book: &PresetBook, events: &Events) -> Natives
-    requires { length (natives_of_events book.now events.now) ≤ 32 }
+    requires { length (natives_of_events book.now events.now) ≤ MOST_SET_NATIVES }
     ensures { result ≡ natives_of_events book.now events.now }
 {
     let mut natives = Natives::new();

@@ -1,5 +1,6 @@
 //! What is left of a set without one of its events: PAPI_remove_event(3).
 ghost use Rattle.std.specs.Prelude.{◌≡◌, ◌≤◌, ◌<◌, ◌^◌, All, None, remove};
+ghost use Rattle.papi_base.specs.declared.limits.TheConstants.{MOST_COUNTERS};
 ghost use Rattle.counter_alloc.specs.Assignments.{Assignable};
 ghost use Rattle.counter_alloc.specs.Masks.{masks_of};
 
@@ -35,7 +36,7 @@ pub fn counts_without(counts: &Counts, place: u32) -> Counts
 
 /// A new matching over so many counters, of the native events unless they take turns.
 pub fn matched(slice: Option<u32>, counters: u32, natives: &Natives) -> Matching
-    requires few { counters ≤ 32 }
+    requires few { counters ≤ MOST_COUNTERS }
     requires in_range { All (λ n. n.allowed < 2 ^ counters) natives.now }
     requires assignable { slice ≡ None → Assignable (masks_of natives.now) }
     ensures counters { result.counters ≡ counters }

@@ -1,6 +1,7 @@
 //! Thresholds of events: PAPI_overflow(3).
 ghost use Rattle.std.specs.Prelude.{◌≡◌, ◌≤◌, ◌^◌, ◌&&◌, not, nat_lt};
 ghost use Rattle.std.specs.List.{list_any};
+ghost use Rattle.papi_base.specs.declared.limits.TheConstants.{MOST_WIDTH};
 ghost use Rattle.postfix_rules.specs.Presets.{rule_of_event};
 ghost use Rattle.postfix_rules.specs.Sameness.{same_event};
 ghost use Rattle.event_sets.specs.AtRest.{armed_elsewhere, is_bad_threshold as is_bad, is_plain as is_plain_rule};
@@ -9,7 +10,7 @@ ghost use Rattle.event_sets.specs.AtRest.{leads as leads_in, least_width as leas
 use crate::EventSet;
 use crate::joining::natives_of;
 use crate::sameness::{is_same, is_same_event};
-use papi_base::{CompShape, Counts, EventRef, Native, Shape};
+use papi_base::{CompShape, Counts, EventRef, LEAST_THRESHOLD, Native, Shape};
 use postfix_rules::{PresetBook, Rule};
 
 /// Whether some event has a threshold.
@@ -40,7 +41,7 @@ pub fn is_plain(book: &PresetBook, e: &EventRef) -> bool
 /// The least width of the component's counters, and 0 where it has none.
 fn least_width(comp: &CompShape) -> u8
     ensures least { result ≡ least_of comp.now }
-    ensures high { result ≤ 48 }
+    ensures high { result ≤ MOST_WIDTH }
 {
     let mut least = 0;
     for c in 0..comp.counters() {
@@ -67,7 +68,7 @@ fn room(shape: &Shape, component: Option<u32>) -> u64
 pub fn is_bad_threshold(set: &EventSet, shape: &Shape, t: u64) -> bool
     ensures { result ≡ is_bad shape.now t set.now.rest }
 {
-    t != 0 && (t < 256 || t >= room(shape, set.component()))
+    t != 0 && (t < LEAST_THRESHOLD || t >= room(shape, set.component()))
 }
 
 /// Whether the native event is the event's first.

@@ -2,6 +2,7 @@
 
 ghost use Rattle.std.specs.Prelude.{◌≡◌, ◌<◌, ◌≤◌, ◌==◌, ◌++◌, IfOk, OnOk, is_ok, length, map, string_bytes};
 ghost use Rattle.std.specs.Int.{bit_at};
+ghost use Rattle.papi_base.specs.declared.limits.TheConstants.{MOST_COUNTERS};
 ghost use Rattle.event_tables.specs.Views.{counter_text};
 ghost use Rattle.name_encoder.specs.Canonical as Canonical;
 ghost use Rattle.name_encoder.specs.Names.{names};
@@ -18,7 +19,7 @@ use std::fmt::Write;
 
 // Whether a bit of a number is set.
 fn has(set: u32, place: u32) -> bool
-    requires { place < 32 }
+    requires { place < MOST_COUNTERS }
     ensures { result ≡ (bit_at set place == 1) }
 {
     (set >> place) & 1 == 1
@@ -26,7 +27,7 @@ fn has(set: u32, place: u32) -> bool
 
 // Appends the counters whose bits are set, each after a space.
 fn push_counters(text: &mut String, counters: &[Counter], allowed: u32) -> Result<(), AllocError>
-    requires { length counters.now ≤ 32 }
+    requires { length counters.now ≤ MOST_COUNTERS }
     ensures { OnOk result (string_bytes text.new ≡ string_bytes text.old ++ NativeEvents.counters_text (map counter_text counters.now) allowed) }
 {
     for place in 0..counters.len() {

@@ -1,5 +1,6 @@
 -- What a rotation is to its callers, and what it keeps.
-use Rattle.std.specs.Prelude.{ℕ, ◌*◌, ◌/◌, ◌%◌, ◌≡◌, ◌<◌, ◌≤◌, List, length, slice_index}
+use Rattle.std.specs.Prelude.{◌+◌, ℕ, ◌*◌, ◌/◌, ◌%◌, ◌≡◌, ◌<◌, ◌≤◌, List, length, slice_index}
+use Rattle.papi_base.specs.declared.limits.TheConstants.{MOST_SET_NATIVES}
 use Rattle.multiplex.specs.Turns.{Turns}
 
 -- the number of each place's group, how the groups take turns, and the time, which begins at 0
@@ -17,6 +18,6 @@ pub record IsSliceOf (slice count first group : ℕ) : Type 0 where
 pub record IsTurning (numbers : List ℕ) (count slice first group : ℕ) : Type 0 where
   pub below : (k : ℕ) → k < length numbers → slice_index numbers k < count
   pub some_group : 0 < count
-  pub few_groups : count ≤ 33
+  pub few_groups : count ≤ MOST_SET_NATIVES + 1
   pub some_slice : 0 < slice
   pub kept : IsSliceOf slice count first group

@@ -3,6 +3,7 @@ ghost use Rattle.std.specs.Prelude.{◌≡◌, ℕ, ◌+◌, ◌*◌, ◌/◌, �
 ghost use Rattle.counter_alloc.specs.Listing.{is_assignable};
 ghost use Rattle.counter_alloc.specs.Masks.{AreMasks, masks_of};
 ghost use Rattle.papi_base.specs.declared.native.Native.{Native};
+ghost use Rattle.papi_base.specs.declared.limits.TheConstants.{LARGEST_AMOUNT, MOST_COUNTERS, MOST_SET_NATIVES};
 ghost use Rattle.multiplex.specs.Groups.{groups, group_count};
 ghost use Rattle.multiplex.specs.Rotations.{RotationView, IsSliceOf};
 ghost use Rattle.multiplex.specs.Turns.{group_at, active, estimate};
@@ -62,19 +63,20 @@ fn slice_of(kept: Slice, slice: u32, groups: u32, time: u64) -> Slice
 
 /// Adds a native event to the group's matching where it fits, and says whether it does.
 fn joins(group: &mut Matching, mask: u32) -> bool
-    requires room { length group.old.allowed < 32 }
-    requires few { group.old.counters ≤ 32 }
+    requires room { length group.old.allowed < MOST_SET_NATIVES }
+    requires few { group.old.counters ≤ MOST_COUNTERS }
     requires in_range { mask < 2 ^ group.old.counters }
     requires masks { AreMasks group.old.allowed }
     ensures fits { result ≡ is_assignable (group.old.allowed ++ mask ∷ []) }
-    ensures joined { result ≡ true → group.new ≡ record group.old { allowed = group.old.allowed ++ mask ∷ [] } }
+    ensures joined { result ≡ true
+        → group.new ≡ record group.old { allowed = group.old.allowed ++ mask ∷ [] } }
 {
     group.add(mask).is_ok()
 }
 
 /// A group of one native event.
 fn group_of_one(counters: u32, mask: u32) -> Matching
-    requires few { counters ≤ 32 }
+    requires few { counters ≤ MOST_COUNTERS }
     requires some { 0 < mask }
     requires in_range { mask < 2 ^ counters }
     ensures { result ≡ record { counters = counters; allowed = mask ∷ [] } }
@@ -90,12 +92,16 @@ impl Rotation {
     /// is 0.
     pub fn make(natives: &Natives, counters: u32, slice: u32) -> Rotation
         requires some { 0 < length natives.now }
-        requires few { counters ≤ 32 }
+        requires few { counters ≤ MOST_COUNTERS }
         requires allowed { All (λ n. 0 < n.allowed) natives.now }
         requires in_range { All (λ n. n.allowed < 2 ^ counters) natives.now }
         requires slice { 0 < slice }
         ensures { let numbers = groups (masks_of natives.now) in
-            result ≡ record { numbers = numbers; turns = record { slice = slice; count = group_count numbers; start = 0 }; time = 0 } }
+            result ≡ record {
+              numbers = numbers;
+              turns = record { slice = slice; count = group_count numbers; start = 0 };
+              time = 0;
+            } }
     {
         let mut numbers = Places::new();
         let mut group = Matching::empty(counters);
@@ -192,7 +198,7 @@ impl Rotation {
 pub fn estimate(count: u64, total: u64, active: u64) -> u64
     requires within { active ≤ total }
     requires total { total < 2 ^ 32 }
-    requires count { count ≤ 255 * active }
+    requires count { count ≤ LARGEST_AMOUNT * active }
     ensures { result ≡ estimate count total active }
 {
     if active == 0 {

@@ -1,9 +1,11 @@
 //! The events that passed their thresholds at one occurrence.
 ghost use Rattle.std.specs.Prelude.{◌≡◌, ◌<◌, ◌≤◌, All, [], ◌∷◌, ◌++◌, length, slice_get};
+ghost use Rattle.papi_base.specs.declared.limits.TheConstants.{MOST_SET_EVENTS};
 
+use papi_base::MOST_SET_EVENTS;
 use std::marker::Model;
 
-/// Indexes of events below 32, in increasing order. Contracts see the list of them; they are kept as bits, since there are none
+/// Indexes of a set's events, in increasing order. Contracts see the list of them; they are kept as bits, since there are none
 /// at most occurrences.
 #[derive(Drop)]
 pub struct Passed {
@@ -13,11 +15,12 @@ pub struct Passed {
 
 impl Model for Passed {
     ghost use Rattle.std.specs.Prelude.{List, ℕ};
+    ghost use Rattle.papi_base.specs.declared.limits.TheConstants.{MOST_SET_EVENTS};
     ghost use Rattle.overflow_dispatch.specs.Passing.{AreIndexes, places_from};
 
     ghost Value = { List ℕ };
 
-    ghost view = { λ s. places_from s.bits 0 32 };
+    ghost view = { λ s. places_from s.bits 0 MOST_SET_EVENTS };
 
     ghost invariant = { λ s. AreIndexes s.bits s.len };
 }
@@ -35,7 +38,7 @@ impl Passed {
     #[inline(always)]
     pub fn len(&self) -> u32
         ensures length { result ≡ length self.now }
-        ensures short { length self.now ≤ 32 }
+        ensures short { length self.now ≤ MOST_SET_EVENTS }
     {
         self.len
     }
@@ -46,7 +49,7 @@ impl Passed {
         ensures { result ≡ slice_get self.now i }
     {
         let mut place = 0;
-        for index in 0..32u32 {
+        for index in 0..MOST_SET_EVENTS as u32 {
             if (self.bits >> index) & 1 == 1 {
                 if place == i {
                     return Some(index);
@@ -60,7 +63,7 @@ impl Passed {
     /// One index more, above all others.
     #[inline(always)]
     pub(crate) fn push(&mut self, index: u32)
-        requires below { index < 32 }
+        requires below { index < MOST_SET_EVENTS }
         requires above { All (λ other. other < index) self.old }
         ensures { self.new ≡ self.old ++ index ∷ [] }
     {

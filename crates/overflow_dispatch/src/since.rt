@@ -25,7 +25,8 @@ pub fn counts_of(
     alloc: Global,
     handlers: &Vec<Box<dyn Handler + Send>>,
 ) -> Result<Vec<u64>, AllocError>
-    ensures { IfOk result (λ counts. counts.items ≡ map (λ b. length (notes b)) handlers.now.items) }
+    ensures { IfOk result (λ counts.
+        counts.items ≡ map (λ b. length (notes b)) handlers.now.items) }
 {
     let mut counts = Vec::new(alloc);
     for handler in handlers {
@@ -57,7 +58,8 @@ pub fn notes_since(
     counts: &[u64],
 ) -> Result<Vec<Note>, AllocError>
     requires { length counts.now ≡ vec_len handlers.now }
-    ensures { IfOk result (λ all. all.items ≡ told_since counts.now (map (λ b. notes b) handlers.now.items)) }
+    ensures { IfOk result (λ all.
+        all.items ≡ told_since counts.now (map (λ b. notes b) handlers.now.items)) }
 {
     let mut all = Vec::new(alloc);
     for i in 0..counts.len() {

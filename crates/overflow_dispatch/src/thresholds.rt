@@ -1,15 +1,17 @@
 //! The armed events of a set (PAPI_overflow(3)).
 ghost use Rattle.std.specs.Prelude.{◌≡◌, ◌<◌, slice_set, replicate, None, Some};
+ghost use Rattle.papi_base.specs.declared.limits.TheConstants.{MOST_COUNTERS, MOST_SET_EVENTS};
 ghost use Rattle.overflow_dispatch.specs.Passing.{passed_from};
 
 use crate::passed::Passed;
+use papi_base::MOST_SET_EVENTS;
 use std::marker::Model;
 
-/// The events with thresholds, each with the counter that its native is on. Contracts see for each of
-/// 32 indexes the counter, if the event of this index is armed.
+/// The events with thresholds, each with the counter that its native is on. Contracts see for each
+/// index the counter, if the event of this index is armed.
 #[derive(Drop)]
 pub struct Thresholds {
-    counters: [Option<u8>; 32],
+    counters: [Option<u8>; MOST_SET_EVENTS],
 }
 
 impl Model for Thresholds {
@@ -26,17 +28,17 @@ impl Model for Thresholds {
 impl Thresholds {
     /// No event is armed.
     pub fn new() -> Thresholds
-        ensures { result ≡ replicate 32 None }
+        ensures { result ≡ replicate MOST_SET_EVENTS None }
     {
         Thresholds {
-            counters: [None; 32],
+            counters: [None; MOST_SET_EVENTS],
         }
     }
 
     /// The event of this index is armed, and its native is on the counter `c`.
     pub fn arm(&mut self, c: u32, index: u32)
-        requires counter { c < 32 }
-        requires index { index < 32 }
+        requires counter { c < MOST_COUNTERS }
+        requires index { index < MOST_SET_EVENTS }
         ensures { self.new ≡ slice_set self.old index (Some c) }
     {
         self.counters[index as usize] = Some(c as u8);
@@ -48,7 +50,7 @@ impl Thresholds {
         ensures { result ≡ passed_from 0 carry self.now }
     {
         let mut passed = Passed::new();
-        for index in 0..32u32 {
+        for index in 0..MOST_SET_EVENTS as u32 {
             if let Some(c) = self.counters[index as usize]
                 && (carry >> c) & 1 == 1
             {

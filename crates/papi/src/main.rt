@@ -9,7 +9,7 @@ mod streams;
 use crate::disk::DiskFiles;
 use crate::streams::Standard;
 use overflow_dispatch::{Handler, Recorder};
-use papi_base::WriteSink;
+use papi_base::{THREADS, WriteSink};
 use papi_tools::{papi_main, status_number};
 use std::alloc::AllocError;
 use std::env;
@@ -44,7 +44,7 @@ fn run<R: Threads + Sync>(threads: &R, rt: &HostRuntime) -> Result<u8, AllocErro
     let alloc = rt.alloc();
     let words = words(rt)?;
     let mut handlers: Vec<Box<dyn Handler + Send>> = Vec::new(alloc);
-    for _thread in 0..64usize {
+    for _thread in 0..THREADS as usize {
         handlers.push(Box::new(alloc, Recorder::new(alloc))?)?;
     }
     let mut out = WriteSink::new(Standard::Out(rt.stdout()));

@@ -1,4 +1,4 @@
-// The outside over std's readers and writers, as files and standard streams. These tell no tape.
+//! The outside over std's readers and writers, as files and standard streams. These tell no tape.
 ghost use Rattle.std.specs.Prelude.{◌≡◌, ◌<◌, ◌≤◌, ◌↔◌, IsTrue, IfOk, OnOk, OnErr, IsErr, IsErrOf, None, length};
 ghost use Rattle.std.specs.Io.KnownBytes.{ReadConsumes, WriteAppends};
 ghost use Rattle.papi_base.specs.Outside.{Rose, next_count};
@@ -46,7 +46,8 @@ impl<R: Read + Drop> Source for ReadSource<R> {
         ensures quiet { OnOk result (reader_faults self.new ≡ reader_faults self.old) }
         ensures failed { OnErr result (Rose (reader_faults self.old) (reader_faults self.new)) }
         // What it gives is what its reader gives.
-        ensures consumed { ReadConsumes (reader_left R.remaining self.old) (reader_left R.remaining self.new) result buf.new }
+        ensures consumed { ReadConsumes (reader_left R.remaining self.old)
+            (reader_left R.remaining self.new) result buf.new }
     {
         match self.reader.read(buf) {
             Ok(n) => Ok(n),
@@ -88,15 +89,19 @@ impl<W: Write> Sink for WriteSink<W> {
         // As every sink:
         ensures bound { IfOk result (λ n. n ≤ length piece.now) }
         ensures some { 0 < length piece.now → IfOk result (λ n. 0 < n) }
-        ensures failed { IsErrOf result WriteFail.Failed → Rose (writer_faults self.old) (writer_faults self.new) }
-        ensures once { IsErrOf result WriteFail.Failed → writer_faults self.new ≡ next_count (writer_faults self.old) }
+        ensures failed { IsErrOf result WriteFail.Failed
+            → Rose (writer_faults self.old) (writer_faults self.new) }
+        ensures once { IsErrOf result WriteFail.Failed
+            → writer_faults self.new ≡ next_count (writer_faults self.old) }
         ensures quiet { OnOk result (writer_faults self.new ≡ writer_faults self.old) }
-        ensures memory { IsErrOf result WriteFail.Memory → writer_faults self.new ≡ writer_faults self.old }
+        ensures memory { IsErrOf result WriteFail.Memory
+            → writer_faults self.new ≡ writer_faults self.old }
         ensures falls_never { writer_faults self.old ≤ writer_faults self.new }
         // Each of its errors is a fault.
         ensures fault { IsErr result → IsErrOf result WriteFail.Failed }
         // What it takes is what its writer takes.
-        ensures appended { WriteAppends (writer_taken W.contents self.old) (writer_taken W.contents self.new) result piece.now }
+        ensures appended { WriteAppends (writer_taken W.contents self.old)
+            (writer_taken W.contents self.new) result piece.now }
     {
         if piece.is_empty() {
             return Ok(0);

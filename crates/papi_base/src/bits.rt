@@ -1,4 +1,4 @@
-// Domains and the bits of an event set's state.
+//! Domains and the bits of an event set's state.
 ghost use Rattle.std.specs.Prelude.{⊤, ◌≡◌, ◌==◌, not, [], ◌∷◌, codes, if◌then◌else◌};
 ghost use Rattle.std.specs.Int.RustNames.{bit_or};
 ghost use Rattle.papi_base.specs.Weight.{share};
@@ -75,7 +75,9 @@ impl Flags for StateBits {
 
 /// The state of an event set that runs or not, has thresholds or not, and is multiplexed or not: PAPI_state(3).
 pub fn state_of(runs: bool, overflows: bool, multiplexed: bool) -> StateBits
-    ensures state { result.0 ≡ bit_or (bit_or (if runs then 2 else 1) (if overflows then 16 else 0)) (if multiplexed then 64 else 0) }
+    ensures state { result.0
+        ≡ bit_or (bit_or (if runs then 2 else 1) (if overflows then 16 else 0))
+        (if multiplexed then 64 else 0) }
 {
     let mut bits = if runs {
         StateBits::RUNNING

@@ -1,3 +1,4 @@
+//! Bytes that grow at their end.
 ghost use Rattle.std.specs.Prelude.{◌≡◌, ◌++◌, OnOk, OnErr};
 
 use std::alloc::{AllocError, Global};

@@ -1,4 +1,4 @@
-// The codes that calls answer.
+//! The codes that calls answer.
 ghost use Rattle.std.specs.Prelude.{◌≡◌};
 ghost use Rattle.papi_base.specs.Codes.{number_of, name_of};
 

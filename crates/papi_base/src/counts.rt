@@ -1,23 +1,26 @@
-// Lists of counts.
+//! Lists of counts.
 ghost use Rattle.std.specs.Prelude.{◌≡◌, ◌+◌, ◌<◌, ◌≤◌, List, [], ◌∷◌, ◌++◌, length, slice_get, slice_index, slice_set, replicate};
+ghost use Rattle.papi_base.specs.declared.limits.TheConstants.{MOST_SET_NATIVES};
 
+use crate::limits::MOST_SET_NATIVES;
 use std::marker::Model;
 
-/// A list of at most 32 counts.
+/// A list of at most [`MOST_SET_NATIVES`] counts.
 #[derive(Debug, Drop)]
 pub struct Counts {
-    items: [u64; 32],
+    items: [u64; MOST_SET_NATIVES],
     count: u32,
 }
 
 impl Model for Counts {
     ghost use Rattle.std.specs.Prelude.{List, ℕ, take, ◌≤◌};
+    ghost use Rattle.papi_base.specs.declared.limits.TheConstants.{MOST_SET_NATIVES};
 
     ghost Value = { List ℕ };
 
     ghost view = { λ s. take s.count s.items };
 
-    ghost invariant = { λ s. s.count ≤ 32 };
+    ghost invariant = { λ s. s.count ≤ MOST_SET_NATIVES };
 }
 
 impl Counts {
@@ -26,18 +29,18 @@ impl Counts {
         ensures empty { result ≡ [] }
     {
         Counts {
-            items: [0; 32],
+            items: [0; MOST_SET_NATIVES],
             count: 0,
         }
     }
 
     /// As many zeros.
     pub fn zeros(count: u32) -> Counts
-        requires room { count ≤ 32 }
+        requires room { count ≤ MOST_SET_NATIVES }
         ensures zeros { result ≡ replicate count (0) }
     {
         Counts {
-            items: [0; 32],
+            items: [0; MOST_SET_NATIVES],
             count,
         }
     }
@@ -45,7 +48,7 @@ impl Counts {
     /// How many items it has.
     pub fn len(&self) -> u32
         ensures length { result ≡ length self.now }
-        ensures short { length self.now ≤ 32 }
+        ensures short { length self.now ≤ MOST_SET_NATIVES }
     {
         self.count
     }
@@ -72,7 +75,7 @@ impl Counts {
 
     /// One more item at the end.
     pub fn push(&mut self, x: u64)
-        requires room { length self.old < 32 }
+        requires room { length self.old < MOST_SET_NATIVES }
         ensures pushed { self.new ≡ self.old ++ x ∷ [] }
     {
         self.items[self.count as usize] = x;

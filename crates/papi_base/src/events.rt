@@ -1,25 +1,28 @@
-// Lists of events.
+//! Lists of events.
 ghost use Rattle.std.specs.Prelude.{◌≡◌, ◌+◌, ◌<◌, ◌≤◌, List, [], ◌∷◌, ◌++◌, length, slice_get, Some};
+ghost use Rattle.papi_base.specs.declared.limits.TheConstants.{MOST_SET_EVENTS};
 
 use crate::EventRef;
+use crate::limits::MOST_SET_EVENTS;
 use std::marker::Model;
 
-/// A list of at most 32 events.
+/// A list of at most [`MOST_SET_EVENTS`] events.
 #[derive(Debug, Drop)]
 pub struct Events {
-    items: [EventRef; 32],
+    items: [EventRef; MOST_SET_EVENTS],
     count: u32,
 }
 
 impl Model for Events {
     ghost use Rattle.std.specs.Prelude.{List, take, length, ◌≤◌, ◌≡◌};
+    ghost use Rattle.papi_base.specs.declared.limits.TheConstants.{MOST_SET_EVENTS};
     ghost use Rattle.papi_base.specs.declared.native.EventRef.{EventRef};
 
     ghost Value = { List EventRef };
 
     ghost view = { λ s. take s.count s.items };
 
-    ghost invariant = { λ s. (s.count ≤ 32) × (length s.items ≡ 32) };
+    ghost invariant = { λ s. (s.count ≤ MOST_SET_EVENTS) × (length s.items ≡ MOST_SET_EVENTS) };
 }
 
 impl Events {
@@ -28,7 +31,7 @@ impl Events {
         ensures empty { result ≡ [] }
     {
         Events {
-            items: [EventRef::Preset(0); 32],
+            items: [EventRef::Preset(0); MOST_SET_EVENTS],
             count: 0,
         }
     }
@@ -36,7 +39,7 @@ impl Events {
     /// How many items it has.
     pub fn len(&self) -> u32
         ensures length { result ≡ length self.now }
-        ensures short { length self.now ≤ 32 }
+        ensures short { length self.now ≤ MOST_SET_EVENTS }
     {
         self.count
     }
@@ -62,7 +65,7 @@ impl Events {
 
     /// One more item at the end.
     pub fn push(&mut self, x: EventRef)
-        requires room { length self.old < 32 }
+        requires room { length self.old < MOST_SET_EVENTS }
         ensures pushed { self.new ≡ self.old ++ x ∷ [] }
     {
         self.items[self.count as usize] = x;

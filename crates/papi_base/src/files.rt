@@ -1,4 +1,4 @@
-// Files in memory.
+//! Files in memory.
 ghost use Rattle.std.specs.Prelude.{◌≡◌, ◌<◌, ◌≤◌, ◌+◌, ◌-◌, ◌==◌, ℕ, List, [], length, map, filter, not, find, Some, IfOk, IsOk, IsErr, option_copied, All};
 ghost use Rattle.std.specs.Str.{bytes_eq};
 ghost use Rattle.std.specs.List.{list_any};
@@ -34,7 +34,8 @@ impl MemFiles {
         failing: Vec<u64>,
     ) -> Self
         requires { 0 < largest }
-        ensures held { files_held result ≡ record { tapes = entries_of tapes.items; refused = failing.items } }
+        ensures held { files_held result
+            ≡ record { tapes = entries_of tapes.items; refused = failing.items } }
         ensures misses { files_misses result ≡ 0 }
         ensures faults { files_faults result ≡ 0 }
         ensures lent { files_lent result ≡ 0 }

@@ -31,7 +31,11 @@ pub use code::{Code, code_name, code_number};
 pub use counts::Counts;
 pub use events::Events;
 pub use files::MemFiles;
-pub use limits::{MOST_OCCURRENCES, THREADS};
+pub use limits::{
+    LARGEST_AMOUNT, LAST_STAMP, LEAST_THRESHOLD, LEAST_WIDTH, LONGEST_SLICE, MOST_COMPONENTS,
+    MOST_COUNTERS, MOST_OCCURRENCES, MOST_SET_EVENTS, MOST_SET_NATIVES, MOST_SETS, MOST_WIDTH,
+    THREADS,
+};
 pub use memory::{MemSink, MemSource};
 pub use native::{EventRef, Mods, Native};
 pub use natives::Natives;

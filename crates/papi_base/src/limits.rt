@@ -3,5 +3,38 @@
 /// How many threads there are: their numbers are below this.
 pub const THREADS: u32 = 64;
 
+/// How many event sets a thread has at most: their numbers are below this.
+pub const MOST_SETS: usize = 64;
+
+/// How many events a set has at most.
+pub const MOST_SET_EVENTS: usize = 32;
+
+/// How many native events a set has at most, those of its presets and user events among them.
+pub const MOST_SET_NATIVES: usize = 32;
+
+/// How many components a unit has at most.
+pub const MOST_COMPONENTS: usize = 16;
+
+/// How many counters a component has at most.
+pub const MOST_COUNTERS: usize = 32;
+
+/// The bits of the narrowest counter.
+pub const LEAST_WIDTH: u8 = 16;
+
+/// The bits of the widest counter.
+pub const MOST_WIDTH: u8 = 48;
+
+/// The lowest threshold of an overflow: PAPI_overflow(3).
+pub const LEAST_THRESHOLD: u64 = 256;
+
+/// How many ticks a slice of a multiplexed set has at most: PAPI_set_multiplex(3).
+pub const LONGEST_SLICE: u32 = 1_000_000;
+
 /// How many occurrences a stream has at most: a line of 13 bytes each, within the size of a stream.
 pub const MOST_OCCURRENCES: u64 = 5_200_000;
+
+/// The greatest amount of an occurrence.
+pub const LARGEST_AMOUNT: u8 = 255;
+
+/// The last stamp that an occurrence can have.
+pub const LAST_STAMP: u32 = 4_294_967_294;

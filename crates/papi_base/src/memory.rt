@@ -1,4 +1,4 @@
-// The outside in memory. All of these tell their bytes.
+//! The outside in memory. All of these tell their bytes.
 ghost use Rattle.std.specs.Prelude.{◌≡◌, ◌<◌, ◌≤◌, ◌+◌, ◌-◌, ◌↔◌, IsTrue, IfOk, OnOk, OnErr, IsErrOf, ℕ, List, [], length, take, drop, min, Some};
 ghost use Rattle.papi_base.specs.Outside.{Rose, appended, next_count};
 
@@ -45,7 +45,8 @@ impl MemSource {
 
 // Copies as many bytes as fit, and at most `largest`.
 pub(crate) fn copy_front(buf: &mut [u8], bytes: &[u8], largest: usize) -> usize
-    ensures { (result ≡ min (length buf.new) (min largest (length bytes.now))) × (take result buf.new ≡ take result bytes.now) }
+    ensures { (result ≡ min (length buf.new) (min largest (length bytes.now)))
+        × (take result buf.new ≡ take result bytes.now) }
 {
     let n = buf.len().min(largest).min(bytes.len());
     buf[..n].copy_from_slice(&bytes[..n]);
@@ -116,15 +117,21 @@ impl Sink for MemSink {
         // As every sink:
         ensures bound { IfOk result (λ n. n ≤ length piece.now) }
         ensures some { 0 < length piece.now → IfOk result (λ n. 0 < n) }
-        ensures ok { IfOk result (λ n. Some (sink_bytes self.new) ≡ appended (Some (sink_bytes self.old)) (take n piece.now)) }
+        ensures ok { IfOk result
+            (λ n. Some (sink_bytes self.new)
+            ≡ appended (Some (sink_bytes self.old)) (take n piece.now)) }
         ensures err { OnErr result (Some (sink_bytes self.new) ≡ Some (sink_bytes self.old)) }
-        ensures failed { IsErrOf result WriteFail.Failed → Rose (sink_faults self.old) (sink_faults self.new) }
-        ensures once { IsErrOf result WriteFail.Failed → sink_faults self.new ≡ next_count (sink_faults self.old) }
+        ensures failed { IsErrOf result WriteFail.Failed
+            → Rose (sink_faults self.old) (sink_faults self.new) }
+        ensures once { IsErrOf result WriteFail.Failed
+            → sink_faults self.new ≡ next_count (sink_faults self.old) }
         ensures quiet { OnOk result (sink_faults self.new ≡ sink_faults self.old) }
-        ensures memory { IsErrOf result WriteFail.Memory → sink_faults self.new ≡ sink_faults self.old }
+        ensures memory { IsErrOf result WriteFail.Memory
+            → sink_faults self.new ≡ sink_faults self.old }
         ensures falls_never { sink_faults self.old ≤ sink_faults self.new }
         // It fails exactly where no room is left for a piece that is not empty.
-        ensures full { IsErrOf result WriteFail.Failed ↔ ((0 < length piece.now) × (sink_room self.old ≡ 0)) }
+        ensures full { IsErrOf result WriteFail.Failed
+            ↔ ((0 < length piece.now) × (sink_room self.old ≡ 0)) }
         ensures room { IfOk result (λ n. sink_room self.new + n ≡ sink_room self.old) }
     {
         if piece.is_empty() {

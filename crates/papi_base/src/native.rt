@@ -1,4 +1,4 @@
-// Native events, and what a call names an event by.
+//! Native events, and what a call names an event by.
 
 /// The modifiers of a native event's name: `u`, `k`, `e`, `i`, and `c`, which is 0 where it is absent. Source: libpfm4(3).
 #[derive(Clone, Copy, Debug, PartialEq, Eq, Hash)]

@@ -1,25 +1,28 @@
-// Lists of native events.
+//! Lists of native events.
 ghost use Rattle.std.specs.Prelude.{◌≡◌, ◌+◌, ◌<◌, ◌≤◌, List, [], ◌∷◌, ◌++◌, length, slice_get, Some};
+ghost use Rattle.papi_base.specs.declared.limits.TheConstants.{MOST_SET_NATIVES};
 
+use crate::limits::MOST_SET_NATIVES;
 use crate::{Mods, Native};
 use std::marker::Model;
 
-/// A list of at most 32 native events.
+/// A list of at most [`MOST_SET_NATIVES`] native events.
 #[derive(Debug, Drop)]
 pub struct Natives {
-    items: [Native; 32],
+    items: [Native; MOST_SET_NATIVES],
     count: u32,
 }
 
 impl Model for Natives {
     ghost use Rattle.std.specs.Prelude.{List, take, length, ◌≤◌, ◌≡◌};
+    ghost use Rattle.papi_base.specs.declared.limits.TheConstants.{MOST_SET_NATIVES};
     ghost use Rattle.papi_base.specs.declared.native.Native.{Native};
 
     ghost Value = { List Native };
 
     ghost view = { λ s. take s.count s.items };
 
-    ghost invariant = { λ s. (s.count ≤ 32) × (length s.items ≡ 32) };
+    ghost invariant = { λ s. (s.count ≤ MOST_SET_NATIVES) × (length s.items ≡ MOST_SET_NATIVES) };
 }
 
 impl Natives {
@@ -43,7 +46,7 @@ impl Natives {
             allowed: 0,
         };
         Natives {
-            items: [none; 32],
+            items: [none; MOST_SET_NATIVES],
             count: 0,
         }
     }
@@ -52,7 +55,7 @@ impl Natives {
     #[inline(always)]
     pub fn len(&self) -> u32
         ensures length { result ≡ length self.now }
-        ensures short { length self.now ≤ 32 }
+        ensures short { length self.now ≤ MOST_SET_NATIVES }
     {
         self.count
     }
@@ -79,7 +82,7 @@ impl Natives {
 
     /// One more item at the end.
     pub fn push(&mut self, x: Native)
-        requires room { length self.old < 32 }
+        requires room { length self.old < MOST_SET_NATIVES }
         ensures pushed { self.new ≡ self.old ++ x ∷ [] }
     {
         self.items[self.count as usize] = x;

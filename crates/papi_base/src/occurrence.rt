@@ -1,4 +1,4 @@
-// Occurrences, and what they add to a native event's count.
+//! Occurrences, and what they add to a native event's count.
 ghost use Rattle.std.specs.Prelude.{◌≡◌, ◌≤◌};
 ghost use Rattle.std.specs.Option.{option_copied};
 ghost use Rattle.papi_base.specs.Weight.{held, holds, in_mode, is_of, weight_of};

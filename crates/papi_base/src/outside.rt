@@ -1,4 +1,4 @@
-// What the program asks of its outside: sources that give bytes, sinks that take them, and files by name.
+//! What the program asks of its outside: sources that give bytes, sinks that take them, and files by name.
 ghost use Rattle.std.specs.Prelude.{◌≡◌, ◌<◌, ◌≤◌, ◌-◌, ℕ, List, length, take, IfOk, IfErr, IfSome, OnOk, OnErr, IsErr, IsErrOf, Option};
 ghost use Rattle.std.specs.Option.{option_map};
 ghost use Rattle.papi_base.specs.Outside.{Tape, Gives, Rose, next_count, tape_after, appended, Held, lent_after, opened, IsOpened};
@@ -67,10 +67,13 @@ pub trait Sink {
     fn write(&mut self, piece: &[u8]) -> Result<usize, WriteFail>
         ensures bound { IfOk result (λ n. n ≤ length piece.now) }
         ensures some { 0 < length piece.now → IfOk result (λ n. 0 < n) }
-        ensures ok { IfOk result (λ n. taken self.new ≡ appended (taken self.old) (take n piece.now)) }
+        ensures ok { IfOk result
+            (λ n. taken self.new ≡ appended (taken self.old) (take n piece.now)) }
         ensures err { OnErr result (taken self.new ≡ taken self.old) }
-        ensures failed { IsErrOf result WriteFail.Failed → Rose (faults self.old) (faults self.new) }
-        ensures once { IsErrOf result WriteFail.Failed → faults self.new ≡ next_count (faults self.old) }
+        ensures failed { IsErrOf result WriteFail.Failed
+            → Rose (faults self.old) (faults self.new) }
+        ensures once { IsErrOf result WriteFail.Failed
+            → faults self.new ≡ next_count (faults self.old) }
         ensures quiet { OnOk result (faults self.new ≡ faults self.old) }
         ensures memory { IsErrOf result WriteFail.Memory → faults self.new ≡ faults self.old }
         ensures falls_never { faults self.old ≤ faults self.new };
@@ -111,7 +114,8 @@ pub trait Files {
 
     /// Opens the file of this name as a source without faults.
     fn open_source(&mut self, name: &str) -> Result<Self::S, OpenFail>
-        ensures answer { IfSome (held self.old) (λ held. IsOpened Self.S.tape result held name.now) }
+        ensures answer { IfSome (held self.old)
+            (λ held. IsOpened Self.S.tape result held name.now) }
         ensures held { held self.new ≡ option_map opened (held self.old) }
         ensures fresh { IfOk result (λ source. Self.S.faults source ≡ 0) }
         ensures lent { lent self.new ≡ lent_after result (lent self.old) }

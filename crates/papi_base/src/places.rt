@@ -1,23 +1,26 @@
-// Lists of counters.
+//! Lists of counters.
 ghost use Rattle.std.specs.Prelude.{◌≡◌, ◌+◌, ◌<◌, ◌≤◌, List, [], ◌∷◌, ◌++◌, length, slice_get, slice_index};
+ghost use Rattle.papi_base.specs.declared.limits.TheConstants.{MOST_SET_NATIVES};
 
+use crate::limits::MOST_SET_NATIVES;
 use std::marker::Model;
 
-/// A list of at most 32 counters, one for each place of a list of native events.
+/// A list of at most [`MOST_SET_NATIVES`] counters, one for each place of a list of native events.
 #[derive(Debug, Drop)]
 pub struct Places {
-    items: [u8; 32],
+    items: [u8; MOST_SET_NATIVES],
     count: u32,
 }
 
 impl Model for Places {
     ghost use Rattle.std.specs.Prelude.{List, ℕ, take, ◌≤◌};
+    ghost use Rattle.papi_base.specs.declared.limits.TheConstants.{MOST_SET_NATIVES};
 
     ghost Value = { List ℕ };
 
     ghost view = { λ s. take s.count s.items };
 
-    ghost invariant = { λ s. s.count ≤ 32 };
+    ghost invariant = { λ s. s.count ≤ MOST_SET_NATIVES };
 }
 
 impl Places {
@@ -26,7 +29,7 @@ impl Places {
         ensures empty { result ≡ [] }
     {
         Places {
-            items: [0; 32],
+            items: [0; MOST_SET_NATIVES],
             count: 0,
         }
     }
@@ -34,7 +37,7 @@ impl Places {
     /// How many items it has.
     pub fn len(&self) -> u32
         ensures length { result ≡ length self.now }
-        ensures short { length self.now ≤ 32 }
+        ensures short { length self.now ≤ MOST_SET_NATIVES }
     {
         self.count
     }
@@ -60,7 +63,7 @@ impl Places {
 
     /// One more item at the end.
     pub fn push(&mut self, x: u8)
-        requires room { length self.old < 32 }
+        requires room { length self.old < MOST_SET_NATIVES }
         ensures pushed { self.new ≡ self.old ++ x ∷ [] }
     {
         self.items[self.count as usize] = x;

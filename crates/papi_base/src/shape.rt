@@ -1,25 +1,28 @@
-// The counters of a unit's components.
+//! The counters of a unit's components.
 ghost use Rattle.std.specs.Prelude.{◌≡◌, ◌+◌, ◌<◌, ◌≤◌, List, [], ◌∷◌, ◌++◌, length, slice_get, slice_index, unwrap_or};
 ghost use Rattle.papi_base.specs.Widths.{AreWidths};
+ghost use Rattle.papi_base.specs.declared.limits.TheConstants.{LEAST_WIDTH, MOST_COMPONENTS, MOST_COUNTERS, MOST_WIDTH};
 
+use crate::limits::{MOST_COMPONENTS, MOST_COUNTERS};
 use std::marker::Model;
 
-/// The counters of a component, at most 32, by their widths, each from 16 to 48 bits.
+/// The counters of a component, at most [`MOST_COUNTERS`], by their widths, each from [`LEAST_WIDTH`] to [`MOST_WIDTH`] bits.
 #[derive(Drop)]
 pub struct CompShape {
     counters: u32,
-    widths: [u8; 32],
+    widths: [u8; MOST_COUNTERS],
 }
 
 impl Model for CompShape {
     ghost use Rattle.std.specs.Prelude.{List, ℕ, take, ◌≤◌};
     ghost use Rattle.papi_base.specs.Widths.{AreWidths};
+    ghost use Rattle.papi_base.specs.declared.limits.TheConstants.{MOST_COUNTERS};
 
     ghost Value = { List ℕ };
 
     ghost view = { λ s. take s.counters s.widths };
 
-    ghost invariant = { λ s. (s.counters ≤ 32) × AreWidths (take s.counters s.widths) };
+    ghost invariant = { λ s. (s.counters ≤ MOST_COUNTERS) × AreWidths (take s.counters s.widths) };
 }
 
 impl CompShape {
@@ -29,15 +32,15 @@ impl CompShape {
     {
         CompShape {
             counters: 0,
-            widths: [0; 32],
+            widths: [0; MOST_COUNTERS],
         }
     }
 
     /// One more counter of this width.
     pub fn push(&mut self, width: u8)
-        requires room { length self.old < 32 }
-        requires low { 16 ≤ width }
-        requires high { width ≤ 48 }
+        requires room { length self.old < MOST_COUNTERS }
+        requires low { LEAST_WIDTH ≤ width }
+        requires high { width ≤ MOST_WIDTH }
         ensures pushed { self.new ≡ self.old ++ width ∷ [] }
     {
         self.widths[self.counters as usize] = width;
@@ -48,7 +51,7 @@ impl CompShape {
     #[inline(always)]
     pub fn counters(&self) -> u32
         ensures length { result ≡ length self.now }
-        ensures short { length self.now ≤ 32 }
+        ensures short { length self.now ≤ MOST_COUNTERS }
         ensures widths { AreWidths self.now }
     {
         self.counters
@@ -59,8 +62,8 @@ impl CompShape {
     pub fn width(&self, c: u32) -> u8
         requires counter { c < length self.now }
         ensures width { result ≡ slice_index self.now c }
-        ensures low { 16 ≤ result }
-        ensures high { result ≤ 48 }
+        ensures low { LEAST_WIDTH ≤ result }
+        ensures high { result ≤ MOST_WIDTH }
     {
         self.widths[c as usize]
     }
@@ -76,21 +79,22 @@ impl CompShape {
     }
 }
 
-/// The counters of each component, of which there are at most 16.
+/// The counters of each component, of which there are at most [`MOST_COMPONENTS`].
 #[derive(Drop)]
 pub struct Shape {
     comps: u32,
-    comp: [CompShape; 16],
+    comp: [CompShape; MOST_COMPONENTS],
 }
 
 impl Model for Shape {
     ghost use Rattle.std.specs.Prelude.{List, ℕ, take, length, ◌≤◌, ◌≡◌};
+    ghost use Rattle.papi_base.specs.declared.limits.TheConstants.{MOST_COMPONENTS};
 
     ghost Value = { List (List ℕ) };
 
     ghost view = { λ s. take s.comps s.comp };
 
-    ghost invariant = { λ s. (s.comps ≤ 16) × (length s.comp ≡ 16) };
+    ghost invariant = { λ s. (s.comps ≤ MOST_COMPONENTS) × (length s.comp ≡ MOST_COMPONENTS) };
 }
 
 impl Shape {
@@ -123,7 +127,7 @@ impl Shape {
 
     /// One more component.
     pub fn push(&mut self, comp: CompShape)
-        requires room { length self.old < 16 }
+        requires room { length self.old < MOST_COMPONENTS }
         ensures pushed { self.new ≡ self.old ++ comp ∷ [] }
     {
         self.comp[self.comps as usize] = comp;
@@ -133,7 +137,7 @@ impl Shape {
     /// How many components there are.
     pub fn comps(&self) -> u32
         ensures length { result ≡ length self.now }
-        ensures short { length self.now ≤ 16 }
+        ensures short { length self.now ≤ MOST_COMPONENTS }
     {
         self.comps
     }

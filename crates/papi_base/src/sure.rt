@@ -1,4 +1,4 @@
-// The outside in memory that never fails.
+//! The outside in memory that never fails.
 ghost use Rattle.std.specs.Prelude.{◌≡◌, ◌<◌, ◌≤◌, ◌+◌, ◌-◌, ℕ, List, [], length, take, drop, min, Some};
 ghost use Rattle.papi_base.specs.declared.outside.Ending.TheVariants.{End};
 

@@ -1,4 +1,4 @@
-// Files in memory that never fail.
+//! Files in memory that never fail.
 ghost use Rattle.std.specs.Prelude.{◌≡◌, ◌<◌, [], Some};
 ghost use Rattle.papi_base.specs.Entries.{sure_entries};
 ghost use Rattle.papi_base.specs.Outside.{tape_of};
@@ -24,7 +24,8 @@ impl SureFiles {
     /// Files with these contents, each given in pieces of at most `largest` bytes.
     pub fn new(alloc: Global, tapes: Vec<(String, Vec<u8>)>, largest: usize) -> Self
         requires { 0 < largest }
-        ensures held { sure_held result ≡ record { tapes = sure_entries tapes.items; refused = [] } }
+        ensures held { sure_held result
+            ≡ record { tapes = sure_entries tapes.items; refused = [] } }
         ensures misses { sure_misses result ≡ 0 }
         ensures lent { sure_lent result ≡ 0 }
     {

@@ -1,3 +1,4 @@
+//! Text of its own.
 ghost use Rattle.std.specs.Prelude.{◌≡◌, string_bytes, IfOk, Some};
 
 use std::alloc::{AllocError, Global};

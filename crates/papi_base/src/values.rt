@@ -1,23 +1,26 @@
-// Lists of values.
+//! Lists of values.
 ghost use Rattle.std.specs.Prelude.{◌≡◌, ◌+◌, ◌<◌, ◌≤◌, List, [], ◌∷◌, ◌++◌, length, slice_get, Some, slice_set, replicate, pos};
+ghost use Rattle.papi_base.specs.declared.limits.TheConstants.{MOST_SET_EVENTS};
 
+use crate::limits::MOST_SET_EVENTS;
 use std::marker::Model;
 
-/// A list of at most 32 signed values, as PAPI_read(3) gives them.
+/// A list of at most [`MOST_SET_EVENTS`] signed values, as PAPI_read(3) gives them.
 #[derive(Debug, Drop)]
 pub struct Values {
-    items: [i64; 32],
+    items: [i64; MOST_SET_EVENTS],
     count: u32,
 }
 
 impl Model for Values {
     ghost use Rattle.std.specs.Prelude.{List, ℤ, take, ◌≤◌};
+    ghost use Rattle.papi_base.specs.declared.limits.TheConstants.{MOST_SET_EVENTS};
 
     ghost Value = { List ℤ };
 
     ghost view = { λ s. take s.count s.items };
 
-    ghost invariant = { λ s. s.count ≤ 32 };
+    ghost invariant = { λ s. s.count ≤ MOST_SET_EVENTS };
 }
 
 impl Values {
@@ -26,18 +29,18 @@ impl Values {
         ensures empty { result ≡ [] }
     {
         Values {
-            items: [0; 32],
+            items: [0; MOST_SET_EVENTS],
             count: 0,
         }
     }
 
     /// As many zeros.
     pub fn zeros(count: u32) -> Values
-        requires room { count ≤ 32 }
+        requires room { count ≤ MOST_SET_EVENTS }
         ensures zeros { result ≡ replicate count (pos 0) }
     {
         Values {
-            items: [0; 32],
+            items: [0; MOST_SET_EVENTS],
             count,
         }
     }
@@ -45,7 +48,7 @@ impl Values {
     /// How many items it has.
     pub fn len(&self) -> u32
         ensures length { result ≡ length self.now }
-        ensures short { length self.now ≤ 32 }
+        ensures short { length self.now ≤ MOST_SET_EVENTS }
     {
         self.count
     }
@@ -71,7 +74,7 @@ impl Values {
 
     /// One more item at the end.
     pub fn push(&mut self, x: i64)
-        requires room { length self.old < 32 }
+        requires room { length self.old < MOST_SET_EVENTS }
         ensures pushed { self.new ≡ self.old ++ x ∷ [] }
     {
         self.items[self.count as usize] = x;

@@ -1,4 +1,4 @@
-// Reading a source to its end, and writing bytes to their end.
+//! Reading a source to its end, and writing bytes to their end.
 ghost use Rattle.std.specs.Prelude.{◌≡◌, ◌<◌, ◌≤◌, ℕ, List, length, take, IfOk, IfSome, OnOk, OnErr, IsErrOf, IfErr};
 ghost use Rattle.papi_base.specs.Outside.{Rose, appended, next_count};
 ghost use Rattle.papi_base.specs.Whole.{IsWhole};
@@ -7,6 +7,9 @@ ghost use Rattle.papi_base.specs.declared.whole.WholeFault.TheVariants.{Memory};
 use crate::{Sink, Source, WriteFail};
 use std::alloc::{AllocError, Global};
 use thiserror::Error;
+
+// How many bytes are asked of a source at once.
+const PIECE: usize = 4096;
 
 /// Why a source was not read whole.
 #[derive(Clone, Copy, Debug, PartialEq, Eq, Error)]
@@ -40,12 +43,13 @@ pub fn read_whole<S: Source>(
     ensures whole { IfSome (S.tape source.old) (λ tape. IsWhole result limit tape) }
     // Told or not:
     ensures small { IfOk result (λ bytes. length bytes.items ≤ limit) }
-    ensures failed { IsErrOf result WholeFault.Failed → Rose (S.faults source.old) (S.faults source.new) }
+    ensures failed { IsErrOf result WholeFault.Failed
+        → Rose (S.faults source.old) (S.faults source.new) }
     ensures quiet { OnOk result (S.faults source.new ≡ S.faults source.old) }
     ensures falls_never { S.faults source.old ≤ S.faults source.new }
 {
     let mut bytes = Vec::new(alloc);
-    let mut buf = [0u8; 4096];
+    let mut buf = [0u8; PIECE];
     while bytes.len() <= limit {
         match source.read(&mut buf) {
             Err(_) => return Err(WholeFault::Failed),
@@ -59,9 +63,13 @@ pub fn read_whole<S: Source>(
 /// Writes all the bytes in order. After an error a prefix of them is written, and the sink is given nothing more.
 pub fn write_whole<K: Sink>(sink: &mut K, bytes: &[u8]) -> Result<(), WriteFail>
     ensures ok { OnOk result (K.taken sink.new ≡ appended (K.taken sink.old) bytes.now) }
-    ensures part { OnErr result ((k : ℕ) × (k ≤ length bytes.now) × (K.taken sink.new ≡ appended (K.taken sink.old) (take k bytes.now))) }
-    ensures failed { IsErrOf result WriteFail.Failed → Rose (K.faults sink.old) (K.faults sink.new) }
-    ensures once { IsErrOf result WriteFail.Failed → K.faults sink.new ≡ next_count (K.faults sink.old) }
+    ensures part { OnErr result
+        ((k : ℕ) × (k ≤ length bytes.now)
+        × (K.taken sink.new ≡ appended (K.taken sink.old) (take k bytes.now))) }
+    ensures failed { IsErrOf result WriteFail.Failed
+        → Rose (K.faults sink.old) (K.faults sink.new) }
+    ensures once { IsErrOf result WriteFail.Failed
+        → K.faults sink.new ≡ next_count (K.faults sink.old) }
     ensures quiet { OnOk result (K.faults sink.new ≡ K.faults sink.old) }
     ensures memory { IsErrOf result WriteFail.Memory → K.faults sink.new ≡ K.faults sink.old }
     ensures falls_never { K.faults sink.old ≤ K.faults sink.new }

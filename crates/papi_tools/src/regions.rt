@@ -1,6 +1,7 @@
 //! `papi_regions`: counts by region of a program.
 ghost use Rattle.std.specs.Prelude.{◌≡◌, ◌≤◌, ◌-◌, ◌++◌, ◌∷◌, [], All, IfOk, IfSome, IsOkAnd, Ok, OnOk, length, vec_len};
 ghost use Rattle.papi_base.specs.Outside.{Rose};
+ghost use Rattle.papi_base.specs.declared.limits.TheConstants.{MOST_SET_EVENTS};
 ghost use Rattle.region_laws.specs.Nesting.{AreBegun};
 ghost use Rattle.region_laws.specs.Spans.{AllFit};
 ghost use Rattle.region_report.specs.CallLines.{AreEvents, asked, numbered};
@@ -65,7 +66,7 @@ fn readings_of(alloc: Global, lines: &[ReplyLine]) -> Result<Vec<Reading>, Alloc
 
 // What is said of a run.
 fn said_of(alloc: Global, regions: &Regions, events: &[Text], ran: &Ran) -> Result<Said, Stop>
-    requires { length events.now ≤ 32 }
+    requires { length events.now ≤ MOST_SET_EVENTS }
     ensures said { Answers result (Ok (marked_said ran.now.marks
         (report_text (length events.now) (spans_from (readings_in ran.now.lines.items) 0 regions.now)))) }
     ensures fit { IfOk result (λ _. AllFit (readings_in ran.now.lines.items)) }

@@ -1,5 +1,6 @@
 //! The first assignment, by going through all choices of counters.
 ghost use Rattle.std.specs.Prelude.{◌≡◌, ◌≤◌, ◌+◌, ◌++◌, find, length, map};
+ghost use Rattle.papi_base.specs.declared.limits.TheConstants.{MOST_SET_NATIVES};
 ghost use Rattle.counter_alloc.specs.Listing.{all_distinct, choices, least};
 
 use papi_base::Places;
@@ -23,7 +24,7 @@ fn is_distinct(chosen: &Places) -> bool
 
 // The first choice for all places that begins so and gives no counter twice.
 fn first_after(front: &Places, allowed: &[u32]) -> Option<Places>
-    requires { length front.now + length allowed.now ≤ 32 }
+    requires { length front.now + length allowed.now ≤ MOST_SET_NATIVES }
     ensures { result ≡ find all_distinct (map (λ later. front.now ++ later) (choices allowed.now)) }
 {
     if allowed.is_empty() {
@@ -50,7 +51,7 @@ fn first_after(front: &Places, allowed: &[u32]) -> Option<Places>
 ///
 /// All choices of one allowed counter for each place are tried in increasing order.
 pub fn first_assignment(allowed: &[u32]) -> Option<Places>
-    requires { length allowed.now ≤ 32 }
+    requires { length allowed.now ≤ MOST_SET_NATIVES }
     ensures { result ≡ least allowed.now }
 {
     first_after(&Places::new(), allowed)

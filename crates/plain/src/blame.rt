@@ -1,5 +1,6 @@
 //! The blame of a list without an assignment, by going through all sets of its places.
 ghost use Rattle.std.specs.Prelude.{◌≡◌, ◌≤◌, ◌<◌, count_ones, length, nat_lt};
+ghost use Rattle.papi_base.specs.declared.limits.TheConstants.{MOST_SET_NATIVES};
 ghost use Rattle.counter_alloc.specs.Assignments.{counters_of as counters_allowed};
 ghost use Rattle.counter_alloc.specs.BlameOf as BlameOf;
 
@@ -8,7 +9,7 @@ use counter_alloc::Blame;
 
 // The counters that any member of the set of places is allowed.
 fn counters_of(allowed: &[u32], members: u32) -> u32
-    requires { length allowed.now ≤ 32 }
+    requires { length allowed.now ≤ MOST_SET_NATIVES }
     ensures { result ≡ counters_allowed allowed.now members }
 {
     let mut counters = 0;
@@ -22,7 +23,7 @@ fn counters_of(allowed: &[u32], members: u32) -> u32
 
 // Whether the set of places has more members than counters that any of them is allowed.
 fn is_deficient(allowed: &[u32], members: u32) -> bool
-    requires { length allowed.now ≤ 32 }
+    requires { length allowed.now ≤ MOST_SET_NATIVES }
     ensures { result ≡ nat_lt (count_ones (counters_allowed allowed.now members)) (count_ones members) }
 {
     counters_of(allowed, members).count_ones() < members.count_ones()
@@ -30,7 +31,7 @@ fn is_deficient(allowed: &[u32], members: u32) -> bool
 
 // How many places the shortest prefix without an assignment has; 0 where all have one.
 fn shortest_prefix(allowed: &[u32]) -> usize
-    requires { length allowed.now < 32 }
+    requires { length allowed.now < MOST_SET_NATIVES }
     ensures shortest { result ≡ BlameOf.shortest_prefix allowed.now }
     ensures within { result ≤ length allowed.now }
 {
@@ -44,7 +45,7 @@ fn shortest_prefix(allowed: &[u32]) -> usize
 
 // The places that lie in each deficient set.
 fn in_each_deficient(allowed: &[u32]) -> u32
-    requires { length allowed.now < 32 }
+    requires { length allowed.now < MOST_SET_NATIVES }
     ensures { result ≡ BlameOf.in_each_set (length allowed.now) (BlameOf.deficient_sets allowed.now) }
 {
     let sets = 1u32 << allowed.len();
@@ -59,7 +60,7 @@ fn in_each_deficient(allowed: &[u32]) -> u32
 
 /// The places that lie in each deficient set of the shortest prefix without an assignment, and the counters that they are allowed.
 pub fn blame_by_sets(allowed: &[u32]) -> Blame
-    requires { length allowed.now < 32 }
+    requires { length allowed.now < MOST_SET_NATIVES }
     ensures { result ≡ BlameOf.blame_of allowed.now }
 {
     let prefix = &allowed[..shortest_prefix(allowed)];

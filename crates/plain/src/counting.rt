@@ -1,6 +1,7 @@
 //! Counts and estimates, as sums over a list of occurrences.
 ghost use Rattle.std.specs.Prelude.{◌≡◌, ◌≤◌, ◌<◌, ◌*◌, ◌^◌, ℕ, None, Some, length, slice_get};
 ghost use Rattle.papi_base.specs.Weight.{weight_of};
+ghost use Rattle.papi_base.specs.declared.limits.TheConstants.{LARGEST_AMOUNT};
 ghost use Rattle.multiplex.specs.Turns as Turns;
 ghost use Rattle.session_model.specs.Account.{Kept, clock};
 ghost use Rattle.session_model.specs.Counts.{along, weighed};
@@ -81,7 +82,7 @@ fn count_in_turn(past: &[Occ], window: Window, turn: &Turn, start: u128, n: &Nat
     ensures counted { (s : Kept) → IsOver s window →
         let turns : Turns.Turns = record { slice = turn.now.slice; count = turn.now.groups; start = start } in
         result ≡ weighed (Turns.weight_in_turn turns turn.now.group n.now window.domain) past.now s }
-    ensures small { result ≤ 255 * length past.now }
+    ensures small { result ≤ LARGEST_AMOUNT * length past.now }
 {
     let mut count = 0;
     for i in window.from..window.to {

@@ -2,6 +2,7 @@
 use Rattle.std.specs.Prelude.{◌≡◌, ◌≤◌, ◌<◌, ◌+◌, ◌-◌, ◌^◌, ℕ, List, [], ◌∷◌, map, take, length}
 use Rattle.std.specs.Prelude.{slice_get, Option, Some, None, if◌then◌else◌, nat_le, nat_lt}
 use Rattle.std.specs.Option.{option_map_or}
+use Rattle.postfix_rules.specs.declared.limits.TheConstants.{MOST_OPERANDS}
 use Rattle.postfix_rules.specs.declared.token.Token.{Token}
 use Rattle.postfix_rules.specs.declared.token.Token.TheVariants as token
 use Rattle.postfix_rules.specs.declared.fault.FormulaCause.{FormulaCause}
@@ -18,7 +19,7 @@ Pile parts trees = parts ≡ map Some (pile_text trees)
 
 -- why one value more is refused, if it is: at most 16 wait
 abbrev pub operand_cause : ℕ → Option FormulaCause
-operand_cause height = if nat_le 16 height then Some cause.TooDeep else None
+operand_cause height = if nat_le MOST_OPERANDS height then Some cause.TooDeep else None
 
 -- the cause of a part after a pile of so many trees, in a formula over so many natives
 unfoldable pub token_cause : ℕ → ℕ → Part → Option FormulaCause
@@ -41,9 +42,9 @@ pub record IsFault (natives : ℕ) (parts : List Part) (k : ℕ) (why : FormulaC
   pub within : k ≤ length parts
   pub pile : List Tree
   pub before : Pile (take k parts) pile
-  pub few : length pile ≤ 16
+  pub few : length pile ≤ MOST_OPERANDS
   pub here : place_cause natives (length pile) (slice_get parts k) ≡ Some why
-  pub first : (j : ℕ) (trees : List Tree) → j < k → Pile (take j parts) trees → length trees ≤ 16
+  pub first : (j : ℕ) (trees : List Tree) → j < k → Pile (take j parts) trees → length trees ≤ MOST_OPERANDS
       → place_cause natives (length trees) (slice_get parts j) ≡ None
 
 -- the height of the pile after a part

@@ -1,6 +1,7 @@
 -- The first fault of a formula in infix order, with 16 open parentheses, a stack of 16 places and constants of 63 bits.
 use Rattle.std.specs.Prelude.{◌≡◌, ◌≤◌, ◌<◌, ◌+◌, ◌-◌, ◌^◌, ◌==◌, ℕ, Bool, true, false, List, take, fold, length, slice_get}
 use Rattle.std.specs.Prelude.{Option, Some, None, if◌then◌else◌, nat_le, nat_lt, Result, Ok, Err}
+use Rattle.postfix_rules.specs.declared.limits.TheConstants.{MOST_OPEN, MOST_OPERANDS}
 use Rattle.postfix_rules.specs.declared.fault.FormulaCause.{FormulaCause}
 use Rattle.postfix_rules.specs.declared.fault.FormulaCause.TheVariants as cause
 use Rattle.postfix_rules.specs.declared.fault.FormulaFault.{FormulaFault}
@@ -43,7 +44,7 @@ place_of_operand must = if must then None else Some cause.OperandsLeft
 
 -- so does `(`, inside at most 15 others
 abbrev pub open_cause : Bool → ℕ → Option FormulaCause
-open_cause must depth = if must then (if nat_le 16 depth then Some cause.TooDeep else None) else Some cause.OperandsLeft
+open_cause must depth = if must then (if nat_le MOST_OPEN depth then Some cause.TooDeep else None) else Some cause.OperandsLeft
 
 -- `)` stands after an operand, and closes a `(`
 abbrev pub close_cause : Bool → ℕ → Option FormulaCause
@@ -66,7 +67,7 @@ cause_at natives parts k part = infix_cause natives (must_begin (take k parts)) 
 abbrev pub IsEndFault : List InfixPart → FormulaCause → Type 0
 IsEndFault parts cause.OperandMissing = must_begin parts ≡ true
 IsEndFault parts cause.Unbalanced = (must_begin parts ≡ false) × (0 < open_at_end parts)
-IsEndFault parts cause.TooDeep = (must_begin parts ≡ false) × (open_at_end parts ≡ 0) × ((tree : Tree) × IsInfix parts tree × (16 < need tree))
+IsEndFault parts cause.TooDeep = (must_begin parts ≡ false) × (open_at_end parts ≡ 0) × ((tree : Tree) × IsInfix parts tree × (MOST_OPERANDS < need tree))
 IsEndFault parts cause.UnknownToken = ⊥
 IsEndFault parts cause.ConstantTooLarge = ⊥
 IsEndFault parts cause.NativeRange = ⊥
@@ -90,7 +91,7 @@ pub record IsInfixFault (natives : ℕ) (parts : List InfixPart) (k : ℕ) (why 
 pub record WritesTree (natives : ℕ) (parts : List InfixPart) (tree : Tree) : Type 0 where
   pub writes : IsInfix parts tree
   pub clear : AreClear natives parts (length parts)
-  pub few : need tree ≤ 16
+  pub few : need tree ≤ MOST_OPERANDS
 
 -- The answer to a text: the postfix tokens of the tree that it writes, or its first fault. Memory may run out at any text.
 abbrev pub ReadsInfix : Result Formula FormulaFault → ℕ → Text → Type 0

@@ -4,6 +4,7 @@ ghost use Rattle.postfix_rules.specs.InfixFaults as InfixFaults;
 ghost use Rattle.postfix_rules.specs.InfixJudged.{JudgesPart, ReadsPart};
 ghost use Rattle.postfix_rules.specs.InfixTokens.{InfixPart};
 
+use crate::limits::MOST_OPEN;
 use crate::{FormulaCause, InfixToken, Token};
 
 fn operand_cause(must: bool) -> Option<FormulaCause>
@@ -22,7 +23,7 @@ fn open_cause(must: bool, open: usize) -> Option<FormulaCause>
 {
     if !must {
         Some(FormulaCause::OperandsLeft)
-    } else if open >= 16 {
+    } else if open >= MOST_OPEN {
         Some(FormulaCause::TooDeep)
     } else {
         None

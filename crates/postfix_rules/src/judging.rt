@@ -1,10 +1,12 @@
 //! One token of a formula's text, and whether it may stand where it does.
 ghost use Rattle.std.specs.Prelude.{◌≡◌, ◌∷◌, ◌≤◌, true, Some};
 ghost use Rattle.papi_base.specs.Numerals as Numerals;
+ghost use Rattle.postfix_rules.specs.declared.limits.TheConstants.{MOST_OPERANDS};
 ghost use Rattle.postfix_rules.specs.Faults as Faults;
 ghost use Rattle.postfix_rules.specs.Judged.{JudgesToken, ReadsToken};
 ghost use Rattle.postfix_rules.specs.Tokens as Tokens;
 
+use crate::limits::MOST_OPERANDS;
 use crate::{FormulaCause, Operator, Token};
 use table_rows::{is_numeral, numeral_value};
 
@@ -85,7 +87,7 @@ fn token_of(piece: &[u8]) -> Result<Token, FormulaCause>
 fn operand_cause(height: usize) -> Option<FormulaCause>
     ensures { result ≡ Faults.operand_cause height }
 {
-    if height >= 16 {
+    if height >= MOST_OPERANDS {
         Some(FormulaCause::TooDeep)
     } else {
         None
@@ -120,7 +122,7 @@ pub(crate) fn judge(natives: u32, height: usize, piece: &[u8]) -> Result<Token, 
 
 /// The number of operands after a token.
 pub(crate) fn height_after(height: usize, token: Token) -> usize
-    requires { height ≤ 16 }
+    requires { height ≤ MOST_OPERANDS }
     ensures { result ≡ Faults.height_after height (Some token) }
 {
     match token {

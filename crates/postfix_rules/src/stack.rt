@@ -1,9 +1,11 @@
 //! The value of a formula on a stack of numbers.
 ghost use Rattle.std.specs.Prelude.{◌≡◌, ◌≤◌, length, map, Some, None};
+ghost use Rattle.postfix_rules.specs.declared.limits.TheConstants.{MOST_OPERANDS};
 ghost use Rattle.postfix_rules.specs.Faults.{IsFormula, height_after, token_cause};
 ghost use Rattle.postfix_rules.specs.Stack.{pile, stepped};
 ghost use Rattle.postfix_rules.specs.Values.{IsTreeValue, applied, formula_value};
 
+use crate::limits::MOST_OPERANDS;
 use crate::{Formula, Operator, Token};
 
 /// The value of an operator at two numbers.
@@ -20,9 +22,9 @@ pub fn apply(operator: Operator, x: i64, y: i64) -> i64
 }
 
 /// Works a token that has no cause on the stack, and gives the stack's new height.
-fn step(counts: &[i64], token: Token, stack: &mut [i64; 16], height: usize) -> usize
+fn step(counts: &[i64], token: Token, stack: &mut [i64; MOST_OPERANDS], height: usize) -> usize
     requires clear { token_cause (length counts.now) height (Some token) ≡ None }
-    requires few { height ≤ 16 }
+    requires few { height ≤ MOST_OPERANDS }
     ensures height { result ≡ height_after height (Some token) }
     ensures stack { pile stack.new result ≡ stepped counts.now token (pile stack.old height) }
 {
@@ -49,7 +51,7 @@ fn value_on_stack(tokens: &[Token], counts: &[i64]) -> i64
     requires { IsFormula (length counts.now) tokens.now }
     ensures { result ≡ formula_value counts.now tokens.now }
 {
-    let mut stack = [0; 16];
+    let mut stack = [0; MOST_OPERANDS];
     let mut height = 0;
     for i in 0..tokens.len() {
         height = step(counts, tokens[i], &mut stack, height);

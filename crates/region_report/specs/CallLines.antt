@@ -13,7 +13,7 @@ use Rattle.region_report.specs.Calls.{has_lines, script_text}
 use Rattle.region_report.specs.declared.regions.RegionCall.{RegionCall}
 use Rattle.region_report.specs.declared.regions.RegionCall.TheVariants as call
 use Rattle.region_report.specs.declared.regions.RegionLine.{RegionLine}
-use Rattle.region_report.specs.declared.script.TheConstants.{MOST_EVENTS}
+use Rattle.papi_base.specs.declared.limits.TheConstants.{MOST_SET_EVENTS}
 
 -- ---- the events
 
@@ -27,7 +27,7 @@ is_event event = not (is_empty event) && list_all is_event_character event
 
 -- not more than a set can have
 pub record AreEvents (events : List Text) : Type 0 where
-  pub few : length events ≤ MOST_EVENTS
+  pub few : length events ≤ MOST_SET_EVENTS
   pub each : list_all is_event events ≡ true
 
 -- ---- the calls

@@ -14,4 +14,4 @@ mod totals;
 pub use fault::{RegionCause, RegionFault, cause_text};
 pub use regions::{MOST_LINES, MOST_OPEN, RegionCall, RegionLine, Regions, read_regions};
 pub use reports::{Reading, report};
-pub use script::{MOST_EVENTS, script_of};
+pub use script::script_of;

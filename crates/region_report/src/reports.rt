@@ -2,7 +2,7 @@
 
 ghost use Rattle.std.specs.Prelude.{◌≡◌, ◌≤◌, ◌++◌, IfOk, OnOk, map, string_bytes};
 ghost use Rattle.std.specs.List.{flat_map, range_with_len};
-ghost use Rattle.papi_base.specs.declared.limits.TheConstants.{THREADS};
+ghost use Rattle.papi_base.specs.declared.limits.TheConstants.{MOST_SET_EVENTS, THREADS};
 ghost use Rattle.region_report.specs.Reports.{name_of, read_text, report_text, thread_text, values_text};
 ghost use Rattle.region_report.specs.Spans.{reading_values, span_text, spans_from};
 
@@ -77,7 +77,7 @@ fn push_threads(
     events: u32,
     spans: &[LineSpan<'_>],
 ) -> Result<(), AllocError>
-    requires { events ≤ 32 }
+    requires { events ≤ MOST_SET_EVENTS }
     ensures { OnOk result (string_bytes text.new ≡ string_bytes text.old
         ++ flat_map (thread_text events (map span_text spans.now)) (range_with_len 0 THREADS)) }
 {
@@ -90,7 +90,7 @@ fn push_threads(
 // The text of these spans.
 #[tactic(auto, unfolding(crate::specs::Reports::report_text))]
 fn text_of(alloc: Global, events: u32, spans: &[LineSpan<'_>]) -> Result<String, AllocError>
-    requires { events ≤ 32 }
+    requires { events ≤ MOST_SET_EVENTS }
     ensures { IfOk result (λ text. string_bytes text ≡ report_text events (map span_text spans.now)) }
 {
     let mut text = String::new(alloc);
@@ -109,7 +109,7 @@ pub fn report(
     events: u32,
     readings: &[Reading],
 ) -> Result<String, AllocError>
-    requires { events ≤ 32 }
+    requires { events ≤ MOST_SET_EVENTS }
     ensures { IfOk result (λ text. string_bytes text ≡ report_text events (spans_from (reading_values readings.now) 0 regions.now)) }
 {
     let spans = spans_of(alloc, regions.lines(), readings)?;

@@ -13,9 +13,6 @@ use papi_base::{THREADS, Text};
 use std::alloc::{AllocError, Global};
 use std::fmt::Write;
 
-/// How many events a set has at most.
-pub const MOST_EVENTS: u32 = 32;
-
 fn push_call(text: &mut String, thread: u32, words: &str) -> Result<(), AllocError>
     ensures { OnOk result (string_bytes text.new ≡ string_bytes text.old ++ call_text thread words.now) }
 {

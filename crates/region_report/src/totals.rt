@@ -4,6 +4,7 @@ ghost use Rattle.std.specs.Prelude.{◌≡◌, ◌<◌, ◌≤◌, ◌^◌, ◌+
 ghost use Rattle.std.specs.Prelude.{length, map, pos, position, replicate, slice_get, string_bytes, vec_len, Some};
 ghost use Rattle.std.specs.Int.{int_wrapping_add, w64};
 ghost use Rattle.std.specs.Str.{bytes_eq};
+ghost use Rattle.papi_base.specs.declared.limits.TheConstants.{MOST_SET_EVENTS};
 ghost use Rattle.indexmap.specs.IndexSet.{index_set_len};
 ghost use Rattle.region_report.specs.Reports as Reports;
 ghost use Rattle.region_report.specs.Reports.{names_of, thread_text, total_text, with_begin, with_name};
@@ -127,7 +128,7 @@ fn add_at(totals: &mut Vec<RegionTotal>, place: Option<usize>, values: &Values)
 
 // As many totals of no instances.
 fn no_totals(alloc: Global, events: u32, count: usize) -> Result<Vec<RegionTotal>, AllocError>
-    requires { events ≤ 32 }
+    requires { events ≤ MOST_SET_EVENTS }
     ensures { IfOk result (λ totals. totals.items ≡ replicate count (record { instances = 0; values = replicate events (pos 0) })) }
 {
     let mut totals = Vec::new(alloc);
@@ -148,7 +149,7 @@ fn totals_of(
     spans: &[LineSpan<'_>],
     names: &IndexSet<&str>,
 ) -> Result<Vec<RegionTotal>, AllocError>
-    requires events { events ≤ 32 }
+    requires events { events ≤ MOST_SET_EVENTS }
     requires names { map (λ n. n.now) names.now.keys ≡ Reports.names_of thread (map span_text spans.now) }
     ensures { IfOk result (λ totals. totals.items ≡ map (total_of events thread (map span_text spans.now)) (map (λ n. n.now) names.now.keys)) }
 {
@@ -209,7 +210,7 @@ pub(crate) fn push_thread(
     thread: u32,
     spans: &[LineSpan<'_>],
 ) -> Result<(), AllocError>
-    requires { events ≤ 32 }
+    requires { events ≤ MOST_SET_EVENTS }
     ensures { OnOk result (string_bytes text.new ≡ string_bytes text.old ++ thread_text events (map span_text spans.now) thread) }
 {
     let names = names_of(alloc, thread, spans)?;

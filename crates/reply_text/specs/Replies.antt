@@ -7,7 +7,7 @@ use Rattle.std.specs.Option.{option_map_or}
 use Rattle.papi_base.specs.CallNames.{word_of}
 use Rattle.papi_base.specs.Codes.{name_of}
 use Rattle.papi_base.specs.declared.call_name.CallName.{CallName}
-use Rattle.papi_base.specs.declared.limits.TheConstants.{THREADS}
+use Rattle.papi_base.specs.declared.limits.TheConstants.{MOST_COUNTERS, THREADS}
 use Rattle.papi_base.specs.declared.native.Native.{Native}
 use Rattle.event_sets.specs.declared.refusal.Clash.{Clash}
 use Rattle.component_table.specs.Catalogs.{CatalogView}
@@ -43,7 +43,7 @@ component_of (n ∷ ns) = n.comp
 -- the native events of a conflict, then `/`, then the counters that they are allowed
 unfoldable pub clash_texts : CatalogView → Clash → List Text
 clash_texts catalog clash =
-    map (canonical catalog.tables) clash.natives ++ codes "/" ∷ map (counter_text catalog (component_of clash.natives)) (members_below 32 clash.counters)
+    map (canonical catalog.tables) clash.natives ++ codes "/" ∷ map (counter_text catalog (component_of clash.natives)) (members_below MOST_COUNTERS clash.counters)
 
 -- the results, which follow the code
 abbrev pub results_of : CatalogView → Body → List Text

@@ -3,6 +3,7 @@
 ghost use Rattle.std.specs.Prelude.{◌≡◌, ◌<◌, ◌==◌, ◌++◌, ◌∷◌, [], OnOk, codes, decimal, map, string_bytes, zip};
 ghost use Rattle.std.specs.Fmt.{signed_decimal};
 ghost use Rattle.std.specs.Int.{bit_at};
+ghost use Rattle.papi_base.specs.declared.limits.TheConstants.{MOST_COUNTERS, THREADS};
 ghost use Rattle.component_table.specs.EventNames.{event_name};
 ghost use Rattle.name_encoder.specs.Canonical.{canonical};
 ghost use Rattle.reply_text.specs.Replies as Replies;
@@ -12,14 +13,14 @@ use crate::hexadecimal::push_hex;
 use crate::names::{counter_name, push_assigned, push_event, push_native};
 use component_table::Catalog;
 use event_sets::Clash;
-use papi_base::{Events, Natives, THREADS, Values};
+use papi_base::{Events, MOST_COUNTERS, Natives, THREADS, Values};
 use session_model::{Assigned, Body};
 use std::alloc::AllocError;
 use std::fmt::Write;
 
 // Whether a bit of a number is set.
 fn has(set: u64, k: u32) -> bool
-    requires { k < 64 }
+    requires { k < THREADS }
     ensures { result ≡ (bit_at set k == 1) }
 {
     (set >> k) & 1 == 1
@@ -78,9 +79,9 @@ fn push_counters(
     counters: u32,
 ) -> Result<(), AllocError>
     ensures { OnOk result (string_bytes text.new ≡ string_bytes text.old
-        ++ spaced (map (Replies.counter_text catalog.now comp) (Replies.members_below 32 counters))) }
+        ++ spaced (map (Replies.counter_text catalog.now comp) (Replies.members_below MOST_COUNTERS counters))) }
 {
-    for counter in 0..32 {
+    for counter in 0..MOST_COUNTERS as u32 {
         if has(u64::from(counters), counter) {
             let name = counter_name(catalog, comp, counter);
             write!(text, " {name}")?;

@@ -5,6 +5,7 @@ use Rattle.papi_base.specs.declared.code.Code.{Code}
 use Rattle.papi_base.specs.declared.code.Code.TheVariants as code
 use Rattle.papi_base.specs.declared.native.Native.{Native}
 use Rattle.papi_base.specs.Streams.{Coming, Dry}
+use Rattle.papi_base.specs.declared.limits.TheConstants.{THREADS}
 use Rattle.postfix_rules.specs.Presets.{Book}
 use Rattle.event_sets.specs.AtRest.{Widths}
 use Rattle.session_model.specs.declared.call.Call.{Call}
@@ -21,7 +22,7 @@ use Rattle.session_model.specs.World.{Setting, World, answer, calls_at, mentione
 
 -- each of the 64 threads begins with its opening account; a thread without a stream has an empty one
 abbrev pub OpensByThread : Type 0
-OpensByThread = (streams : List Coming) (t : ℕ) → t < 64
+OpensByThread = (streams : List Coming) (t : ℕ) → t < THREADS
     → let coming = slice_index_or streams t (record { rest = []; mark = Dry }) in
     slice_get (opening_world streams).accounts t ≡ Some (opening t coming.rest coming.mark)
 

@@ -2,6 +2,7 @@
 use Rattle.std.specs.Prelude.{ℕ, ℤ, ◌+◌, Bool, false, if◌then◌else◌, List, [], ◌∷◌, take, replicate, Option, Some, None}
 use Rattle.papi_base.specs.declared.occurrence.Occ.{Occ}
 use Rattle.papi_base.specs.Streams.{Mark}
+use Rattle.papi_base.specs.declared.limits.TheConstants.{MOST_SETS}
 use Rattle.event_sets.specs.AtRest.{AtRest}
 
 -- A set, the window of positions over which it counts, and the caller's value of each event. The window goes from `from` up
@@ -24,7 +25,7 @@ pub record Account : Type 0 where
 
 -- a thread's account before its first call
 abbrev pub opening : ℕ → List Occ → Mark → Account
-opening thread rest mark = record { thread = thread; registered = false; sets = replicate 64 None; past = []; rest = rest; mark = mark }
+opening thread rest mark = record { thread = thread; registered = false; sets = replicate MOST_SETS None; past = []; rest = rest; mark = mark }
 
 -- the last occurrence of the list, or else `before`
 abbrev pub last_after : Option Occ → List Occ → Option Occ

@@ -2,13 +2,14 @@
 use Rattle.std.specs.Prelude.{ℕ, ◌+◌, ◌≤◌, ◌≡◌, length, List, [], ◌∷◌, All, Option, Some, count_by}
 use Rattle.std.specs.Option.{ForSome}
 use Rattle.papi_base.specs.declared.occurrence.Occ.{Occ}
+use Rattle.papi_base.specs.declared.limits.TheConstants.{LARGEST_AMOUNT}
 use Rattle.session_model.specs.Account.{Kept}
 use Rattle.session_model.specs.Faces.{Face, runs_on}
 
--- from this time on the stamps rise and the amounts have 8 bits
+-- from this time on the stamps rise and the amounts are those of occurrences
 abbrev pub Rises : ℕ → List Occ → Type 0
 Rises time [] = Unit {0}
-Rises time (o ∷ os) = (time ≤ o.stamp) × (o.amount ≤ 255) × Rises (o.stamp + 1) os
+Rises time (o ∷ os) = (time ≤ o.stamp) × (o.amount ≤ LARGEST_AMOUNT) × Rises (o.stamp + 1) os
 
 -- the window lies in the past
 pub record IsWithin (end : ℕ) (s : Kept) : Type 0 where

@@ -21,6 +21,7 @@ use Rattle.session_model.specs.declared.reply.Ended.TheVariants as ended
 use Rattle.session_model.specs.declared.reply.Reply.{Reply}
 use Rattle.event_sets.specs.AtRest.{Widths}
 use Rattle.papi_base.specs.Streams.{Coming, Dry}
+use Rattle.papi_base.specs.declared.limits.TheConstants.{THREADS}
 use Rattle.session_model.specs.Account.{Account, opening}
 use Rattle.session_model.specs.Replies.{plain, done}
 use Rattle.session_model.specs.Step.{Outcome, step}
@@ -44,7 +45,7 @@ opening_accounts (suc n) t (s ∷ ss) = opening t s.rest s.mark ∷ opening_acco
 
 -- the world before the first line, over these streams
 abbrev pub opening_world : List Coming → World
-opening_world streams = record { accounts = opening_accounts 64 0 streams; mentioned = [] }
+opening_world streams = record { accounts = opening_accounts THREADS 0 streams; mentioned = [] }
 
 -- a thread's account
 abbrev pub account_at : List Account → ℕ → Account

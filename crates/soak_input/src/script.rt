@@ -7,7 +7,8 @@ use std::alloc::{AllocError, Global};
 use std::fmt::Write;
 
 fn push_call(text: &mut String, thread: u32, call: &str) -> Result<(), AllocError>
-    ensures { OnOk result (string_bytes text.new ≡ string_bytes text.old ++ call_line call.now thread) }
+    ensures { OnOk result (string_bytes text.new
+        ≡ string_bytes text.old ++ call_line call.now thread) }
 {
     writeln!(text, "{thread} {call}")
 }
@@ -24,7 +25,8 @@ fn push_opening(text: &mut String, thread: u32) -> Result<(), AllocError>
 }
 
 fn push_openings(text: &mut String) -> Result<(), AllocError>
-    ensures { OnOk result (string_bytes text.new ≡ string_bytes text.old ++ by_thread opening_lines) }
+    ensures { OnOk result (string_bytes text.new
+        ≡ string_bytes text.old ++ by_thread opening_lines) }
 {
     for thread in 0..SOAK_THREADS {
         push_opening(text, thread)?;

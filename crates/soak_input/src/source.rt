@@ -50,7 +50,8 @@ impl SoakSource {
     fn give(&mut self, room: &mut [u8]) -> usize
         ensures bound { result ≤ length room.new }
         ensures text { text_left self.old ≡ take result room.new ++ text_left self.new }
-        ensures some { 0 < length room.new → self.old.given < array_vec_len self.old.line → 0 < result }
+        ensures some { 0 < length room.new → self.old.given < array_vec_len self.old.line
+            → 0 < result }
     {
         let (_, rest) = self.line.as_slice().split_at(self.given);
         let count = copy_front(room, rest);
@@ -61,7 +62,8 @@ impl SoakSource {
 
 // Copies as many bytes as have room.
 fn copy_front(room: &mut [u8], bytes: &[u8]) -> usize
-    ensures { (result ≡ min (length room.new) (length bytes.now)) × (take result room.new ≡ take result bytes.now) }
+    ensures { (result ≡ min (length room.new) (length bytes.now))
+        × (take result room.new ≡ take result bytes.now) }
 {
     let count = room.len().min(bytes.len());
     room[..count].copy_from_slice(&bytes[..count]);

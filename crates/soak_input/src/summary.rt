@@ -15,7 +15,8 @@ pub struct ThreadTotal {
 }
 
 fn push_values(text: &mut String, values: &Values) -> Result<(), AllocError>
-    ensures { OnOk result (string_bytes text.new ≡ string_bytes text.old ++ values_text values.now) }
+    ensures { OnOk result (string_bytes text.new
+        ≡ string_bytes text.old ++ values_text values.now) }
 {
     for i in 0..values.len() {
         let value = values.at(i);
@@ -25,7 +26,8 @@ fn push_values(text: &mut String, values: &Values) -> Result<(), AllocError>
 }
 
 fn push_thread(text: &mut String, thread: usize, total: &ThreadTotal) -> Result<(), AllocError>
-    ensures { OnOk result (string_bytes text.new ≡ string_bytes text.old ++ thread_line thread total.now) }
+    ensures { OnOk result (string_bytes text.new
+        ≡ string_bytes text.old ++ thread_line thread total.now) }
 {
     write!(text, "thread {thread}:")?;
     push_values(text, &total.values)?;

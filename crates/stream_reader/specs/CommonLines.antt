@@ -1,9 +1,10 @@
 -- Lines of the common form: this project's own stream format, docs/FORMATS.md.
-use Rattle.std.specs.Prelude.{◌≡◌, ◌≤◌, ◌<◌, ◌+◌, ◌⊎◌, ◌++◌, ◌==◌, ◌||◌, ℕ, Bool, true, not, List, [], ◌∷◌, length, take, drop, slice_index, Some}
+use Rattle.std.specs.Prelude.{◌-◌, ◌≡◌, ◌≤◌, ◌<◌, ◌+◌, ◌⊎◌, ◌++◌, ◌==◌, ◌||◌, ℕ, Bool, true, not, List, [], ◌∷◌, length, take, drop, slice_index, Some}
 use Rattle.std.specs.List.{list_all}
 use Rattle.std.specs.Str.Parse.{digits_value}
 use Rattle.papi_base.specs.Numerals.{decimal_in, hex_in, is_digit}
 use Rattle.papi_base.specs.declared.occurrence.Occ.{Occ}
+use Rattle.papi_base.specs.declared.limits.TheConstants.{LARGEST_AMOUNT, LAST_STAMP, MOST_COMPONENTS}
 use Rattle.stream_reader.specs.declared.common_line.CommonLine.{CommonLine}
 use Rattle.stream_reader.specs.declared.common_line.Front.{Front}
 use Rattle.stream_reader.specs.declared.common_line.Head.{Head}
@@ -35,9 +36,9 @@ pub record IsInner (t : List ℕ) : Type 0 where
 pub record IsComponent (t : List ℕ) (comp : Field) : Type 0 where
   pub some : 1 ≤ comp.size
   pub few : comp.size ≤ 2
-  pub most : comp.value ≤ 15
+  pub most : comp.value ≤ MOST_COMPONENTS - 1
   pub digit : is_digit (slice_index t 0) ≡ true
-  pub value : decimal_in 0 15 (take comp.size t) ≡ Some comp.value
+  pub value : decimal_in 0 (MOST_COMPONENTS - 1) (take comp.size t) ≡ Some comp.value
   pub inner : IsInner (take comp.size t)
 
 -- a space stands before and after each of the three fields between the component and the amount
@@ -61,17 +62,17 @@ pub record IsHead (t : List ℕ) (head : Head) : Type 0 where
 pub record IsAmount (t : List ℕ) (amount : Field) : Type 0 where
   pub some : 1 ≤ amount.size
   pub few : amount.size ≤ 3
-  pub most : amount.value ≤ 255
-  pub value : decimal_in 1 255 (piece HEAD amount.size t) ≡ Some amount.value
+  pub most : amount.value ≤ LARGEST_AMOUNT
+  pub value : decimal_in 1 LARGEST_AMOUNT (piece HEAD amount.size t) ≡ Some amount.value
   pub inner : IsInner (piece HEAD amount.size t)
   pub space : slice_index t (HEAD + amount.size) ≡ 32
 
--- a number with this value and so many digits, from the least one to 255
+-- a number with this value and so many digits, from the least one to LARGEST_AMOUNT
 pub record IsAmountOf (n digits least : ℕ) (amount : Field) : Type 0 where
   pub value : amount.value ≡ n
   pub size : amount.size ≡ digits
   pub above : least ≤ n
-  pub within : n ≤ 255
+  pub within : n ≤ LARGEST_AMOUNT
 
 -- the occurrence of these fields with this stamp
 abbrev pub occ_with : Front → ℕ → Occ
@@ -99,7 +100,7 @@ pub record IsStamp (t : List ℕ) (stamp : Field) : Type 0 where
   pub few : stamp.size ≤ LONGEST_STAMP
   pub within : 1 + stamp.size < length t
   pub space : slice_index t 0 ≡ 32
-  pub value : decimal_in 0 4294967294 (piece 1 stamp.size t) ≡ Some stamp.value
+  pub value : decimal_in 0 LAST_STAMP (piece 1 stamp.size t) ≡ Some stamp.value
   pub inner : IsInner (piece 1 stamp.size t)
 
 -- the line whose fields end at this place has this length: a carriage return may stand after them, and then comes the newline

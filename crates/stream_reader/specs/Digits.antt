@@ -4,6 +4,7 @@ use Rattle.std.specs.Char.{digit_value}
 use Rattle.std.specs.List.{list_all}
 use Rattle.std.specs.Str.Parse.{digits_value}
 use Rattle.papi_base.specs.Numerals.{is_hex_digit}
+use Rattle.stream_reader.specs.declared.limits.TheConstants.{MOST_HEX_DIGITS}
 use Rattle.stream_reader.specs.declared.field.Field.{Field}
 
 -- the value of a digit, and not that of another byte
@@ -33,6 +34,6 @@ piece place size t = take size (drop place t)
 
 -- at most sixteen hexadecimal digits from a place on, and their number
 pub record IsHexadecimal (t : List ℕ) (place : ℕ) (f : Field) : Type 0 where
-  pub few : f.size ≤ 16
+  pub few : f.size ≤ MOST_HEX_DIGITS
   pub each : list_all is_hex_digit (piece place f.size t) ≡ true
   pub value : f.value ≡ digits_value 16 (piece place f.size t)

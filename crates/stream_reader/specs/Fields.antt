@@ -4,6 +4,7 @@ use Rattle.std.specs.Char.{digit_value}
 use Rattle.papi_base.specs.Numerals.{decimal_in, hex_in, is_digit, is_hex_digit}
 use Rattle.stream_reader.specs.Judged.{given, mode_of}
 use Rattle.papi_base.specs.declared.occurrence.Occ.{Occ}
+use Rattle.papi_base.specs.declared.limits.TheConstants.{LARGEST_AMOUNT, LAST_STAMP, MOST_COMPONENTS}
 use Rattle.stream_reader.specs.declared.occurrence.Event.{Event}
 use Rattle.stream_reader.specs.declared.occurrence.Tail.{Tail}
 
@@ -43,12 +44,12 @@ ends_with (Some t) x = None
 -- the stamp after the program counter
 abbrev pub stamp_after : Bool → ℕ → Option (List ℕ) → Option ℕ
 stamp_after stamped count more =
-    if stamped then given more (λ t. given (decimal_in 0 4294967294 (first_field t)) (ends_with (after_field t))) else ends_with more count
+    if stamped then given more (λ t. given (decimal_in 0 LAST_STAMP (first_field t)) (ends_with (after_field t))) else ends_with more count
 
 -- the last fields of an occurrence: amount, program counter and stamp
 unfoldable pub tail_on : Bool → ℕ → List ℕ → Option Tail
 tail_on stamped count t =
-    given (decimal_in 1 255 (first_field t)) (λ amount.
+    given (decimal_in 1 LARGEST_AMOUNT (first_field t)) (λ amount.
     given (after_field t) (λ u.
     given (hex_in 1 16 (first_field u)) (λ pc.
     given (stamp_after stamped count (after_field u)) (λ stamp.
@@ -65,7 +66,7 @@ event_occurrence_on stamped count event w =
 -- the fields of an occurrence
 unfoldable pub occurrence_on : Bool → ℕ → List ℕ → Option Occ
 occurrence_on stamped count t =
-    given (decimal_in 0 15 (first_field t)) (λ comp.
+    given (decimal_in 0 (MOST_COMPONENTS - 1) (first_field t)) (λ comp.
     given (after_field t) (λ u.
     given (hex_in 2 2 (first_field u)) (λ select.
     given (after_field u) (λ v.

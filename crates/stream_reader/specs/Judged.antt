@@ -1,11 +1,12 @@
 -- What one line of a stream says: this project's own stream format, docs/FORMATS.md.
-use Rattle.std.specs.Prelude.{◌==◌, ◌+◌, ◌&&◌, ℕ, Bool, true, false, List, [], ◌∷◌, length, slice_get, unwrap_or, Option, Some, None}
+use Rattle.std.specs.Prelude.{◌-◌, ◌==◌, ◌+◌, ◌&&◌, ℕ, Bool, true, false, List, [], ◌∷◌, length, slice_get, unwrap_or, Option, Some, None}
 use Rattle.std.specs.Prelude.{if◌then◌else◌, nat_lt, codes, bytes_eq}
 use Rattle.std.specs.List.{slice_split}
 use Rattle.std.specs.Option.{option_map_or}
 use Rattle.papi_base.specs.Numerals.{decimal_in, flag_bit, hex_in}
 use Rattle.papi_base.specs.declared.occurrence.Occ.{Occ}
 use Rattle.papi_base.specs.declared.occurrence.LineCause.TheVariants as cause
+use Rattle.papi_base.specs.declared.limits.TheConstants.{LARGEST_AMOUNT, LAST_STAMP, MOST_COMPONENTS}
 use Rattle.stream_reader.specs.declared.limits.TheConstants.{LARGEST_STREAM, LONGEST_LINE}
 use Rattle.stream_reader.specs.declared.line.LineStart.{LineStart}
 use Rattle.stream_reader.specs.declared.line.Judgement.{Judgement}
@@ -42,16 +43,16 @@ field fields i = unwrap_or (slice_get fields i) []
 
 -- the stamp: in version 2 the seventh field, in version 1 the number of occurrences before
 abbrev pub stamp_of : Bool → ℕ → List (List ℕ) → Option ℕ
-stamp_of stamped count fields = if stamped then decimal_in 0 4294967294 (field fields 6) else Some count
+stamp_of stamped count fields = if stamped then decimal_in 0 LAST_STAMP (field fields 6) else Some count
 
 -- the occurrence that some fields write
 unfoldable pub occ_of : Bool → ℕ → List (List ℕ) → Option Occ
 occ_of stamped count fields =
-    given (decimal_in 0 15 (field fields 0)) (λ comp.
+    given (decimal_in 0 (MOST_COMPONENTS - 1) (field fields 0)) (λ comp.
     given (hex_in 2 2 (field fields 1)) (λ select.
     given (hex_in 2 2 (field fields 2)) (λ umask.
     given (mode_of (field fields 3)) (λ kernel.
-    given (decimal_in 1 255 (field fields 4)) (λ amount.
+    given (decimal_in 1 LARGEST_AMOUNT (field fields 4)) (λ amount.
     given (hex_in 1 16 (field fields 5)) (λ pc.
     given (stamp_of stamped count fields) (λ stamp.
     Some (record { comp = comp; select = select; umask = umask; kernel = kernel; amount = amount; pc = pc; stamp = stamp }))))))))

@@ -5,6 +5,7 @@ use Rattle.papi_base.specs.Streams.{Mark, Dry, Bad, Fault, Coming}
 use Rattle.papi_base.specs.declared.outside.Ending.{Ending}
 use Rattle.papi_base.specs.declared.outside.Ending.TheVariants as ending
 use Rattle.papi_base.specs.declared.occurrence.Occ.{Occ}
+use Rattle.papi_base.specs.declared.limits.TheConstants.{LAST_STAMP}
 use Rattle.stream_reader.specs.declared.line.LineStart.{LineStart}
 use Rattle.stream_reader.specs.declared.line.Judgement.{Judgement}
 use Rattle.stream_reader.specs.declared.line.Judgement.TheVariants as judgement
@@ -63,7 +64,7 @@ occurs_of e bytes = occurs_on e first_start bytes
 -- the stamps rise strictly, from above the last one, and are in range
 unfoldable pub Rise : Option ℕ → List Occ → Type 0
 Rise last [] = ⊤
-Rise last (o ∷ rest) = (is_above last o.stamp ≡ true) × (o.stamp ≤ 4294967294) × Rise (Some o.stamp) rest
+Rise last (o ∷ rest) = (is_above last o.stamp ≡ true) × (o.stamp ≤ LAST_STAMP) × Rise (Some o.stamp) rest
 
 -- what is so where a line begins: occurrences take 13 bytes each, and those of version 1 are numbered
 pub record IsStart (start : LineStart) : Type 0 where

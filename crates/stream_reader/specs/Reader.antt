@@ -1,12 +1,12 @@
 -- What contracts see of a reader, and what it gives next: this project's own stream format, docs/FORMATS.md.
-use Rattle.std.specs.Prelude.{◌≡◌, ◌≤◌, ◌+◌, ◌++◌, ◌⊎◌, ℕ, Bool, true, false, List, [], ◌∷◌, length, Option, Some, None, IfSome, if◌then◌else◌}
+use Rattle.std.specs.Prelude.{◌-◌, ◌≡◌, ◌≤◌, ◌+◌, ◌++◌, ◌⊎◌, ℕ, Bool, true, false, List, [], ◌∷◌, length, Option, Some, None, IfSome, if◌then◌else◌}
 use Rattle.std.specs.Option.{option_map, option_map_or, option_and_then}
 use Rattle.papi_base.specs.Streams.{Mark, Dry, Bad, Fault, Coming}
 use Rattle.papi_base.specs.Outside.{Tape}
 use Rattle.papi_base.specs.declared.outside.Ending.{Ending}
 use Rattle.papi_base.specs.declared.outside.Ending.TheVariants as ending
 use Rattle.papi_base.specs.declared.occurrence.Occ.{Occ}
-use Rattle.papi_base.specs.declared.limits.TheConstants.{MOST_OCCURRENCES}
+use Rattle.papi_base.specs.declared.limits.TheConstants.{LARGEST_AMOUNT, LAST_STAMP, MOST_COMPONENTS, MOST_OCCURRENCES}
 use Rattle.stream_reader.specs.declared.limits.TheConstants.{READER_BYTES}
 use Rattle.stream_reader.specs.declared.line.LineStart.{LineStart}
 use Rattle.stream_reader.specs.declared.line.Judgement.{Judgement}
@@ -133,10 +133,10 @@ has_answer v = if v.over then true else answers_from v.start (tape_lines ending.
 -- an occurrence that was given between these two places of the stream
 pub record GaveOne (start : LineStart) (o : Occ) (later : LineStart) : Type 0 where
   pub above : is_above start.last o.stamp ≡ true
-  pub stamp : o.stamp ≤ 4294967294
+  pub stamp : o.stamp ≤ LAST_STAMP
   pub least : 1 ≤ o.amount
-  pub greatest : o.amount ≤ 255
-  pub comp : o.comp ≤ 15
+  pub greatest : o.amount ≤ LARGEST_AMOUNT
+  pub comp : o.comp ≤ MOST_COMPONENTS - 1
   pub last : later.last ≡ Some o.stamp
   pub given : later.given ≡ start.given + 1
 

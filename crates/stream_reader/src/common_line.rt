@@ -8,7 +8,7 @@ use crate::byte_tables::{decimal_or_256, digit_or_256, mode_or_256};
 use crate::digit_vector::hexadecimal_at;
 use crate::field::{Field, has_form};
 use crate::line::LineStart;
-use papi_base::Occ;
+use papi_base::{LARGEST_AMOUNT, LAST_STAMP, Occ};
 
 /// An occurrence, and the length of its line without the newline.
 #[derive(Clone, Copy)]
@@ -124,12 +124,12 @@ fn read_head(text: &[u8]) -> Option<Head>
     })
 }
 
-// The amount of this value and length, unless it is above 255. It is below the least number of its length if its first digit is 0.
+// The amount of this value and length, unless it is above [`LARGEST_AMOUNT`]. It is below the least number of its length if its first digit is 0.
 #[inline(always)]
 fn amount_of(value: u32, size: usize, least: u32) -> Option<Field>
     ensures { IfSome result (λ amount. IsAmountOf value size least amount) }
 {
-    if value < least || value > 255 {
+    if value < least || value > LARGEST_AMOUNT as u32 {
         return None;
     }
     Some(Field {
@@ -231,7 +231,7 @@ fn read_stamp(text: &[u8]) -> Option<Field>
     if !has_form(digits, stamp.size) {
         return None;
     }
-    if stamp.value > 4_294_967_294 {
+    if stamp.value > LAST_STAMP as u64 {
         return None;
     }
     Some(stamp)

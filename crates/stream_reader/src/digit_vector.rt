@@ -1,6 +1,7 @@
 //! Hexadecimal digits, sixteen at a time: the bytes are the lanes of a vector, the first byte the first lane.
 ghost use Rattle.std.specs.Prelude.{◌≡◌, ◌≤◌, ◌+◌, ◌%◌, length, map};
 ghost use Rattle.std.specs.List.{prefix_len};
+ghost use Rattle.stream_reader.specs.declared.limits.TheConstants.{MOST_HEX_DIGITS};
 ghost use Rattle.stream_reader.specs.Digits.{HaveValues, IsHexadecimal, is_value, number_after};
 
 use crate::field::Field;
@@ -25,7 +26,7 @@ fn digits_or_more(bytes: u8x16) -> u8x16
 #[inline(always)]
 fn leading_digits(values: u8x16) -> usize
     ensures value { result ≡ prefix_len is_value values }
-    ensures most { result ≤ 16 }
+    ensures most { result ≤ MOST_HEX_DIGITS }
 {
     let others = values.simd_ge(u8x16::splat(16)).to_bitmask();
     if others == 0 {
@@ -49,7 +50,7 @@ fn joined(values: u8x16) -> u64
 /// The number of the hexadecimal digits from this place on, at most sixteen, and how many they are.
 #[inline(always)]
 pub(crate) fn hexadecimal_at(text: &[u8], place: usize) -> Field
-    requires { place + 16 ≤ length text.now }
+    requires { place + MOST_HEX_DIGITS ≤ length text.now }
     ensures { IsHexadecimal text.now place result }
 {
     let values = digits_or_more(u8x16::from_slice(&text[place..]));

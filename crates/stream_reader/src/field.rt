@@ -3,6 +3,7 @@ ghost use Rattle.std.specs.Prelude.{◌≡◌, ◌<◌, ◌≤◌, ◌^◌, leng
 ghost use Rattle.std.specs.Char.{digit_value};
 ghost use Rattle.std.specs.Option.{option_map, option_copied};
 ghost use Rattle.papi_base.specs.Numerals.{decimal_in, hex_in, is_hex_digit};
+ghost use Rattle.stream_reader.specs.declared.limits.TheConstants.{MOST_HEX_DIGITS};
 ghost use Rattle.stream_reader.specs.Judged.{mode_of};
 ghost use Rattle.stream_reader.specs.Fields.{first_field, after_field, digits_on, has_form, hex_on, is_one_byte};
 
@@ -54,7 +55,8 @@ pub(crate) fn has_form(text: &[u8], size: usize) -> bool
 #[inline(always)]
 pub(crate) fn decimal(text: &[u8], least: u64, greatest: u64) -> Option<Field>
     requires { greatest < 2 ^ 32 }
-    ensures value { option_map (λ f. f.value) result ≡ decimal_in least greatest (first_field text.now) }
+    ensures value { option_map (λ f. f.value) result
+        ≡ decimal_in least greatest (first_field text.now) }
     ensures size { IfSome result (λ f. f.size ≡ length (first_field text.now)) }
     ensures most { IfSome result (λ f. f.value ≤ greatest) }
 {
@@ -84,7 +86,7 @@ fn hex_digit(byte: u8) -> Option<u64>
 /// The number of hexadecimal digits, at least `few` and at most `many`.
 #[inline(always)]
 pub(crate) fn hexadecimal(text: &[u8], few: usize, many: usize) -> Option<Field>
-    requires { many ≤ 16 }
+    requires { many ≤ MOST_HEX_DIGITS }
     ensures value { option_map (λ f. f.value) result ≡ hex_in few many (first_field text.now) }
     ensures size { IfSome result (λ f. f.size ≡ length (first_field text.now)) }
     ensures most { IfSome result (λ f. (f.value < 16 ^ f.size) × (few ≤ f.size) × (f.size ≤ many)) }

@@ -11,3 +11,6 @@ pub const PIECE: usize = 4096;
 
 /// How many bytes a reader keeps: a piece, and before it what is left of the line that the last piece cut.
 pub const READER_BYTES: usize = LONGEST_LINE + PIECE;
+
+/// How many hexadecimal digits a number of 64 bits has at most.
+pub const MOST_HEX_DIGITS: usize = 16;

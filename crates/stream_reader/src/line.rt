@@ -64,7 +64,8 @@ fn number_of_fields(text: &[u8]) -> usize
 // Why a line that is not skipped writes no occurrence.
 #[cold]
 fn cause_of(start: &LineStart, text: &[u8]) -> LineCause
-    ensures { result ≡ (if has_fields start.now.stamped (fields_of text.now) then cause.Field else cause.Fields) }
+    ensures { result ≡ (if has_fields start.now.stamped (fields_of text.now) then cause.Field
+        else cause.Fields) }
 {
     let wanted = if start.stamped { 7 } else { 6 };
     if number_of_fields(text) == wanted {
@@ -158,7 +159,8 @@ impl LineStart {
         requires passed { self.old.passed < 2 ^ 32 }
         requires given { self.old.given < 2 ^ 32 }
         requires size { size ≤ READER_BYTES }
-        ensures { (line : Line) → length line.bytes ≡ size → line.ended ≡ ended → self.new ≡ after self.old line judgement.now }
+        ensures { (line : Line) → length line.bytes ≡ size → line.ended ≡ ended
+            → self.new ≡ after self.old line judgement.now }
     {
         self.number += 1;
         self.passed += size as u64 + u64::from(ended);

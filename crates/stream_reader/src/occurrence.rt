@@ -26,7 +26,8 @@ pub(crate) struct Event {
 // The stamp, where this is what comes after the program counter's space, if there is one.
 #[inline(always)]
 fn stamp_after(start: &LineStart, rest: Option<&[u8]>) -> Option<u64>
-    ensures { result ≡ stamp_after start.now.stamped start.now.given (option_map (λ text. text.now) rest.entry) }
+    ensures { result ≡ stamp_after start.now.stamped start.now.given
+        (option_map (λ text. text.now) rest.entry) }
 {
     if !start.stamped {
         return match rest {

@@ -65,11 +65,15 @@ fn answer_of(number: u64, judgement: &Judgement) -> Option<Next>
 // Asks the source for a piece. A reader with no source is at the end of it.
 fn read_piece<S: Source>(source: &mut Option<S>, piece: &mut [u8]) -> Result<usize, Failed>
     ensures bound { IfOk result (λ n. n ≤ length piece.new) }
-    ensures tape { option_and_then S.tape source.new ≡ tape_after result (option_and_then S.tape source.old) }
-    ensures gives { IfSome (option_and_then S.tape source.old) (λ tape. Gives tape result piece.new) }
+    ensures tape { option_and_then S.tape source.new
+        ≡ tape_after result (option_and_then S.tape source.old) }
+    ensures gives { IfSome (option_and_then S.tape source.old)
+        (λ tape. Gives tape result piece.new) }
     ensures kept { is_some source.new ≡ is_some source.old }
-    ensures falls_never { option_map_or S.faults source.old 0 ≤ option_map_or S.faults source.new 0 }
-    ensures failed { OnErr result (Rose (option_map_or S.faults source.old 0) (option_map_or S.faults source.new 0)) }
+    ensures falls_never { option_map_or S.faults source.old 0
+        ≤ option_map_or S.faults source.new 0 }
+    ensures failed { OnErr result
+        (Rose (option_map_or S.faults source.old 0) (option_map_or S.faults source.new 0)) }
 {
     match source {
         Some(source) => source.read(piece),
@@ -82,7 +86,8 @@ fn move_rest(bytes: &mut [u8; READER_BYTES], from: usize, to: usize)
     requires in_order { from ≤ to }
     requires within { to ≤ READER_BYTES }
     requires short { to - from ≤ LONGEST_LINE }
-    ensures { take LONGEST_LINE bytes.new ≡ take (LONGEST_LINE - (to - from)) bytes.old ++ take (to - from) (drop from bytes.old) }
+    ensures { take LONGEST_LINE bytes.new ≡ take (LONGEST_LINE - (to - from)) bytes.old
+        ++ take (to - from) (drop from bytes.old) }
 {
     bytes.copy_within(from..to, LONGEST_LINE - (to - from));
 }
@@ -92,11 +97,15 @@ fn fill<S: Source>(source: &mut Option<S>, bytes: &mut [u8; READER_BYTES]) -> Re
     ensures room { length bytes.new ≡ READER_BYTES }
     ensures front { take LONGEST_LINE bytes.new ≡ take LONGEST_LINE bytes.old }
     ensures bound { IfOk result (λ n. n ≤ PIECE) }
-    ensures tape { option_and_then S.tape source.new ≡ tape_after result (option_and_then S.tape source.old) }
-    ensures gives { IfSome (option_and_then S.tape source.old) (λ tape. Gives tape result (drop LONGEST_LINE bytes.new)) }
+    ensures tape { option_and_then S.tape source.new
+        ≡ tape_after result (option_and_then S.tape source.old) }
+    ensures gives { IfSome (option_and_then S.tape source.old)
+        (λ tape. Gives tape result (drop LONGEST_LINE bytes.new)) }
     ensures kept { is_some source.new ≡ is_some source.old }
-    ensures falls_never { option_map_or S.faults source.old 0 ≤ option_map_or S.faults source.new 0 }
-    ensures failed { OnErr result (Rose (option_map_or S.faults source.old 0) (option_map_or S.faults source.new 0)) }
+    ensures falls_never { option_map_or S.faults source.old 0
+        ≤ option_map_or S.faults source.new 0 }
+    ensures failed { OnErr result
+        (Rose (option_map_or S.faults source.old 0) (option_map_or S.faults source.new 0)) }
 {
     read_piece(source, &mut bytes[LONGEST_LINE..])
 }
@@ -113,8 +122,10 @@ impl<S: Source> StreamReader<S> {
 
     /// A reader of a stream from its first line on.
     pub fn new(source: S) -> StreamReader<S>
-        ensures view { result ≡ new_view (Some (record { tape = S.tape source; faults = S.faults source })) false }
-        ensures coming { coming result ≡ option_map (λ tape. occurs_of tape.ending tape.bytes) (S.tape source) }
+        ensures view { result ≡ new_view
+            (Some (record { tape = S.tape source; faults = S.faults source })) false }
+        ensures coming { coming result
+            ≡ option_map (λ tape. occurs_of tape.ending tape.bytes) (S.tape source) }
     {
         StreamReader::with(Some(source), false)
     }
@@ -128,7 +139,8 @@ impl<S: Source> StreamReader<S> {
     }
 
     fn with(source: Option<S>, over: bool) -> StreamReader<S>
-        ensures { result ≡ new_view (option_map (λ s. record { tape = S.tape s; faults = S.faults s }) source) over }
+        ensures { result ≡ new_view
+            (option_map (λ s. record { tape = S.tape s; faults = S.faults s }) source) over }
     {
         StreamReader {
             source,
@@ -143,7 +155,8 @@ impl<S: Source> StreamReader<S> {
 
     /// The source as the reader left it, or `None` from a reader made by `ended`.
     pub fn into_source(self) -> Option<S>
-        ensures { option_map (λ s. record { tape = S.tape s; faults = S.faults s }) result ≡ self.source }
+        ensures { option_map (λ s. record { tape = S.tape s; faults = S.faults s }) result
+            ≡ self.source }
     {
         self.source
     }
@@ -165,8 +178,10 @@ impl<S: Source> StreamReader<S> {
         requires within { size + flag_bit ended ≤ length self.old.held }
         requires some { 0 < size + flag_bit ended }
         requires judged { judgement.now ≡ judged self.old.start (line_at self.old size ended) }
-        ensures answer { result ≡ answer_of self.old.start.number (judged self.old.start (line_at self.old size ended)) }
-        ensures after { self.new ≡ line_taken self.old size ended (judged self.old.start (line_at self.old size ended)) }
+        ensures answer { result ≡ answer_of self.old.start.number
+            (judged self.old.start (line_at self.old size ended)) }
+        ensures after { self.new
+            ≡ line_taken self.old size ended (judged self.old.start (line_at self.old size ended)) }
         ensures counts { Gave self.old.start result self.new.start }
         ensures nearer { IfNone result (left_of self.new < left_of self.old) }
         ensures within { IsWithin self.new }
@@ -187,8 +202,10 @@ impl<S: Source> StreamReader<S> {
         requires over { self.old.over ≡ false }
         requires within { size + flag_bit ended ≤ length self.old.held }
         requires some { 0 < size + flag_bit ended }
-        ensures answer { result ≡ answer_of self.old.start.number (judged self.old.start (line_at self.old size ended)) }
-        ensures after { self.new ≡ line_taken self.old size ended (judged self.old.start (line_at self.old size ended)) }
+        ensures answer { result ≡ answer_of self.old.start.number
+            (judged self.old.start (line_at self.old size ended)) }
+        ensures after { self.new
+            ≡ line_taken self.old size ended (judged self.old.start (line_at self.old size ended)) }
         ensures counts { Gave self.old.start result self.new.start }
         ensures nearer { IfNone result (left_of self.new < left_of self.old) }
         ensures within { IsWithin self.new }
@@ -262,7 +279,8 @@ impl<S: Source> StreamReader<S> {
     fn take_last(&mut self) -> Next
         requires over { self.old.over ≡ false }
         requires line { IsOneLine self.old.held }
-        requires ended { IfSome (tape_of self.old) (λ tape. (tape.bytes ≡ []) × (tape.ending ≡ End)) }
+        requires ended { IfSome (tape_of self.old)
+            (λ tape. (tape.bytes ≡ []) × (tape.ending ≡ End)) }
         ensures takes { Takes self.old result self.new }
         ensures counts { Gave self.old.start (Some result) self.new.start }
         ensures over { self.new.over ≡ true }
@@ -295,7 +313,8 @@ impl<S: Source> StreamReader<S> {
         ensures kept { is_some self.new.source ≡ is_some self.old.source }
         ensures within { IsWithin self.new }
         ensures faults { faults_of self.old ≤ faults_of self.new }
-        ensures failed { result ≡ Some Next.ReadFault → Rose (faults_of self.old) (faults_of self.new) }
+        ensures failed { result ≡ Some Next.ReadFault
+            → Rose (faults_of self.old) (faults_of self.new) }
         ensures nearer { IfNone result (left_of self.new < left_of self.old) }
     {
         match self.refill() {
@@ -320,8 +339,10 @@ impl<S: Source> StreamReader<S> {
         ensures kept { is_some self.new.source ≡ is_some self.old.source }
         ensures within { IsWithin self.new }
         ensures faults { faults_of self.old ≤ faults_of self.new }
-        ensures failed { result ≡ Some Next.ReadFault → Rose (faults_of self.old) (faults_of self.new) }
-        ensures at_hand { has_answer self.old ≡ true → (self.new.source ≡ self.old.source) × IfNone result (has_answer self.new ≡ true) }
+        ensures failed { result ≡ Some Next.ReadFault
+            → Rose (faults_of self.old) (faults_of self.new) }
+        ensures at_hand { has_answer self.old ≡ true → (self.new.source ≡ self.old.source)
+            × IfNone result (has_answer self.new ≡ true) }
         ensures nearer { IfNone result (left_of self.new < left_of self.old) }
     {
         if let Some(line) = self.common_line() {
@@ -352,7 +373,8 @@ impl<S: Source> StreamReader<S> {
 
         // It answers `End` for ever after `End`, a bad line or a fault.
         ensures over { is_last result ≡ true → self.new.over ≡ true }
-        ensures ended { self.old.over ≡ true → (result ≡ Next.End) × (self.new ≡ record self.old { asked = true }) }
+        ensures ended { self.old.over ≡ true → (result ≡ Next.End)
+            × (self.new ≡ record self.old { asked = true }) }
 
         // It takes nothing where a whole line is at hand that is not skipped.
         ensures at_hand { has_answer self.old ≡ true → self.new.source ≡ self.old.source }

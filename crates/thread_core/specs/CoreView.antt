@@ -1,6 +1,7 @@
 -- What contracts see of a core.
 use Rattle.std.specs.Prelude.{ℕ, Bool, false, List, map, replicate, Option, None}
 use Rattle.papi_base.specs.declared.occurrence.Occ.{Occ}
+use Rattle.papi_base.specs.declared.limits.TheConstants.{MOST_SETS}
 use Rattle.counter_unit.specs.Counting.{UnitView}
 use Rattle.event_sets.specs.AtRest.{Widths}
 use Rattle.thread_slots.specs.declared.slot.Slot.{Slot}
@@ -35,7 +36,7 @@ opening_core thread shape = record {
   thread = thread;
   registered = false;
   shape = shape;
-  slots = replicate 64 None;
+  slots = replicate MOST_SETS None;
   units = map empty_unit shape;
   taken = 0;
   last = None;

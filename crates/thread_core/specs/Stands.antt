@@ -1,6 +1,7 @@
 -- When a core stands for an account.
-use Rattle.std.specs.Prelude.{◌≤◌, ◌≡◌, [], ◌∷◌, ◌++◌, length, None}
+use Rattle.std.specs.Prelude.{◌+◌, ◌≤◌, ◌≡◌, [], ◌∷◌, ◌++◌, length, None}
 use Rattle.papi_base.specs.declared.occurrence.Occ.{Occ}
+use Rattle.papi_base.specs.declared.limits.TheConstants.{LAST_STAMP, MOST_OCCURRENCES, MOST_SETS}
 use Rattle.postfix_rules.specs.Presets.{Book}
 use Rattle.postfix_rules.specs.Fitting.{BookFits}
 use Rattle.session_model.specs.Account.{Account, last_after, time_after}
@@ -19,20 +20,20 @@ pub record CoreStands (book : Book) (core : CoreView) (a : Account) : Type 0 whe
   pub units : core.units ≡ units_of book core.shape a.past a.sets
   pub taken : core.taken ≡ length a.past
   pub last : core.last ≡ last_after None a.past
-  pub places : length a.sets ≡ 64
+  pub places : length a.sets ≡ MOST_SETS
   pub rises : Rises 0 a.past
   pub within : AllWithin (length a.past) a.sets
   pub apart : AreApart (faces_of a.sets)
   pub fit : AreFit book core.shape a.sets
   pub shape : IsShape core.shape
-  pub in_limits : core.taken ≤ 5200000
+  pub in_limits : core.taken ≤ MOST_OCCURRENCES
 
 -- The book fits the core's shape, and under it there is an account for which the core stands: its sets agree with this book.
 pub record AgreesWith (book : Book) (core : CoreView) : Type 0 where
   pub fits : BookFits core.shape book
   pub account : Account
   pub stands : CoreStands book core account
-  pub in_time : time_after core.last ≤ 4294967295
+  pub in_time : time_after core.last ≤ LAST_STAMP + 1
 
 -- so there is under some book
 pub record IsBacked (core : CoreView) : Type 0 where

@@ -2,6 +2,7 @@
 ghost use Rattle.std.specs.Prelude.{◌≡◌, ◌+◌, ◌<◌, ◌≤◌, [], IfOk, List, Some, map};
 ghost use Rattle.papi_base.specs.Streams.{Mark};
 ghost use Rattle.papi_base.specs.declared.occurrence.Occ.{Occ};
+ghost use Rattle.papi_base.specs.declared.limits.TheConstants.{LAST_STAMP, MOST_OCCURRENCES};
 ghost use Rattle.postfix_rules.specs.Fitting.{BookFits};
 ghost use Rattle.postfix_rules.specs.Presets.{Book};
 ghost use Rattle.session_model.specs.Account.{Account, opening, time_after};
@@ -11,7 +12,7 @@ ghost use Rattle.session_model.specs.Fitness.{IsShape};
 
 use crate::running::RunningSets;
 use counter_unit::Unit;
-use papi_base::{Occ, Shape};
+use papi_base::{MOST_COMPONENTS, Occ, Shape};
 use std::alloc::{AllocError, Global};
 use std::marker::Model;
 use thread_slots::{Slot, Taken, count_all, empty_places};
@@ -48,7 +49,7 @@ fn empty_units(alloc: Global, shape: &Shape) -> Result<Vec<Unit>, AllocError>
     ensures units { IfOk result (λ units. units.items ≡ map empty_unit shape.now) }
     ensures shape { IfOk result (λ units. IsShape shape.now) }
 {
-    let mut units = Vec::with_capacity(alloc, 16)?;
+    let mut units = Vec::with_capacity(alloc, MOST_COMPONENTS)?;
     for comp in 0..shape.comps() {
         units.push_reserved(Unit::new(shape.comp(comp)));
     }
@@ -89,7 +90,7 @@ impl Core {
 
     /// The time in ticks, which is one after the last occurrence and 0 before the first.
     pub(crate) fn time(&self) -> u64
-        requires { time_after self.now.last ≤ 4294967295 }
+        requires { time_after self.now.last ≤ LAST_STAMP + 1 }
         ensures { result ≡ time_after self.now.last }
     {
         match &self.last {
@@ -101,8 +102,8 @@ impl Core {
     /// Consumes one occurrence, and gives the events whose thresholds it passes.
     #[inline(always)]
     pub fn take(&mut self, o: &Occ) -> Taken
-        requires few { self.old.taken < 5200000 }
-        requires stamp { o.now.stamp ≤ 4294967294 }
+        requires few { self.old.taken < MOST_OCCURRENCES }
+        requires stamp { o.now.stamp ≤ LAST_STAMP }
         requires rises { time_after self.old.last ≤ o.now.stamp }
         ensures taken { self.new.taken ≡ self.old.taken + 1 }
         ensures last { self.new.last ≡ Some o.now }

@@ -2,6 +2,7 @@
 use Rattle.std.specs.Prelude.{◌≡◌, ◌≤◌, false}
 use Rattle.std.specs.Option.{option_map}
 use Rattle.papi_base.specs.declared.occurrence.Occ.{Occ}
+use Rattle.papi_base.specs.declared.limits.TheConstants.{MOST_OCCURRENCES}
 use Rattle.stream_reader.specs.Occurs.{first_start}
 use Rattle.stream_reader.specs.Reader.{ReaderView}
 use Rattle.thread_core.specs.CoreView.{CoreView}
@@ -19,5 +20,5 @@ pub record IsFresh (reader : ReaderView) : Type 0 where
 -- the core has taken what the reader has given
 pub record AreInStep (core : CoreView) (reader : ReaderView) : Type 0 where
   pub taken : core.taken ≡ reader.start.given
-  pub few : core.taken ≤ 5200000
+  pub few : core.taken ≤ MOST_OCCURRENCES
   pub last : option_map (λ (o : Occ). o.stamp) core.last ≡ reader.start.last

@@ -27,11 +27,11 @@ first_more first natives i m v at below here before h = record {
           | inr later ↦ omega arith
         ]
     | inr other ↦ elim (cases_lt j i) [
-        | inl earlier ↦ rw (get_or-set_other first (key_of m) (key_of n) v 0 other) (h.each j n e earlier)
-        | inr later ↦
-            let last : j ≡ i = omega arith in
-            absurd (other (ap key_of (same_some n m (sym e ∙ ap (slice_get natives) last ∙ at))))
-      ]
+      | inl earlier ↦ rw (get_or-set_other first (key_of m) (key_of n) v 0 other) (h.each j n e earlier)
+      | inr later ↦
+          let last : j ≡ i = omega arith in
+          absurd (other (ap key_of (same_some n m (sym e ∙ ap (slice_get natives) last ∙ at))))
+    ]
   ];
 }
 

@@ -8,6 +8,7 @@ use Rattle.papi_base.specs.declared.native.EventRef.{EventRef}
 use Rattle.papi_base.specs.declared.bits.Domain.{Domain}
 use Rattle.counter_unit.specs.declared.registers.Register.{Register}
 use Rattle.papi_base.specs.Widths.{AreWidths}
+use Rattle.papi_base.specs.declared.limits.TheConstants.{MOST_SET_EVENTS}
 use Rattle.counter_unit.specs.Counting.{IsThreshold, UnitView, register_at}
 use Rattle.postfix_rules.specs.Presets.{Book, lead}
 use Rattle.postfix_rules.specs.Sameness.{same_native}
@@ -44,7 +45,7 @@ armed_from book natives counters (e ∷ es) (t ∷ ts) = armed_event book native
 
 -- for each index up to 32 the counter that is watched, if one is
 abbrev pub armed_of : Book → AtRest → List (Option ℕ)
-armed_of book s = armed_from book (set_natives book s) (counters_for (set_natives book s)) s.events s.thresholds ++ replicate (32 - length s.events) None
+armed_of book s = armed_from book (set_natives book s) (counters_for (set_natives book s)) s.events s.thresholds ++ replicate (MOST_SET_EVENTS - length s.events) None
 
 -- the register of each pin's count, put on its counter
 abbrev pub programs : List ℕ → Domain → (Native → ℕ) → List Pin → List (Option Register) → List (Option Register)

@@ -4,6 +4,7 @@ use Rattle.std.specs.Prelude.{List, [], ◌∷◌, length, map, slice_get, slice
 use Rattle.std.specs.Option.{option_and_then}
 use Rattle.std.specs.List.{position_or_len}
 use Rattle.papi_base.specs.declared.native.Native.{Native}
+use Rattle.papi_base.specs.declared.limits.TheConstants.{LARGEST_AMOUNT}
 use Rattle.counter_unit.specs.Counting.{UnitView, count_on}
 use Rattle.multiplex.specs.Rotations.{RotationView}
 use Rattle.multiplex.specs.Turns.{Turns, active, estimate}
@@ -54,7 +55,7 @@ pub record IsInTurns (time : ℕ) (r : RotationView) (begun : ℕ) (kept : List 
   pub began : begun ≤ time
   pub short : time < 2 ^ 32
   pub same_length : length kept ≡ length r.numbers
-  pub counts : (k : ℕ) → k < length kept → slice_index kept k ≤ 255 * active r.turns (slice_index r.numbers k) (time - begun)
+  pub counts : (k : ℕ) → k < length kept → slice_index kept k ≤ LARGEST_AMOUNT * active r.turns (slice_index r.numbers k) (time - begun)
 
 -- the numbers of the set can be told
 pub record IsMeasurable (units : List UnitView) (slot : Slot) (time : ℕ) : Type 0 where

@@ -9,6 +9,7 @@ use Rattle.postfix_rules.specs.Presets.{Book}
 use Rattle.thread_slots.specs.declared.slot.Counting.TheVariants as counting
 use Rattle.thread_slots.specs.declared.slot.Slot.{Slot}
 use Rattle.papi_base.specs.Widths.{AreWidths}
+use Rattle.papi_base.specs.declared.limits.TheConstants.{MOST_COUNTERS, MOST_SET_EVENTS}
 use Rattle.event_sets.specs.Assigning.{counters_for}
 use Rattle.event_sets.specs.AtRest.{set_natives}
 use Rattle.thread_slots.specs.Pinned.{ArePinned, armed_of, pins_of, place_of_lead, programs}
@@ -36,19 +37,19 @@ begun book now unit slot = begun_by book now unit slot slot.set.rest.slice
 
 -- each event with a threshold has a counter that can be watched
 pub record IsArmable (book : Book) (natives : List Native) (counters : List ℕ) (events : List EventRef) (thresholds : List ℕ) : Type 0 where
-  pub few_events : length events ≤ 32
+  pub few_events : length events ≤ MOST_SET_EVENTS
   pub one_each : length thresholds ≡ length events
   pub exist : (k t : ℕ) (e : EventRef) → slice_get events k ≡ Some e → slice_get thresholds k ≡ Some (suc t)
       → place_of_lead book natives e < length counters
   pub small : (k t : ℕ) (e : EventRef) → slice_get events k ≡ Some e → slice_get thresholds k ≡ Some (suc t)
-      → slice_index counters (place_of_lead book natives e) < 32
+      → slice_index counters (place_of_lead book natives e) < MOST_COUNTERS
 
 -- the set can start on the unit
 pub record IsStartable (book : Book) (unit : UnitView) (slot : Slot) : Type 0 where
   pub natives : slot.set.natives ≡ set_natives book slot.set.rest
   pub counters : slot.set.counters ≡ length unit.widths
   pub some : 0 < length slot.set.natives
-  pub few : length unit.widths ≤ 32
+  pub few : length unit.widths ≤ MOST_COUNTERS
   pub widths : AreWidths unit.widths
   pub placed : slot.set.rest.slice ≡ None → length (counters_for (set_natives book slot.set.rest)) ≡ length (set_natives book slot.set.rest)
   pub pinned : slot.set.rest.slice ≡ None → ArePinned unit.widths (pins_of book slot.set.rest)

@@ -2,6 +2,7 @@
 ghost use Rattle.std.specs.Prelude.{◌≡◌, ℕ, ◌^◌, ◌<◌, ◌==◌, if◌then◌else◌, map, length, All, None, Some};
 ghost use Rattle.std.specs.Option.{option_copied, option_map};
 ghost use Rattle.papi_base.specs.Weight.{weight_of};
+ghost use Rattle.papi_base.specs.declared.limits.TheConstants.{MOST_SETS};
 ghost use Rattle.thread_slots.specs.declared.slot.Slot.{Slot};
 ghost use Rattle.thread_slots.specs.Countable.{AreCountable, IsCountable};
 ghost use Rattle.thread_slots.specs.Counted.{counted_all, counted_place, with_turn};
@@ -118,23 +119,19 @@ pub fn count_all(
     o: &Occ,
     runner: Option<u32>,
 ) -> Taken
-    requires places { length slots.old.items ≡ 64 }
+    requires places { length slots.old.items ≡ MOST_SETS }
     requires runner { let faces = map (option_map face_of_slot) slots.old.items
         in runner ≡ owner_from o.now.comp 0 faces }
     requires countable { (k : ℕ)
         → owner_from o.now.comp 0 (map (option_map face_of_slot) slots.old.items) ≡ Some k
         → AreCountable units.old.items slots.old.items o.now.comp k }
-    ensures units {
-        let after = counted_all (option_copied before.entry) o.now units.old.items slots.old.items
+    ensures units { let after = counted_all (option_copied before.entry) o.now units.old.items slots.old.items
         in units.new.items ≡ after.units }
-    ensures slots {
-        let after = counted_all (option_copied before.entry) o.now units.old.items slots.old.items
+    ensures slots { let after = counted_all (option_copied before.entry) o.now units.old.items slots.old.items
         in slots.new.items ≡ after.slots }
-    ensures set {
-        let after = counted_all (option_copied before.entry) o.now units.old.items slots.old.items
+    ensures set { let after = counted_all (option_copied before.entry) o.now units.old.items slots.old.items
         in result.set ≡ after.set }
-    ensures passed {
-        let after = counted_all (option_copied before.entry) o.now units.old.items slots.old.items
+    ensures passed { let after = counted_all (option_copied before.entry) o.now units.old.items slots.old.items
         in result.passed ≡ after.passed }
 {
     let comp = u32::from(o.comp);

@@ -1,5 +1,6 @@
 //! What each native event of a set counted, or is estimated to have.
 ghost use Rattle.std.specs.Prelude.{◌≡◌, ℕ, ◌*◌, ◌^◌, ◌<◌, ◌≤◌, length, slice_index};
+ghost use Rattle.papi_base.specs.declared.limits.TheConstants.{LARGEST_AMOUNT};
 ghost use Rattle.multiplex.specs.Turns.{active};
 ghost use Rattle.thread_slots.specs.Pinned.{ArePinned};
 ghost use Rattle.thread_slots.specs.Shown.{IsMeasurable, numbers_shown, pin_numbers, turn_numbers};
@@ -26,7 +27,7 @@ fn numbers_on_unit(unit: &Unit, pins: &Pins) -> Counts
 fn numbers_in_turns(rotation: &Rotation, total: u64, counts: &Counts) -> Counts
     requires same_length { length counts.now ≡ length rotation.now.numbers }
     requires total { total < 2 ^ 32 }
-    requires counts { (k : ℕ) → k < length counts.now → slice_index counts.now k ≤ 255 * active rotation.now.turns (slice_index rotation.now.numbers k) total }
+    requires counts { (k : ℕ) → k < length counts.now → slice_index counts.now k ≤ LARGEST_AMOUNT * active rotation.now.turns (slice_index rotation.now.numbers k) total }
     ensures { result ≡ turn_numbers rotation.now.turns total rotation.now.numbers counts.now }
 {
     let mut numbers = Counts::new();

@@ -1,7 +1,8 @@
 //! Native events on counters.
 ghost use Rattle.std.specs.Prelude.{◌≡◌, ◌+◌, ◌<◌, ◌≤◌, [], ◌∷◌, ◌++◌, length, slice_get, Some};
+ghost use Rattle.papi_base.specs.declared.limits.TheConstants.{MOST_SET_NATIVES};
 
-use papi_base::{Mods, Native};
+use papi_base::{MOST_SET_NATIVES, Mods, Native};
 use std::marker::Model;
 
 /// A native event on its counter, with the threshold that an event of the set has on it, or 0 for none.
@@ -12,22 +13,23 @@ pub struct Pin {
     pub threshold: u64,
 }
 
-/// At most 32 pins. Contracts see the list of them.
+/// At most [`MOST_SET_NATIVES`] pins. Contracts see the list of them.
 #[derive(Drop)]
 pub struct Pins {
-    items: [Pin; 32],
+    items: [Pin; MOST_SET_NATIVES],
     count: u32,
 }
 
 impl Model for Pins {
     ghost use Rattle.std.specs.Prelude.{List, take, length, ◌≤◌, ◌≡◌};
+    ghost use Rattle.papi_base.specs.declared.limits.TheConstants.{MOST_SET_NATIVES};
     ghost use Rattle.thread_slots.specs.declared.pins.Pin.{Pin};
 
     ghost Value = { List Pin };
 
     ghost view = { λ s. take s.count s.items };
 
-    ghost invariant = { λ s. (s.count ≤ 32) × (length s.items ≡ 32) };
+    ghost invariant = { λ s. (s.count ≤ MOST_SET_NATIVES) × (length s.items ≡ MOST_SET_NATIVES) };
 }
 
 impl Pins {
@@ -55,7 +57,7 @@ impl Pins {
                 native,
                 counter: 0,
                 threshold: 0,
-            }; 32],
+            }; MOST_SET_NATIVES],
             count: 0,
         }
     }
@@ -63,7 +65,7 @@ impl Pins {
     /// How many there are.
     pub fn len(&self) -> u32
         ensures length { result ≡ length self.now }
-        ensures short { length self.now ≤ 32 }
+        ensures short { length self.now ≤ MOST_SET_NATIVES }
     {
         self.count
     }
@@ -78,7 +80,7 @@ impl Pins {
 
     /// One pin more.
     pub fn push(&mut self, pin: Pin)
-        requires { length self.old < 32 }
+        requires { length self.old < MOST_SET_NATIVES }
         ensures { self.new ≡ self.old ++ pin ∷ [] }
     {
         self.items[self.count as usize] = pin;

@@ -3,15 +3,16 @@ ghost use Rattle.std.specs.Prelude.{◌≡◌, ◌+◌, ◌≤◌, ◌<◌, drop
 ghost use Rattle.std.specs.List.{position_or_len};
 ghost use Rattle.postfix_rules.specs.Sameness.{same_native};
 ghost use Rattle.thread_slots.specs.FirstPlaces.{AreFirst, key_of};
+ghost use Rattle.thread_slots.specs.declared.places.TheConstants.{KEYS};
 
 use event_sets::is_same;
-use papi_base::{Native, Natives};
+use papi_base::{MOST_SET_NATIVES, Native, Natives};
 
 /// How many keys there are.
-const KEYS: u32 = 128;
+const KEYS: usize = 128;
 
 /// A place beyond each list of native events.
-const NOWHERE: u8 = 32;
+const NOWHERE: u8 = MOST_SET_NATIVES as u8;
 
 /// The place of a native event in the list from a place on, or the length of the list where it is not in it from there.
 #[inline(always)]
@@ -41,16 +42,16 @@ pub fn place_of(natives: &Natives, n: &Native) -> u32
 #[inline(always)]
 fn key_of(n: &Native) -> u32
     ensures value { result ≡ key_of n.now }
-    ensures below { result < 128 }
+    ensures below { result < KEYS }
 {
     let kernel = if n.mods.kernel { 37 } else { 0 };
-    (n.event % KEYS + u32::from(n.masks) % 37 + kernel) % KEYS
+    (n.event % KEYS as u32 + u32::from(n.masks) % 37 + kernel) % KEYS as u32
 }
 
 /// For each key the first place at which a native event of a list has it, so that one comparison mostly finds a place.
 #[derive(Drop)]
 pub(crate) struct FirstPlaces {
-    first: [u8; 128],
+    first: [u8; KEYS],
 }
 
 impl FirstPlaces {
@@ -58,7 +59,7 @@ impl FirstPlaces {
     pub(crate) fn of(natives: &Natives) -> FirstPlaces
         ensures { AreFirst result.first natives.now }
     {
-        let mut first = [NOWHERE; 128];
+        let mut first = [NOWHERE; KEYS];
         for i in 0..natives.len() {
             let key = key_of(&natives.at(i)) as usize;
             first[key] = first[key].min(i as u8);

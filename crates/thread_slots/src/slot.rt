@@ -1,5 +1,6 @@
 //! An event set under its number, and what is kept of it.
 ghost use Rattle.std.specs.Prelude.{◌≡◌, ◌≤◌, IfOk, None, length, replicate};
+ghost use Rattle.papi_base.specs.declared.limits.TheConstants.{MOST_SETS};
 ghost use Rattle.session_model.specs.Faces.{free};
 ghost use Rattle.thread_slots.specs.Slots.{is_counting, new_slot};
 
@@ -7,7 +8,7 @@ use crate::pins::Pins;
 use event_sets::EventSet;
 use multiplex::Rotation;
 use overflow_dispatch::Thresholds;
-use papi_base::{Counts, Values};
+use papi_base::{Counts, MOST_SETS, Values};
 use std::alloc::{AllocError, Global};
 
 /// How a set counts.
@@ -65,7 +66,7 @@ impl Slot {
 
 /// The least number with no set under it, or the number of places.
 pub fn free_number(slots: &[Option<Slot>]) -> u32
-    requires { length slots.now ≤ 64 }
+    requires { length slots.now ≤ MOST_SETS }
     ensures { result ≡ free slots.now }
 {
     let mut number = 0;
@@ -80,10 +81,10 @@ pub fn free_number(slots: &[Option<Slot>]) -> u32
 
 /// 64 places without sets.
 pub fn empty_places(alloc: Global) -> Result<Vec<Option<Slot>>, AllocError>
-    ensures { IfOk result (λ slots. slots.items ≡ replicate 64 None) }
+    ensures { IfOk result (λ slots. slots.items ≡ replicate MOST_SETS None) }
 {
-    let mut slots = Vec::with_capacity(alloc, 64)?;
-    for _ in 0..64usize {
+    let mut slots = Vec::with_capacity(alloc, MOST_SETS)?;
+    for _ in 0..MOST_SETS {
         slots.push_reserved(None);
     }
     Ok(slots)

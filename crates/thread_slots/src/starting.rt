@@ -1,6 +1,7 @@
 //! What starts with a set (PAPI_start(3)).
 ghost use Rattle.std.specs.Prelude.{◌≡◌, ℕ, ◌-◌, ◌<◌, ◌++◌, length, replicate, slice_get, slice_set, None, Some};
 ghost use Rattle.papi_base.specs.Widths.{AreWidths};
+ghost use Rattle.papi_base.specs.declared.limits.TheConstants.{MOST_SET_EVENTS};
 ghost use Rattle.counter_alloc.specs.Masks.{masks_of};
 ghost use Rattle.event_sets.specs.AtRest.{leads, set_natives};
 ghost use Rattle.session_model.specs.Registers.{threshold_among};
@@ -68,7 +69,7 @@ fn pins_on(book: &PresetBook, set: &EventSet, counters: &Places) -> Pins
 fn armed_on(book: &PresetBook, set: &EventSet, counters: &Places) -> Thresholds
     requires { IsArmable book.now set.now.natives counters.now set.now.rest.events set.now.rest.thresholds }
     ensures { let armed = armed_from book.now set.now.natives counters.now set.now.rest.events set.now.rest.thresholds
-        in result ≡ armed ++ replicate (32 - length set.now.rest.events) None }
+        in result ≡ armed ++ replicate (MOST_SET_EVENTS - length set.now.rest.events) None }
 {
     let mut armed = Thresholds::new();
     let events = set.events();

@@ -26,12 +26,7 @@ fn number_of(places: &FirstPlaces, natives: &Natives, numbers: &Counts, n: &Nati
 }
 
 /// The numbers of the native events of a derived event, in its order.
-fn own_numbers(
-    places: &FirstPlaces,
-    natives: &Natives,
-    numbers: &Counts,
-    own: &Natives,
-) -> [i64; 8]
+fn own_numbers(places: &FirstPlaces, natives: &Natives, numbers: &Counts, own: &Natives) -> [i64; 8]
     requires places { AreFirst places.now.first natives.now }
     requires same_length { length numbers.now ≡ length natives.now }
     requires small { All (λ t. t < 2 ^ 48) numbers.now }

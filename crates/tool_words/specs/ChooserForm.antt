@@ -6,7 +6,7 @@ use Rattle.clap.specs.Words.{Row, Rule, Text, all_of, first_of, is_simple_and_fr
 use Rattle.tool_words.specs.declared.chooser.ChooserWords.{ChooserWords}
 use Rattle.tool_words.specs.declared.chooser.EventKind.{EventKind}
 use Rattle.tool_words.specs.declared.chooser.EventKind.TheVariants.{Native, Preset}
-use Rattle.tool_words.specs.declared.chooser.TheConstants.{MOST_EVENTS}
+use Rattle.papi_base.specs.declared.limits.TheConstants.{MOST_SET_EVENTS}
 use Rattle.tool_words.specs.declared.presets.PresetWords.{PresetWords}
 use Rattle.tool_words.specs.Options.{list_rule, unit_rule}
 use Rattle.tool_words.specs.Presets.{cpu_rule, presets_asked, presets_rule}
@@ -35,7 +35,7 @@ kind_of word = if bytes_eq word (codes "NATIVE") then Some Native else if bytes_
 
 -- the texts of events, which are not more than a set can have
 abbrev pub few_events : List Text → Option (List Text)
-few_events events = if nat_le (length events) MOST_EVENTS then Some events else None
+few_events events = if nat_le (length events) MOST_SET_EVENTS then Some events else None
 
 -- what the values of the arguments ask for
 abbrev pub chooser_words : Option Text → Option (Option PresetWords) → Option EventKind → Option (List Text) → Option ChooserWords

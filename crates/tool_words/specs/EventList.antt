@@ -3,7 +3,7 @@ use Rattle.std.specs.Prelude.{◌&&◌, ◌==◌, ◌≡◌, ◌≤◌, ℕ, Boo
 use Rattle.std.specs.List.{list_all, slice_split}
 use Rattle.clap.specs.Words.{Text}
 use Rattle.papi_base.specs.Numerals.{is_empty}
-use Rattle.tool_words.specs.declared.chooser.TheConstants.{MOST_EVENTS}
+use Rattle.papi_base.specs.declared.limits.TheConstants.{MOST_SET_EVENTS}
 
 -- from `!` to `~`
 abbrev pub is_event_character : ℕ → Bool
@@ -19,7 +19,7 @@ parts_of list = slice_split (λ b. b == 44) list
 
 -- these, where each is an event and a set can have as many
 abbrev pub events_among : List Text → Option (List Text)
-events_among parts = if list_all is_event parts && nat_le (length parts) MOST_EVENTS then Some parts else None
+events_among parts = if list_all is_event parts && nat_le (length parts) MOST_SET_EVENTS then Some parts else None
 
 -- the events of a list
 abbrev pub events_of : Text → Option (List Text)
@@ -28,5 +28,5 @@ events_of list = events_among (parts_of list)
 -- one or more events, not more than a set can have
 pub record AreEvents (events : List Text) : Type 0 where
   pub some : 1 ≤ length events
-  pub few : length events ≤ MOST_EVENTS
+  pub few : length events ≤ MOST_SET_EVENTS
   pub each : list_all is_event events ≡ true

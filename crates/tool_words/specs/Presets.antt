@@ -5,6 +5,7 @@ use Rattle.std.specs.Prelude.{length, slice_index, nat_le, nat_lt, Option, Some,
 use Rattle.std.specs.List.{list_all}
 use Rattle.clap.specs.Words.{Rule, Text, new_rule}
 use Rattle.tool_words.specs.declared.presets.PresetWords.{PresetWords}
+use Rattle.tool_words.specs.declared.presets.TheConstants.{LONGEST_CPU}
 
 -- `-P PRESETS`, a preset file
 unfoldable pub presets_rule : Rule
@@ -26,10 +27,10 @@ needed_cpu_rule = record cpu_rule { required = true }
 abbrev pub is_cpu_character : ℕ → Bool
 is_cpu_character b = nat_le 32 b && nat_le b 126 && not (b == 44)
 
--- the name of a cpu: 1 to 64 such characters, and no space at either end
+-- the name of a cpu: 1 to LONGEST_CPU such characters, and no space at either end
 unfoldable pub is_cpu : Text → Bool
 is_cpu name =
-    if nat_lt (length name) 1 || nat_lt 64 (length name) then false
+    if nat_lt (length name) 1 || nat_lt LONGEST_CPU (length name) then false
     else if (slice_index name 0 == 32) || (slice_index name (length name - 1) == 32) then false
     else list_all is_cpu_character name
 

@@ -14,11 +14,8 @@ use crate::presets::{PresetWords, cpu_argument, presets_argument, presets_asked}
 use crate::texts::Texts;
 use crate::tool::ToolWords;
 use clap::{Arg, ArgMatches};
-use papi_base::Text;
+use papi_base::{MOST_SET_EVENTS, Text};
 use std::alloc::{AllocError, Global};
-
-/// How many events a set has at most, and so how many can be given: docs/FORMATS.md.
-pub const MOST_EVENTS: u32 = 32;
 
 /// Which events are listed.
 #[derive(Clone, Copy, Debug, PartialEq, Eq)]
@@ -30,7 +27,7 @@ pub enum EventKind {
 }
 
 /// What the words of `papi_event_chooser` ask for: the name of the unit file, the presets where they are asked for, which
-/// events are listed, and the texts of the events that are given, from 1 to [`MOST_EVENTS`].
+/// events are listed, and the texts of the events that are given, from 1 to [`MOST_SET_EVENTS`], as many as a set has.
 #[derive(Drop)]
 pub struct ChooserWords {
     pub unit: Text,
@@ -59,7 +56,7 @@ fn events_asked(alloc: Global, matches: &ArgMatches<'_>) -> Result<Texts, WordsF
     let Some(events) = texts_of(matches, "events") else {
         return Err(WordsFault::BadWords);
     };
-    if events.len() > MOST_EVENTS as usize {
+    if events.len() > MOST_SET_EVENTS {
         return Err(WordsFault::BadWords);
     }
     Ok(copied(alloc, events)?)

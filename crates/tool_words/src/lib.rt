@@ -26,7 +26,7 @@ mod tool;
 pub mod workers;
 
 pub use avail::AvailWords;
-pub use chooser::{ChooserWords, EventKind, MOST_EVENTS};
+pub use chooser::{ChooserWords, EventKind};
 pub use command::Command;
 pub use decode::DecodeWords;
 pub use encode::EncodeWords;

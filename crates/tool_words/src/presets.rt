@@ -13,7 +13,10 @@ use clap::{Arg, ArgMatches};
 use papi_base::Text;
 use std::alloc::Global;
 
-/// The presets of a cpu: the name of the preset file, and that of the cpu, which has 1 to 64 characters from a space to `~`,
+/// How many characters the name of a cpu has at most.
+pub const LONGEST_CPU: usize = 64;
+
+/// The presets of a cpu: the name of the preset file, and that of the cpu, which has 1 to [`LONGEST_CPU`] characters from a space to `~`,
 /// none a comma, and no space at either end.
 #[derive(Drop)]
 pub struct PresetWords {
@@ -76,7 +79,7 @@ fn is_cpu(name: &str) -> bool
 {
     let bytes = name.as_bytes();
     let count = bytes.len();
-    if count < 1 || count > 64 {
+    if count < 1 || count > LONGEST_CPU {
         return false;
     }
     if bytes[0] == b' ' || bytes[count - 1] == b' ' {

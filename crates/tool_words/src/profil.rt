@@ -12,17 +12,17 @@ use crate::streams::{StreamNames, streams_argument};
 use crate::tool::ToolWords;
 use crate::workers::{Workers, workers_argument};
 use clap::{Arg, ArgMatches};
-use papi_base::Text;
+use papi_base::{MOST_SET_EVENTS, MOST_SETS, THREADS, Text};
 use std::alloc::{AllocError, Global};
 
 /// The greatest number of a thread whose notes are counted.
-pub const LAST_THREAD: u32 = 63;
+pub const LAST_THREAD: u32 = THREADS - 1;
 
 /// The greatest number of a set whose notes are counted.
-pub const LAST_SET: u32 = 63;
+pub const LAST_SET: u32 = MOST_SETS as u32 - 1;
 
 /// The greatest index of an event whose notes are counted.
-pub const LAST_INDEX: u32 = 31;
+pub const LAST_INDEX: u32 = MOST_SET_EVENTS as u32 - 1;
 
 /// What the words of `papi_profil` ask for: the names of the unit file and of the map, the presets where they are asked for,
 /// whose notes are counted (those of a thread, of one of its sets, and of the event of this index in it, each counted from

@@ -9,7 +9,6 @@ ghost use Rattle.tool_words.specs.EventList.{AreEvents, events_among, events_of,
 ghost use Rattle.tool_words.specs.RegionsForm.{event_list_rule, regions_rules, regions_rules-defined, regions_words_in};
 ghost use Rattle.tool_words.specs.Words.{Answers};
 
-use crate::chooser::MOST_EVENTS;
 use crate::fault::WordsFault;
 use crate::matches::{copied, in_order, text_of};
 use crate::options::{script_argument, unit_argument};
@@ -20,11 +19,11 @@ use crate::texts::Texts;
 use crate::tool::ToolWords;
 use crate::workers::{Workers, workers_argument};
 use clap::{Arg, ArgMatches};
-use papi_base::Text;
+use papi_base::{MOST_SET_EVENTS, Text};
 use std::alloc::{AllocError, Global};
 use std::marker::Model;
 
-/// The texts of the events that are counted, in order: from 1 to [`MOST_EVENTS`], each of one or more characters from `!` to `~`.
+/// The texts of the events that are counted, in order: from 1 to [`MOST_SET_EVENTS`], each of one or more characters from `!` to `~`.
 /// Contracts see the list of the texts.
 #[derive(Drop)]
 pub struct EventTexts {
@@ -48,7 +47,7 @@ impl EventTexts {
         requires { 1 ≤ length parts.now }
         ensures { Answers result (events_among (map (λ s. s.now) parts.now)) }
     {
-        if parts.len() > MOST_EVENTS as usize || !are_events(parts) {
+        if parts.len() > MOST_SET_EVENTS || !are_events(parts) {
             return Err(WordsFault::BadWords);
         }
         Ok(EventTexts {

@@ -65,5 +65,5 @@ returns c =
     let all = c.natives-natives.result.now ++ c.joining-further.result in
     let joins : all ≡ joined_by s.natives (natives_of_event book e) =
     c.joining-further.ensures ∙ ap₂ joined_by c.natives-natives.ensures.natives (c.natives_of.ensures ∙ ap (λ (b : Book). natives_of_event b e) c.book.ensures.book) in
-    let few : length s.rest.events < 32 = omega (arith, c.len.ensures.length, c.if-len-ge32.false, ap length c.events-events.ensures.events) in
+    let few : length s.rest.events < 32 = omega (arith, c.len.ensures.length, c.if-len.false, ap length c.events-events.ensures.events) in
     c.fits.ensures ∙ sym (takes_is book shape e s n ready all joins few open'.over.unshared)

@@ -6,4 +6,4 @@ use Rattle.stream_reader.proofs.common_line.read_stamp.Goals as goal
 pub returns : goal.returns
 returns c =
     stamp-is c.args.text.now c.decimal_digits-stamp.result (omega arith) c.if-text-ne32.false (rw take_rest at c.decimal_digits-stamp.ensures) (rw take_rest at (sym c.if-not-has_form.ensures))
-    c.if-stamp-gt4294967294.false
+    c.if-stamp.false

@@ -75,7 +75,7 @@ clash-requires-clause-in_range c =
     } in
     let all = c.in-Some.natives in
     let joins : all ≡ joined_by s.natives (natives_of_event book e) = c.in-Some.ensures.some ∙ ap₂ joined_by (ap (λ (v : SetView). v.natives) view) given in
-    let few_events : length s.rest.events < 32 = omega (arith, c.len.ensures.length, c.if-len-ge32.false, ap (λ (v : SetView). length v.rest.events) view) in
+    let few_events : length s.rest.events < 32 = omega (arith, c.len.ensures.length, c.if-len.false, ap (λ (v : SetView). length v.rest.events) view) in
     let room = not_full book shape e s n ready all joins few_events c.in-Some.ensures.few in
     let counters = c.counters_of-counters.result in
     let counted : counters ≡ length (widths_at shape (Some n.comp)) = c.counters_of-counters.ensures.counted in
@@ -107,7 +107,7 @@ clash-requires-clause-before c none =
     } in
     let all = c.in-Some.natives in
     let joins : all ≡ joined_by s.natives (natives_of_event book e) = c.in-Some.ensures.some ∙ ap₂ joined_by (ap (λ (v : SetView). v.natives) view) given in
-    let few_events : length s.rest.events < 32 = omega (arith, c.len.ensures.length, c.if-len-ge32.false, ap (λ (v : SetView). length v.rest.events) view) in
+    let few_events : length s.rest.events < 32 = omega (arith, c.len.ensures.length, c.if-len.false, ap (λ (v : SetView). length v.rest.events) view) in
     let room = not_full book shape e s n ready all joins few_events c.in-Some.ensures.few in
     let counters = c.counters_of-counters.result in
     let counted : counters ≡ length (widths_at shape (Some n.comp)) = c.counters_of-counters.ensures.counted in
@@ -141,7 +141,7 @@ returns-in-Some-clash-clause-refused c =
     } in
     let all = c.in-Some.natives in
     let joins : all ≡ joined_by s.natives (natives_of_event book e) = c.in-Some.ensures.some ∙ ap₂ joined_by (ap (λ (v : SetView). v.natives) view) given in
-    let few_events : length s.rest.events < 32 = omega (arith, c.len.ensures.length, c.if-len-ge32.false, ap (λ (v : SetView). length v.rest.events) view) in
+    let few_events : length s.rest.events < 32 = omega (arith, c.len.ensures.length, c.if-len.false, ap (λ (v : SetView). length v.rest.events) view) in
     let room = not_full book shape e s n ready all joins few_events c.in-Some.ensures.few in
     let natives : length s.natives ≡ c.len-2.result = ap (λ (v : SetView). length v.natives) (sym view) ∙ sym c.len-2.ensures.length in
     let slice = ap (λ (v : SetView). v.rest.slice) view in
@@ -168,7 +168,7 @@ returns-clause-taken c =
     } in
     let all = c.in-Some.natives in
     let joins : all ≡ joined_by s.natives (natives_of_event book e) = c.in-Some.ensures.some ∙ ap₂ joined_by (ap (λ (v : SetView). v.natives) view) given in
-    let few_events : length s.rest.events < 32 = omega (arith, c.len.ensures.length, c.if-len-ge32.false, ap (λ (v : SetView). length v.rest.events) view) in
+    let few_events : length s.rest.events < 32 = omega (arith, c.len.ensures.length, c.if-len.false, ap (λ (v : SetView). length v.rest.events) view) in
     let room = not_full book shape e s n ready all joins few_events c.in-Some.ensures.few in
     let natives : length s.natives ≡ c.len-2.result = ap (λ (v : SetView). length v.natives) (sym view) ∙ sym c.len-2.ensures.length in
     let slice = ap (λ (v : SetView). v.rest.slice) view in
@@ -197,7 +197,7 @@ returns-clause-added c =
     } in
     let all = c.in-Some.natives in
     let joins : all ≡ joined_by s.natives (natives_of_event book e) = c.in-Some.ensures.some ∙ ap₂ joined_by (ap (λ (v : SetView). v.natives) view) given in
-    let few_events : length s.rest.events < 32 = omega (arith, c.len.ensures.length, c.if-len-ge32.false, ap (λ (v : SetView). length v.rest.events) view) in
+    let few_events : length s.rest.events < 32 = omega (arith, c.len.ensures.length, c.if-len.false, ap (λ (v : SetView). length v.rest.events) view) in
     let room = not_full book shape e s n ready all joins few_events c.in-Some.ensures.few in
     let counters = c.counters_of-counters.result in
     let counted : counters ≡ length (widths_at shape (Some n.comp)) = c.counters_of-counters.ensures.counted in
@@ -225,7 +225,7 @@ invariant_of-self c =
     } in
     let all = c.in-Some.natives in
     let joins : all ≡ joined_by s.natives (natives_of_event book e) = c.in-Some.ensures.some ∙ ap₂ joined_by (ap (λ (v : SetView). v.natives) view) given in
-    let few_events : length s.rest.events < 32 = omega (arith, c.len.ensures.length, c.if-len-ge32.false, ap (λ (v : SetView). length v.rest.events) view) in
+    let few_events : length s.rest.events < 32 = omega (arith, c.len.ensures.length, c.if-len.false, ap (λ (v : SetView). length v.rest.events) view) in
     let room = not_full book shape e s n ready all joins few_events c.in-Some.ensures.few in
     let counters = c.counters_of-counters.result in
     let counted : counters ≡ length (widths_at shape (Some n.comp)) = c.counters_of-counters.ensures.counted in

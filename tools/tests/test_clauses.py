@@ -1,0 +1,44 @@
+"""checks/clauses: what is a bare limit, and what is none."""
+
+from __future__ import annotations
+
+import subprocess
+import tempfile
+import unittest
+from pathlib import Path
+
+from tests.support import ROOT
+
+
+def said_of(code: str = "", definition: str = "") -> str:
+    """What the check says of a crate with this code and this definition."""
+    with tempfile.TemporaryDirectory() as folder:
+        for part, name, text in (("src", "lib.rt", code), ("specs", "Lib.antt", definition)):
+            path = Path(folder, "crates/some", part)
+            path.mkdir(parents=True)
+            (path / name).write_text(text + "\n", encoding="utf-8")
+        return subprocess.run([str(ROOT / "checks/clauses"), folder], capture_output=True, text=True).stdout
+
+
+class BareLimits(unittest.TestCase):
+    def test_a_bare_limit_is_refused_with_its_place(self) -> None:
+        for line in ("    requires { n < 32 }", "    if all.len() >= 32 {", "    items: [u8; 32],", "    for k in 0..32u32 {", "    (32 < length all)"):
+            self.assertEqual(said_of(line), "crates/some/src/lib.rt:1: 32 is a bare limit\n1 passed, 1 failed\n", line)
+        for line in ("few xs = nat_le 64 (length xs)", "none = replicate 64 None", "  pub few : length xs ≤ 64", "  pub long : length xs ≡ 64"):
+            self.assertEqual(said_of(definition=line), "crates/some/specs/Lib.antt:1: 64 is a bare limit\n1 passed, 1 failed\n", line)
+
+    def test_other_numbers_are_no_limits(self) -> None:
+        for line in ("    requires { n < MOST_SETS }", "    ensures { result < 2 ^ 64 }", "    if n >= 1 << 63 {", "// at most 32", "    if n == 0 || n > 9 {"):
+            self.assertEqual(said_of(line), "2 passed, 0 failed\n", line)
+        self.assertEqual(said_of(definition="is_digit b = nat_le 48 b && nat_le b 57"), "2 passed, 0 failed\n")
+
+
+class WideClauses(unittest.TestCase):
+    def test_a_line_over_100_columns_is_refused(self) -> None:
+        wide = "    ensures { result ≡ " + "x" * 79
+        self.assertEqual(said_of(wide[:98] + " }"), "2 passed, 0 failed\n")
+        self.assertEqual(said_of(wide[:99] + " }"), "crates/some/src/lib.rt:1: a clause has 101 columns\n1 passed, 1 failed\n")
+
+    def test_a_clause_goes_on_to_its_closing_brace(self) -> None:
+        clause = "    ensures { result\n        ≡ " + "x" * 100 + " }\n{\n    let s = \"" + "y" * 100 + "\";\n}"
+        self.assertEqual(said_of(clause), "crates/some/src/lib.rt:2: a clause has 112 columns\n1 passed, 1 failed\n")
