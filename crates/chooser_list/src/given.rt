@@ -27,9 +27,12 @@ fn add(
     requires shape { shape.now ≡ shape_of catalog.now.tables }
     requires over { IsOver catalog.now set.old }
     requires good { IsNamed catalog.now.book (shape_of catalog.now.tables) named }
-    ensures added { (text : List ℕ) → OnOk result (Choosing.with_named catalog.now text set.old.rest named ≡ Ok set.new.rest) }
+    ensures added { (text : List ℕ)
+        → OnOk result (Choosing.with_named catalog.now text set.old.rest named ≡ Ok set.new.rest) }
     ensures over { OnOk result (IsOver catalog.now set.new) }
-    ensures refused { (text : List ℕ) → IfErr result (λ r. Choosing.with_named catalog.now text set.old.rest named ≡ Choosing.refused_by text r) }
+    ensures refused { (text : List ℕ)
+        → IfErr result (λ r. Choosing.with_named catalog.now text set.old.rest named
+        ≡ Choosing.refused_by text r) }
 {
     match named {
         Ok(event) => set.add(catalog.book(), shape, &event),
@@ -41,7 +44,8 @@ fn add(
 pub fn given_set<'a>(catalog: &Catalog, texts: &'a [Text]) -> Result<EventSet, Refused<'a>>
     ensures given { IfOk result (λ set. Choosing.given_set catalog.now texts.now ≡ Ok set.rest) }
     ensures over { IfOk result (IsOver catalog.now) }
-    ensures refused { IfErr result (λ r. Choosing.given_set catalog.now texts.now ≡ Choosing.refused_by r.text.now r.refusal) }
+    ensures refused { IfErr result
+        (λ r. Choosing.given_set catalog.now texts.now ≡ Choosing.refused_by r.text.now r.refusal) }
 {
     let shape = catalog.shape();
     let mut set = EventSet::new();

@@ -31,8 +31,10 @@ fn keep(
 ) -> Result<(), AllocError>
     requires held { IsHeld catalog.now.book event }
     requires fits { EventFits (shape_of catalog.now.tables) event }
-    requires open { IsOpen catalog.now set.now matching.now (component_of_event catalog.now.book event) }
-    ensures { OnOk result (events.new.items ≡ events.old.items ++ filter (takes catalog.now set.now.rest) (event ∷ [])) }
+    requires open { IsOpen catalog.now set.now matching.now
+        (component_of_event catalog.now.book event) }
+    ensures { OnOk result (events.new.items
+        ≡ events.old.items ++ filter (takes catalog.now set.now.rest) (event ∷ [])) }
 {
     if would_take(catalog, set, matching, &event) {
         events.push(event)?;
@@ -54,7 +56,8 @@ fn keep_natives(
     requires here { event_at catalog.now.tables comp row ≡ Some (event_text event.now) }
     requires open { IsOpen catalog.now set.now matching.now (Some comp) }
     ensures { (c : ComponentText) → OnOk result (events.new.items
-        ≡ events.old.items ++ filter (takes catalog.now set.now.rest) (natives_of_event (found comp row c (event_text event.now)))) }
+        ≡ events.old.items ++ filter (takes catalog.now set.now.rest)
+        (natives_of_event (found comp row c (event_text event.now)))) }
 {
     if event.masks.is_empty() {
         let native = without_umask(comp, row, event);
@@ -76,7 +79,9 @@ fn keep_component(
 ) -> Result<(), AllocError>
     requires kept { IsTables catalog.now.tables }
     requires over { IsOver catalog.now set.now }
-    ensures { OnOk result (events.new.items ≡ events.old.items ++ filter (takes catalog.now set.now.rest) (natives_at catalog.now.tables comp)) }
+    ensures { OnOk result (events.new.items
+        ≡ events.old.items ++ filter (takes catalog.now set.now.rest)
+        (natives_at catalog.now.tables comp)) }
 {
     let Some(component) = catalog.tables().component(comp) else {
         return Ok(());
@@ -99,7 +104,9 @@ fn keep_preset(
     row: u32,
 ) -> Result<(), AllocError>
     requires over { IsOver catalog.now set.now }
-    ensures { OnOk result (events.new.items ≡ events.old.items ++ filter (takes catalog.now set.now.rest) (preset_in catalog.now.book row)) }
+    ensures { OnOk result (events.new.items
+        ≡ events.old.items ++ filter (takes catalog.now set.now.rest)
+        (preset_in catalog.now.book row)) }
 {
     let Some(derived) = catalog.book().get(row) else {
         return Ok(());

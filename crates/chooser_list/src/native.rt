@@ -20,7 +20,9 @@ const NO_MODIFIERS: Mods = Mods {
 
 /// The native event in a row of a component, without umasks and modifiers.
 pub fn without_umask(comp: u32, row: u32, event: &EventRow) -> Native
-    ensures { (c : ComponentText) → result ≡ Names.native_of (Candidates.found comp row c (event_text event.now)) [] Candidates.no_modifiers }
+    ensures { (c : ComponentText)
+        → result ≡ Names.native_of (Candidates.found comp row c (event_text event.now)) []
+        Candidates.no_modifiers }
 {
     Native {
         comp,
@@ -38,7 +40,8 @@ pub fn with_umask(comp: u32, row: u32, event: &EventRow, umask: usize) -> Native
     requires there { umask < vec_len event.now.masks }
     requires few { vec_len event.now.masks ≤ MOST_UMASKS }
     ensures { (c : ComponentText) → result
-        ≡ Names.native_of (Candidates.found comp row c (event_text event.now)) (Candidates.alone umask (event_text event.now).masks) Candidates.no_modifiers }
+        ≡ Names.native_of (Candidates.found comp row c (event_text event.now))
+        (Candidates.alone umask (event_text event.now).masks) Candidates.no_modifiers }
 {
     Native {
         comp,

@@ -50,8 +50,10 @@ pub fn opened(catalog: &Catalog, set: &EventSet, comp: u32) -> Option<Matching>
 fn fits(matching: &Matching, natives: &Natives, further: &Natives) -> bool
     requires few { matching.now.counters ≤ MOST_COUNTERS }
     requires before { matching.now.allowed ≡ masks_of natives.now }
-    requires in_range { All (λ n. n.allowed < 2 ^ matching.now.counters) (natives.now ++ further.now) }
-    ensures { result ≡ (nat_le (length (natives.now ++ further.now)) MOST_SET_NATIVES && is_assignable (masks_of (natives.now ++ further.now))) }
+    requires in_range { All (λ n. n.allowed < 2 ^ matching.now.counters)
+        (natives.now ++ further.now) }
+    ensures { result ≡ (nat_le (length (natives.now ++ further.now)) MOST_SET_NATIVES
+        && is_assignable (masks_of (natives.now ++ further.now))) }
 {
     natives.len() + further.len() <= MOST_SET_NATIVES as u32
         && matching.would_fit(&masks(further)[..further.len() as usize])
@@ -61,7 +63,8 @@ fn fits(matching: &Matching, natives: &Natives, further: &Natives) -> bool
 pub fn would_take(catalog: &Catalog, set: &EventSet, matching: &Matching, event: &EventRef) -> bool
     requires held { IsHeld catalog.now.book event.now }
     requires fits { EventFits (shape_of catalog.now.tables) event.now }
-    requires open { IsOpen catalog.now set.now matching.now (component_of_event catalog.now.book event.now) }
+    requires open { IsOpen catalog.now set.now matching.now
+        (component_of_event catalog.now.book event.now) }
     ensures { result ≡ takes catalog.now set.now.rest event.now }
 {
     let events = set.events();

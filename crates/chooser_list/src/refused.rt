@@ -52,7 +52,8 @@ pub fn push_refused(
     refused: Refused<'_>,
 ) -> Result<(), AllocError>
     ensures { OnOk result (text.new ≡ text.old
-        ++ Choosing.refused_text catalog.now (record { text = refused.entry.text.now; refusal = refused.entry.refusal })) }
+        ++ Choosing.refused_text catalog.now
+        (record { text = refused.entry.text.now; refusal = refused.entry.refusal })) }
 {
     text.append(refused.text.as_bytes())?;
     text.append(b":")?;

@@ -105,7 +105,8 @@ fn available_presets(book: &PresetBook, presets: PresetTable) -> PresetTable
 
 // Keeps a user event where it is available.
 fn keep_if(kept: &mut Vec<UserEvent>, event: UserEvent, available: bool) -> Result<(), AllocError>
-    ensures { OnOk result (map event_view kept.new.items ≡ map event_view kept.old.items ++ kept_if available (event_view event)) }
+    ensures { OnOk result (map event_view kept.new.items ≡ map event_view kept.old.items
+        ++ kept_if available (event_view event)) }
 {
     if available {
         kept.push(event)?;
@@ -120,7 +121,8 @@ fn available_events(
     events: Vec<UserEvent>,
 ) -> Result<Vec<UserEvent>, AllocError>
     requires few { length events.items ≤ MOST_EVENTS }
-    ensures { IfOk result (λ kept. map event_view kept.items ≡ events_from book.now PRESETS (map event_view events.items)) }
+    ensures { IfOk result (λ kept. map event_view kept.items
+        ≡ events_from book.now PRESETS (map event_view events.items)) }
 {
     let mut kept = Vec::new(alloc);
     let mut row = preset_count();

@@ -155,7 +155,8 @@ impl Catalog {
     /// What an event is called: a preset by its symbol, a user event by its name, a native event by its canonical name,
     /// PAPI_event_code_to_name(3).
     pub fn event_name(&self, alloc: Global, event: &EventRef) -> Result<String, AllocError>
-        ensures name { IfOk result (λ name. string_bytes name ≡ EventNames.event_name self.now event.now) }
+        ensures name { IfOk result
+            (λ name. string_bytes name ≡ EventNames.event_name self.now event.now) }
     {
         match event {
             EventRef::Preset(row) => String::from_str(alloc, self.name_or_empty(*row)),

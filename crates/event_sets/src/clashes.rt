@@ -53,7 +53,8 @@ pub fn give_counters(matching: &mut Matching, natives: &Natives, from: u32) -> R
     requires in_range { All (λ n. n.allowed < 2 ^ matching.old.counters) natives.now }
     requires before { matching.old.allowed ≡ masks_of (take from natives.now) }
     requires assignable { Assignable matching.old.allowed }
-    ensures given { OnOk result (matching.new ≡ record matching.old { allowed = masks_of natives.now }) }
+    ensures given { OnOk result
+        (matching.new ≡ record matching.old { allowed = masks_of natives.now }) }
     ensures assignable { OnOk result (Assignable (masks_of natives.now)) }
     ensures not_assignable { OnErr result (Assignable (masks_of natives.now) → ⊥) }
     ensures blame { IfErr result (IsBlame (masks_of natives.now)) }

@@ -86,7 +86,8 @@ fn counters_of(shape: &Shape, comp: u32) -> u32
 /// The matching to which native events are added: the one that is kept, or a new one where no component was fixed.
 fn begun(fixed: Option<u32>, kept: &Matching, counters: u32) -> Matching
     requires { counters ≤ MOST_COUNTERS }
-    ensures { result ≡ (if is_some fixed then kept.now else record { counters = counters; allowed = [] }) }
+    ensures { result ≡ (if is_some fixed then kept.now
+        else record { counters = counters; allowed = [] }) }
 {
     match fixed {
         Some(_) => kept.copy(),
@@ -98,7 +99,11 @@ impl EventSet {
     /// A set without events, component or slice, in this domain.
     fn empty(domain: Domain) -> EventSet
         requires { is_bad_domain domain.0 ≡ false }
-        ensures { result ≡ record { rest = record new_set { domain = domain }; natives = []; counters = 0 } }
+        ensures { result ≡ record {
+          rest = record new_set { domain = domain };
+          natives = [];
+          counters = 0;
+        } }
     {
         EventSet {
             events: Events::new(),
@@ -128,8 +133,10 @@ impl EventSet {
         requires held { IsHeld book.now e.now }
         requires fits { All (Fits shape.now) (natives_of_event book.now e.now) }
         requires natives { self.old.natives ≡ set_natives book.now self.old.rest }
-        requires counters { self.old.counters ≡ length (widths_at shape.now self.old.rest.component) }
-        ensures added { OnOk result (self.new ≡ set_view book.now shape.now (with_event book.now e.now self.old.rest)) }
+        requires counters { self.old.counters
+            ≡ length (widths_at shape.now self.old.rest.component) }
+        ensures added { OnOk result
+            (self.new ≡ set_view book.now shape.now (with_event book.now e.now self.old.rest)) }
         ensures taken { OnOk result (add_refusal book.now e.now self.old.rest ≡ None) }
         ensures refused { IfErr result (λ r. add_refusal book.now e.now self.old.rest ≡ Some r) }
         ensures unchanged { OnErr result (self.new ≡ self.old) }
@@ -165,7 +172,8 @@ impl EventSet {
     pub fn remove(&mut self, book: &PresetBook, e: &EventRef) -> Result<(), Code>
         requires natives { self.old.natives ≡ set_natives book.now self.old.rest }
         ensures removed { let rest = without_event e.now self.old.rest
-            in OnOk result (self.new ≡ record self.old { rest = rest; natives = set_natives book.now rest }) }
+            in OnOk result (self.new
+            ≡ record self.old { rest = rest; natives = set_natives book.now rest }) }
         ensures taken { OnOk result (has_event_in e.now self.old.rest ≡ true) }
         ensures refused { IfErr result (λ c. c ≡ Einval) }
         ensures absent { OnErr result (has_event_in e.now self.old.rest ≡ false) }
@@ -194,7 +202,11 @@ impl EventSet {
     ///
     /// EINVAL where the bits are 0 or have another one than 1 for the user and 2 for the kernel.
     pub fn set_domain(&mut self, bits: u32) -> Result<(), Code>
-        ensures set { OnOk result (self.new ≡ record self.old { rest = record self.old.rest { domain = record { 0 = bits } } }) }
+        ensures set { OnOk result
+            (self.new ≡ record self.old {
+              rest = record
+                  self.old.rest { domain = record { 0 = bits } };
+            }) }
         ensures good { OnOk result (is_bad_domain bits ≡ false) }
         ensures refused { IfErr result (λ c. (c ≡ Einval) × (is_bad_domain bits ≡ true)) }
         ensures unchanged { OnErr result (self.new ≡ self.old) }
@@ -210,7 +222,8 @@ impl EventSet {
     ///
     /// EINVAL where the slice is not from 1 to 1,000,000 ticks, else ECOMBO where an event has a threshold.
     pub fn set_multiplex(&mut self, slice: u32) -> Result<(), Code>
-        ensures set { OnOk result (self.new ≡ record self.old { rest = record self.old.rest { slice = Some slice } }) }
+        ensures set { OnOk result
+            (self.new ≡ record self.old { rest = record self.old.rest { slice = Some slice } }) }
         ensures taken { OnOk result (multiplex_refusal slice self.old.rest ≡ None) }
         ensures refused { IfErr result (λ c. multiplex_refusal slice self.old.rest ≡ Some c) }
         ensures unchanged { OnErr result (self.new ≡ self.old) }
@@ -229,9 +242,14 @@ impl EventSet {
     ///
     /// ENOCMP where there is no such component, else EINVAL where another one is fixed.
     pub fn assign_component(&mut self, comp: u32, shape: &Shape) -> Result<(), Code>
-        requires counters { self.old.counters ≡ length (widths_at shape.now self.old.rest.component) }
+        requires counters { self.old.counters
+            ≡ length (widths_at shape.now self.old.rest.component) }
         ensures set { let rest = record self.old.rest { component = Some comp }
-            in OnOk result (self.new ≡ record self.old { rest = rest; counters = length (widths_at shape.now (Some comp)) }) }
+            in OnOk result (self.new
+            ≡ record self.old {
+              rest = rest;
+              counters = length (widths_at shape.now (Some comp));
+            }) }
         ensures taken { OnOk result (assign_refusal shape.now comp self.old.rest ≡ None) }
         ensures refused { IfErr result (λ c. assign_refusal shape.now comp self.old.rest ≡ Some c) }
         ensures unchanged { OnErr result (self.new ≡ self.old) }
@@ -261,9 +279,12 @@ impl EventSet {
         e: &EventRef,
         t: u64,
     ) -> Result<(), Code>
-        ensures set { OnOk result (self.new ≡ record self.old { rest = with_threshold e.now t self.old.rest }) }
-        ensures taken { OnOk result (threshold_refusal book.now shape.now e.now t self.old.rest ≡ None) }
-        ensures refused { IfErr result (λ c. threshold_refusal book.now shape.now e.now t self.old.rest ≡ Some c) }
+        ensures set { OnOk result
+            (self.new ≡ record self.old { rest = with_threshold e.now t self.old.rest }) }
+        ensures taken { OnOk result
+            (threshold_refusal book.now shape.now e.now t self.old.rest ≡ None) }
+        ensures refused { IfErr result
+            (λ c. threshold_refusal book.now shape.now e.now t self.old.rest ≡ Some c) }
         ensures unchanged { OnErr result (self.new ≡ self.old) }
     {
         let Some(place) = place_of(&self.events, e) else {

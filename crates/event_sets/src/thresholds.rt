@@ -89,14 +89,16 @@ fn is_armed_on(
     other: &EventRef,
     threshold: u64,
 ) -> bool
-    ensures { result ≡ (not (same_event e.now other.now) && nat_lt 0 threshold && leads_in book.now n.now other.now) }
+    ensures { result ≡ (not (same_event e.now other.now) && nat_lt 0 threshold
+        && leads_in book.now n.now other.now) }
 {
     !is_same_event(e, other) && threshold != 0 && leads(book, n, other)
 }
 
 /// Whether another event of the set has a threshold on the native event.
 fn is_armed_elsewhere(book: &PresetBook, set: &EventSet, e: &EventRef, n: &Native) -> bool
-    ensures { result ≡ armed_elsewhere book.now e.now n.now set.now.rest.events set.now.rest.thresholds }
+    ensures { result ≡ armed_elsewhere book.now e.now n.now set.now.rest.events
+        set.now.rest.thresholds }
 {
     let events = set.events();
     for i in 0..events.len() {

@@ -8,7 +8,8 @@ use std::fmt::Write;
 
 /// Appends a text to the left of a column, filled with spaces up to the width.
 pub(crate) fn push_column(text: &mut String, width: usize, field: &str) -> Result<(), AllocError>
-    ensures { OnOk result (string_bytes text.new ≡ string_bytes text.old ++ Lines.column width field.now) }
+    ensures { OnOk result (string_bytes text.new
+        ≡ string_bytes text.old ++ Lines.column width field.now) }
 {
     text.push_str(field)?;
     for _place in field.len()..width {
@@ -19,7 +20,8 @@ pub(crate) fn push_column(text: &mut String, width: usize, field: &str) -> Resul
 
 /// Appends the lines of an event's name and code.
 pub(crate) fn push_name_and_code(text: &mut String, name: &str, code: u64) -> Result<(), AllocError>
-    ensures { OnOk result (string_bytes text.new ≡ string_bytes text.old ++ (Lines.name_line name.now ++ Lines.code_line code)) }
+    ensures { OnOk result (string_bytes text.new
+        ≡ string_bytes text.old ++ (Lines.name_line name.now ++ Lines.code_line code)) }
 {
     writeln!(text, "Name: {name}")?;
     writeln!(text, "Code: 0x{code:x}")

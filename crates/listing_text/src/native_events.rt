@@ -28,7 +28,9 @@ fn has(set: u32, place: u32) -> bool
 // Appends the counters whose bits are set, each after a space.
 fn push_counters(text: &mut String, counters: &[Counter], allowed: u32) -> Result<(), AllocError>
     requires { length counters.now ≤ MOST_COUNTERS }
-    ensures { OnOk result (string_bytes text.new ≡ string_bytes text.old ++ NativeEvents.counters_text (map counter_text counters.now) allowed) }
+    ensures { OnOk result (string_bytes text.new
+        ≡ string_bytes text.old ++ NativeEvents.counters_text
+        (map counter_text counters.now) allowed) }
 {
     for place in 0..counters.len() {
         if has(allowed, place as u32) {
@@ -40,7 +42,8 @@ fn push_counters(text: &mut String, counters: &[Counter], allowed: u32) -> Resul
 
 // Appends the line of the counters that may count a native event.
 fn push_counters_line(text: &mut String, tables: &Tables, native: &Native) -> Result<(), AllocError>
-    ensures { OnOk result (string_bytes text.new ≡ string_bytes text.old ++ NativeEvents.counters_line tables.now native.now) }
+    ensures { OnOk result (string_bytes text.new
+        ≡ string_bytes text.old ++ NativeEvents.counters_line tables.now native.now) }
 {
     let _components = tables.components();
     text.push_str("Counters:")?;
@@ -53,7 +56,8 @@ fn push_counters_line(text: &mut String, tables: &Tables, native: &Native) -> Re
 // Appends the lines of a native event's name and code.
 fn push_native(text: &mut String, tables: &Tables, native: &Native) -> Result<(), AllocError>
     ensures { OnOk result (string_bytes text.new
-        ≡ string_bytes text.old ++ (Lines.name_line (Canonical.canonical tables.now native.now) ++ Lines.code_line (Canonical.code64 native.now))) }
+        ≡ string_bytes text.old ++ (Lines.name_line (Canonical.canonical tables.now native.now)
+        ++ Lines.code_line (Canonical.code64 native.now))) }
 {
     let name = write_name(*text.allocator(), tables, native)?;
     push_name_and_code(text, name.as_str(), code64(native))
@@ -61,7 +65,8 @@ fn push_native(text: &mut String, tables: &Tables, native: &Native) -> Result<()
 
 // The text of a native event.
 fn encoding_text(alloc: Global, tables: &Tables, native: &Native) -> Result<String, AllocError>
-    ensures { IfOk result (λ text. string_bytes text ≡ NativeEvents.native_lines tables.now native.now) }
+    ensures { IfOk result (λ text.
+        string_bytes text ≡ NativeEvents.native_lines tables.now native.now) }
 {
     let mut text = String::new(alloc);
     push_native(&mut text, tables, native)?;
@@ -75,7 +80,8 @@ fn encoding_text(alloc: Global, tables: &Tables, native: &Native) -> Result<Stri
 /// Of a text that names no native event it says the cause, in the words of pfm_get_os_event_encoding(3), and the text.
 #[tactic(auto, unfolding(crate::specs::NativeEvents::native_event))]
 pub fn native_event(alloc: Global, tables: &Tables, name: &str) -> Result<NamedEvent, AllocError>
-    ensures text { IfOk result (λ event. string_bytes event.text ≡ NativeEvents.native_event tables.now name.now) }
+    ensures text { IfOk result
+        (λ event. string_bytes event.text ≡ NativeEvents.native_event tables.now name.now) }
     ensures known { IfOk result (λ event. event.known ≡ is_ok (names tables.now name.now)) }
 {
     match encode(tables, name) {

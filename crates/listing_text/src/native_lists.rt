@@ -28,7 +28,8 @@ struct Selection<'a> {
 
 // Whether an event of this name is listed.
 fn is_chosen(name: &str, selection: &Selection) -> bool
-    ensures { result ≡ NativeLists.is_chosen (option_copied selection.now.included) (option_copied selection.now.excluded) name.now }
+    ensures { result ≡ NativeLists.is_chosen (option_copied selection.now.included)
+        (option_copied selection.now.excluded) name.now }
 {
     let is_included = match selection.included {
         Some(part) => contains(name, part),
@@ -48,14 +49,16 @@ fn default_mark(is_default: bool) -> &'static str
 }
 
 fn push_umask(text: &mut String, umask: &UmaskRow) -> Result<(), AllocError>
-    ensures { OnOk result (string_bytes text.new ≡ string_bytes text.old ++ NativeLists.umask_line (mask_text umask.now)) }
+    ensures { OnOk result (string_bytes text.new
+        ≡ string_bytes text.old ++ NativeLists.umask_line (mask_text umask.now)) }
 {
     let mark = default_mark(umask.preset_choice);
     writeln!(text, "  :{}  {}{mark}", umask.name, umask.text)
 }
 
 fn push_umasks(text: &mut String, umasks: bool, masks: &[UmaskRow]) -> Result<(), AllocError>
-    ensures { OnOk result (string_bytes text.new ≡ string_bytes text.old ++ NativeLists.umask_lines umasks (map mask_text masks.now)) }
+    ensures { OnOk result (string_bytes text.new
+        ≡ string_bytes text.old ++ NativeLists.umask_lines umasks (map mask_text masks.now)) }
 {
     if umasks {
         for umask in masks {
@@ -72,7 +75,8 @@ fn push_event(
     event: &EventRow,
     umasks: bool,
 ) -> Result<(), AllocError>
-    ensures { OnOk result (string_bytes text.new ≡ string_bytes text.old ++ NativeLists.named_lines umasks name.now (event_text event.now)) }
+    ensures { OnOk result (string_bytes text.new
+        ≡ string_bytes text.old ++ NativeLists.named_lines umasks name.now (event_text event.now)) }
 {
     writeln!(text, "{name}  {}", event.text)?;
     push_umasks(text, umasks, event.masks.as_slice())
@@ -85,10 +89,12 @@ fn push_events(
     selection: &Selection,
 ) -> Result<usize, AllocError>
     ensures text { OnOk result (string_bytes text.new ≡ string_bytes text.old
-        ++ NativeLists.listed_lines (option_copied selection.now.included) (option_copied selection.now.excluded)
+        ++ NativeLists.listed_lines (option_copied selection.now.included)
+        (option_copied selection.now.excluded)
         selection.now.umasks (component_text component.now)) }
     ensures count { IfOk result (λ count.
-        count ≡ length (NativeLists.listed_events (option_copied selection.now.included) (option_copied selection.now.excluded)
+        count ≡ length (NativeLists.listed_events (option_copied selection.now.included)
+        (option_copied selection.now.excluded)
         (component_text component.now))) }
 {
     let mut listed = 0;
@@ -109,10 +115,12 @@ fn push_component(
     selection: &Selection,
 ) -> Result<usize, AllocError>
     ensures text { OnOk result (string_bytes text.new ≡ string_bytes text.old
-        ++ NativeLists.component_lines (option_copied selection.now.included) (option_copied selection.now.excluded)
+        ++ NativeLists.component_lines (option_copied selection.now.included)
+        (option_copied selection.now.excluded)
         selection.now.umasks (component_text component.now)) }
     ensures count { IfOk result (λ count.
-        count ≡ length (NativeLists.listed_events (option_copied selection.now.included) (option_copied selection.now.excluded)
+        count ≡ length (NativeLists.listed_events (option_copied selection.now.included)
+        (option_copied selection.now.excluded)
         (component_text component.now))) }
 {
     let counters = component.counters.len();
@@ -128,10 +136,12 @@ fn push_components(
     selection: &Selection,
 ) -> Result<usize, AllocError>
     ensures text { OnOk result (string_bytes text.new ≡ string_bytes text.old
-        ++ flat_map (NativeLists.component_lines (option_copied selection.now.included) (option_copied selection.now.excluded)
+        ++ flat_map (NativeLists.component_lines (option_copied selection.now.included)
+        (option_copied selection.now.excluded)
         selection.now.umasks) tables.now) }
     ensures count { IfOk result (λ count.
-        count ≡ NativeLists.listed_count (option_copied selection.now.included) (option_copied selection.now.excluded) tables.now) }
+        count ≡ NativeLists.listed_count (option_copied selection.now.included)
+        (option_copied selection.now.excluded) tables.now) }
 {
     let mut total = 0;
     for place in 0..tables.components() {
@@ -156,7 +166,8 @@ pub fn native_list(
     umasks: bool,
 ) -> Result<String, AllocError>
     ensures text { IfOk result (λ text.
-        string_bytes text ≡ NativeLists.native_list tables.now (option_copied included.entry) (option_copied excluded.entry) umasks) }
+        string_bytes text ≡ NativeLists.native_list tables.now (option_copied included.entry)
+        (option_copied excluded.entry) umasks) }
 {
     let selection = Selection {
         included,

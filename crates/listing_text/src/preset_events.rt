@@ -31,7 +31,8 @@ fn kind_of(rule: &Rule) -> Kind
 
 // Appends the line of a formula, where the rule has one.
 fn push_formula(text: &mut String, rule: &Rule) -> Result<(), AllocError>
-    ensures { OnOk result (string_bytes text.new ≡ string_bytes text.old ++ PresetEvents.formula_line rule.now) }
+    ensures { OnOk result (string_bytes text.new
+        ≡ string_bytes text.old ++ PresetEvents.formula_line rule.now) }
 {
     match rule {
         Rule::Plain | Rule::Sum | Rule::Sub => Ok(()),
@@ -43,7 +44,8 @@ fn push_formula(text: &mut String, rule: &Rule) -> Result<(), AllocError>
 }
 
 fn push_natives(text: &mut String, tables: &Tables, natives: &Natives) -> Result<(), AllocError>
-    ensures { OnOk result (string_bytes text.new ≡ string_bytes text.old ++ PresetEvents.native_lines tables.now natives.now) }
+    ensures { OnOk result (string_bytes text.new
+        ≡ string_bytes text.old ++ PresetEvents.native_lines tables.now natives.now) }
 {
     for place in 0..natives.len() {
         let name = write_name(*text.allocator(), tables, &natives.at(place))?;
@@ -54,7 +56,8 @@ fn push_natives(text: &mut String, tables: &Tables, natives: &Natives) -> Result
 
 // Appends what an available event derives.
 fn push_derived(text: &mut String, tables: &Tables, derived: &Derived) -> Result<(), AllocError>
-    ensures { OnOk result (string_bytes text.new ≡ string_bytes text.old ++ PresetEvents.derived_lines tables.now derived.now) }
+    ensures { OnOk result (string_bytes text.new
+        ≡ string_bytes text.old ++ PresetEvents.derived_lines tables.now derived.now) }
 {
     let derived_type = kind_text(kind_of(derived.rule()));
     writeln!(text, "Available: Yes\nDerived: {derived_type}")?;
@@ -66,7 +69,8 @@ fn push_derived(text: &mut String, tables: &Tables, derived: &Derived) -> Result
 // Appends whether the event in a row of the catalog is available, and what it derives where it is.
 fn push_availability(text: &mut String, catalog: &Catalog, row: u32) -> Result<(), AllocError>
     ensures { OnOk result (string_bytes text.new
-        ≡ string_bytes text.old ++ PresetEvents.availability_lines catalog.now.tables (entry catalog.now.book row)) }
+        ≡ string_bytes text.old ++ PresetEvents.availability_lines catalog.now.tables
+        (entry catalog.now.book row)) }
 {
     match catalog.book().get(row) {
         Some(derived) => push_derived(text, catalog.tables(), derived),
@@ -93,7 +97,8 @@ fn row_text(alloc: Global, catalog: &Catalog, row: u32) -> Result<String, AllocE
 /// such event.
 #[tactic(auto, unfolding(crate::specs::PresetEvents::preset_event))]
 pub fn avail_event(alloc: Global, catalog: &Catalog, name: &str) -> Result<NamedEvent, AllocError>
-    ensures text { IfOk result (λ event. string_bytes event.text ≡ PresetEvents.preset_event catalog.now name.now) }
+    ensures text { IfOk result
+        (λ event. string_bytes event.text ≡ PresetEvents.preset_event catalog.now name.now) }
     ensures known { IfOk result (λ event. event.known ≡ is_some (row_named catalog.now name.now)) }
 {
     match catalog.row_named(name) {

@@ -22,7 +22,8 @@ struct Columns<'a> {
 
 fn push_columns(text: &mut String, columns: &Columns) -> Result<(), AllocError>
     ensures { OnOk result (string_bytes text.new ≡ string_bytes text.old
-        ++ PresetLists.columns_line columns.now.name.now columns.now.code.now columns.now.available.now columns.now.derived.now columns.now.description.now) }
+        ++ PresetLists.columns_line columns.now.name.now columns.now.code.now
+        columns.now.available.now columns.now.derived.now columns.now.description.now) }
 {
     push_column(text, 14, columns.name)?;
     push_column(text, 12, columns.code)?;
@@ -64,7 +65,8 @@ fn description_of(row: u32) -> &'static str
 // Appends the line of a row of the catalog.
 fn push_row(text: &mut String, catalog: &Catalog, row: u32) -> Result<(), AllocError>
     requires { row < row_count catalog.now }
-    ensures { OnOk result (string_bytes text.new ≡ string_bytes text.old ++ PresetLists.row_line catalog.now row) }
+    ensures { OnOk result (string_bytes text.new
+        ≡ string_bytes text.old ++ PresetLists.row_line catalog.now row) }
 {
     let code = format!(in *text.allocator(); "0x{:x}", catalog.code(row))?;
     let columns = Columns {
@@ -79,7 +81,8 @@ fn push_row(text: &mut String, catalog: &Catalog, row: u32) -> Result<(), AllocE
 
 // Appends how many events there are, how many of them are available, and how many of these are derived.
 fn push_counts(text: &mut String, catalog: &Catalog) -> Result<(), AllocError>
-    ensures { OnOk result (string_bytes text.new ≡ string_bytes text.old ++ PresetLists.counts_line catalog.now) }
+    ensures { OnOk result (string_bytes text.new
+        ≡ string_bytes text.old ++ PresetLists.counts_line catalog.now) }
 {
     let count = catalog.rows();
     let mut available = 0;
@@ -113,7 +116,8 @@ pub fn avail_list(
     catalog: &Catalog,
     available_alone: bool,
 ) -> Result<String, AllocError>
-    ensures text { IfOk result (λ text. string_bytes text ≡ PresetLists.preset_list catalog.now available_alone) }
+    ensures text { IfOk result
+        (λ text. string_bytes text ≡ PresetLists.preset_list catalog.now available_alone) }
 {
     let mut text = String::new(alloc);
     push_heading(&mut text)?;

@@ -57,7 +57,8 @@ pub fn is_word(text: &[u8], word: &[u8]) -> bool
 
 #[tactic(auto, unfolding(crate::specs::Names::modifier_of))]
 fn modifier_of(name: &[u8]) -> Option<Modifier>
-    ensures { option_map modifier_text result ≡ Names.modifier_of (str_to_ascii_lowercase name.now) }
+    ensures { option_map modifier_text result
+        ≡ Names.modifier_of (str_to_ascii_lowercase name.now) }
 {
     if is_word(name, b"u") {
         Some(Modifier::User)
@@ -212,7 +213,8 @@ impl Given {
     ) -> Result<Given, NameFault>
         requires few { length masks.now ≤ MOST_UMASKS }
         requires there { row < length masks.now }
-        ensures { result ≡ Judged.mask_given (map mask_text masks.now) self row (text_of value.entry) }
+        ensures { result ≡ Judged.mask_given (map mask_text masks.now) self row
+            (text_of value.entry) }
     {
         if self.named[row] {
             return Err(NameFault::AttrSet);
@@ -234,7 +236,8 @@ impl Given {
     // What is given with one attribute more, or that attribute's first fault.
     fn with(self, masks: &[UmaskRow], attribute: &[u8]) -> Result<Given, NameFault>
         requires { length masks.now ≤ MOST_UMASKS }
-        ensures { result ≡ Judged.said_given (map mask_text masks.now) self (Names.said_of (map mask_text masks.now) (Split.attribute_of attribute.now)) }
+        ensures { result ≡ Judged.said_given (map mask_text masks.now) self
+            (Names.said_of (map mask_text masks.now) (Split.attribute_of attribute.now)) }
     {
         let (name, value) = name_and_value(attribute);
         match meaning_of(masks, name) {

@@ -11,7 +11,8 @@ use papi_base::{Mods, Native};
 use std::alloc::{AllocError, Global};
 
 fn push_if(name: &mut String, on: bool, text: &str) -> Result<(), AllocError>
-    ensures { OnOk result (string_bytes name.new ≡ string_bytes name.old ++ Canonical.text_if on text.now) }
+    ensures { OnOk result (string_bytes name.new
+        ≡ string_bytes name.old ++ Canonical.text_if on text.now) }
 {
     if on {
         name.push_str(text)?;
@@ -21,7 +22,8 @@ fn push_if(name: &mut String, on: bool, text: &str) -> Result<(), AllocError>
 
 // A umask after a colon, where its bit is set.
 fn push_mask(name: &mut String, on: bool, mask: &str) -> Result<(), AllocError>
-    ensures { OnOk result (string_bytes name.new ≡ string_bytes name.old ++ (if on then 58 ∷ mask.now else [])) }
+    ensures { OnOk result (string_bytes name.new
+        ≡ string_bytes name.old ++ (if on then 58 ∷ mask.now else [])) }
 {
     if on {
         name.push_str(":")?;
@@ -32,7 +34,8 @@ fn push_mask(name: &mut String, on: bool, mask: &str) -> Result<(), AllocError>
 
 // The umasks whose bits are set.
 fn push_masks(name: &mut String, bits: u16, masks: &[UmaskRow]) -> Result<(), AllocError>
-    ensures { OnOk result (string_bytes name.new ≡ string_bytes name.old ++ Canonical.masks_text bits (map mask_text masks.now)) }
+    ensures { OnOk result (string_bytes name.new
+        ≡ string_bytes name.old ++ Canonical.masks_text bits (map mask_text masks.now)) }
 {
     let mut left = bits;
     for m in masks {
@@ -44,7 +47,9 @@ fn push_masks(name: &mut String, bits: u16, masks: &[UmaskRow]) -> Result<(), Al
 
 // The counter mask, where it is not 0.
 fn push_cmask(alloc: Global, name: &mut String, cmask: u8) -> Result<(), AllocError>
-    ensures { OnOk result (string_bytes name.new ≡ string_bytes name.old ++ Canonical.text_if (nat_lt 0 cmask) (codes ":c=" ++ decimal cmask)) }
+    ensures { OnOk result (string_bytes name.new
+        ≡ string_bytes name.old ++ Canonical.text_if (nat_lt 0 cmask)
+        (codes ":c=" ++ decimal cmask)) }
 {
     if cmask > 0 {
         let count = format!(in alloc; ":c={cmask}")?;
@@ -56,7 +61,8 @@ fn push_cmask(alloc: Global, name: &mut String, cmask: u8) -> Result<(), AllocEr
 // The modifiers that are set.
 #[tactic(auto, unfolding(crate::specs::Canonical::mods_text))]
 fn push_mods(alloc: Global, name: &mut String, mods: &Mods) -> Result<(), AllocError>
-    ensures { OnOk result (string_bytes name.new ≡ string_bytes name.old ++ Canonical.mods_text mods.now) }
+    ensures { OnOk result (string_bytes name.new
+        ≡ string_bytes name.old ++ Canonical.mods_text mods.now) }
 {
     push_if(name, mods.user, ":u")?;
     push_if(name, mods.kernel, ":k")?;
@@ -66,7 +72,8 @@ fn push_mods(alloc: Global, name: &mut String, mods: &Mods) -> Result<(), AllocE
 }
 
 fn event_name(alloc: Global, pmu: &str, event: &EventRow, n: &Native) -> Result<String, AllocError>
-    ensures { IfOk result (λ s. string_bytes s ≡ Canonical.event_text pmu.now (event_text event.now) n.now) }
+    ensures { IfOk result (λ s.
+        string_bytes s ≡ Canonical.event_text pmu.now (event_text event.now) n.now) }
 {
     let mut name = String::from_str(alloc, pmu)?;
     name.push_str("::")?;
@@ -100,7 +107,9 @@ fn canonical_name(alloc: Global, t: &Tables, n: &Native) -> Result<String, Alloc
 /// Where some text names the native, its canonical name names it too.
 pub fn write_name(alloc: Global, t: &Tables, n: &Native) -> Result<String, AllocError>
     ensures name { IfOk result (λ s. string_bytes s ≡ Canonical.canonical t.now n.now) }
-    ensures back { IfOk result (λ s. (text : List ℕ) → Names.names t.now text ≡ Ok n.now → Names.names t.now (string_bytes s) ≡ Ok n.now) }
+    ensures back { IfOk result
+        (λ s. (text : List ℕ) → Names.names t.now text ≡ Ok n.now
+        → Names.names t.now (string_bytes s) ≡ Ok n.now) }
 {
     canonical_name(alloc, t, n)
 }

@@ -32,7 +32,8 @@ fn agrees(prefix: Option<&[u8]>, name: &str) -> bool
 
 // Whether a component agrees with the prefixes.
 fn is_meant(parts: &Parts<'_>, component: &Component) -> bool
-    ensures { result ≡ (Names.agrees (parts_split parts.now).comp (component_text component.now).name
+    ensures { result ≡ (Names.agrees (parts_split parts.now).comp
+        (component_text component.now).name
         && Names.agrees (parts_split parts.now).pmu (component_text component.now).pmu) }
 {
     agrees(parts.comp, component.name.as_str()) && agrees(parts.pmu, component.pmu.as_str())
@@ -46,7 +47,8 @@ fn found_at<'t>(
     name: &LowerName,
 ) -> Option<Found<'t>>
     requires { name.now ≡ str_to_ascii_lowercase parts.now.event.now }
-    ensures { option_map found_text result ≡ option_and_then (Names.choice (parts_split parts.now) comp) (slice_get tables.now comp) }
+    ensures { option_map found_text result
+        ≡ option_and_then (Names.choice (parts_split parts.now) comp) (slice_get tables.now comp) }
 {
     let component = tables.component(comp)?;
     if !is_meant(parts, component) {
@@ -64,7 +66,8 @@ fn found_at<'t>(
 
 /// The event in the first component that agrees with the prefixes and has it.
 pub fn find<'t>(tables: &'t Tables, parts: &Parts<'_>) -> Option<Found<'t>>
-    ensures found { option_map found_text result ≡ Names.found_from (parts_split parts.now) 0 tables.now }
+    ensures found { option_map found_text result
+        ≡ Names.found_from (parts_split parts.now) 0 tables.now }
     ensures kept { IsTables tables.now }
 {
     let components = tables.components();

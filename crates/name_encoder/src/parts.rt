@@ -39,7 +39,8 @@ fn prefix_of<'t>(text: &'t [u8], mark: &[u8]) -> (Option<&'t [u8]>, &'t [u8])
 
 /// The part before the first colon, and what follows that colon.
 pub fn first_part(text: &[u8]) -> (&[u8], Option<&[u8]>)
-    ensures { slice_split (λ b. b == 58) text.now ≡ result.0.now ∷ between_colons (text_of result.1) }
+    ensures { slice_split (λ b. b == 58) text.now
+        ≡ result.0.now ∷ between_colons (text_of result.1) }
 {
     match cut_at(text, b":") {
         Some((part, rest)) => (part, Some(rest)),

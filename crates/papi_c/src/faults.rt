@@ -59,7 +59,8 @@ pub extern "C" fn kistalub_presets_fault(
     out: &mut [u8],
     length: &mut u64,
 ) -> i32
-    ensures tells { Faults.TellsPresets presets.now cpu.now row.new result length.new out.old out.new }
+    ensures tells { Faults.TellsPresets presets.now cpu.now row.new result length.new out.old
+        out.new }
 {
     let Ok(cpu) = std::str::from_utf8(cpu) else {
         return EINVAL;

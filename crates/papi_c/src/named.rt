@@ -56,7 +56,8 @@ pub extern "C" fn kistalub_overflow_named(
     name: &[u8],
     threshold: u64,
 ) -> i32
-    ensures { CalledByName name.now h.old.library h.new.library (λ e. call.Overflow set e threshold) result }
+    ensures { CalledByName name.now h.old.library h.new.library
+        (λ e. call.Overflow set e threshold) result }
 {
     let Ok(name) = std::str::from_utf8(name) else {
         return EINVAL;

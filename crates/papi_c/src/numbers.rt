@@ -205,7 +205,8 @@ pub extern "C" fn kistalub_overflow(
     event: u32,
     threshold: u64,
 ) -> i32
-    ensures { CalledByCode event h.old.library h.new.library (λ e. call.Overflow set e threshold) result }
+    ensures { CalledByCode event h.old.library h.new.library
+        (λ e. call.Overflow set e threshold) result }
 {
     let Some(mut library) = h.take(alloc) else {
         return ENOINIT;

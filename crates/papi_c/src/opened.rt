@@ -19,7 +19,8 @@ pub extern "C" fn kistalub_open(
     thread: u32,
     stream: &[u8],
 ) -> i32
-    ensures opened { result ≡ pos 0 → (l : LibraryView) × (h.new.library ≡ Some l) × IsOpenedBy unit.now presets.now cpu.now thread stream.now l }
+    ensures opened { result ≡ pos 0 → (l : LibraryView) × (h.new.library ≡ Some l)
+        × IsOpenedBy unit.now presets.now cpu.now thread stream.now l }
     ensures kept { result ≢ pos 0 → h.new.library ≡ h.old.library }
 {
     let Ok(cpu) = std::str::from_utf8(cpu) else {

@@ -45,7 +45,8 @@ fn presets_of(alloc: Global, presets: &[u8], cpu: &str) -> Result<Option<Extende
 
 fn catalog_of(alloc: Global, unit: &[u8], presets: &[u8], cpu: &str) -> Result<Catalog, OpenFault>
     ensures faultless { OnOk result (unit_fault unit.now ≡ None) }
-    ensures catalog { IfOk result (λ c. c ≡ Catalogs.catalog_of (unit_tables unit.now) (table_of presets.now cpu.now)) }
+    ensures catalog { IfOk result
+        (λ c. c ≡ Catalogs.catalog_of (unit_tables unit.now) (table_of presets.now cpu.now)) }
 {
     let tables = tables_of(alloc, unit)?;
     let presets = presets_of(alloc, presets, cpu)?;

@@ -29,7 +29,8 @@ fn component_text(
     comp: u32,
     part: Option<ComponentPart>,
 ) -> Result<Result<String, Code>, AllocError>
-    ensures { IfOk result (λ text. map_ok string_bytes text ≡ component_asked comp part library.now) }
+    ensures { IfOk result (λ text. map_ok string_bytes text
+        ≡ component_asked comp part library.now) }
 {
     let Some(part) = part else {
         return Ok(Err(Code::Einval));
@@ -52,7 +53,9 @@ pub extern "C" fn kistalub_component(
     out: &mut [u8],
     length: &mut u64,
 ) -> i32
-    ensures spells { Spells h.old.library (component_asked comp (component_part_numbered number place)) result length.new out.old out.new }
+    ensures spells { Spells h.old.library
+        (component_asked comp (component_part_numbered number place)) result length.new out.old
+        out.new }
     ensures kept { h.new.library ≡ h.old.library }
 {
     let Some(library) = h.take(alloc) else {
@@ -84,7 +87,8 @@ fn native_text(
     row: u32,
     part: Option<NativePart>,
 ) -> Result<Result<String, Code>, AllocError>
-    ensures { IfOk result (λ text. map_ok string_bytes text ≡ native_asked comp row part library.now) }
+    ensures { IfOk result (λ text. map_ok string_bytes text
+        ≡ native_asked comp row part library.now) }
 {
     let Some(part) = part else {
         return Ok(Err(Code::Einval));
@@ -109,7 +113,9 @@ pub extern "C" fn kistalub_native(
     out: &mut [u8],
     length: &mut u64,
 ) -> i32
-    ensures spells { Spells h.old.library (native_asked comp row (native_part_numbered number place)) result length.new out.old out.new }
+    ensures spells { Spells h.old.library
+        (native_asked comp row (native_part_numbered number place)) result length.new out.old
+        out.new }
     ensures kept { h.new.library ≡ h.old.library }
 {
     let Some(library) = h.take(alloc) else {

@@ -70,7 +70,8 @@ fn run(
     told: &mut u64,
     fault: &mut StreamFault,
 ) -> i32
-    ensures went { Went library.old library.new n result consumed.new told.new fault.new out.old out.new ⊎ IsHeld library.old library.new result out.old out.new }
+    ensures went { Went library.old library.new n result consumed.new told.new fault.new out.old
+        out.new ⊎ IsHeld library.old library.new result out.old out.new }
 {
     let blank = Note {
         thread: 0,
@@ -102,7 +103,8 @@ pub extern "C" fn kistalub_run(
     told: &mut u64,
     fault: &mut StreamFault,
 ) -> i32
-    ensures { Runs h.old.library h.new.library n result consumed.new told.new fault.new out.old out.new }
+    ensures { Runs h.old.library h.new.library n result consumed.new told.new fault.new out.old
+        out.new }
 {
     let Some(mut library) = h.take(alloc) else {
         return ENOINIT;

@@ -31,7 +31,8 @@ pub(crate) fn give(
     out: &mut [u8],
     length: &mut u64,
 ) -> i32
-    ensures given { IfOk answer (λ text. IsAnswered (map_ok string_bytes text) result length.new out.old out.new) }
+    ensures given { IfOk answer
+        (λ text. IsAnswered (map_ok string_bytes text) result length.new out.old out.new) }
     ensures refused { OnErr answer (IsRefused (negsuc 1) result out.old out.new) }
 {
     match answer {
@@ -51,7 +52,9 @@ pub extern "C" fn kistalub_code_to_name(
     out: &mut [u8],
     length: &mut u64,
 ) -> i32
-    ensures spells { Spells h.old.library (λ l. map_ok (event_name l.catalog) (event_coded l.catalog l.mentioned code)) result length.new out.old out.new }
+    ensures spells { Spells h.old.library
+        (λ l. map_ok (event_name l.catalog) (event_coded l.catalog l.mentioned code)) result
+        length.new out.old out.new }
     ensures kept { h.new.library ≡ h.old.library }
 {
     let Some(library) = h.take(alloc) else {
@@ -103,7 +106,8 @@ pub extern "C" fn kistalub_info(
     out: &mut [u8],
     length: &mut u64,
 ) -> i32
-    ensures spells { Spells h.old.library (info_asked code (part_numbered number place)) result length.new out.old out.new }
+    ensures spells { Spells h.old.library (info_asked code (part_numbered number place)) result
+        length.new out.old out.new }
     ensures kept { h.new.library ≡ h.old.library }
 {
     let Some(library) = h.take(alloc) else {

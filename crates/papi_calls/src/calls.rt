@@ -29,7 +29,8 @@ impl Library {
 
     /// A new set under the least free number: PAPI_create_eventset(3). ECOUNT where there are 64 sets.
     pub fn create(&mut self) -> Result<u32, Code>
-        ensures made { Made self.old self.new call.Create (reply_of (λ n. body.SetNumber n) result) }
+        ensures made { Made self.old self.new call.Create
+            (reply_of (λ n. body.SetNumber n) result) }
     {
         self.session.create(self.catalog.book())
     }
@@ -117,14 +118,16 @@ impl Library {
 
     /// The state bits of a set: PAPI_state(3). ENOEVST.
     pub fn state(&self, set: u32) -> Result<u32, Code>
-        ensures made { Made self.now self.now (call.State set) (reply_of (λ bits. body.State bits) result) }
+        ensures made { Made self.now self.now (call.State set)
+            (reply_of (λ bits. body.State bits) result) }
     {
         self.session.state(self.catalog.book(), set)
     }
 
     /// The events of a set in the order in which they were added: PAPI_list_events(3). ENOEVST.
     pub fn list_events(&self, set: u32) -> Result<Events, Code>
-        ensures made { Made self.now self.now (call.ListEvents set) (reply_of (λ events. body.Events events) result) }
+        ensures made { Made self.now self.now (call.ListEvents set)
+            (reply_of (λ events. body.Events events) result) }
     {
         self.session.list_events(self.catalog.book(), set)
     }
@@ -132,7 +135,8 @@ impl Library {
     /// The native events of a set, and the counter of each, as they are when the set starts. ENOEVST, ECOMBO where it is
     /// multiplexed.
     pub fn assign(&self, set: u32) -> Result<Assigned, Code>
-        ensures made { Made self.now self.now (call.Assign set) (reply_of (λ assigned. body.Assigned assigned) result) }
+        ensures made { Made self.now self.now (call.Assign set)
+            (reply_of (λ assigned. body.Assigned assigned) result) }
     {
         self.session.assign(self.catalog.book(), set)
     }
@@ -140,7 +144,8 @@ impl Library {
     /// The register of a counter of a set that runs. ENOEVST, ENOTRUN, EINVAL where no native event of the set is on the counter,
     /// ECOMBO where it is multiplexed.
     pub fn raw(&self, set: u32, c: u32) -> Result<u64, Code>
-        ensures made { Made self.now self.now (call.Raw set c) (reply_of (λ value. body.Register value) result) }
+        ensures made { Made self.now self.now (call.Raw set c)
+            (reply_of (λ value. body.Register value) result) }
     {
         self.session.raw(self.catalog.book(), set, c)
     }

@@ -26,7 +26,8 @@ impl Library {
     /// An `Err` comes as of a call by name; nothing is changed then.
     pub fn code_of(&mut self, name: &str) -> Result<Result<u32, Code>, AllocError>
         ensures answered { IfOk result (λ code.
-            Answered self.old self.new (asked.CodeOf (looked_up self.old.catalog name.now)) (reply_of (λ n. body.EventCode n) code)) }
+            Answered self.old self.new (asked.CodeOf (looked_up self.old.catalog name.now))
+            (reply_of (λ n. body.EventCode n) code)) }
         ensures unchanged { OnErr result (self.new ≡ self.old) }
     {
         match self.catalog.lookup(name) {
@@ -39,7 +40,8 @@ impl Library {
     /// The event of a code: a preset, a user event, or a native event that was mentioned: PAPI_event_code_to_name(3). ENOEVNT for any
     /// other code.
     pub fn event_of(&self, code: u32) -> Result<EventRef, Code>
-        ensures answered { Answered self.now self.now (asked.NameOf code) (reply_of (λ e. body.EventName e) result) }
+        ensures answered { Answered self.now self.now (asked.NameOf code)
+            (reply_of (λ e. body.EventName e) result) }
         ensures event { result ≡ event_coded self.now.catalog self.now.mentioned code }
         ensures known { IfOk result (IsKnown self.now.mentioned) }
         ensures fits { IfOk result (EventFits (shape_of self.now.catalog.tables)) }
@@ -78,7 +80,9 @@ impl Library {
     /// The name of the event of a code, a symbol or a canonical name: PAPI_event_code_to_name(3). The `Err` is that memory ran out.
     pub fn name_of(&self, alloc: Global, code: u32) -> Result<Result<String, Code>, AllocError>
         ensures name { IfOk result (λ name.
-            map_ok string_bytes name ≡ map_ok (event_name self.now.catalog) (event_coded self.now.catalog self.now.mentioned code)) }
+            map_ok string_bytes name
+            ≡ map_ok (event_name self.now.catalog)
+            (event_coded self.now.catalog self.now.mentioned code)) }
     {
         match self.event_of(code) {
             Ok(event) => Ok(Ok(self.catalog.event_name(alloc, &event)?)),
@@ -103,7 +107,8 @@ impl Library {
 
     /// Adds the event of a code to a set, and zeroes its counts: PAPI_add_event(3). The refusals are those of the session.
     pub fn add_coded(&mut self, set: u32, code: u32) -> Result<(), Refusal>
-        ensures made { Made self.old self.new (call.Add set (coded self.old.catalog self.old.mentioned code)) (changed_reply result) }
+        ensures made { Made self.old self.new
+            (call.Add set (coded self.old.catalog self.old.mentioned code)) (changed_reply result) }
     {
         let e = self.coded(code);
         self.session.add(self.catalog.book(), set, &e)
@@ -111,7 +116,8 @@ impl Library {
 
     /// Takes the event of a code from a set, and zeroes its counts: PAPI_remove_event(3). The refusals are those of the session.
     pub fn remove_coded(&mut self, set: u32, code: u32) -> Code
-        ensures made { Made self.old self.new (call.Remove set (coded self.old.catalog self.old.mentioned code)) (plain result) }
+        ensures made { Made self.old self.new
+            (call.Remove set (coded self.old.catalog self.old.mentioned code)) (plain result) }
     {
         let e = self.coded(code);
         self.session.remove(self.catalog.book(), set, &e)
@@ -120,7 +126,9 @@ impl Library {
     /// Sets the threshold of the event of a code, where 0 clears it, and zeroes the set's counts: PAPI_overflow(3). The refusals are
     /// those of the session.
     pub fn overflow_coded(&mut self, set: u32, code: u32, threshold: u64) -> Code
-        ensures made { Made self.old self.new (call.Overflow set (coded self.old.catalog self.old.mentioned code) threshold) (plain result) }
+        ensures made { Made self.old self.new
+            (call.Overflow set (coded self.old.catalog self.old.mentioned code) threshold)
+            (plain result) }
     {
         let e = self.coded(code);
         self.session

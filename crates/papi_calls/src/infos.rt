@@ -55,7 +55,8 @@ fn native_text(
     natives: &Natives,
     place: u32,
 ) -> Result<String, AllocError>
-    ensures { IfOk result (λ text. string_bytes text ≡ Infos.native_in tables.now natives.now place) }
+    ensures { IfOk result (λ text.
+        string_bytes text ≡ Infos.native_in tables.now natives.now place) }
 {
     if place < natives.len() {
         write_name(alloc, tables, &natives.at(place))
@@ -112,7 +113,8 @@ fn derived_part(
     derived: &Derived,
     part: InfoPart,
 ) -> Result<String, AllocError>
-    ensures { IfOk result (λ text. string_bytes text ≡ Infos.derived_part tables.now part derived.now) }
+    ensures { IfOk result (λ text.
+        string_bytes text ≡ Infos.derived_part tables.now part derived.now) }
 {
     match part {
         InfoPart::DerivedType => String::from_str(alloc, kind_text(kind_of(derived.rule()))),
@@ -151,7 +153,9 @@ impl Library {
         part: InfoPart,
     ) -> Result<Result<String, Code>, AllocError>
         ensures text { IfOk result (λ text.
-            map_ok string_bytes text ≡ map_ok (info_of self.now.catalog part) (event_coded self.now.catalog self.now.mentioned code)) }
+            map_ok string_bytes text
+            ≡ map_ok (info_of self.now.catalog part)
+            (event_coded self.now.catalog self.now.mentioned code)) }
     {
         match self.event_of(code) {
             Ok(event) => Ok(Ok(info(alloc, &self.catalog, &event, part)?)),

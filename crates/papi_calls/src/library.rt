@@ -56,7 +56,9 @@ fn session_of(
     stream: Vec<u8>,
 ) -> Result<Session<MemSource>, AllocError>
     ensures ready { IfOk result (λ s. IsReady catalog.now.book s) }
-    ensures stands { IfOk result (λ s. Stands catalog.now.book s (opening thread (occurs_of End stream.items).rest (occurs_of End stream.items).mark)) }
+    ensures stands { IfOk result
+        (λ s. Stands catalog.now.book s
+        (opening thread (occurs_of End stream.items).rest (occurs_of End stream.items).mark)) }
     ensures shape { IfOk result (λ s. s.core.shape ≡ shape_of catalog.now.tables) }
 {
     let _book = catalog.book();

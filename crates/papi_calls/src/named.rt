@@ -24,7 +24,8 @@ impl Library {
     pub(crate) fn mention(&mut self, native: Native) -> Result<u32, AllocError>
         requires fits { Fits (shape_of self.old.catalog.tables) native }
         ensures code { IfOk result (λ code. code ≡ native_code self.new.mentioned native) }
-        ensures mentioned { OnOk result (self.new.mentioned ≡ joined_by self.old.mentioned (native ∷ [])) }
+        ensures mentioned { OnOk result
+            (self.new.mentioned ≡ joined_by self.old.mentioned (native ∷ [])) }
         ensures catalog { self.new.catalog ≡ self.old.catalog }
         ensures session { self.new.session ≡ self.old.session }
         ensures unchanged { OnErr result (self.new ≡ self.old) }
@@ -39,7 +40,8 @@ impl Library {
     fn name(&mut self, text: &str) -> Result<Named, AllocError>
         ensures named { IfOk result (λ e. e ≡ looked_up self.old.catalog text.now) }
         ensures good { IfOk result (IsNamed self.old.catalog.book self.old.session.core.shape) }
-        ensures mentioned { IfOk result (λ e. self.new.mentioned ≡ joined_by self.old.mentioned (mentions_of (CodeOf e))) }
+        ensures mentioned { IfOk result
+            (λ e. self.new.mentioned ≡ joined_by self.old.mentioned (mentions_of (CodeOf e))) }
         ensures catalog { self.new.catalog ≡ self.old.catalog }
         ensures session { self.new.session ≡ self.old.session }
         ensures unchanged { OnErr result (self.new ≡ self.old) }
@@ -56,7 +58,9 @@ impl Library {
     /// An `Err` comes where memory is refused, and where as many native events as there are codes were mentioned. Nothing is changed
     /// then, here and below.
     pub fn add_named(&mut self, set: u32, name: &str) -> Result<Result<(), Refusal>, AllocError>
-        ensures made { IfOk result (λ answer. Made self.old self.new (call.Add set (looked_up self.old.catalog name.now)) (changed_reply answer)) }
+        ensures made { IfOk result
+            (λ answer. Made self.old self.new (call.Add set (looked_up self.old.catalog name.now))
+            (changed_reply answer)) }
         ensures unchanged { OnErr result (self.new ≡ self.old) }
     {
         let e = self.name(name)?;
@@ -65,7 +69,9 @@ impl Library {
 
     /// Takes the event of a name from a set, and zeroes its counts: PAPI_remove_named_event(3). The refusals are those of the session.
     pub fn remove_named(&mut self, set: u32, name: &str) -> Result<Code, AllocError>
-        ensures made { IfOk result (λ code. Made self.old self.new (call.Remove set (looked_up self.old.catalog name.now)) (plain code)) }
+        ensures made { IfOk result
+            (λ code. Made self.old self.new (call.Remove set (looked_up self.old.catalog name.now))
+            (plain code)) }
         ensures unchanged { OnErr result (self.new ≡ self.old) }
     {
         let e = self.name(name)?;
@@ -80,7 +86,9 @@ impl Library {
         name: &str,
         threshold: u64,
     ) -> Result<Code, AllocError>
-        ensures made { IfOk result (λ code. Made self.old self.new (call.Overflow set (looked_up self.old.catalog name.now) threshold) (plain code)) }
+        ensures made { IfOk result
+            (λ code. Made self.old self.new
+            (call.Overflow set (looked_up self.old.catalog name.now) threshold) (plain code)) }
         ensures unchanged { OnErr result (self.new ≡ self.old) }
     {
         let e = self.name(name)?;

@@ -36,7 +36,8 @@ fn component_part(
     comp: u32,
     part: ComponentPart,
 ) -> Result<Option<String>, AllocError>
-    ensures { IfOk result (λ text. option_map string_bytes text ≡ Rows.component_text tables.now part comp) }
+    ensures { IfOk result (λ text. option_map string_bytes text
+        ≡ Rows.component_text tables.now part comp) }
 {
     let Some(component) = tables.component(comp) else {
         return Ok(None);
@@ -53,7 +54,8 @@ fn component_part(
 
 // The umask of an event in a place.
 fn mask_in(event: &EventRow, place: u32) -> Option<&UmaskRow>
-    ensures { option_map (λ m. Views.mask_text m.now) result ≡ slice_get (Views.event_text event.now).masks place }
+    ensures { option_map (λ m. Views.mask_text m.now) result
+        ≡ slice_get (Views.event_text event.now).masks place }
 {
     event.masks.as_slice().get(place as usize)
 }
@@ -126,7 +128,9 @@ impl Library {
         comp: u32,
         part: ComponentPart,
     ) -> Result<Option<String>, AllocError>
-        ensures text { IfOk result (λ text. option_map string_bytes text ≡ Rows.component_text self.now.catalog.tables part comp) }
+        ensures text { IfOk result
+            (λ text. option_map string_bytes text
+            ≡ Rows.component_text self.now.catalog.tables part comp) }
     {
         component_part(alloc, self.catalog.tables(), comp, part)
     }
@@ -139,7 +143,9 @@ impl Library {
         row: u32,
         part: NativePart,
     ) -> Result<Option<String>, AllocError>
-        ensures text { IfOk result (λ text. option_map string_bytes text ≡ Rows.native_text self.now.catalog.tables part comp row) }
+        ensures text { IfOk result
+            (λ text. option_map string_bytes text
+            ≡ Rows.native_text self.now.catalog.tables part comp row) }
     {
         let tables = self.catalog.tables();
         let Some(component) = tables.component(comp) else {
@@ -153,14 +159,17 @@ impl Library {
 
     /// The component of the event of a code: PAPI_get_event_component(3). ENOEVNT where it is the code of no event that is available.
     pub fn component_of(&self, code: u32) -> Result<u32, Code>
-        ensures component { result ≡ of_event (Rows.component_of self.now.catalog.book) (event_coded self.now.catalog self.now.mentioned code) }
+        ensures component { result
+            ≡ of_event (Rows.component_of self.now.catalog.book)
+            (event_coded self.now.catalog self.now.mentioned code) }
     {
         component_of(self.catalog.book(), &self.event_of(code)?)
     }
 
     /// The row in its component of the native event of a code. ENOEVNT where it is the code of no native event.
     pub fn row_of(&self, code: u32) -> Result<u32, Code>
-        ensures row { result ≡ of_event Rows.row_of (event_coded self.now.catalog self.now.mentioned code) }
+        ensures row { result ≡ of_event Rows.row_of
+            (event_coded self.now.catalog self.now.mentioned code) }
     {
         row_of(&self.event_of(code)?)
     }

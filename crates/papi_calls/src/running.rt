@@ -15,8 +15,11 @@ impl Library {
     /// alone.
     pub fn run(&mut self, n: u32, h: &mut dyn Handler) -> Result<Ran, AllocError>
         ensures follows { IfOk result (λ ran.
-            FollowsAs self.old.catalog.book self.old.session self.new.session (call.Run n) (run_reply ran) (notes h.old) (notes h.new)) }
-        ensures cut { OnErr result (IsCut self.old.catalog.book self.old.session self.new.session n (notes h.old) (notes h.new)) }
+            FollowsAs self.old.catalog.book self.old.session self.new.session (call.Run n)
+            (run_reply ran) (notes h.old) (notes h.new)) }
+        ensures cut { OnErr result
+            (IsCut self.old.catalog.book self.old.session self.new.session n (notes h.old)
+            (notes h.new)) }
         ensures catalog { self.new.catalog ≡ self.old.catalog }
         ensures mentioned { self.new.mentioned ≡ self.old.mentioned }
     {
@@ -27,7 +30,8 @@ impl Library {
     /// room it stops before the next occurrence, and says that it is full: no note is lost, and a further run goes on. It takes no memory.
     pub fn run_into(&mut self, n: u32, out: &mut [Note]) -> Filled
         ensures follows { FollowsAs self.old.catalog.book self.old.session self.new.session
-            (call.Run (asked_for n result)) (run_reply result.ran) [] (take result.ran.notes out.new) }
+            (call.Run (asked_for n result)) (run_reply result.ran) []
+            (take result.ran.notes out.new) }
         ensures full { result.full ≡ true → length out.new < result.ran.notes + 32 }
         ensures early { result.full ≡ true → result.ran.consumed < n }
         ensures fits { result.ran.notes ≤ length out.new }

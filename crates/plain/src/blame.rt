@@ -24,7 +24,8 @@ fn counters_of(allowed: &[u32], members: u32) -> u32
 // Whether the set of places has more members than counters that any of them is allowed.
 fn is_deficient(allowed: &[u32], members: u32) -> bool
     requires { length allowed.now ≤ MOST_SET_NATIVES }
-    ensures { result ≡ nat_lt (count_ones (counters_allowed allowed.now members)) (count_ones members) }
+    ensures { result ≡ nat_lt (count_ones (counters_allowed allowed.now members))
+        (count_ones members) }
 {
     counters_of(allowed, members).count_ones() < members.count_ones()
 }
@@ -46,7 +47,8 @@ fn shortest_prefix(allowed: &[u32]) -> usize
 // The places that lie in each deficient set.
 fn in_each_deficient(allowed: &[u32]) -> u32
     requires { length allowed.now < MOST_SET_NATIVES }
-    ensures { result ≡ BlameOf.in_each_set (length allowed.now) (BlameOf.deficient_sets allowed.now) }
+    ensures { result ≡ BlameOf.in_each_set (length allowed.now)
+        (BlameOf.deficient_sets allowed.now) }
 {
     let sets = 1u32 << allowed.len();
     let mut members = sets - 1;

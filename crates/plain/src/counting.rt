@@ -67,7 +67,12 @@ impl Turn {
     fn runs_at(&self, tick: u128) -> bool
         requires slice { 0 < self.now.slice }
         requires groups { 0 < self.now.groups }
-        ensures { (start : ℕ) → result ≡ Turns.has_turn (record { slice = self.now.slice; count = self.now.groups; start = start }) self.now.group tick }
+        ensures { (start : ℕ) → result
+            ≡ Turns.has_turn (record {
+              slice = self.now.slice;
+              count = self.now.groups;
+              start = start;
+            }) self.now.group tick }
     {
         tick / u128::from(self.slice) % u128::from(self.groups) == u128::from(self.group)
     }
@@ -80,8 +85,13 @@ fn count_in_turn(past: &[Occ], window: Window, turn: &Turn, start: u128, n: &Nat
     requires slice { 0 < turn.now.slice }
     requires groups { 0 < turn.now.groups }
     ensures counted { (s : Kept) → IsOver s window →
-        let turns : Turns.Turns = record { slice = turn.now.slice; count = turn.now.groups; start = start } in
-        result ≡ weighed (Turns.weight_in_turn turns turn.now.group n.now window.domain) past.now s }
+        let turns : Turns.Turns = record {
+          slice = turn.now.slice;
+          count = turn.now.groups;
+          start = start;
+        } in
+        result ≡ weighed (Turns.weight_in_turn turns turn.now.group n.now window.domain) past.now
+        s }
     ensures small { result ≤ LARGEST_AMOUNT * length past.now }
 {
     let mut count = 0;
@@ -97,7 +107,9 @@ fn count_in_turn(past: &[Occ], window: Window, turn: &Turn, start: u128, n: &Nat
 fn active(turn: &Turn, total: u128) -> u128
     requires slice { 0 < turn.now.slice }
     requires groups { 0 < turn.now.groups }
-    ensures { (start : ℕ) → result ≡ Turns.active (record { slice = turn.now.slice; count = turn.now.groups; start = start }) turn.now.group total }
+    ensures { (start : ℕ) → result
+        ≡ Turns.active (record { slice = turn.now.slice; count = turn.now.groups; start = start })
+        turn.now.group total }
 {
     let mut active = 0;
     for tick in 0..total {
@@ -117,7 +129,8 @@ pub fn estimate(past: &[Occ], window: Window, turn: &Turn, n: &Native) -> u128
     requires slice { 0 < turn.now.slice }
     requires groups { 0 < turn.now.groups }
     ensures { (s : Kept) → IsOver s window
-        → result ≡ estimated_in past.now s (turns_in past.now window turn.now) turn.now.group n.now }
+        → result ≡ estimated_in past.now s (turns_in past.now window turn.now) turn.now.group
+        n.now }
 {
     let start = clock(past, window.from);
     let total = clock(past, window.to).saturating_sub(start);

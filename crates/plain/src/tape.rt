@@ -36,7 +36,8 @@ fn first_line(text: &[u8]) -> (usize, bool)
 
 // Keeps the occurrence of a line, if it has one.
 fn keep(occurrences: &mut Vec<Occ>, judgement: &Judgement) -> Result<(), AllocError>
-    ensures { OnOk result (occurrences.new.items ≡ occurrences.old.items ++ occurrence_of judgement.now) }
+    ensures { OnOk result (occurrences.new.items
+        ≡ occurrences.old.items ++ occurrence_of judgement.now) }
 {
     if let Judgement::Occurs(o) = judgement {
         occurrences.push(*o)?;
@@ -47,7 +48,8 @@ fn keep(occurrences: &mut Vec<Occ>, judgement: &Judgement) -> Result<(), AllocEr
 /// What a tape says that is read to its end: it is cut at each newline, and each line is judged by itself.
 pub fn said_by(alloc: Global, tape: &[u8]) -> Result<Said, AllocError>
     requires { length tape.now < 2 ^ 32 }
-    ensures occurrences { IfOk result (λ said. said.occurrences.items ≡ (occurs_of End tape.now).rest) }
+    ensures occurrences { IfOk result
+        (λ said. said.occurrences.items ≡ (occurs_of End tape.now).rest) }
     ensures mark { IfOk result (λ said. mark_of said.bad ≡ (occurs_of End tape.now).mark) }
 {
     let mut occurrences = Vec::new(alloc);

@@ -30,7 +30,8 @@ fn one_name(alloc: Global, arguments: &[&[u8]]) -> Result<Text, LineFault>
 
 // The reading at which the innermost open region began, which must have this name.
 fn begun_of(opens: Option<&OpenRegion>, name: &Text) -> Result<usize, LineFault>
-    ensures { Answers result (Lines.begun_of (option_map (λ o. open_text o.now) opens.entry) name.now) }
+    ensures { Answers result
+        (Lines.begun_of (option_map (λ o. open_text o.now) opens.entry) name.now) }
 {
     match opens {
         Some(opens) if opens.name.as_str() == name.as_str() => Ok(opens.begun),
@@ -46,7 +47,8 @@ fn begun_name(
     arguments: &[&[u8]],
 ) -> Result<Text, LineFault>
     requires { thread < THREADS }
-    ensures { Answers result (Lines.begun_name (open_of opens.now thread) (map (λ w. w.now) arguments.now)) }
+    ensures { Answers result
+        (Lines.begun_name (open_of opens.now thread) (map (λ w. w.now) arguments.now)) }
 {
     if opens.count(thread) >= MOST_OPEN {
         return Err(LineFault::Cause(RegionCause::OverLimit));
@@ -60,7 +62,9 @@ fn innermost_name(
     opens: Option<&OpenRegion>,
     arguments: &[&[u8]],
 ) -> Result<(Text, usize), LineFault>
-    ensures { Answers result (Lines.innermost_name (option_map (λ o. open_text o.now) opens.entry) (map (λ w. w.now) arguments.now)) }
+    ensures { Answers result
+        (Lines.innermost_name (option_map (λ o. open_text o.now) opens.entry)
+        (map (λ w. w.now) arguments.now)) }
 {
     let name = one_name(alloc, arguments)?;
     let begun = begun_of(opens, &name)?;
@@ -77,7 +81,9 @@ fn call_of(
     arguments: &[&[u8]],
 ) -> Result<(RegionCall, usize), LineFault>
     requires { thread < THREADS }
-    ensures call { Answers result (Lines.call_of readings (open_of opens.now thread) word.now (map (λ w. w.now) arguments.now)) }
+    ensures call { Answers result
+        (Lines.call_of readings (open_of opens.now thread) word.now
+        (map (λ w. w.now) arguments.now)) }
     ensures count { IfOk result (λ called. count_of called.0 < 2 ^ 32) }
 {
     if word == b"begin".as_slice() {
@@ -109,7 +115,8 @@ fn line_of_thread(
     words: &[&[u8]],
 ) -> Result<RegionLine, LineFault>
     requires { thread < THREADS }
-    ensures line { Answers result (Lines.line_of_thread number readings opens.now thread (map (λ w. w.now) words.now)) }
+    ensures line { Answers result
+        (Lines.line_of_thread number readings opens.now thread (map (λ w. w.now) words.now)) }
     ensures same { IfOk result (λ line. line.thread ≡ thread) }
     ensures count { IfOk result (λ line. count_of line.call < 2 ^ 32) }
 {
@@ -133,7 +140,8 @@ fn line_of_words(
     opens: &OpenRegions,
     words: &[&[u8]],
 ) -> Result<RegionLine, LineFault>
-    ensures line { Answers result (Lines.line_of_words number readings opens.now (map (λ w. w.now) words.now)) }
+    ensures line { Answers result
+        (Lines.line_of_words number readings opens.now (map (λ w. w.now) words.now)) }
     ensures thread { IfOk result (λ line. line.thread < THREADS) }
     ensures count { IfOk result (λ line. count_of line.call < 2 ^ 32) }
 {

@@ -57,7 +57,8 @@ fn take_call(
     opens: &mut Vec<OpenRegion>,
     line: &RegionLine,
 ) -> Result<(), AllocError>
-    ensures { OnOk result (stack_text opens.new.items ≡ Lines.after_call (stack_text opens.old.items) line.now line.now.call) }
+    ensures { OnOk result (stack_text opens.new.items
+        ≡ Lines.after_call (stack_text opens.old.items) line.now line.now.call) }
 {
     match &line.call {
         RegionCall::Begin { name } => {
@@ -83,7 +84,8 @@ fn take_line(
     line: &RegionLine,
 ) -> Result<(), AllocError>
     requires { line.now.thread < vec_len threads.old }
-    ensures after { OnOk result (stacks_text threads.new.items ≡ after_line (stacks_text threads.old.items) line.now) }
+    ensures after { OnOk result
+        (stacks_text threads.new.items ≡ after_line (stacks_text threads.old.items) line.now) }
     ensures all { length threads.new.items ≡ length threads.old.items }
 {
     take_call(alloc, &mut threads[line.thread as usize], line)

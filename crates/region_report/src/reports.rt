@@ -33,7 +33,8 @@ pub(crate) fn name_in(call: &RegionCall) -> &str
 }
 
 pub(crate) fn push_values(text: &mut String, values: &Values) -> Result<(), AllocError>
-    ensures { OnOk result (string_bytes text.new ≡ string_bytes text.old ++ values_text values.now) }
+    ensures { OnOk result (string_bytes text.new
+        ≡ string_bytes text.old ++ values_text values.now) }
 {
     for i in 0..values.len() {
         let value = values.at(i);
@@ -44,7 +45,8 @@ pub(crate) fn push_values(text: &mut String, values: &Values) -> Result<(), Allo
 
 // Appends the line of a `read`, where this is one.
 fn push_read(text: &mut String, span: &LineSpan<'_>) -> Result<(), AllocError>
-    ensures { OnOk result (string_bytes text.new ≡ string_bytes text.old ++ read_text (span_text span.now)) }
+    ensures { OnOk result (string_bytes text.new
+        ≡ string_bytes text.old ++ read_text (span_text span.now)) }
 {
     let line = span.line.line;
     let thread = span.line.thread;
@@ -60,7 +62,8 @@ fn push_read(text: &mut String, span: &LineSpan<'_>) -> Result<(), AllocError>
 
 // Appends the lines of the reads, in the order of the script.
 fn push_reads(text: &mut String, spans: &[LineSpan<'_>]) -> Result<(), AllocError>
-    ensures { OnOk result (string_bytes text.new ≡ string_bytes text.old ++ flat_map read_text (map span_text spans.now)) }
+    ensures { OnOk result (string_bytes text.new
+        ≡ string_bytes text.old ++ flat_map read_text (map span_text spans.now)) }
 {
     for span in spans {
         push_read(text, span)?;
@@ -91,7 +94,8 @@ fn push_threads(
 #[tactic(auto, unfolding(crate::specs::Reports::report_text))]
 fn text_of(alloc: Global, events: u32, spans: &[LineSpan<'_>]) -> Result<String, AllocError>
     requires { events ≤ MOST_SET_EVENTS }
-    ensures { IfOk result (λ text. string_bytes text ≡ report_text events (map span_text spans.now)) }
+    ensures { IfOk result (λ text.
+        string_bytes text ≡ report_text events (map span_text spans.now)) }
 {
     let mut text = String::new(alloc);
     push_reads(&mut text, spans)?;
@@ -110,7 +114,9 @@ pub fn report(
     readings: &[Reading],
 ) -> Result<String, AllocError>
     requires { events ≤ MOST_SET_EVENTS }
-    ensures { IfOk result (λ text. string_bytes text ≡ report_text events (spans_from (reading_values readings.now) 0 regions.now)) }
+    ensures { IfOk result (λ text.
+        string_bytes text ≡ report_text events
+        (spans_from (reading_values readings.now) 0 regions.now)) }
 {
     let spans = spans_of(alloc, regions.lines(), readings)?;
     text_of(alloc, events, spans.as_slice())

@@ -14,14 +14,16 @@ use std::alloc::{AllocError, Global};
 use std::fmt::Write;
 
 fn push_call(text: &mut String, thread: u32, words: &str) -> Result<(), AllocError>
-    ensures { OnOk result (string_bytes text.new ≡ string_bytes text.old ++ call_text thread words.now) }
+    ensures { OnOk result (string_bytes text.new
+        ≡ string_bytes text.old ++ call_text thread words.now) }
 {
     writeln!(text, "{thread} {words}")
 }
 
 // Appends the adds of the events.
 fn push_adds(text: &mut String, thread: u32, events: &[Text]) -> Result<(), AllocError>
-    ensures { OnOk result (string_bytes text.new ≡ string_bytes text.old ++ flat_map (add_text thread) events.now) }
+    ensures { OnOk result (string_bytes text.new
+        ≡ string_bytes text.old ++ flat_map (add_text thread) events.now) }
 {
     for event in events {
         writeln!(text, "{thread} add 0 {event}")?;
@@ -31,7 +33,8 @@ fn push_adds(text: &mut String, thread: u32, events: &[Text]) -> Result<(), Allo
 
 // Appends the calls that make a set of the events and start it.
 fn push_opening(text: &mut String, thread: u32, events: &[Text]) -> Result<(), AllocError>
-    ensures { OnOk result (string_bytes text.new ≡ string_bytes text.old ++ opening events.now thread) }
+    ensures { OnOk result (string_bytes text.new
+        ≡ string_bytes text.old ++ opening events.now thread) }
 {
     push_call(text, thread, "create")?;
     push_adds(text, thread, events)?;
@@ -52,7 +55,8 @@ fn push_thread(
     events: &[Text],
     thread: u32,
 ) -> Result<(), AllocError>
-    ensures { OnOk result (string_bytes text.new ≡ string_bytes text.old ++ thread_opening lines.now events.now thread) }
+    ensures { OnOk result (string_bytes text.new
+        ≡ string_bytes text.old ++ thread_opening lines.now events.now thread) }
 {
     if has_lines(lines, thread) {
         push_opening(text, thread, events)
@@ -63,7 +67,9 @@ fn push_thread(
 
 // Appends the openings of the threads that have lines.
 fn push_openings(text: &mut String, lines: &[RegionLine], events: &[Text]) -> Result<(), AllocError>
-    ensures { OnOk result (string_bytes text.new ≡ string_bytes text.old ++ flat_map (thread_opening lines.now events.now) (range_with_len 0 THREADS)) }
+    ensures { OnOk result (string_bytes text.new
+        ≡ string_bytes text.old ++ flat_map (thread_opening lines.now events.now)
+        (range_with_len 0 THREADS)) }
 {
     for thread in 0..THREADS {
         push_thread(text, lines, events, thread)?;
@@ -84,7 +90,8 @@ fn push_line(text: &mut String, line: &RegionLine) -> Result<(), AllocError>
 
 // Appends the calls of all lines.
 fn push_lines(text: &mut String, lines: &[RegionLine]) -> Result<(), AllocError>
-    ensures { OnOk result (string_bytes text.new ≡ string_bytes text.old ++ flat_map line_text lines.now) }
+    ensures { OnOk result (string_bytes text.new
+        ≡ string_bytes text.old ++ flat_map line_text lines.now) }
 {
     for line in lines {
         push_line(text, line)?;
@@ -107,8 +114,11 @@ fn calls_text(alloc: Global, lines: &[RegionLine], events: &[Text]) -> Result<St
 /// begins, reads or ends a region reads it, and the other lines run. Where each event is a word and a set can have as many, `read_script`
 /// reads the script as these calls.
 pub fn script_of(alloc: Global, regions: &Regions, events: &[Text]) -> Result<String, AllocError>
-    ensures text { IfOk result (λ text. string_bytes text ≡ Calls.script_text regions.now events.now) }
-    ensures read { AreEvents events.now → IfOk result (λ text. Scripts.script_of (string_bytes text) ≡ Ok (numbered 1 (asked regions.now events.now))) }
+    ensures text { IfOk result
+        (λ text. string_bytes text ≡ Calls.script_text regions.now events.now) }
+    ensures read { AreEvents events.now
+        → IfOk result (λ text. Scripts.script_of (string_bytes text)
+        ≡ Ok (numbered 1 (asked regions.now events.now))) }
 {
     let lines = regions.lines();
     let text = calls_text(alloc, lines, events)?;

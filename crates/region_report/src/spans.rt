@@ -54,7 +54,8 @@ fn values_at(readings: &[Reading], i: usize) -> Values
 
 // What was counted at a line that has the reading of this number.
 fn values_since(readings: &[Reading], i: usize, line: &RegionLine) -> Values
-    ensures { result ≡ Spans.difference (Spans.values_at (reading_values readings.now) i) (Spans.values_at (reading_values readings.now) line.now.begun) }
+    ensures { result ≡ Spans.difference (Spans.values_at (reading_values readings.now) i)
+        (Spans.values_at (reading_values readings.now) line.now.begun) }
 {
     difference(&values_at(readings, i), &values_at(readings, line.begun))
 }
@@ -81,7 +82,8 @@ pub(crate) fn spans_of<'a>(
     lines: &'a [RegionLine],
     readings: &[Reading],
 ) -> Result<Vec<LineSpan<'a>>, AllocError>
-    ensures { IfOk result (λ spans. map span_text spans.items ≡ spans_from (reading_values readings.now) 0 lines.entry.now) }
+    ensures { IfOk result (λ spans. map span_text spans.items
+        ≡ spans_from (reading_values readings.now) 0 lines.entry.now) }
 {
     let mut spans = Vec::new(alloc);
     for line in lines {

@@ -31,7 +31,8 @@ pub(crate) struct RegionTotal {
 
 // A name after others, where it is not one of them.
 fn add_name<'a>(names: &mut IndexSet<&'a str>, name: &'a str) -> Result<(), AllocError>
-    ensures { OnOk result (map (λ n. n.now) names.new.keys ≡ with_name (map (λ n. n.now) names.old.keys) name.now) }
+    ensures { OnOk result (map (λ n. n.now) names.new.keys
+        ≡ with_name (map (λ n. n.now) names.old.keys) name.now) }
 {
     names.insert(name)?;
     Ok(())
@@ -43,7 +44,8 @@ fn add_begin<'a>(
     thread: u32,
     span: &LineSpan<'a>,
 ) -> Result<(), AllocError>
-    ensures { OnOk result (map (λ n. n.now) names.new.keys ≡ with_begin thread (map (λ n. n.now) names.old.keys) (span_text span.now)) }
+    ensures { OnOk result (map (λ n. n.now) names.new.keys
+        ≡ with_begin thread (map (λ n. n.now) names.old.keys) (span_text span.now)) }
 {
     if span.line.thread == thread && matches!(&span.line.call, RegionCall::Begin { name: _ }) {
         add_name(names, name_in(&span.line.call))?;
@@ -57,7 +59,8 @@ fn names_of<'a>(
     thread: u32,
     spans: &[LineSpan<'a>],
 ) -> Result<IndexSet<&'a str>, AllocError>
-    ensures { IfOk result (λ names. map (λ n. n.now) names.keys ≡ names_of thread (map span_text spans.now)) }
+    ensures { IfOk result (λ names. map (λ n. n.now) names.keys
+        ≡ names_of thread (map span_text spans.now)) }
 {
     let mut names = IndexSet::new(alloc);
     for span in spans {
@@ -76,7 +79,8 @@ fn place_in(names: &IndexSet<&str>, name: &str) -> Option<usize>
 
 // The place of the region of which an instance ends here.
 fn place_of(names: &IndexSet<&str>, thread: u32, span: &LineSpan<'_>) -> Option<usize>
-    ensures place { result ≡ Totals.place_of (map (λ n. n.now) names.now.keys) thread (span_text span.now) }
+    ensures place { result ≡ Totals.place_of (map (λ n. n.now) names.now.keys) thread
+        (span_text span.now) }
     ensures within { IfSome result (λ i. i < index_set_len names.now) }
 {
     if span.line.thread == thread && matches!(&span.line.call, RegionCall::End { name: _ }) {
@@ -129,7 +133,9 @@ fn add_at(totals: &mut Vec<RegionTotal>, place: Option<usize>, values: &Values)
 // As many totals of no instances.
 fn no_totals(alloc: Global, events: u32, count: usize) -> Result<Vec<RegionTotal>, AllocError>
     requires { events ≤ MOST_SET_EVENTS }
-    ensures { IfOk result (λ totals. totals.items ≡ replicate count (record { instances = 0; values = replicate events (pos 0) })) }
+    ensures { IfOk result (λ totals.
+        totals.items ≡ replicate count
+        (record { instances = 0; values = replicate events (pos 0) })) }
 {
     let mut totals = Vec::new(alloc);
     for _region in 0..count {
@@ -150,8 +156,11 @@ fn totals_of(
     names: &IndexSet<&str>,
 ) -> Result<Vec<RegionTotal>, AllocError>
     requires events { events ≤ MOST_SET_EVENTS }
-    requires names { map (λ n. n.now) names.now.keys ≡ Reports.names_of thread (map span_text spans.now) }
-    ensures { IfOk result (λ totals. totals.items ≡ map (total_of events thread (map span_text spans.now)) (map (λ n. n.now) names.now.keys)) }
+    requires names { map (λ n. n.now) names.now.keys
+        ≡ Reports.names_of thread (map span_text spans.now) }
+    ensures { IfOk result (λ totals.
+        totals.items ≡ map (total_of events thread (map span_text spans.now))
+        (map (λ n. n.now) names.now.keys)) }
 {
     let mut totals = no_totals(alloc, events, names.len())?;
     for span in spans {
@@ -170,7 +179,9 @@ fn push_total(
     name: &str,
     total: &RegionTotal,
 ) -> Result<(), AllocError>
-    ensures { OnOk result (string_bytes text.new ≡ string_bytes text.old ++ total_text thread name.now total.now.instances total.now.values) }
+    ensures { OnOk result (string_bytes text.new
+        ≡ string_bytes text.old ++ total_text thread name.now total.now.instances
+        total.now.values) }
 {
     let instances = total.instances;
     write!(text, "{thread} {name} {instances}")?;
@@ -194,7 +205,8 @@ fn push_totals(
     totals: &[RegionTotal],
 ) -> Result<(), AllocError>
     requires { length names.now ≡ length totals.now }
-    ensures { OnOk result (string_bytes text.new ≡ string_bytes text.old ++ totals_text thread (map (λ n. n.now) names.now) totals.now) }
+    ensures { OnOk result (string_bytes text.new
+        ≡ string_bytes text.old ++ totals_text thread (map (λ n. n.now) names.now) totals.now) }
 {
     for i in 0..names.len() {
         push_total(text, thread, name_at(names, i), &totals[i])?;
@@ -211,7 +223,8 @@ pub(crate) fn push_thread(
     spans: &[LineSpan<'_>],
 ) -> Result<(), AllocError>
     requires { events ≤ MOST_SET_EVENTS }
-    ensures { OnOk result (string_bytes text.new ≡ string_bytes text.old ++ thread_text events (map span_text spans.now) thread) }
+    ensures { OnOk result (string_bytes text.new
+        ≡ string_bytes text.old ++ thread_text events (map span_text spans.now) thread) }
 {
     let names = names_of(alloc, thread, spans)?;
     let totals = totals_of(alloc, events, thread, spans, &names)?;

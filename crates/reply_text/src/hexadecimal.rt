@@ -32,7 +32,8 @@ fn hex_digit(number: u32) -> &'static str
 
 // Appends the last so many hexadecimal digits of a number.
 fn push_last_hex(text: &mut String, digits: u32, number: u32) -> Result<(), AllocError>
-    ensures { OnOk result (string_bytes text.new ≡ string_bytes text.old ++ Hexadecimal.last_hex digits number) }
+    ensures { OnOk result (string_bytes text.new
+        ≡ string_bytes text.old ++ Hexadecimal.last_hex digits number) }
 {
     if digits == 0 {
         return Ok(());
@@ -43,7 +44,8 @@ fn push_last_hex(text: &mut String, digits: u32, number: u32) -> Result<(), Allo
 
 /// Appends a space, `0x` and the last so many hexadecimal digits of a number.
 pub(crate) fn push_hex(text: &mut String, digits: u32, number: u32) -> Result<(), AllocError>
-    ensures { OnOk result (string_bytes text.new ≡ string_bytes text.old ++ 32 ∷ Hexadecimal.hex_text digits number) }
+    ensures { OnOk result (string_bytes text.new
+        ≡ string_bytes text.old ++ 32 ∷ Hexadecimal.hex_text digits number) }
 {
     text.push_str(" 0x")?;
     push_last_hex(text, digits, number)

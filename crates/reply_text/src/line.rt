@@ -14,7 +14,9 @@ use std::fmt::Write;
 
 // Appends what stands before the reply.
 fn push_head(text: &mut String, line: u64, thread: u32, word: CallName) -> Result<(), AllocError>
-    ensures { OnOk result (string_bytes text.new ≡ string_bytes text.old ++ (decimal line ++ (32 ∷ (decimal thread ++ (32 ∷ word_of word))))) }
+    ensures { OnOk result (string_bytes text.new
+        ≡ string_bytes text.old ++ (decimal line
+        ++ (32 ∷ (decimal thread ++ (32 ∷ word_of word))))) }
 {
     let word = call_word(word);
     write!(text, "{line} {thread} {word}")
@@ -31,7 +33,8 @@ fn push_code(text: &mut String, code: Code) -> Result<(), AllocError>
 ///
 /// Where memory is refused, it is open how much of it is appended.
 pub fn push_reply(text: &mut String, catalog: &Catalog, reply: &Reply) -> Result<(), AllocError>
-    ensures text { OnOk result (string_bytes text.new ≡ string_bytes text.old ++ reply_text catalog.now reply.now) }
+    ensures text { OnOk result
+        (string_bytes text.new ≡ string_bytes text.old ++ reply_text catalog.now reply.now) }
 {
     push_code(text, reply.code)?;
     push_results(text, catalog, &reply.body)?;
@@ -50,7 +53,9 @@ pub fn push_reply_line(
     word: CallName,
     reply: &Reply,
 ) -> Result<(), AllocError>
-    ensures text { OnOk result (string_bytes text.new ≡ string_bytes text.old ++ line_text catalog.now line thread word reply.now) }
+    ensures text { OnOk result
+        (string_bytes text.new ≡ string_bytes text.old
+        ++ line_text catalog.now line thread word reply.now) }
 {
     push_head(text, line, thread, word)?;
     push_reply(text, catalog, reply)?;

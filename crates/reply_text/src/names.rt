@@ -17,7 +17,8 @@ pub(crate) fn push_event(
     catalog: &Catalog,
     event: &EventRef,
 ) -> Result<(), AllocError>
-    ensures { OnOk result (string_bytes text.new ≡ string_bytes text.old ++ 32 ∷ event_name catalog.now event.now) }
+    ensures { OnOk result (string_bytes text.new
+        ≡ string_bytes text.old ++ 32 ∷ event_name catalog.now event.now) }
 {
     let name = catalog.event_name(*text.allocator(), event)?;
     write!(text, " {name}")
@@ -29,7 +30,8 @@ pub(crate) fn push_native(
     catalog: &Catalog,
     native: &Native,
 ) -> Result<(), AllocError>
-    ensures { OnOk result (string_bytes text.new ≡ string_bytes text.old ++ 32 ∷ canonical catalog.now.tables native.now) }
+    ensures { OnOk result (string_bytes text.new
+        ≡ string_bytes text.old ++ 32 ∷ canonical catalog.now.tables native.now) }
 {
     let name = write_name(*text.allocator(), catalog.tables(), native)?;
     write!(text, " {name}")
@@ -52,7 +54,8 @@ pub(crate) fn push_assigned(
     native: &Native,
     counter: u32,
 ) -> Result<(), AllocError>
-    ensures { OnOk result (string_bytes text.new ≡ string_bytes text.old ++ 32 ∷ Replies.assigned_text catalog.now (native.now, counter)) }
+    ensures { OnOk result (string_bytes text.new
+        ≡ string_bytes text.old ++ 32 ∷ Replies.assigned_text catalog.now (native.now, counter)) }
 {
     push_native(text, catalog, native)?;
     let counter = counter_name(catalog, native.comp, counter);

@@ -13,7 +13,8 @@ use std::fmt::Write;
 ///
 /// Where memory is refused, it is open how much of the line is appended.
 pub fn push_note_line(text: &mut String, note: &Note) -> Result<(), AllocError>
-    ensures text { OnOk result (string_bytes text.new ≡ string_bytes text.old ++ note_text note.now) }
+    ensures text { OnOk result
+        (string_bytes text.new ≡ string_bytes text.old ++ note_text note.now) }
 {
     let Note {
         thread,

@@ -27,7 +27,8 @@ fn has(set: u64, k: u32) -> bool
 }
 
 fn push_values(text: &mut String, values: &Values) -> Result<(), AllocError>
-    ensures { OnOk result (string_bytes text.new ≡ string_bytes text.old ++ spaced (map signed_decimal values.now)) }
+    ensures { OnOk result (string_bytes text.new
+        ≡ string_bytes text.old ++ spaced (map signed_decimal values.now)) }
 {
     for i in 0..values.len() {
         let value = values.at(i);
@@ -37,7 +38,8 @@ fn push_values(text: &mut String, values: &Values) -> Result<(), AllocError>
 }
 
 fn push_events(text: &mut String, catalog: &Catalog, events: &Events) -> Result<(), AllocError>
-    ensures { OnOk result (string_bytes text.new ≡ string_bytes text.old ++ spaced (map (event_name catalog.now) events.now)) }
+    ensures { OnOk result (string_bytes text.new
+        ≡ string_bytes text.old ++ spaced (map (event_name catalog.now) events.now)) }
 {
     for i in 0..events.len() {
         push_event(text, catalog, &events.at(i))?;
@@ -46,7 +48,8 @@ fn push_events(text: &mut String, catalog: &Catalog, events: &Events) -> Result<
 }
 
 fn push_natives(text: &mut String, catalog: &Catalog, natives: &Natives) -> Result<(), AllocError>
-    ensures { OnOk result (string_bytes text.new ≡ string_bytes text.old ++ spaced (map (canonical catalog.now.tables) natives.now)) }
+    ensures { OnOk result (string_bytes text.new
+        ≡ string_bytes text.old ++ spaced (map (canonical catalog.now.tables) natives.now)) }
 {
     for i in 0..natives.len() {
         push_native(text, catalog, &natives.at(i))?;
@@ -61,7 +64,8 @@ fn push_assignment(
     assigned: &Assigned,
 ) -> Result<(), AllocError>
     ensures { OnOk result (string_bytes text.new ≡ string_bytes text.old
-        ++ spaced (map (Replies.assigned_text catalog.now) (zip assigned.now.natives assigned.now.counters))) }
+        ++ spaced (map (Replies.assigned_text catalog.now)
+        (zip assigned.now.natives assigned.now.counters))) }
 {
     for i in 0..assigned.natives.len().min(assigned.counters.len()) {
         let native = assigned.natives.at(i);
@@ -79,7 +83,8 @@ fn push_counters(
     counters: u32,
 ) -> Result<(), AllocError>
     ensures { OnOk result (string_bytes text.new ≡ string_bytes text.old
-        ++ spaced (map (Replies.counter_text catalog.now comp) (Replies.members_below MOST_COUNTERS counters))) }
+        ++ spaced (map (Replies.counter_text catalog.now comp)
+        (Replies.members_below MOST_COUNTERS counters))) }
 {
     for counter in 0..MOST_COUNTERS as u32 {
         if has(u64::from(counters), counter) {
@@ -101,7 +106,8 @@ fn component_of(natives: &Natives) -> u32
 }
 
 fn push_clash(text: &mut String, catalog: &Catalog, clash: &Clash) -> Result<(), AllocError>
-    ensures { OnOk result (string_bytes text.new ≡ string_bytes text.old ++ spaced (Replies.clash_texts catalog.now clash.now)) }
+    ensures { OnOk result (string_bytes text.new
+        ≡ string_bytes text.old ++ spaced (Replies.clash_texts catalog.now clash.now)) }
 {
     push_natives(text, catalog, &clash.natives)?;
     text.push_str(" /")?;
@@ -111,7 +117,8 @@ fn push_clash(text: &mut String, catalog: &Catalog, clash: &Clash) -> Result<(),
 
 // The threads whose bits are set.
 fn push_threads(text: &mut String, threads: u64) -> Result<(), AllocError>
-    ensures { OnOk result (string_bytes text.new ≡ string_bytes text.old ++ spaced (map decimal (Replies.members_below THREADS threads))) }
+    ensures { OnOk result (string_bytes text.new
+        ≡ string_bytes text.old ++ spaced (map decimal (Replies.members_below THREADS threads))) }
 {
     for thread in 0..THREADS {
         if has(threads, thread) {
@@ -127,7 +134,8 @@ pub(crate) fn push_results(
     catalog: &Catalog,
     body: &Body,
 ) -> Result<(), AllocError>
-    ensures { OnOk result (string_bytes text.new ≡ string_bytes text.old ++ spaced (Replies.results_of catalog.now body.now)) }
+    ensures { OnOk result (string_bytes text.new
+        ≡ string_bytes text.old ++ spaced (Replies.results_of catalog.now body.now)) }
 {
     match body {
         Body::Nothing => Ok(()),

@@ -92,7 +92,8 @@ fn event_in(word: &[u8]) -> Result<&str, ScriptCause>
 
 // One event.
 pub(crate) fn one_event<'a>(arguments: &[&'a [u8]]) -> Result<&'a str, ScriptCause>
-    ensures { made_of (λ e. e.now) result ≡ Arguments.one_event (map (λ w. w.now) arguments.entry.now) }
+    ensures { made_of (λ e. e.now) result
+        ≡ Arguments.one_event (map (λ w. w.now) arguments.entry.now) }
 {
     match arguments {
         [event] => event_in(*event),
@@ -102,7 +103,8 @@ pub(crate) fn one_event<'a>(arguments: &[&'a [u8]]) -> Result<&'a str, ScriptCau
 
 // The number of a set, and an event.
 pub(crate) fn set_and_event<'a>(arguments: &[&'a [u8]]) -> Result<(u32, &'a str), ScriptCause>
-    ensures { made_of (λ p. (p.0, p.1.now)) result ≡ Arguments.set_and_event (map (λ w. w.now) arguments.entry.now) }
+    ensures { made_of (λ p. (p.0, p.1.now)) result
+        ≡ Arguments.set_and_event (map (λ w. w.now) arguments.entry.now) }
 {
     let [set, event] = arguments else {
         return Err(ScriptCause::BadArguments);
@@ -115,7 +117,8 @@ pub(crate) fn set_and_event<'a>(arguments: &[&'a [u8]]) -> Result<(u32, &'a str)
 pub(crate) fn set_event_and_threshold<'a>(
     arguments: &[&'a [u8]],
 ) -> Result<(u32, &'a str, u64), ScriptCause>
-    ensures { made_of (λ p. (p.0, p.1.now, p.2)) result ≡ Arguments.set_event_and_threshold (map (λ w. w.now) arguments.entry.now) }
+    ensures { made_of (λ p. (p.0, p.1.now, p.2)) result
+        ≡ Arguments.set_event_and_threshold (map (λ w. w.now) arguments.entry.now) }
 {
     let [set, event, threshold] = arguments else {
         return Err(ScriptCause::BadArguments);

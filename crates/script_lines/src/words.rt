@@ -9,7 +9,8 @@ use table_rows::is_blank;
 
 // A word more, unless it is empty.
 fn push_word<'a>(words: &mut SmallVec<&'a [u8], 8>, word: &'a [u8]) -> Result<(), AllocError>
-    ensures { IfOk result (λ _. texts words.new.items ≡ with_word (texts words.old.items) word.entry.now) }
+    ensures { IfOk result (λ _.
+        texts words.new.items ≡ with_word (texts words.old.items) word.entry.now) }
 {
     if !word.is_empty() {
         words.push(word)?;

@@ -11,12 +11,16 @@ const PIECE: usize = 65_536;
 
 /// Writes what is gathered where it is a piece or more, and else waits for more text. After an error a prefix of it is written.
 pub(crate) fn write_piece<K: Sink>(gathered: &mut String, out: &mut K) -> Result<(), WriteFail>
-    ensures ok { OnOk result (IsWrittenSoFar (K.taken out.old) (K.taken out.new) (string_bytes gathered.old) (string_bytes gathered.new)) }
-    ensures part { OnErr result (IsPartWritten (K.taken out.old) (K.taken out.new) (string_bytes gathered.old)) }
+    ensures ok { OnOk result
+        (IsWrittenSoFar (K.taken out.old) (K.taken out.new) (string_bytes gathered.old)
+        (string_bytes gathered.new)) }
+    ensures part { OnErr result
+        (IsPartWritten (K.taken out.old) (K.taken out.new) (string_bytes gathered.old)) }
     ensures waits { string_len gathered.old < PIECE → out.new ≡ out.old }
     ensures small { OnOk result (string_len gathered.new < PIECE) }
     ensures failed { IsErrOf result WriteFail.Failed → Rose (K.faults out.old) (K.faults out.new) }
-    ensures once { IsErrOf result WriteFail.Failed → K.faults out.new ≡ next_count (K.faults out.old) }
+    ensures once { IsErrOf result WriteFail.Failed
+        → K.faults out.new ≡ next_count (K.faults out.old) }
     ensures quiet { OnOk result (K.faults out.new ≡ K.faults out.old) }
     ensures memory { IsErrOf result WriteFail.Memory → K.faults out.new ≡ K.faults out.old }
     ensures falls_never { K.faults out.old ≤ K.faults out.new }

@@ -17,7 +17,8 @@ use std::alloc::AllocError;
 
 // The event of a code: PAPI_event_code_to_name(3).
 fn event_of_code(catalog: &Catalog, code: u32, codes: &NativeCodes) -> Option<EventRef>
-    ensures { result ≡ event_by (position (λ x. x == code) (row_codes catalog.now)) (native_named codes.now code) }
+    ensures { result ≡ event_by (position (λ x. x == code) (row_codes catalog.now))
+        (native_named codes.now code) }
 {
     if let Some(row) = catalog.row_of_code(code) {
         return Some(EventRef::Preset(row));
@@ -59,7 +60,8 @@ pub(crate) fn planned_of(
     codes: &mut NativeCodes,
 ) -> Result<Planned, AllocError>
     requires few { length codes.old < MOST_MENTIONED }
-    ensures planned { IfOk result (λ planned. planned ≡ looked_up (setting_of catalog.now) codes.new asked) }
+    ensures planned { IfOk result
+        (λ planned. planned ≡ looked_up (setting_of catalog.now) codes.new asked) }
     ensures mentioned { OnOk result (codes.new ≡ joined_by codes.old (mentions_of asked)) }
     ensures unchanged { OnErr result (codes.new ≡ codes.old) }
 {

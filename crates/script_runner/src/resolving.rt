@@ -25,9 +25,12 @@ pub fn resolve(
 ) -> Result<Plan, AllocError>
     requires none { codes.old ≡ [] }
     // It is the plan of these lines in the setting of the catalog, and its replies stand beside the script's lines.
-    ensures plan { IfOk result (λ plan. IsPlanOf (setting_of catalog.now) (lines_of catalog.now script.now) plan) }
-    ensures heads { IfOk result (λ plan. (told : List Told) → reply_lines plan told ≡ reply_lines_of script.now told) }
-    ensures good { IfOk result (λ plan. AreGood catalog.now.book (shape_of catalog.now.tables) plan) }
+    ensures plan { IfOk result
+        (λ plan. IsPlanOf (setting_of catalog.now) (lines_of catalog.now script.now) plan) }
+    ensures heads { IfOk result
+        (λ plan. (told : List Told) → reply_lines plan told ≡ reply_lines_of script.now told) }
+    ensures good { IfOk result
+        (λ plan. AreGood catalog.now.book (shape_of catalog.now.tables) plan) }
     ensures codes { OnOk result (codes.new ≡ mentioned_in (lines_of catalog.now script.now)) }
     ensures begun { IsBegun (mentioned_in (lines_of catalog.now script.now)) codes.new }
 {

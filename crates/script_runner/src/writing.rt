@@ -16,7 +16,8 @@ use std::alloc::Global;
 
 // Appends the text of a reply.
 fn push_reply(text: &mut String, catalog: &Catalog, line: &ReplyLine) -> Result<(), WriteFail>
-    ensures text { OnOk result (string_bytes text.new ≡ string_bytes text.old ++ reply_line_text catalog.now line.now) }
+    ensures text { OnOk result
+        (string_bytes text.new ≡ string_bytes text.old ++ reply_line_text catalog.now line.now) }
     ensures not_failed { IsErrOf result WriteFail.Failed → ⊥ }
 {
     match push_reply_line(
@@ -41,10 +42,13 @@ pub fn write_replies<K: Sink>(
     catalog: &Catalog,
     out: &mut K,
 ) -> Result<(), WriteFail>
-    ensures ok { OnOk result (K.taken out.new ≡ appended (K.taken out.old) (reply_text catalog.now lines.now)) }
-    ensures part { OnErr result (IsPartWritten (K.taken out.old) (K.taken out.new) (reply_text catalog.now lines.now)) }
+    ensures ok { OnOk result
+        (K.taken out.new ≡ appended (K.taken out.old) (reply_text catalog.now lines.now)) }
+    ensures part { OnErr result
+        (IsPartWritten (K.taken out.old) (K.taken out.new) (reply_text catalog.now lines.now)) }
     ensures failed { IsErrOf result WriteFail.Failed → Rose (K.faults out.old) (K.faults out.new) }
-    ensures once { IsErrOf result WriteFail.Failed → K.faults out.new ≡ next_count (K.faults out.old) }
+    ensures once { IsErrOf result WriteFail.Failed
+        → K.faults out.new ≡ next_count (K.faults out.old) }
     ensures quiet { OnOk result (K.faults out.new ≡ K.faults out.old) }
     ensures memory { IsErrOf result WriteFail.Memory → K.faults out.new ≡ K.faults out.old }
     ensures falls_never { K.faults out.old ≤ K.faults out.new }
@@ -59,7 +63,8 @@ pub fn write_replies<K: Sink>(
 
 // Appends the text of a note.
 fn push_note(text: &mut String, note: &Note) -> Result<(), WriteFail>
-    ensures text { OnOk result (string_bytes text.new ≡ string_bytes text.old ++ note_text note.now) }
+    ensures text { OnOk result
+        (string_bytes text.new ≡ string_bytes text.old ++ note_text note.now) }
     ensures not_failed { IsErrOf result WriteFail.Failed → ⊥ }
 {
     push_note_line(text, note).map_err(|_error| WriteFail::Memory)
@@ -70,9 +75,11 @@ fn push_note(text: &mut String, note: &Note) -> Result<(), WriteFail>
 #[tactic(auto, unfolding(crate::specs::Replies::notes_text))]
 pub fn write_notes<K: Sink>(alloc: Global, notes: &[Note], out: &mut K) -> Result<(), WriteFail>
     ensures ok { OnOk result (K.taken out.new ≡ appended (K.taken out.old) (notes_text notes.now)) }
-    ensures part { OnErr result (IsPartWritten (K.taken out.old) (K.taken out.new) (notes_text notes.now)) }
+    ensures part { OnErr result
+        (IsPartWritten (K.taken out.old) (K.taken out.new) (notes_text notes.now)) }
     ensures failed { IsErrOf result WriteFail.Failed → Rose (K.faults out.old) (K.faults out.new) }
-    ensures once { IsErrOf result WriteFail.Failed → K.faults out.new ≡ next_count (K.faults out.old) }
+    ensures once { IsErrOf result WriteFail.Failed
+        → K.faults out.new ≡ next_count (K.faults out.old) }
     ensures quiet { OnOk result (K.faults out.new ≡ K.faults out.old) }
     ensures memory { IsErrOf result WriteFail.Memory → K.faults out.new ≡ K.faults out.old }
     ensures falls_never { K.faults out.old ≤ K.faults out.new }

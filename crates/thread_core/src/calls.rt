@@ -46,7 +46,8 @@ impl Core {
     /// A new set under the least free number: PAPI_create_eventset(3). ECOUNT where there are 64 sets.
     pub fn create(&mut self, _book: &PresetBook) -> Result<u32, Code>
         requires { AgreesWith _book.now self.old }
-        ensures { Follows _book.now self.old self.new call.Create (reply_of (λ n. body.SetNumber n) result) }
+        ensures { Follows _book.now self.old self.new call.Create
+            (reply_of (λ n. body.SetNumber n) result) }
     {
         if let Some(code) = self.create_refusal() {
             return Err(code);
@@ -117,7 +118,8 @@ impl Core {
     /// there is no such component, EISRUN where the set runs, EINVAL where it has another component.
     pub fn assign_component(&mut self, book: &PresetBook, set: u32, comp: u32) -> Code
         requires { AgreesWith book.now self.old }
-        ensures { Follows book.now self.old self.new (call.AssignComponent set comp) (plain result) }
+        ensures { Follows book.now self.old self.new (call.AssignComponent set comp)
+            (plain result) }
     {
         self.change(book, set, &Change::Component(comp))
     }
@@ -178,7 +180,8 @@ impl Core {
     /// where it does not run; `into` then stays as it is.
     pub fn stop(&mut self, book: &PresetBook, set: u32, into: &mut Values) -> Code
         requires { AgreesWith book.now self.old }
-        ensures follows { Follows book.now self.old self.new (call.Stop set) (values_reply result into.new) }
+        ensures follows { Follows book.now self.old self.new (call.Stop set)
+            (values_reply result into.new) }
         ensures kept { result ≢ code.Ok → into.new ≡ into.old }
     {
         if let Some(code) = self.stop_refusal(set) {
@@ -198,7 +201,8 @@ impl Core {
     /// then stays as it is.
     pub fn read(&self, book: &PresetBook, set: u32, into: &mut Values) -> Code
         requires { AgreesWith book.now self.now }
-        ensures follows { Follows book.now self.now self.now (call.Read set) (values_reply result into.new) }
+        ensures follows { Follows book.now self.now self.now (call.Read set)
+            (values_reply result into.new) }
         ensures kept { result ≢ code.Ok → into.new ≡ into.old }
     {
         let Some(slot) = self.set(set) else {
@@ -212,7 +216,8 @@ impl Core {
     /// PAPI_accum(3). ENOEVST where there is no such set; `into` then stays as it is.
     pub fn accum(&mut self, book: &PresetBook, set: u32, into: &mut Values) -> Code
         requires { AgreesWith book.now self.old }
-        ensures follows { Follows book.now self.old self.new (call.Accum set) (values_reply result into.new) }
+        ensures follows { Follows book.now self.old self.new (call.Accum set)
+            (values_reply result into.new) }
         ensures kept { result ≢ code.Ok → into.new ≡ into.old }
     {
         if let Some(code) = self.zero_refusal(set) {
@@ -248,7 +253,8 @@ impl Core {
     /// there is no such set.
     pub fn state(&self, _book: &PresetBook, set: u32) -> Result<u32, Code>
         requires { AgreesWith _book.now self.now }
-        ensures { Follows _book.now self.now self.now (call.State set) (reply_of (λ bits. body.State bits) result) }
+        ensures { Follows _book.now self.now self.now (call.State set)
+            (reply_of (λ bits. body.State bits) result) }
     {
         let Some(slot) = self.set(set) else {
             return Err(Code::Enoevst);
@@ -259,7 +265,8 @@ impl Core {
     /// The events of a set in the order in which they were added: PAPI_list_events(3). ENOEVST where there is no such set.
     pub fn list_events(&self, _book: &PresetBook, set: u32) -> Result<Events, Code>
         requires { AgreesWith _book.now self.now }
-        ensures { Follows _book.now self.now self.now (call.ListEvents set) (reply_of (λ events. body.Events events) result) }
+        ensures { Follows _book.now self.now self.now (call.ListEvents set)
+            (reply_of (λ events. body.Events events) result) }
     {
         let Some(slot) = self.set(set) else {
             return Err(Code::Enoevst);
@@ -271,7 +278,8 @@ impl Core {
     /// set, ECOMBO where it is multiplexed.
     pub fn assign(&self, _book: &PresetBook, set: u32) -> Result<Assigned, Code>
         requires { AgreesWith _book.now self.now }
-        ensures { Follows _book.now self.now self.now (call.Assign set) (reply_of (λ assigned. body.Assigned assigned) result) }
+        ensures { Follows _book.now self.now self.now (call.Assign set)
+            (reply_of (λ assigned. body.Assigned assigned) result) }
     {
         let Some(slot) = self.set(set) else {
             return Err(Code::Enoevst);
@@ -287,7 +295,8 @@ impl Core {
     /// where it is multiplexed.
     pub fn raw(&self, _book: &PresetBook, set: u32, c: u32) -> Result<u64, Code>
         requires { AgreesWith _book.now self.now }
-        ensures { Follows _book.now self.now self.now (call.Raw set c) (reply_of (λ value. body.Register value) result) }
+        ensures { Follows _book.now self.now self.now (call.Raw set c)
+            (reply_of (λ value. body.Register value) result) }
     {
         let Some(slot) = self.set(set) else {
             return Err(Code::Enoevst);

@@ -113,7 +113,8 @@ fn all_taken(slots: &[Option<Slot>]) -> bool
 #[inline]
 fn first_of(checks: &[(bool, Code)]) -> Option<Code>
     ensures code { result ≡ first_code checks.now }
-    ensures refusal { option_map Plain result ≡ first_of (map (λ check. row check.0 check.1) checks.now) }
+    ensures refusal { option_map Plain result
+        ≡ first_of (map (λ check. row check.0 check.1) checks.now) }
 {
     for check in checks {
         if check.0 {

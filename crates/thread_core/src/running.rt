@@ -64,7 +64,8 @@ impl RunningSets {
     #[inline(always)]
     pub(crate) fn on(&mut self, slots: &Vec<Option<Slot>>, comp: u32) -> Option<u32>
         requires places { length slots.now.items ≡ MOST_SETS }
-        requires within { (k : ℕ) → owner_from comp 0 (slot_faces slots.now.items) ≡ Some k → comp < MOST_COMPONENTS }
+        requires within { (k : ℕ) → owner_from comp 0 (slot_faces slots.now.items) ≡ Some k
+            → comp < MOST_COMPONENTS }
         requires known { AreKnown self.old slots.now.items }
         ensures number { result ≡ owner_from comp 0 (slot_faces slots.now.items) }
         ensures known { AreKnown self.new slots.now.items }

@@ -108,10 +108,12 @@ impl Core {
         ensures taken { self.new.taken ≡ self.old.taken + 1 }
         ensures last { self.new.last ≡ Some o.now }
         ensures shape { self.new.shape ≡ self.old.shape }
-        ensures stands { (book : Book) (a : Account) → CoreStands book self.old a → CoreStands book self.new (consumed a o.now) }
+        ensures stands { (book : Book) (a : Account) → CoreStands book self.old a
+            → CoreStands book self.new (consumed a o.now) }
         ensures agrees { (book : Book) → AgreesWith book self.old → AgreesWith book self.new }
         ensures notes { (book : Book) (a : Account) → CoreStands book self.old a
-            → notes_at book a.thread a.past o.now 0 a.sets ≡ map (note a.thread result.set o.now) result.passed }
+            → notes_at book a.thread a.past o.now 0 a.sets
+            ≡ map (note a.thread result.set o.now) result.passed }
         ensures none { result.passed ≡ [] → result.set ≡ 0 }
     {
         // An amount has 8 bits, which is known of what is read.

@@ -47,7 +47,8 @@ impl<S: Source> Session<S> {
     /// A new set under the least free number: PAPI_create_eventset(3). ECOUNT where there are 64 sets.
     pub fn create(&mut self, book: &PresetBook) -> Result<u32, Code>
         requires ready { IsReady book.now self.old }
-        ensures { Does book.now self.old self.new call.Create (reply_of (λ n. body.SetNumber n) result) }
+        ensures { Does book.now self.old self.new call.Create
+            (reply_of (λ n. body.SetNumber n) result) }
     {
         self.core.create(book)
     }
@@ -135,7 +136,8 @@ impl<S: Source> Session<S> {
     /// The events of a set in the order in which they were added: PAPI_list_events(3). ENOEVST where there is no such set.
     pub fn list_events(&self, book: &PresetBook, set: u32) -> Result<Events, Code>
         requires ready { IsReady book.now self.now }
-        ensures { Does book.now self.now self.now (call.ListEvents set) (reply_of (λ events. body.Events events) result) }
+        ensures { Does book.now self.now self.now (call.ListEvents set)
+            (reply_of (λ events. body.Events events) result) }
     {
         self.core.list_events(book, set)
     }
@@ -144,7 +146,8 @@ impl<S: Source> Session<S> {
     /// set, ECOMBO where it is multiplexed.
     pub fn assign(&self, book: &PresetBook, set: u32) -> Result<Assigned, Code>
         requires ready { IsReady book.now self.now }
-        ensures { Does book.now self.now self.now (call.Assign set) (reply_of (λ assigned. body.Assigned assigned) result) }
+        ensures { Does book.now self.now self.now (call.Assign set)
+            (reply_of (λ assigned. body.Assigned assigned) result) }
     {
         self.core.assign(book, set)
     }
@@ -153,7 +156,8 @@ impl<S: Source> Session<S> {
     /// not run; `into` then stays as it is.
     pub fn stop(&mut self, book: &PresetBook, set: u32, into: &mut Values) -> Code
         requires ready { IsReady book.now self.old }
-        ensures does { Does book.now self.old self.new (call.Stop set) (values_reply result into.new) }
+        ensures does { Does book.now self.old self.new (call.Stop set)
+            (values_reply result into.new) }
         ensures kept { result ≢ code.Ok → into.new ≡ into.old }
     {
         self.core.stop(book, set, into)
@@ -163,7 +167,8 @@ impl<S: Source> Session<S> {
     /// then stays as it is.
     pub fn read(&self, book: &PresetBook, set: u32, into: &mut Values) -> Code
         requires ready { IsReady book.now self.now }
-        ensures does { Does book.now self.now self.now (call.Read set) (values_reply result into.new) }
+        ensures does { Does book.now self.now self.now (call.Read set)
+            (values_reply result into.new) }
         ensures kept { result ≢ code.Ok → into.new ≡ into.old }
     {
         self.core.read(book, set, into)
@@ -173,7 +178,8 @@ impl<S: Source> Session<S> {
     /// there is no such set; `into` then stays as it is.
     pub fn accum(&mut self, book: &PresetBook, set: u32, into: &mut Values) -> Code
         requires ready { IsReady book.now self.old }
-        ensures does { Does book.now self.old self.new (call.Accum set) (values_reply result into.new) }
+        ensures does { Does book.now self.old self.new (call.Accum set)
+            (values_reply result into.new) }
         ensures kept { result ≢ code.Ok → into.new ≡ into.old }
     {
         self.core.accum(book, set, into)
@@ -190,7 +196,8 @@ impl<S: Source> Session<S> {
     /// The state bits of a set: PAPI_state(3). ENOEVST where there is no such set.
     pub fn state(&self, book: &PresetBook, set: u32) -> Result<u32, Code>
         requires ready { IsReady book.now self.now }
-        ensures { Does book.now self.now self.now (call.State set) (reply_of (λ bits. body.State bits) result) }
+        ensures { Does book.now self.now self.now (call.State set)
+            (reply_of (λ bits. body.State bits) result) }
     {
         self.core.state(book, set)
     }
@@ -199,7 +206,8 @@ impl<S: Source> Session<S> {
     /// no native event of it is on the counter, ECOMBO where it is multiplexed.
     pub fn raw(&self, book: &PresetBook, set: u32, c: u32) -> Result<u64, Code>
         requires ready { IsReady book.now self.now }
-        ensures { Does book.now self.now self.now (call.Raw set c) (reply_of (λ value. body.Register value) result) }
+        ensures { Does book.now self.now self.now (call.Raw set c)
+            (reply_of (λ value. body.Register value) result) }
     {
         self.core.raw(book, set, c)
     }
@@ -224,25 +232,34 @@ impl<S: Source> Session<S> {
         requires ready { IsReady book.now self.old }
         requires good { IsGood book.now self.old.core.shape c.now }
         ensures stands { (a : Account) → Stands book.now self.old a
-            → OnOk result (Stands book.now self.new (step book.now self.old.core.shape a c.now).account) }
-        ensures reply { (a : Account) → Stands book.now self.old a → IfOk result (λ r. r ≡ (step book.now self.old.core.shape a c.now).reply) }
+            → OnOk result (Stands book.now self.new
+            (step book.now self.old.core.shape a c.now).account) }
+        ensures reply { (a : Account) → Stands book.now self.old a
+            → IfOk result (λ r. r ≡ (step book.now self.old.core.shape a c.now).reply) }
         ensures notes { (a : Account) → Stands book.now self.old a
-            → OnOk result (notes h.new ≡ notes h.old ++ (step book.now self.old.core.shape a c.now).notes) }
+            → OnOk result (notes h.new
+            ≡ notes h.old ++ (step book.now self.old.core.shape a c.now).notes) }
         ensures part { (a : Account) → Stands book.now self.old a
-            → OnErr result (PartAdded (notes h.old) (step book.now self.old.core.shape a c.now).notes (notes h.new)) }
+            → OnErr result (PartAdded (notes h.old)
+            (step book.now self.old.core.shape a c.now).notes (notes h.new)) }
 
         // Told or not.
-        ensures follows { IfOk result (λ r. FollowsAs book.now self.old self.new c.now r (notes h.old) (notes h.new)) }
-        ensures cut { OnErr result (IsCutIn book.now self.old self.new c.now (notes h.old) (notes h.new)) }
+        ensures follows { IfOk result
+            (λ r. FollowsAs book.now self.old self.new c.now r (notes h.old) (notes h.new)) }
+        ensures cut { OnErr result
+            (IsCutIn book.now self.old self.new c.now (notes h.old) (notes h.new)) }
         ensures towards { (left : Coming) → CanCome self.new.reader left
-            → IfOk result (λ r. FollowsTo book.now self.old self.new c.now r (notes h.old) (notes h.new) left) }
+            → IfOk result (λ r. FollowsTo book.now self.old self.new c.now r (notes h.old)
+            (notes h.new) left) }
         ensures cut_to { (left : Coming) → CanCome self.new.reader left
             → OnErr result (IsCutTo book.now self.old c.now (notes h.old) (notes h.new) left) }
         ensures grown { Grown (notes h.old) (notes h.new) }
         ensures ready { IsReady book.now self.new }
         ensures shape { self.new.core.shape ≡ self.old.core.shape }
         ensures faults { FaultsKept (fault_count self.old.reader) (fault_count self.new.reader) }
-        ensures faulty { IfOk result (λ r. IsFault r → FaultsRose (fault_count self.old.reader) (fault_count self.new.reader)) }
+        ensures faulty { IfOk result
+            (λ r. IsFault r → FaultsRose (fault_count self.old.reader)
+            (fault_count self.new.reader)) }
     {
         match c {
             Call::Run { n } => {

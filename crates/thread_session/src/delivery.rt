@@ -16,8 +16,11 @@ pub(crate) fn deliver(
     taken: &Taken,
     o: &Occ,
 ) -> Result<(), AllocError>
-    ensures whole { OnOk result (notes h.new ≡ notes h.old ++ map (note thread taken.now.set o.now) taken.now.passed) }
-    ensures part { OnErr result (PartAdded (notes h.old) (map (note thread taken.now.set o.now) taken.now.passed) (notes h.new)) }
+    ensures whole { OnOk result
+        (notes h.new ≡ notes h.old ++ map (note thread taken.now.set o.now) taken.now.passed) }
+    ensures part { OnErr result
+        (PartAdded (notes h.old) (map (note thread taken.now.set o.now) taken.now.passed)
+        (notes h.new)) }
 {
     for i in 0..taken.passed.len() {
         let index = taken.passed.get(i).unwrap_or(0);

@@ -26,8 +26,10 @@ pub struct Filled {
 fn place(out: &mut [Note], at: usize, thread: u32, taken: &Taken, o: &Occ)
     requires room { at + length taken.now.passed ≤ length out.old }
     ensures length { length out.new ≡ length out.old }
-    ensures written { take (at + length taken.now.passed) out.new ≡ take at out.old ++ map (note thread taken.now.set o.now) taken.now.passed }
-    ensures rest { drop (at + length taken.now.passed) out.new ≡ drop (at + length taken.now.passed) out.old }
+    ensures written { take (at + length taken.now.passed) out.new
+        ≡ take at out.old ++ map (note thread taken.now.set o.now) taken.now.passed }
+    ensures rest { drop (at + length taken.now.passed) out.new
+        ≡ drop (at + length taken.now.passed) out.old }
 {
     for i in 0..taken.passed.len() {
         let index = taken.passed.get(i).unwrap_or(0);
@@ -50,7 +52,8 @@ impl<S: Source> Session<S> {
     /// 32 notes have room it stops before the next occurrence, so that no note is lost.
     pub fn run_into(&mut self, book: &PresetBook, n: u32, out: &mut [Note]) -> Filled
         requires ready { IsReady book.now self.old }
-        ensures follows { FollowsAs book.now self.old self.new (Run (asked_for n result)) (run_reply result.ran) [] (take result.ran.notes out.new) }
+        ensures follows { FollowsAs book.now self.old self.new (Run (asked_for n result))
+            (run_reply result.ran) [] (take result.ran.notes out.new) }
         ensures full { result.full ≡ true → length out.new < result.ran.notes + 32 }
         ensures early { result.full ≡ true → result.ran.consumed < n }
         ensures fits { result.ran.notes ≤ length out.new }
@@ -59,7 +62,8 @@ impl<S: Source> Session<S> {
         ensures ready { IsReady book.now self.new }
         ensures shape { self.new.core.shape ≡ self.old.core.shape }
         ensures faults { FaultsKept (fault_count self.old.reader) (fault_count self.new.reader) }
-        ensures faulty { result.ran.ended ≡ ended.Fault → FaultsRose (fault_count self.old.reader) (fault_count self.new.reader) }
+        ensures faulty { result.ran.ended ≡ ended.Fault
+            → FaultsRose (fault_count self.old.reader) (fault_count self.new.reader) }
     {
         // The book is read by contracts alone.
         let _book = book;

@@ -25,14 +25,20 @@ impl<S: Source> Session<S> {
     // Consumes up to `n` occurrences.
     fn consume(&mut self, book: &PresetBook, n: u32, h: &mut dyn Handler) -> Result<Ran, AllocError>
         requires ready { IsReady book.now self.old }
-        ensures follows { IfOk result (λ ran. FollowsAs book.now self.old self.new (Run n) (run_reply ran) (notes h.old) (notes h.new)) }
-        ensures cut { OnErr result (IsCut book.now self.old self.new n (notes h.old) (notes h.new)) }
+        ensures follows { IfOk result
+            (λ ran. FollowsAs book.now self.old self.new (Run n) (run_reply ran) (notes h.old)
+            (notes h.new)) }
+        ensures cut { OnErr result
+            (IsCut book.now self.old self.new n (notes h.old) (notes h.new)) }
         ensures towards { (left : Coming) → CanCome self.new.reader left
-            → IfOk result (λ ran. FollowsTo book.now self.old self.new (Run n) (run_reply ran) (notes h.old) (notes h.new) left) }
+            → IfOk result (λ ran. FollowsTo book.now self.old self.new (Run n) (run_reply ran)
+            (notes h.old) (notes h.new) left) }
         ensures ready { IsReady book.now self.new }
         ensures shape { self.new.core.shape ≡ self.old.core.shape }
         ensures faults { FaultsKept (fault_count self.old.reader) (fault_count self.new.reader) }
-        ensures faulty { IfOk result (λ ran. ran.ended ≡ ended.Fault → FaultsRose (fault_count self.old.reader) (fault_count self.new.reader)) }
+        ensures faulty { IfOk result
+            (λ ran. ran.ended ≡ ended.Fault
+            → FaultsRose (fault_count self.old.reader) (fault_count self.new.reader)) }
     {
         // The book is read by contracts alone.
         let _book = book;
@@ -71,25 +77,36 @@ impl<S: Source> Session<S> {
     pub fn run(&mut self, book: &PresetBook, n: u32, h: &mut dyn Handler) -> Result<Ran, AllocError>
         requires ready { IsReady book.now self.old }
         ensures stands { (a : Account) → Stands book.now self.old a
-            → OnOk result (Stands book.now self.new (step book.now self.old.core.shape a (Run n)).account) }
-        ensures reply { (a : Account) → Stands book.now self.old a → IfOk result (λ ran. run_reply ran ≡ (step book.now self.old.core.shape a (Run n)).reply) }
+            → OnOk result (Stands book.now self.new
+            (step book.now self.old.core.shape a (Run n)).account) }
+        ensures reply { (a : Account) → Stands book.now self.old a
+            → IfOk result (λ ran. run_reply ran
+            ≡ (step book.now self.old.core.shape a (Run n)).reply) }
         ensures notes { (a : Account) → Stands book.now self.old a
-            → OnOk result (notes h.new ≡ notes h.old ++ (step book.now self.old.core.shape a (Run n)).notes) }
+            → OnOk result (notes h.new
+            ≡ notes h.old ++ (step book.now self.old.core.shape a (Run n)).notes) }
         ensures part { (a : Account) → Stands book.now self.old a
-            → OnErr result (PartAdded (notes h.old) (step book.now self.old.core.shape a (Run n)).notes (notes h.new)) }
+            → OnErr result (PartAdded (notes h.old)
+            (step book.now self.old.core.shape a (Run n)).notes (notes h.new)) }
 
         // Told or not.
-        ensures follows { IfOk result (λ ran. FollowsAs book.now self.old self.new (Run n) (run_reply ran) (notes h.old) (notes h.new)) }
-        ensures cut { OnErr result (IsCut book.now self.old self.new n (notes h.old) (notes h.new)) }
+        ensures follows { IfOk result
+            (λ ran. FollowsAs book.now self.old self.new (Run n) (run_reply ran) (notes h.old)
+            (notes h.new)) }
+        ensures cut { OnErr result
+            (IsCut book.now self.old self.new n (notes h.old) (notes h.new)) }
         ensures towards { (left : Coming) → CanCome self.new.reader left
-            → IfOk result (λ ran. FollowsTo book.now self.old self.new (Run n) (run_reply ran) (notes h.old) (notes h.new) left) }
+            → IfOk result (λ ran. FollowsTo book.now self.old self.new (Run n) (run_reply ran)
+            (notes h.old) (notes h.new) left) }
         ensures cut_to { (left : Coming) → CanCome self.new.reader left
             → OnErr result (IsCutTo book.now self.old (Run n) (notes h.old) (notes h.new) left) }
         ensures grown { Grown (notes h.old) (notes h.new) }
         ensures ready { IsReady book.now self.new }
         ensures shape { self.new.core.shape ≡ self.old.core.shape }
         ensures faults { FaultsKept (fault_count self.old.reader) (fault_count self.new.reader) }
-        ensures faulty { IfOk result (λ ran. ran.ended ≡ ended.Fault → FaultsRose (fault_count self.old.reader) (fault_count self.new.reader)) }
+        ensures faulty { IfOk result
+            (λ ran. ran.ended ≡ ended.Fault
+            → FaultsRose (fault_count self.old.reader) (fault_count self.new.reader)) }
     {
         self.consume(book, n, h)
     }

@@ -65,7 +65,8 @@ impl<S: Source> Session<S> {
         ensures core { result.core ≡ core }
         ensures reader { result.reader ≡ reader }
         ensures ready { (book : Book) → BookFits core.shape book → IsReady book result }
-        ensures stands { (book : Book) (stream : Coming) → coming reader ≡ Some stream → Stands book result (opening core.thread stream.rest stream.mark) }
+        ensures stands { (book : Book) (stream : Coming) → coming reader ≡ Some stream
+            → Stands book result (opening core.thread stream.rest stream.mark) }
     {
         Session { core, reader }
     }
@@ -79,7 +80,8 @@ impl<S: Source> Session<S> {
 
     /// The source as the session left it, or `None` where the reader was made without one.
     pub fn into_source(self) -> Option<S>
-        ensures source { option_map (λ s. record { tape = S.tape s; faults = S.faults s }) result ≡ self.reader.source }
+        ensures source { option_map (λ s. record { tape = S.tape s; faults = S.faults s }) result
+            ≡ self.reader.source }
         ensures faults { option_map S.faults result ≡ fault_count self.reader }
     {
         self.reader.into_source()

@@ -26,14 +26,19 @@ impl<S: Source> Session<S> {
         requires ready { IsReady book.now self.old }
         requires good { AreGood book.now self.old.core.shape calls.now }
         ensures stands { (a : Account) → Stands book.now self.old a
-            → OnOk result (Stands book.now self.new (account_after book.now self.old.core.shape a calls.now)) }
+            → OnOk result (Stands book.now self.new
+            (account_after book.now self.old.core.shape a calls.now)) }
         ensures replies { (a : Account) → Stands book.now self.old a
-            → IfOk result (λ replies. replies.items ≡ replies_to book.now self.old.core.shape a calls.now) }
+            → IfOk result (λ replies.
+            replies.items ≡ replies_to book.now self.old.core.shape a calls.now) }
         ensures notes { (a : Account) → Stands book.now self.old a
-            → OnOk result (notes h.new ≡ notes h.old ++ notes_to book.now self.old.core.shape a calls.now) }
+            → OnOk result (notes h.new
+            ≡ notes h.old ++ notes_to book.now self.old.core.shape a calls.now) }
 
         // Whatever the outcome.
-        ensures begun { (a : Account) → Stands book.now self.old a → Begun (notes h.old) (notes_to book.now self.old.core.shape a calls.now) (notes h.new) }
+        ensures begun { (a : Account) → Stands book.now self.old a
+            → Begun (notes h.old) (notes_to book.now self.old.core.shape a calls.now)
+            (notes h.new) }
         ensures grown { Grown (notes h.old) (notes h.new) }
         ensures ready { IsReady book.now self.new }
         ensures shape { self.new.core.shape ≡ self.old.core.shape }

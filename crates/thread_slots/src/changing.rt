@@ -71,7 +71,8 @@ impl Slot {
         requires view { self.old.set ≡ set_view book.now shape.now self.old.set.rest }
         ensures added { OnOk result (self.new ≡ slot_with_event book.now shape.now e.now self.old) }
         ensures taken { OnOk result (add_refusal book.now e.now self.old.set.rest ≡ None) }
-        ensures refused { IfErr result (λ r. add_refusal book.now e.now self.old.set.rest ≡ Some r) }
+        ensures refused { IfErr result
+            (λ r. add_refusal book.now e.now self.old.set.rest ≡ Some r) }
         ensures unchanged { OnErr result (self.new ≡ self.old) }
     {
         self.set.add(book, shape, e)?;
@@ -82,9 +83,12 @@ impl Slot {
     /// Makes a change.
     pub fn change(&mut self, book: &PresetBook, shape: &Shape, change: &Change) -> Result<(), Code>
         requires view { self.old.set ≡ set_view book.now shape.now self.old.set.rest }
-        ensures changed { OnOk result (self.new ≡ slot_after book.now shape.now change.now self.old) }
-        ensures taken { OnOk result (change_refusal book.now shape.now change.now self.old.set.rest ≡ None) }
-        ensures refused { IfErr result (λ c. change_refusal book.now shape.now change.now self.old.set.rest ≡ Some c) }
+        ensures changed { OnOk result
+            (self.new ≡ slot_after book.now shape.now change.now self.old) }
+        ensures taken { OnOk result
+            (change_refusal book.now shape.now change.now self.old.set.rest ≡ None) }
+        ensures refused { IfErr result
+            (λ c. change_refusal book.now shape.now change.now self.old.set.rest ≡ Some c) }
         ensures unchanged { OnErr result (self.new ≡ self.old) }
     {
         match change {

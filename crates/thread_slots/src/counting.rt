@@ -125,13 +125,17 @@ pub fn count_all(
     requires countable { (k : ℕ)
         → owner_from o.now.comp 0 (map (option_map face_of_slot) slots.old.items) ≡ Some k
         → AreCountable units.old.items slots.old.items o.now.comp k }
-    ensures units { let after = counted_all (option_copied before.entry) o.now units.old.items slots.old.items
+    ensures units { let after = counted_all (option_copied before.entry) o.now units.old.items
+        slots.old.items
         in units.new.items ≡ after.units }
-    ensures slots { let after = counted_all (option_copied before.entry) o.now units.old.items slots.old.items
+    ensures slots { let after = counted_all (option_copied before.entry) o.now units.old.items
+        slots.old.items
         in slots.new.items ≡ after.slots }
-    ensures set { let after = counted_all (option_copied before.entry) o.now units.old.items slots.old.items
+    ensures set { let after = counted_all (option_copied before.entry) o.now units.old.items
+        slots.old.items
         in result.set ≡ after.set }
-    ensures passed { let after = counted_all (option_copied before.entry) o.now units.old.items slots.old.items
+    ensures passed { let after = counted_all (option_copied before.entry) o.now units.old.items
+        slots.old.items
         in result.passed ≡ after.passed }
 {
     let comp = u32::from(o.comp);

@@ -27,7 +27,9 @@ fn numbers_on_unit(unit: &Unit, pins: &Pins) -> Counts
 fn numbers_in_turns(rotation: &Rotation, total: u64, counts: &Counts) -> Counts
     requires same_length { length counts.now ≡ length rotation.now.numbers }
     requires total { total < 2 ^ 32 }
-    requires counts { (k : ℕ) → k < length counts.now → slice_index counts.now k ≤ LARGEST_AMOUNT * active rotation.now.turns (slice_index rotation.now.numbers k) total }
+    requires counts { (k : ℕ) → k < length counts.now
+        → slice_index counts.now k
+        ≤ LARGEST_AMOUNT * active rotation.now.turns (slice_index rotation.now.numbers k) total }
     ensures { result ≡ turn_numbers rotation.now.turns total rotation.now.numbers counts.now }
 {
     let mut numbers = Counts::new();

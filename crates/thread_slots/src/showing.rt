@@ -34,7 +34,10 @@ impl Slot {
     /// Its native events, each with its counter, where they do not take turns.
     pub fn assigned(&self) -> Assigned
         ensures { self.now.set.rest.slice ≡ None
-            → result ≡ record { natives = self.now.set.natives; counters = counters_for self.now.set.natives } }
+            → result ≡ record {
+              natives = self.now.set.natives;
+              counters = counters_for self.now.set.natives;
+            } }
     {
         Assigned {
             natives: self.set.natives().copy(),

@@ -67,8 +67,10 @@ fn pins_on(book: &PresetBook, set: &EventSet, counters: &Places) -> Pins
 
 /// The events with thresholds, each with its counter.
 fn armed_on(book: &PresetBook, set: &EventSet, counters: &Places) -> Thresholds
-    requires { IsArmable book.now set.now.natives counters.now set.now.rest.events set.now.rest.thresholds }
-    ensures { let armed = armed_from book.now set.now.natives counters.now set.now.rest.events set.now.rest.thresholds
+    requires { IsArmable book.now set.now.natives counters.now set.now.rest.events
+        set.now.rest.thresholds }
+    ensures { let armed = armed_from book.now set.now.natives counters.now set.now.rest.events
+        set.now.rest.thresholds
         in result ≡ armed ++ replicate (MOST_SET_EVENTS - length set.now.rest.events) None }
 {
     let mut armed = Thresholds::new();
@@ -87,7 +89,11 @@ fn armed_on(book: &PresetBook, set: &EventSet, counters: &Places) -> Thresholds
 pub fn program_all(unit: &mut Unit, pins: &Pins, domain: Domain)
     requires pinned { ArePinned unit.old.widths pins.now }
     requires widths { AreWidths unit.old.widths }
-    ensures { unit.new ≡ record unit.old { registers = programs unit.old.widths domain (λ n. 0) pins.now unit.old.registers } }
+    ensures { unit.new ≡ record
+        unit.old {
+          registers = programs unit.old.widths domain
+              (λ n. 0) pins.now unit.old.registers;
+        } }
 {
     for i in 0..pins.len() {
         let pin = pins.at(i);
@@ -116,7 +122,8 @@ impl Slot {
         requires counters { self.old.set.counters ≡ counters }
         requires slice { self.old.set.rest.slice ≡ Some slice }
         ensures { self.new ≡ record self.old {
-          counting = counting.InTurns (rotation_of (groups (masks_of self.old.set.natives)) slice) now (replicate (length self.old.set.natives) 0);
+          counting = counting.InTurns (rotation_of (groups (masks_of self.old.set.natives)) slice)
+              now (replicate (length self.old.set.natives) 0);
         } }
     {
         let natives = self.set.natives();
@@ -147,7 +154,8 @@ impl Slot {
 
     /// It begins at this time in ticks, on the unit of its component: PAPI_start(3).
     pub fn begin(&mut self, units: &mut [Unit], book: &PresetBook, now: u64)
-        requires has_unit { (comp : ℕ) → self.old.set.rest.component ≡ Some comp → comp < length units.old }
+        requires has_unit { (comp : ℕ) → self.old.set.rest.component ≡ Some comp
+            → comp < length units.old }
         requires startable { (comp : ℕ) (unit : UnitView)
             → self.old.set.rest.component ≡ Some comp → slice_get units.old comp ≡ Some unit
             → IsStartable book.now unit self.old }

@@ -12,7 +12,8 @@ use papi_base::Shape;
 fn empty_unit_of(units: &mut [Unit], shape: &Shape, comp: u32)
     requires unit { comp < length units.old }
     requires shape { comp < length shape.now }
-    ensures { (widths : List ℕ) → slice_get shape.now comp ≡ Some widths → units.new ≡ slice_set units.old comp (empty_unit widths) }
+    ensures { (widths : List ℕ) → slice_get shape.now comp ≡ Some widths
+        → units.new ≡ slice_set units.old comp (empty_unit widths) }
 {
     units[comp as usize] = Unit::new(shape.comp(comp));
 }
@@ -21,8 +22,10 @@ impl Slot {
     /// It stops at this time, in ticks, and keeps its counts or estimates; nothing is programmed on the unit of its component
     /// any more: PAPI_stop(3).
     pub fn stop(&mut self, units: &mut [Unit], shape: &Shape, time: u64)
-        requires has_unit { (comp : ℕ) → self.old.set.rest.component ≡ Some comp → comp < length units.old }
-        requires has_widths { (comp : ℕ) → self.old.set.rest.component ≡ Some comp → comp < length shape.now }
+        requires has_unit { (comp : ℕ) → self.old.set.rest.component ≡ Some comp
+            → comp < length units.old }
+        requires has_widths { (comp : ℕ) → self.old.set.rest.component ≡ Some comp
+            → comp < length shape.now }
         requires measurable { IsMeasurable units.old self.old time }
         ensures units { (comp : ℕ) (widths : List ℕ)
             → self.old.set.rest.component ≡ Some comp → slice_get shape.now comp ≡ Some widths

@@ -40,7 +40,9 @@ pub struct ChooserWords {
 
 // Which events are listed.
 fn kind_asked(matches: &ArgMatches<'_>) -> Result<EventKind, WordsFault>
-    ensures { Answers result (option_and_then ChooserForm.kind_of (first_of (codes "kind") (rows_of (found_of matches.now)))) }
+    ensures { Answers result
+        (option_and_then ChooserForm.kind_of
+        (first_of (codes "kind") (rows_of (found_of matches.now)))) }
 {
     match text_of(matches, "kind") {
         Some("NATIVE") => Ok(EventKind::Native),
@@ -51,7 +53,8 @@ fn kind_asked(matches: &ArgMatches<'_>) -> Result<EventKind, WordsFault>
 
 // The texts of the events that are given.
 fn events_asked(alloc: Global, matches: &ArgMatches<'_>) -> Result<Texts, WordsFault>
-    ensures { Answers result (option_and_then few_events (all_of (codes "events") (rows_of (found_of matches.now)))) }
+    ensures { Answers result
+        (option_and_then few_events (all_of (codes "events") (rows_of (found_of matches.now)))) }
 {
     let Some(events) = texts_of(matches, "events") else {
         return Err(WordsFault::BadWords);

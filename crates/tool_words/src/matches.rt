@@ -27,7 +27,8 @@ pub(crate) fn command_with<'a>(
     arguments: Vec<Arg<'a>>,
 ) -> Result<clap::Command<'a>, AllocError>
     requires { is_simple_and_free (app_with (map rule_of arguments.items)) ≡ true }
-    ensures { IfOk result (λ command. app_of command ≡ app_with (map rule_of arguments.entry.items)) }
+    ensures { IfOk result (λ command.
+        app_of command ≡ app_with (map rule_of arguments.entry.items)) }
 {
     clap::Command::new(alloc, "papi").args(arguments)
 }
@@ -62,7 +63,8 @@ pub(crate) fn number_of(matches: &ArgMatches<'_>, id: &str) -> Option<u32>
 
 // All values of an argument.
 pub(crate) fn texts_of<'m, 'a>(matches: &'m ArgMatches<'a>, id: &str) -> Option<&'m [&'a str]>
-    ensures { option_map (λ s. map (λ v. v.now) s.now) result ≡ all_of id.now (rows_of (found_of matches.now)) }
+    ensures { option_map (λ s. map (λ v. v.now) s.now) result
+        ≡ all_of id.now (rows_of (found_of matches.now)) }
 {
     matches.get_strs(id)
 }

@@ -22,7 +22,8 @@ pub(crate) fn option_argument<'a>(alloc: Global, id: &'a str, short: char) -> Ar
 
 // `--NAME`, which takes no value.
 pub(crate) fn switch_argument<'a>(alloc: Global, name: &'a str) -> Arg<'a>
-    ensures { rule_of result ≡ record (new_rule name.now) { long = Some name.now; action = Some SetTrue } }
+    ensures { rule_of result
+        ≡ record (new_rule name.now) { long = Some name.now; action = Some SetTrue } }
 {
     Arg::new(alloc, name).long(name).action(ArgAction::SetTrue)
 }

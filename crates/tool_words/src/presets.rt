@@ -107,7 +107,8 @@ pub(crate) fn presets_asked(
     matches: &ArgMatches<'_>,
 ) -> Result<Option<PresetWords>, WordsFault>
     ensures { let rows = rows_of (found_of matches.now) in
-        Answers result (Presets.presets_asked (first_of (codes "presets") rows) (first_of (codes "cpu") rows)) }
+        Answers result (Presets.presets_asked (first_of (codes "presets") rows)
+        (first_of (codes "cpu") rows)) }
 {
     match (text_of(matches, "presets"), text_of(matches, "cpu")) {
         (None, None) => Ok(None),
@@ -122,7 +123,8 @@ pub(crate) fn presets_needed(
     matches: &ArgMatches<'_>,
 ) -> Result<PresetWords, WordsFault>
     ensures { let rows = rows_of (found_of matches.now) in
-        Answers result (Presets.presets_needed (first_of (codes "presets") rows) (first_of (codes "cpu") rows)) }
+        Answers result (Presets.presets_needed (first_of (codes "presets") rows)
+        (first_of (codes "cpu") rows)) }
 {
     match (text_of(matches, "presets"), text_of(matches, "cpu")) {
         (Some(file), Some(cpu)) => presets_of(alloc, file, cpu),

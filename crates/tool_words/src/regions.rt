@@ -126,7 +126,8 @@ fn parts_of<'a>(alloc: Global, list: &'a str) -> Result<Vec<&'a str>, AllocError
 
 // The events of a list.
 fn events_asked(alloc: Global, matches: &ArgMatches<'_>) -> Result<EventTexts, WordsFault>
-    ensures { Answers result (option_and_then events_of (first_of (codes "events") (rows_of (found_of matches.now)))) }
+    ensures { Answers result
+        (option_and_then events_of (first_of (codes "events") (rows_of (found_of matches.now)))) }
 {
     let Some(list) = text_of(matches, "events") else {
         return Err(WordsFault::BadWords);

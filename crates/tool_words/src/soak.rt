@@ -79,7 +79,8 @@ fn rounds_argument<'a>(alloc: Global) -> Arg<'a>
 
 // The rounds that are asked for.
 fn rounds_asked(matches: &ArgMatches<'_>) -> Result<Rounds, WordsFault>
-    ensures { Answers result (option_and_then rounds_of (number_of (codes "rounds") (rows_of (found_of matches.now)))) }
+    ensures { Answers result
+        (option_and_then rounds_of (number_of (codes "rounds") (rows_of (found_of matches.now)))) }
 {
     let Some(count) = number_of(matches, "rounds") else {
         return Err(WordsFault::BadWords);

@@ -78,7 +78,8 @@ pub(crate) fn streams_asked(
     alloc: Global,
     matches: &ArgMatches<'_>,
 ) -> Result<StreamNames, WordsFault>
-    ensures { Answers result (Streams.streams_asked (all_of (codes "streams") (rows_of (found_of matches.now)))) }
+    ensures { Answers result
+        (Streams.streams_asked (all_of (codes "streams") (rows_of (found_of matches.now)))) }
 {
     match texts_of(matches, "streams") {
         None => Ok(StreamNames::none(alloc)),

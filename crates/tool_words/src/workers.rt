@@ -75,7 +75,9 @@ pub(crate) fn workers_argument<'a>(alloc: Global) -> Arg<'a>
 
 // The workers that are asked for.
 pub(crate) fn workers_asked(matches: &ArgMatches<'_>) -> Result<Workers, WordsFault>
-    ensures { Answers result (option_and_then workers_of (number_of (codes "workers") (rows_of (found_of matches.now)))) }
+    ensures { Answers result
+        (option_and_then workers_of
+        (number_of (codes "workers") (rows_of (found_of matches.now)))) }
 {
     let Some(count) = number_of(matches, "workers") else {
         return Err(WordsFault::BadWords);
