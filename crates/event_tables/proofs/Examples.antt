@@ -4,11 +4,12 @@ use Rattle.csv.proofs.OnLiterals.{csv_on_literals}
 use Rattle.table_rows.specs.Rows.{rows_of}
 use Rattle.table_rows.specs.Texts.{decimal_in, hex_in, is_decimal, is_name, is_numeral, text_at, trimmed, without_front}
 use Rattle.event_tables.specs.Lines.{flags_of, line_of, words_of}
-use Rattle.event_tables.specs.Unit.{cause_in, components_in, counters_in, events_in, fault_from, masks_in, unit_fault, unit_tables}
+use Rattle.table_rows.specs.Tables.{first_fault}
+use Rattle.event_tables.specs.Unit.{cause_in, components_in, counters_in, events_in, masks_in, unit_fault, unit_tables}
 use Rattle.event_tables.specs.declared.fault.RowCause.TheVariants as cause
 
 unfoldable on_units : Unit {0}
-unfolding csv_on_literals rows_of decimal_in hex_in is_decimal is_name is_numeral text_at trimmed without_front flags_of line_of words_of cause_in components_in counters_in events_in fault_from masks_in unit_fault unit_tables
+unfolding csv_on_literals rows_of decimal_in hex_in is_decimal is_name is_numeral text_at trimmed without_front flags_of line_of words_of cause_in components_in counters_in events_in first_fault masks_in unit_fault unit_tables
 on_units = tt
 
 -- the rows of the file are numbered, and a blank line or a comment is not one; a quote is a plain byte

@@ -4,7 +4,9 @@ use Rattle.std.specs.HashMap.{get_by_text}
 use Rattle.std.specs.List.{AllByRecursion}
 use Rattle.table_rows.specs.Texts.{Text}
 use Rattle.event_tables.specs.Kept.{IsTables}
+use Rattle.event_tables.specs.Lines.{Line}
 use Rattle.event_tables.specs.Tables.{row_of_lower}
+use Rattle.event_tables.specs.Unit.{components_in}
 use Rattle.event_tables.specs.Views.{component_text, event_text}
 use Rattle.event_tables.specs.declared.component.Component.{Component}
 
@@ -16,3 +18,7 @@ pub record IsIndexed (c : Component) : Type 0 where
 pub record AreKept (components : List Component) : Type 0 where
   pub tables : IsTables (map component_text components)
   pub indexed : AllByRecursion IsIndexed components
+
+-- the components of these rows, with what the tables keep
+abbrev pub IsRead : List Line → List Component → Type 0
+IsRead lines components = (map component_text components ≡ components_in lines) × AreKept components

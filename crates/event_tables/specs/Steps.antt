@@ -1,14 +1,9 @@
 -- The tables of some rows and of one row more.
-use Rattle.std.specs.Prelude.{⊤, ◌≡◌, ◌+◌, ◌<◌, length, ℕ, Bool, true, false, List, [], ◌∷◌, ◌++◌, Some, None, Result, Ok, Err}
-use Rattle.event_tables.specs.Lines.{Line, skipped, bad, component, counter, event, umask, line_of}
+use Rattle.std.specs.Prelude.{⊤, ◌≡◌, ◌<◌, length, false, List, [], ◌∷◌, ◌++◌}
+use Rattle.event_tables.specs.Lines.{Line, skipped, bad, component, counter, event, umask}
 use Rattle.std.specs.List.{list_any}
-use Rattle.table_rows.specs.Texts.{Text}
 use Rattle.event_tables.specs.Tables.{ComponentText, CounterText, EventText, MaskText, same_name}
-use Rattle.event_tables.specs.Unit.{cause_in, component_of, counter_row, event_row}
-use Rattle.event_tables.specs.declared.fault.TableFault.{TableFault}
-use Rattle.event_tables.specs.declared.fault.TableFault.TheVariants as fault
-use Rattle.event_tables.specs.declared.adding.Refusal.{Refusal}
-use Rattle.event_tables.specs.declared.adding.Refusal.TheVariants as refusal
+use Rattle.event_tables.specs.Unit.{component_of, counter_row, event_row}
 
 -- a list with its last item changed
 unfoldable pub on_last : {X : Type 0} → (X → X) → List X → List X
@@ -51,21 +46,3 @@ CanGrow line c = ⊤
 abbrev pub with_line : List ComponentText → Line → List ComponentText
 with_line above (component name pmu) = above ++ component_of name pmu [] ∷ []
 with_line above line = on_last (grown line) above
-
--- one row is added, or refused for its cause
-abbrev pub AddsRow : List ComponentText → Line → List ComponentText → Result Unit Refusal → Type 0
-AddsRow old line new (Ok u) = (cause_in old line ≡ None) × (new ≡ with_line old line)
-AddsRow old line new (Err (refusal.Cause cause)) = cause_in old line ≡ Some cause
-AddsRow old line new (Err refusal.Memory) = ⊤
-
--- the next row is added, or none is left, or the row is refused at its place from 0
-abbrev pub AddsNext : ℕ → List (List Text) → List Text → List (List Text) → List ComponentText → List ComponentText → Result Bool TableFault → Type 0
-AddsNext place rows fields left old new (Ok true) = (rows ≡ fields ∷ left) × (cause_in old (line_of fields) ≡ None) × (new ≡ with_line old (line_of fields))
-AddsNext place rows fields left old new (Ok false) = (rows ≡ []) × (left ≡ []) × (new ≡ old)
-AddsNext place rows fields left old new (Err (fault.Row row cause)) = (rows ≡ fields ∷ left) × (row ≡ place + 1) × (cause_in old (line_of fields) ≡ Some cause)
-AddsNext place rows fields left old new (Err fault.Memory) = ⊤
-
--- the fault of a refused row, whose place is from 0
-abbrev pub fault_at : ℕ → Refusal → TableFault
-fault_at place (refusal.Cause cause) = fault.Row (place + 1) cause
-fault_at place refusal.Memory = fault.Memory

@@ -1,18 +1,18 @@
 -- The tables of a unit file's rows, and the first fault. The file format is this project's own.
-use Rattle.std.specs.Prelude.{◌≡◌, ◌&&◌, ◌||◌, ◌+◌, ◌-◌, ◌^◌, ℕ, Bool, List, [], ◌∷◌, ◌++◌, length, map, Option, Some, None, Result, Ok, Err}
+use Rattle.std.specs.Prelude.{◌≡◌, ◌&&◌, ◌||◌, ◌-◌, ◌^◌, ℕ, Bool, List, [], ◌∷◌, ◌++◌, length, map, Option, Some, None, Result}
 use Rattle.std.specs.Prelude.{is_some, unwrap_or, if◌then◌else◌, nat_le, slice_get, codes}
 use Rattle.std.specs.List.{fold, list_all, list_any, position_from}
 use Rattle.std.specs.Option.{option_map_or}
 use Rattle.std.specs.Str.{bytes_eq}
 use Rattle.std.specs.Int.RustNames.{bit_or}
 use Rattle.table_rows.specs.Rows.{rows_of}
+use Rattle.table_rows.specs.Tables.{ReadsTable, first_fault}
 use Rattle.table_rows.specs.Texts.{Text}
 use Rattle.event_tables.specs.Lines.{Line, skipped, bad, component, counter, event, umask, line_of}
 use Rattle.event_tables.specs.Tables.{ComponentText, CounterText, EventText, MaskText, same_name}
 use Rattle.event_tables.specs.declared.fault.RowCause.{RowCause}
 use Rattle.event_tables.specs.declared.fault.RowCause.TheVariants as cause
-use Rattle.event_tables.specs.declared.fault.TableFault.{TableFault}
-use Rattle.event_tables.specs.declared.fault.TableFault.TheVariants as fault
+use Rattle.table_rows.specs.declared.fault.RowFault.{RowFault}
 use Rattle.event_tables.specs.declared.tables.Tables.{Tables}
 use Rattle.event_tables.specs.declared.limits.TheConstants.{MOST_COMPONENTS, MOST_COUNTERS, MOST_EVENTS, MOST_UMASKS}
 
@@ -146,11 +146,9 @@ cause_in above bad = Some cause.BadRow
 cause_in above (component name pmu) = component_cause above name pmu
 cause_in above line = option_map_or (λ c. inner_cause c line) (last_of above) (Some cause.BadRow)
 
--- the first row below `above` that has a cause in view of the rows above it, and its cause
-unfoldable pub fault_from : List Line → List Line → Option (ℕ × RowCause)
-fault_from above [] = None
-fault_from above (line ∷ rest) =
-    option_map_or (λ cause. Some (length above + 1, cause)) (cause_in (components_in above) line) (fault_from (above ++ line ∷ []) rest)
+-- the cause of a row below these rows, if it has one
+abbrev pub row_cause : List Line → Line → Option RowCause
+row_cause above line = cause_in (components_in above) line
 
 -- what each row of a unit file says
 abbrev pub lines_of : List ℕ → List Line
@@ -160,17 +158,15 @@ lines_of bytes = map line_of (rows_of bytes)
 
 -- the first faulty row of a unit file, from 1, and its first cause
 unfoldable pub unit_fault : List ℕ → Option (ℕ × RowCause)
-unit_fault bytes = fault_from [] (lines_of bytes)
+unit_fault bytes = first_fault row_cause [] (lines_of bytes)
 
 -- the tables of a unit file that has no faulty row
 unfoldable pub unit_tables : List ℕ → List ComponentText
 unit_tables bytes = components_in (lines_of bytes)
 
 -- the tables where no row is faulty, or the first fault, or out of memory
-abbrev pub ReadsUnit : Result Tables TableFault → List ℕ → Type 0
-ReadsUnit (Ok tables) bytes = (unit_fault bytes ≡ None) × (tables ≡ unit_tables bytes)
-ReadsUnit (Err (fault.Row row cause)) bytes = unit_fault bytes ≡ Some (row, cause)
-ReadsUnit (Err fault.Memory) bytes = Unit {0}
+abbrev pub ReadsUnit : Result Tables (RowFault RowCause) → List ℕ → Type 0
+ReadsUnit result bytes = ReadsTable (unit_fault bytes) (λ tables. tables ≡ unit_tables bytes) result
 
 -- a cause as it is written on the line that names it
 abbrev pub cause_text : RowCause → Text

@@ -1,66 +1,30 @@
 //! The tables, row by row.
 
-ghost use Rattle.std.specs.Prelude.{◌≡◌, ◌<◌, ◌≤◌, ◌-◌, ◌^◌, false, [], Some, None, map, OnOk, IfOk, length, vec_len, if◌then◌else◌};
+ghost use Rattle.std.specs.Prelude.{◌≡◌, ◌<◌, ◌≤◌, false, [], Some, None, map, OnOk, IfOk, length, vec_len, if◌then◌else◌};
 ghost use Rattle.std.specs.HashMap.{get_by_text};
 ghost use Rattle.std.specs.List.{AllByRecursion, list_any};
 ghost use Rattle.std.specs.Map.{update};
 ghost use Rattle.std.specs.Str.{bytes_eq, str_to_ascii_lowercase};
 ghost use Rattle.table_rows.specs.Texts.{Text, is_empty};
-ghost use Rattle.event_tables.specs.Index.{AreKept, IsIndexed};
+ghost use Rattle.table_rows.specs.Tables.{TakesRow};
+ghost use Rattle.event_tables.specs.Index.{AreKept, IsIndexed, IsRead};
 ghost use Rattle.event_tables.specs.Kept.{IsLine};
 ghost use Rattle.event_tables.specs.Tables.{same_name};
 ghost use Rattle.event_tables.specs.declared.limits.TheConstants.{MOST_COUNTERS, MOST_EVENTS};
 ghost use Rattle.event_tables.specs.Lines as Lines;
-ghost use Rattle.event_tables.specs.Lines.{row_line, words_of};
+ghost use Rattle.event_tables.specs.Lines.{Line, line_of, row_line, words_of};
 ghost use Rattle.event_tables.specs.Steps as Steps;
-ghost use Rattle.event_tables.specs.Steps.{AddsRow, CanGrow};
+ghost use Rattle.event_tables.specs.Steps.{CanGrow};
 ghost use Rattle.event_tables.specs.Unit as Unit;
 ghost use Rattle.event_tables.specs.Views.{component_text, counter_text, event_text, mask_text};
-ghost use Rattle.event_tables.specs.declared.adding.Refusal.TheVariants as refusal;
 
 use crate::cause::{cause_of, counter_place};
 use crate::component::{Component, Counter, EventRow, UmaskRow};
-use crate::fault::{RowCause, TableFault};
-use crate::row::{Flags, Row};
-use std::alloc::{AllocError, AllocFailed, Global};
+use crate::fault::RowCause;
+use crate::row::{Flags, Row, row_of};
+use std::alloc::{AllocError, Global};
 use std::collections::HashMap;
-
-/// Why a row is not added.
-#[derive(Drop)]
-pub enum Refusal {
-    Cause(RowCause),
-    Memory,
-}
-
-impl From<AllocError> for Refusal {
-    ghost from_gives = { λ _ e. e ≡ refusal.Memory };
-
-    fn from(_e: AllocError) -> Refusal {
-        Refusal::Memory
-    }
-}
-
-impl<T: Drop> From<AllocFailed<T>> for Refusal {
-    ghost from_gives = { λ _ e. e ≡ refusal.Memory };
-
-    fn from(_e: AllocFailed<T>) -> Refusal {
-        Refusal::Memory
-    }
-}
-
-/// The fault of a refused row, whose place is from 0.
-pub fn fault_at(place: usize, refusal: Refusal) -> TableFault
-    requires { place < 2 ^ 64 - 1 }
-    ensures { result ≡ Steps.fault_at place refusal }
-{
-    match refusal {
-        Refusal::Cause(cause) => TableFault::Row {
-            row: place as u64 + 1,
-            cause,
-        },
-        Refusal::Memory => TableFault::Memory,
-    }
-}
+use table_rows::{ByteRecord, Refusal, TableKind};
 
 // A counter of this name as a bit, and 0 where there is none and where there is no name.
 fn counter_bit(counters: &[Counter], name: &[u8]) -> u32
@@ -263,11 +227,16 @@ fn put_row(alloc: Global, components: &mut Vec<Component>, row: Row<'_>) -> Resu
     }
 }
 
-/// Adds a row below the others.
-pub fn add_row(alloc: Global, components: &mut Vec<Component>, row: Row<'_>) -> Result<(), Refusal>
+// Adds a row below the others.
+fn add_row(
+    alloc: Global,
+    components: &mut Vec<Component>,
+    row: Row<'_>,
+) -> Result<(), Refusal<RowCause>>
     requires kept { AreKept components.old.items }
     requires line { IsLine (row_line row) }
-    ensures adds { AddsRow (map component_text components.old.items) (row_line row.entry) (map component_text components.new.items) result }
+    ensures adds { TakesRow (Unit.cause_in (map component_text components.old.items) (row_line row.entry))
+        (map component_text components.new.items ≡ Steps.with_line (map component_text components.old.items) (row_line row.entry)) result }
     ensures indexed { OnOk result (AllByRecursion IsIndexed components.new.items) }
 {
     if let Some(cause) = cause_of(components.as_slice(), &row) {
@@ -275,4 +244,34 @@ pub fn add_row(alloc: Global, components: &mut Vec<Component>, row: Row<'_>) -> 
     }
     put_row(alloc, components, row)?;
     Ok(())
+}
+
+/// The rows of a unit file.
+pub struct UnitRows;
+
+impl TableKind for UnitRows {
+    type Read = Vec<Component>;
+
+    type Cause = RowCause;
+
+    ghost Line = { Line };
+
+    ghost line_of = { line_of };
+
+    ghost cause = { λ _ above line. Unit.row_cause above line };
+
+    ghost gives = { λ _ lines components. IsRead lines components.items };
+
+    fn no_rows(&self, alloc: Global) -> Result<Vec<Component>, AllocError> {
+        Ok(Vec::new(alloc))
+    }
+
+    fn take_row(
+        &self,
+        alloc: Global,
+        components: &mut Vec<Component>,
+        row: &ByteRecord,
+    ) -> Result<(), Refusal<RowCause>> {
+        add_row(alloc, components, row_of(row))
+    }
 }

@@ -2,14 +2,12 @@
 
 ghost use Rattle.std.specs.Prelude.{◌≡◌};
 ghost use Rattle.event_tables.specs.Unit as Unit;
-ghost use Rattle.event_tables.specs.declared.fault.TableFault.TheVariants.{Memory};
 
-use std::alloc::AllocError;
 use std::fmt;
-use thiserror::Error;
+use table_rows::RowFault;
 
 /// Why a row is refused, in the order in which the causes are tried.
-#[derive(Clone, Copy, Debug, PartialEq, Eq, Error)]
+#[derive(Clone, Copy, Debug, PartialEq, Eq)]
 pub enum RowCause {
     /// It has none of the forms, belongs to nothing, or is a second default umask.
     BadRow,
@@ -30,21 +28,7 @@ impl fmt::Display for RowCause {
 }
 
 /// Why a unit file is refused: its first faulty row, numbered from 1, with the row's first cause, or out of memory.
-#[derive(Debug, Drop, PartialEq, Eq, Error)]
-pub enum TableFault {
-    #[error("row {row}: {cause}")]
-    Row { row: u64, cause: RowCause },
-    #[error("out of memory")]
-    Memory,
-}
-
-impl From<AllocError> for TableFault {
-    ghost from_gives = { λ _ e. e ≡ Memory };
-
-    fn from(_e: AllocError) -> TableFault {
-        TableFault::Memory
-    }
-}
+pub type TableFault = RowFault<RowCause>;
 
 /// A cause as it is written on the line that names it.
 pub fn cause_text(cause: RowCause) -> &'static str

@@ -10,7 +10,8 @@ use Rattle.table_rows.proofs.Texts.{all-map}
 use Rattle.preset_table.specs.Table.{preset_rows, row_of}
 use Rattle.preset_csv.specs.Entries.{judged}
 use Rattle.preset_csv.specs.Lines.{Derivation, Line, cpu, line_of, lines_of, preset}
-use Rattle.preset_csv.specs.Presets.{cuts_off, entry_of, entry_or, fault_from, group, has_cpu, is_read, line_cause, presets, read_from}
+use Rattle.table_rows.specs.Tables.{first_fault}
+use Rattle.preset_csv.specs.Presets.{cuts_off, entry_of, entry_or, group, has_cpu, is_read, line_cause, presets, read_from}
 use Rattle.preset_csv.specs.Tables.{IsEntry, TableView, symbols}
 use Rattle.preset_csv.specs.Written.{rows_of_entries, table_text}
 use Rattle.preset_csv.specs.declared.entry.Entry.{Entry}
@@ -76,8 +77,8 @@ unfolding read_from
 all-read name above [] s h = refl
 all-read name above (r ∷ rows) s h = rw (reads name above r s h.0) (ap (λ (t : List Derivation). r ∷ t) (all-read name (above ++ preset r ∷ []) rows (stands-more name above r s) h.1))
 
-no-fault : (name : Text) (above : List Line) (rows : List Derivation) → Stands name above → AllByRecursion IsTaken rows → fault_from name above (map preset rows) ≡ None
-unfolding fault_from
+no-fault : (name : Text) (above : List Line) (rows : List Derivation) → Stands name above → AllByRecursion IsTaken rows → first_fault (line_cause name) above (map preset rows) ≡ None
+unfolding first_fault
 no-fault name above [] s h = refl
 no-fault name above (r ∷ rows) s h = rw (no-cause name above r s h.0) (no-fault name (above ++ preset r ∷ []) rows (stands-more name above r s) h.1)
 
@@ -115,15 +116,15 @@ map-same : (f g : Text → Entry) (ss : List Text) → AllByRecursion (λ t. f t
 map-same f g [] h = refl
 map-same f g (s ∷ ss) h = ap₂ (λ (x : Entry) (xs : List Entry). x ∷ xs) h.0 (map-same f g ss h.1)
 
-others-same : (s : Text) (r : Derivation) (rows : List Derivation) (ss : List Text) → r.symbol ≡ s → AllByRecursion (AreApart s) ss → map (entry_of (r ∷ rows)) ss ≡ map (entry_of rows) ss
+others-same : (s : Text) (r : Derivation) (rows : List Derivation) (ss : List Text) → r.symbol ≡ s → AllByRecursion (AreApart s) ss → map (entry_of judged (r ∷ rows)) ss ≡ map (entry_of judged rows) ss
 unfolding entry_of
 others-same s r rows ss is h =
-    map-same (entry_of (r ∷ rows)) (entry_of rows) ss (all-map (AreApart s) (λ t. entry_of (r ∷ rows) t ≡ entry_of rows t) ss (λ t k. rw (is, k.0) refl) h)
+    map-same (entry_of judged (r ∷ rows)) (entry_of judged rows) ss (all-map (AreApart s) (λ t. entry_of judged (r ∷ rows) t ≡ entry_of judged rows t) ss (λ t k. rw (is, k.0) refl) h)
 
 flip : (s : Text) (ss : List Text) → AllByRecursion (AreApart s) ss → AllByRecursion (λ t. bytes_eq t s ≡ false) ss
 flip s ss h = all-map (AreApart s) (λ t. bytes_eq t s ≡ false) ss (λ t k. k.1) h
 
-pub entries-back : (ss : List Text) (es : List Entry) → Apart ss → length es ≡ length ss → AllByRecursion IsEntry es → map (entry_of (rows_back ss es)) ss ≡ es
+pub entries-back : (ss : List Text) (es : List Entry) → Apart ss → length es ≡ length ss → AllByRecursion IsEntry es → map (entry_of judged (rows_back ss es)) ss ≡ es
 unfolding entry_of rows_back
 entries-back [] [] a n h = refl
 entries-back [] (e ∷ es) a n h = absurd (omega arith)
@@ -144,8 +145,8 @@ pub first-stands : (name : Text) → Stands name (cpu name ∷ [])
 unfolding group cuts_off has_cpu
 first-stands name = (refl, refl)
 
-fault-back : (name : Text) (rows : List Derivation) → AllByRecursion IsTaken rows → fault_from name [] (cpu name ∷ map preset rows) ≡ None
-unfolding fault_from
+fault-back : (name : Text) (rows : List Derivation) → AllByRecursion IsTaken rows → first_fault (line_cause name) [] (cpu name ∷ map preset rows) ≡ None
+unfolding first_fault
 fault-back name rows h = no-fault name (cpu name ∷ []) rows (first-stands name) h
 
 read-back : (name : Text) (rows : List Derivation) → AllByRecursion IsTaken rows → read_from name [] (cpu name ∷ map preset rows) ≡ rows
@@ -156,12 +157,12 @@ length-symbols : length symbols ≡ 26
 unfolding symbols preset_rows
 length-symbols = refl
 
-pub fault-of-written : (t : TableView) → IsGood t.cpu → AllByRecursion IsEntry t.rows → fault_from t.cpu [] (lines_of (table_text t)) ≡ None
-fault-of-written t g h = ap (fault_from t.cpu []) (written-lines t g h) ∙ fault-back t.cpu (rows_back symbols t.rows) (all-taken symbols t.rows symbols-in h)
+pub fault-of-written : (t : TableView) → IsGood t.cpu → AllByRecursion IsEntry t.rows → first_fault (line_cause t.cpu) [] (lines_of (table_text t)) ≡ None
+fault-of-written t g h = ap (first_fault (line_cause t.cpu) []) (written-lines t g h) ∙ fault-back t.cpu (rows_back symbols t.rows) (all-taken symbols t.rows symbols-in h)
 
 pub presets-of-written : (t : TableView) → IsGood t.cpu → length t.rows ≡ 26 → AllByRecursion IsEntry t.rows → presets t.cpu (lines_of (table_text t)) ≡ t.rows
 unfolding presets
 presets-of-written t g n h =
-    ap (λ (ls : List Line). map (entry_of (read_from t.cpu [] ls)) symbols) (written-lines t g h)
-    ∙ ap (λ (rs : List Derivation). map (entry_of rs) symbols) (read-back t.cpu (rows_back symbols t.rows) (all-taken symbols t.rows symbols-in h))
+    ap (λ (ls : List Line). map (entry_of judged (read_from t.cpu [] ls)) symbols) (written-lines t g h)
+    ∙ ap (λ (rs : List Derivation). map (entry_of judged rs) symbols) (read-back t.cpu (rows_back symbols t.rows) (all-taken symbols t.rows symbols-in h))
     ∙ entries-back symbols t.rows symbols-apart (n ∙ sym length-symbols) h

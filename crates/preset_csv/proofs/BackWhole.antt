@@ -12,7 +12,8 @@ use Rattle.table_rows.specs.Rows.{rows_of, rows_text, table_config}
 use Rattle.table_rows.specs.Texts.{Text, text_at}
 use Rattle.table_rows.proofs.Texts.{all-append}
 use Rattle.preset_csv.specs.Lines.{Line, cpu, line_of, lines_of, other, preset}
-use Rattle.preset_csv.specs.Presets.{fault_from, has_cpu, preset_fault, presets, presets_in}
+use Rattle.table_rows.specs.Tables.{first_fault}
+use Rattle.preset_csv.specs.Presets.{has_cpu, line_cause, preset_fault, presets, presets_in}
 use Rattle.preset_csv.specs.Tables.{IsMissing, IsTable, TableView, is_field, symbols}
 use Rattle.preset_csv.specs.Written.{ReadsBack, rows_of_entries, table_text}
 use Rattle.preset_csv.specs.declared.entry.Entry.{Entry}
@@ -113,8 +114,8 @@ first-row xs =
 -- ---- a cpu whose name can stand in no field
 
 pub none-faulty : (name : Text) (above lines : List Line) → is_field name ≡ false → has_cpu above ≡ true → AllByRecursion IsLine above
-    → AllByRecursion IsLine lines → fault_from name above lines ≡ None
-unfolding fault_from
+    → AllByRecursion IsLine lines → first_fault (line_cause name) above lines ≡ None
+unfolding first_fault
 none-faulty name above [] e c a h = refl
 none-faulty name above (other ∷ rest) e c a h =
     none-faulty name (above ++ other ∷ []) rest e (has_cpu-more above other ∙ rw c refl) (all-append IsLine above (other ∷ []) a (tt, tt)) h.1
@@ -124,15 +125,15 @@ none-faulty name above (preset r ∷ rest) e c a h =
     rw (c, not-in-group name above e a)
     (none-faulty name (above ++ preset r ∷ []) rest e (has_cpu-more above (preset r) ∙ rw c refl) (all-append IsLine above (preset r ∷ []) a (h.0, tt)) h.1)
 
-begun-faultless : (name n : Text) (lines : List Line) → is_field name ≡ false → AllByRecursion IsLine (cpu n ∷ lines) → fault_from name [] (cpu n ∷ lines) ≡ None
-unfolding fault_from has_cpu
+begun-faultless : (name n : Text) (lines : List Line) → is_field name ≡ false → AllByRecursion IsLine (cpu n ∷ lines) → first_fault (line_cause name) [] (cpu n ∷ lines) ≡ None
+unfolding first_fault has_cpu
 begun-faultless name n lines e h = none-faulty name (cpu n ∷ []) lines e refl (h.0, tt) h.1
 
-bad-faultless : (name : Text) (xs : List ℕ) → is_field name ≡ false → fault_from name [] (lines_of (cpu_text xs)) ≡ None
+bad-faultless : (name : Text) (xs : List ℕ) → is_field name ≡ false → first_fault (line_cause name) [] (lines_of (cpu_text xs)) ≡ None
 bad-faultless name xs e =
     let r = first-row xs in
     let lines : lines_of (cpu_text xs) ≡ cpu (text_at (codes "CPU" ∷ r.more) 1) ∷ map line_of r.below = ap (map line_of) r.is ∙ ap (λ (l : Line). l ∷ map line_of r.below) (cpu-begins r.more) in
-    ap (fault_from name []) lines ∙ begun-faultless name (text_at (codes "CPU" ∷ r.more) 1) (map line_of r.below) e (subst (AllByRecursion IsLine) lines (lines-plain (cpu_text xs)))
+    ap (first_fault (line_cause name) []) lines ∙ begun-faultless name (text_at (codes "CPU" ∷ r.more) 1) (map line_of r.below) e (subst (AllByRecursion IsLine) lines (lines-plain (cpu_text xs)))
 
 missing-same : (es fs : List Entry) → AllByRecursion IsMissing es → AllByRecursion IsMissing fs → length es ≡ length fs → es ≡ fs
 missing-same [] [] h k n = refl
@@ -145,7 +146,7 @@ missing-same (e ∷ es) (f ∷ fs) h k n = ap₂ (λ (x : Entry) (xs : List Entr
 abbrev table-of : Text → List Entry → TableView
 table-of name rows = record { cpu = name; rows = rows }
 
-bad-text : (t : TableView) → is_field t.cpu ≡ false → fault_from t.cpu [] (lines_of (table_text t)) ≡ None
+bad-text : (t : TableView) → is_field t.cpu ≡ false → first_fault (line_cause t.cpu) [] (lines_of (table_text t)) ≡ None
 unfolding table_text rows_text
 bad-text t e = bad-faultless t.cpu (t.cpu ++ (10 ∷ rows_text (rows_of_entries symbols t.rows))) e
 
@@ -154,7 +155,7 @@ pub reads-back : (t : TableView) → IsTable t → ReadsBack (table_text t) t
 unfolding preset_fault presets_in
 reads-back t h = go (is_field t.cpu) refl
   where
-    go : (b : Bool) → is_field t.cpu ≡ b → (fault_from t.cpu [] (lines_of (table_text t)) ≡ None) × (table-of t.cpu (presets t.cpu (lines_of (table_text t))) ≡ t)
+    go : (b : Bool) → is_field t.cpu ≡ b → (first_fault (line_cause t.cpu) [] (lines_of (table_text t)) ≡ None) × (table-of t.cpu (presets t.cpu (lines_of (table_text t))) ≡ t)
     go true e = (fault-of-written t (field-good t.cpu e) h.each, ap (table-of t.cpu) (presets-of-written t (field-good t.cpu e) h.all h.each))
     go false e = (
       bad-text t e,

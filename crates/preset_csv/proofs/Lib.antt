@@ -1,7 +1,6 @@
 pub mod FoundNatives
 pub mod Groups
 pub mod NativesKept
-pub mod PlainFields
 pub mod SymbolRows
 pub mod Judged
 pub mod TableKept

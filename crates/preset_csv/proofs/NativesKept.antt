@@ -3,7 +3,7 @@ use Rattle.std.proofs.Common.{◌≡◌, ◌≤◌, ◌==◌, ◌∷◌, ℕ, ze
 use Rattle.std.specs.Prelude.{if◌then◌else◌}
 use Rattle.std.specs.List.{AllByRecursion, list_all}
 use Rattle.std.proofs.lemmas.Bool.{and_parts, ltb-false}
-use Rattle.table_rows.specs.Rows.{IsInner, IsPlainField}
+use Rattle.table_rows.specs.Rows.{IsInner, IsPlainField, IsReadRow}
 use Rattle.table_rows.specs.Texts.{Text, is_printable, text_at, trimmed}
 use Rattle.table_rows.proofs.Texts.{trimmed-all, trimmed-once}
 use Rattle.postfix_rules.specs.declared.derived.TheConstants.{MOST_NATIVES}
@@ -11,7 +11,6 @@ use Rattle.preset_csv.specs.Defs.{IsNativeText, ends_natives}
 use Rattle.preset_csv.specs.Entries.{kept_natives}
 use Rattle.preset_csv.specs.Kinds.{has_formula, type_of}
 use Rattle.preset_csv.specs.Lines.{Derivation, derivation_of, natives_from, natives_in}
-use Rattle.preset_csv.specs.Steps.{IsReadRow}
 use Rattle.preset_csv.specs.declared.fault.PresetCause.{PresetCause}
 use Rattle.preset_csv.specs.declared.fault.PresetCause.TheVariants as cause
 

@@ -9,7 +9,7 @@ use Rattle.table_rows.specs.Texts.{Text}
 use Rattle.preset_table.specs.Table.{row_of}
 use Rattle.preset_csv.specs.Entries.{judged}
 use Rattle.preset_csv.specs.Lines.{Derivation, Line, cpu, other, preset}
-use Rattle.preset_csv.specs.Presets.{entry_of, entry_or, group, has_cpu, is_read, line_cause, presets, read_from}
+use Rattle.preset_csv.specs.Presets.{Judging, entry_of, entry_or, group, has_cpu, is_read, line_cause, presets, read_from, rows_if}
 use Rattle.preset_csv.specs.Steps.{cause_more, entries_more, entries_with, group_at, group_more, is_closed, placed}
 use Rattle.preset_csv.specs.Tables.{symbols}
 use Rattle.preset_csv.specs.declared.entry.Entry.{Entry}
@@ -67,17 +67,17 @@ read-append name a (preset r ∷ xs) line =
     go true e = ap (λ (t : List Derivation). r ∷ t) e
     go false e = e
 
-map-same : (f g : Text → Entry) (ss : List Text) → ((s : Text) → f s ≡ g s) → map f ss ≡ map g ss
+pub map-same : {X : Type 0} (f g : Text → X) (ss : List Text) → ((s : Text) → f s ≡ g s) → map f ss ≡ map g ss
 map-same f g [] h = refl
-map-same f g (s ∷ ss) h = ap₂ (λ (x : Entry) (xs : List Entry). x ∷ xs) (h s) (map-same f g ss h)
+map-same f g (s ∷ ss) h = ap₂ (λ x xs. x ∷ xs) (h s) (map-same f g ss h)
 
 -- the entries with one row more that is read
 abbrev entry_more : (Text → Entry) → Derivation → Result Entry PresetCause → Text → Entry
 entry_more f r o s = if bytes_eq r.symbol s then entry_or (f s) o else f s
 
-entry-append : (rows : List Derivation) (r : Derivation) (s : Text) → entry_of (rows ++ r ∷ []) s ≡ entry_more (entry_of rows) r (judged r) s
+pub entry-append : (judge : Judging) (rows : List Derivation) (r : Derivation) (s : Text) → entry_of judge (rows ++ r ∷ []) s ≡ entry_more (entry_of judge rows) r (judge r) s
 unfolding entry_of
-entry-append rows r s = fold-append _ _ rows (r ∷ [])
+entry-append judge rows r s = fold-append _ _ rows (r ∷ [])
 
 kept-at : (b : Bool) (e : Entry) → (if b then e else e) ≡ e
 kept-at true e = refl
@@ -96,23 +96,25 @@ placed-more f r (Err why) = map-same (entry_more f r (Err why)) f symbols (λ s.
     go (Some row) = refl
 
 -- one row more that is not a PRESET row, or not one that is read
-unread : (rows : List Derivation) → map (entry_of (rows ++ [])) symbols ≡ map (entry_of rows) symbols
-unread rows = ap (λ (t : List Derivation). map (entry_of t) symbols) (append-nil rows)
+pub unread : (judge : Judging) (rows : List Derivation) → map (entry_of judge (rows ++ [])) symbols ≡ map (entry_of judge rows) symbols
+unread judge rows = ap (λ (t : List Derivation). map (entry_of judge t) symbols) (append-nil rows)
 
-taken-more : (rows : List Derivation) (r : Derivation) (holds : Bool)
-    → map (entry_of (rows ++ (if holds && is_some (row_of r.symbol) then r ∷ [] else []))) symbols ≡ entries_with holds (map (entry_of rows) symbols) r
-taken-more rows r false = unread rows
-taken-more rows r true = go (row_of r.symbol) (map-same (entry_of (rows ++ r ∷ [])) (entry_more (entry_of rows) r (judged r)) symbols (entry-append rows r) ∙ placed-more (entry_of rows) r (judged r))
+pub taken-more : (judge : Judging) (rows : List Derivation) (r : Derivation) (holds : Bool)
+    → map (entry_of judge (rows ++ rows_if (holds && is_some (row_of r.symbol)) r)) symbols ≡ entries_with judge holds (map (entry_of judge rows) symbols) r
+taken-more judge rows r false = unread judge rows
+taken-more judge rows r true =
+    go (row_of r.symbol) (map-same (entry_of judge (rows ++ r ∷ [])) (entry_more (entry_of judge rows) r (judge r)) symbols (entry-append judge rows r)
+    ∙ placed-more (entry_of judge rows) r (judge r))
   where
-    go : (row : Option ℕ) → map (entry_of (rows ++ r ∷ [])) symbols ≡ placed (map (entry_of rows) symbols) row (judged r)
-        → map (entry_of (rows ++ (if is_some row then r ∷ [] else []))) symbols ≡ placed (map (entry_of rows) symbols) row (judged r)
-    go None h = unread rows
+    go : (row : Option ℕ) → map (entry_of judge (rows ++ r ∷ [])) symbols ≡ placed (map (entry_of judge rows) symbols) row (judge r)
+        → map (entry_of judge (rows ++ rows_if (is_some row) r)) symbols ≡ placed (map (entry_of judge rows) symbols) row (judge r)
+    go None h = unread judge rows
     go (Some row) h = h
 
 pub entries-one-more : (name : Text) (above : List Line) (line : Line) → presets name (above ++ line ∷ []) ≡ entries_more (group_at name above) (presets name above) line
 unfolding presets read_from
-entries-one-more name above other = ap (λ (t : List Derivation). map (entry_of t) symbols) (read-append name [] above other) ∙ unread (read_from name [] above)
-entries-one-more name above (cpu n) = ap (λ (t : List Derivation). map (entry_of t) symbols) (read-append name [] above (cpu n)) ∙ unread (read_from name [] above)
+entries-one-more name above other = ap (λ (t : List Derivation). map (entry_of judged t) symbols) (read-append name [] above other) ∙ unread judged (read_from name [] above)
+entries-one-more name above (cpu n) = ap (λ (t : List Derivation). map (entry_of judged t) symbols) (read-append name [] above (cpu n)) ∙ unread judged (read_from name [] above)
 entries-one-more name above (preset r) =
-    ap (λ (t : List Derivation). map (entry_of t) symbols) (read-append name [] above (preset r))
-    ∙ taken-more (read_from name [] above) r (list_any (λ n. bytes_eq name n) (group above))
+    ap (λ (t : List Derivation). map (entry_of judged t) symbols) (read-append name [] above (preset r))
+    ∙ taken-more judged (read_from name [] above) r (list_any (λ n. bytes_eq name n) (group above))

@@ -6,7 +6,7 @@ use Rattle.std.specs.List.{AllByRecursion, list_all, list_any}
 use Rattle.std.specs.Str.{bytes_eq, str_eq_ignore_ascii_case}
 use Rattle.std.proofs.lemmas.Bool.{and_from}
 use Rattle.std.proofs.lemmas.Slice.Eq.{bytes_eq-Decides}
-use Rattle.table_rows.specs.Rows.{IsInner, IsPlainField, rows_of}
+use Rattle.table_rows.specs.Rows.{IsInner, IsPlainField, IsReadRow, rows_of}
 use Rattle.table_rows.specs.Texts.{Text, text_at, trimmed}
 use Rattle.table_rows.proofs.Texts.{all-append, trimmed-all, trimmed-once}
 use Rattle.preset_table.specs.Table.{preset_rows}
@@ -14,14 +14,13 @@ use Rattle.preset_csv.specs.Entries.{judged}
 use Rattle.preset_csv.specs.Kinds.{has_formula, type_of}
 use Rattle.preset_csv.specs.Lines.{Derivation, Line, cpu, derivation_of, line_of, lines_of, natives_in, other, preset}
 use Rattle.preset_csv.specs.Presets.{cuts_off, entry_of, entry_or, group, is_read, presets, read_from}
-use Rattle.preset_csv.specs.Steps.{IsReadRow}
 use Rattle.preset_csv.specs.Tables.{IsEntry, IsMissing, IsTable, is_field, is_field_byte, symbols}
 use Rattle.preset_csv.specs.declared.entry.Entry.{Entry}
 use Rattle.preset_csv.specs.declared.entry.Entry.TheVariants as entry
 use Rattle.preset_csv.specs.declared.fault.PresetCause.{PresetCause}
 use Rattle.preset_csv.proofs.Judged.{Keeps, judged-kept}
 use Rattle.preset_csv.proofs.NativesKept.{IsNative, cut-natives, cut-trimmed, read-drop}
-use Rattle.preset_csv.proofs.PlainFields.{rows-plain}
+use Rattle.table_rows.proofs.PlainFields.{rows-plain}
 use Rattle.preset_csv.proofs.SymbolRows.{same-text}
 
 -- ---- a row by itself
@@ -106,7 +105,7 @@ fold-kept : (symbol : Text) (e : Entry) (rows : List Derivation) → IsEntry e �
 fold-kept symbol e [] k h = k
 fold-kept symbol e (r ∷ rows) k h = fold-kept symbol (if bytes_eq r.symbol symbol then entry_or e (judged r) else e) rows (step-kept symbol e r k h.0) h.1
 
-each-kept : (rows : List Derivation) (ss : List Text) → AllByRecursion IsKept rows → AllByRecursion IsEntry (map (entry_of rows) ss)
+each-kept : (rows : List Derivation) (ss : List Text) → AllByRecursion IsKept rows → AllByRecursion IsEntry (map (entry_of judged rows) ss)
 unfolding entry_of
 each-kept rows [] h = tt
 each-kept rows (s ∷ ss) h = (fold-kept s entry.Missing rows tt h, each-kept rows ss h)
@@ -139,7 +138,7 @@ none-read name above (cpu n ∷ rest) e a h = none-read name (above ++ cpu n ∷
 none-read name above (preset r ∷ rest) e a h =
     rw (not-in-group name above e a) (none-read name (above ++ preset r ∷ []) rest e (all-append IsLine above (preset r ∷ []) a (h.0, tt)) h.1)
 
-all-missing : (ss : List Text) → AllByRecursion IsMissing (map (entry_of []) ss)
+all-missing : (ss : List Text) → AllByRecursion IsMissing (map (entry_of judged []) ss)
 unfolding entry_of
 all-missing [] = tt
 all-missing (s ∷ ss) = (refl, all-missing ss)

@@ -74,12 +74,6 @@ pub def-put : (w s : Text) (e : Entry) (d : DefView) (t0 t2 t3 t4 : Text) → e 
     → t4 ≡ t0 ++ rows_text (rows_of_entry w s e)
 def-put w s e d t0 t2 t3 t4 is second third fourth = rw is (put-fields w s (after_commas (def_fields d)) t0 t2 t3 t4 (def_fields d) refl second third fourth)
 
--- a preset's row
-pub preset-rows : (s : Text) (e : Entry) → rows_of_entry (codes "PRESET") s e ≡ entry_rows s e
-preset-rows s entry.Missing = refl
-preset-rows s entry.Uncomputed = refl
-preset-rows s (entry.Def d) = refl
-
 -- ---- the rows of the table
 
 length-symbols : length symbols ≡ 26

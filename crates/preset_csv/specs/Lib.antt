@@ -6,6 +6,7 @@ pub mod Entries
 pub mod Presets
 pub mod Written
 pub mod Steps
+pub mod Reading
 pub use Rattle.table_rows.specs.Rows
 pub use Rattle.table_rows.specs.Texts
 pub use Rattle.preset_table.specs.Table

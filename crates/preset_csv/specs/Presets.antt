@@ -1,9 +1,9 @@
 -- The presets of a file for one cpu, and its first fault: papi_events.csv.
-use Rattle.std.specs.Prelude.{◌≡◌, ◌+◌, ◌&&◌, ℕ, Bool, true, false, not, List, [], ◌∷◌, ◌++◌, length, map, fold, Option, Some}
+use Rattle.std.specs.Prelude.{◌≡◌, ◌&&◌, ℕ, Bool, true, false, not, List, [], ◌∷◌, ◌++◌, map, fold, Option, Some}
 use Rattle.std.specs.Prelude.{None, Result, Ok, Err, is_some, if◌then◌else◌, codes}
 use Rattle.std.specs.List.{list_any}
-use Rattle.std.specs.Option.{option_map_or}
 use Rattle.std.specs.Str.{bytes_eq}
+use Rattle.table_rows.specs.Tables.{ReadsTable, first_fault}
 use Rattle.table_rows.specs.Texts.{Text}
 use Rattle.preset_table.specs.Table.{row_of}
 use Rattle.preset_csv.specs.Entries.{judged}
@@ -13,8 +13,7 @@ use Rattle.preset_csv.specs.declared.entry.Entry.{Entry}
 use Rattle.preset_csv.specs.declared.entry.Entry.TheVariants as entry
 use Rattle.preset_csv.specs.declared.fault.PresetCause.{PresetCause}
 use Rattle.preset_csv.specs.declared.fault.PresetCause.TheVariants as cause
-use Rattle.preset_csv.specs.declared.fault.PresetFault.{PresetFault}
-use Rattle.preset_csv.specs.declared.fault.PresetFault.TheVariants as fault
+use Rattle.table_rows.specs.declared.fault.RowFault.{RowFault}
 use Rattle.preset_csv.specs.declared.table.PresetTable.{PresetTable}
 
 -- ---- the group of cpus to which a row belongs
@@ -46,6 +45,10 @@ group (preset r ∷ rest) = group rest
 abbrev pub is_read : Text → List Line → Derivation → Bool
 is_read name above r = list_any (λ n. bytes_eq name n) (group above) && is_some (row_of r.symbol)
 
+-- a row, where it is read
+abbrev pub rows_if : Bool → Derivation → List Derivation
+rows_if read r = if read then r ∷ [] else []
+
 -- the rows that are read of some rows below `above`
 unfoldable pub read_from : Text → List Line → List Line → List Derivation
 read_from name above [] = []
@@ -56,18 +59,22 @@ read_from name above (preset r ∷ rest) =
 
 -- ---- the entries
 
+-- the entry of each row, or why the row is refused
+abbrev pub Judging : Type 0
+Judging = Derivation → Result Entry PresetCause
+
 -- the entry that a row gives, or the old one
 abbrev pub entry_or : Entry → Result Entry PresetCause → Entry
 entry_or old (Ok e) = e
 entry_or old (Err why) = old
 
--- the entry of a symbol: that of its last row
-unfoldable pub entry_of : List Derivation → Text → Entry
-entry_of rows symbol = fold (λ e r. if bytes_eq r.symbol symbol then entry_or e (judged r) else e) entry.Missing rows
+-- the entry of a symbol, as its rows are judged: that of the last one
+unfoldable pub entry_of : Judging → List Derivation → Text → Entry
+entry_of judge rows symbol = fold (λ e r. if bytes_eq r.symbol symbol then entry_or e (judge r) else e) entry.Missing rows
 
 -- the entries of the preset table's symbols
 unfoldable pub presets : Text → List Line → List Entry
-presets name lines = map (entry_of (read_from name [] lines)) symbols
+presets name lines = map (entry_of judged (read_from name [] lines)) symbols
 
 -- ---- the first fault
 
@@ -76,36 +83,31 @@ abbrev pub judged_cause : Result Entry PresetCause → Option PresetCause
 judged_cause (Ok e) = None
 judged_cause (Err why) = Some why
 
+-- why a row is refused, where it is read
+abbrev pub cause_if : Bool → Result Entry PresetCause → Option PresetCause
+cause_if read judgement = if read then judged_cause judgement else None
+
 -- the cause of a row below these rows
 abbrev pub line_cause : Text → List Line → Line → Option PresetCause
 line_cause name above other = None
 line_cause name above (cpu n) = None
 line_cause name above (preset r) =
     if not (has_cpu above) then Some cause.NoCpu
-    else if is_read name above r then judged_cause (judged r)
-    else None
-
--- the first row below `above` that has a cause, and its cause
-unfoldable pub fault_from : Text → List Line → List Line → Option (ℕ × PresetCause)
-fault_from name above [] = None
-fault_from name above (line ∷ rest) =
-    option_map_or (λ why. Some (length above + 1, why)) (line_cause name above line) (fault_from name (above ++ line ∷ []) rest)
+    else cause_if (is_read name above r) (judged r)
 
 -- ---- what a caller gets
 
 -- the first faulty row of a preset file, from 1, and its first cause
 unfoldable pub preset_fault : Text → List ℕ → Option (ℕ × PresetCause)
-preset_fault name bytes = fault_from name [] (lines_of bytes)
+preset_fault name bytes = first_fault (line_cause name) [] (lines_of bytes)
 
 -- the presets for a cpu in a file that has no faulty row
 unfoldable pub presets_in : Text → List ℕ → TableView
 presets_in name bytes = record { cpu = name; rows = presets name (lines_of bytes) }
 
 -- the presets where no row is faulty, or the first fault, or that memory ran out
-abbrev pub ReadsPresets : Result PresetTable PresetFault → List ℕ → Text → Type 0
-ReadsPresets (Ok table) bytes name = (preset_fault name bytes ≡ None) × (table ≡ presets_in name bytes)
-ReadsPresets (Err (fault.Row row why)) bytes name = preset_fault name bytes ≡ Some (row, why)
-ReadsPresets (Err fault.Memory) bytes name = Unit {0}
+abbrev pub ReadsPresets : Result PresetTable (RowFault PresetCause) → List ℕ → Text → Type 0
+ReadsPresets result bytes name = ReadsTable (preset_fault name bytes) (λ table. table ≡ presets_in name bytes) result
 
 -- a cause as it is written on the line that names it
 abbrev pub cause_text : PresetCause → Text

@@ -20,17 +20,15 @@ formula_fields (Some f) = formula_text f.tokens ∷ []
 abbrev pub def_fields : DefView → List Text
 def_fields d = kind_text d.kind ∷ (formula_fields d.formula ++ d.natives)
 
--- the row of an entry, and none of a missing one
-abbrev pub entry_rows : Text → Entry → List (List Text)
-entry_rows symbol entry.Missing = []
-entry_rows symbol entry.Uncomputed = (codes "PRESET" ∷ symbol ∷ codes "DERIVED_CMPD" ∷ []) ∷ []
-entry_rows symbol (entry.Def d) = (codes "PRESET" ∷ symbol ∷ def_fields d) ∷ []
-
 -- the row of an entry after this word and this name, and none of a missing one
 abbrev pub rows_of_entry : Text → Text → Entry → List (List Text)
 rows_of_entry word name entry.Missing = []
 rows_of_entry word name entry.Uncomputed = (word ∷ name ∷ codes "DERIVED_CMPD" ∷ []) ∷ []
 rows_of_entry word name (entry.Def d) = (word ∷ name ∷ def_fields d) ∷ []
+
+-- the PRESET row of a symbol and its entry, and none of a missing one
+abbrev pub entry_rows : Text → Entry → List (List Text)
+entry_rows symbol e = rows_of_entry (codes "PRESET") symbol e
 
 -- the rows of some symbols and their entries
 unfoldable pub rows_of_entries : List Text → List Entry → List (List Text)

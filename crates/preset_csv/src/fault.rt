@@ -2,15 +2,13 @@
 
 ghost use Rattle.std.specs.Prelude.{◌≡◌};
 ghost use Rattle.preset_csv.specs.Presets as Presets;
-ghost use Rattle.preset_csv.specs.declared.fault.PresetFault.TheVariants.{Memory};
 
 use postfix_rules::FormulaCause;
-use std::alloc::AllocError;
 use std::fmt;
-use thiserror::Error;
+use table_rows::RowFault;
 
 /// Why a row is refused, in the order in which the causes are tried.
-#[derive(Clone, Copy, Debug, PartialEq, Eq, Error)]
+#[derive(Clone, Copy, Debug, PartialEq, Eq)]
 pub enum PresetCause {
     /// A PRESET row above the first CPU row.
     NoCpu,
@@ -28,22 +26,8 @@ impl fmt::Display for PresetCause {
     }
 }
 
-/// Why a preset file is refused: its first faulty row, numbered from 1, with the row's first cause; or memory ran out.
-#[derive(Clone, Copy, Debug, PartialEq, Eq, Error)]
-pub enum PresetFault {
-    #[error("row {row}: {cause}")]
-    Row { row: u64, cause: PresetCause },
-    #[error("out of memory")]
-    Memory,
-}
-
-impl From<AllocError> for PresetFault {
-    ghost from_gives = { λ _ e. e ≡ Memory };
-
-    fn from(_e: AllocError) -> PresetFault {
-        PresetFault::Memory
-    }
-}
+/// Why a preset file is refused: its first faulty row, numbered from 1, with the row's first cause, or out of memory.
+pub type PresetFault = RowFault<PresetCause>;
 
 /// A cause as it is written on the line that names it.
 pub fn cause_text(cause: PresetCause) -> &'static str

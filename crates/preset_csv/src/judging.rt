@@ -7,8 +7,10 @@ ghost use Rattle.postfix_rules.specs.declared.derived.TheConstants.{MOST_NATIVES
 ghost use Rattle.preset_csv.specs.Defs.{IsNativeText};
 ghost use Rattle.preset_csv.specs.Entries as Entries;
 ghost use Rattle.preset_csv.specs.Lines.{derivation_of};
+ghost use Rattle.preset_csv.specs.Presets.{Judging};
 ghost use Rattle.preset_csv.specs.Steps as Steps;
-ghost use Rattle.preset_csv.specs.Steps.{IsReadRow, Judges};
+ghost use Rattle.table_rows.specs.Rows.{IsReadRow};
+ghost use Rattle.preset_csv.specs.Steps.{Judges};
 ghost use Rattle.preset_csv.specs.declared.kind.DerivedType.TheVariants as derived;
 
 use crate::definition::Def;
@@ -16,10 +18,9 @@ use crate::entry::Entry;
 use crate::fault::PresetCause;
 use crate::kind::{DerivedType, Kind, has_formula, type_of};
 use crate::natives::row_natives;
-use crate::refusal::Refusal;
 use postfix_rules::{FormulaFault, read_postfix};
 use std::alloc::Global;
-use table_rows::{ByteRecord, printable_text, text_at, trimmed};
+use table_rows::{ByteRecord, Refusal, printable_text, text_at, trimmed};
 
 // Whether a token of a formula is `#`.
 #[tactic(auto, unfolding(crate::specs::Entries::has_rate))]
@@ -31,8 +32,8 @@ fn has_rate(formula: &[u8]) -> bool
         .any(|part| trimmed(part) == b"#".as_slice())
 }
 
-// Why a row with a broken formula is refused.
-fn formula_refusal(fault: FormulaFault) -> Refusal
+/// Why a row with a broken formula is refused.
+pub fn formula_refusal(fault: FormulaFault) -> Refusal<PresetCause>
     ensures { result ≡ Steps.formula_refusal fault }
 {
     match fault {
@@ -42,7 +43,11 @@ fn formula_refusal(fault: FormulaFault) -> Refusal
 }
 
 // The entry of a formula in postfix order over natives.
-fn postfix_entry(alloc: Global, formula: &str, natives: Vec<String>) -> Result<Entry, Refusal>
+fn postfix_entry(
+    alloc: Global,
+    formula: &str,
+    natives: Vec<String>,
+) -> Result<Entry, Refusal<PresetCause>>
     requires each { AllByRecursion IsNativeText (map string_bytes natives.items) }
     requires some { 1 ≤ length natives.items }
     requires few { length natives.items ≤ MOST_NATIVES }
@@ -63,7 +68,7 @@ fn typed_entry(
     derived_type: DerivedType,
     formula: &str,
     natives: Vec<String>,
-) -> Result<Entry, Refusal>
+) -> Result<Entry, Refusal<PresetCause>>
     requires each { AllByRecursion IsNativeText (map string_bytes natives.items) }
     requires some { 1 ≤ length natives.items }
     requires few { length natives.items ≤ MOST_NATIVES }
@@ -92,7 +97,7 @@ fn kept_entry(
     derived_type: DerivedType,
     formula: &str,
     natives: Vec<String>,
-) -> Result<Entry, Refusal>
+) -> Result<Entry, Refusal<PresetCause>>
     requires each { AllByRecursion IsNativeText (map string_bytes natives.items) }
     requires few { length natives.items ≤ MOST_NATIVES }
     ensures { Judges (Entries.kept_entry derived_type formula.now (Ok (map string_bytes natives.items))) result }
@@ -103,10 +108,32 @@ fn kept_entry(
     typed_entry(alloc, derived_type, formula, natives)
 }
 
+/// How the rows of a preset file are judged.
+pub trait RowJudge {
+    // The entry that a row gives, or its first cause.
+    ghost judged: { Judging };
+
+    /// The entry that a row gives, or its first cause.
+    fn judge_row(alloc: Global, row: &ByteRecord) -> Result<Entry, Refusal<PresetCause>>
+        requires { IsReadRow (fields_of row.now) }
+        ensures { Judges (judged (derivation_of (fields_of row.now))) result };
+}
+
+/// The rows of a file of presets alone.
+pub struct PresetJudge;
+
+impl RowJudge for PresetJudge {
+    ghost judged = { Entries.judged };
+
+    fn judge_row(alloc: Global, row: &ByteRecord) -> Result<Entry, Refusal<PresetCause>> {
+        judge(alloc, row)
+    }
+}
+
 /// The entry that a row gives by its derived type, its formula and its natives, whatever its first two fields say, or its
 /// first cause.
 #[tactic(auto, unfolding(crate::specs::Entries::judged, crate::specs::Lines::derivation_of))]
-pub fn judge(alloc: Global, row: &ByteRecord) -> Result<Entry, Refusal>
+pub fn judge(alloc: Global, row: &ByteRecord) -> Result<Entry, Refusal<PresetCause>>
     requires { IsReadRow (fields_of row.now) }
     ensures { Judges (Entries.judged (derivation_of (fields_of row.now))) result }
 {

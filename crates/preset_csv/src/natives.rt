@@ -8,13 +8,12 @@ ghost use Rattle.preset_csv.specs.Entries.{kept_natives};
 ghost use Rattle.preset_csv.specs.Lines.{natives_from};
 ghost use Rattle.preset_csv.specs.Steps.{IsRefusal};
 ghost use Rattle.preset_csv.specs.declared.fault.PresetCause.TheVariants as cause;
-ghost use Rattle.preset_csv.specs.declared.refusal.Refusal.TheVariants as refusal;
+ghost use Rattle.table_rows.specs.declared.fault.Refusal.TheVariants as refusal;
 
 use crate::fault::PresetCause;
-use crate::refusal::Refusal;
 use postfix_rules::MOST_NATIVES;
 use std::alloc::{AllocError, Global};
-use table_rows::{ByteRecord, printable_text, text_at};
+use table_rows::{ByteRecord, Refusal, printable_text, text_at};
 
 // Whether a field ends the natives: it is empty, or begins a note or a description.
 fn ends_natives(field: &[u8]) -> bool
@@ -38,7 +37,7 @@ fn keep(alloc: Global, natives: &mut Vec<String>, text: &str) -> Result<(), Allo
 }
 
 // The natives of which so many were counted, where there are not too many.
-fn within_limit(natives: Vec<String>, count: usize) -> Result<Vec<String>, Refusal>
+fn within_limit(natives: Vec<String>, count: usize) -> Result<Vec<String>, Refusal<PresetCause>>
     ensures within { IfOk result (λ v. (v ≡ natives) × (count ≤ MOST_NATIVES)) }
     ensures over { IfErr result (λ refused. (refused ≡ refusal.Cause cause.OverLimit) × (MOST_NATIVES < count)) }
 {
@@ -51,7 +50,11 @@ fn within_limit(natives: Vec<String>, count: usize) -> Result<Vec<String>, Refus
 
 /// The natives of a row from a field on, or why the row is refused: a native that is not printable takes precedence over more
 /// than [`MOST_NATIVES`]. No more than so many are ever held.
-pub fn row_natives(alloc: Global, row: &ByteRecord, first: usize) -> Result<Vec<String>, Refusal>
+pub fn row_natives(
+    alloc: Global,
+    row: &ByteRecord,
+    first: usize,
+) -> Result<Vec<String>, Refusal<PresetCause>>
     ensures natives { IfOk result (λ v. kept_natives (natives_from (fields_of row.now) first) ≡ Ok (map string_bytes v.items)) }
     ensures refused { IfErr result (λ refused. IsRefusal (kept_natives (natives_from (fields_of row.now) first)) refused) }
 {

@@ -3,7 +3,8 @@
 ghost use Rattle.std.specs.Prelude.{◌≡◌};
 ghost use Rattle.csv.specs.Records.{fields_of};
 ghost use Rattle.preset_csv.specs.Lines.{line_of, row_line};
-ghost use Rattle.preset_csv.specs.Steps.{IsPlainRow, IsReadRow};
+ghost use Rattle.table_rows.specs.Rows.{IsReadRow};
+ghost use Rattle.preset_csv.specs.Steps.{IsPlainRow};
 
 use table_rows::{ByteRecord, text_at};
 

@@ -1,17 +1,16 @@
 -- The ranges of a map's rows, and the first fault. The file format is this project's own.
-use Rattle.std.specs.Prelude.{◌≡◌, ◌||◌, ◌+◌, ℕ, List, [], ◌∷◌, ◌++◌, length, map, Option, Some}
-use Rattle.std.specs.Prelude.{None, Result, Ok, Err, if◌then◌else◌, nat_le, nat_lt, codes}
+use Rattle.std.specs.Prelude.{◌≡◌, ◌||◌, ◌+◌, ℕ, List, [], ◌∷◌, length, map, Option, Some}
+use Rattle.std.specs.Prelude.{None, Result, if◌then◌else◌, nat_le, nat_lt, codes}
 use Rattle.std.specs.List.{list_any}
-use Rattle.std.specs.Option.{option_map_or}
 use Rattle.std.specs.Str.{bytes_eq}
 use Rattle.table_rows.specs.Rows.{rows_of}
+use Rattle.table_rows.specs.Tables.{ReadsTable, first_fault}
 use Rattle.table_rows.specs.Texts.{Text}
 use Rattle.profil_hist.specs.Lines.{Line, skipped, bad, range, line_of}
 use Rattle.profil_hist.specs.Ranges.{RangeText, buckets_in_all, overlaps}
 use Rattle.profil_hist.specs.declared.fault.MapCause.{MapCause}
 use Rattle.profil_hist.specs.declared.fault.MapCause.TheVariants as cause
-use Rattle.profil_hist.specs.declared.fault.MapFault.{MapFault}
-use Rattle.profil_hist.specs.declared.fault.MapFault.TheVariants as fault
+use Rattle.table_rows.specs.declared.fault.RowFault.{RowFault}
 use Rattle.profil_hist.specs.declared.map.Map.{Map}
 use Rattle.profil_hist.specs.declared.limits.TheConstants.{MOST_BUCKETS, MOST_RANGES}
 
@@ -36,11 +35,9 @@ cause_in above skipped = None
 cause_in above bad = Some cause.BadRow
 cause_in above (range r) = range_cause above r
 
--- the first row below `above` that has a cause in view of the rows above it, and its cause
-unfoldable pub fault_from : List Line → List Line → Option (ℕ × MapCause)
-fault_from above [] = None
-fault_from above (line ∷ rest) =
-    option_map_or (λ cause. Some (length above + 1, cause)) (cause_in (ranges_in above) line) (fault_from (above ++ line ∷ []) rest)
+-- the cause of a row below these rows, if it has one
+abbrev pub row_cause : List Line → Line → Option MapCause
+row_cause above line = cause_in (ranges_in above) line
 
 -- what each row of a map says
 abbrev pub lines_of : List ℕ → List Line
@@ -50,17 +47,15 @@ lines_of bytes = map line_of (rows_of bytes)
 
 -- the first faulty row of a map, from 1, and its first cause
 unfoldable pub map_fault : List ℕ → Option (ℕ × MapCause)
-map_fault bytes = fault_from [] (lines_of bytes)
+map_fault bytes = first_fault row_cause [] (lines_of bytes)
 
 -- the ranges of a map that has no faulty row
 unfoldable pub map_ranges : List ℕ → List RangeText
 map_ranges bytes = ranges_in (lines_of bytes)
 
 -- the ranges where no row is faulty, or the first fault, or out of memory
-abbrev pub ReadsMap : Result Map MapFault → List ℕ → Type 0
-ReadsMap (Ok ranges) bytes = (map_fault bytes ≡ None) × (ranges ≡ map_ranges bytes)
-ReadsMap (Err (fault.Row row cause)) bytes = map_fault bytes ≡ Some (row, cause)
-ReadsMap (Err fault.Memory) bytes = Unit {0}
+abbrev pub ReadsMap : Result Map (RowFault MapCause) → List ℕ → Type 0
+ReadsMap result bytes = ReadsTable (map_fault bytes) (λ ranges. ranges ≡ map_ranges bytes) result
 
 -- a cause as it is written on the line that names it
 abbrev pub cause_text : MapCause → Text

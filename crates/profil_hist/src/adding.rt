@@ -1,60 +1,55 @@
 //! The ranges of a map, row by row.
 
-ghost use Rattle.std.specs.Prelude.{◌≡◌, ◌<◌, ◌-◌, ◌^◌, map};
-ghost use Rattle.profil_hist.specs.Lines.{IsLine, row_line};
+ghost use Rattle.std.specs.Prelude.{◌≡◌, map};
+ghost use Rattle.table_rows.specs.Tables.{TakesRow};
+ghost use Rattle.profil_hist.specs.Lines.{Line, line_of, row_line};
+ghost use Rattle.profil_hist.specs.Maps.{cause_in, row_cause};
 ghost use Rattle.profil_hist.specs.Ranges.{IsMap};
-ghost use Rattle.profil_hist.specs.Steps as Steps;
-ghost use Rattle.profil_hist.specs.Steps.{AddsRow};
+ghost use Rattle.profil_hist.specs.Steps.{IsRead, with_line};
 ghost use Rattle.profil_hist.specs.Views.{range_text};
-ghost use Rattle.profil_hist.specs.declared.adding.Refusal.TheVariants as refusal;
 
 use crate::cause::range_cause;
-use crate::fault::{MapCause, MapFault};
+use crate::fault::MapCause;
 use crate::range::MapRange;
-use crate::row::Row;
-use std::alloc::{AllocError, AllocFailed, Global};
+use crate::row::{Row, row_of};
+use std::alloc::{AllocError, Global};
+use table_rows::{ByteRecord, Refusal, TableKind};
 
-/// Why a row is not added.
-#[derive(Drop)]
-pub enum Refusal {
-    Cause(MapCause),
-    Memory,
-}
+/// The rows of a map.
+pub struct MapRows;
 
-impl From<AllocError> for Refusal {
-    ghost from_gives = { λ _ e. e ≡ refusal.Memory };
+impl TableKind for MapRows {
+    type Read = Vec<MapRange>;
 
-    fn from(_e: AllocError) -> Refusal {
-        Refusal::Memory
+    type Cause = MapCause;
+
+    ghost Line = { Line };
+
+    ghost line_of = { line_of };
+
+    ghost cause = { λ _ above line. row_cause above line };
+
+    ghost gives = { λ _ lines ranges. IsRead lines (map range_text ranges.items) };
+
+    fn no_rows(&self, alloc: Global) -> Result<Vec<MapRange>, AllocError> {
+        Ok(Vec::new(alloc))
+    }
+
+    fn take_row(
+        &self,
+        alloc: Global,
+        ranges: &mut Vec<MapRange>,
+        row: &ByteRecord,
+    ) -> Result<(), Refusal<MapCause>> {
+        add_row(alloc, ranges, row_of(row))
     }
 }
 
-impl<T: Drop> From<AllocFailed<T>> for Refusal {
-    ghost from_gives = { λ _ e. e ≡ refusal.Memory };
-
-    fn from(_e: AllocFailed<T>) -> Refusal {
-        Refusal::Memory
-    }
-}
-
-/// The fault of a refused row, whose place is from 0.
-pub fn fault_at(place: usize, refusal: Refusal) -> MapFault
-    requires { place < 2 ^ 64 - 1 }
-    ensures { result ≡ Steps.fault_at place refusal }
-{
-    match refusal {
-        Refusal::Cause(cause) => MapFault::Row {
-            row: place as u64 + 1,
-            cause,
-        },
-        Refusal::Memory => MapFault::Memory,
-    }
-}
-
-/// Adds a row below the others.
-pub fn add_row(alloc: Global, ranges: &mut Vec<MapRange>, row: Row<'_>) -> Result<(), Refusal>
+// Adds a row below the others.
+fn add_row(alloc: Global, ranges: &mut Vec<MapRange>, row: Row<'_>) -> Result<(), Refusal<MapCause>>
     requires kept { IsMap (map range_text ranges.old.items) }
-    ensures { AddsRow (map range_text ranges.old.items) (row_line row.entry) (map range_text ranges.new.items) result }
+    ensures { TakesRow (cause_in (map range_text ranges.old.items) (row_line row.entry))
+        (map range_text ranges.new.items ≡ with_line (map range_text ranges.old.items) (row_line row.entry)) result }
 {
     match row {
         Row::Skipped => Ok(()),

@@ -2,44 +2,31 @@
 
 ghost use Rattle.std.specs.Prelude.{◌≡◌};
 ghost use Rattle.profil_hist.specs.Maps as Maps;
-ghost use Rattle.profil_hist.specs.declared.fault.MapFault.TheVariants.{Memory};
 
-use std::alloc::AllocError;
-use thiserror::Error;
+use std::fmt;
+use table_rows::RowFault;
 
 /// Why a row is refused, in the order in which the causes are tried.
-#[derive(Clone, Copy, Debug, PartialEq, Eq, Error)]
+#[derive(Clone, Copy, Debug, PartialEq, Eq)]
 pub enum MapCause {
     /// It does not have the form of a range, or its end is above 2^64.
-    #[error("bad row")]
     BadRow,
     /// A 1,025th range, or more than 65,536 buckets in all.
-    #[error("over a limit")]
     OverLimit,
     /// The exact name of an earlier range.
-    #[error("repeated name")]
     RepeatedName,
     /// An address of an earlier range.
-    #[error("ranges overlap")]
     Overlap,
 }
 
-/// Why a map is refused: its first faulty row, numbered from 1, with the row's first cause, or out of memory.
-#[derive(Debug, Drop, PartialEq, Eq, Error)]
-pub enum MapFault {
-    #[error("row {row}: {cause}")]
-    Row { row: u64, cause: MapCause },
-    #[error("out of memory")]
-    Memory,
-}
-
-impl From<AllocError> for MapFault {
-    ghost from_gives = { λ _ e. e ≡ Memory };
-
-    fn from(_e: AllocError) -> MapFault {
-        MapFault::Memory
+impl fmt::Display for MapCause {
+    fn fmt<W: fmt::Write>(&self, f: &mut fmt::Formatter<W>) -> fmt::Result {
+        f.write_str(cause_text(*self))
     }
 }
+
+/// Why a map is refused: its first faulty row, numbered from 1, with the row's first cause, or out of memory.
+pub type MapFault = RowFault<MapCause>;
 
 /// A cause as it is written on the line that names it.
 pub fn cause_text(cause: MapCause) -> &'static str

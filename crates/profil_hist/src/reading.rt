@@ -2,12 +2,11 @@
 
 ghost use Rattle.profil_hist.specs.Maps.{ReadsMap};
 
-use crate::adding::{add_row, fault_at};
+use crate::adding::MapRows;
 use crate::fault::MapFault;
 use crate::map::Map;
-use crate::row::row_of;
 use std::alloc::Global;
-use table_rows::{ByteRecord, RowReader};
+use table_rows::read_table;
 
 /// The map of a file, or its first faulty row with that row's first cause.
 ///
@@ -15,15 +14,5 @@ use table_rows::{ByteRecord, RowReader};
 pub fn read_map(alloc: Global, bytes: &[u8]) -> Result<Map, MapFault>
     ensures { ReadsMap result bytes.now }
 {
-    let mut reader = RowReader::new(alloc, bytes);
-    let mut row = ByteRecord::new(alloc);
-    let mut ranges = Vec::new(alloc);
-    let mut place = 0;
-    while reader.read_row(&mut row)? {
-        match add_row(alloc, &mut ranges, row_of(&row)) {
-            Ok(()) => place += 1,
-            Err(refusal) => return Err(fault_at(place, refusal)),
-        }
-    }
-    Ok(Map::new(ranges))
+    Ok(Map::new(read_table(alloc, bytes, &MapRows)?))
 }

@@ -1,7 +1,9 @@
 pub mod Texts
 pub mod Trimming
 pub mod Numerals
+pub mod PlainFields
 pub mod Ranges
 pub mod Records
 pub mod ReaderRows
 pub mod RowsBack
+pub mod TablesRead

@@ -4,15 +4,17 @@
 //! and a field is taken without the spaces and tabs at its ends.
 #![tactic(auto)]
 
+mod fault;
 mod field;
 mod number;
-mod row;
 mod row_reader;
+mod table;
 mod word;
 
+pub use crate::fault::{Refusal, RowFault};
 pub use crate::field::{is_blank, is_skipped, text_at, trimmed};
 pub use crate::number::{decimal_in, hex_in, is_decimal, is_numeral, numeral_value};
-pub use crate::row::read_rows;
 pub use crate::row_reader::RowReader;
+pub use crate::table::{TableKind, read_table};
 pub use crate::word::{is_name, is_printable, name_text, printable_text};
 pub use csv::ByteRecord;

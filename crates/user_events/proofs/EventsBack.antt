@@ -10,7 +10,7 @@ use Rattle.table_rows.specs.Texts.{Text}
 use Rattle.preset_table.specs.Table.{row_of}
 use Rattle.preset_csv.specs.Defs.{DefView, IsDef}
 use Rattle.preset_csv.specs.Lines.{Derivation, Line, preset}
-use Rattle.preset_csv.specs.Presets.{has_cpu}
+use Rattle.preset_csv.specs.Presets.{cause_if, entry_of, has_cpu}
 use Rattle.preset_csv.specs.Tables.{IsEntry, symbols}
 use Rattle.preset_csv.specs.declared.entry.Entry.{Entry}
 use Rattle.preset_csv.specs.declared.entry.Entry.TheVariants as entry
@@ -26,7 +26,8 @@ use Rattle.user_events.specs.Entries.{event_judged, is_infix}
 use Rattle.user_events.specs.Events.{Distinct, EventView, IsEvent, IsGiven, names_of}
 use Rattle.user_events.specs.Lines.{EventLine, event, in_groups, plain}
 use Rattle.user_events.specs.Names.{is_event_name}
-use Rattle.user_events.specs.Rows.{among, cause_if, entry_of, event_read, events_of, events_read, fault_from, holds, line_cause, name_added, named_entry, names_in, preset_read, read_from}
+use Rattle.table_rows.specs.Tables.{first_fault}
+use Rattle.user_events.specs.Rows.{among, event_read, events_of, events_read, holds, line_cause, name_added, named_entry, names_in, preset_read, read_from}
 use Rattle.user_events.specs.Steps.{put_event}
 use Rattle.user_events.specs.declared.event.TheConstants.{MOST_EVENTS}
 use Rattle.user_events.proofs.EventLines.{both, event_row, row_back}
@@ -151,13 +152,13 @@ preset-passed : (name : Text) (above : List EventLine) (r : Derivation) → even
 preset-passed name above r = read-more (event_read name) [] above (plain (preset r)) ∙ append-nil (events_read name above)
 
 pub fault-next : (name : Text) (above : List EventLine) (line : EventLine) (rest : List EventLine) → line_cause name above line ≡ None
-    → fault_from name (above ++ line ∷ []) rest ≡ None → fault_from name above (line ∷ rest) ≡ None
-unfolding fault_from
-fault-next name above line rest e later = ap (λ (o : Option PresetCause). option_map_or (λ why. Some (length above + 1, why)) o (fault_from name (above ++ line ∷ []) rest)) e ∙ later
+    → first_fault (line_cause name) (above ++ line ∷ []) rest ≡ None → first_fault (line_cause name) above (line ∷ rest) ≡ None
+unfolding first_fault
+fault-next name above line rest e later = ap (λ (o : Option PresetCause). option_map_or (λ why. Some (length above + 1, why)) o (first_fault (line_cause name) (above ++ line ∷ []) rest)) e ∙ later
 
 pub no-fault : (name : Text) (above : List EventLine) (rs es : List Derivation) → Stands name (groups above) → AllByRecursion IsTabled rs → AllByRecursion IsNamed es
-    → length (events_read name above) + length es ≤ MOST_EVENTS → fault_from name above (both rs es) ≡ None
-unfolding fault_from
+    → length (events_read name above) + length es ≤ MOST_EVENTS → first_fault (line_cause name) above (both rs es) ≡ None
+unfolding first_fault
 no-fault name above [] [] s h k le = refl
 no-fault name above [] (r ∷ es) s h k le =
     let few : length (names_in (events_read name above)) < MOST_EVENTS = omega (arith, le, names-few (events_read name above)) in
@@ -172,7 +173,7 @@ no-fault name above (r ∷ rs) es s h k le =
 
 -- ---- the entries
 
-pub entries-are : (es : List Entry) → length es ≡ length symbols → AllByRecursion IsEntry es → map (entry_of (rows_back symbols es)) symbols ≡ es
+pub entries-are : (es : List Entry) → length es ≡ length symbols → AllByRecursion IsEntry es → map (entry_of event_judged (rows_back symbols es)) symbols ≡ es
 entries-are es n h = same-entries (rows_back symbols es) symbols (all-ordinary symbols es) ∙ entries-back symbols es symbols-apart n h
 
 among-more : (n : Text) (ns : List Text) (s : Text) → among n ns ≡ false → bytes_eq n s ≡ false → among n (ns ++ s ∷ []) ≡ false

@@ -2,13 +2,12 @@
 use Rattle.std.proofs.Common.{◌≡◌, ◌∙◌, ◌+◌, ◌≤◌, ◌∷◌, ◌++◌, ℕ, Bool, true, false, List, [], length, map, refl, sym, ap, ap₂, subst, arith, codes, None}
 use Rattle.std.specs.List.{AllByRecursion}
 use Rattle.std.proofs.lemmas.List.{map-append}
-use Rattle.table_rows.specs.Rows.{rows_of, rows_text}
+use Rattle.table_rows.specs.Rows.{IsReadRow, rows_of, rows_text}
 use Rattle.table_rows.specs.Texts.{Text, text_at}
 use Rattle.table_rows.proofs.Texts.{all-append}
 use Rattle.preset_table.specs.Table.{preset_rows}
 use Rattle.preset_csv.specs.Lines.{Derivation, Line, cpu, other, preset}
-use Rattle.preset_csv.specs.Presets.{cuts_off, group, has_cpu}
-use Rattle.preset_csv.specs.Steps.{IsReadRow}
+use Rattle.preset_csv.specs.Presets.{cuts_off, entry_of, group, has_cpu}
 use Rattle.preset_csv.specs.Tables.{IsMissing, is_field, symbols}
 use Rattle.preset_csv.specs.Written.{rows_of_entries, table_text}
 use Rattle.preset_csv.specs.declared.entry.Entry.{Entry}
@@ -16,12 +15,14 @@ use Rattle.preset_csv.proofs.Back.{Stands, rows_back}
 use Rattle.preset_csv.proofs.BackWhole.{first-row}
 use Rattle.preset_csv.proofs.Fields.{field-good}
 use Rattle.preset_csv.proofs.Groups.{has_cpu-more}
-use Rattle.preset_csv.proofs.PlainFields.{rows-plain}
+use Rattle.table_rows.proofs.PlainFields.{rows-plain}
 use Rattle.preset_csv.proofs.RowBack.{cpu-begins}
 use Rattle.preset_csv.proofs.TableKept.{IsLine, not-in-group}
+use Rattle.user_events.specs.Entries.{event_judged}
 use Rattle.user_events.specs.Events.{EventView, ExtendedView, IsExtended}
 use Rattle.user_events.specs.Lines.{EventLine, event, in_groups, line_of, lines_of, plain}
-use Rattle.user_events.specs.Rows.{entry_of, event_read, events_of, events_read, extended_fault, extended_in, fault_from, holds, names_in, preset_entries, preset_read, presets_read, read_from}
+use Rattle.table_rows.specs.Tables.{first_fault}
+use Rattle.user_events.specs.Rows.{event_read, events_of, events_read, extended_fault, extended_in, holds, line_cause, names_in, preset_entries, preset_read, presets_read, read_from}
 use Rattle.user_events.specs.Written.{ReadsBack, event_rows, extended_text}
 use Rattle.user_events.specs.declared.event.TheConstants.{MOST_EVENTS}
 use Rattle.user_events.proofs.EventLines.{both, event_row, plain-cpu, written-lines}
@@ -51,7 +52,7 @@ first-stands : (name : Text) → Stands name (groups (plain (cpu name) ∷ []))
 unfolding group cuts_off has_cpu
 first-stands name = (refl, refl)
 
-first-fault : (name : Text) (rest : List EventLine) → fault_from name (plain (cpu name) ∷ []) rest ≡ None → fault_from name [] (plain (cpu name) ∷ rest) ≡ None
+first-fault : (name : Text) (rest : List EventLine) → first_fault (line_cause name) (plain (cpu name) ∷ []) rest ≡ None → first_fault (line_cause name) [] (plain (cpu name) ∷ rest) ≡ None
 first-fault name rest h = fault-next name [] (plain (cpu name)) rest refl h
 
 none-above : (name : Text) → events_read name (plain (cpu name) ∷ []) ≡ []
@@ -62,13 +63,13 @@ length-map-row : (es : List EventView) → length (map event_row es) ≡ length 
 length-map-row [] = refl
 length-map-row (e ∷ es) = omega (arith, length-map-row es)
 
-good-fault : (x : ExtendedView) → IsExtended x → is_field x.presets.cpu ≡ true → fault_from x.presets.cpu [] (lines_of (extended_text x)) ≡ None
+good-fault : (x : ExtendedView) → IsExtended x → is_field x.presets.cpu ≡ true → first_fault (line_cause x.presets.cpu) [] (lines_of (extended_text x)) ≡ None
 good-fault x h e =
     let n = x.presets.cpu in
     let rs = rows_back symbols x.presets.rows in
     let es = map event_row x.events in
     let few : length (events_read n (plain (cpu n) ∷ [])) + length es ≤ MOST_EVENTS = omega (arith, ap length (none-above n), length-map-row x.events, h.few) in
-    ap (fault_from n []) (written-lines x (field-good n e) h.table.each h.each)
+    ap (first_fault (line_cause n) []) (written-lines x (field-good n e) h.table.each h.each)
     ∙ first-fault n (both rs es) (no-fault n (plain (cpu n) ∷ []) rs es (first-stands n) (tabled x.presets.rows h.table.each) (named x.events h.each) few)
 
 presets-first : (name : Text) (rs es : List Derivation) → presets_read name (plain (cpu name) ∷ both rs es) ≡ read_from (preset_read name) (plain (cpu name) ∷ []) (both rs es)
@@ -87,7 +88,7 @@ good-back x h e =
     let some : presets_read n (plain (cpu n) ∷ both rs es) ≡ rs = presets-first n rs es ∙ presets-back n (plain (cpu n) ∷ []) rs es (first-stands n) (tabled x.presets.rows h.table.each) in
     let others : events_read n (plain (cpu n) ∷ both rs es) ≡ es = events-first n rs es ∙ events-back n (plain (cpu n) ∷ []) rs es (first-stands n) in
     ap (read n) (written-lines x (field-good n e) h.table.each h.each)
-    ∙ same-view n _ _ _ _ (ap (λ (r : List Derivation). map (entry_of r) symbols) some ∙ entries-are x.presets.rows (h.table.all ∙ sym length-symbols) h.table.each)
+    ∙ same-view n _ _ _ _ (ap (λ (r : List Derivation). map (entry_of event_judged r) symbols) some ∙ entries-are x.presets.rows (h.table.all ∙ sym length-symbols) h.table.each)
     (ap events_of others ∙ events-are x.events h.distinct h.each)
 
 -- ---- a cpu whose name can stand in no field
@@ -114,12 +115,12 @@ cpu-stays : (above : List EventLine) (line : EventLine) → has_cpu (groups abov
 cpu-stays above line c = ap has_cpu (map-append in_groups above (line ∷ [])) ∙ has_cpu-more (groups above) (in_groups line) ∙ rw c refl
 
 none-faulty : (name : Text) (above lines : List EventLine) → is_field name ≡ false → has_cpu (groups above) ≡ true → AllByRecursion IsEventLine above
-    → AllByRecursion IsEventLine lines → fault_from name above lines ≡ None
-unfolding fault_from
+    → AllByRecursion IsEventLine lines → first_fault (line_cause name) above lines ≡ None
+unfolding first_fault
 none-faulty name above [] e c a h = refl
 none-faulty name above (line ∷ rest) e c a h = go line h.0 (none-faulty name (above ++ line ∷ []) rest e (cpu-stays above line c) (one-more above line a h.0) h.1)
   where
-    go : (l : EventLine) → IsEventLine l → fault_from name (above ++ l ∷ []) rest ≡ None → fault_from name above (l ∷ rest) ≡ None
+    go : (l : EventLine) → IsEventLine l → first_fault (line_cause name) (above ++ l ∷ []) rest ≡ None → first_fault (line_cause name) above (l ∷ rest) ≡ None
     go (plain other) k later = later
     go (plain (cpu n)) k later = later
     go (plain (preset r)) k later = rw (c, unheld name above e a) later
@@ -139,7 +140,7 @@ no-events name above [] e a h = refl
 no-events name above (plain l ∷ rest) e a h = no-events name (above ++ plain l ∷ []) rest e (one-more above (plain l) a h.0) h.1
 no-events name above (event r ∷ rest) e a h = rw (unheld name above e a) (no-events name (above ++ event r ∷ []) rest e (one-more above (event r) a h.0) h.1)
 
-missing-same : (ss : List Text) (es : List Entry) → AllByRecursion IsMissing es → length es ≡ length ss → map (entry_of []) ss ≡ es
+missing-same : (ss : List Text) (es : List Entry) → AllByRecursion IsMissing es → length es ≡ length ss → map (entry_of event_judged []) ss ≡ es
 unfolding entry_of
 missing-same [] [] h n = refl
 missing-same [] (e ∷ es) h n = absurd (omega arith)
@@ -164,16 +165,16 @@ text-begins : (x : ExtendedView) → Begun (extended_text x)
 unfolding extended_text table_text rows_text
 text-begins x = begins ((x.presets.cpu ++ (10 ∷ rows_text (rows_of_entries symbols x.presets.rows))) ++ rows_text (event_rows x.events))
 
-begun-faultless : (name n : Text) (lines : List EventLine) → is_field name ≡ false → AllByRecursion IsEventLine (plain (cpu n) ∷ lines) → fault_from name [] (plain (cpu n) ∷ lines) ≡ None
+begun-faultless : (name n : Text) (lines : List EventLine) → is_field name ≡ false → AllByRecursion IsEventLine (plain (cpu n) ∷ lines) → first_fault (line_cause name) [] (plain (cpu n) ∷ lines) ≡ None
 unfolding has_cpu
 begun-faultless name n lines e h = fault-next name [] (plain (cpu n)) lines refl (none-faulty name (plain (cpu n) ∷ []) lines e refl (h.0, tt) h.1)
 
-bad-fault : (x : ExtendedView) → is_field x.presets.cpu ≡ false → fault_from x.presets.cpu [] (lines_of (extended_text x)) ≡ None
+bad-fault : (x : ExtendedView) → is_field x.presets.cpu ≡ false → first_fault (line_cause x.presets.cpu) [] (lines_of (extended_text x)) ≡ None
 bad-fault x e =
     let n = x.presets.cpu in
     let b = text-begins x in
     let each = all-lines (rows_of (extended_text x)) (rows-plain (extended_text x)) in
-    ap (fault_from n []) b.is ∙ begun-faultless n b.name b.rest e (subst (AllByRecursion IsEventLine) b.is each)
+    ap (first_fault (line_cause n) []) b.is ∙ begun-faultless n b.name b.rest e (subst (AllByRecursion IsEventLine) b.is each)
 
 none-named : events_of [] ≡ []
 unfolding names_in
@@ -184,7 +185,7 @@ bad-back x h e =
     let n = x.presets.cpu in
     let lines = lines_of (extended_text x) in
     let each = all-lines (rows_of (extended_text x)) (rows-plain (extended_text x)) in
-    same-view n _ _ _ _ (ap (λ (r : List Derivation). map (entry_of r) symbols) (no-presets n [] lines e tt each)
+    same-view n _ _ _ _ (ap (λ (r : List Derivation). map (entry_of event_judged r) symbols) (no-presets n [] lines e tt each)
     ∙ missing-same symbols x.presets.rows (h.table.named e) (h.table.all ∙ sym length-symbols))
     (ap events_of (no-events n [] lines e tt each) ∙ none-named ∙ sym (h.named e))
 
@@ -194,6 +195,6 @@ pub reads-back : (x : ExtendedView) → IsExtended x → ReadsBack (extended_tex
 unfolding extended_fault extended_in
 reads-back x h = go (is_field x.presets.cpu) refl
   where
-    go : (b : Bool) → is_field x.presets.cpu ≡ b → (fault_from x.presets.cpu [] (lines_of (extended_text x)) ≡ None) × (read x.presets.cpu (lines_of (extended_text x)) ≡ x)
+    go : (b : Bool) → is_field x.presets.cpu ≡ b → (first_fault (line_cause x.presets.cpu) [] (lines_of (extended_text x)) ≡ None) × (read x.presets.cpu (lines_of (extended_text x)) ≡ x)
     go true e = (good-fault x h e, good-back x h e)
     go false e = (bad-fault x e, bad-back x h e)

@@ -1,6 +1,6 @@
 -- The presets and user events of some rows and of one row more.
-use Rattle.std.proofs.Common.{◌≡◌, ◌∙◌, ◌∷◌, ◌++◌, ℕ, Bool, true, false, List, [], map, fold, refl, sym, ap, ap₂, subst, append_assoc, append-nil, Option, Some, None, Result, Ok, Err}
-use Rattle.std.specs.Prelude.{◌&&◌, ◌||◌, is_some, if◌then◌else◌}
+use Rattle.std.proofs.Common.{◌≡◌, ◌∙◌, ◌∷◌, ◌++◌, Bool, true, false, List, [], map, fold, refl, sym, ap, ap₂, subst, append_assoc, append-nil, None, Result, Ok, Err}
+use Rattle.std.specs.Prelude.{◌||◌, if◌then◌else◌}
 use Rattle.std.specs.Bool.{Decides}
 use Rattle.std.specs.List.{AllByRecursion}
 use Rattle.std.specs.Str.{bytes_eq}
@@ -8,21 +8,21 @@ use Rattle.std.proofs.lemmas.List.Sums.{fold-append}
 use Rattle.std.proofs.lemmas.Slice.Eq.{bytes_eq-Decides}
 use Rattle.table_rows.specs.Texts.{Text}
 use Rattle.table_rows.proofs.Texts.{all-append}
-use Rattle.preset_table.specs.Table.{row_of}
 use Rattle.preset_csv.specs.Lines.{Derivation, Line, cpu, other, preset}
-use Rattle.preset_csv.specs.Presets.{entry_or}
-use Rattle.preset_csv.specs.Steps.{group_at, placed}
+use Rattle.preset_csv.specs.Presets.{cause_if, entry_of, entry_or, rows_if}
+use Rattle.preset_csv.specs.Steps.{group_at}
 use Rattle.preset_csv.specs.Tables.{symbols}
 use Rattle.preset_csv.specs.declared.entry.Entry.{Entry}
 use Rattle.preset_csv.specs.declared.fault.PresetCause.{PresetCause}
 use Rattle.preset_csv.specs.declared.fault.PresetCause.TheVariants as cause
-use Rattle.preset_csv.proofs.SymbolRows.{changed-at, same-text, set_at}
+use Rattle.preset_csv.proofs.OneMore.{entry-append, map-same, taken-more, unread}
+use Rattle.preset_csv.proofs.SymbolRows.{same-text}
 use Rattle.user_events.specs.Entries.{event_judged}
 use Rattle.user_events.specs.Events.{Distinct, EventView, names_of}
 use Rattle.user_events.specs.Lines.{EventLine, event, in_groups, plain}
 use Rattle.user_events.specs.Names.{is_event_name}
-use Rattle.user_events.specs.Rows.{among, cause_if, entry_of, event_of, event_read, events_of, events_read, holds, is_too_many, limited, name_added}
-use Rattle.user_events.specs.Rows.{named_entry, names_in, preset_entries, preset_read, presets_read, read_from, rows_if}
+use Rattle.user_events.specs.Rows.{among, event_of, event_read, events_of, events_read, holds, is_too_many, limited, name_added}
+use Rattle.user_events.specs.Rows.{named_entry, names_in, preset_entries, preset_read, presets_read, read_from}
 use Rattle.user_events.specs.Steps.{entries_more, events_more, put_event, put_judged}
 
 abbrev groups : List EventLine → List Line
@@ -35,57 +35,16 @@ read-more adds a (x ∷ xs) line =
     ap (λ (rs : List Derivation). adds a x ++ rs) (read-more adds (a ++ x ∷ []) xs line ∙ ap (λ (b : List EventLine). read_from adds (a ++ x ∷ []) xs ++ adds b line) (append_assoc a (x ∷ []) xs))
     ∙ sym (append_assoc (adds a x) (read_from adds (a ++ x ∷ []) xs) (adds (a ++ x ∷ xs) line))
 
-map-same : {X : Type 0} (f g : Text → X) (ss : List Text) → ((s : Text) → f s ≡ g s) → map f ss ≡ map g ss
-map-same f g [] h = refl
-map-same f g (s ∷ ss) h = ap₂ (λ x xs. x ∷ xs) (h s) (map-same f g ss h)
-
 -- ---- the entries of the presets
 
-abbrev entry_more : (Text → Entry) → Derivation → Result Entry PresetCause → Text → Entry
-entry_more f r o s = if bytes_eq r.symbol s then entry_or (f s) o else f s
-
-entry-append : (rows : List Derivation) (r : Derivation) (s : Text) → entry_of (rows ++ r ∷ []) s ≡ entry_more (entry_of rows) r (event_judged r) s
-unfolding entry_of
-entry-append rows r s = fold-append _ _ rows (r ∷ [])
-
-kept-at : (b : Bool) (e : Entry) → (if b then e else e) ≡ e
-kept-at true e = refl
-kept-at false e = refl
-
-placed-more : (f : Text → Entry) (r : Derivation) (o : Result Entry PresetCause) → map (entry_more f r o) symbols ≡ placed (map f symbols) (row_of r.symbol) o
-placed-more f r (Ok e) = changed-at f r.symbol e ∙ go (row_of r.symbol)
-  where
-    go : (row : Option ℕ) → set_at (map f symbols) row e ≡ placed (map f symbols) row (Ok e)
-    go None = refl
-    go (Some row) = refl
-placed-more f r (Err why) = map-same (entry_more f r (Err why)) f symbols (λ s. kept-at (bytes_eq r.symbol s) (f s)) ∙ go (row_of r.symbol)
-  where
-    go : (row : Option ℕ) → map f symbols ≡ placed (map f symbols) row (Err why)
-    go None = refl
-    go (Some row) = refl
-
-unread : (rows : List Derivation) → map (entry_of (rows ++ [])) symbols ≡ map (entry_of rows) symbols
-unread rows = ap (λ (t : List Derivation). map (entry_of t) symbols) (append-nil rows)
-
-taken-more : (rows : List Derivation) (r : Derivation) (held : Bool)
-    → map (entry_of (rows ++ rows_if (held && is_some (row_of r.symbol)) r)) symbols ≡ (if held then placed (map (entry_of rows) symbols) (row_of r.symbol) (event_judged r) else map (entry_of rows) symbols)
-taken-more rows r false = unread rows
-taken-more rows r true =
-    go (row_of r.symbol) (map-same (entry_of (rows ++ r ∷ [])) (entry_more (entry_of rows) r (event_judged r)) symbols (entry-append rows r) ∙ placed-more (entry_of rows) r (event_judged r))
-  where
-    go : (row : Option ℕ) → map (entry_of (rows ++ r ∷ [])) symbols ≡ placed (map (entry_of rows) symbols) row (event_judged r)
-        → map (entry_of (rows ++ rows_if (is_some row) r)) symbols ≡ placed (map (entry_of rows) symbols) row (event_judged r)
-    go None h = unread rows
-    go (Some row) h = h
-
 abbrev entries_by : List Derivation → List Entry
-entries_by rows = map (entry_of rows) symbols
+entries_by rows = map (entry_of event_judged rows) symbols
 
 pub presets-more : (name : Text) (above : List EventLine) (line : EventLine) → preset_entries name (above ++ line ∷ []) ≡ entries_more (group_at name (groups above)) (preset_entries name above) line
-presets-more name above (plain other) = ap entries_by (read-more (preset_read name) [] above (plain other)) ∙ unread (presets_read name above)
-presets-more name above (plain (cpu n)) = ap entries_by (read-more (preset_read name) [] above (plain (cpu n))) ∙ unread (presets_read name above)
-presets-more name above (plain (preset r)) = ap entries_by (read-more (preset_read name) [] above (plain (preset r))) ∙ taken-more (presets_read name above) r (holds name above)
-presets-more name above (event r) = ap entries_by (read-more (preset_read name) [] above (event r)) ∙ unread (presets_read name above)
+presets-more name above (plain other) = ap entries_by (read-more (preset_read name) [] above (plain other)) ∙ unread event_judged (presets_read name above)
+presets-more name above (plain (cpu n)) = ap entries_by (read-more (preset_read name) [] above (plain (cpu n))) ∙ unread event_judged (presets_read name above)
+presets-more name above (plain (preset r)) = ap entries_by (read-more (preset_read name) [] above (plain (preset r))) ∙ taken-more event_judged (presets_read name above) r (holds name above)
+presets-more name above (event r) = ap entries_by (read-more (preset_read name) [] above (event r)) ∙ unread event_judged (presets_read name above)
 
 -- ---- the names of the user events differ
 
@@ -161,9 +120,9 @@ unfolding names_in
 put-more rows r x j =
     let names : names_in (rows ++ r ∷ []) ≡ name_added (names_in rows) r = fold-append name_added [] rows (r ∷ []) in
     ap (map (event_of (rows ++ r ∷ []))) names
-    ∙ map-same (event_of (rows ++ r ∷ [])) (changed (entry_of rows) r.symbol x) (name_added (names_in rows) r)
-    (λ n. ap (view n) (entry-append rows r n ∙ ap (λ (o : Result Entry PresetCause). if bytes_eq r.symbol n then entry_or (entry_of rows n) o else entry_of rows n) j))
-    ∙ put-names (entry_of rows) r.symbol x (names_in rows) (names-distinct rows)
+    ∙ map-same (event_of (rows ++ r ∷ [])) (changed (entry_of event_judged rows) r.symbol x) (name_added (names_in rows) r)
+    (λ n. ap (view n) (entry-append event_judged rows r n ∙ ap (λ (o : Result Entry PresetCause). if bytes_eq r.symbol n then entry_or (entry_of event_judged rows n) o else entry_of event_judged rows n) j))
+    ∙ put-names (entry_of event_judged rows) r.symbol x (names_in rows) (names-distinct rows)
 
 -- what a name's row is judged as
 pub record Named (names : List Text) (r : Derivation) (x : Entry) : Type 0 where

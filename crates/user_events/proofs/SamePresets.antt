@@ -12,7 +12,7 @@ use Rattle.preset_csv.specs.Entries.{judged}
 use Rattle.preset_csv.specs.Lines as Presets
 use Rattle.preset_csv.specs.Lines.{Derivation, Line, cpu, derivation_of, other, preset}
 use Rattle.preset_csv.specs.Presets as Of
-use Rattle.preset_csv.specs.Presets.{entry_or, group, has_cpu, judged_cause, preset_fault, presets, presets_in}
+use Rattle.preset_csv.specs.Presets.{cause_if, entry_of, entry_or, group, has_cpu, judged_cause, preset_fault, presets, presets_in, rows_if}
 use Rattle.preset_csv.specs.Tables.{symbols}
 use Rattle.preset_csv.specs.declared.entry.Entry.{Entry}
 use Rattle.preset_csv.specs.declared.entry.Entry.TheVariants as entry
@@ -21,7 +21,8 @@ use Rattle.preset_csv.specs.declared.fault.PresetCause.TheVariants as cause
 use Rattle.user_events.specs.Alike.{IsOfPresets, ReadsAsPresets}
 use Rattle.user_events.specs.Entries.{event_judged, is_infix}
 use Rattle.user_events.specs.Lines.{EventLine, event, in_groups, line_of, lines_of, plain}
-use Rattle.user_events.specs.Rows.{cause_if, entry_of, event_read, events_of, extended_fault, extended_in, fault_from, holds, line_cause, names_in, preset_read, presets_read, read_from, rows_if}
+use Rattle.table_rows.specs.Tables.{first_fault}
+use Rattle.user_events.specs.Rows.{event_read, events_of, extended_fault, extended_in, holds, line_cause, names_in, preset_read, presets_read, read_from}
 
 abbrev groups : List EventLine → List Line
 groups above = map in_groups above
@@ -52,13 +53,13 @@ same-cause name above (plain (preset r)) h =
     ap (λ (j : Result Entry PresetCause). if not (has_cpu (groups above)) then Some cause.NoCpu else cause_if (holds name above && is_some (row_of r.symbol)) j) (same-judged r h)
 same-cause name above (event r) h = absurd h
 
-same-fault : (name : Text) (above lines : List EventLine) → AllByRecursion IsOfPresets lines → fault_from name above lines ≡ Of.fault_from name (groups above) (groups lines)
-unfolding fault_from Of.fault_from
+same-fault : (name : Text) (above lines : List EventLine) → AllByRecursion IsOfPresets lines → first_fault (line_cause name) above lines ≡ first_fault (Of.line_cause name) (groups above) (groups lines)
+unfolding first_fault
 same-fault name above [] h = refl
 same-fault name above (x ∷ lines) h =
-    let later = same-fault name (above ++ x ∷ []) lines h.1 ∙ ap (λ (ls : List Line). Of.fault_from name ls (groups lines)) (grouped above x) in
-    ap (λ (o : Option PresetCause). option_map_or (λ why. Some (length above + 1, why)) o (fault_from name (above ++ x ∷ []) lines)) (same-cause name above x h.0)
-    ∙ ap (λ (n : ℕ). option_map_or (λ why. Some (n + 1, why)) (Of.line_cause name (groups above) (in_groups x)) (fault_from name (above ++ x ∷ []) lines)) (sym (length-map above in_groups))
+    let later = same-fault name (above ++ x ∷ []) lines h.1 ∙ ap (λ (ls : List Line). first_fault (Of.line_cause name) ls (groups lines)) (grouped above x) in
+    ap (λ (o : Option PresetCause). option_map_or (λ why. Some (length above + 1, why)) o (first_fault (line_cause name) (above ++ x ∷ []) lines)) (same-cause name above x h.0)
+    ∙ ap (λ (n : ℕ). option_map_or (λ why. Some (n + 1, why)) (Of.line_cause name (groups above) (in_groups x)) (first_fault (line_cause name) (above ++ x ∷ []) lines)) (sym (length-map above in_groups))
     ∙ ap (λ (o : Option (ℕ × PresetCause)). option_map_or (λ why. Some (length (groups above) + 1, why)) (Of.line_cause name (groups above) (in_groups x)) o) later
 
 -- ---- the rows that are read
@@ -102,8 +103,8 @@ same-fold s e (r ∷ rows) h =
     ap (λ (j : Result Entry PresetCause). fold (λ e q. if bytes_eq q.symbol s then entry_or e (event_judged q) else e) (if bytes_eq r.symbol s then entry_or e j else e) rows) (same-judged r h.0)
     ∙ same-fold s (if bytes_eq r.symbol s then entry_or e (judged r) else e) rows h.1
 
-pub same-entries : (rows : List Derivation) (ss : List Text) → AllByRecursion IsOrdinary rows → map (entry_of rows) ss ≡ map (Of.entry_of rows) ss
-unfolding entry_of Of.entry_of
+pub same-entries : (rows : List Derivation) (ss : List Text) → AllByRecursion IsOrdinary rows → map (entry_of event_judged rows) ss ≡ map (entry_of judged rows) ss
+unfolding entry_of
 same-entries rows [] h = refl
 same-entries rows (s ∷ ss) h = ap₂ (λ (x : Entry) (xs : List Entry). x ∷ xs) (same-fold s entry.Missing rows h) (same-entries rows ss h)
 
@@ -112,8 +113,8 @@ unfolding extended_fault extended_in preset_fault presets_in presets names_in
 reads_as_presets name bytes h =
     let lines = same-lines (rows_of bytes) h in
     let read = same-read name [] (lines_of bytes) h in (
-      same-fault name [] (lines_of bytes) h ∙ ap (Of.fault_from name []) lines,
+      same-fault name [] (lines_of bytes) h ∙ ap (first_fault (Of.line_cause name) []) lines,
       ap (λ (es : List Entry). record { cpu = name; rows = es })
-          (same-entries (presets_read name (lines_of bytes)) symbols read.1 ∙ ap (λ (rs : List Derivation). map (Of.entry_of rs) symbols) (read.0 ∙ ap (Of.read_from name []) lines)),
+          (same-entries (presets_read name (lines_of bytes)) symbols read.1 ∙ ap (λ (rs : List Derivation). map (entry_of judged rs) symbols) (read.0 ∙ ap (Of.read_from name []) lines)),
       ap events_of (no-events name [] (lines_of bytes) h),
     )

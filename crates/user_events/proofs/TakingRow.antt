@@ -1,50 +1,28 @@
 -- What one row gives is taken, or the row refused.
-use Rattle.std.proofs.Common.{◌≡◌, ◌∙◌, ◌∷◌, ℕ, Bool, true, false, not, List, [], Option, Some, None, map, set, length, refl, sym, ap, subst, arith, tests}
+use Rattle.std.proofs.Common.{◌≡◌, ◌∙◌, ◌∷◌, ℕ, Bool, true, false, not, List, [], Option, Some, None, map, length, refl, sym, ap, subst, arith, tests}
 use Rattle.std.specs.Prelude.{◌&&◌, is_some, if◌then◌else◌, position, Ok, Err, Result, nat_le}
 use Rattle.std.specs.List.{list_all}
 use Rattle.std.proofs.lemmas.Bool.{and_from, and_parts}
 use Rattle.std.proofs.lemmas.List.{length-map}
+use Rattle.table_rows.specs.Tables.{RefusesRow}
 use Rattle.table_rows.specs.Texts.{Text, is_printable, is_printable_byte, text_at}
-use Rattle.preset_table.specs.Table.{row_of}
 use Rattle.preset_csv.specs.Lines.{derivation_of}
-use Rattle.preset_csv.specs.Steps.{Judges, placed}
+use Rattle.preset_csv.specs.Steps.{Judges}
 use Rattle.preset_csv.specs.declared.entry.Entry.{Entry}
 use Rattle.preset_csv.specs.declared.fault.PresetCause.{PresetCause}
 use Rattle.preset_csv.specs.declared.fault.PresetCause.TheVariants as cause
-use Rattle.preset_csv.specs.declared.refusal.Refusal.{Refusal}
-use Rattle.preset_csv.specs.declared.refusal.Refusal.TheVariants as refusal
+use Rattle.table_rows.specs.declared.fault.Refusal.{Refusal}
+use Rattle.table_rows.specs.declared.fault.Refusal.TheVariants as refusal
 use Rattle.preset_csv.proofs.NativesKept.{symbol-there}
 use Rattle.user_events.specs.Entries.{event_judged}
 use Rattle.user_events.specs.Events.{EventView, event_view, names_of}
 use Rattle.user_events.specs.Names.{is_event_byte, is_event_name}
-use Rattle.user_events.specs.Rows.{cause_if, is_too_many, limited, named_entry}
-use Rattle.user_events.specs.Steps.{IsOverLimit, TakesEvent, TakesPreset, put_event, put_judged}
+use Rattle.user_events.specs.Rows.{is_too_many, limited, named_entry}
+use Rattle.preset_csv.specs.Presets.{cause_if}
+use Rattle.user_events.specs.Steps.{IsOverLimit, event_cause, events_with, put_event, put_judged}
 use Rattle.user_events.specs.declared.event.TheConstants.{MOST_EVENTS}
 use Rattle.user_events.specs.declared.event.UserEvent.{UserEvent}
 use Rattle.user_events.proofs.Putting.{is-among, is_named, not-among}
-
--- ---- a PRESET row
-
-symbol-row : (fields : List Text) (o : Option ℕ) → row_of (text_at fields 1) ≡ o → row_of (derivation_of fields).symbol ≡ o
-symbol-row fields o e = ap row_of (symbol-there fields) ∙ e
-
-pub put-taken : (fields : List Text) (holds : Bool) (row : ℕ) (e : Entry) (old new : List Entry) → holds ≡ true → row_of (text_at fields 1) ≡ Some row
-    → event_judged (derivation_of fields) ≡ Ok e → new ≡ set old row e
-    → (cause_if (holds && is_some (row_of (derivation_of fields).symbol)) (event_judged (derivation_of fields)) ≡ None) × (new ≡ (if holds then placed old (row_of (derivation_of fields).symbol) (event_judged (derivation_of fields)) else old))
-put-taken fields true row e old new h at j is = let s = symbol-row fields (Some row) at in (rw (s, j) refl, rw (s, j) is)
-put-taken fields false row e old new h at j is = cc h
-
-pub unknown-taken : (fields : List Text) (holds : Bool) (old : List Entry) → holds ≡ true → row_of (text_at fields 1) ≡ None
-    → (cause_if (holds && is_some (row_of (derivation_of fields).symbol)) (event_judged (derivation_of fields)) ≡ None) × (old ≡ (if holds then placed old (row_of (derivation_of fields).symbol) (event_judged (derivation_of fields)) else old))
-unknown-taken fields true old h at = let s = symbol-row fields None at in (rw s refl, rw s refl)
-unknown-taken fields false old h at = cc h
-
-pub not-taken : (fields : List Text) (holds : Bool) (row : ℕ) (f : Refusal) (old new : List Entry) → holds ≡ true → row_of (text_at fields 1) ≡ Some row
-    → Judges (event_judged (derivation_of fields)) (Err f)
-    → TakesPreset holds (derivation_of fields) old new (Err f)
-not-taken fields true row (refusal.Cause why) old new h at j = let s = symbol-row fields (Some row) at in rw (s, j) refl
-not-taken fields true row refusal.Memory old new h at j = tt
-not-taken fields false row f old new h at j = cc h
 
 -- ---- the name of an EVENT row
 
@@ -87,11 +65,11 @@ judged-by fields names b e m =
     rw (s, t) refl
 
 -- the refusal of one name too many
-abbrev Refuses : Result Entry PresetCause → Refusal → Type 0
+abbrev Refuses : Result Entry PresetCause → Refusal PresetCause → Type 0
 Refuses j (refusal.Cause why) = j ≡ Err why
 Refuses j refusal.Memory = Unit {0}
 
-over : (j : Result Entry PresetCause) (judged : Result Entry Refusal) (refused : Refusal) → Judges j judged → IsOverLimit judged refused → Refuses (limited true j) refused
+over : (j : Result Entry PresetCause) (judged : Result Entry (Refusal PresetCause)) (refused : Refusal PresetCause) → Judges j judged → IsOverLimit judged refused → Refuses (limited true j) refused
 over j (Ok e) refused h o = subst (Refuses (limited true j)) (sym o) (ap (limited true) h)
 over j (Err (refusal.Cause cause.NoCpu)) refused h o = subst (Refuses (limited true j)) (sym o) (ap (limited true) h)
 over j (Err (refusal.Cause cause.BadField)) refused h o = subst (Refuses (limited true j)) (sym o) (ap (limited true) h)
@@ -99,29 +77,29 @@ over j (Err (refusal.Cause cause.OverLimit)) refused h o = subst (Refuses (limit
 over j (Err (refusal.Cause (cause.BadFormula why))) refused h o = subst (Refuses (limited true j)) (sym o) (ap (limited true) h)
 over j (Err refusal.Memory) refused h o = subst (Refuses (limited true j)) (sym o) tt
 
-refuses : (holds : Bool) (j : Result Entry PresetCause) (refused : Refusal) (fields : List Text) (old new : List EventView) → holds ≡ true
+refuses : (holds : Bool) (j : Result Entry PresetCause) (refused : Refusal PresetCause) (fields : List Text) (old : List EventView) → holds ≡ true
     → named_entry (names_of old) (derivation_of fields) ≡ j → Refuses j refused
-    → TakesEvent holds (derivation_of fields) old new (Err refused)
-refuses true j (refusal.Cause why) fields old new h is r = rw (is, r) refl
-refuses true j refusal.Memory fields old new h is r = tt
-refuses false j refused fields old new h is r = cc h
+    → RefusesRow (event_cause holds old (derivation_of fields)) refused
+refuses true j (refusal.Cause why) fields old h is r = rw (is, r) refl
+refuses true j refusal.Memory fields old h is r = tt
+refuses false j refused fields old h is r = cc h
 
-pub over-taken : (fields : List Text) (holds : Bool) (old new : List EventView) (judged : Result Entry Refusal) (refused : Refusal) → holds ≡ true
+pub over-taken : (fields : List Text) (holds : Bool) (old : List EventView) (judged : Result Entry (Refusal PresetCause)) (refused : Refusal PresetCause) → holds ≡ true
     → is_event_name (text_at fields 1) ≡ true → is_too_many (names_of old) (text_at fields 1) ≡ true
-    → Judges (event_judged (derivation_of fields)) judged → IsOverLimit judged refused → TakesEvent holds (derivation_of fields) old new (Err refused)
-over-taken fields holds old new judged refused h e m j o =
-    refuses holds (limited true (event_judged (derivation_of fields))) refused fields old new h (judged-by fields (names_of old) true e m) (over (event_judged (derivation_of fields)) judged refused j o)
+    → Judges (event_judged (derivation_of fields)) judged → IsOverLimit judged refused → RefusesRow (event_cause holds old (derivation_of fields)) refused
+over-taken fields holds old judged refused h e m j o =
+    refuses holds (limited true (event_judged (derivation_of fields))) refused fields old h (judged-by fields (names_of old) true e m) (over (event_judged (derivation_of fields)) judged refused j o)
 
-pub event-refused : (fields : List Text) (holds : Bool) (old new : List EventView) (refused : Refusal) → holds ≡ true
+pub event-refused : (fields : List Text) (holds : Bool) (old : List EventView) (refused : Refusal PresetCause) → holds ≡ true
     → is_event_name (text_at fields 1) ≡ true → is_too_many (names_of old) (text_at fields 1) ≡ false
-    → Judges (event_judged (derivation_of fields)) (Err refused) → TakesEvent holds (derivation_of fields) old new (Err refused)
-event-refused fields holds old new (refusal.Cause why) h e m j = refuses holds (event_judged (derivation_of fields)) (refusal.Cause why) fields old new h (judged-by fields (names_of old) false e m) j
-event-refused fields holds old new refusal.Memory h e m j = tt
+    → Judges (event_judged (derivation_of fields)) (Err refused) → RefusesRow (event_cause holds old (derivation_of fields)) refused
+event-refused fields holds old (refusal.Cause why) h e m j = refuses holds (event_judged (derivation_of fields)) (refusal.Cause why) fields old h (judged-by fields (names_of old) false e m) j
+event-refused fields holds old refusal.Memory h e m j = tt
 
 pub event-taken : (fields : List Text) (holds : Bool) (old new : List EventView) (x : Entry) → holds ≡ true → is_event_name (text_at fields 1) ≡ true
     → is_too_many (names_of old) (text_at fields 1) ≡ false
     → event_judged (derivation_of fields) ≡ Ok x → new ≡ put_event old (text_at fields 1) x
-    → (cause_if holds (named_entry (names_of old) (derivation_of fields)) ≡ None) × (new ≡ (if holds then put_judged old (derivation_of fields).symbol (named_entry (names_of old) (derivation_of fields)) else old))
+    → (event_cause holds old (derivation_of fields) ≡ None) × (new ≡ events_with holds old (derivation_of fields))
 event-taken fields true old new x h e m j is =
     let n : named_entry (names_of old) (derivation_of fields) ≡ Ok x = judged-by fields (names_of old) false e m ∙ j in
     (ap (cause_if true) n, is ∙ ap (λ (t : Text). put_event old t x) (sym (symbol-there fields)) ∙ sym (ap (put_judged old (row_name fields)) n))

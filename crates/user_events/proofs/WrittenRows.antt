@@ -1,22 +1,14 @@
 -- The text of user events, row by row.
-use Rattle.std.proofs.Common.{◌≡◌, ◌∙◌, ◌+◌, ◌<◌, ◌≤◌, ◌∷◌, ◌++◌, ℕ, List, [], length, map, get_or, take, refl, sym, ap, append_assoc, append-nil, codes}
+use Rattle.std.proofs.Common.{◌≡◌, ◌∙◌, ◌+◌, ◌<◌, ◌≤◌, ◌∷◌, ◌++◌, ℕ, List, [], length, map, get_or, take, refl, sym, ap, append_assoc, append-nil}
 use Rattle.std.proofs.lemmas.List.{map-append, take_all, take_more}
 use Rattle.table_rows.specs.Rows.{rows_text}
 use Rattle.table_rows.specs.Texts.{Text}
 use Rattle.preset_csv.specs.Tables.{TableView}
-use Rattle.preset_csv.specs.Written.{rows_of_entry, table_text}
-use Rattle.preset_csv.specs.declared.entry.Entry.{Entry}
-use Rattle.preset_csv.specs.declared.entry.Entry.TheVariants as entry
+use Rattle.preset_csv.specs.Written.{table_text}
 use Rattle.preset_csv.proofs.WrittenParts.{rows-append}
 use Rattle.user_events.specs.Events.{EventView, ExtendedView, event_view}
 use Rattle.user_events.specs.Written.{event_rows, extended_text, named_rows}
 use Rattle.user_events.specs.declared.event.UserEvent.{UserEvent}
-
--- the row of a name
-pub event-rows : (s : Text) (e : Entry) → rows_of_entry (codes "EVENT") s e ≡ named_rows s e
-event-rows s entry.Missing = refl
-event-rows s entry.Uncomputed = refl
-event-rows s (entry.Def d) = refl
 
 -- ---- the rows of some user events
 

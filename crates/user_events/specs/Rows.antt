@@ -1,20 +1,18 @@
 -- The presets and user events of a file for one cpu, and its first fault: papi_events.csv.
-use Rattle.std.specs.Prelude.{◌≡◌, ◌+◌, ◌&&◌, ℕ, Bool, true, false, not, List, [], ◌∷◌, ◌++◌, length, map, fold, Option, Some}
+use Rattle.std.specs.Prelude.{◌≡◌, ◌&&◌, ℕ, Bool, true, false, not, List, [], ◌∷◌, ◌++◌, length, map, fold, Option, Some}
 use Rattle.std.specs.Prelude.{None, Result, Ok, Err, is_some, if◌then◌else◌, nat_le}
 use Rattle.std.specs.List.{list_any}
-use Rattle.std.specs.Option.{option_map_or}
 use Rattle.std.specs.Str.{bytes_eq}
+use Rattle.table_rows.specs.Tables.{ReadsTable, first_fault}
 use Rattle.table_rows.specs.Texts.{Text}
 use Rattle.preset_table.specs.Table.{row_of}
 use Rattle.preset_csv.specs.Lines.{Derivation, cpu, other, preset}
-use Rattle.preset_csv.specs.Presets.{entry_or, group, has_cpu, judged_cause}
+use Rattle.preset_csv.specs.Presets.{cause_if, entry_of, group, has_cpu, rows_if}
 use Rattle.preset_csv.specs.Tables.{symbols}
 use Rattle.preset_csv.specs.declared.entry.Entry.{Entry}
-use Rattle.preset_csv.specs.declared.entry.Entry.TheVariants as entry
 use Rattle.preset_csv.specs.declared.fault.PresetCause.{PresetCause}
 use Rattle.preset_csv.specs.declared.fault.PresetCause.TheVariants as cause
-use Rattle.preset_csv.specs.declared.fault.PresetFault.{PresetFault}
-use Rattle.preset_csv.specs.declared.fault.PresetFault.TheVariants as fault
+use Rattle.table_rows.specs.declared.fault.RowFault.{RowFault}
 use Rattle.user_events.specs.Entries.{event_judged}
 use Rattle.user_events.specs.Events.{EventView, ExtendedView}
 use Rattle.user_events.specs.Lines.{EventLine, event, in_groups, lines_of, plain}
@@ -27,10 +25,6 @@ use Rattle.user_events.specs.declared.extended.Extended.{Extended}
 -- the group of CPU rows at the end of these rows holds the cpu
 abbrev pub holds : Text → List EventLine → Bool
 holds name above = list_any (λ n. bytes_eq name n) (group (map in_groups above))
-
--- a row, where it is read: its group of CPU rows names the cpu
-abbrev pub rows_if : Bool → Derivation → List Derivation
-rows_if read r = if read then r ∷ [] else []
 
 -- what one row below these adds to the PRESET rows that are read: those whose symbol is in the table
 abbrev pub preset_read : Text → List EventLine → EventLine → List Derivation
@@ -59,10 +53,6 @@ events_read name lines = read_from (event_read name) [] lines
 
 -- ---- the entries
 
--- the entry of a symbol or a name: that of its last row
-unfoldable pub entry_of : List Derivation → Text → Entry
-entry_of rows name = fold (λ e r. if bytes_eq r.symbol name then entry_or e (event_judged r) else e) entry.Missing rows
-
 -- the name is one of these
 abbrev pub among : Text → List Text → Bool
 among name names = list_any (λ n. bytes_eq name n) names
@@ -77,11 +67,11 @@ names_in rows = fold name_added [] rows
 
 -- the event of a name: the entry of its last row
 abbrev pub event_of : List Derivation → Text → EventView
-event_of rows name = record { name = name; entry = entry_of rows name }
+event_of rows name = record { name = name; entry = entry_of event_judged rows name }
 
 -- the entries of the preset table's symbols, and the user events
 abbrev pub preset_entries : Text → List EventLine → List Entry
-preset_entries name lines = map (entry_of (presets_read name lines)) symbols
+preset_entries name lines = map (entry_of event_judged (presets_read name lines)) symbols
 
 -- the events of some rows, in the order of their first rows
 abbrev pub events_of : List Derivation → List EventView
@@ -106,10 +96,6 @@ is_too_many names name = not (among name names) && nat_le MOST_EVENTS (length na
 abbrev pub named_entry : List Text → Derivation → Result Entry PresetCause
 named_entry names r = if is_event_name r.symbol then limited (is_too_many names r.symbol) (event_judged r) else Err cause.BadField
 
--- why a row is refused, where it is read
-abbrev pub cause_if : Bool → Result Entry PresetCause → Option PresetCause
-cause_if read judgement = if read then judged_cause judgement else None
-
 -- the cause of a row below these rows
 abbrev pub line_cause : Text → List EventLine → EventLine → Option PresetCause
 line_cause name above (plain other) = None
@@ -121,17 +107,11 @@ line_cause name above (event r) =
     if not (has_cpu (map in_groups above)) then Some cause.NoCpu
     else cause_if (holds name above) (named_entry (names_in (events_read name above)) r)
 
--- the first row below `above` that has a cause, and its cause
-unfoldable pub fault_from : Text → List EventLine → List EventLine → Option (ℕ × PresetCause)
-fault_from name above [] = None
-fault_from name above (line ∷ rest) =
-    option_map_or (λ why. Some (length above + 1, why)) (line_cause name above line) (fault_from name (above ++ line ∷ []) rest)
-
 -- ---- what a caller gets
 
 -- the first faulty row of a preset file, from 1, and its first cause
 unfoldable pub extended_fault : Text → List ℕ → Option (ℕ × PresetCause)
-extended_fault name bytes = fault_from name [] (lines_of bytes)
+extended_fault name bytes = first_fault (line_cause name) [] (lines_of bytes)
 
 -- the presets and user events for a cpu in a file that has no faulty row
 unfoldable pub extended_in : Text → List ℕ → ExtendedView
@@ -139,7 +119,5 @@ extended_in name bytes =
     record { presets = record { cpu = name; rows = preset_entries name (lines_of bytes) }; events = events_of (events_read name (lines_of bytes)) }
 
 -- these where no row is faulty, or the first fault, or out of memory
-abbrev pub ReadsExtended : Result Extended PresetFault → List ℕ → Text → Type 0
-ReadsExtended (Ok x) bytes name = (extended_fault name bytes ≡ None) × (x ≡ extended_in name bytes)
-ReadsExtended (Err (fault.Row row why)) bytes name = extended_fault name bytes ≡ Some (row, why)
-ReadsExtended (Err fault.Memory) bytes name = Unit {0}
+abbrev pub ReadsExtended : Result Extended (RowFault PresetCause) → List ℕ → Text → Type 0
+ReadsExtended result bytes name = ReadsTable (extended_fault name bytes) (λ x. x ≡ extended_in name bytes) result

@@ -2,17 +2,14 @@
 use Rattle.std.specs.Prelude.{◌≡◌, List, [], ◌∷◌, ◌++◌, None, codes}
 use Rattle.table_rows.specs.Rows.{rows_text}
 use Rattle.table_rows.specs.Texts.{Text}
-use Rattle.preset_csv.specs.Written.{def_fields, table_text}
+use Rattle.preset_csv.specs.Written.{rows_of_entry, table_text}
 use Rattle.preset_csv.specs.declared.entry.Entry.{Entry}
-use Rattle.preset_csv.specs.declared.entry.Entry.TheVariants as entry
 use Rattle.user_events.specs.Events.{EventView, ExtendedView}
 use Rattle.user_events.specs.Rows.{extended_fault, extended_in}
 
 -- the EVENT row of a name and its entry, and none of a missing one
 abbrev pub named_rows : Text → Entry → List (List Text)
-named_rows name entry.Missing = []
-named_rows name entry.Uncomputed = (codes "EVENT" ∷ name ∷ codes "DERIVED_CMPD" ∷ []) ∷ []
-named_rows name (entry.Def d) = (codes "EVENT" ∷ name ∷ def_fields d) ∷ []
+named_rows name e = rows_of_entry (codes "EVENT") name e
 
 -- the rows of the user events, in the order of their ranks
 unfoldable pub event_rows : List EventView → List (List Text)

@@ -6,26 +6,17 @@ ghost use Rattle.csv.specs.Records.{fields_of};
 ghost use Rattle.postfix_rules.specs.declared.derived.TheConstants.{MOST_NATIVES};
 ghost use Rattle.preset_csv.specs.Defs.{IsNativeText};
 ghost use Rattle.preset_csv.specs.Lines.{derivation_of};
-ghost use Rattle.preset_csv.specs.Steps as Steps;
-ghost use Rattle.preset_csv.specs.Steps.{IsReadRow, Judges};
+ghost use Rattle.table_rows.specs.Rows.{IsReadRow};
+ghost use Rattle.preset_csv.specs.Steps.{Judges};
 ghost use Rattle.user_events.specs.Entries as Entries;
 
-use postfix_rules::{FormulaFault, read_infix};
+use postfix_rules::read_infix;
 use preset_csv::{
-    Def, DerivedType, Entry, Kind, PresetCause, Refusal, judge, row_natives, type_of,
+    Def, DerivedType, Entry, Kind, PresetCause, RowJudge, formula_refusal, judge, row_natives,
+    type_of,
 };
 use std::alloc::Global;
-use table_rows::{ByteRecord, printable_text, text_at};
-
-// Why a row with a broken formula is refused.
-fn formula_refusal(fault: FormulaFault) -> Refusal
-    ensures { result ≡ Steps.formula_refusal fault }
-{
-    match fault {
-        FormulaFault::At { place: _, cause } => Refusal::Cause(PresetCause::BadFormula(cause)),
-        FormulaFault::Memory => Refusal::Memory,
-    }
-}
+use table_rows::{ByteRecord, Refusal, printable_text, text_at};
 
 // Whether a formula has a `#`.
 fn has_rate(formula: &[u8]) -> bool
@@ -35,7 +26,11 @@ fn has_rate(formula: &[u8]) -> bool
 }
 
 // The entry of a formula in infix order over natives.
-fn infix_entry(alloc: Global, formula: &str, natives: Vec<String>) -> Result<Entry, Refusal>
+fn infix_entry(
+    alloc: Global,
+    formula: &str,
+    natives: Vec<String>,
+) -> Result<Entry, Refusal<PresetCause>>
     requires each { AllByRecursion IsNativeText (map string_bytes natives.items) }
     requires some { 1 ≤ length natives.items }
     requires few { length natives.items ≤ MOST_NATIVES }
@@ -51,7 +46,11 @@ fn infix_entry(alloc: Global, formula: &str, natives: Vec<String>) -> Result<Ent
 }
 
 // The entry of a formula in infix order and of natives that may stand in a row.
-fn infix_kept(alloc: Global, formula: &str, natives: Vec<String>) -> Result<Entry, Refusal>
+fn infix_kept(
+    alloc: Global,
+    formula: &str,
+    natives: Vec<String>,
+) -> Result<Entry, Refusal<PresetCause>>
     requires each { AllByRecursion IsNativeText (map string_bytes natives.items) }
     requires few { length natives.items ≤ MOST_NATIVES }
     ensures { Judges (Entries.infix_kept formula.now (Ok (map string_bytes natives.items))) result }
@@ -63,7 +62,7 @@ fn infix_kept(alloc: Global, formula: &str, natives: Vec<String>) -> Result<Entr
 }
 
 // The entry of a row whose formula is in infix order.
-fn judge_infix(alloc: Global, row: &ByteRecord) -> Result<Entry, Refusal>
+fn judge_infix(alloc: Global, row: &ByteRecord) -> Result<Entry, Refusal<PresetCause>>
     requires read { IsReadRow (fields_of row.now) }
     ensures { Judges (Entries.infix_fields (fields_of row.now)) result }
 {
@@ -84,7 +83,7 @@ fn is_infix(derived_type: Option<DerivedType>) -> bool
 }
 
 /// The entry that a row gives by its derived type, its formula and its natives, or its first cause.
-pub fn judge_event(alloc: Global, row: &ByteRecord) -> Result<Entry, Refusal>
+pub fn judge_event(alloc: Global, row: &ByteRecord) -> Result<Entry, Refusal<PresetCause>>
     requires { IsReadRow (fields_of row.now) }
     ensures { Judges (Entries.event_judged (derivation_of (fields_of row.now))) result }
 {
@@ -92,5 +91,16 @@ pub fn judge_event(alloc: Global, row: &ByteRecord) -> Result<Entry, Refusal>
         judge_infix(alloc, row)
     } else {
         judge(alloc, row)
+    }
+}
+
+/// The rows of a preset file with user events.
+pub struct EventJudge;
+
+impl RowJudge for EventJudge {
+    ghost judged = { Entries.event_judged };
+
+    fn judge_row(alloc: Global, row: &ByteRecord) -> Result<Entry, Refusal<PresetCause>> {
+        judge_event(alloc, row)
     }
 }

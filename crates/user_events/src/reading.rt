@@ -1,56 +1,27 @@
 //! A whole preset file with user events.
 
-ghost use Rattle.std.specs.Prelude.{◌≡◌, ◌<◌, ◌-◌, ◌^◌, Err, IfErr, IfOk, None, length, map, set};
-ghost use Rattle.std.specs.List.{AllByRecursion};
+ghost use Rattle.std.specs.Prelude.{◌≡◌, length, map};
 ghost use Rattle.csv.specs.Records.{fields_of};
+ghost use Rattle.table_rows.specs.Rows.{IsReadRow};
+ghost use Rattle.table_rows.specs.Tables.{TakesRow};
 ghost use Rattle.preset_table.specs.declared.TheConstants.{PRESETS};
 ghost use Rattle.preset_csv.specs.Lines.{derivation_of};
-ghost use Rattle.preset_csv.specs.Steps.{IsReadRow};
-ghost use Rattle.user_events.specs.Events.{IsExtended, event_view, names_of};
-ghost use Rattle.user_events.specs.Lines.{lines_of};
-ghost use Rattle.user_events.specs.Reading.{extended_of, taking};
+ghost use Rattle.user_events.specs.Events.{event_view, names_of};
+ghost use Rattle.user_events.specs.Lines.{EventLine, line_of};
+ghost use Rattle.user_events.specs.Reading.{IsTaken, taking};
 ghost use Rattle.user_events.specs.Rows as Rows;
 ghost use Rattle.user_events.specs.Rows.{ReadsExtended};
-ghost use Rattle.user_events.specs.Steps.{IsOverLimit, IsPlainRow, TakesEvent, TakesNext, TakesPreset, TakesRow, row_line};
+ghost use Rattle.user_events.specs.Steps.{IsMore, IsOverLimit, IsPlainRow, cause_more, event_cause, events_with, row_line};
 
 use crate::event::{MOST_EVENTS, UserEvent, is_event_name, place_of, put_event};
 use crate::extended::Extended;
-use crate::judging::judge_event;
+use crate::judging::{EventJudge, judge_event};
 use crate::row::{EventRow, event_row_of};
 use preset_csv::{
-    Entry, Group, PresetCause, PresetFault, PresetTable, Refusal, Row, all_missing, fault_at,
-    symbol_row,
+    Entry, Group, PresetCause, PresetFault, PresetTable, Row, all_missing, take_preset,
 };
-use std::alloc::Global;
-use table_rows::{ByteRecord, RowReader, printable_text, text_at};
-
-// Puts an entry into its row.
-fn put(entries: &mut Vec<Entry>, row: u32, entry: Entry)
-    requires { row < length entries.old.items }
-    ensures { entries.new.items ≡ set entries.old.items row entry }
-{
-    entries[row as usize] = entry;
-}
-
-// Takes what a PRESET row derives, where its group holds the asked cpu.
-fn take_preset(
-    alloc: Global,
-    row: &ByteRecord,
-    holds: bool,
-    entries: &mut Vec<Entry>,
-) -> Result<(), Refusal>
-    requires plain { IsReadRow (fields_of row.now) }
-    requires all { length entries.old.items ≡ PRESETS }
-    ensures { TakesPreset holds (derivation_of (fields_of row.now)) entries.old.items entries.new.items result }
-{
-    if !holds {
-        return Ok(());
-    }
-    if let Some(place) = symbol_row(text_at(row, 1)) {
-        put(entries, place, judge_event(alloc, row)?);
-    }
-    Ok(())
-}
+use std::alloc::{AllocError, Global};
+use table_rows::{ByteRecord, Refusal, TableKind, printable_text, read_table, text_at};
 
 // Whether a name is new, and there are as many as there may be.
 fn is_too_many(events: &[UserEvent], name: &str) -> bool
@@ -60,7 +31,7 @@ fn is_too_many(events: &[UserEvent], name: &str) -> bool
 }
 
 // The refusal of a row that would add one name too many.
-fn over_limit(judged: Result<Entry, Refusal>) -> Refusal
+fn over_limit(judged: Result<Entry, Refusal<PresetCause>>) -> Refusal<PresetCause>
     ensures { IsOverLimit judged result }
 {
     match judged {
@@ -76,9 +47,10 @@ fn take_event(
     row: &ByteRecord,
     holds: bool,
     events: &mut Vec<UserEvent>,
-) -> Result<(), Refusal>
+) -> Result<(), Refusal<PresetCause>>
     requires plain { IsReadRow (fields_of row.now) }
-    ensures { TakesEvent holds (derivation_of (fields_of row.now)) (map event_view events.old.items) (map event_view events.new.items) result }
+    ensures { TakesRow (event_cause holds (map event_view events.old.items) (derivation_of (fields_of row.now)))
+        (map event_view events.new.items ≡ events_with holds (map event_view events.old.items) (derivation_of (fields_of row.now))) result }
 {
     if !holds {
         return Ok(());
@@ -107,10 +79,16 @@ struct Taken {
 }
 
 // Takes a row below the others, for a cpu.
-fn take_row(alloc: Global, cpu: &str, row: EventRow<'_>, taken: &mut Taken) -> Result<(), Refusal>
+fn take_line(
+    alloc: Global,
+    cpu: &str,
+    row: EventRow<'_>,
+    taken: &mut Taken,
+) -> Result<(), Refusal<PresetCause>>
     requires plain { IsPlainRow row }
     requires all { length taken.old.entries.items ≡ PRESETS }
-    ensures { TakesRow cpu.now (row_line row.entry) (taking taken.old) (taking taken.new) result }
+    ensures { TakesRow (cause_more taken.old.group (map event_view taken.old.events.items) (row_line row.entry))
+        (IsMore cpu.now (row_line row.entry) (taking taken.old) (taking taken.new)) result }
 {
     match row {
         EventRow::Plain(Row::Other) => Ok(()),
@@ -123,7 +101,7 @@ fn take_row(alloc: Global, cpu: &str, row: EventRow<'_>, taken: &mut Taken) -> R
                 return Err(Refusal::Cause(PresetCause::NoCpu));
             }
             taken.group = taken.group.with_preset();
-            take_preset(alloc, row, taken.group.holds, &mut taken.entries)
+            take_preset::<EventJudge>(alloc, row, taken.group.holds, &mut taken.entries)
         }
         EventRow::Event(row) => {
             if !taken.group.begun {
@@ -135,49 +113,41 @@ fn take_row(alloc: Global, cpu: &str, row: EventRow<'_>, taken: &mut Taken) -> R
     }
 }
 
-// Takes the next row below the others, for a cpu, and says whether there was one. Its place is from 0.
-fn take_next(
-    alloc: Global,
-    reader: &mut RowReader<'_>,
-    row: &mut ByteRecord,
-    place: usize,
-    cpu: &str,
-    taken: &mut Taken,
-) -> Result<bool, PresetFault>
-    requires place { place < 2 ^ 64 - 1 }
-    requires plain { AllByRecursion IsReadRow reader.old }
-    requires all { length taken.old.entries.items ≡ PRESETS }
-    ensures { TakesNext place cpu.now reader.old (fields_of row.new) reader.new (taking taken.old) (taking taken.new) result }
-{
-    if !reader.read_row(row)? {
-        return Ok(false);
-    }
-    match take_row(alloc, cpu, event_row_of(row), taken) {
-        Ok(()) => Ok(true),
-        Err(refusal) => Err(fault_at(place, refusal)),
-    }
+// The rows of a preset file with user events, read for a cpu.
+#[derive(Clone, Copy)]
+struct EventRows<'c> {
+    cpu: &'c str,
 }
 
-// What all rows of a preset file gave for a cpu, or its first fault.
-fn read_taken(alloc: Global, bytes: &[u8], cpu: &str) -> Result<Taken, PresetFault>
-    ensures faultless { IfOk result (λ t. Rows.extended_fault cpu.now bytes.now ≡ None) }
-    ensures entries { IfOk result (λ t. t.entries.items ≡ Rows.preset_entries cpu.now (lines_of bytes.now)) }
-    ensures events { IfOk result (λ t. map event_view t.events.items ≡ Rows.events_of (Rows.events_read cpu.now (lines_of bytes.now))) }
-    ensures kept { IfOk result (λ t. IsExtended (extended_of cpu.now t)) }
-    ensures refused { IfErr result (λ f. ReadsExtended (Err f) bytes.now cpu.now) }
-{
-    let mut taken = Taken {
-        group: Group::new(),
-        entries: all_missing(alloc)?,
-        events: Vec::new(alloc),
-    };
-    let mut reader = RowReader::new(alloc, bytes);
-    let mut row = ByteRecord::new(alloc);
-    let mut place = 0;
-    while take_next(alloc, &mut reader, &mut row, place, cpu, &mut taken)? {
-        place += 1;
+impl<'c> TableKind for EventRows<'c> {
+    type Read = Taken;
+
+    type Cause = PresetCause;
+
+    ghost Line = { EventLine };
+
+    ghost line_of = { line_of };
+
+    ghost cause = { λ p above line. Rows.line_cause p.cpu.now above line };
+
+    ghost gives = { λ p lines taken. IsTaken p.cpu.now lines (taking taken) };
+
+    fn no_rows(&self, alloc: Global) -> Result<Taken, AllocError> {
+        Ok(Taken {
+            group: Group::new(),
+            entries: all_missing(alloc)?,
+            events: Vec::new(alloc),
+        })
     }
-    Ok(taken)
+
+    fn take_row(
+        &self,
+        alloc: Global,
+        taken: &mut Taken,
+        row: &ByteRecord,
+    ) -> Result<(), Refusal<PresetCause>> {
+        take_line(alloc, self.cpu, event_row_of(row), taken)
+    }
 }
 
 /// The presets and user events for a cpu of a preset file, or its first faulty row with that row's first cause.
@@ -187,7 +157,7 @@ fn read_taken(alloc: Global, bytes: &[u8], cpu: &str) -> Result<Taken, PresetFau
 pub fn read_extended(alloc: Global, bytes: &[u8], cpu: &str) -> Result<Extended, PresetFault>
     ensures { ReadsExtended result bytes.now cpu.now }
 {
-    let taken = read_taken(alloc, bytes, cpu)?;
+    let taken = read_table(alloc, bytes, &EventRows { cpu })?;
     let presets = PresetTable::new(String::from_str(alloc, cpu)?, taken.entries);
     Ok(Extended::new(presets, taken.events))
 }

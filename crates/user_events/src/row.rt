@@ -2,7 +2,7 @@
 
 ghost use Rattle.std.specs.Prelude.{◌≡◌};
 ghost use Rattle.csv.specs.Records.{fields_of};
-ghost use Rattle.preset_csv.specs.Steps.{IsReadRow};
+ghost use Rattle.table_rows.specs.Rows.{IsReadRow};
 ghost use Rattle.user_events.specs.Lines.{line_of};
 ghost use Rattle.user_events.specs.Steps.{IsPlainRow, row_line};
 

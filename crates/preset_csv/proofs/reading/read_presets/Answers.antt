@@ -1,21 +1,22 @@
-use Rattle.std.proofs.Common.{◌≡◌, ◌∙◌, List, Err, ap₂, rules}
+use Rattle.std.proofs.Common.{◌≡◌, ◌∙◌, Err, List, ap₂, rules}
 use Rattle.table_rows.specs.Texts.{Text}
-use Rattle.preset_csv.specs.Presets.{presets_in}
+use Rattle.preset_csv.specs.Presets.{preset_fault, presets_in}
 use Rattle.preset_csv.specs.declared.entry.Entry.{Entry}
 use Rattle.preset_csv.proofs.TableKept.{presets-kept}
 use Rattle.preset_csv.proofs.reading.read_presets.Goals as goal
 
-pub returns-in_err-entries : goal.returns-in_err-entries
-returns-in_err-entries c =
-    let same : c.from_residual.result ≡ Err c.in_err-entries.field-0.0 = search rules in
-    rw same c.in_err-entries.ensures.refused
+pub returns-in_err-taken : goal.returns-in_err-taken
+unfolding preset_fault
+returns-in_err-taken c =
+    let same : c.from_residual.result ≡ Err c.in_err-taken.field-0.0 = search rules in
+    rw same c.in_err-taken.ensures
 
 pub new-requires : goal.new-requires
-new-requires c = rw (c.in_ok-from_str.ensures.ok, c.in_ok-entries.ensures.entries) (presets-kept c.args.cpu.now c.args.bytes.now)
+new-requires c = rw (c.in_ok-from_str.ensures.ok, c.in_ok-taken.ensures.1.entries_are) (presets-kept c.args.cpu.now c.args.bytes.now)
 
 pub returns : goal.returns
-unfolding presets_in
+unfolding preset_fault presets_in
 returns c = (
-  c.in_ok-entries.ensures.faultless,
-  c.new.ensures ∙ ap₂ (λ (n : Text) (es : List Entry). record { cpu = n; rows = es }) c.in_ok-from_str.ensures.ok c.in_ok-entries.ensures.entries,
+  c.in_ok-taken.ensures.0,
+  c.new.ensures ∙ ap₂ (λ (n : Text) (es : List Entry). record { cpu = n; rows = es }) c.in_ok-from_str.ensures.ok c.in_ok-taken.ensures.1.entries_are,
 )

@@ -1,10 +1,9 @@
 use Rattle.std.proofs.Common.{◌≡◌, ◌∙◌, ◌<◌, ◌≤◌, ◌∷◌, ◌++◌, [], List, codes, get_or, length, sym, ap, subst}
-use Rattle.table_rows.specs.Rows.{rows_text}
 use Rattle.table_rows.specs.Texts.{Text}
 use Rattle.preset_csv.specs.Written.{ReadsBack}
 use Rattle.preset_csv.specs.declared.entry.Entry.{Entry}
 use Rattle.preset_csv.proofs.BackWhole.{reads-back}
-use Rattle.preset_csv.proofs.WrittenParts.{begun, ended, one-more, preset-rows}
+use Rattle.preset_csv.proofs.WrittenParts.{begun, ended, one-more}
 use Rattle.preset_csv.proofs.writing.write_presets.Goals as goal
 
 pub loop-i-init : goal.loop-i-init
@@ -16,7 +15,7 @@ loop-i-preserved c =
     let lt : c.loop-i.i < length c.args.t.now.rows = subst (λ (es : List Entry). c.loop-i.i < length es) rows c.loop-i-test.true in
     let is = subst (λ (es : List Entry). c.index-rows-i.result ≡ get_or es c.loop-i.i c.index-rows-i.result) rows c.index-rows-i.is in
     one-more c.args.t.now c.loop-i.i c.preset_symbol.result.now c.index-rows-i.result _ _ c.rows-rows.ensures.kept.all lt c.preset_symbol.ensures.symbol is
-    (c.in_ok-put_entry.ensures ∙ ap (λ (rows : List (List Text)). c.loop-i.text.items ++ rows_text rows) (preset-rows c.preset_symbol.result.now c.index-rows-i.result)) c.loop-i.invariant
+    c.in_ok-put_entry.ensures c.loop-i.invariant
 
 pub returns-clause-text : goal.returns-clause-text
 returns-clause-text c =

@@ -1,10 +1,9 @@
-use Rattle.std.proofs.Common.{◌∙◌, ◌++◌, List, sym, ap, refl, subst}
-use Rattle.table_rows.specs.Rows.{rows_text}
+use Rattle.std.proofs.Common.{◌∙◌, sym, ap, refl, subst}
 use Rattle.table_rows.specs.Texts.{Text}
 use Rattle.preset_csv.specs.Written.{table_text}
 use Rattle.user_events.specs.Written.{ReadsBack}
 use Rattle.user_events.proofs.ExtendedBack.{reads-back}
-use Rattle.user_events.proofs.WrittenRows.{begun, ended, event-rows, one-more}
+use Rattle.user_events.proofs.WrittenRows.{begun, ended, one-more}
 use Rattle.user_events.proofs.writing.write_extended.Goals as goal
 
 pub loop-event-init : goal.loop-event-init
@@ -13,7 +12,7 @@ loop-event-init c = begun c.args.x.now.presets c.events-events.result.now c.in_o
 pub loop-event-preserved : goal.loop-event-preserved
 loop-event-preserved c =
     one-more c.args.x.now.presets c.events-events.result.now c.loop-event.event-index c.event-item.result c.loop-event.text.items _ _ c.loop-event-test.true c.event-item.is c.as_str.ensures.value
-    (c.in_ok-put_entry.ensures ∙ ap (λ (rows : List (List Text)). c.loop-event.text.items ++ rows_text rows) (event-rows c.as_str.result.now c.event-item.result.entry)) c.loop-event.invariant
+    c.in_ok-put_entry.ensures c.loop-event.invariant
 
 pub returns-clause-text : goal.returns-clause-text
 returns-clause-text c = ended c.args.x.now c.args.x.now.presets c.events-events.result.now c.loop-event.event-index _ refl c.events-events.ensures.events c.loop-event-test.false c.loop-event.invariant

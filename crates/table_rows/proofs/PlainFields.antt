@@ -8,9 +8,8 @@ use Rattle.csv.specs.declared.parser.Action.{Action}
 use Rattle.csv.specs.declared.parser.Action.TheVariants as act
 use Rattle.csv.specs.declared.parser.State.{State}
 use Rattle.csv.specs.declared.parser.State.TheVariants as st
-use Rattle.table_rows.specs.Rows.{IsInner, IsPlainField, rows_of, table_config}
+use Rattle.table_rows.specs.Rows.{IsInner, IsPlainField, IsReadRow, rows_of, table_config}
 use Rattle.table_rows.proofs.Texts.{all-append}
-use Rattle.preset_csv.specs.Steps.{IsReadRow}
 
 -- the states that a reader with no quotes has
 abbrev IsOpen : State → Type 0

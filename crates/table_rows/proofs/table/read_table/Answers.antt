@@ -1,0 +1,56 @@
+use Rattle.std.proofs.Common.{◌≡◌, ◌∷◌, [], map, ap, arith, length}
+use Rattle.csv.specs.Records.{fields_of}
+use Rattle.table_rows.specs.Rows.{rows_of}
+use Rattle.table_rows.proofs.PlainFields.{rows-plain}
+use Rattle.table_rows.proofs.TablesRead.{all-taken, none-taken, one-taken, refused}
+use Rattle.table_rows.proofs.table.read_table.Goals as goal
+
+pub loop-row-init : goal.loop-row-init
+loop-row-init g c =
+    let t = g.T.TableKind in
+    let rows = rows_of c.args.bytes.now in
+    record {
+      few = let n = ap length c.new-reader.ensures.all in omega (arith, n, c.new-reader.ensures.few);
+      plain = rw c.new-reader.ensures.all (rows-plain c.args.bytes.now);
+      taken = rw c.new-reader.ensures.all (none-taken (t.cause c.args.table.now) (t.gives c.args.table.now) (map t.line_of rows) c.in_ok-read.read c.in_ok-read.ensures);
+    }
+
+pub loop-row-preserved : goal.loop-row-preserved
+loop-row-preserved g c =
+    let t = g.T.TableKind in
+    let lines = map t.line_of (rows_of c.args.bytes.now) in
+    let inv = c.loop-row.invariant in
+    let fields = fields_of c.read_row.new.row in
+    let read : c.loop-row.reader ≡ fields ∷ c.read_row.new.self = rw c.if-branch.true at c.in_ok-read_row.ensures.next in
+    let taken = rw read at inv.taken in
+    let took = rw c.in-Ok.is at (c.take_row.ensures taken.above taken.given) in
+    record {
+      few = let n = ap length read in omega (arith, n, inv.few);
+      plain = (rw read at inv.plain).1;
+      taken = one-taken (t.cause c.args.table.now) (t.gives c.args.table.now) lines c.loop-row.place (t.line_of fields) (map t.line_of c.read_row.new.self) _ _ taken took.0 took.1;
+    }
+
+pub take_row-requires : goal.take_row-requires
+take_row-requires g c =
+    let t = g.T.TableKind in
+    let inv = c.loop-row.invariant in
+    let read : c.loop-row.reader ≡ fields_of c.read_row.new.row ∷ c.read_row.new.self = rw c.if-branch.true at c.in_ok-read_row.ensures.next in
+    record { plain = (rw read at inv.plain).0; given = (inv.taken.above, inv.taken.given) }
+
+pub returns-in-Err : goal.returns-in-Err
+returns-in-Err g c =
+    let t = g.T.TableKind in
+    let lines = map t.line_of (rows_of c.args.bytes.now) in
+    let inv = c.loop-row.invariant in
+    let fields = fields_of c.read_row.new.row in
+    let read : c.loop-row.reader ≡ fields ∷ c.read_row.new.self = rw c.if-branch.true at c.in_ok-read_row.ensures.next in
+    let taken = rw read at inv.taken in
+    let took = rw c.in-Err.is at (c.take_row.ensures taken.above taken.given) in
+    rw c.at.ensures (refused (t.cause c.args.table.now) (t.gives c.args.table.now) lines c.loop-row.place (t.line_of fields) (map t.line_of c.read_row.new.self) _ c.in-Err.refusal taken took)
+
+pub returns : goal.returns
+returns g c =
+    let t = g.T.TableKind in
+    let lines = map t.line_of (rows_of c.args.bytes.now) in
+    let none : (c.loop-row.reader ≡ []) × (c.read_row.new.self ≡ []) = rw c.if-branch.false at c.in_ok-read_row.ensures.next in
+    all-taken (t.cause c.args.table.now) (t.gives c.args.table.now) lines c.loop-row.place c.loop-row.read (rw none.0 at c.loop-row.invariant.taken)
