@@ -2,6 +2,7 @@
 use Rattle.std.specs.Prelude.{⊤, ◌≡◌, ◌<◌, ◌≤◌, ◌^◌, ◌&&◌, ℕ, Bool, true, false, List, [], ◌∷◌, length, IfSome}
 use Rattle.std.specs.List.{AllByRecursion}
 use Rattle.std.specs.Str.{bytes_eq}
+use Rattle.papi_base.specs.declared.limits.TheConstants.{LEAST_WIDTH, MOST_WIDTH}
 use Rattle.table_rows.specs.Texts.{Text, is_empty, is_name}
 use Rattle.event_tables.specs.Tables.{ComponentText, CounterText, EventText, MaskText, same_name}
 use Rattle.event_tables.specs.Lines.{Line, skipped, bad, component, counter, event, umask}
@@ -16,8 +17,8 @@ NoRepeats same (x ∷ xs) = AllByRecursion (λ y. same x y ≡ false) xs × NoRe
 -- a counter with a name, of 16 to 48 bits
 pub record IsCounter (k : CounterText) : Type 0 where
   pub named : is_name k.name ≡ true
-  pub narrow : 16 ≤ k.width
-  pub wide : k.width ≤ 48
+  pub narrow : LEAST_WIDTH ≤ k.width
+  pub wide : k.width ≤ MOST_WIDTH
 
 -- a umask with a name that is not a modifier's, and bits of one byte
 pub record IsMask (m : MaskText) : Type 0 where
@@ -58,7 +59,7 @@ pub record IsTables (tables : List ComponentText) : Type 0 where
 
 -- the widths of a counter
 abbrev pub IsWidth : ℕ → Type 0
-IsWidth w = (16 ≤ w) × (w ≤ 48)
+IsWidth w = (LEAST_WIDTH ≤ w) × (w ≤ MOST_WIDTH)
 
 -- what an EVENT row says: a name, a select code of one byte, and one counter or more
 pub record IsEventLine (name : Text) (select : ℕ) (names : List Text) : Type 0 where

@@ -3,8 +3,10 @@ use Rattle.std.specs.Prelude.{◌&&◌, ◌||◌, ◌==◌, ℕ, Bool, true, fal
 use Rattle.std.specs.Prelude.{if◌then◌else◌, nat_le, codes}
 use Rattle.std.specs.List.{filter, list_all, slice_split}
 use Rattle.std.specs.Str.{bytes_eq}
+use Rattle.papi_base.specs.declared.limits.TheConstants.{LEAST_WIDTH, MOST_WIDTH}
 use Rattle.table_rows.specs.Texts.{Text, decimal_in, hex_in, is_decimal, is_empty, is_name, is_printable, is_skipped, text_at}
 use Rattle.event_tables.specs.Tables.{MaskText}
+use Rattle.event_tables.specs.declared.limits.TheConstants.{LONGEST_DESCRIPTION}
 use Rattle.event_tables.specs.declared.row.Row.{Row}
 use Rattle.event_tables.specs.declared.row.Row.TheVariants as row
 use Rattle.event_tables.specs.declared.row.Flags.{Flags}
@@ -26,9 +28,9 @@ words_of t = filter (λ w. not (is_empty w)) (slice_split (λ b. b == 32) t)
 abbrev pub are_names : List Text → Bool
 are_names words = not (is_empty words) && list_all is_name words
 
--- 0 to 200 characters from a space to `~`
+-- 0 to LONGEST_DESCRIPTION characters from a space to `~`
 abbrev pub is_description : Text → Bool
-is_description t = is_printable t && nat_le (length t) 200
+is_description t = is_printable t && nat_le (length t) LONGEST_DESCRIPTION
 
 -- the flags of a umask: whether it is the default, and whether it excludes all others
 abbrev pub flags : Bool → Bool → Flags
@@ -51,7 +53,7 @@ component_line name pmu = if is_name name && is_name pmu then component name pmu
 abbrev pub counter_line : Text → Text → Text → Line
 counter_line name width kind =
     if is_name name && is_decimal width && (bytes_eq kind (codes "P") || bytes_eq kind (codes "F"))
-    then counter name (decimal_in 16 48 width) (bytes_eq kind (codes "F")) else bad
+    then counter name (decimal_in LEAST_WIDTH MOST_WIDTH width) (bytes_eq kind (codes "F")) else bad
 
 -- an EVENT row with these fields
 abbrev pub event_line : Text → Text → Text → Text → Line

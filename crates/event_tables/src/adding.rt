@@ -29,7 +29,8 @@ use table_rows::{ByteRecord, Refusal, TableKind};
 // A counter of this name as a bit, and 0 where there is none and where there is no name.
 fn counter_bit(counters: &[Counter], name: &[u8]) -> u32
     requires { length counters.now ≤ MOST_COUNTERS }
-    ensures { result ≡ (if is_empty name.now then 0 else Unit.place_bit (Unit.counter_place (map counter_text counters.now) name.now)) }
+    ensures { result ≡ (if is_empty name.now then 0
+        else Unit.place_bit (Unit.counter_place (map counter_text counters.now) name.now)) }
 {
     if name.is_empty() {
         return 0;
@@ -58,7 +59,14 @@ fn event_of(
     allowed: u32,
     text: &str,
 ) -> Result<EventRow, AllocError>
-    ensures { IfOk result (λ e. event_text e ≡ record { name = name.now; select = select; allowed = allowed; text = text.now; masks = [] }) }
+    ensures { IfOk result (λ e.
+        event_text e ≡ record {
+          name = name.now;
+          select = select;
+          allowed = allowed;
+          text = text.now;
+          masks = [];
+        }) }
 {
     Ok(EventRow {
         name: String::from_str(alloc, name)?,
@@ -96,7 +104,10 @@ fn add_counter(
     fixed: bool,
 ) -> Result<(), AllocError>
     requires { IsIndexed component.old }
-    ensures counter { OnOk result (component_text component.new ≡ Steps.with_counter (Unit.counter_row name.now width fixed) (component_text component.old)) }
+    ensures counter { OnOk result
+        (component_text component.new
+        ≡ Steps.with_counter (Unit.counter_row name.now width fixed)
+        (component_text component.old)) }
     ensures indexed { OnOk result (IsIndexed component.new) }
 {
     let name = String::from_str(alloc, name)?;
@@ -113,7 +124,9 @@ fn note_row(
     row: u32,
 ) -> Result<(), AllocError>
     ensures { OnOk result ((lower : Text)
-        → get_by_text rows.new lower ≡ update bytes_eq (get_by_text rows.old) (str_to_ascii_lowercase name.now) (Some row) lower) }
+        → get_by_text rows.new lower
+        ≡ update bytes_eq (get_by_text rows.old) (str_to_ascii_lowercase name.now)
+        (Some row) lower) }
 {
     let mut lower = String::from_str(alloc, name)?;
     lower.make_ascii_lowercase();
@@ -133,9 +146,11 @@ fn add_event(
     requires few_counters { vec_len component.old.counters ≤ MOST_COUNTERS }
     requires few_events { vec_len component.old.events ≤ MOST_EVENTS }
     requires indexed { IsIndexed component.old }
-    requires fresh { list_any (λ e. same_name e.name name.now) (map event_text component.old.events.items) ≡ false }
+    requires fresh { list_any
+        (λ e. same_name e.name name.now) (map event_text component.old.events.items) ≡ false }
     ensures event { OnOk result (component_text component.new ≡ Steps.with_event
-        (Unit.event_row (map counter_text component.old.counters.items) name.now select (words_of names.now) text.now []) (component_text component.old)) }
+        (Unit.event_row (map counter_text component.old.counters.items) name.now select
+        (words_of names.now) text.now []) (component_text component.old)) }
     ensures indexed { OnOk result (IsIndexed component.new) }
 {
     let row = component.events.len() as u32;
@@ -173,7 +188,9 @@ fn grow(alloc: Global, component: &mut Component, row: Row<'_>) -> Result<(), Al
     requires few_events { vec_len component.old.events ≤ MOST_EVENTS }
     requires indexed { IsIndexed component.old }
     requires owned { CanGrow (row_line row) (component_text component.old) }
-    ensures grown { OnOk result (component_text component.new ≡ Steps.grown (row_line row.entry) (component_text component.old)) }
+    ensures grown { OnOk result
+        (component_text component.new
+        ≡ Steps.grown (row_line row.entry) (component_text component.old)) }
     ensures indexed { OnOk result (IsIndexed component.new) }
 {
     match row {
@@ -198,7 +215,8 @@ fn grow(alloc: Global, component: &mut Component, row: Row<'_>) -> Result<(), Al
 
 #[tactic(auto, unfolding(crate::specs::Unit::counters_in, crate::specs::Unit::events_in))]
 fn component_of(alloc: Global, name: &str, pmu: &str) -> Result<Component, AllocError>
-    ensures component { IfOk result (λ c. component_text c ≡ Unit.component_of name.now pmu.now []) }
+    ensures component { IfOk result
+        (λ c. component_text c ≡ Unit.component_of name.now pmu.now []) }
     ensures indexed { IfOk result IsIndexed }
 {
     Ok(Component {
@@ -213,8 +231,11 @@ fn component_of(alloc: Global, name: &str, pmu: &str) -> Result<Component, Alloc
 // Adds a row with no cause below the others.
 fn put_row(alloc: Global, components: &mut Vec<Component>, row: Row<'_>) -> Result<(), AllocError>
     requires kept { AreKept components.old.items }
-    requires faultless { Unit.cause_in (map component_text components.old.items) (row_line row) ≡ None }
-    ensures put { OnOk result (map component_text components.new.items ≡ Steps.with_line (map component_text components.old.items) (row_line row.entry)) }
+    requires faultless { Unit.cause_in (map component_text components.old.items) (row_line row)
+        ≡ None }
+    ensures put { OnOk result
+        (map component_text components.new.items
+        ≡ Steps.with_line (map component_text components.old.items) (row_line row.entry)) }
     ensures indexed { OnOk result (AllByRecursion IsIndexed components.new.items) }
 {
     if let Row::Component { name, pmu } = row {
@@ -235,8 +256,10 @@ fn add_row(
 ) -> Result<(), Refusal<RowCause>>
     requires kept { AreKept components.old.items }
     requires line { IsLine (row_line row) }
-    ensures adds { TakesRow (Unit.cause_in (map component_text components.old.items) (row_line row.entry))
-        (map component_text components.new.items ≡ Steps.with_line (map component_text components.old.items) (row_line row.entry)) result }
+    ensures adds { TakesRow (Unit.cause_in (map component_text components.old.items)
+        (row_line row.entry))
+        (map component_text components.new.items
+        ≡ Steps.with_line (map component_text components.old.items) (row_line row.entry)) result }
     ensures indexed { OnOk result (AllByRecursion IsIndexed components.new.items) }
 {
     if let Some(cause) = cause_of(components.as_slice(), &row) {

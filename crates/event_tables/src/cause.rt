@@ -25,7 +25,9 @@ fn same_name(a: &str, b: &str) -> bool
 
 // Whether a component has this name or this pmu.
 fn has_component(above: &[Component], name: &str, pmu: &str) -> bool
-    ensures { result ≡ list_any (λ c. Tables.same_name c.name name.now || Tables.same_name c.pmu pmu.now) (map component_text above.now) }
+    ensures { result ≡ list_any
+        (λ c. Tables.same_name c.name name.now || Tables.same_name c.pmu pmu.now)
+        (map component_text above.now) }
 {
     above.iter().any(|c| same_name(c.name.as_str(), name) || same_name(c.pmu.as_str(), pmu))
 }
@@ -46,7 +48,8 @@ fn has_counter(above: &[Counter], name: &str) -> bool
 fn has_event(above: &Component, name: &str) -> bool
     requires indexed { IsIndexed above.now }
     requires named { is_name name.now ≡ true }
-    ensures { result ≡ list_any (λ e. Tables.same_name e.name name.now) (map event_text above.now.events.items) }
+    ensures { result ≡ list_any
+        (λ e. Tables.same_name e.name name.now) (map event_text above.now.events.items) }
 {
     let lower = LowerName::of_name(name);
     above.rows.contains_key(lower.as_str())
@@ -77,7 +80,8 @@ fn is_modifier(name: &str) -> bool
 
 // Whether the component has all of these counters.
 fn knows_all(counters: &[Counter], names: &[u8]) -> bool
-    ensures { result ≡ list_all (λ n. is_some (Unit.counter_place (map counter_text counters.now) n)) (words_of names.now) }
+    ensures { result ≡ list_all
+        (λ n. is_some (Unit.counter_place (map counter_text counters.now) n)) (words_of names.now) }
 {
     names.split(|&b| b == b' ').all(|name| name.is_empty()
         || counter_place(counters, name).is_some())
@@ -113,7 +117,8 @@ fn counter_cause(above: &[Counter], name: &str, width: Option<u8>) -> Option<Row
 fn event_cause(above: &Component, name: &str, counters: &[u8]) -> Option<RowCause>
     requires indexed { IsIndexed above.now }
     requires named { is_name name.now ≡ true }
-    ensures { result ≡ Unit.event_cause (component_text above.now) name.now (words_of counters.now) }
+    ensures { result ≡ Unit.event_cause (component_text above.now) name.now
+        (words_of counters.now) }
 {
     if above.events.len() >= MOST_EVENTS {
         return Some(RowCause::OverLimit);

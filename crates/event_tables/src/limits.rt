@@ -11,3 +11,6 @@ pub const MOST_EVENTS: usize = 1024;
 
 /// The umasks of an event.
 pub const MOST_UMASKS: usize = 16;
+
+/// How many characters a description has at most.
+pub const LONGEST_DESCRIPTION: usize = 200;

@@ -6,14 +6,14 @@ ghost use Rattle.table_rows.specs.Texts.{is_name};
 
 use arrayvec::ArrayString;
 use std::marker::Model;
-use table_rows::name_text;
+use table_rows::{LONGEST_NAME, name_text};
 
 /// A name in lower case, by which the tables find an event without regard to ASCII case.
 ///
 /// Contracts see its text.
 #[derive(Drop)]
 pub struct LowerName {
-    text: ArrayString<64>,
+    text: ArrayString<LONGEST_NAME>,
 }
 
 impl Model for LowerName {
@@ -27,7 +27,8 @@ impl Model for LowerName {
 impl LowerName {
     /// Bytes that are a name in lower case, and `None` where they are not one.
     pub fn of(bytes: &[u8]) -> Option<LowerName>
-        ensures { result ≡ (if is_name bytes.now then Some (str_to_ascii_lowercase bytes.now) else None) }
+        ensures { result ≡ (if is_name bytes.now then Some (str_to_ascii_lowercase bytes.now)
+            else None) }
     {
         match name_text(bytes) {
             Some(name) => Some(LowerName::of_name(name)),

@@ -4,10 +4,13 @@ ghost use Rattle.std.specs.Prelude.{◌≡◌, ◌&&◌, ◌==◌, not, true, fa
 ghost use Rattle.std.specs.Str.{bytes_eq};
 ghost use Rattle.std.specs.List.{list_all};
 ghost use Rattle.csv.specs.Records.{fields_of};
+ghost use Rattle.papi_base.specs.declared.limits.TheConstants.{LEAST_WIDTH, MOST_WIDTH};
 ghost use Rattle.table_rows.specs.Texts as Texts;
 ghost use Rattle.event_tables.specs.Lines as Lines;
 ghost use Rattle.event_tables.specs.Lines.{line_of, row_line, words_of};
 
+use crate::limits::LONGEST_DESCRIPTION;
+use papi_base::{LEAST_WIDTH, MOST_WIDTH};
 use table_rows::{
     ByteRecord, decimal_in, hex_in, is_decimal, is_name, is_skipped, name_text, printable_text,
     text_at,
@@ -72,9 +75,10 @@ fn are_names(bytes: &[u8]) -> bool
 
 // The text of bytes that are a description.
 fn description(bytes: &[u8]) -> Option<&str>
-    ensures { option_map (λ s. s.now) result ≡ (if Lines.is_description bytes.now then Some bytes.now else None) }
+    ensures { option_map (λ s. s.now) result
+        ≡ (if Lines.is_description bytes.now then Some bytes.now else None) }
 {
-    if bytes.len() <= 200 {
+    if bytes.len() <= LONGEST_DESCRIPTION {
         printable_text(bytes)
     } else {
         None
@@ -93,9 +97,9 @@ fn byte_of(bytes: &[u8]) -> Option<u8>
 
 // The width that a decimal number says, where it is in its range.
 fn width_of(bytes: &[u8]) -> Option<u8>
-    ensures { result ≡ Texts.decimal_in 16 48 bytes.now }
+    ensures { result ≡ Texts.decimal_in LEAST_WIDTH MOST_WIDTH bytes.now }
 {
-    match decimal_in(16, 48, bytes) {
+    match decimal_in(LEAST_WIDTH as u64, MOST_WIDTH as u64, bytes) {
         Some(n) => Some(n as u8),
         None => None,
     }
@@ -136,7 +140,8 @@ fn component_row<'r>(name: &'r [u8], pmu: &'r [u8]) -> Row<'r>
 
 // Whether a kind of counter is the fixed one, where it is a kind: `F` or `P`.
 fn fixed_of(kind: &[u8]) -> Option<bool>
-    ensures { result ≡ (if bytes_eq kind.now (codes "F") then Some true else if bytes_eq kind.now (codes "P") then Some false else None) }
+    ensures { result ≡ (if bytes_eq kind.now (codes "F") then Some true
+        else if bytes_eq kind.now (codes "P") then Some false else None) }
 {
     if kind == b"F".as_slice() {
         Some(true)
@@ -214,7 +219,8 @@ fn umask_row<'r>(name: &'r [u8], bits: &[u8], letters: &[u8], text: &'r [u8]) ->
 
 // Whether a record begins with this word and has as many fields.
 fn has_form(row: &ByteRecord, word: &[u8], fields: usize) -> bool
-    ensures { result ≡ (bytes_eq (Texts.text_at (fields_of row.now) 0) word.now && (length (fields_of row.now) == fields)) }
+    ensures { result ≡ (bytes_eq (Texts.text_at (fields_of row.now) 0) word.now
+        && (length (fields_of row.now) == fields)) }
 {
     row.len() == fields && text_at(row, 0) == word
 }

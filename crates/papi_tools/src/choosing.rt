@@ -47,9 +47,11 @@ pub fn choose_events<F: Files>(
     files: &mut F,
     words: &ChooserWords,
 ) -> Result<Said, Stop>
-    ensures told { IfSome (F.held files.old) (λ held. Answers result (chooser_verdict held words.now)) }
+    ensures told { IfSome (F.held files.old)
+        (λ held. Answers result (chooser_verdict held words.now)) }
     ensures textual { IfOk result (λ said. IsTextual said.outcome) }
-    ensures looked { Looked result 0 (files_seen F.held F.misses F.faults F.lent files.old) (files_seen F.held F.misses F.faults F.lent files.new) }
+    ensures looked { Looked result 0 (files_seen F.held F.misses F.faults F.lent files.old)
+        (files_seen F.held F.misses F.faults F.lent files.new) }
 {
     let catalog = read_catalog(alloc, files, &words.unit, &words.presets)?;
     let said = said_of(alloc, &catalog, words.kind, words.events.as_slice())?;

@@ -56,10 +56,12 @@ pub fn decode_presets<F: Files>(
     files: &mut F,
     words: &DecodeWords,
 ) -> Result<Said, Stop>
-    ensures told { IfSome (F.held files.old) (λ held. Answers result (decode_verdict held words.now)) }
+    ensures told { IfSome (F.held files.old)
+        (λ held. Answers result (decode_verdict held words.now)) }
     ensures textual { IfOk result (λ said. IsTextual said.outcome) }
     ensures yes { IfOk result (λ said. said.outcome ≢ outcome.No) }
-    ensures looked { Looked result 0 (files_seen F.held F.misses F.faults F.lent files.old) (files_seen F.held F.misses F.faults F.lent files.new) }
+    ensures looked { Looked result 0 (files_seen F.held F.misses F.faults F.lent files.old)
+        (files_seen F.held F.misses F.faults F.lent files.new) }
 {
     let tables = read_unit_file(alloc, files, words.unit.as_str())?;
     let bytes = read_preset_bytes(alloc, files, &words.presets)?;

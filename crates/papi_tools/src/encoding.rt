@@ -62,9 +62,11 @@ pub fn encode_names<F: Files>(
     files: &mut F,
     words: &EncodeWords,
 ) -> Result<Said, Stop>
-    ensures told { IfSome (F.held files.old) (λ held. Answers result (encode_verdict held words.now)) }
+    ensures told { IfSome (F.held files.old)
+        (λ held. Answers result (encode_verdict held words.now)) }
     ensures textual { IfOk result (λ said. IsTextual said.outcome) }
-    ensures looked { Looked result 0 (files_seen F.held F.misses F.faults F.lent files.old) (files_seen F.held F.misses F.faults F.lent files.new) }
+    ensures looked { Looked result 0 (files_seen F.held F.misses F.faults F.lent files.old)
+        (files_seen F.held F.misses F.faults F.lent files.new) }
 {
     let tables = read_unit_file(alloc, files, words.unit.as_str())?;
     let said = said_of(alloc, &tables, words.names.as_slice())?;

@@ -37,7 +37,8 @@ pub fn map_in(alloc: Global, name: &str, bytes: &[u8]) -> Result<Map, Stop>
 pub fn read_map_file<F: Files>(alloc: Global, files: &mut F, name: &str) -> Result<Map, Stop>
     ensures told { IfSome (F.held files.old) (λ held. Answers result (map_under held name.now)) }
     ensures held { F.held files.new ≡ option_map opened (F.held files.old) }
-    ensures looked { Looked result 0 (files_seen F.held F.misses F.faults F.lent files.old) (files_seen F.held F.misses F.faults F.lent files.new) }
+    ensures looked { Looked result 0 (files_seen F.held F.misses F.faults F.lent files.old)
+        (files_seen F.held F.misses F.faults F.lent files.new) }
 {
     let bytes = whole_file(alloc, files, name, TABLE_BYTES)?;
     map_in(alloc, name, bytes.as_slice())

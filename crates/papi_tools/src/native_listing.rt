@@ -53,10 +53,12 @@ pub fn list_natives<F: Files>(
     files: &mut F,
     words: &NativeAvailWords,
 ) -> Result<Said, Stop>
-    ensures told { IfSome (F.held files.old) (λ held. Answers result (native_avail_verdict held words.now)) }
+    ensures told { IfSome (F.held files.old)
+        (λ held. Answers result (native_avail_verdict held words.now)) }
     ensures textual { IfOk result (λ said. IsTextual said.outcome) }
     ensures no { IfOk result (λ said. said.outcome ≡ outcome.No → IsSome words.now.event) }
-    ensures looked { Looked result 0 (files_seen F.held F.misses F.faults F.lent files.old) (files_seen F.held F.misses F.faults F.lent files.new) }
+    ensures looked { Looked result 0 (files_seen F.held F.misses F.faults F.lent files.old)
+        (files_seen F.held F.misses F.faults F.lent files.new) }
 {
     let tables = read_unit_file(alloc, files, words.unit.as_str())?;
     let said = said_of(alloc, &tables, words)?;

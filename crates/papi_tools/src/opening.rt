@@ -13,11 +13,13 @@ use std::alloc::Global;
 
 /// Opens a file, or says why not. The source has no faults.
 pub fn open_named<F: Files>(alloc: Global, files: &mut F, name: &str) -> Result<F::S, Stop>
-    ensures told { IfSome (F.held files.old) (λ held. AnswersBy (IsTold F.S.tape) result (tape_under held name.now)) }
+    ensures told { IfSome (F.held files.old)
+        (λ held. AnswersBy (IsTold F.S.tape) result (tape_under held name.now)) }
     ensures fresh { IfOk result (λ source. F.S.faults source ≡ 0) }
     ensures held { F.held files.new ≡ option_map opened (F.held files.old) }
     ensures looked { Looked result (out_with (λ _. 1) result)
-        (files_seen F.held F.misses F.faults F.lent files.old) (files_seen F.held F.misses F.faults F.lent files.new) }
+        (files_seen F.held F.misses F.faults F.lent files.old)
+        (files_seen F.held F.misses F.faults F.lent files.new) }
 {
     let answer = files.open_source(name);
     match answer {
@@ -40,10 +42,12 @@ pub fn whole_file<F: Files>(
     name: &str,
     limit: usize,
 ) -> Result<Bytes, Stop>
-    ensures told { IfSome (F.held files.old) (λ held. Answers result (file_bytes limit held name.now)) }
+    ensures told { IfSome (F.held files.old)
+        (λ held. Answers result (file_bytes limit held name.now)) }
     ensures small { IfOk result (λ bytes. length bytes ≤ limit) }
     ensures held { F.held files.new ≡ option_map opened (F.held files.old) }
-    ensures looked { Looked result 0 (files_seen F.held F.misses F.faults F.lent files.old) (files_seen F.held F.misses F.faults F.lent files.new) }
+    ensures looked { Looked result 0 (files_seen F.held F.misses F.faults F.lent files.old)
+        (files_seen F.held F.misses F.faults F.lent files.new) }
 {
     let mut source = open_named(alloc, files, name)?;
     let answer = read_whole(alloc, &mut source, limit);

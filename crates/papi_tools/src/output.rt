@@ -41,11 +41,16 @@ fn write_both<K: Sink>(
     shown: &[Note],
     out: &mut K,
 ) -> Result<(), WriteFail>
-    ensures ok { OnOk result (K.taken out.new ≡ appended (K.taken out.old) (reply_text catalog.now lines.now ++ notes_text shown.now)) }
-    ensures part { OnErr result ((k : ℕ) × (k ≤ length (reply_text catalog.now lines.now ++ notes_text shown.now))
-        × (K.taken out.new ≡ appended (K.taken out.old) (take k (reply_text catalog.now lines.now ++ notes_text shown.now)))) }
+    ensures ok { OnOk result
+        (K.taken out.new ≡ appended (K.taken out.old)
+        (reply_text catalog.now lines.now ++ notes_text shown.now)) }
+    ensures part { OnErr result
+        ((k : ℕ) × (k ≤ length (reply_text catalog.now lines.now ++ notes_text shown.now))
+        × (K.taken out.new ≡ appended (K.taken out.old)
+        (take k (reply_text catalog.now lines.now ++ notes_text shown.now)))) }
     ensures failed { IsErrOf result WriteFail.Failed → Rose (K.faults out.old) (K.faults out.new) }
-    ensures once { IsErrOf result WriteFail.Failed → K.faults out.new ≡ next_count (K.faults out.old) }
+    ensures once { IsErrOf result WriteFail.Failed
+        → K.faults out.new ≡ next_count (K.faults out.old) }
     ensures quiet { OnOk result (K.faults out.new ≡ K.faults out.old) }
     ensures memory { IsErrOf result WriteFail.Memory → K.faults out.new ≡ K.faults out.old }
     ensures falls_never { K.faults out.old ≤ K.faults out.new }
@@ -77,9 +82,13 @@ impl Output {
     /// Writes all of it in order. After an error a prefix of it is written.
     pub fn write<K: Sink>(&self, alloc: Global, out: &mut K) -> Result<(), WriteFail>
         ensures ok { OnOk result (K.taken out.new ≡ appended (K.taken out.old) self.now) }
-        ensures part { OnErr result ((k : ℕ) × (k ≤ length self.now) × (K.taken out.new ≡ appended (K.taken out.old) (take k self.now))) }
-        ensures failed { IsErrOf result WriteFail.Failed → Rose (K.faults out.old) (K.faults out.new) }
-        ensures once { IsErrOf result WriteFail.Failed → K.faults out.new ≡ next_count (K.faults out.old) }
+        ensures part { OnErr result
+            ((k : ℕ) × (k ≤ length self.now)
+            × (K.taken out.new ≡ appended (K.taken out.old) (take k self.now))) }
+        ensures failed { IsErrOf result WriteFail.Failed
+            → Rose (K.faults out.old) (K.faults out.new) }
+        ensures once { IsErrOf result WriteFail.Failed
+            → K.faults out.new ≡ next_count (K.faults out.old) }
         ensures quiet { OnOk result (K.faults out.new ≡ K.faults out.old) }
         ensures memory { IsErrOf result WriteFail.Memory → K.faults out.new ≡ K.faults out.old }
         ensures falls_never { K.faults out.old ≤ K.faults out.new }

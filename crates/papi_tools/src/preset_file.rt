@@ -42,9 +42,11 @@ pub fn read_preset_bytes<F: Files>(
     files: &mut F,
     words: &PresetWords,
 ) -> Result<Bytes, Stop>
-    ensures told { IfSome (F.held files.old) (λ held. Answers result (file_bytes TABLE_BYTES held words.now.file)) }
+    ensures told { IfSome (F.held files.old)
+        (λ held. Answers result (file_bytes TABLE_BYTES held words.now.file)) }
     ensures held { F.held files.new ≡ option_map opened (F.held files.old) }
-    ensures looked { Looked result 0 (files_seen F.held F.misses F.faults F.lent files.old) (files_seen F.held F.misses F.faults F.lent files.new) }
+    ensures looked { Looked result 0 (files_seen F.held F.misses F.faults F.lent files.old)
+        (files_seen F.held F.misses F.faults F.lent files.new) }
 {
     whole_file(alloc, files, words.file.as_str(), TABLE_BYTES)
 }
@@ -56,9 +58,11 @@ pub fn read_preset_file<F: Files>(
     files: &mut F,
     words: &PresetWords,
 ) -> Result<Extended, Stop>
-    ensures told { IfSome (F.held files.old) (λ held. Answers result (presets_under held words.now)) }
+    ensures told { IfSome (F.held files.old)
+        (λ held. Answers result (presets_under held words.now)) }
     ensures held { F.held files.new ≡ option_map opened (F.held files.old) }
-    ensures looked { Looked result 0 (files_seen F.held F.misses F.faults F.lent files.old) (files_seen F.held F.misses F.faults F.lent files.new) }
+    ensures looked { Looked result 0 (files_seen F.held F.misses F.faults F.lent files.old)
+        (files_seen F.held F.misses F.faults F.lent files.new) }
 {
     let bytes = read_preset_bytes(alloc, files, words)?;
     presets_in(alloc, words, bytes.as_slice())
@@ -70,9 +74,11 @@ pub fn read_presets_asked<F: Files>(
     files: &mut F,
     words: &Option<PresetWords>,
 ) -> Result<Option<Extended>, Stop>
-    ensures told { IfSome (F.held files.old) (λ held. Answers result (PresetFile.presets_asked held words.now)) }
+    ensures told { IfSome (F.held files.old)
+        (λ held. Answers result (PresetFile.presets_asked held words.now)) }
     ensures held { F.held files.new ≡ option_map (after_presets words.now) (F.held files.old) }
-    ensures looked { Looked result 0 (files_seen F.held F.misses F.faults F.lent files.old) (files_seen F.held F.misses F.faults F.lent files.new) }
+    ensures looked { Looked result 0 (files_seen F.held F.misses F.faults F.lent files.old)
+        (files_seen F.held F.misses F.faults F.lent files.new) }
 {
     match words {
         Some(words) => {

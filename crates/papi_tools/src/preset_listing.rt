@@ -46,10 +46,12 @@ pub fn list_presets<F: Files>(
     files: &mut F,
     words: &AvailWords,
 ) -> Result<Said, Stop>
-    ensures told { IfSome (F.held files.old) (λ held. Answers result (avail_verdict held words.now)) }
+    ensures told { IfSome (F.held files.old)
+        (λ held. Answers result (avail_verdict held words.now)) }
     ensures textual { IfOk result (λ said. IsTextual said.outcome) }
     ensures no { IfOk result (λ said. said.outcome ≡ outcome.No → IsSome words.now.event) }
-    ensures looked { Looked result 0 (files_seen F.held F.misses F.faults F.lent files.old) (files_seen F.held F.misses F.faults F.lent files.new) }
+    ensures looked { Looked result 0 (files_seen F.held F.misses F.faults F.lent files.old)
+        (files_seen F.held F.misses F.faults F.lent files.new) }
 {
     let catalog = read_preset_catalog(alloc, files, &words.unit, &words.presets)?;
     let said = said_of(alloc, &catalog, words.available, &words.event)?;

@@ -62,7 +62,8 @@ fn add_note(hist: &mut Hist, note: &Note, set: u32, index: u32)
     requires { hist.old.total < 2 ^ 63 }
     ensures map { hist.new.map ≡ hist.old.map }
     ensures total { hist.new.total ≤ hist.old.total + 1 }
-    ensures counts { (pcs : List ℕ) → IsHistogram hist.old pcs → IsHistogram hist.new (pcs ++ counted_in set index (note.now ∷ [])) }
+    ensures counts { (pcs : List ℕ) → IsHistogram hist.old pcs
+        → IsHistogram hist.new (pcs ++ counted_in set index (note.now ∷ [])) }
 {
     if is_counted(note, set, index) {
         hist.add(note.pc);
@@ -79,7 +80,8 @@ fn add_notes(
 ) -> Result<(), AllocError>
     requires empty { IsHistogram hist.old [] }
     ensures map { hist.new.map ≡ hist.old.map }
-    ensures counts { OnOk result (IsHistogram hist.new (counted_in set index (drop from (notes handler.now)))) }
+    ensures counts { OnOk result
+        (IsHistogram hist.new (counted_in set index (drop from (notes handler.now)))) }
 {
     let after = count_of(handler);
     if after.saturating_sub(from) >= TOO_MANY {
@@ -104,7 +106,8 @@ fn hist_of(
     requires { length noted.now ≡ vec_len handlers.now }
     ensures map { IfOk result (λ hist. hist.map ≡ ranges) }
     ensures counts { IfOk result (λ hist. IsHistogram hist (counted_in words.now.set words.now.index
-        (drop (slice_index_or noted.now words.now.thread 0) (slice_index_or (map (λ b. notes b) handlers.now.items) words.now.thread [])))) }
+        (drop (slice_index_or noted.now words.now.thread 0)
+        (slice_index_or (map (λ b. notes b) handlers.now.items) words.now.thread [])))) }
 {
     let mut hist = Hist::new(alloc, ranges)?;
     let thread = words.thread as usize;
@@ -129,8 +132,10 @@ fn said_of(
     handlers: &Vec<Box<dyn Handler + Send>>,
 ) -> Result<Said, Stop>
     requires { vec_len ran.now.noted ≡ vec_len handlers.now }
-    ensures said { Answers result (Ok (profile_said ranges ran.now.marks (counted_in words.now.set words.now.index
-        (drop (slice_index_or ran.now.noted.items words.now.thread 0) (slice_index_or (map (λ b. notes b) handlers.now.items) words.now.thread []))))) }
+    ensures said { Answers result
+        (Ok (profile_said ranges ran.now.marks (counted_in words.now.set words.now.index
+        (drop (slice_index_or ran.now.noted.items words.now.thread 0)
+        (slice_index_or (map (λ b. notes b) handlers.now.items) words.now.thread []))))) }
     ensures cause { (before after : FilesSeen) → StopsByFile result before after }
 {
     let hist = hist_of(alloc, ranges, words, ran.noted.as_slice(), handlers)?;
@@ -162,11 +167,14 @@ fn open_input<F: Files>(
     words: &ProfilWords,
 ) -> Result<ProfilInput<F::S>, Stop>
     ensures told { IfSome (F.held files.old) (λ held.
-        AnswersBy (λ input given. IsOkAnd given (IsProfiled input.map input.catalog input.script input.readers.items)) result (profiled_under held words.now)) }
+        AnswersBy (λ input given.
+        IsOkAnd given (IsProfiled input.map input.catalog input.script input.readers.items)) result
+        (profiled_under held words.now)) }
     ensures len { IfOk result (λ input. vec_len input.readers ≡ THREADS) }
     ensures fresh { IfOk result (λ input. All IsFresh input.readers.items) }
     ensures looked { Looked result (out_with (λ input. sources_in input.readers.items) result)
-        (files_seen F.held F.misses F.faults F.lent files.old) (files_seen F.held F.misses F.faults F.lent files.new) }
+        (files_seen F.held F.misses F.faults F.lent files.old)
+        (files_seen F.held F.misses F.faults F.lent files.new) }
 {
     let catalog = read_catalog(alloc, files, &words.unit, &words.presets)?;
     let map = read_map_file(alloc, files, words.map.as_str())?;
@@ -193,13 +201,18 @@ fn carry_out<R: Threads + Sync, F: Files>(
     requires fresh { All IsFresh input.readers.items }
     requires handlers { vec_len handlers.old ≡ THREADS }
     ensures len { vec_len handlers.new ≡ THREADS }
-    ensures told { (given : Profiled) → IsProfiled input.map input.catalog input.script input.readers.items given
+    ensures told { (given : Profiled)
+        → IsProfiled input.map input.catalog input.script input.readers.items given
         → AnswersSaid result (Ok (profiled_verdict words.now given)) }
-    ensures tells { (given : Profiled) → IsProfiled input.map input.catalog input.script input.readers.items given
-        → TellsBy result (profiled_verdict words.now given).notes (map (λ b. notes b) handlers.old.items) (map (λ b. notes b) handlers.new.items) }
-    ensures grown { EachGrown (map (λ b. notes b) handlers.old.items) (map (λ b. notes b) handlers.new.items) }
+    ensures tells { (given : Profiled)
+        → IsProfiled input.map input.catalog input.script input.readers.items given
+        → TellsBy result (profiled_verdict words.now given).notes
+        (map (λ b. notes b) handlers.old.items) (map (λ b. notes b) handlers.new.items) }
+    ensures grown { EachGrown (map (λ b. notes b) handlers.old.items)
+        (map (λ b. notes b) handlers.new.items) }
     ensures met { IfOk result (λ said. MetCause said.outcome
-        (files_seen F.held F.misses F.faults F.lent files.old) (files_seen F.held F.misses F.faults F.lent files.new) said) }
+        (files_seen F.held F.misses F.faults F.lent files.old)
+        (files_seen F.held F.misses F.faults F.lent files.new) said) }
     ensures yes { IfOk result (λ said. said.outcome ≢ outcome.No) }
     ensures cause { (before after : FilesSeen) → StopsByFile result before after }
     ensures lent { F.lent files.new ≡ F.lent files.old - sources_in input.readers.items }
@@ -240,14 +253,19 @@ pub fn profile<R: Threads + Sync, F: Files>(
 ) -> Result<Said, Stop>
     requires handlers { vec_len handlers.old ≡ THREADS }
     ensures len { vec_len handlers.new ≡ THREADS }
-    ensures told { IfSome (F.held files.old) (λ held. AnswersSaid result (profil_verdict held words.now)) }
-    ensures tells { IfSome (F.held files.old) (λ held. TellsBy result (notes_in (profil_verdict held words.now))
+    ensures told { IfSome (F.held files.old)
+        (λ held. AnswersSaid result (profil_verdict held words.now)) }
+    ensures tells { IfSome (F.held files.old)
+        (λ held. TellsBy result (notes_in (profil_verdict held words.now))
         (map (λ b. notes b) handlers.old.items) (map (λ b. notes b) handlers.new.items)) }
-    ensures grown { EachGrown (map (λ b. notes b) handlers.old.items) (map (λ b. notes b) handlers.new.items) }
+    ensures grown { EachGrown (map (λ b. notes b) handlers.old.items)
+        (map (λ b. notes b) handlers.new.items) }
     ensures met { IfOk result (λ said. MetCause said.outcome
-        (files_seen F.held F.misses F.faults F.lent files.old) (files_seen F.held F.misses F.faults F.lent files.new) said) }
+        (files_seen F.held F.misses F.faults F.lent files.old)
+        (files_seen F.held F.misses F.faults F.lent files.new) said) }
     ensures yes { IfOk result (λ said. said.outcome ≢ outcome.No) }
-    ensures looked { Looked result 0 (files_seen F.held F.misses F.faults F.lent files.old) (files_seen F.held F.misses F.faults F.lent files.new) }
+    ensures looked { Looked result 0 (files_seen F.held F.misses F.faults F.lent files.old)
+        (files_seen F.held F.misses F.faults F.lent files.new) }
 {
     match open_input(alloc, files, words) {
         Ok(input) => carry_out(rt, alloc, files, words, input, handlers),

@@ -118,7 +118,8 @@ fn numbered(
     number: u64,
     words: &str,
 ) -> Result<String, AllocError>
-    ensures { IfOk result (λ line. string_bytes line ≡ numbered_line name.now place.now number words.now) }
+    ensures { IfOk result (λ line.
+        string_bytes line ≡ numbered_line name.now place.now number words.now) }
 {
     format!(in alloc; "papi: {name}: {place} {number}: {words}\n")
 }

@@ -39,10 +39,12 @@ pub fn regions_in(alloc: Global, name: &str, bytes: &[u8]) -> Result<Regions, St
 /// Reads a region script whole, or says why not.
 #[tactic(auto, unfolding(crate::specs::RegionFile::regions_under))]
 pub fn read_region_file<F: Files>(alloc: Global, files: &mut F, name: &str) -> Result<Regions, Stop>
-    ensures told { IfSome (F.held files.old) (λ held. Answers result (regions_under held name.now)) }
+    ensures told { IfSome (F.held files.old)
+        (λ held. Answers result (regions_under held name.now)) }
     ensures begun { IfOk result (λ regions. AreBegun regions) }
     ensures held { F.held files.new ≡ option_map opened (F.held files.old) }
-    ensures looked { Looked result 0 (files_seen F.held F.misses F.faults F.lent files.old) (files_seen F.held F.misses F.faults F.lent files.new) }
+    ensures looked { Looked result 0 (files_seen F.held F.misses F.faults F.lent files.old)
+        (files_seen F.held F.misses F.faults F.lent files.new) }
 {
     let bytes = whole_file(alloc, files, name, SCRIPT_BYTES)?;
     regions_in(alloc, name, bytes.as_slice())

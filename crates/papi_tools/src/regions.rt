@@ -42,7 +42,8 @@ use tool_words::RegionsWords;
 
 // Appends the values that a reply shows, where it shows some.
 fn push_reading(readings: &mut Vec<Reading>, line: &ReplyLine) -> Result<(), AllocError>
-    ensures { OnOk result (reading_values readings.new.items ≡ reading_values readings.old.items ++ readings_in (line.now ∷ [])) }
+    ensures { OnOk result (reading_values readings.new.items ≡ reading_values readings.old.items
+        ++ readings_in (line.now ∷ [])) }
 {
     if let Body::Values(values) = &line.reply.body {
         readings.push(Reading {
@@ -68,7 +69,8 @@ fn readings_of(alloc: Global, lines: &[ReplyLine]) -> Result<Vec<Reading>, Alloc
 fn said_of(alloc: Global, regions: &Regions, events: &[Text], ran: &Ran) -> Result<Said, Stop>
     requires { length events.now ≤ MOST_SET_EVENTS }
     ensures said { Answers result (Ok (marked_said ran.now.marks
-        (report_text (length events.now) (spans_from (readings_in ran.now.lines.items) 0 regions.now)))) }
+        (report_text (length events.now)
+        (spans_from (readings_in ran.now.lines.items) 0 regions.now)))) }
     ensures fit { IfOk result (λ _. AllFit (readings_in ran.now.lines.items)) }
     ensures cause { (before after : FilesSeen) → StopsByFile result before after }
 {
@@ -108,8 +110,10 @@ fn count<R: Threads + Sync, S: Source + Send>(
     requires readers { vec_len readers.old ≡ THREADS }
     requires fresh { All IsFresh readers.old.items }
     requires begun { AreBegun regions.now }
-    ensures told { (given : Counted) → IsCounted catalog.now regions.now readers.old.items given → Answers result (Ok (regions_said words.now.events given)) }
-    ensures met { (before after : FilesSeen) → (SomeFailed readers.new.items → Rose before.faults after.faults)
+    ensures told { (given : Counted) → IsCounted catalog.now regions.now readers.old.items given
+        → Answers result (Ok (regions_said words.now.events given)) }
+    ensures met { (before after : FilesSeen)
+        → (SomeFailed readers.new.items → Rose before.faults after.faults)
         → IfOk result (λ said. MetCause said.outcome before after said) }
     ensures cause { (before after : FilesSeen) → StopsByFile result before after }
     ensures sources { sources_in readers.new.items ≡ sources_in readers.old.items }
@@ -162,12 +166,15 @@ fn open_input<F: Files>(
     words: &RegionsWords,
 ) -> Result<RegionsInput<F::S>, Stop>
     ensures told { IfSome (F.held files.old) (λ held.
-        AnswersBy (λ input given. IsOkAnd given (IsCounted input.catalog input.regions input.readers.items)) result (counted_under held words.now)) }
+        AnswersBy (λ input given.
+        IsOkAnd given (IsCounted input.catalog input.regions input.readers.items)) result
+        (counted_under held words.now)) }
     ensures begun { IfOk result (λ input. AreBegun input.regions) }
     ensures len { IfOk result (λ input. vec_len input.readers ≡ THREADS) }
     ensures fresh { IfOk result (λ input. All IsFresh input.readers.items) }
     ensures looked { Looked result (out_with (λ input. sources_in input.readers.items) result)
-        (files_seen F.held F.misses F.faults F.lent files.old) (files_seen F.held F.misses F.faults F.lent files.new) }
+        (files_seen F.held F.misses F.faults F.lent files.old)
+        (files_seen F.held F.misses F.faults F.lent files.new) }
 {
     let catalog = read_catalog(alloc, files, &words.unit, &words.presets)?;
     let regions = read_region_file(alloc, files, words.script.as_str())?;
@@ -190,10 +197,12 @@ fn carry_out<R: Threads + Sync, F: Files>(
     requires readers { vec_len input.readers ≡ THREADS }
     requires fresh { All IsFresh input.readers.items }
     requires begun { AreBegun input.regions }
-    ensures told { (given : Counted) → IsCounted input.catalog input.regions input.readers.items given
+    ensures told { (given : Counted)
+        → IsCounted input.catalog input.regions input.readers.items given
         → Answers result (Ok (regions_said words.now.events given)) }
     ensures met { IfOk result (λ said. MetCause said.outcome
-        (files_seen F.held F.misses F.faults F.lent files.old) (files_seen F.held F.misses F.faults F.lent files.new) said) }
+        (files_seen F.held F.misses F.faults F.lent files.old)
+        (files_seen F.held F.misses F.faults F.lent files.new) said) }
     ensures cause { (before after : FilesSeen) → StopsByFile result before after }
     ensures lent { F.lent files.new ≡ F.lent files.old - sources_in input.readers.items }
     ensures misses_stay { F.misses files.old ≤ F.misses files.new }
@@ -218,10 +227,13 @@ pub fn count_regions<R: Threads + Sync, F: Files>(
     files: &mut F,
     words: &RegionsWords,
 ) -> Result<Said, Stop>
-    ensures told { IfSome (F.held files.old) (λ held. Answers result (regions_verdict held words.now)) }
+    ensures told { IfSome (F.held files.old)
+        (λ held. Answers result (regions_verdict held words.now)) }
     ensures met { IfOk result (λ said. MetCause said.outcome
-        (files_seen F.held F.misses F.faults F.lent files.old) (files_seen F.held F.misses F.faults F.lent files.new) said) }
-    ensures looked { Looked result 0 (files_seen F.held F.misses F.faults F.lent files.old) (files_seen F.held F.misses F.faults F.lent files.new) }
+        (files_seen F.held F.misses F.faults F.lent files.old)
+        (files_seen F.held F.misses F.faults F.lent files.new) said) }
+    ensures looked { Looked result 0 (files_seen F.held F.misses F.faults F.lent files.old)
+        (files_seen F.held F.misses F.faults F.lent files.new) }
 {
     match open_input(alloc, files, words) {
         Ok(input) => carry_out(rt, alloc, files, words, input),

@@ -36,7 +36,9 @@ fn shown_notes(
     handlers: &Vec<Box<dyn Handler + Send>>,
 ) -> Result<Vec<Note>, AllocError>
     requires { length noted.now ≡ vec_len handlers.now }
-    ensures { IfOk result (λ shown. shown.items ≡ (if wanted then told_since noted.now (map (λ b. notes b) handlers.now.items) else [])) }
+    ensures { IfOk result (λ shown.
+        shown.items ≡ (if wanted then told_since noted.now (map (λ b. notes b) handlers.now.items)
+        else [])) }
 {
     if wanted {
         notes_since(alloc, handlers, noted)
@@ -55,7 +57,9 @@ fn said_of(
 ) -> Result<Said, Stop>
     requires { vec_len ran.noted ≡ vec_len handlers.now }
     ensures said { Answers result
-        (Ok (run_said catalog ran.lines.items ran.marks (if wanted then told_since ran.noted.items (map (λ b. notes b) handlers.now.items) else []))) }
+        (Ok (run_said catalog ran.lines.items ran.marks
+        (if wanted then told_since ran.noted.items (map (λ b. notes b) handlers.now.items)
+        else []))) }
     ensures cause { (before after : FilesSeen) → StopsByFile result before after }
 {
     let shown = shown_notes(alloc, wanted, ran.noted.as_slice(), handlers)?;
@@ -83,11 +87,14 @@ fn open_input<F: Files>(
     words: &RunWords,
 ) -> Result<RunInput<F::S>, Stop>
     ensures told { IfSome (F.held files.old) (λ held.
-        AnswersBy (λ input given. IsOkAnd given (IsGiven input.catalog input.script input.readers.items)) result (given_under held words.now)) }
+        AnswersBy (λ input given.
+        IsOkAnd given (IsGiven input.catalog input.script input.readers.items)) result
+        (given_under held words.now)) }
     ensures len { IfOk result (λ input. vec_len input.readers ≡ THREADS) }
     ensures fresh { IfOk result (λ input. All IsFresh input.readers.items) }
     ensures looked { Looked result (out_with (λ input. sources_in input.readers.items) result)
-        (files_seen F.held F.misses F.faults F.lent files.old) (files_seen F.held F.misses F.faults F.lent files.new) }
+        (files_seen F.held F.misses F.faults F.lent files.old)
+        (files_seen F.held F.misses F.faults F.lent files.new) }
 {
     let catalog = read_catalog(alloc, files, &words.unit, &words.presets)?;
     let script = read_script_file(alloc, files, words.script.as_str())?;
@@ -115,10 +122,13 @@ fn carry_out<R: Threads + Sync, F: Files>(
     ensures told { (given : Given) → IsGiven input.catalog input.script input.readers.items given
         → AnswersSaid result (Ok (ran_verdict words.now.notes given)) }
     ensures tells { (given : Given) → IsGiven input.catalog input.script input.readers.items given
-        → TellsBy result (ran_verdict words.now.notes given).notes (map (λ b. notes b) handlers.old.items) (map (λ b. notes b) handlers.new.items) }
-    ensures grown { EachGrown (map (λ b. notes b) handlers.old.items) (map (λ b. notes b) handlers.new.items) }
+        → TellsBy result (ran_verdict words.now.notes given).notes
+        (map (λ b. notes b) handlers.old.items) (map (λ b. notes b) handlers.new.items) }
+    ensures grown { EachGrown (map (λ b. notes b) handlers.old.items)
+        (map (λ b. notes b) handlers.new.items) }
     ensures met { IfOk result (λ said. MetCause said.outcome
-        (files_seen F.held F.misses F.faults F.lent files.old) (files_seen F.held F.misses F.faults F.lent files.new) said) }
+        (files_seen F.held F.misses F.faults F.lent files.old)
+        (files_seen F.held F.misses F.faults F.lent files.new) said) }
     ensures yes { IfOk result (λ said. said.outcome ≢ outcome.No) }
     ensures cause { (before after : FilesSeen) → StopsByFile result before after }
     ensures lent { F.lent files.new ≡ F.lent files.old - sources_in input.readers.items }
@@ -158,14 +168,19 @@ pub fn run<R: Threads + Sync, F: Files>(
 ) -> Result<Said, Stop>
     requires handlers { vec_len handlers.old ≡ THREADS }
     ensures len { vec_len handlers.new ≡ THREADS }
-    ensures told { IfSome (F.held files.old) (λ held. AnswersSaid result (run_verdict held words.now)) }
-    ensures tells { IfSome (F.held files.old) (λ held. TellsBy result (notes_in (run_verdict held words.now))
+    ensures told { IfSome (F.held files.old)
+        (λ held. AnswersSaid result (run_verdict held words.now)) }
+    ensures tells { IfSome (F.held files.old)
+        (λ held. TellsBy result (notes_in (run_verdict held words.now))
         (map (λ b. notes b) handlers.old.items) (map (λ b. notes b) handlers.new.items)) }
-    ensures grown { EachGrown (map (λ b. notes b) handlers.old.items) (map (λ b. notes b) handlers.new.items) }
+    ensures grown { EachGrown (map (λ b. notes b) handlers.old.items)
+        (map (λ b. notes b) handlers.new.items) }
     ensures met { IfOk result (λ said. MetCause said.outcome
-        (files_seen F.held F.misses F.faults F.lent files.old) (files_seen F.held F.misses F.faults F.lent files.new) said) }
+        (files_seen F.held F.misses F.faults F.lent files.old)
+        (files_seen F.held F.misses F.faults F.lent files.new) said) }
     ensures yes { IfOk result (λ said. said.outcome ≢ outcome.No) }
-    ensures looked { Looked result 0 (files_seen F.held F.misses F.faults F.lent files.old) (files_seen F.held F.misses F.faults F.lent files.new) }
+    ensures looked { Looked result 0 (files_seen F.held F.misses F.faults F.lent files.old)
+        (files_seen F.held F.misses F.faults F.lent files.new) }
 {
     match open_input(alloc, files, words) {
         Ok(input) => carry_out(rt, alloc, files, words, input, handlers),

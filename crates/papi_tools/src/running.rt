@@ -47,24 +47,32 @@ pub fn run_script<R: Threads + Sync, S: Source + Send>(
     requires handlers { vec_len handlers.old ≡ THREADS }
     requires workers { 1 ≤ workers }
     ensures len { vec_len handlers.new ≡ THREADS }
-    ensures replies { (given : Given) → IsGiven catalog.now script.now readers.old.items given → IfOk result (λ ran. ran.lines.items ≡ ran_replies given) }
+    ensures replies { (given : Given) → IsGiven catalog.now script.now readers.old.items given
+        → IfOk result (λ ran. ran.lines.items ≡ ran_replies given) }
     ensures marks { IfOk result (λ ran. ran.marks ≡ marks_in ran.lines.items) }
-    ensures noted { IfOk result (λ ran. ran.noted.items ≡ note_counts (map (λ b. notes b) handlers.old.items)) }
+    ensures noted { IfOk result
+        (λ ran. ran.noted.items ≡ note_counts (map (λ b. notes b) handlers.old.items)) }
     ensures notes { (given : Given) → IsGiven catalog.now script.now readers.old.items given
-        → OnOk result (EachAdded (map (λ b. notes b) handlers.old.items) (ran_notes given) (map (λ b. notes b) handlers.new.items)) }
+        → OnOk result (EachAdded (map (λ b. notes b) handlers.old.items) (ran_notes given)
+        (map (λ b. notes b) handlers.new.items)) }
     ensures begun { (given : Given) → IsGiven catalog.now script.now readers.old.items given
-        → EachBegun (map (λ b. notes b) handlers.old.items) (ran_notes given) (map (λ b. notes b) handlers.new.items) }
+        → EachBegun (map (λ b. notes b) handlers.old.items) (ran_notes given)
+        (map (λ b. notes b) handlers.new.items) }
 
     // Told or not, there are streams that can come of the readers, of which these are the replies and the notes.
     ensures possible { (given : Given) × CanBeGiven catalog.now script.now readers.old.items given
         × IfOk result (λ ran. ran.lines.items ≡ ran_replies given)
-        × OnOk result (EachAdded (map (λ b. notes b) handlers.old.items) (ran_notes given) (map (λ b. notes b) handlers.new.items))
-        × EachBegun (map (λ b. notes b) handlers.old.items) (ran_notes given) (map (λ b. notes b) handlers.new.items) }
+        × OnOk result (EachAdded (map (λ b. notes b) handlers.old.items) (ran_notes given)
+        (map (λ b. notes b) handlers.new.items))
+        × EachBegun (map (λ b. notes b) handlers.old.items) (ran_notes given)
+        (map (λ b. notes b) handlers.new.items) }
 
     // The lists of notes have grown, the sources are those of before, and a reply of a fault shows one of a source.
-    ensures grown { EachGrown (map (λ b. notes b) handlers.old.items) (map (λ b. notes b) handlers.new.items) }
+    ensures grown { EachGrown (map (λ b. notes b) handlers.old.items)
+        (map (λ b. notes b) handlers.new.items) }
     ensures sources { sources_in readers.new.items ≡ sources_in readers.old.items }
-    ensures faulty { IfOk result (λ ran. Any (λ l. IsFault l.reply) ran.lines.items → SomeFailed readers.new.items) }
+    ensures faulty { IfOk result
+        (λ ran. Any (λ l. IsFault l.reply) ran.lines.items → SomeFailed readers.new.items) }
 {
     let noted = counts_of(alloc, handlers)?;
     let mut codes = NativeCodes::new(alloc);

@@ -7,8 +7,10 @@ use std::alloc::Global;
 
 /// Writes the output and then the lines, and gives the status. A failed write ends the writing.
 pub fn say<K: Sink>(alloc: Global, said: &Said, out: &mut K, err: &mut K) -> Status
-    ensures says { Says result said.now (K.taken out.old) (K.taken out.new) (K.taken err.old) (K.taken err.new) }
-    ensures cause { HasSinkCause result (K.faults out.old) (K.faults out.new) (K.faults err.old) (K.faults err.new) }
+    ensures says { Says result said.now (K.taken out.old) (K.taken out.new) (K.taken err.old)
+        (K.taken err.new) }
+    ensures cause { HasSinkCause result (K.faults out.old) (K.faults out.new) (K.faults err.old)
+        (K.faults err.new) }
 {
     match said.out.write(alloc, out) {
         Err(WriteFail::Failed) => return Status::WriteFault,

@@ -37,7 +37,8 @@ pub fn script_in(alloc: Global, name: &str, bytes: &[u8]) -> Result<Script, Stop
 pub fn read_script_file<F: Files>(alloc: Global, files: &mut F, name: &str) -> Result<Script, Stop>
     ensures told { IfSome (F.held files.old) (λ held. Answers result (script_under held name.now)) }
     ensures held { F.held files.new ≡ option_map opened (F.held files.old) }
-    ensures looked { Looked result 0 (files_seen F.held F.misses F.faults F.lent files.old) (files_seen F.held F.misses F.faults F.lent files.new) }
+    ensures looked { Looked result 0 (files_seen F.held F.misses F.faults F.lent files.old)
+        (files_seen F.held F.misses F.faults F.lent files.new) }
 {
     let bytes = whole_file(alloc, files, name, SCRIPT_BYTES)?;
     script_in(alloc, name, bytes.as_slice())

@@ -51,7 +51,8 @@ fn soak_tables(alloc: Global) -> Result<Tables, Stop>
 }
 
 fn soak_script(alloc: Global, rounds: u32) -> Result<Script, Stop>
-    ensures told { Answers result (script_unless (codes "soak.script") (script_of (soak_script.script_text rounds))) }
+    ensures told { Answers result
+        (script_unless (codes "soak.script") (script_of (soak_script.script_text rounds))) }
     ensures cause { (before after : FilesSeen) → StopsByFile result before after }
 {
     let text = script_text(alloc, rounds)?;
@@ -60,7 +61,8 @@ fn soak_script(alloc: Global, rounds: u32) -> Result<Script, Stop>
 
 // Readers of the streams of a soak, and of empty ones for the other threads.
 fn soak_readers(alloc: Global, rounds: u32) -> Result<Vec<StreamReader<SoakSource>>, AllocError>
-    ensures told { IfOk result (λ readers. TellStreams readers.items (streams_of (soak_tapes rounds))) }
+    ensures told { IfOk result
+        (λ readers. TellStreams readers.items (streams_of (soak_tapes rounds))) }
     ensures len { IfOk result (λ readers. vec_len readers ≡ THREADS) }
     ensures fresh { IfOk result (λ readers. All IsFresh readers.items) }
 {
@@ -76,7 +78,9 @@ fn soak_readers(alloc: Global, rounds: u32) -> Result<Vec<StreamReader<SoakSourc
 // Makes what is run, or says why it is refused, which does not happen.
 #[tactic(auto, unfolding(crate::specs::Soaking::soak_given))]
 fn make_run(alloc: Global, rounds: u32) -> Result<SoakRun, Stop>
-    ensures told { AnswersBy (λ run given. IsOkAnd given (IsGiven run.catalog run.script run.readers.items)) result (soak_given rounds) }
+    ensures told { AnswersBy
+        (λ run given. IsOkAnd given (IsGiven run.catalog run.script run.readers.items)) result
+        (soak_given rounds) }
     ensures len { IfOk result (λ run. vec_len run.readers ≡ THREADS) }
     ensures fresh { IfOk result (λ run. All IsFresh run.readers.items) }
     ensures cause { (before after : FilesSeen) → StopsByFile result before after }
@@ -97,7 +101,8 @@ fn said_of(alloc: Global, ran: &Ran, handlers: &Vec<Box<dyn Handler + Send>>) ->
     requires handlers { vec_len handlers.now ≡ THREADS }
     requires noted { vec_len ran.now.noted ≡ THREADS }
     ensures said { Answers result (Ok (summary_said
-        (totals_between ran.now.lines.items ran.now.noted.items (map (λ b. length (notes b)) handlers.now.items)) (length ran.now.lines.items))) }
+        (totals_between ran.now.lines.items ran.now.noted.items
+        (map (λ b. length (notes b)) handlers.now.items)) (length ran.now.lines.items))) }
     ensures textual { IfOk result (λ said. IsTextual said.outcome) }
     ensures yes { IfOk result (λ said. said.outcome ≢ outcome.No) }
     ensures cause { (before after : FilesSeen) → StopsByFile result before after }
@@ -125,10 +130,13 @@ fn carry_out<R: Threads + Sync>(
     requires fresh { All IsFresh run.readers.items }
     requires handlers { vec_len handlers.old ≡ THREADS }
     ensures len { vec_len handlers.new ≡ THREADS }
-    ensures told { (given : Given) → IsGiven run.catalog run.script run.readers.items given → AnswersSaid result (Ok (soaked given)) }
+    ensures told { (given : Given) → IsGiven run.catalog run.script run.readers.items given
+        → AnswersSaid result (Ok (soaked given)) }
     ensures tells { (given : Given) → IsGiven run.catalog run.script run.readers.items given
-        → TellsBy result (soaked given).notes (map (λ b. notes b) handlers.old.items) (map (λ b. notes b) handlers.new.items) }
-    ensures grown { EachGrown (map (λ b. notes b) handlers.old.items) (map (λ b. notes b) handlers.new.items) }
+        → TellsBy result (soaked given).notes (map (λ b. notes b) handlers.old.items)
+        (map (λ b. notes b) handlers.new.items) }
+    ensures grown { EachGrown (map (λ b. notes b) handlers.old.items)
+        (map (λ b. notes b) handlers.new.items) }
     ensures textual { IfOk result (λ said. IsTextual said.outcome) }
     ensures yes { IfOk result (λ said. said.outcome ≢ outcome.No) }
     ensures cause { (before after : FilesSeen) → StopsByFile result before after }
@@ -164,8 +172,10 @@ pub fn soak<R: Threads + Sync>(
     requires handlers { vec_len handlers.old ≡ THREADS }
     ensures len { vec_len handlers.new ≡ THREADS }
     ensures told { AnswersSaid result (soak_verdict words.now) }
-    ensures tells { TellsBy result (notes_in (soak_verdict words.now)) (map (λ b. notes b) handlers.old.items) (map (λ b. notes b) handlers.new.items) }
-    ensures grown { EachGrown (map (λ b. notes b) handlers.old.items) (map (λ b. notes b) handlers.new.items) }
+    ensures tells { TellsBy result (notes_in (soak_verdict words.now))
+        (map (λ b. notes b) handlers.old.items) (map (λ b. notes b) handlers.new.items) }
+    ensures grown { EachGrown (map (λ b. notes b) handlers.old.items)
+        (map (λ b. notes b) handlers.new.items) }
     ensures textual { IfOk result (λ said. IsTextual said.outcome) }
     ensures yes { IfOk result (λ said. said.outcome ≢ outcome.No) }
     ensures cause { (before after : FilesSeen) → StopsByFile result before after }

@@ -25,12 +25,14 @@ fn open_into<F: Files>(
     requires none { vec_len readers.old ≡ 0 }
     requires room { length names.now ≤ vec_capacity readers.old }
     ensures told { IfSome (F.held files.old) (λ held.
-        AnswersBy (λ _ tapes. AreStreams (map coming readers.new.items) tapes) result (tapes_under held names.now)) }
+        AnswersBy (λ _ tapes. AreStreams (map coming readers.new.items) tapes) result
+        (tapes_under held names.now)) }
     ensures few { vec_len readers.new ≤ length names.now }
     ensures room { vec_capacity readers.new ≡ vec_capacity readers.old }
     ensures fresh { All IsFresh readers.new.items }
     ensures looked { Looked result (sources_in readers.new.items)
-        (files_seen F.held F.misses F.faults F.lent files.old) (files_seen F.held F.misses F.faults F.lent files.new) }
+        (files_seen F.held F.misses F.faults F.lent files.old)
+        (files_seen F.held F.misses F.faults F.lent files.new) }
 {
     for name in names {
         match open_named(alloc, files, name.as_str()) {
@@ -48,7 +50,8 @@ pub fn add_empty<S: Source>(readers: &mut Vec<StreamReader<S>>)
     requires fresh { All IsFresh readers.old.items }
     ensures len { vec_len readers.new ≡ THREADS }
     ensures fresh { All IsFresh readers.new.items }
-    ensures coming { map coming readers.new.items ≡ map coming readers.old.items ++ replicate (THREADS - vec_len readers.old) (Some empty_stream) }
+    ensures coming { map coming readers.new.items ≡ map coming readers.old.items
+        ++ replicate (THREADS - vec_len readers.old) (Some empty_stream) }
     ensures sources { sources_in readers.new.items ≡ sources_in readers.old.items }
 {
     while readers.len() < THREADS as usize {
@@ -64,11 +67,14 @@ pub fn open_readers<F: Files>(
     names: &[Text],
 ) -> Result<Vec<StreamReader<F::S>>, Stop>
     requires few { length names.now ≤ THREADS }
-    ensures told { IfSome (F.held files.old) (λ held. AnswersBy (λ readers streams. TellExpected readers.items streams) result (streams_under held names.now)) }
+    ensures told { IfSome (F.held files.old)
+        (λ held. AnswersBy (λ readers streams. TellExpected readers.items streams) result
+        (streams_under held names.now)) }
     ensures len { IfOk result (λ readers. vec_len readers ≡ THREADS) }
     ensures fresh { IfOk result (λ readers. All IsFresh readers.items) }
     ensures looked { Looked result (out_with (λ readers. sources_in readers.items) result)
-        (files_seen F.held F.misses F.faults F.lent files.old) (files_seen F.held F.misses F.faults F.lent files.new) }
+        (files_seen F.held F.misses F.faults F.lent files.old)
+        (files_seen F.held F.misses F.faults F.lent files.new) }
 {
     let mut readers = Vec::with_capacity(alloc, THREADS as usize)?;
     match open_into(alloc, files, names, &mut readers) {

@@ -22,9 +22,12 @@ pub fn read_catalog<F: Files>(
     unit: &Text,
     presets: &Option<PresetWords>,
 ) -> Result<Catalog, Stop>
-    ensures told { IfSome (F.held files.old) (λ held. Answers result (catalog_under held unit.now presets.now)) }
-    ensures held { OnOk result (F.held files.new ≡ option_map (after_tables presets.now) (F.held files.old)) }
-    ensures looked { Looked result 0 (files_seen F.held F.misses F.faults F.lent files.old) (files_seen F.held F.misses F.faults F.lent files.new) }
+    ensures told { IfSome (F.held files.old)
+        (λ held. Answers result (catalog_under held unit.now presets.now)) }
+    ensures held { OnOk result
+        (F.held files.new ≡ option_map (after_tables presets.now) (F.held files.old)) }
+    ensures looked { Looked result 0 (files_seen F.held F.misses F.faults F.lent files.old)
+        (files_seen F.held F.misses F.faults F.lent files.new) }
 {
     let tables = read_unit_file(alloc, files, unit.as_str())?;
     let presets = read_presets_asked(alloc, files, presets)?;
@@ -40,8 +43,10 @@ pub fn read_preset_catalog<F: Files>(
     unit: &Text,
     presets: &PresetWords,
 ) -> Result<Catalog, Stop>
-    ensures told { IfSome (F.held files.old) (λ held. Answers result (catalog_under held unit.now (Some presets.now))) }
-    ensures looked { Looked result 0 (files_seen F.held F.misses F.faults F.lent files.old) (files_seen F.held F.misses F.faults F.lent files.new) }
+    ensures told { IfSome (F.held files.old)
+        (λ held. Answers result (catalog_under held unit.now (Some presets.now))) }
+    ensures looked { Looked result 0 (files_seen F.held F.misses F.faults F.lent files.old)
+        (files_seen F.held F.misses F.faults F.lent files.new) }
 {
     let tables = read_unit_file(alloc, files, unit.as_str())?;
     let presets = read_preset_file(alloc, files, presets)?;

@@ -14,7 +14,8 @@ use std::thread::Threads;
 
 // The words with a tool's name before them.
 fn named(alloc: Global, tool: &str, words: &[String]) -> Result<Vec<String>, AllocError>
-    ensures { IfOk result (λ all. map string_bytes all.items ≡ tool.now ∷ map string_bytes words.now) }
+    ensures { IfOk result (λ all. map string_bytes all.items
+        ≡ tool.now ∷ map string_bytes words.now) }
 {
     let mut all = Vec::new(alloc);
     all.push(String::from_str(alloc, tool)?)?;
@@ -38,8 +39,10 @@ fn telling_tool<R: Threads + Sync, F: Files, K: Sink>(
     requires handlers { vec_len handlers.old ≡ THREADS }
     ensures len { vec_len handlers.new ≡ THREADS }
     ensures carries_out { CarriesOut (tool.now ∷ map string_bytes words.now) result
-        (files_seen F.held F.misses F.faults F.lent files.old) (files_seen F.held F.misses F.faults F.lent files.new)
-        (sink_seen K.taken K.faults out.old) (sink_seen K.taken K.faults out.new) (sink_seen K.taken K.faults err.old) (sink_seen K.taken K.faults err.new) }
+        (files_seen F.held F.misses F.faults F.lent files.old)
+        (files_seen F.held F.misses F.faults F.lent files.new)
+        (sink_seen K.taken K.faults out.old) (sink_seen K.taken K.faults out.new)
+        (sink_seen K.taken K.faults err.old) (sink_seen K.taken K.faults err.new) }
     ensures tells { TellsHandlers (tool.now ∷ map string_bytes words.now) result (F.held files.old)
         (map (λ b. notes b) handlers.old.items) (map (λ b. notes b) handlers.new.items) }
 {
@@ -62,9 +65,12 @@ pub fn run_tool<R: Threads + Sync, F: Files, K: Sink>(
     requires handlers { vec_len handlers.old ≡ THREADS }
     ensures len { vec_len handlers.new ≡ THREADS }
     ensures carries_out { CarriesOut (codes "papi_run" ∷ map string_bytes words.now) result
-        (files_seen F.held F.misses F.faults F.lent files.old) (files_seen F.held F.misses F.faults F.lent files.new)
-        (sink_seen K.taken K.faults out.old) (sink_seen K.taken K.faults out.new) (sink_seen K.taken K.faults err.old) (sink_seen K.taken K.faults err.new) }
-    ensures tells { TellsHandlers (codes "papi_run" ∷ map string_bytes words.now) result (F.held files.old)
+        (files_seen F.held F.misses F.faults F.lent files.old)
+        (files_seen F.held F.misses F.faults F.lent files.new)
+        (sink_seen K.taken K.faults out.old) (sink_seen K.taken K.faults out.new)
+        (sink_seen K.taken K.faults err.old) (sink_seen K.taken K.faults err.new) }
+    ensures tells { TellsHandlers (codes "papi_run" ∷ map string_bytes words.now) result
+        (F.held files.old)
         (map (λ b. notes b) handlers.old.items) (map (λ b. notes b) handlers.new.items) }
 {
     telling_tool(rt, alloc, "papi_run", words, files, out, err, handlers)
@@ -83,9 +89,12 @@ pub fn profil_tool<R: Threads + Sync, F: Files, K: Sink>(
     requires handlers { vec_len handlers.old ≡ THREADS }
     ensures len { vec_len handlers.new ≡ THREADS }
     ensures carries_out { CarriesOut (codes "papi_profil" ∷ map string_bytes words.now) result
-        (files_seen F.held F.misses F.faults F.lent files.old) (files_seen F.held F.misses F.faults F.lent files.new)
-        (sink_seen K.taken K.faults out.old) (sink_seen K.taken K.faults out.new) (sink_seen K.taken K.faults err.old) (sink_seen K.taken K.faults err.new) }
-    ensures tells { TellsHandlers (codes "papi_profil" ∷ map string_bytes words.now) result (F.held files.old)
+        (files_seen F.held F.misses F.faults F.lent files.old)
+        (files_seen F.held F.misses F.faults F.lent files.new)
+        (sink_seen K.taken K.faults out.old) (sink_seen K.taken K.faults out.new)
+        (sink_seen K.taken K.faults err.old) (sink_seen K.taken K.faults err.new) }
+    ensures tells { TellsHandlers (codes "papi_profil" ∷ map string_bytes words.now) result
+        (F.held files.old)
         (map (λ b. notes b) handlers.old.items) (map (λ b. notes b) handlers.new.items) }
 {
     telling_tool(rt, alloc, "papi_profil", words, files, out, err, handlers)
@@ -102,8 +111,10 @@ fn quiet_tool<R: Threads + Sync, F: Files, K: Sink>(
     err: &mut K,
 ) -> Status
     ensures { CarriesOut (tool.now ∷ map string_bytes words.now) result
-        (files_seen F.held F.misses F.faults F.lent files.old) (files_seen F.held F.misses F.faults F.lent files.new)
-        (sink_seen K.taken K.faults out.old) (sink_seen K.taken K.faults out.new) (sink_seen K.taken K.faults err.old) (sink_seen K.taken K.faults err.new) }
+        (files_seen F.held F.misses F.faults F.lent files.old)
+        (files_seen F.held F.misses F.faults F.lent files.new)
+        (sink_seen K.taken K.faults out.old) (sink_seen K.taken K.faults out.new)
+        (sink_seen K.taken K.faults err.old) (sink_seen K.taken K.faults err.new) }
 {
     let Ok(all) = named(alloc, tool, words) else {
         return Status::Memory;
@@ -130,8 +141,10 @@ pub fn avail<R: Threads + Sync, F: Files, K: Sink>(
     err: &mut K,
 ) -> Status
     ensures { CarriesOut (codes "papi_avail" ∷ map string_bytes words.now) result
-        (files_seen F.held F.misses F.faults F.lent files.old) (files_seen F.held F.misses F.faults F.lent files.new)
-        (sink_seen K.taken K.faults out.old) (sink_seen K.taken K.faults out.new) (sink_seen K.taken K.faults err.old) (sink_seen K.taken K.faults err.new) }
+        (files_seen F.held F.misses F.faults F.lent files.old)
+        (files_seen F.held F.misses F.faults F.lent files.new)
+        (sink_seen K.taken K.faults out.old) (sink_seen K.taken K.faults out.new)
+        (sink_seen K.taken K.faults err.old) (sink_seen K.taken K.faults err.new) }
 {
     quiet_tool(rt, alloc, "papi_avail", words, files, out, err)
 }
@@ -146,8 +159,10 @@ pub fn native_avail<R: Threads + Sync, F: Files, K: Sink>(
     err: &mut K,
 ) -> Status
     ensures { CarriesOut (codes "papi_native_avail" ∷ map string_bytes words.now) result
-        (files_seen F.held F.misses F.faults F.lent files.old) (files_seen F.held F.misses F.faults F.lent files.new)
-        (sink_seen K.taken K.faults out.old) (sink_seen K.taken K.faults out.new) (sink_seen K.taken K.faults err.old) (sink_seen K.taken K.faults err.new) }
+        (files_seen F.held F.misses F.faults F.lent files.old)
+        (files_seen F.held F.misses F.faults F.lent files.new)
+        (sink_seen K.taken K.faults out.old) (sink_seen K.taken K.faults out.new)
+        (sink_seen K.taken K.faults err.old) (sink_seen K.taken K.faults err.new) }
 {
     quiet_tool(rt, alloc, "papi_native_avail", words, files, out, err)
 }
@@ -162,8 +177,10 @@ pub fn decode<R: Threads + Sync, F: Files, K: Sink>(
     err: &mut K,
 ) -> Status
     ensures { CarriesOut (codes "papi_decode" ∷ map string_bytes words.now) result
-        (files_seen F.held F.misses F.faults F.lent files.old) (files_seen F.held F.misses F.faults F.lent files.new)
-        (sink_seen K.taken K.faults out.old) (sink_seen K.taken K.faults out.new) (sink_seen K.taken K.faults err.old) (sink_seen K.taken K.faults err.new) }
+        (files_seen F.held F.misses F.faults F.lent files.old)
+        (files_seen F.held F.misses F.faults F.lent files.new)
+        (sink_seen K.taken K.faults out.old) (sink_seen K.taken K.faults out.new)
+        (sink_seen K.taken K.faults err.old) (sink_seen K.taken K.faults err.new) }
 {
     quiet_tool(rt, alloc, "papi_decode", words, files, out, err)
 }
@@ -178,8 +195,10 @@ pub fn event_chooser<R: Threads + Sync, F: Files, K: Sink>(
     err: &mut K,
 ) -> Status
     ensures { CarriesOut (codes "papi_event_chooser" ∷ map string_bytes words.now) result
-        (files_seen F.held F.misses F.faults F.lent files.old) (files_seen F.held F.misses F.faults F.lent files.new)
-        (sink_seen K.taken K.faults out.old) (sink_seen K.taken K.faults out.new) (sink_seen K.taken K.faults err.old) (sink_seen K.taken K.faults err.new) }
+        (files_seen F.held F.misses F.faults F.lent files.old)
+        (files_seen F.held F.misses F.faults F.lent files.new)
+        (sink_seen K.taken K.faults out.old) (sink_seen K.taken K.faults out.new)
+        (sink_seen K.taken K.faults err.old) (sink_seen K.taken K.faults err.new) }
 {
     quiet_tool(rt, alloc, "papi_event_chooser", words, files, out, err)
 }
@@ -194,8 +213,10 @@ pub fn encode_tool<R: Threads + Sync, F: Files, K: Sink>(
     err: &mut K,
 ) -> Status
     ensures { CarriesOut (codes "papi_encode" ∷ map string_bytes words.now) result
-        (files_seen F.held F.misses F.faults F.lent files.old) (files_seen F.held F.misses F.faults F.lent files.new)
-        (sink_seen K.taken K.faults out.old) (sink_seen K.taken K.faults out.new) (sink_seen K.taken K.faults err.old) (sink_seen K.taken K.faults err.new) }
+        (files_seen F.held F.misses F.faults F.lent files.old)
+        (files_seen F.held F.misses F.faults F.lent files.new)
+        (sink_seen K.taken K.faults out.old) (sink_seen K.taken K.faults out.new)
+        (sink_seen K.taken K.faults err.old) (sink_seen K.taken K.faults err.new) }
 {
     quiet_tool(rt, alloc, "papi_encode", words, files, out, err)
 }
@@ -210,8 +231,10 @@ pub fn regions_tool<R: Threads + Sync, F: Files, K: Sink>(
     err: &mut K,
 ) -> Status
     ensures { CarriesOut (codes "papi_regions" ∷ map string_bytes words.now) result
-        (files_seen F.held F.misses F.faults F.lent files.old) (files_seen F.held F.misses F.faults F.lent files.new)
-        (sink_seen K.taken K.faults out.old) (sink_seen K.taken K.faults out.new) (sink_seen K.taken K.faults err.old) (sink_seen K.taken K.faults err.new) }
+        (files_seen F.held F.misses F.faults F.lent files.old)
+        (files_seen F.held F.misses F.faults F.lent files.new)
+        (sink_seen K.taken K.faults out.old) (sink_seen K.taken K.faults out.new)
+        (sink_seen K.taken K.faults err.old) (sink_seen K.taken K.faults err.new) }
 {
     quiet_tool(rt, alloc, "papi_regions", words, files, out, err)
 }
@@ -227,9 +250,12 @@ pub fn soak<R: Threads + Sync, K: Sink>(
 ) -> Status
     requires handlers { vec_len handlers.old ≡ THREADS }
     ensures len { vec_len handlers.new ≡ THREADS }
-    ensures carries_out { CarriesOut (codes "papi_soak" ∷ map string_bytes words.now) result no_files no_files
-        (sink_seen K.taken K.faults out.old) (sink_seen K.taken K.faults out.new) (sink_seen K.taken K.faults err.old) (sink_seen K.taken K.faults err.new) }
-    ensures tells { TellsHandlers (codes "papi_soak" ∷ map string_bytes words.now) result no_files.held
+    ensures carries_out { CarriesOut (codes "papi_soak" ∷ map string_bytes words.now) result
+        no_files no_files
+        (sink_seen K.taken K.faults out.old) (sink_seen K.taken K.faults out.new)
+        (sink_seen K.taken K.faults err.old) (sink_seen K.taken K.faults err.new) }
+    ensures tells { TellsHandlers (codes "papi_soak" ∷ map string_bytes words.now) result
+        no_files.held
         (map (λ b. notes b) handlers.old.items) (map (λ b. notes b) handlers.new.items) }
 {
     match named(alloc, "papi_soak", words) {

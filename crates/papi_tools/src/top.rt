@@ -38,14 +38,19 @@ fn carried_out<R: Threads + Sync, F: Files>(
 ) -> Result<Said, Stop>
     requires handlers { vec_len handlers.old ≡ THREADS }
     ensures len { vec_len handlers.new ≡ THREADS }
-    ensures told { IfSome (known (Some command.now) (F.held files.old)) (λ expected. AnswersSaid result expected) }
-    ensures tells { IfSome (known (Some command.now) (F.held files.old)) (λ expected. TellsBy result (notes_in expected)
+    ensures told { IfSome (known (Some command.now) (F.held files.old))
+        (λ expected. AnswersSaid result expected) }
+    ensures tells { IfSome (known (Some command.now) (F.held files.old))
+        (λ expected. TellsBy result (notes_in expected)
         (map (λ b. notes b) handlers.old.items) (map (λ b. notes b) handlers.new.items)) }
-    ensures grown { EachGrown (map (λ b. notes b) handlers.old.items) (map (λ b. notes b) handlers.new.items) }
+    ensures grown { EachGrown (map (λ b. notes b) handlers.old.items)
+        (map (λ b. notes b) handlers.new.items) }
     ensures met { IfOk result (λ said. MetCause said.outcome
-        (files_seen F.held F.misses F.faults F.lent files.old) (files_seen F.held F.misses F.faults F.lent files.new) said) }
+        (files_seen F.held F.misses F.faults F.lent files.old)
+        (files_seen F.held F.misses F.faults F.lent files.new) said) }
     ensures no { IfOk result (λ said. said.outcome ≡ outcome.No → SaysNo (Some command.now)) }
-    ensures looked { Looked result 0 (files_seen F.held F.misses F.faults F.lent files.old) (files_seen F.held F.misses F.faults F.lent files.new) }
+    ensures looked { Looked result 0 (files_seen F.held F.misses F.faults F.lent files.old)
+        (files_seen F.held F.misses F.faults F.lent files.new) }
 {
     match command {
         Command::Run(words) => run(rt, alloc, files, words, handlers),
@@ -70,14 +75,21 @@ fn said_of<R: Threads + Sync, F: Files>(
 ) -> Result<Said, AllocError>
     requires handlers { vec_len handlers.old ≡ THREADS }
     ensures len { vec_len handlers.new ≡ THREADS }
-    ensures told { IfSome (known_verdict (map string_bytes words.now.items) (F.held files.old)) (λ verdict. IfOk result (λ said. said ≡ verdict.said)) }
-    ensures tells { IfSome (known_verdict (map string_bytes words.now.items) (F.held files.old)) (λ verdict.
-        OnOk result (EachAdded (map (λ b. notes b) handlers.old.items) verdict.notes (map (λ b. notes b) handlers.new.items))) }
-    ensures begun { IfSome (known_verdict (map string_bytes words.now.items) (F.held files.old)) (λ verdict.
-        OnErr result (EachBegun (map (λ b. notes b) handlers.old.items) verdict.notes (map (λ b. notes b) handlers.new.items))) }
-    ensures grown { EachGrown (map (λ b. notes b) handlers.old.items) (map (λ b. notes b) handlers.new.items) }
+    ensures told { IfSome (known_verdict (map string_bytes words.now.items) (F.held files.old))
+        (λ verdict. IfOk result (λ said. said ≡ verdict.said)) }
+    ensures tells { IfSome (known_verdict (map string_bytes words.now.items) (F.held files.old))
+        (λ verdict.
+        OnOk result (EachAdded (map (λ b. notes b) handlers.old.items) verdict.notes
+        (map (λ b. notes b) handlers.new.items))) }
+    ensures begun { IfSome (known_verdict (map string_bytes words.now.items) (F.held files.old))
+        (λ verdict.
+        OnErr result (EachBegun (map (λ b. notes b) handlers.old.items) verdict.notes
+        (map (λ b. notes b) handlers.new.items))) }
+    ensures grown { EachGrown (map (λ b. notes b) handlers.old.items)
+        (map (λ b. notes b) handlers.new.items) }
     ensures cause { IfOk result (IsCaused (form (map string_bytes words.now.items))
-        (files_seen F.held F.misses F.faults F.lent files.old) (files_seen F.held F.misses F.faults F.lent files.new)) }
+        (files_seen F.held F.misses F.faults F.lent files.old)
+        (files_seen F.held F.misses F.faults F.lent files.new)) }
     ensures returned { F.lent files.new ≡ F.lent files.old }
 {
     let command = match read_words(alloc, words.as_slice()) {
@@ -106,8 +118,10 @@ pub fn papi_main<R: Threads + Sync, F: Files, K: Sink>(
     requires handlers { vec_len handlers.old ≡ THREADS }
     ensures len { vec_len handlers.new ≡ THREADS }
     ensures carries_out { CarriesOut (map string_bytes words.now.items) result
-        (files_seen F.held F.misses F.faults F.lent files.old) (files_seen F.held F.misses F.faults F.lent files.new)
-        (sink_seen K.taken K.faults out.old) (sink_seen K.taken K.faults out.new) (sink_seen K.taken K.faults err.old) (sink_seen K.taken K.faults err.new) }
+        (files_seen F.held F.misses F.faults F.lent files.old)
+        (files_seen F.held F.misses F.faults F.lent files.new)
+        (sink_seen K.taken K.faults out.old) (sink_seen K.taken K.faults out.new)
+        (sink_seen K.taken K.faults err.old) (sink_seen K.taken K.faults err.new) }
     ensures tells { TellsHandlers (map string_bytes words.now.items) result (F.held files.old)
         (map (λ b. notes b) handlers.old.items) (map (λ b. notes b) handlers.new.items) }
 {

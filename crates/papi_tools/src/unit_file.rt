@@ -37,7 +37,8 @@ pub fn unit_in(alloc: Global, name: &str, bytes: &[u8]) -> Result<Tables, Stop>
 pub fn read_unit_file<F: Files>(alloc: Global, files: &mut F, name: &str) -> Result<Tables, Stop>
     ensures told { IfSome (F.held files.old) (λ held. Answers result (unit_under held name.now)) }
     ensures held { F.held files.new ≡ option_map opened (F.held files.old) }
-    ensures looked { Looked result 0 (files_seen F.held F.misses F.faults F.lent files.old) (files_seen F.held F.misses F.faults F.lent files.new) }
+    ensures looked { Looked result 0 (files_seen F.held F.misses F.faults F.lent files.old)
+        (files_seen F.held F.misses F.faults F.lent files.new) }
 {
     let bytes = whole_file(alloc, files, name, TABLE_BYTES)?;
     unit_in(alloc, name, bytes.as_slice())

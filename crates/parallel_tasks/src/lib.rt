@@ -83,11 +83,13 @@ fn work_parts<R: Threads + Sync, B: Sync, T: Task<B> + Send>(
     ensures back { Each (T.done book.now) back.old back.new }
 {
     let mut first = ||
-        requires { IsSync R.row × IsSync B.row × IsSend T.row × (low ≤ busy T.load front.now) × AtEach (T.ready book.now) front.now }
+        requires { IsSync R.row × IsSync B.row × IsSend T.row × (low ≤ busy T.load front.now)
+            × AtEach (T.ready book.now) front.now }
         ensures { Each (T.done book.entry.now) front.entry.now front.exit.now }
     { work_slice(rt, book, low, front) };
     let mut second = ||
-        requires { IsSync R.row × IsSync B.row × IsSend T.row × (high ≤ busy T.load back.now) × AtEach (T.ready book.now) back.now }
+        requires { IsSync R.row × IsSync B.row × IsSend T.row × (high ≤ busy T.load back.now)
+            × AtEach (T.ready book.now) back.now }
         ensures { Each (T.done book.entry.now) back.entry.now back.exit.now }
     { work_slice(rt, book, high, back) };
     join_mut(rt, &mut first, &mut second);

@@ -20,7 +20,8 @@ fn calls_in(planned: &Planned) -> usize
 /// How many calls each thread makes.
 fn count_calls(plan: &[PlanLine]) -> [usize; THREADS as usize]
     requires threads { AreThreads plan.now }
-    ensures each { (t : ℕ) → t < THREADS → slice_index_or result t 0 ≡ length (planned_at t plan.now) }
+    ensures each { (t : ℕ) → t < THREADS
+        → slice_index_or result t 0 ≡ length (planned_at t plan.now) }
 {
     let mut counts = [0; THREADS as usize];
     for line in plan {
@@ -35,7 +36,8 @@ fn empty_lists(
     counts: &[usize; THREADS as usize],
 ) -> Result<Vec<Vec<Call>>, AllocError>
     ensures len { IfOk result (λ v. vec_len v ≡ THREADS) }
-    ensures each { IfOk result (λ v. (t : ℕ) → t < THREADS → slice_index_or (map (λ c. c.items) v.items) t [] ≡ []) }
+    ensures each { IfOk result
+        (λ v. (t : ℕ) → t < THREADS → slice_index_or (map (λ c. c.items) v.items) t [] ≡ []) }
 {
     let mut lists = Vec::with_capacity(alloc, THREADS as usize)?;
     for thread in 0..THREADS as usize {
@@ -63,7 +65,9 @@ fn deal_line(lists: &mut Vec<Vec<Call>>, line: &PlanLine) -> Result<(), AllocErr
 pub fn deal(alloc: Global, plan: &[PlanLine]) -> Result<Vec<Vec<Call>>, AllocError>
     requires threads { AreThreads plan.now }
     ensures len { IfOk result (λ v. vec_len v ≡ THREADS) }
-    ensures each { IfOk result (λ v. (t : ℕ) → t < THREADS → slice_index_or (map (λ c. c.items) v.items) t [] ≡ planned_at t plan.now) }
+    ensures each { IfOk result
+        (λ v. (t : ℕ) → t < THREADS → slice_index_or (map (λ c. c.items) v.items) t []
+        ≡ planned_at t plan.now) }
 {
     let counts = count_calls(plan);
     let mut lists = empty_lists(alloc, &counts)?;

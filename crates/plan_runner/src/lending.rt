@@ -21,7 +21,8 @@ fn lend<S: Source>(work: Work, handler: Box<dyn Handler + Send>, reader: StreamR
     requires fresh { IsFresh reader }
     ensures opened { IsOpened result.session result.calls.items }
     ensures job { (shape : Widths) (t : ℕ) → IsWork shape t work
-        → seen (notes result.handler) result ≡ before shape t reader (notes handler) (calls_of work) }
+        → seen (notes result.handler) result
+        ≡ before shape t reader (notes handler) (calls_of work) }
 {
     let Work {
         core,

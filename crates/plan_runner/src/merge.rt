@@ -13,7 +13,9 @@ use thread_registry::Registry;
 /// Keeps which threads are registered, after a call to which this code was replied.
 fn keep_registered(registry: &mut Registry, thread: u32, call: &Call, code: Code)
     requires thread { thread < THREADS }
-    ensures registered { registry.new ≡ slice_set registry.old thread (registered_after call.now code (slice_index_or registry.old thread false)) }
+    ensures registered { registry.new
+        ≡ slice_set registry.old thread
+        (registered_after call.now code (slice_index_or registry.old thread false)) }
 {
     match *call {
         Call::Register => registry.set(thread, true),
@@ -63,8 +65,10 @@ fn answer_line(line: &PlanLine, replies: &mut Vec<Reply>, registry: &mut Registr
     requires thread { line.now.thread < THREADS }
     requires replied { length (calls_in line.now.planned) ≤ vec_len replies.old }
     ensures reply { result ≡ reply_by registry.old (reverse replies.old.items) line.now.planned }
-    ensures rest { reverse replies.new.items ≡ rest_by (reverse replies.old.items) line.now.planned }
-    ensures registered { registry.new ≡ flags_by registry.old (reverse replies.old.items) line.now.thread line.now.planned }
+    ensures rest { reverse replies.new.items
+        ≡ rest_by (reverse replies.old.items) line.now.planned }
+    ensures registered { registry.new
+        ≡ flags_by registry.old (reverse replies.old.items) line.now.thread line.now.planned }
 {
     match line.planned {
         Planned::Call(call) => {
@@ -84,7 +88,8 @@ fn answer_line(line: &PlanLine, replies: &mut Vec<Reply>, registry: &mut Registr
 /// Turns the replies of each thread round.
 fn turn_round(replies: &mut Vec<Vec<Reply>>)
     ensures len { vec_len replies.new ≡ vec_len replies.old }
-    ensures turned { map (λ r. reverse r.items) replies.new.items ≡ map (λ r. r.items) replies.old.items }
+    ensures turned { map (λ r. reverse r.items) replies.new.items
+        ≡ map (λ r. r.items) replies.old.items }
 {
     for thread in 0..replies.len() {
         replies[thread].reverse();
@@ -108,8 +113,10 @@ fn take_reply(line: &PlanLine, replies: &mut Vec<Reply>, registry: &mut Registry
     requires thread { line.now.thread < THREADS }
     requires replied { length (calls_in line.now.planned) ≤ vec_len replies.old }
     ensures reply { result ≡ reply_by registry.old (reverse replies.old.items) line.now.planned }
-    ensures rest { reverse replies.new.items ≡ rest_by (reverse replies.old.items) line.now.planned }
-    ensures registered { registry.new ≡ flags_by registry.old (reverse replies.old.items) line.now.thread line.now.planned }
+    ensures rest { reverse replies.new.items
+        ≡ rest_by (reverse replies.old.items) line.now.planned }
+    ensures registered { registry.new
+        ≡ flags_by registry.old (reverse replies.old.items) line.now.thread line.now.planned }
 {
     let reply = answer_line(line, replies, registry);
     give_back_memory(replies);
@@ -121,10 +128,16 @@ fn take_reply(line: &PlanLine, replies: &mut Vec<Reply>, registry: &mut Registry
 pub fn merge(plan: &[PlanLine], replies: &mut Vec<Vec<Reply>>, lines: &mut Vec<ReplyLine>)
     requires threads { AreThreads plan.now }
     requires len { vec_len replies.old ≡ THREADS }
-    requires counts { (t : ℕ) → t < THREADS → length (slice_index_or (map (λ r. r.items) replies.old.items) t []) ≡ length (planned_at t plan.now) }
+    requires counts { (t : ℕ) → t < THREADS
+        → length (slice_index_or (map (λ r. r.items) replies.old.items) t [])
+        ≡ length (planned_at t plan.now) }
     requires none { vec_len lines.old ≡ 0 }
     requires room { length plan.now ≤ vec_capacity lines.old }
-    ensures lines { lines.new.items ≡ lines_by (record { flags = replicate THREADS false; replies = map (λ r. r.items) replies.old.items }) plan.now }
+    ensures lines { lines.new.items
+        ≡ lines_by (record {
+          flags = replicate THREADS false;
+          replies = map (λ r. r.items) replies.old.items;
+        }) plan.now }
 {
     turn_round(replies);
     let mut registry = Registry::new();

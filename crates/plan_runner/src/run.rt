@@ -109,10 +109,12 @@ fn run_prepared<R: Threads + Sync, S: Source + Send>(
     requires dealt { AreDealt plan.now prepared.works.items }
     ensures len { vec_len handlers.new ≡ THREADS }
     ensures readers_len { vec_len readers.new ≡ THREADS }
-    ensures served { (shape : Widths) → AreWorks shape prepared.works.items → BookFits shape book.now → (replies : List (List Reply))
+    ensures served { (shape : Widths) → AreWorks shape prepared.works.items
+        → BookFits shape book.now → (replies : List (List Reply))
         × AreServed book.now shape (is_err result) plan.now readers.old.items readers.new.items
         (map (λ b. notes b) handlers.old.items) (map (λ b. notes b) handlers.new.items) replies
-        × IfOk result (λ run. run.lines.items ≡ lines_by (record { flags = replicate THREADS false; replies = replies }) plan.now) }
+        × IfOk result (λ run. run.lines.items
+        ≡ lines_by (record { flags = replicate THREADS false; replies = replies }) plan.now) }
     ensures marks { IfOk result (λ run. run.marks ≡ marks_in run.lines.items) }
 {
     let Prepared {
@@ -161,28 +163,39 @@ pub fn run_plan<R: Threads + Sync, S: Source + Send>(
     requires good { AreGood book.now shape.now plan }
     ensures len { vec_len handlers.new ≡ THREADS }
     ensures readers_len { vec_len readers.new ≡ THREADS }
-    ensures replies { (at : Setting) (script : List Line) (streams : List Coming) → Tells at script streams book.now shape.now plan readers.old.items
+    ensures replies { (at : Setting) (script : List Line) (streams : List Coming)
+        → Tells at script streams book.now shape.now plan readers.old.items
         → IfOk result (λ run. run.lines.items ≡ reply_lines plan (world_told at script streams)) }
-    ensures notes { (at : Setting) (script : List Line) (streams : List Coming) → Tells at script streams book.now shape.now plan readers.old.items
-        → OnOk result (EachAdded (map (λ b. notes b) handlers.old.items) (notes_by_thread (world_told at script streams))
+    ensures notes { (at : Setting) (script : List Line) (streams : List Coming)
+        → Tells at script streams book.now shape.now plan readers.old.items
+        → OnOk result (EachAdded (map (λ b. notes b) handlers.old.items)
+        (notes_by_thread (world_told at script streams))
         (map (λ b. notes b) handlers.new.items)) }
-    ensures begun { (at : Setting) (script : List Line) (streams : List Coming) → Tells at script streams book.now shape.now plan readers.old.items
-        → EachBegun (map (λ b. notes b) handlers.old.items) (notes_by_thread (world_told at script streams)) (map (λ b. notes b) handlers.new.items) }
+    ensures begun { (at : Setting) (script : List Line) (streams : List Coming)
+        → Tells at script streams book.now shape.now plan readers.old.items
+        → EachBegun (map (λ b. notes b) handlers.old.items)
+        (notes_by_thread (world_told at script streams)) (map (λ b. notes b) handlers.new.items) }
 
     // Told or not.
     ensures possible { (streams : List Coming) × CanEachCome readers.old.items streams
         × ((at : Setting) (script : List Line) → IsPlannedFrom at script book.now shape.now plan
         → IfOk result (λ run. run.lines.items ≡ reply_lines plan (world_told at script streams))
-        × OnOk result (EachAdded (map (λ b. notes b) handlers.old.items) (notes_by_thread (world_told at script streams)) (map (λ b. notes b) handlers.new.items))
-        × EachBegun (map (λ b. notes b) handlers.old.items) (notes_by_thread (world_told at script streams)) (map (λ b. notes b) handlers.new.items)) }
-    ensures grown { EachGrown (map (λ b. notes b) handlers.old.items) (map (λ b. notes b) handlers.new.items) }
-    ensures idle { IdleStay plan readers.old.items readers.new.items (map (λ b. notes b) handlers.old.items) (map (λ b. notes b) handlers.new.items) }
+        × OnOk result (EachAdded (map (λ b. notes b) handlers.old.items)
+        (notes_by_thread (world_told at script streams)) (map (λ b. notes b) handlers.new.items))
+        × EachBegun (map (λ b. notes b) handlers.old.items)
+        (notes_by_thread (world_told at script streams)) (map (λ b. notes b) handlers.new.items)) }
+    ensures grown { EachGrown (map (λ b. notes b) handlers.old.items)
+        (map (λ b. notes b) handlers.new.items) }
+    ensures idle { IdleStay plan readers.old.items readers.new.items
+        (map (λ b. notes b) handlers.old.items) (map (λ b. notes b) handlers.new.items) }
     ensures order { IfOk result (λ run. AreInOrder plan run.lines.items) }
     ensures marks { IfOk result (λ run. run.marks ≡ marks_in run.lines.items) }
-    ensures readers { AllKept (map (λ r. fault_count r) readers.old.items) (map (λ r. fault_count r) readers.new.items) }
+    ensures readers { AllKept (map (λ r. fault_count r) readers.old.items)
+        (map (λ r. fault_count r) readers.new.items) }
     ensures faulty { IfOk result (λ run. All (λ l. IsFault l.reply
         → FaultsRose (slice_index_or (map (λ r. fault_count r) readers.old.items) l.thread None)
-        (slice_index_or (map (λ r. fault_count r) readers.new.items) l.thread None)) run.lines.items) }
+        (slice_index_or (map (λ r. fault_count r) readers.new.items) l.thread None))
+        run.lines.items) }
 {
     let prepared = prepare(alloc, plan.lines(), shape)?;
     run_prepared(rt, plan.lines(), book, workers, prepared, readers, handlers)

@@ -31,8 +31,16 @@ impl Def {
 
     /// What is computed of these natives.
     pub fn new(kind: Kind, formula: Option<Formula>, natives: Vec<String>) -> Def
-        requires { IsDef (record { kind = kind; formula = formula; natives = map string_bytes natives.items }) }
-        ensures { result ≡ record { kind = kind; formula = formula; natives = map string_bytes natives.items } }
+        requires { IsDef (record {
+          kind = kind;
+          formula = formula;
+          natives = map string_bytes natives.items;
+        }) }
+        ensures { result ≡ record {
+          kind = kind;
+          formula = formula;
+          natives = map string_bytes natives.items;
+        } }
     {
         Def {
             kind,

@@ -25,7 +25,11 @@ impl Group {
 
     /// The group below a CPU row, which may be the asked one.
     pub fn with_cpu(self, is_asked: bool) -> Group
-        ensures { result ≡ record { begun = true; closed = false; holds = is_asked || (not self.closed && self.holds) } }
+        ensures { result ≡ record {
+          begun = true;
+          closed = false;
+          holds = is_asked || (not self.closed && self.holds);
+        } }
     {
         Group {
             begun: true,

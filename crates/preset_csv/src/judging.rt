@@ -51,7 +51,8 @@ fn postfix_entry(
     requires each { AllByRecursion IsNativeText (map string_bytes natives.items) }
     requires some { 1 ≤ length natives.items }
     requires few { length natives.items ≤ MOST_NATIVES }
-    ensures { Judges (Entries.typed_entry derived.Postfix formula.now (map string_bytes natives.items)) result }
+    ensures { Judges (Entries.typed_entry derived.Postfix formula.now
+        (map string_bytes natives.items)) result }
 {
     if has_rate(formula.as_bytes()) {
         return Ok(Entry::Uncomputed);
@@ -72,7 +73,8 @@ fn typed_entry(
     requires each { AllByRecursion IsNativeText (map string_bytes natives.items) }
     requires some { 1 ≤ length natives.items }
     requires few { length natives.items ≤ MOST_NATIVES }
-    ensures { Judges (Entries.typed_entry derived_type formula.now (map string_bytes natives.items)) result }
+    ensures { Judges (Entries.typed_entry derived_type formula.now
+        (map string_bytes natives.items)) result }
 {
     match derived_type {
         DerivedType::NotDerived => {
@@ -100,7 +102,8 @@ fn kept_entry(
 ) -> Result<Entry, Refusal<PresetCause>>
     requires each { AllByRecursion IsNativeText (map string_bytes natives.items) }
     requires few { length natives.items ≤ MOST_NATIVES }
-    ensures { Judges (Entries.kept_entry derived_type formula.now (Ok (map string_bytes natives.items))) result }
+    ensures { Judges (Entries.kept_entry derived_type formula.now
+        (Ok (map string_bytes natives.items))) result }
 {
     if natives.is_empty() {
         return Ok(Entry::Uncomputed);

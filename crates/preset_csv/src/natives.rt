@@ -28,7 +28,8 @@ fn ends_natives(field: &[u8]) -> bool
 // Keeps one more native, unless as many as a preset may have are kept.
 fn keep(alloc: Global, natives: &mut Vec<String>, text: &str) -> Result<(), AllocError>
     requires { length natives.old.items ≤ MOST_NATIVES }
-    ensures { OnOk result (map string_bytes natives.new.items ≡ take MOST_NATIVES (map string_bytes natives.old.items ++ text.now ∷ [])) }
+    ensures { OnOk result (map string_bytes natives.new.items
+        ≡ take MOST_NATIVES (map string_bytes natives.old.items ++ text.now ∷ [])) }
 {
     if natives.len() < MOST_NATIVES as usize {
         natives.push(String::from_str(alloc, text)?)?;
@@ -39,7 +40,8 @@ fn keep(alloc: Global, natives: &mut Vec<String>, text: &str) -> Result<(), Allo
 // The natives of which so many were counted, where there are not too many.
 fn within_limit(natives: Vec<String>, count: usize) -> Result<Vec<String>, Refusal<PresetCause>>
     ensures within { IfOk result (λ v. (v ≡ natives) × (count ≤ MOST_NATIVES)) }
-    ensures over { IfErr result (λ refused. (refused ≡ refusal.Cause cause.OverLimit) × (MOST_NATIVES < count)) }
+    ensures over { IfErr result
+        (λ refused. (refused ≡ refusal.Cause cause.OverLimit) × (MOST_NATIVES < count)) }
 {
     if count > MOST_NATIVES as usize {
         Err(Refusal::Cause(PresetCause::OverLimit))
@@ -55,8 +57,11 @@ pub fn row_natives(
     row: &ByteRecord,
     first: usize,
 ) -> Result<Vec<String>, Refusal<PresetCause>>
-    ensures natives { IfOk result (λ v. kept_natives (natives_from (fields_of row.now) first) ≡ Ok (map string_bytes v.items)) }
-    ensures refused { IfErr result (λ refused. IsRefusal (kept_natives (natives_from (fields_of row.now) first)) refused) }
+    ensures natives { IfOk result
+        (λ v. kept_natives (natives_from (fields_of row.now) first)
+        ≡ Ok (map string_bytes v.items)) }
+    ensures refused { IfErr result
+        (λ refused. IsRefusal (kept_natives (natives_from (fields_of row.now) first)) refused) }
 {
     let mut natives = Vec::new(alloc);
     let mut count = 0;

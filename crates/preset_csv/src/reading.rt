@@ -51,7 +51,8 @@ pub fn take_preset<J: RowJudge>(
     requires plain { IsReadRow (fields_of row.now) }
     requires all { length entries.old.items ≡ PRESETS }
     ensures { TakesRow (read_cause J.judged holds (derivation_of (fields_of row.now)))
-        (entries.new.items ≡ entries_with J.judged holds entries.old.items (derivation_of (fields_of row.now))) result }
+        (entries.new.items ≡ entries_with J.judged holds entries.old.items
+        (derivation_of (fields_of row.now))) result }
 {
     if !holds {
         return Ok(());
@@ -79,7 +80,8 @@ fn take_line(
     requires plain { IsPlainRow row }
     requires all { length taken.old.entries.items ≡ PRESETS }
     ensures { TakesRow (cause_more taken.old.group (row_line row.entry))
-        (IsMore cpu.now (row_line row.entry) taken.old.group taken.old.entries.items taken.new.group taken.new.entries.items) result }
+        (IsMore cpu.now (row_line row.entry) taken.old.group taken.old.entries.items
+        taken.new.group taken.new.entries.items) result }
 {
     match row {
         Row::Other => Ok(()),

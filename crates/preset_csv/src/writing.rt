@@ -25,7 +25,8 @@ pub fn put_field(text: &mut Vec<u8>, field: &[u8]) -> Result<(), AllocError>
 
 // The natives, each after a comma.
 fn put_natives(text: &mut Vec<u8>, natives: &[String]) -> Result<(), AllocError>
-    ensures { OnOk result (text.new.items ≡ text.old.items ++ after_commas (map string_bytes natives.now)) }
+    ensures { OnOk result (text.new.items
+        ≡ text.old.items ++ after_commas (map string_bytes natives.now)) }
 {
     for native in natives {
         put_field(text, native.as_bytes())?;
@@ -39,7 +40,8 @@ fn put_formula(
     text: &mut Vec<u8>,
     formula: Option<&Formula>,
 ) -> Result<(), AllocError>
-    ensures { OnOk result (text.new.items ≡ text.old.items ++ after_commas (formula_fields (option_copied formula.entry))) }
+    ensures { OnOk result (text.new.items
+        ≡ text.old.items ++ after_commas (formula_fields (option_copied formula.entry))) }
 {
     match formula {
         Some(formula) => {
@@ -75,7 +77,8 @@ pub fn put_entry(
     name: &str,
     entry: &Entry,
 ) -> Result<(), AllocError>
-    ensures { OnOk result (text.new.items ≡ text.old.items ++ rows_text (rows_of_entry word.now name.now entry.now)) }
+    ensures { OnOk result (text.new.items
+        ≡ text.old.items ++ rows_text (rows_of_entry word.now name.now entry.now)) }
 {
     match entry {
         Entry::Missing => Ok(()),

@@ -49,7 +49,8 @@ impl TableKind for MapRows {
 fn add_row(alloc: Global, ranges: &mut Vec<MapRange>, row: Row<'_>) -> Result<(), Refusal<MapCause>>
     requires kept { IsMap (map range_text ranges.old.items) }
     ensures { TakesRow (cause_in (map range_text ranges.old.items) (row_line row.entry))
-        (map range_text ranges.new.items ≡ with_line (map range_text ranges.old.items) (row_line row.entry)) result }
+        (map range_text ranges.new.items
+        ≡ with_line (map range_text ranges.old.items) (row_line row.entry)) result }
 {
     match row {
         Row::Skipped => Ok(()),

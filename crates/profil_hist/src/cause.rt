@@ -27,7 +27,8 @@ fn has_name(above: &[MapRange], name: &str) -> bool
 }
 
 fn has_overlap(above: &[MapRange], range: &MapRange) -> bool
-    ensures { result ≡ list_any (λ o. Ranges.overlaps o (range_text range.now)) (map range_text above.now) }
+    ensures { result ≡ list_any
+        (λ o. Ranges.overlaps o (range_text range.now)) (map range_text above.now) }
 {
     above.iter().any(|r| r.overlaps(range))
 }

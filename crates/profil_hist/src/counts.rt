@@ -37,7 +37,8 @@ impl RangeCounts {
 
 /// No range was met yet.
 pub fn zeros_of(alloc: Global, ranges: &[MapRange]) -> Result<Vec<RangeCounts>, AllocError>
-    ensures { IfOk result (λ rows. map counts_text rows.items ≡ Counts.no_counts (map range_text ranges.now)) }
+    ensures { IfOk result (λ rows. map counts_text rows.items
+        ≡ Counts.no_counts (map range_text ranges.now)) }
 {
     let mut rows = Vec::new(alloc);
     for r in ranges {
@@ -51,7 +52,8 @@ pub fn add_at(rows: &mut Vec<RangeCounts>, place: Place)
     requires there { Counts.IsThere place (map counts_text rows.old.items) }
     requires hits_room { sum_by (λ row. row.hits) (map counts_text rows.old.items) < 2 ^ 63 }
     requires bucket_room { met (map counts_text rows.old.items) < 2 ^ 63 }
-    ensures { map counts_text rows.new.items ≡ Counts.with_note place (map counts_text rows.old.items) }
+    ensures { map counts_text rows.new.items
+        ≡ Counts.with_note place (map counts_text rows.old.items) }
 {
     rows[place.range].add(place.bucket);
 }

@@ -65,7 +65,8 @@ impl Hist {
         requires { self.old.total < 2 ^ 63 }
         ensures map { self.new.map ≡ self.old.map }
         ensures total { self.new.total ≡ self.old.total + 1 }
-        ensures counts { (pcs : List ℕ) → IsHistogram self.old pcs → IsHistogram self.new (pcs ++ pc ∷ []) }
+        ensures counts { (pcs : List ℕ) → IsHistogram self.old pcs
+            → IsHistogram self.new (pcs ++ pc ∷ []) }
     {
         self.total += 1;
         match self.map.place_of(self.order.as_slice(), pc) {

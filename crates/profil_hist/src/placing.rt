@@ -25,7 +25,8 @@ pub struct Place {
 
 // The ranges in the order of the file.
 fn in_file_order(alloc: Global, ranges: &[MapRange]) -> Result<Vec<Placed>, AllocError>
-    ensures { IfOk result (λ places. Places (map range_text ranges.now) (length ranges.now) places.items) }
+    ensures { IfOk result (λ places.
+        Places (map range_text ranges.now) (length ranges.now) places.items) }
 {
     let mut places = Vec::new(alloc);
     for range in 0..ranges.len() {

@@ -16,7 +16,8 @@ use std::fmt::Write;
 fn push_bucket(text: &mut String, range: &MapRange, i: u32, count: u64) -> Result<(), AllocError>
     requires kept { IsRange (range_text range.now) }
     requires there { i < range.now.buckets }
-    ensures { OnOk result (string_bytes text.new ≡ string_bytes text.old ++ bucket_line (range_text range.now) i count) }
+    ensures { OnOk result (string_bytes text.new
+        ≡ string_bytes text.old ++ bucket_line (range_text range.now) i count) }
 {
     if count == 0 {
         return Ok(());
@@ -28,7 +29,8 @@ fn push_bucket(text: &mut String, range: &MapRange, i: u32, count: u64) -> Resul
 // Appends the lines of the buckets of the range in place k.
 fn push_buckets(text: &mut String, hist: &Hist, k: u32, range: &MapRange) -> Result<(), AllocError>
     requires kept { IsRange (range_text range.now) }
-    ensures { OnOk result (string_bytes text.new ≡ string_bytes text.old ++ bucket_lines (range_text range.now) (count_or_none hist.now k)) }
+    ensures { OnOk result (string_bytes text.new
+        ≡ string_bytes text.old ++ bucket_lines (range_text range.now) (count_or_none hist.now k)) }
 {
     for i in 0..range.buckets {
         let count = hist.bucket(k, i).unwrap_or(0);
@@ -51,7 +53,8 @@ fn push_range(text: &mut String, hist: &Hist, k: u32, range: &MapRange) -> Resul
 
 // Appends how many program counters were in no range, and how many there were.
 fn push_last(text: &mut String, hist: &Hist) -> Result<(), AllocError>
-    ensures { OnOk result (string_bytes text.new ≡ string_bytes text.old ++ last_lines hist.now.outside hist.now.total) }
+    ensures { OnOk result (string_bytes text.new
+        ≡ string_bytes text.old ++ last_lines hist.now.outside hist.now.total) }
 {
     let outside = hist.outside();
     let total = hist.total();
@@ -76,7 +79,8 @@ fn lines_of(alloc: Global, hist: &Hist) -> Result<String, AllocError>
 /// lines of its buckets that were met, with their lowest addresses; then how many program counters were in no range, and
 /// how many there were.
 pub fn profile_text(alloc: Global, hist: &Hist) -> Result<String, AllocError>
-    ensures profile { (pcs : List ℕ) → IsHistogram hist.now pcs → IfOk result (λ text. string_bytes text ≡ Profiles.profile_text hist.now.map pcs) }
+    ensures profile { (pcs : List ℕ) → IsHistogram hist.now pcs
+        → IfOk result (λ text. string_bytes text ≡ Profiles.profile_text hist.now.map pcs) }
     // Whatever it counts:
     ensures lines { IfOk result (λ text. string_bytes text ≡ hist_lines hist.now) }
 {

@@ -43,7 +43,8 @@ pub fn profile<S: Source>(
     threshold: u64,
     stream: S,
 ) -> Result<Vec<Hot>, Fault>
-    ensures { (tape : Tape) → S.tape stream ≡ Some tape → IsProfile result unit.now event.now threshold (occurs_of tape.ending tape.bytes) }
+    ensures { (tape : Tape) → S.tape stream ≡ Some tape
+        → IsProfile result unit.now event.now threshold (occurs_of tape.ending tape.bytes) }
 {
     let tables = match read_unit(alloc, unit) {
         Ok(tables) => tables,
@@ -73,7 +74,8 @@ fn passings<S: Source>(
 ) -> Result<Vec<u64>, Fault>
     requires fits { FitsShape (shape_of tables.now) native }
     ensures { (tape : Tape) → S.tape stream ≡ Some tape
-        → ArePassings result (shape_of tables.now) native threshold (occurs_of tape.ending tape.bytes) }
+        → ArePassings result (shape_of tables.now) native threshold
+        (occurs_of tape.ending tape.bytes) }
 {
     let Ok(mut core) = Core::new(alloc, 0, tables.shape()) else {
         return Err(Fault::Memory);

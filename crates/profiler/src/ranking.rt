@@ -16,7 +16,8 @@ pub struct Hot {
 
 // How often each address comes.
 fn tally(alloc: Global, pcs: &[u64]) -> Result<BTreeMap<u64, u64>, AllocError>
-    ensures counts { IfOk result (λ counts. (pc : ℕ) → unwrap_or (get nat_cmp counts pc) 0 ≡ passings_at pcs.now pc) }
+    ensures counts { IfOk result
+        (λ counts. (pc : ℕ) → unwrap_or (get nat_cmp counts pc) 0 ≡ passings_at pcs.now pc) }
     ensures some { IfOk result (λ counts. (pc n : ℕ) → get nat_cmp counts pc ≡ Some n → 0 < n) }
 {
     let mut counts = BTreeMap::new(alloc);
@@ -44,7 +45,8 @@ fn is_next(last: Option<Hot>, found: Option<Hot>, hot: Hot) -> bool
 fn next_after(counts: &BTreeMap<u64, u64>, last: Option<Hot>) -> Option<Hot>
     ensures found { IfSome result (λ hot. get nat_cmp counts.now hot.pc ≡ Some hot.passings) }
     ensures after { IfSome result (λ hot. comes_after last hot ≡ true) }
-    ensures first { (pc n : ℕ) → get nat_cmp counts.now pc ≡ Some n → comes_after last (record { pc = pc; passings = n }) ≡ true
+    ensures first { (pc n : ℕ) → get nat_cmp counts.now pc ≡ Some n
+        → comes_after last (record { pc = pc; passings = n }) ≡ true
         → IsFirst result (record { pc = pc; passings = n }) }
 {
     let mut found = None;

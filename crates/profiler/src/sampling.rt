@@ -46,8 +46,10 @@ pub fn arm(core: &mut Core, book: &PresetBook, native: Native, threshold: u64) -
     ensures taken { core.new.taken ≡ core.old.taken }
     ensures last { core.new.last ≡ core.old.last }
     ensures stands { (a : Account) → CoreStands book.now core.old a
-        → OnOk result (CoreStands book.now core.new (account_after book.now core.old.shape a (calls native threshold))) }
-    ensures answered { (a : Account) → CoreStands book.now core.old a → IsAnswered result book.now core.old.shape a (calls native threshold) }
+        → OnOk result (CoreStands book.now core.new
+        (account_after book.now core.old.shape a (calls native threshold))) }
+    ensures answered { (a : Account) → CoreStands book.now core.old a
+        → IsAnswered result book.now core.old.shape a (calls native threshold) }
 {
     let event = Ok(EventRef::Native(native));
     core.create(book)?;
@@ -73,7 +75,8 @@ pub fn sample<S: Source>(
     reader: &mut StreamReader<S>,
 ) -> Result<Vec<u64>, Unsampled>
     requires in_step { AreInStep core.old reader.old }
-    ensures { (book : Book) (a : Account) (stream : Coming) → CoreStands book core.old a → coming reader.old ≡ Some stream
+    ensures { (book : Book) (a : Account) (stream : Coming) → CoreStands book core.old a
+        → coming reader.old ≡ Some stream
         → IsSampled result book a stream }
 {
     let mut pcs = Vec::new(alloc);

@@ -2,6 +2,7 @@
 use Rattle.std.specs.Prelude.{◌&&◌, ◌||◌, ◌==◌, ℕ, Bool, List, [], ◌∷◌, length, reverse}
 use Rattle.std.specs.Prelude.{unwrap_or, if◌then◌else◌, nat_le, slice_index}
 use Rattle.std.specs.List.{list_all, slice_get}
+use Rattle.table_rows.specs.declared.limits.TheConstants.{LONGEST_NAME}
 pub use Rattle.papi_base.specs.Numerals.{is_digit, is_empty, is_hex_digit}
 unfoldable pub use Rattle.papi_base.specs.Numerals.{decimal_in, hex_in, is_decimal, is_numeral}
 
@@ -36,9 +37,9 @@ is_skipped first = (length first == 0) || (slice_index first 0 == 35)
 abbrev pub is_name_byte : ℕ → Bool
 is_name_byte b = (nat_le 48 b && nat_le b 57) || ((nat_le 65 b && nat_le b 90) || ((nat_le 97 b && nat_le b 122) || ((b == 95) || (b == 45))))
 
--- 1 to 64 letters, digits, `_` and `-`
+-- 1 to LONGEST_NAME letters, digits, `_` and `-`
 unfoldable pub is_name : Text → Bool
-is_name t = nat_le 1 (length t) && (nat_le (length t) 64 && list_all is_name_byte t)
+is_name t = nat_le 1 (length t) && (nat_le (length t) LONGEST_NAME && list_all is_name_byte t)
 
 -- a byte from a space to `~`
 abbrev pub is_printable_byte : ℕ → Bool

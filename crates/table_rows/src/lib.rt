@@ -6,6 +6,7 @@
 
 mod fault;
 mod field;
+mod limits;
 mod number;
 mod row_reader;
 mod table;
@@ -13,6 +14,7 @@ mod word;
 
 pub use crate::fault::{Refusal, RowFault};
 pub use crate::field::{is_blank, is_skipped, text_at, trimmed};
+pub use crate::limits::LONGEST_NAME;
 pub use crate::number::{decimal_in, hex_in, is_decimal, is_numeral, numeral_value};
 pub use crate::row_reader::RowReader;
 pub use crate::table::{TableKind, read_table};

@@ -48,7 +48,8 @@ pub fn is_decimal(bytes: &[u8]) -> bool
 /// The value of decimal digits, and `None` where it needs more than 64 bits.
 pub fn numeral_value(digits: &[u8]) -> Option<u64>
     requires { Numerals.is_numeral digits.now ≡ true }
-    ensures { result ≡ (if nat_lt (digits_value 10 digits.now) (2 ^ 64) then Some (digits_value 10 digits.now) else None) }
+    ensures { result ≡ (if nat_lt (digits_value 10 digits.now) (2 ^ 64)
+        then Some (digits_value 10 digits.now) else None) }
 {
     match str::from_utf8(digits) {
         Ok(text) => text.parse::<u64>().ok(),

@@ -47,7 +47,9 @@ fn reader_of(alloc: Global, bytes: &[u8]) -> Reader<&[u8]>
 // The next row, and whether there was one.
 fn read_next(reader: &mut Reader<&[u8]>, row: &mut ByteRecord) -> Result<bool, AllocError>
     requires { IsBetweenRows reader.old }
-    ensures next { IfOk result (λ found. ReadsRow found (bytes_left reader.old) (fields_of row.new) (rows_left (not found) reader.new)) }
+    ensures next { IfOk result
+        (λ found. ReadsRow found (bytes_left reader.old) (fields_of row.new)
+        (rows_left (not found) reader.new)) }
     ensures place { IfOk result (λ found. IsAtRow (not found) reader.new) }
 {
     let Ok(found) = reader.read_byte_record(row) else {

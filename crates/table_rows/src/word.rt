@@ -4,6 +4,8 @@ ghost use Rattle.std.specs.Prelude.{◌≡◌, if◌then◌else◌, option_map, 
 ghost use Rattle.std.specs.List.{list_all};
 ghost use Rattle.table_rows.specs.Texts as Texts;
 
+use crate::limits::LONGEST_NAME;
+
 fn is_name_byte(b: u8) -> bool
     ensures { result ≡ Texts.is_name_byte b }
 {
@@ -22,12 +24,12 @@ fn are_name_bytes(bytes: &[u8]) -> bool
     bytes.iter().all(|&b| is_name_byte(b))
 }
 
-/// Whether bytes are a name: 1 to 64 letters, digits, `_` and `-`.
+/// Whether bytes are a name: 1 to [`LONGEST_NAME`] letters, digits, `_` and `-`.
 #[tactic(auto, unfolding(crate::specs::Texts::is_name))]
 pub fn is_name(bytes: &[u8]) -> bool
     ensures { result ≡ Texts.is_name bytes.now }
 {
-    1 <= bytes.len() && bytes.len() <= 64 && are_name_bytes(bytes)
+    1 <= bytes.len() && bytes.len() <= LONGEST_NAME && are_name_bytes(bytes)
 }
 
 /// Whether each byte is printable ASCII, from a space to `~`.
@@ -39,7 +41,8 @@ pub fn is_printable(bytes: &[u8]) -> bool
 
 /// The text of bytes that are a name, and `None` where they are not.
 pub fn name_text(bytes: &[u8]) -> Option<&str>
-    ensures { option_map (λ s. s.now) result ≡ (if Texts.is_name bytes.now then Some bytes.now else None) }
+    ensures { option_map (λ s. s.now) result
+        ≡ (if Texts.is_name bytes.now then Some bytes.now else None) }
 {
     if !is_name(bytes) {
         return None;
@@ -52,7 +55,8 @@ pub fn name_text(bytes: &[u8]) -> Option<&str>
 
 /// The text of bytes that are printable ASCII, and `None` where some byte is not.
 pub fn printable_text(bytes: &[u8]) -> Option<&str>
-    ensures { option_map (λ s. s.now) result ≡ (if Texts.is_printable bytes.now then Some bytes.now else None) }
+    ensures { option_map (λ s. s.now) result
+        ≡ (if Texts.is_printable bytes.now then Some bytes.now else None) }
 {
     if !is_printable(bytes) {
         return None;

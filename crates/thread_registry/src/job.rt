@@ -63,7 +63,8 @@ fn make_boxed<S: Source>(
 /// Makes the calls of the job. One without calls does nothing.
 fn work_job<S: Source>(job: &mut Job<S>, book: &PresetBook)
     requires { CanBeWorked book.now job.old.session job.old.calls.items }
-    ensures { Ran book.now (seen (notes job.old.handler) job.old) (seen (notes job.new.handler) job.new) }
+    ensures { Ran book.now (seen (notes job.old.handler) job.old)
+        (seen (notes job.new.handler) job.new) }
 {
     if let Opened::Session(session) = &mut job.session {
         let made = make_boxed(

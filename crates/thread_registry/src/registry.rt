@@ -45,7 +45,8 @@ impl Registry {
     /// The registered threads, as bits from the lowest.
     pub fn listed(&self) -> u64
         ensures bits { result ≡ bits_from 1 self.now }
-        ensures listed { (accounts : List Account) → map (λ a. a.registered) accounts ≡ self.now → result ≡ listed_from 1 accounts }
+        ensures listed { (accounts : List Account) → map (λ a. a.registered) accounts ≡ self.now
+            → result ≡ listed_from 1 accounts }
     {
         let mut listed = 0;
         for thread in (0..THREADS as usize).rev() {

@@ -21,7 +21,8 @@ pub fn work_all<R: Threads + Sync, S: Source + Send>(
 )
     requires low { 1 ≤ workers }
     requires ready { AtEach (λ j. CanBeWorked book.now j.session j.calls.items) jobs.old.items }
-    ensures worked { Each (λ x y. Ran book.now (seen (notes x.handler) x) (seen (notes y.handler) y))
+    ensures worked { Each (λ x y.
+        Ran book.now (seen (notes x.handler) x) (seen (notes y.handler) y))
         jobs.old.items jobs.new.items }
 {
     work_tasks(rt, book, jobs, workers);

@@ -13,6 +13,9 @@ use std::alloc::{AllocError, Global};
 /// How many user events a cpu has at most.
 pub const MOST_EVENTS: usize = 256;
 
+/// How many characters the name of a user event has at most.
+pub const LONGEST_EVENT_NAME: usize = 32;
+
 /// An event that a user adds to a preset file: its name, and what it is computed of. Source: papi_events.csv.
 #[derive(Drop)]
 pub struct UserEvent {
@@ -40,12 +43,15 @@ fn begins_as_preset(name: &[u8]) -> bool
     front == b"PAPI_".as_slice()
 }
 
-/// Whether bytes are a name of a user event: 1 to 32 letters, digits and `_`, that do not begin with `PAPI_`.
+/// Whether bytes are a name of a user event: 1 to [`LONGEST_EVENT_NAME`] letters, digits and `_`, that do not begin with `PAPI_`.
 #[tactic(auto, unfolding(crate::specs::Names::is_event_name))]
 pub fn is_event_name(name: &[u8]) -> bool
     ensures { result ≡ Names.is_event_name name.now }
 {
-    1 <= name.len() && name.len() <= 32 && are_event_bytes(name) && !begins_as_preset(name)
+    1 <= name.len()
+        && name.len() <= LONGEST_EVENT_NAME
+        && are_event_bytes(name)
+        && !begins_as_preset(name)
 }
 
 /// The place of the event of this name, and `None` where there is none.
@@ -62,7 +68,8 @@ pub fn put_event(
     name: &str,
     entry: Entry,
 ) -> Result<(), AllocError>
-    ensures { OnOk result (map event_view events.new.items ≡ Steps.put_event (map event_view events.old.items) name.now entry) }
+    ensures { OnOk result (map event_view events.new.items
+        ≡ Steps.put_event (map event_view events.old.items) name.now entry) }
 {
     match place_of(events.as_slice(), name) {
         Some(place) => {

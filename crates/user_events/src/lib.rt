@@ -10,7 +10,7 @@ mod reading;
 mod row;
 mod writing;
 
-pub use crate::event::{MOST_EVENTS, UserEvent};
+pub use crate::event::{LONGEST_EVENT_NAME, MOST_EVENTS, UserEvent};
 pub use crate::extended::Extended;
 pub use crate::reading::read_extended;
 pub use crate::writing::write_extended;

@@ -49,8 +49,11 @@ fn take_event(
     events: &mut Vec<UserEvent>,
 ) -> Result<(), Refusal<PresetCause>>
     requires plain { IsReadRow (fields_of row.now) }
-    ensures { TakesRow (event_cause holds (map event_view events.old.items) (derivation_of (fields_of row.now)))
-        (map event_view events.new.items ≡ events_with holds (map event_view events.old.items) (derivation_of (fields_of row.now))) result }
+    ensures { TakesRow (event_cause holds (map event_view events.old.items)
+        (derivation_of (fields_of row.now)))
+        (map event_view events.new.items
+        ≡ events_with holds (map event_view events.old.items) (derivation_of (fields_of row.now)))
+        result }
 {
     if !holds {
         return Ok(());
@@ -87,7 +90,8 @@ fn take_line(
 ) -> Result<(), Refusal<PresetCause>>
     requires plain { IsPlainRow row }
     requires all { length taken.old.entries.items ≡ PRESETS }
-    ensures { TakesRow (cause_more taken.old.group (map event_view taken.old.events.items) (row_line row.entry))
+    ensures { TakesRow (cause_more taken.old.group (map event_view taken.old.events.items)
+        (row_line row.entry))
         (IsMore cpu.now (row_line row.entry) (taking taken.old) (taking taken.new)) result }
 {
     match row {
