@@ -139,13 +139,13 @@ const PLAIN: Mods = Mods {
     cmask: 0,
 };
 
-// It counts where it begins.
-const EDGE: Mods = Mods {
-    user: false,
-    kernel: false,
+// It counts in both modes, where amounts begin to be below three.
+const FALLS_BELOW_THREE: Mods = Mods {
+    user: true,
+    kernel: true,
     edge: true,
-    invert: false,
-    cmask: 0,
+    invert: true,
+    cmask: 3,
 };
 
 // Retired instructions on the first counter.
@@ -159,14 +159,14 @@ const INST: Native = Native {
     allowed: 1,
 };
 
-// Runs of branches on the second counter.
+// Runs of few branches of umask 01 on the second counter.
 const BRANCH_RUNS: Native = Native {
     comp: 0,
     event: 1,
     select: 0xc4,
     masks: 0,
-    umask: 0,
-    mods: EDGE,
+    umask: 1,
+    mods: FALLS_BELOW_THREE,
     allowed: 2,
 };
 
@@ -190,12 +190,13 @@ fn draw_stream(alloc: Global, draws: &mut Draws) -> Result<(String, Vec<Occ>), A
         let kernel = draws.below(4) == 0;
         let amount = draws.below(5) as u8 + 1;
         let mode = if kernel { "k" } else { "u" };
-        let line = format!(in alloc; "0 {select:02x} 00 {mode} {amount} 1\n")?;
+        let umask = draws.below(4) as u8;
+        let line = format!(in alloc; "0 {select:02x} {umask:02x} {mode} {amount} 1\n")?;
         text.push_str(&line)?;
         occs.push(Occ {
             comp: 0,
             select,
-            umask: 0,
+            umask,
             kernel,
             amount,
             pc: 1,

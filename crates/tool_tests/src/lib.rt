@@ -10,4 +10,6 @@ mod lab;
 #[cfg(test)]
 mod refused_memory;
 #[cfg(test)]
+mod soak_sum;
+#[cfg(test)]
 mod waiting_sources;
