@@ -3,10 +3,9 @@ ghost use Rattle.std.specs.Prelude.{◌≡◌, None, IfOk};
 ghost use Rattle.std.specs.Io.Buffered.{reader_capacity, reader_inner};
 
 use papi_base::{Failed, Files, OpenFail, ReadSource, Source};
-use std::fs;
 use std::fs::File;
-use std::io;
 use std::io::{BufReader, ErrorKind};
+use std::{fs, io};
 
 /// How many bytes the system is asked for at a time.
 const DISK_PIECE: usize = 65_536;
