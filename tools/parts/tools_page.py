@@ -16,7 +16,7 @@ Each tool has a script in `bin/`. It prints its usage without words and with `--
 The commands on this page are run at the top of the repository. What they print is shown, on standard output and then on standard error.
 
 Lines that begin with `hint: ` are not the program's. The scripts in `bin/` add them to standard error if the status is 1 or 2, or if nothing is found of what was asked for. They
-say which word, line, field or name is meant, and what is near. They need Python 3.9, and are left out if there is none. `KISTALUB_HINTS=0` leaves them out too.
+say which word, line, field or name is meant, and which names are like it. They need Python 3.9; without it there are no hints, nor are there any with `KISTALUB_HINTS=0`.
 
 If standard error is a terminal, the scripts show there how far a run of more than half a second has come: the seconds, and how much of the streams was read. The line is gone before the output comes.
 With the word `--quiet` a script adds nothing, neither hints nor this line.
