@@ -82,26 +82,24 @@ fn occurrences_of_streams(rt: HostRuntime) -> Result<(), Fail> {
     for _ in 0..400u32 {
         let text = draw_tape(rt.alloc(), &mut draws)?;
         let bytes = text.as_bytes();
-        if bytes.len() < 1 << 16 {
-            let said = said_by(rt.alloc(), bytes)?;
-            let piece = draws.below(100) as usize + 1;
-            let source = MemSource::new(bytes.to_vec(rt.alloc())?, Ending::End, piece);
-            let mut reader = StreamReader::new(source);
-            for o in &said.occurrences {
-                assert_eq!(&rt; reader.next(), Next::Occ(*o), "{text}");
-            }
-            let end = match said.bad {
-                None => Next::End,
-                Some(bad) => {
-                    given_up = given_up.wrapping_add(1);
-                    Next::Bad {
-                        line: bad.line,
-                        cause: bad.cause,
-                    }
-                }
-            };
-            assert_eq!(&rt; reader.next(), end, "{text}");
+        let said = said_by(rt.alloc(), bytes)?;
+        let piece = draws.below(100) as usize + 1;
+        let source = MemSource::new(bytes.to_vec(rt.alloc())?, Ending::End, piece);
+        let mut reader = StreamReader::new(source);
+        for o in &said.occurrences {
+            assert_eq!(&rt; reader.next(), Next::Occ(*o), "{text}");
         }
+        let end = match said.bad {
+            None => Next::End,
+            Some(bad) => {
+                given_up = given_up.wrapping_add(1);
+                Next::Bad {
+                    line: bad.line,
+                    cause: bad.cause,
+                }
+            }
+        };
+        assert_eq!(&rt; reader.next(), end, "{text}");
     }
     // Both come often.
     assert!(&rt; given_up > 50 && given_up < 350, "{given_up} given up");

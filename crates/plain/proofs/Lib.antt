@@ -1,7 +1,8 @@
 pub mod Choices
 pub mod Divided
 pub mod LastTokens
-pub mod Lines
+pub mod Numbers
+pub mod Pieces
 pub mod Sets
 pub mod Sums
 pub mod Turning

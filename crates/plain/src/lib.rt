@@ -6,6 +6,8 @@ mod assignment;
 mod blame;
 mod counting;
 mod formula;
+mod line;
+mod numeral;
 mod tape;
 mod weighing;
 

@@ -1,10 +1,11 @@
 //! The occurrences of a whole tape, line by line.
-ghost use Rattle.std.specs.Prelude.{◌≡◌, ◌<◌, ◌^◌, ◌++◌, length, IfOk, OnOk};
+ghost use Rattle.std.specs.Prelude.{◌≡◌, ◌==◌, ◌++◌, IfOk, OnOk, map};
+ghost use Rattle.std.specs.List.{slice_split};
 ghost use Rattle.papi_base.specs.declared.outside.Ending.TheVariants.{End};
 ghost use Rattle.stream_reader.specs.Occurs.{occurs_of};
-ghost use Rattle.plain.specs.Tapes.{IsFirstLine, mark_of, occurrence_of};
+ghost use Rattle.plain.specs.Tapes.{mark_of, occurrence_of};
 
-use memchr::memchr;
+use crate::line::{after, judge};
 use papi_base::{LineCause, Occ};
 use std::alloc::{AllocError, Global};
 use stream_reader::{Judgement, LineStart};
@@ -23,15 +24,21 @@ pub struct Said {
     pub bad: Option<BadLine>,
 }
 
-// The length of the first line, and whether a newline ends it.
-fn first_line(text: &[u8]) -> (usize, bool)
-    requires { 0 < length text.now }
-    ensures { IsFirstLine text.now result.0 result.1 }
+// The place where a tape begins.
+const FIRST: LineStart = LineStart {
+    number: 1,
+    passed: 0,
+    stamped: false,
+    given: 0,
+    last: None,
+};
+
+// The pieces between newlines.
+fn pieces_of(alloc: Global, tape: &[u8]) -> Result<Vec<&[u8]>, AllocError>
+    ensures { IfOk result
+        (λ pieces. map (λ x. x.now) pieces.items ≡ slice_split (λ b. b == 10) tape.now) }
 {
-    match memchr(b'\n', text) {
-        Some(size) => (size, true),
-        None => (text.len(), false),
-    }
+    tape.split(|b| *b == b'\n').collect(alloc)
 }
 
 // Keeps the occurrence of a line, if it has one.
@@ -47,17 +54,21 @@ fn keep(occurrences: &mut Vec<Occ>, judgement: &Judgement) -> Result<(), AllocEr
 
 /// What a tape says that is read to its end: it is cut at each newline, and each line is judged by itself.
 pub fn said_by(alloc: Global, tape: &[u8]) -> Result<Said, AllocError>
-    requires { length tape.now < 2 ^ 32 }
     ensures occurrences { IfOk result
         (λ said. said.occurrences.items ≡ (occurs_of End tape.now).rest) }
     ensures mark { IfOk result (λ said. mark_of said.bad ≡ (occurs_of End tape.now).mark) }
 {
+    let pieces = pieces_of(alloc, tape)?;
     let mut occurrences = Vec::new(alloc);
-    let mut start = LineStart::FIRST;
-    let mut rest = tape;
-    while !rest.is_empty() {
-        let (size, ended) = first_line(rest);
-        let judgement = start.judge(&rest[..size], ended);
+    let mut start = FIRST;
+    for i in 0..pieces.len() {
+        let line = pieces[i];
+        let ended = i + 1 < pieces.len();
+        // The last piece is a line only if it has bytes.
+        if !ended && line.is_empty() {
+            break;
+        }
+        let judgement = judge(&start, line, ended);
         if let Judgement::Bad(cause) = judgement {
             let line = start.number;
             return Ok(Said {
@@ -66,8 +77,7 @@ pub fn said_by(alloc: Global, tape: &[u8]) -> Result<Said, AllocError>
             });
         }
         keep(&mut occurrences, &judgement)?;
-        start.pass(size, ended, &judgement);
-        rest = &rest[size + usize::from(ended)..];
+        start = after(&start, line, ended, &judgement);
     }
     Ok(Said {
         occurrences,

@@ -1,0 +1,151 @@
+-- Numbers by their digits.
+use Rattle.std.proofs.Common.{◌≡◌, ◌∙◌, ◌+◌, ◌-◌, ◌*◌, ◌^◌, ◌<◌, ◌≤◌, ◌≢◌, ◌==◌, ◌&&◌, ◌||◌, ◌∷◌, ℕ, Bool, true, false, not, List, [], Option, Some, None, length, get_or, refl, sym, arith, min, inl, inr, eq-eqb}
+use Rattle.std.specs.Prelude.{IfSome, if◌then◌else◌, nat_le}
+use Rattle.std.specs.Char.{digit_value}
+use Rattle.std.specs.Char as char
+use Rattle.std.specs.List.{list_all}
+use Rattle.std.specs.Str.Parse.{AllDigits, digits_value}
+use Rattle.std.proofs.lemmas.Bool.{cases_lt, ltb-true, le-leb, lt-leb, ne_eqb}
+use Rattle.std.proofs.lemmas.Bool.Decides.{nat_tests}
+use Rattle.std.proofs.lemmas.Int.Digits.{digits_value-lt}
+use Rattle.std.proofs.Math.Nat.{le-mul_of_pos_right, mul-le-mul_right, pow-le-pow_right}
+use Rattle.papi_base.specs.Numerals.{decimal_in, hex_in, is_decimal, is_digit, is_empty, is_hex_digit, is_numeral}
+
+-- the greatest number of 64 bits
+abbrev pub top : ℕ
+top = 2 ^ 64 - 1
+
+-- one digit more, where a number past a limit is kept at it
+pub one_more : (v base d m : ℕ) → 1 ≤ base → min (min (min v m * base) m + d) m ≡ min (v * base + d) m
+one_more v base d m some = elim (cases_lt m v) [
+  | inl past ↦ (
+      let at_limit : min v m ≡ m = omega arith in
+      let kept : m ≤ m * base = le-mul_of_pos_right m some in
+      let more : m * base ≤ v * base = mul-le-mul_right base (omega arith) in
+      rw at_limit (omega (arith, kept, more))
+      )
+  | inr within ↦ (let same : min v m ≡ v = omega arith in rw same (omega arith))
+]
+
+-- what some digits write in a base, kept at the top
+abbrev pub number_of : ℕ → List ℕ → Option ℕ
+number_of base t = if list_all (λ b. char.is_digit b base) t then Some (min (digits_value base t) top) else None
+
+no_number : {X : Type 0} (b : Bool) (x : X) → None ≡ (if b then Some x else None) → b ≡ false
+no_number true x e = cc e
+no_number false x e = refl
+
+some_number : {X : Type 0} (b : Bool) (n x : X) → Some n ≡ (if b then Some x else None) → (b ≡ true) × (n ≡ x)
+some_number true n x e = (refl, cc e)
+some_number false n x e = cc e
+
+pub and_false : (b : Bool) → (b && false) ≡ false
+and_false true = refl
+and_false false = refl
+
+both : (a b : Bool) → (a && b) ≡ true → (a ≡ true) × (b ≡ true)
+both true b e = (refl, e)
+both false b e = cc e
+
+or_true : (b : Bool) → (b || true) ≡ true
+or_true true = refl
+or_true false = refl
+
+-- ---- a decimal number
+
+-- the digits of base ten are the decimal digits
+digit_is : (b : ℕ) → char.is_digit b 10 ≡ is_digit b
+digit_is b = grind (arith, nat_tests)
+
+digits_are : (t : List ℕ) → list_all (λ b. char.is_digit b 10) t ≡ list_all is_digit t
+digits_are [] = refl
+digits_are (b ∷ t) = rw (digit_is b, digits_are t) refl
+
+pub decimal_empty : (low high : ℕ) (t : List ℕ) → length t ≡ 0 → decimal_in low high t ≡ None
+unfolding decimal_in is_decimal is_numeral
+decimal_empty low high [] e = refl
+decimal_empty low high (b ∷ t) e = absurd (omega arith)
+
+pub decimal_zero : (low high : ℕ) (t : List ℕ) → 1 < length t → get_or t 0 0 ≡ 48 → decimal_in low high t ≡ None
+unfolding decimal_in is_decimal
+decimal_zero low high t h e =
+    let more : (length t == 1) ≡ false = ne_eqb (length t) 1 (λ e. omega arith) in
+    rw (more, eq-eqb (get_or t 0 0) 48 e) (rw (and_false (is_numeral t)) refl)
+
+pub decimal_other : (low high : ℕ) (t : List ℕ) → None ≡ number_of 10 t → decimal_in low high t ≡ None
+unfolding decimal_in is_decimal is_numeral
+decimal_other low high t e =
+    let other : list_all is_digit t ≡ false = sym (digits_are t) ∙ no_number _ _ e in
+    rw other refl
+
+filled : (t : List ℕ) → 0 < length t → is_empty t ≡ false
+filled [] h = absurd (omega arith)
+filled (b ∷ t) h = refl
+
+form_is : (t : List ℕ) → 0 < length t → (1 < length t → get_or t 0 0 ≢ 48) → ((length t == 1) || not (get_or t 0 0 == 48)) ≡ true
+form_is t some other = elim (cases_lt 1 (length t)) [
+  | inl more ↦ rw (ne_eqb (get_or t 0 0) 48 (other more)) (or_true (length t == 1))
+  | inr one ↦ rw (eq-eqb (length t) 1 (omega arith)) refl
+]
+
+-- digits with no zero in front are tested for the range
+pub decimal_is : (low high n : ℕ) (t : List ℕ) → 0 < length t → (1 < length t → get_or t 0 0 ≢ 48) → high < 2 ^ 32 → Some n ≡ number_of 10 t
+    → decimal_in low high t ≡ (if nat_le low n && nat_le n high then Some n else None)
+unfolding decimal_in is_decimal is_numeral
+decimal_is low high n t some other small e =
+    let v : ℕ = digits_value 10 t in
+    let is = some_number _ n (min v top) e in
+    let digits : list_all is_digit t ≡ true = sym (digits_are t) ∙ is.0 in
+    rw (digits, filled t some, form_is t some other) (elim (cases_lt top v) [
+      | inl past ↦ (
+          let above : nat_le v high ≡ false = lt-leb v high (omega arith) in
+          let kept : nat_le n high ≡ false = lt-leb n high (omega (arith, is.1)) in
+          rw (above, kept, and_false (nat_le low v), and_false (nat_le low n)) refl
+          )
+      | inr within ↦ (let same : n ≡ v = is.1 ∙ omega arith in rw same refl)
+    ])
+
+-- ---- a hexadecimal number
+
+all_digits : (t : List ℕ) → list_all is_hex_digit t ≡ true → AllDigits 16 t
+all_digits [] e = tt
+all_digits (b ∷ t) e = let parts = both (is_hex_digit b) (list_all is_hex_digit t) e in (ltb-true (digit_value b) 16 parts.0, all_digits t parts.1)
+
+pub hex_short : (few many : ℕ) (t : List ℕ) → length t < few → hex_in few many t ≡ None
+unfolding hex_in
+hex_short few many t h = rw (lt-leb few (length t) h, and_false (list_all is_hex_digit t)) refl
+
+pub hex_long : (few many : ℕ) (t : List ℕ) → many < length t → hex_in few many t ≡ None
+unfolding hex_in
+hex_long few many t h = rw (lt-leb (length t) many h, and_false (nat_le few (length t)), and_false (list_all is_hex_digit t)) refl
+
+-- what as many digits as are asked for write
+pub record IsHex (few many : ℕ) (t : List ℕ) (n : Option ℕ) : Type 0 where
+  pub number : n ≡ hex_in few many t
+  pub most : IfSome n (λ n. n < 16 ^ many)
+
+pub hex_is : (few many : ℕ) (t : List ℕ) → few ≤ length t → length t ≤ many → many ≤ 16 → IsHex few many t (number_of 16 t)
+unfolding hex_in
+hex_is few many t enough within fits = go (list_all is_hex_digit t) refl
+  where
+    value : ℕ
+    value = digits_value 16 t
+
+    some : list_all is_hex_digit t ≡ true → value < 16 ^ many
+    some e =
+        let less : value < 16 ^ length t = digits_value-lt 16 t (all_digits t e) in
+        let most : 16 ^ length t ≤ 16 ^ many = pow-le-pow_right {n = 16} (omega arith) within in
+        omega (arith, less, most)
+
+    same : list_all is_hex_digit t ≡ true → min value top ≡ value
+    same e =
+        let most : 16 ^ many ≤ 16 ^ 16 = pow-le-pow_right {n = 16} (omega arith) fits in
+        omega (arith, some e, most)
+
+    go : (x : Bool) → list_all is_hex_digit t ≡ x
+        → IsHex few many t (if x then Some (min value top) else None)
+    go true e = rw (same e) (record {
+      number = rw (e, le-leb few (length t) enough, le-leb (length t) many within) refl;
+      most = some e;
+    })
+    go false e = record { number = rw e refl; most = tt }

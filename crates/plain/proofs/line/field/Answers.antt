@@ -1,0 +1,18 @@
+use Rattle.std.proofs.Common.{◌≡◌, ◌∙◌, List, [], ℕ, Bor, Option, Some, None, ap, refl, rules, tests}
+use Rattle.std.specs.Option.{option_map, unwrap_or}
+use Rattle.std.specs.Prelude.{◌==◌}
+use Rattle.std.proofs.lemmas.Iterator.Consumers.{nth_from_yields_List}
+use Rattle.std.proofs.lemmas.Iterator.Splits.{YieldsList-from_slice_split}
+use Rattle.plain.proofs.line.field.Goals as goal
+
+-- the text of a field, where the one that stands for a missing field is empty
+text_of : (found : Option (Bor (List ℕ))) (empty : Bor (List ℕ)) → empty.now ≡ [] → (unwrap_or found empty).now ≡ unwrap_or (option_map (λ x. x.now) found) []
+text_of None empty e = e
+text_of (Some x) empty e = refl
+
+pub returns : goal.returns
+returns c =
+    ap (λ x. x.now) c.unwrap_or.ensures
+    ∙ text_of c.nth.result _ refl
+    ∙ ap (λ x. unwrap_or x []) (nth_from_yields_List c.nth.result _ c.args.place c.nth.ensures.ran
+    (YieldsList-from_slice_split _ (λ b. b == 32) c.args.text.now c.split.ensures.rest c.split.ensures.done c.split.ensures.closure (λ x r q k. search (rules, tests))))
