@@ -7,4 +7,8 @@ pub mod Sums
 pub mod Follows
 pub mod Steps
 pub mod Shown
+pub mod Passed
+pub mod Noted
+pub mod Armed
+pub mod Often
 pub mod Refused

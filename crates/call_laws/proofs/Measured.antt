@@ -30,7 +30,7 @@ ends_is : (before : Option Occ) (os : List Occ) → ends (time_after before) (pl
 ends_is before [] = refl
 ends_is before (o ∷ os) = ends_is (Some o) os
 
-last_after-append : (before : Option Occ) (xs ys : List Occ) → last_after before (xs ++ ys) ≡ last_after (last_after before xs) ys
+pub last_after-append : (before : Option Occ) (xs ys : List Occ) → last_after before (xs ++ ys) ≡ last_after (last_after before xs) ys
 last_after-append before [] ys = refl
 last_after-append before (x ∷ xs) ys = last_after-append (Some x) xs ys
 

@@ -105,7 +105,7 @@ performed_follows book shape stream log a (call.Reset k) q inside h = changed_st
 performed_follows book shape stream log a c q inside h = idle_step book shape stream log a c (λ e. cc) refl h
 
 -- one more call, refused or carried out
-step_follows : (book : Book) (shape : Widths) (stream : List Occ) (log : List Answered) (a : Account) (c : Call) → HistoryFollows book stream log a
+pub step_follows : (book : Book) (shape : Widths) (stream : List Occ) (log : List Answered) (a : Account) (c : Call) → HistoryFollows book stream log a
     → HistoryFollows book stream (said c (step book shape a c).reply ∷ log) (step book shape a c).account
 step_follows book shape stream log a c h = go (account_refusal book shape a c) refl (within_stays book shape a c h.within) where
   go : (o : Option Refusal) → account_refusal book shape a c ≡ o
@@ -129,12 +129,16 @@ no_set zero k = refl
 no_set (suc n) zero = refl
 no_set (suc n) (suc k) = no_set n k
 
--- the history of a thread's first calls follows its account
-pub thread_follows : (t : Thread) (calls : List Call) → HistoryFollows t.book t.stream (answered t calls) (account_after t.book t.shape (begun t) calls)
-thread_follows t calls = all_follow t.book t.shape t.stream [] (begun t) calls (record {
+-- the account of a thread before its first call
+pub opening_follows : (t : Thread) → HistoryFollows t.book t.stream [] (begun t)
+opening_follows t = record {
   past_is = refl;
   rest_is = refl;
   within = opening_within t.number t.stream t.mark;
   runs_is = λ k. ap running (no_set 64 k);
   each = λ k s e. let both : None ≡ Some s = sym (no_set 64 k) ∙ e in cc;
-})
+}
+
+-- the history of a thread's first calls follows its account
+pub thread_follows : (t : Thread) (calls : List Call) → HistoryFollows t.book t.stream (answered t calls) (account_after t.book t.shape (begun t) calls)
+thread_follows t calls = all_follow t.book t.shape t.stream [] (begun t) calls (opening_follows t)

@@ -2,6 +2,7 @@ pub mod History
 pub mod SetCalls
 pub mod Measures
 pub mod Values
+pub mod Passings
 pub mod Refusing
 pub mod Lab
 pub mod AllocationRows
