@@ -29,8 +29,8 @@ typedef struct { void *at; } kistalub;
 typedef struct { uint32_t set, index; uint64_t address; } kistalub_passing;
 
 /* Opens the library of a thread over the text of a unit file, of a preset file (of length 0: no presets) for a cpu, and of a
- * stream. The texts are not needed afterwards. -1 if a file is faulty, -2 if memory is refused: the handle is then as it
- * was. A library that was open in the handle is closed. */
+ * stream. The texts are not needed afterwards. -1 if a file is faulty or the cpu is not UTF-8, -2 if memory is refused: the handle
+ * is then as it was. A library that was open in the handle is closed. */
 int kistalub_open(kistalub *h, const unsigned char *unit, size_t unit_len, const unsigned char *presets, size_t presets_len,
                   const unsigned char *cpu, size_t cpu_len, uint32_t thread, const unsigned char *stream, size_t stream_len);
 void kistalub_close(kistalub *h);

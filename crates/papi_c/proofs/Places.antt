@@ -4,6 +4,12 @@ use Rattle.std.proofs.lemmas.List.{drop-drop, drop-set-lt, map-append, take_more
 use Rattle.event_sets.proofs.Steps.{take_at}
 
 -- one item more at the end of what is written
+pub taken_on : {X : Type 0} (xs out : List X) (i : ℕ) (x : X) → i < length out → take i out ≡ take i xs → slice_get xs i ≡ Some x
+    → take (i + 1) (set out i x) ≡ take (i + 1) xs
+taken_on {X} xs out i x less so_far here =
+    take_more_set out i x less ∙ ap (λ (ys : List X). ys ++ x ∷ []) so_far ∙ sym (take_at xs i x here)
+
+-- the same of items that are written as something else
 pub mapped_on : {X : Type 0} (f : X → ℕ) (xs : List X) (out : List ℕ) (i : ℕ) (e : X) (x : ℕ) → i < length out → take i out ≡ map f (take i xs) → slice_get xs i ≡ Some e → x ≡ f e
     → take (i + 1) (set out i x) ≡ map f (take (i + 1) xs)
 mapped_on f xs out i e x less so_far here is =
@@ -11,6 +17,6 @@ mapped_on f xs out i e x less so_far here is =
     ∙ sym (ap (map f) (take_at xs i e here) ∙ map-append f (take i xs) (e ∷ []))
 
 -- what is after it stays
-pub rest_on : (out before : List ℕ) (i x : ℕ) → drop i out ≡ drop i before → drop (i + 1) (set out i x) ≡ drop (i + 1) before
+pub rest_on : {X : Type 0} (out before : List X) (i : ℕ) (x : X) → drop i out ≡ drop i before → drop (i + 1) (set out i x) ≡ drop (i + 1) before
 rest_on out before i x e =
     drop-set-lt (i + 1) out i x (omega arith) ∙ sym (drop-drop 1 i out) ∙ ap (drop 1) e ∙ drop-drop 1 i before

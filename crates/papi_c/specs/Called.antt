@@ -1,12 +1,14 @@
 -- What the calls from C do.
-use Rattle.std.specs.Prelude.{ℕ, ℤ, ◌≡◌, ◌<◌, ◌⊎◌, length, slice_index_or, pos, List, Option, Some, None, Result, IfOk, negsuc}
+use Rattle.std.specs.Prelude.{ℕ, ℤ, ◌≡◌, ◌≢◌, ◌++◌, ◌⊎◌, drop, length, negsuc, pos, take, IsUtf8, List, [], Option, Some, None, Result}
 use Rattle.papi_base.specs.declared.code.Code.{Code}
+use Rattle.papi_base.specs.declared.code.Code.TheVariants as papi
 use Rattle.papi_base.specs.declared.native.EventRef.{EventRef}
 use Rattle.papi_base.specs.Codes.{number_of}
 use Rattle.component_table.specs.Catalogs.{looked_up}
 use Rattle.session_model.specs.declared.call.Call.{Call}
 use Rattle.session_model.specs.declared.line.Asked.{Asked}
 use Rattle.session_model.specs.declared.line.Asked.TheVariants as asked
+use Rattle.session_model.specs.declared.reply.Body.{Body}
 use Rattle.session_model.specs.declared.reply.Body.TheVariants as body
 use Rattle.session_model.specs.declared.reply.Reply.{Reply}
 use Rattle.thread_core.specs.Following.{reply_of, values_reply}
@@ -14,6 +16,8 @@ use Rattle.papi_calls.specs.Calls as Calls
 use Rattle.papi_calls.specs.Calls.{Made}
 use Rattle.papi_calls.specs.Codes.{code_in_row, coded}
 use Rattle.papi_calls.specs.Libraries.{LibraryView}
+use Rattle.papi_c.specs.Numbers.{IsAnswered}
+use Rattle.papi_c.specs.Placed.{IsRefused}
 
 -- the call is made as the model's step has it, and its number is that of the step's code
 pub record Answered (old new : LibraryView) (made : Call) (number : ℤ) : Type 0 where
@@ -27,53 +31,67 @@ Called None None made number = number ≡ negsuc 15
 Called (Some old) (Some new) made number = Answered old new (made old) number
 Called old new made number = ⊥
 
--- the name is not a text, PAPI_EINVAL, or memory was refused, PAPI_ENOMEM
-abbrev pub IsUnmade : ℤ → Type 0
-IsUnmade number = (number ≡ negsuc 0) ⊎ (number ≡ negsuc 1)
+-- the name is not a text, PAPI_EINVAL, or memory is refused, PAPI_ENOMEM
+abbrev pub IsUnmade : List ℕ → ℤ → Type 0
+IsUnmade name number = ((number ≡ negsuc 0) × ¬ (IsUtf8 name)) ⊎ (number ≡ negsuc 1)
 
 -- the same of a call on the event that a text names, unless it is not made
 abbrev pub CalledByName : List ℕ → Option LibraryView → Option LibraryView → (Result EventRef Code → Call) → ℤ → Type 0
-CalledByName name old new made number = Called old new (λ l. made (looked_up l.catalog name)) number ⊎ ((new ≡ old) × IsUnmade number)
+CalledByName name old new made number = Called old new (λ l. made (looked_up l.catalog name)) number ⊎ ((new ≡ old) × IsUnmade name number)
 
 -- the same of a call on the event of a code
 abbrev pub CalledByCode : ℕ → Option LibraryView → Option LibraryView → (Result EventRef Code → Call) → ℤ → Type 0
 CalledByCode event old new made number = Called old new (λ l. made (coded l.catalog l.mentioned event)) number
 
--- the values stand at the first places, as far as there is room
-abbrev pub AreGiven : List ℤ → List ℤ → Type 0
-AreGiven values out = (i : ℕ) → i < length values → i < length out → slice_index_or out i (pos 0) ≡ slice_index_or values i (pos 0)
+-- the call is made as the model's step has it, and the number that its reply shows is given, or its code refuses one
+pub record GaveNumber (old new : LibraryView) (made : Call) (shown : ℕ → Body) (number : ℤ) (before after : ℕ) : Type 0 where
+  pub answer : Result ℕ Code
+  pub step : Made old new made (reply_of shown answer)
+  pub given : IsAnswered answer number before after
 
--- the call is made as the model's step has it: the number is that of its code, and its values are given
-pub record Gave (old new : LibraryView) (made : Call) (n : ℤ) (count : ℕ) (out : List ℤ) : Type 0 where
+-- the same through a handle
+abbrev pub GivesNumber : Option LibraryView → Option LibraryView → Call → (ℕ → Body) → ℤ → ℕ → ℕ → Type 0
+GivesNumber None None made shown number before after = (number ≡ negsuc 15) × (after ≡ before)
+GivesNumber (Some old) (Some new) made shown number before after = GaveNumber old new made shown number before after
+GivesNumber old new made shown number before after = ⊥
+
+-- the values stand at the first places, as far as there is room, and what is past them stays
+abbrev pub AreGiven : List ℤ → List ℤ → List ℤ → Type 0
+AreGiven values before after = after ≡ take (length before) values ++ drop (length values) before
+
+-- the call is made as the model's step has it: the number is that of its code, and its values are given, which are none where it is refused
+pub record Gave (old new : LibraryView) (made : Call) (n : ℤ) (count : ℕ) (before after : List ℤ) : Type 0 where
   pub code : Code
   pub values : List ℤ
   pub step : Made old new made (values_reply code values)
+  pub refused : code ≢ papi.Ok → values ≡ []
   pub number : n ≡ number_of code
   pub counted : count ≡ length values
-  pub given : AreGiven values out
+  pub given : AreGiven values before after
 
--- the same through a handle
-abbrev pub Gives : Option LibraryView → Option LibraryView → Call → ℤ → ℕ → List ℤ → Type 0
-Gives None None made number count out = number ≡ negsuc 15
-Gives (Some old) (Some new) made number count out = Gave old new made number count out
-Gives old new made number count out = ⊥
+-- the same through a handle, where a shut one gives nothing
+abbrev pub Gives : Option LibraryView → Option LibraryView → Call → ℤ → ℕ → ℕ → List ℤ → List ℤ → Type 0
+Gives None None made number counted count before after = IsRefused (negsuc 15) number counted count before after
+Gives (Some old) (Some new) made number counted count before after = Gave old new made number count before after
+Gives old new made number counted count before after = ⊥
 
--- the code of an event is asked as the model has it: the number is that of the reply's code, and the event's code is given
-pub record Coded (old new : LibraryView) (made : Asked) (number : ℤ) (out : ℕ) : Type 0 where
+-- the code of an event is asked as the model has it, and is given, or the reply's code refuses it
+pub record Coded (old new : LibraryView) (made : Asked) (number : ℤ) (before after : ℕ) : Type 0 where
   pub answer : Result ℕ Code
   pub does : Calls.Answered old new made (reply_of (λ n. body.EventCode n) answer)
-  pub code : number ≡ number_of (reply_of (λ n. body.EventCode n) answer).code
-  pub given : IfOk answer (λ n. n ≡ out)
+  pub given : IsAnswered answer number before after
 
 -- the same through a handle
-abbrev pub Codes : Option LibraryView → Option LibraryView → (LibraryView → Asked) → ℤ → ℕ → Type 0
-Codes None None made number out = number ≡ negsuc 15
-Codes (Some old) (Some new) made number out = Coded old new (made old) number out
-Codes old new made number out = ⊥
+abbrev pub Codes : Option LibraryView → Option LibraryView → (LibraryView → Asked) → ℤ → ℕ → ℕ → Type 0
+Codes None None made number before after = (number ≡ negsuc 15) × (after ≡ before)
+Codes (Some old) (Some new) made number before after = Coded old new (made old) number before after
+Codes old new made number before after = ⊥
 
 -- the same of the event that a text names, unless it is not asked
-abbrev pub CodesName : List ℕ → Option LibraryView → Option LibraryView → ℤ → ℕ → Type 0
-CodesName name old new number out = Codes old new (λ l. asked.CodeOf (looked_up l.catalog name)) number out ⊎ ((new ≡ old) × IsUnmade number)
+abbrev pub CodesName : List ℕ → Option LibraryView → Option LibraryView → ℤ → ℕ → ℕ → Type 0
+CodesName name old new number before after =
+    Codes old new (λ l. asked.CodeOf (looked_up l.catalog name)) number before after
+    ⊎ ((new ≡ old) × (after ≡ before) × IsUnmade name number)
 
 -- the code in a row of the catalog is given, PAPI_OK; past the last row nothing is, PAPI_ENOEVNT
 abbrev pub GivesCode : Option ℕ → ℤ → ℕ → ℕ → Type 0

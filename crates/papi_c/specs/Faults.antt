@@ -1,5 +1,5 @@
 -- What is wrong with a file, as papi_run says it: this project's own, docs/FORMATS.md.
-use Rattle.std.specs.Prelude.{ℕ, ℤ, ◌≡◌, ◌==◌, ◌⊎◌, codes, if◌then◌else◌, negsuc, option_map, List, [], Option, Some, None}
+use Rattle.std.specs.Prelude.{ℕ, ℤ, ◌≡◌, ◌==◌, ◌⊎◌, codes, if◌then◌else◌, negsuc, option_map, IsUtf8, List, [], Option, Some, None}
 use Rattle.event_tables.specs.Unit as Unit
 use Rattle.papi_base.specs.declared.occurrence.LineCause.{LineCause}
 use Rattle.papi_base.specs.declared.occurrence.LineCause.TheVariants as cause
@@ -33,14 +33,16 @@ pub record IsTold (fault : Option (ℕ × List ℕ)) (row : ℕ) (number : ℤ) 
   pub first : row ≡ told_row fault
   pub text : ArePlaced (told_text fault) number count before after
 
--- the same, or memory is refused: PAPI_ENOMEM
-abbrev pub Tells : Option (ℕ × List ℕ) → ℕ → ℤ → ℕ → List ℕ → List ℕ → Type 0
-Tells fault row number count before after = IsTold fault row number count before after ⊎ IsRefused (negsuc 1) number before after
+-- the same, or memory is refused, PAPI_ENOMEM, and the row stays too
+abbrev pub Tells : Option (ℕ × List ℕ) → ℕ → ℕ → ℤ → ℕ → ℕ → List ℕ → List ℕ → Type 0
+Tells fault was row number counted count before after =
+    IsTold fault row number count before after ⊎ (IsRefused (negsuc 1) number counted count before after × (row ≡ was))
 
 -- the same of a preset file; or its cpu is not a text, PAPI_EINVAL
-abbrev pub TellsPresets : List ℕ → List ℕ → ℕ → ℤ → ℕ → List ℕ → List ℕ → Type 0
-TellsPresets presets cpu row number count before after =
-    Tells (presets_told presets cpu) row number count before after ⊎ IsRefused (negsuc 0) number before after
+abbrev pub TellsPresets : List ℕ → List ℕ → ℕ → ℕ → ℤ → ℕ → ℕ → List ℕ → List ℕ → Type 0
+TellsPresets presets cpu was row number counted count before after =
+    Tells (presets_told presets cpu) was row number counted count before after
+    ⊎ (IsRefused (negsuc 0) number counted count before after × (row ≡ was) × ¬ (IsUtf8 cpu))
 
 -- the number of a cause, as kistalub.h has them
 abbrev pub cause_number : LineCause → ℕ

@@ -19,31 +19,33 @@ pub record ArePlaced {X : Type 0} (items : List X) (number : ℤ) (count : ℕ) 
   pub short : length before < length items → (number ≡ negsuc 0) × (after ≡ before)
 
 -- nothing is written, and the number says why
-pub record IsRefused {X : Type 0} (why answer : ℤ) (before after : List X) : Type 0 where
+pub record IsRefused {X : Type 0} (why answer : ℤ) (counted count : ℕ) (before after : List X) : Type 0 where
   pub number : answer ≡ why
+  pub same : count ≡ counted
   pub kept : after ≡ before
 
 -- the items are given, or it is refused by a code
-abbrev pub IsAnswered : {X : Type 0} → Result (List X) Code → ℤ → ℕ → List X → List X → Type 0
-IsAnswered (Ok items) number count before after = ArePlaced items number count before after
-IsAnswered (Err code) number count before after = IsRefused (number_of code) number before after
+abbrev pub IsAnswered : {X : Type 0} → Result (List X) Code → ℤ → ℕ → ℕ → List X → List X → Type 0
+IsAnswered (Ok items) number counted count before after = ArePlaced items number count before after
+IsAnswered (Err code) number counted count before after = IsRefused (number_of code) number counted count before after
 
 -- A text is asked of a library, and given: PAPI_ENOINIT of a shut handle, and PAPI_ENOMEM where memory is refused.
-abbrev pub Spells : Option LibraryView → (LibraryView → Result (List ℕ) Code) → ℤ → ℕ → List ℕ → List ℕ → Type 0
-Spells None asked number count before after = IsRefused (negsuc 15) number before after
-Spells (Some l) asked number count before after = IsAnswered (asked l) number count before after ⊎ IsRefused (negsuc 1) number before after
+abbrev pub Spells : Option LibraryView → (LibraryView → Result (List ℕ) Code) → ℤ → ℕ → ℕ → List ℕ → List ℕ → Type 0
+Spells None asked number counted count before after = IsRefused (negsuc 15) number counted count before after
+Spells (Some l) asked number counted count before after =
+    IsAnswered (asked l) number counted count before after ⊎ IsRefused (negsuc 1) number counted count before after
 
 -- the codes of some events, and 0 for a native event that was not mentioned
 abbrev pub codes_of : LibraryView → List EventRef → List ℕ
 codes_of l events = map (λ e. unwrap_or (event_code l.catalog l.mentioned e) 0) events
 
 -- The events of a set are listed as the model's step has it, and their codes are given.
-pub record Listed (l : LibraryView) (set : ℕ) (number : ℤ) (count : ℕ) (before after : List ℕ) : Type 0 where
+pub record Listed (l : LibraryView) (set : ℕ) (number : ℤ) (counted count : ℕ) (before after : List ℕ) : Type 0 where
   pub events : Result (List EventRef) Code
   pub step : Made l l (call.ListEvents set) (reply_of (λ es. body.Events es) events)
-  pub given : IsAnswered (map_ok (codes_of l) events) number count before after
+  pub given : IsAnswered (map_ok (codes_of l) events) number counted count before after
 
 -- the same through a handle
-abbrev pub Lists : Option LibraryView → ℕ → ℤ → ℕ → List ℕ → List ℕ → Type 0
-Lists None set number count before after = IsRefused (negsuc 15) number before after
-Lists (Some l) set number count before after = Listed l set number count before after
+abbrev pub Lists : Option LibraryView → ℕ → ℤ → ℕ → ℕ → List ℕ → List ℕ → Type 0
+Lists None set number counted count before after = IsRefused (negsuc 15) number counted count before after
+Lists (Some l) set number counted count before after = Listed l set number counted count before after

@@ -4,7 +4,6 @@ use Rattle.std.specs.Prelude.{Option, Some, None}
 use Rattle.overflow_dispatch.specs.declared.handler.Note.{Note}
 use Rattle.papi_base.specs.Codes.{number_of}
 use Rattle.papi_c.specs.Faults.{fault_of}
-use Rattle.papi_c.specs.Placed.{IsRefused}
 use Rattle.papi_c.specs.declared.faults.StreamFault.{StreamFault}
 use Rattle.papi_c.specs.declared.running.Passing.{Passing}
 use Rattle.papi_calls.specs.Libraries.{LibraryView}
@@ -41,13 +40,18 @@ pub record Went (old new : LibraryView) (n : ℕ) (answer : ℤ) (consumed told 
   pub mentioned : new.mentioned ≡ old.mentioned
 
 -- nothing happens, since memory is refused
-pub record IsHeld (old new : LibraryView) (number : ℤ) (before after : List Passing) : Type 0 where
+pub record IsHeld (old new : LibraryView) (answer : ℤ) (before after : List Passing) : Type 0 where
   pub same : new ≡ old
-  pub refused : IsRefused (negsuc 1) number before after
+  pub number : answer ≡ negsuc 1
+  pub kept : after ≡ before
+
+-- the handle is shut, PAPI_ENOINIT, or memory is refused, PAPI_ENOMEM
+abbrev pub IsUnrun : ℤ → Type 0
+IsUnrun number = (number ≡ negsuc 15) ⊎ (number ≡ negsuc 1)
 
 -- the same through a handle
 abbrev pub Runs : Option LibraryView → Option LibraryView → ℕ → ℤ → ℕ → ℕ → StreamFault → List Passing → List Passing → Type 0
-Runs None None n number consumed told fault before after = IsRefused (negsuc 15) number before after
+Runs None None n number consumed told fault before after = (number ≡ negsuc 15) × (after ≡ before)
 Runs (Some old) (Some new) n number consumed told fault before after =
     Went old new n number consumed told fault before after ⊎ IsHeld old new number before after
 Runs old new n number consumed told fault before after = ⊥

@@ -21,7 +21,7 @@ pub extern "C" fn kistalub_name_to_code(
     name: &[u8],
     code: &mut u32,
 ) -> i32
-    ensures { CodesName name.now h.old.library h.new.library result code.new }
+    ensures { CodesName name.now h.old.library h.new.library result code.old code.new }
 {
     let Ok(name) = std::str::from_utf8(name) else {
         return EINVAL;
@@ -58,7 +58,7 @@ fn list(library: &Library, events: &Events, out: &mut [u32], count: &mut u64) ->
 
 // Lists a set of a library.
 fn list_set(library: &Library, set: u32, out: &mut [u32], count: &mut u64) -> i32
-    ensures listed { Listed library.now set result count.new out.old out.new }
+    ensures listed { Listed library.now set result count.old count.new out.old out.new }
 {
     match library.list_events(set) {
         Ok(events) => list(library, &events, out, count),
@@ -76,7 +76,7 @@ pub extern "C" fn kistalub_list_events(
     out: &mut [u32],
     count: &mut u64,
 ) -> i32
-    ensures lists { Lists h.old.library set result count.new out.old out.new }
+    ensures lists { Lists h.old.library set result count.old count.new out.old out.new }
     ensures kept { h.new.library ≡ h.old.library }
 {
     let Some(library) = h.take(alloc) else {

@@ -40,7 +40,8 @@ pub extern "C" fn kistalub_unit_fault(
     out: &mut [u8],
     length: &mut u64,
 ) -> i32
-    ensures tells { Tells (unit_told unit.now) row.new result length.new out.old out.new }
+    ensures tells { Tells (unit_told unit.now) row.old row.new result length.old length.new
+        out.old out.new }
 {
     match read_unit(alloc, unit) {
         Ok(_) => tell(0, "", row, out, length),
@@ -59,8 +60,8 @@ pub extern "C" fn kistalub_presets_fault(
     out: &mut [u8],
     length: &mut u64,
 ) -> i32
-    ensures tells { Faults.TellsPresets presets.now cpu.now row.new result length.new out.old
-        out.new }
+    ensures tells { Faults.TellsPresets presets.now cpu.now row.old row.new result length.old
+        length.new out.old out.new }
 {
     let Ok(cpu) = std::str::from_utf8(cpu) else {
         return EINVAL;

@@ -1,6 +1,7 @@
 //! The calls that take numbers and answer a code.
-ghost use Rattle.papi_c.specs.Called.{Called, CalledByCode};
+ghost use Rattle.papi_c.specs.Called.{Called, CalledByCode, GivesNumber};
 ghost use Rattle.session_model.specs.declared.call.Call.TheVariants as call;
+ghost use Rattle.session_model.specs.declared.reply.Body.TheVariants as body;
 
 use crate::handle::{ENOINIT, Handle};
 use crate::refusals::refusal_code;
@@ -132,7 +133,8 @@ pub extern "C" fn kistalub_reset(alloc: Global, h: &mut Handle, set: u32) -> i32
 /// PAPI_create_eventset(3). `set` is written where the code is PAPI_OK.
 #[unsafe(no_mangle)]
 pub extern "C" fn kistalub_create(alloc: Global, h: &mut Handle, set: &mut u32) -> i32
-    ensures { Called h.old.library h.new.library (λ l. call.Create) result }
+    ensures { GivesNumber h.old.library h.new.library call.Create (λ n. body.SetNumber n) result
+        set.old set.new }
 {
     let Some(mut library) = h.take(alloc) else {
         return ENOINIT;
@@ -151,7 +153,8 @@ pub extern "C" fn kistalub_create(alloc: Global, h: &mut Handle, set: &mut u32) 
 /// PAPI_state(3). `bits` is written where the code is PAPI_OK.
 #[unsafe(no_mangle)]
 pub extern "C" fn kistalub_state(alloc: Global, h: &mut Handle, set: u32, bits: &mut u32) -> i32
-    ensures { Called h.old.library h.new.library (λ l. call.State set) result }
+    ensures { GivesNumber h.old.library h.new.library (call.State set) (λ b. body.State b) result
+        bits.old bits.new }
 {
     let Some(library) = h.take(alloc) else {
         return ENOINIT;

@@ -1,8 +1,9 @@
 //! The catalog of a unit, with the presets and user events for a cpu or without any, from the bytes of their files.
-ghost use Rattle.std.specs.Prelude.{◌≡◌, IfOk, OnOk, None};
+ghost use Rattle.std.specs.Prelude.{◌≡◌, ◌≢◌, IfErr, IfOk, OnOk, None};
 ghost use Rattle.component_table.specs.Catalogs as Catalogs;
 ghost use Rattle.event_tables.specs.Unit.{unit_fault, unit_tables};
-ghost use Rattle.papi_c.specs.Opened.{IsOpenedBy, table_of};
+ghost use Rattle.papi_c.specs.Opened.{AreFaultless, IsOpenedBy, IsWhy, table_of};
+ghost use Rattle.user_events.specs.Rows.{extended_fault};
 
 use component_table::Catalog;
 use event_tables::{TableFault, Tables, read_unit};
@@ -21,6 +22,7 @@ pub(crate) enum OpenFault {
 fn tables_of(alloc: Global, unit: &[u8]) -> Result<Tables, OpenFault>
     ensures faultless { OnOk result (unit_fault unit.now ≡ None) }
     ensures tables { IfOk result (λ t. t ≡ unit_tables unit.now) }
+    ensures faulty { IfErr result (IsWhy (unit_fault unit.now ≢ None)) }
 {
     match read_unit(alloc, unit) {
         Ok(tables) => Ok(tables),
@@ -31,7 +33,9 @@ fn tables_of(alloc: Global, unit: &[u8]) -> Result<Tables, OpenFault>
 
 // The presets and user events for a cpu, and none where there is no text of them.
 fn presets_of(alloc: Global, presets: &[u8], cpu: &str) -> Result<Option<Extended>, OpenFault>
+    ensures faultless { OnOk result (extended_fault cpu.now presets.now ≡ None) }
     ensures presets { IfOk result (λ t. t ≡ table_of presets.now cpu.now) }
+    ensures faulty { IfErr result (IsWhy (extended_fault cpu.now presets.now ≢ None)) }
 {
     if presets.is_empty() {
         return Ok(None);
@@ -44,9 +48,10 @@ fn presets_of(alloc: Global, presets: &[u8], cpu: &str) -> Result<Option<Extende
 }
 
 fn catalog_of(alloc: Global, unit: &[u8], presets: &[u8], cpu: &str) -> Result<Catalog, OpenFault>
-    ensures faultless { OnOk result (unit_fault unit.now ≡ None) }
+    ensures faultless { OnOk result (AreFaultless unit.now presets.now cpu.now) }
     ensures catalog { IfOk result
         (λ c. c ≡ Catalogs.catalog_of (unit_tables unit.now) (table_of presets.now cpu.now)) }
+    ensures faulty { IfErr result (IsWhy (¬ (AreFaultless unit.now presets.now cpu.now))) }
 {
     let tables = tables_of(alloc, unit)?;
     let presets = presets_of(alloc, presets, cpu)?;
@@ -70,7 +75,8 @@ pub(crate) fn open(
     thread: u32,
     stream: &[u8],
 ) -> Result<Library, OpenFault>
-    ensures { IfOk result (IsOpenedBy unit.now presets.now cpu.now thread stream.now) }
+    ensures opened { IfOk result (IsOpenedBy unit.now presets.now cpu.now thread stream.now) }
+    ensures faulty { IfErr result (IsWhy (¬ (AreFaultless unit.now presets.now cpu.now))) }
 {
     let catalog = catalog_of(alloc, unit, presets, cpu)?;
     let Ok(stream) = copied(alloc, stream) else {

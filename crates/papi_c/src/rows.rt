@@ -54,8 +54,8 @@ pub extern "C" fn kistalub_component(
     length: &mut u64,
 ) -> i32
     ensures spells { Spells h.old.library
-        (component_asked comp (component_part_numbered number place)) result length.new out.old
-        out.new }
+        (component_asked comp (component_part_numbered number place)) result length.old
+        length.new out.old out.new }
     ensures kept { h.new.library ≡ h.old.library }
 {
     let Some(library) = h.take(alloc) else {
@@ -114,8 +114,8 @@ pub extern "C" fn kistalub_native(
     length: &mut u64,
 ) -> i32
     ensures spells { Spells h.old.library
-        (native_asked comp row (native_part_numbered number place)) result length.new out.old
-        out.new }
+        (native_asked comp row (native_part_numbered number place)) result length.old
+        length.new out.old out.new }
     ensures kept { h.new.library ≡ h.old.library }
 {
     let Some(library) = h.take(alloc) else {

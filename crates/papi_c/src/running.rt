@@ -1,6 +1,6 @@
 //! Runs.
 ghost use Rattle.std.specs.Prelude.{◌≡◌, ◌⊎◌, ◌≤◌, drop, length, map, take};
-ghost use Rattle.papi_c.specs.Runs.{IsHeld, Runs, Went, passing_of, run_number};
+ghost use Rattle.papi_c.specs.Runs.{IsHeld, IsUnrun, Runs, Went, passing_of, run_number};
 ghost use Rattle.session_model.specs.Step.{code_of};
 
 use crate::faults::{StreamFault, fault_of};
@@ -72,6 +72,8 @@ fn run(
 ) -> i32
     ensures went { Went library.old library.new n result consumed.new told.new fault.new out.old
         out.new ⊎ IsHeld library.old library.new result out.old out.new }
+    ensures untold { IsUnrun result
+        → (consumed.new ≡ consumed.old) × (told.new ≡ told.old) × (fault.new ≡ fault.old) }
 {
     let blank = Note {
         thread: 0,
@@ -103,8 +105,10 @@ pub extern "C" fn kistalub_run(
     told: &mut u64,
     fault: &mut StreamFault,
 ) -> i32
-    ensures { Runs h.old.library h.new.library n result consumed.new told.new fault.new out.old
+    ensures runs { Runs h.old.library h.new.library n result consumed.new told.new fault.new out.old
         out.new }
+    ensures untold { IsUnrun result
+        → (consumed.new ≡ consumed.old) × (told.new ≡ told.old) × (fault.new ≡ fault.old) }
 {
     let Some(mut library) = h.take(alloc) else {
         return ENOINIT;

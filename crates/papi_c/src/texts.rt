@@ -32,8 +32,10 @@ pub(crate) fn give(
     length: &mut u64,
 ) -> i32
     ensures given { IfOk answer
-        (λ text. IsAnswered (map_ok string_bytes text) result length.new out.old out.new) }
-    ensures refused { OnErr answer (IsRefused (negsuc 1) result out.old out.new) }
+        (λ text. IsAnswered (map_ok string_bytes text) result length.old length.new out.old
+        out.new) }
+    ensures refused { OnErr answer
+        (IsRefused (negsuc 1) result length.old length.new out.old out.new) }
 {
     match answer {
         Ok(Ok(text)) => spell(text.as_str(), out, length),
@@ -54,7 +56,7 @@ pub extern "C" fn kistalub_code_to_name(
 ) -> i32
     ensures spells { Spells h.old.library
         (λ l. map_ok (event_name l.catalog) (event_coded l.catalog l.mentioned code)) result
-        length.new out.old out.new }
+        length.old length.new out.old out.new }
     ensures kept { h.new.library ≡ h.old.library }
 {
     let Some(library) = h.take(alloc) else {
@@ -107,7 +109,7 @@ pub extern "C" fn kistalub_info(
     length: &mut u64,
 ) -> i32
     ensures spells { Spells h.old.library (info_asked code (part_numbered number place)) result
-        length.new out.old out.new }
+        length.old length.new out.old out.new }
     ensures kept { h.new.library ≡ h.old.library }
 {
     let Some(library) = h.take(alloc) else {

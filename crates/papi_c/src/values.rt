@@ -11,7 +11,7 @@ use std::alloc::Global;
 // The values, as far as there is room.
 fn give(values: &Values, out: &mut [i64], count: &mut u32)
     ensures count { count.new ≡ length values.now }
-    ensures given { AreGiven values.now out.new }
+    ensures given { AreGiven values.now out.old out.new }
 {
     let n = out.len().min(values.len() as usize);
     for i in 0..n {
@@ -22,7 +22,7 @@ fn give(values: &Values, out: &mut [i64], count: &mut u32)
 
 // Reads a set of a library.
 fn read(library: &Library, set: u32, out: &mut [i64], count: &mut u32) -> i32
-    ensures gave { Gave library.now library.now (call.Read set) result count.new out.new }
+    ensures gave { Gave library.now library.now (call.Read set) result count.new out.old out.new }
 {
     let mut values = Values::new();
     let code = library.read(set, &mut values);
@@ -39,7 +39,8 @@ pub extern "C" fn kistalub_read(
     out: &mut [i64],
     count: &mut u32,
 ) -> i32
-    ensures gives { Gives h.old.library h.new.library (call.Read set) result count.new out.new }
+    ensures gives { Gives h.old.library h.new.library (call.Read set) result count.old count.new
+        out.old out.new }
 {
     let Some(library) = h.take(alloc) else {
         return ENOINIT;
@@ -58,7 +59,8 @@ pub extern "C" fn kistalub_stop(
     out: &mut [i64],
     count: &mut u32,
 ) -> i32
-    ensures gives { Gives h.old.library h.new.library (call.Stop set) result count.new out.new }
+    ensures gives { Gives h.old.library h.new.library (call.Stop set) result count.old count.new
+        out.old out.new }
 {
     let Some(mut library) = h.take(alloc) else {
         return ENOINIT;
@@ -79,7 +81,8 @@ pub extern "C" fn kistalub_accum(
     out: &mut [i64],
     count: &mut u32,
 ) -> i32
-    ensures gives { Gives h.old.library h.new.library (call.Accum set) result count.new out.new }
+    ensures gives { Gives h.old.library h.new.library (call.Accum set) result count.old count.new
+        out.old out.new }
 {
     let Some(mut library) = h.take(alloc) else {
         return ENOINIT;

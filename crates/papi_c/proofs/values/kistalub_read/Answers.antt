@@ -11,9 +11,12 @@ returns c =
     let n = to_z w32 (of_z w32 c.read-number.result) in
     let same : n ≡ c.read-number.result = search rules in
     let made = call.Read c.args.set in
+    let counted = c.args.count.now in
     let count = c.read-number.new.count in
-    let out = c.read-number.new.out in
-    let at_v : Gave v v made c.read-number.result count out = subst (λ (l : LibraryView). Gave l l made c.read-number.result count out) c.deref.ensures c.read-number.ensures.gave in
-    let at_n : Gave v v made n count out = subst (λ (m : ℤ). Gave v v made m count out) (sym same) at_v in
-    let to_new = subst (λ (b : Option LibraryView). Gives (Some v) b made n count out) (sym c.put.ensures) at_n in
-    record { gives = subst (λ (a : Option LibraryView). Gives a c.put.new.self.library made n count out) c.in-Some.ensures.taken to_new }
+    let before = c.args.out.now in
+    let after = c.read-number.new.out in
+    let at_v : Gave v v made c.read-number.result count before after =
+    subst (λ (l : LibraryView). Gave l l made c.read-number.result count before after) c.deref.ensures c.read-number.ensures.gave in
+    let at_n : Gave v v made n count before after = subst (λ (m : ℤ). Gave v v made m count before after) (sym same) at_v in
+    let to_new = subst (λ (b : Option LibraryView). Gives (Some v) b made n counted count before after) (sym c.put.ensures) at_n in
+    record { gives = subst (λ (a : Option LibraryView). Gives a c.put.new.self.library made n counted count before after) c.in-Some.ensures.taken to_new }
