@@ -1,7 +1,8 @@
 -- The calls that begin to count an event with a threshold.
-use Rattle.std.proofs.Common.{◌≡◌, ℕ, List, [], ◌∷◌, refl, ap, sym, subst, ◌∙◌, arith, map, Ok, ap₂}
-use Rattle.std.proofs.lemmas.List.Elements.{All-from_recursion, Contains-append_right, Contains-get_or}
+use Rattle.std.proofs.Common.{◌≡◌, ℕ, List, [], ◌∷◌, refl, ◌++◌, ap, sym, subst, ◌∙◌, Ok, Err, Result, true, ap₂}
+use Rattle.std.proofs.lemmas.List.Elements.{All-from_recursion, Contains-append_left}
 use Rattle.std.specs.List.{All, AllByRecursion, Contains}
+use Rattle.std.specs.Result.{is_ok}
 use Rattle.papi_base.specs.declared.code.Code.{Code}
 use Rattle.papi_base.specs.declared.code.Code.TheVariants as code
 use Rattle.papi_base.specs.declared.native.Native.{Native}
@@ -12,9 +13,10 @@ use Rattle.session_model.specs.Account.{Account}
 use Rattle.session_model.specs.Step.{account_after, replies_to, step}
 use Rattle.session_model.specs.declared.call.Call.{Call}
 use Rattle.session_model.specs.declared.call.Call.TheVariants as call
+use Rattle.session_model.specs.declared.reply.Body.{Body}
 use Rattle.session_model.specs.declared.reply.Reply.{Reply}
 use Rattle.thread_core.specs.CoreView.{CoreView}
-use Rattle.thread_core.specs.Following.{Follows}
+use Rattle.thread_core.specs.Following.{Follows, reply_of}
 use Rattle.thread_core.specs.Stands.{CoreStands}
 use Rattle.profiler.specs.Passings.{calls}
 
@@ -40,24 +42,33 @@ made_before book k l m c r made given f rest = record {
   last = rest.last ∙ f.last;
 }
 
--- one of these calls is refused with this code
-abbrev pub Refuses : Book → CoreView → List Call → Code → Type 0
-Refuses book k made c = (a : Account) → CoreStands book k a → Contains (map (λ (r : Reply). r.code) (replies_to book k.shape a made)) c
+replies_to_append : (book : Book) (shape : Widths) (a : Account) (made rest : List Call) → replies_to book shape a (made ++ rest) ≡ replies_to book shape a made ++ replies_to book shape (account_after book shape a made) rest
+replies_to_append book shape a [] rest = refl
+replies_to_append book shape a (c ∷ made) rest = ap (λ (rs : List Reply). (step book shape a c).reply ∷ rs) (replies_to_append book shape (step book shape a c).account made rest)
 
-pub refused_here : (book : Book) (k l : CoreView) (c : Call) (r : Reply) (made : List Call) → Follows book k l c r → Refuses book k (c ∷ made) r.code
-refused_here book k l c r made f a h = subst (λ (x : Code). Contains (map (λ (r : Reply). r.code) (replies_to book k.shape a (c ∷ made))) x) (sym (ap (λ (x : Reply). x.code) (f.reply a h)))
-    (Contains-get_or (map (λ (r : Reply). r.code) (replies_to book k.shape a (c ∷ made))) 0 r.code (omega arith))
-
-pub refused_later : (book : Book) (k l : CoreView) (c : Call) (r : Reply) (made : List Call) (d : Code) → Follows book k l c r → Refuses book l made d → Refuses book k (c ∷ made) d
-refused_later book k l c r made d f later a h = Contains-append_right ((step book k.shape a c).reply.code ∷ []) (map (λ (x : Reply). x.code) (replies_to book k.shape (step book k.shape a c).account made)) d
-    (subst (λ (s : Widths). Contains (map (λ (x : Reply). x.code) (replies_to book s (step book k.shape a c).account made)) d) f.shape (later (step book k.shape a c).account (f.account a h)))
-
-pub with_code : (book : Book) (k : CoreView) (made : List Call) (c d : Code) → c ≡ d → Refuses book k made c → Refuses book k made d
-with_code book k made c d e h = subst (Refuses book k made) e h
+-- what some calls replied is among the replies to these calls and others
+pub among_replies : (book : Book) (k l : CoreView) (made rest : List Call) (given : List Reply) (r : Reply) → Made book k l made given → Contains given r
+    → (a : Account) → CoreStands book k a → Contains (replies_to book k.shape a (made ++ rest)) r
+among_replies book k l made rest given r m there a h = subst (λ (rs : List Reply). Contains rs r) (sym (replies_to_append book k.shape a made rest))
+    (Contains-append_left (replies_to book k.shape a made) (replies_to book k.shape (account_after book k.shape a made) rest) r (subst (λ (rs : List Reply). Contains rs r) (sym (m.replies a h)) there))
 
 -- where each reply has PAPI_OK
 pub all_done : (replies given : List Reply) → replies ≡ given → AllByRecursion (λ (r : Reply). r.code ≡ code.Ok) given → All (λ (r : Reply). r.code ≡ code.Ok) replies
 all_done replies given e h = subst (All (λ (r : Reply). r.code ≡ code.Ok)) (sym e) (All-from_recursion (λ (r : Reply). r.code ≡ code.Ok) given h)
+
+module _ (book : Book) (k l m : CoreView) (n : Native) (r₁ r₂ : Reply) where
+  pub two_made : Follows book k l call.Create r₁ → Follows book l m (call.Add 0 (Ok (event.Native n))) r₂ → Made book k m (call.Create ∷ call.Add 0 (Ok (event.Native n)) ∷ []) (r₁ ∷ r₂ ∷ [])
+  two_made create add =
+      made_before book k l m call.Create r₁ (call.Add 0 (Ok (event.Native n)) ∷ []) (r₂ ∷ []) create
+      (made_before book l m m (call.Add 0 (Ok (event.Native n))) r₂ [] [] add (none_made book m))
+
+module _ (book : Book) (k l m o : CoreView) (n : Native) (t : ℕ) (r₁ r₂ r₃ : Reply) where
+  pub three_made : Follows book k l call.Create r₁ → Follows book l m (call.Add 0 (Ok (event.Native n))) r₂ → Follows book m o (call.Overflow 0 (Ok (event.Native n)) t) r₃
+      → Made book k o (call.Create ∷ call.Add 0 (Ok (event.Native n)) ∷ call.Overflow 0 (Ok (event.Native n)) t ∷ []) (r₁ ∷ r₂ ∷ r₃ ∷ [])
+  three_made create add overflow =
+      made_before book k l o call.Create r₁ (call.Add 0 (Ok (event.Native n)) ∷ call.Overflow 0 (Ok (event.Native n)) t ∷ []) (r₂ ∷ r₃ ∷ []) create
+      (made_before book l m o (call.Add 0 (Ok (event.Native n))) r₂ (call.Overflow 0 (Ok (event.Native n)) t ∷ []) (r₃ ∷ []) add
+      (made_before book m o o (call.Overflow 0 (Ok (event.Native n)) t) r₃ [] [] overflow (none_made book o)))
 
 module _ (book : Book) (k l m o p : CoreView) (n : Native) (t : ℕ) (r₁ r₂ r₃ r₄ : Reply) where
   pub all_made : Follows book k l call.Create r₁ → Follows book l m (call.Add 0 (Ok (event.Native n))) r₂ → Follows book m o (call.Overflow 0 (Ok (event.Native n)) t) r₃ → Follows book o p (call.Start 0) r₄
@@ -68,25 +79,7 @@ module _ (book : Book) (k l m o p : CoreView) (n : Native) (t : ℕ) (r₁ r₂ 
       (made_before book m o p (call.Overflow 0 (Ok (event.Native n)) t) r₃ (call.Start 0 ∷ []) (r₄ ∷ []) overflow
       (made_before book o p p (call.Start 0) r₄ [] [] start (none_made book p))))
 
-module _ (book : Book) (k l m : CoreView) (n : Native) (t : ℕ) (r₁ r₂ : Reply) where
-  pub refused_second : Follows book k l call.Create r₁ → Follows book l m (call.Add 0 (Ok (event.Native n))) r₂ → Refuses book k (calls n t) r₂.code
-  refused_second create add =
-      refused_later book k l call.Create r₁ (call.Add 0 (Ok (event.Native n)) ∷ call.Overflow 0 (Ok (event.Native n)) t ∷ call.Start 0 ∷ []) r₂.code create
-      (refused_here book l m (call.Add 0 (Ok (event.Native n))) r₂ (call.Overflow 0 (Ok (event.Native n)) t ∷ call.Start 0 ∷ []) add)
-
-module _ (book : Book) (k l m o : CoreView) (n : Native) (t : ℕ) (r₁ r₂ r₃ : Reply) where
-  pub refused_third : Follows book k l call.Create r₁ → Follows book l m (call.Add 0 (Ok (event.Native n))) r₂ → Follows book m o (call.Overflow 0 (Ok (event.Native n)) t) r₃
-      → Refuses book k (calls n t) r₃.code
-  refused_third create add overflow =
-      refused_later book k l call.Create r₁ (call.Add 0 (Ok (event.Native n)) ∷ call.Overflow 0 (Ok (event.Native n)) t ∷ call.Start 0 ∷ []) r₃.code create
-      (refused_later book l m (call.Add 0 (Ok (event.Native n))) r₂ (call.Overflow 0 (Ok (event.Native n)) t ∷ call.Start 0 ∷ []) r₃.code add
-      (refused_here book m o (call.Overflow 0 (Ok (event.Native n)) t) r₃ (call.Start 0 ∷ []) overflow))
-
-module _ (book : Book) (k l m o p : CoreView) (n : Native) (t : ℕ) (r₁ r₂ r₃ r₄ : Reply) where
-  pub refused_fourth : Follows book k l call.Create r₁ → Follows book l m (call.Add 0 (Ok (event.Native n))) r₂ → Follows book m o (call.Overflow 0 (Ok (event.Native n)) t) r₃ → Follows book o p (call.Start 0) r₄
-      → Refuses book k (calls n t) r₄.code
-  refused_fourth create add overflow start =
-      refused_later book k l call.Create r₁ (call.Add 0 (Ok (event.Native n)) ∷ call.Overflow 0 (Ok (event.Native n)) t ∷ call.Start 0 ∷ []) r₄.code create
-      (refused_later book l m (call.Add 0 (Ok (event.Native n))) r₂ (call.Overflow 0 (Ok (event.Native n)) t ∷ call.Start 0 ∷ []) r₄.code add
-      (refused_later book m o (call.Overflow 0 (Ok (event.Native n)) t) r₃ (call.Start 0 ∷ []) r₄.code overflow
-      (refused_here book o p (call.Start 0) r₄ [] start)))
+-- the code of a reply that gives something of its own
+pub reply_ok : {X : Type 0} (f : X → Body) (r : Result X Code) → is_ok r ≡ true → (reply_of f r).code ≡ code.Ok
+reply_ok f (Ok x) h = refl
+reply_ok f (Err d) h = cc

@@ -1,57 +1,79 @@
 -- A profile out of its parts.
-use Rattle.std.proofs.Common.{◌≡◌, ℕ, List, [], ap, sym, subst, ◌∙◌, Ok, Err, None, Vec}
+use Rattle.std.proofs.Common.{◌≡◌, ℕ, List, [], refl, ap, sym, subst, ◌∙◌, Ok, Err, Result, None, Vec, arith}
+use Rattle.std.proofs.lemmas.Result.{err_from_is_err_and}
+use Rattle.std.specs.Result.{IfOk, IsErrAnd, MatchResult}
+use Rattle.std.specs.declared.alloc.AllocError.{AllocError}
 use Rattle.std.specs.declared.alloc.Global.{Global}
-use Rattle.papi_base.specs.Streams.{Coming}
-use Rattle.papi_base.specs.declared.code.Code.{Code}
-use Rattle.papi_base.specs.declared.native.Native.{Native}
-use Rattle.postfix_rules.specs.Presets.{Book}
 use Rattle.event_sets.specs.AtRest.{Widths}
-use Rattle.event_tables.specs.Tables.{ComponentText, shape_of}
+use Rattle.event_sets.specs.declared.refusal.Refusal.{Refusal}
+use Rattle.event_tables.specs.Tables.{shape_of}
 use Rattle.event_tables.specs.Unit.{unit_fault, unit_tables}
 use Rattle.name_encoder.specs.Names.{names}
+use Rattle.papi_base.specs.Streams.{Coming, Dry}
+use Rattle.papi_base.specs.declared.native.Native.{Native}
+use Rattle.postfix_rules.specs.Fitting.{BookFits}
+use Rattle.postfix_rules.specs.Presets.{Book}
 use Rattle.session_model.specs.Step.{account_after}
-use Rattle.thread_core.specs.CoreView.{CoreView, opening_core}
 use Rattle.profiler.specs.Hottest.{AreHottest}
-use Rattle.profiler.specs.Passings.{IsAnswered, IsSampled, calls}
-use Rattle.profiler.specs.Profiles.{ArePassings, IsProfile, before}
+use Rattle.profiler.specs.Passings.{IsAnswered, Stops, calls, passings}
+use Rattle.profiler.specs.Profiles.{IsProfile, IsProfiled, before}
 use Rattle.profiler.specs.declared.profile.Fault.{Fault}
 use Rattle.profiler.specs.declared.profile.Fault.TheVariants as fault
-use Rattle.profiler.specs.declared.profile.TheConstants.{MOST}
 use Rattle.profiler.specs.declared.ranking.Hot.{Hot}
+use Rattle.profiler.specs.declared.ranking.TheConstants.{MOST}
 
--- by the empty book and the unit's shape
-at_unit : (P : Book → Widths → Type 0) (b : Book) (k : CoreView) (shape : Widths) → b ≡ [] → k ≡ opening_core 0 shape → P b k.shape → P [] shape
-at_unit P b k shape e f h = subst (λ (x : Book). P x shape) e (subst (P b) (ap (λ (v : CoreView). v.shape) f) h)
+pub empty_fits : (shape : Widths) (b : Book) → b ≡ [] → BookFits shape b
+empty_fits shape b e = subst (BookFits shape) (sym e) (record { each = λ k d small. absurd (omega (arith, small)) })
 
-pub refused_passings : (b : Book) (k : CoreView) (shape : Widths) (n : Native) (t : ℕ) (stream : Coming) (c : Code) → IsAnswered (Err c) b k.shape before (calls n t) → b ≡ [] → k ≡ opening_core 0 shape
-    → ArePassings (Err (fault.Refused c)) shape n t stream
-refused_passings b k shape n t stream c h e f = at_unit (λ (x : Book) (s : Widths). IsAnswered (Err c) x s before (calls n t)) b k shape e f h
+module _ {T E D : Type 0} (P : E → D → Type 0) (r : Result T E) (s : Result T D) where
+  -- what `map_err` left as it is
+  pub ok_under : (x : T) → MatchResult r (λ y. s ≡ Ok y) (λ e. IsErrAnd s (P e)) → s ≡ Ok x → r ≡ Ok x
+  ok_under x cases is = go r cases
+    where
+      go : (q : Result T E) → MatchResult q (λ y. s ≡ Ok y) (λ e. IsErrAnd s (P e)) → q ≡ Ok x
+      go (Ok y) h = ap (λ (z : T). Ok z) (let k : ◌≡◌ {A = Result T D} (Ok y) (Ok x) = sym h ∙ is in cc)
+      go (Err e) h = absurd (subst (λ (z : Result T D). IsErrAnd z (P e)) is h)
 
-pub sampled_passings : (b : Book) (k : CoreView) (shape : Widths) (n : Native) (t : ℕ) (stream : Coming) (pcs : Vec ℕ Global)
-    → IsAnswered (Ok tt) b k.shape before (calls n t) → IsSampled (Ok pcs) b (account_after b k.shape before (calls n t)) stream → b ≡ [] → k ≡ opening_core 0 shape → ArePassings (Ok pcs) shape n t stream
-sampled_passings b k shape n t stream pcs h s e f =
-    let sampled = at_unit (λ (x : Book) (w : Widths). IsSampled (Ok pcs) x (account_after x w before (calls n t)) stream) b k shape e f s in
-    (at_unit (λ (x : Book) (w : Widths). IsAnswered (Ok tt) x w before (calls n t)) b k shape e f h, sampled.1, sampled.0)
+  -- what it made another
+  pub err_under : (f : D) → MatchResult r (λ y. s ≡ Ok y) (λ e. IsErrAnd s (P e)) → s ≡ Err f → (e : E) × (r ≡ Err e) × P e f
+  err_under f cases is = go r cases
+    where
+      go : (q : Result T E) → MatchResult q (λ y. s ≡ Ok y) (λ e. IsErrAnd s (P e)) → (e : E) × (q ≡ Err e) × P e f
+      go (Ok y) h = absurd (let k : ◌≡◌ {A = Result T D} (Ok y) (Err f) = sym h ∙ is in cc)
+      go (Err e) h = (e, refl, subst (λ (z : Result T D). IsErrAnd z (P e)) is h)
 
-module _ (unit name : List ℕ) (t : ℕ) (stream : Coming) (tables : List ComponentText) (n : Native) (is : tables ≡ unit_tables unit) (names_it : Ok n ≡ names tables name) where
-  its : names (unit_tables unit) name ≡ Ok n
-  its = sym (names_it ∙ ap (λ (x : List ComponentText). names x name) is)
+module _ (unit event : List ℕ) (t : ℕ) (stream : Coming) where
+  -- the stream stopped, or memory ran out
+  pub stopped : (f : Fault) → Stops f stream.mark → IsProfile (Err f) unit event t stream
+  stopped (fault.Unit f) h = absurd h
+  stopped (fault.Event f) h = absurd h
+  stopped (fault.Refused r) h = absurd h
+  stopped (fault.Line line cause) h = h
+  stopped fault.Read h = h
+  stopped fault.Memory h = h
 
-  pub failed : (f : Fault) → ArePassings (Err f) (shape_of tables) n t stream → IsProfile (Err f) unit name t stream
-  failed (fault.Unit f) h = absurd h
-  failed (fault.Event f) h = absurd h
-  failed (fault.Refused c) h = (n, its, subst (λ (x : List ComponentText). ArePassings (Err (fault.Refused c)) (shape_of x) n t stream) is h)
-  failed (fault.Stream f) h = h
-  failed fault.Memory h = tt
+  -- the hottest addresses, unless memory ran out
+  pub finished : (P : AllocError → Fault → Type 0) (r : Result (Vec Hot Global) AllocError) (s : Result (Vec Hot Global) Fault) → MatchResult r (λ y. s ≡ Ok y) (λ e. IsErrAnd s (P e))
+      → ((e : AllocError) (f : Fault) → P e f → f ≡ fault.Memory) → IfOk r (λ rows. IsProfiled rows.items unit event t stream) → IsProfile s unit event t stream
+  finished P (Ok rows) s is memory h = subst (λ (x : Result (Vec Hot Global) Fault). IsProfile x unit event t stream) (sym is) h
+  finished P (Err e) s is memory h =
+      let p = err_from_is_err_and s is in
+      subst (λ (x : Result (Vec Hot Global) Fault). IsProfile x unit event t stream) (sym (p.1 ∙ ap (λ (f : Fault). Err f) (memory e p.0 p.2))) tt
 
-  pub profiled : (pcs : Vec ℕ Global) (rows : Vec Hot Global) → unit_fault unit ≡ None → ArePassings (Ok pcs) (shape_of tables) n t stream → AreHottest MOST pcs.items rows.items → IsProfile (Ok rows) unit name t stream
-  profiled pcs rows good h hot =
-      let there : ArePassings (Ok pcs) (shape_of (unit_tables unit)) n t stream = subst (λ (x : List ComponentText). ArePassings (Ok pcs) (shape_of x) n t stream) is h in
-      record {
-        native = n;
-        unit_read = good;
-        named = its;
-        carried_out = there.0;
-        whole = there.1;
-        hottest = subst (λ (xs : List ℕ). AreHottest MOST xs rows.items) there.2 hot;
-      }
+  module _ (n : Native) (named : names (unit_tables unit) event ≡ Ok n) (b : Book) (shape : Widths) (empty : b ≡ []) (its : shape ≡ shape_of (unit_tables unit)) where
+    at_unit : (P : Book → Widths → Type 0) → P b shape → P [] (shape_of (unit_tables unit))
+    at_unit P h = subst (λ (x : Book). P x (shape_of (unit_tables unit))) empty (subst (P b) its h)
+
+    pub not_begun : (r : Refusal) → IsAnswered (Err r) b shape before (calls n t) → IsProfile (Err (fault.Refused r)) unit event t stream
+    not_begun r h = (n, named, at_unit (λ x s. IsAnswered (Err r) x s before (calls n t)) h)
+
+    pub profiled : (rows : List Hot) → unit_fault unit ≡ None → IsAnswered (Ok tt) b shape before (calls n t) → stream.mark ≡ Dry
+        → AreHottest MOST (passings b (account_after b shape before (calls n t)) stream.rest) rows → IsProfiled rows unit event t stream
+    profiled rows read answered whole hottest = record {
+      native = n;
+      unit_read = read;
+      named = named;
+      carried_out = at_unit (λ x s. IsAnswered (Ok tt) x s before (calls n t)) answered;
+      whole = whole;
+      hottest = at_unit (λ x s. AreHottest MOST (passings x (account_after x s before (calls n t)) stream.rest) rows) hottest;
+    }

@@ -1,8 +1,12 @@
 -- Sampling a stream, occurrence by occurrence.
-use Rattle.std.proofs.Common.{◌≡◌, ℕ, ◌+◌, ◌≤◌, List, [], ◌∷◌, ◌++◌, length, map, replicate, refl, ap, sym, subst, ◌∙◌, arith, append_assoc, append-nil, Option, Some, None, true, take, ◌-◌, ap₂}
+use Rattle.std.proofs.Common.{◌≡◌, ℕ, ◌+◌, ◌≤◌, ◌<◌, List, [], ◌∷◌, ◌++◌, length, map, replicate, refl, ap, sym, subst, ◌∙◌, arith, append_assoc, append-nil, Option, Some, None, true, if◌then◌else◌, ◌==◌, unwrap_or, zero, suc}
 use Rattle.std.proofs.lemmas.Bool.{ltb-true}
-use Rattle.std.proofs.lemmas.List.{map-append, take_all}
+use Rattle.std.proofs.lemmas.List.{map-append}
+use Rattle.std.proofs.lemmas.List.Sums.{sum_by-append}
+use Rattle.std.specs.BTreeMap.{BTreeMap, get, is_at}
+use Rattle.std.specs.Map.{lookup}
 use Rattle.std.specs.Option.{option_map}
+use Rattle.std.specs.Ordering.{nat_cmp}
 use Rattle.papi_base.specs.declared.occurrence.Occ.{Occ}
 use Rattle.papi_base.specs.Streams.{Coming, Mark, Dry, Bad, Fault}
 use Rattle.overflow_dispatch.specs.declared.handler.Note.{Note}
@@ -14,6 +18,7 @@ use Rattle.stream_reader.specs.Judged.{is_above}
 use Rattle.stream_reader.specs.Reader.{GaveOne, NextGives, ReaderView, at_mark}
 use Rattle.thread_core.specs.CoreView.{CoreView}
 use Rattle.thread_core.specs.Stands.{CoreStands, consumed}
+use Rattle.profiler.specs.Hottest.{passings_at}
 use Rattle.profiler.specs.Passings.{AreInStep, passings}
 
 -- the account after these occurrences
@@ -21,23 +26,23 @@ abbrev pub consuming : List Occ → Account → Account
 consuming os a = record a { past = a.past ++ os }
 
 -- these occurrences were taken, and the rest of the stream is to come
-pub record SoFar (core : CoreView) (to_come : Option Coming) (book : Book) (a : Account) (stream : Coming) (sampled : List ℕ) : Type 0 where
+pub record SoFar (core : CoreView) (to_come : Option Coming) (book : Book) (a : Account) (stream : Coming) (entry : ℕ → Option ℕ) : Type 0 where
   pub os : List Occ
   pub later : List Occ
   pub rest : stream.rest ≡ os ++ later
   pub left : to_come ≡ Some (record { rest = later; mark = stream.mark })
   pub stands : CoreStands book core (consuming os a)
-  pub pcs : sampled ≡ passings book a os
+  pub exact : (pc : ℕ) → unwrap_or (entry pc) 0 ≡ passings_at (passings book a os) pc
 
-pub at_start : (core : CoreView) (to_come : Option Coming) (book : Book) (a : Account) (stream : Coming) (pcs : List ℕ)
-    → CoreStands book core a → to_come ≡ Some stream → pcs ≡ [] → SoFar core to_come book a stream pcs
-at_start core to_come book a stream pcs stands told none = record {
+pub at_start : (core : CoreView) (to_come : Option Coming) (book : Book) (a : Account) (stream : Coming) (entry : ℕ → Option ℕ)
+    → CoreStands book core a → to_come ≡ Some stream → ((pc : ℕ) → entry pc ≡ None) → SoFar core to_come book a stream entry
+at_start core to_come book a stream entry stands told none = record {
   os = [];
   later = stream.rest;
   rest = refl;
   left = told;
   stands = subst (λ (past : List Occ). CoreStands book core (record a { past = past })) (sym (append-nil a.past)) stands;
-  pcs = none;
+  exact = λ pc. ap (λ (o : Option ℕ). unwrap_or o 0) (none pc);
 }
 
 notes_over_append : (book : Book) (thread : ℕ) (sets : List (Option Kept)) (past os ps : List Occ) → notes_over book thread sets past (os ++ ps) ≡ notes_over book thread sets past os ++ notes_over book thread sets (past ++ os) ps
@@ -67,21 +72,24 @@ same_mark Fault Dry e = cc
 same_mark Fault (Bad n c) e = cc
 same_mark Fault Fault e = refl
 
-pub one_more : (core core_then : CoreView) (to_come then : Option Coming) (book : Book) (a : Account) (stream : Coming) (pcs pcs_then : List ℕ) (o : Occ) (set : ℕ) (passed : List ℕ)
+passings_at_append : (pc : ℕ) (xs ys : List ℕ) → passings_at (xs ++ ys) pc ≡ passings_at xs pc + passings_at ys pc
+passings_at_append pc xs ys = sum_by-append (λ (other : ℕ). if other == pc then 1 else 0) xs ys
+
+pub one_more : (core core_then : CoreView) (to_come to_come_then : Option Coming) (book : Book) (a : Account) (stream : Coming) (entry entry_then : ℕ → Option ℕ) (o : Occ) (set : ℕ) (passed : List ℕ)
     → ((b : Book) (x : Account) → CoreStands b core x → CoreStands b core_then (consumed x o))
     → ((b : Book) (x : Account) → CoreStands b core x → notes_at b x.thread x.past o 0 x.sets ≡ map (note x.thread set o) passed)
-    → NextGives to_come (next.Occ o) then
-    → pcs_then ≡ pcs ++ replicate (length passed) o.pc
-    → SoFar core to_come book a stream pcs → SoFar core_then then book a stream pcs_then
-one_more core core_then to_come then book a stream pcs pcs_then o set passed stands notes gives more s =
-    go s.later s.rest (subst (λ x. NextGives x (next.Occ o) then) s.left gives)
+    → NextGives to_come (next.Occ o) to_come_then
+    → ((pc : ℕ) → unwrap_or (entry_then pc) 0 ≡ unwrap_or (entry pc) 0 + passings_at (replicate (length passed) o.pc) pc)
+    → SoFar core to_come book a stream entry → SoFar core_then to_come_then book a stream entry_then
+one_more core core_then to_come to_come_then book a stream entry entry_then o set passed stands notes gives more s =
+    go s.later s.rest (subst (λ x. NextGives x (next.Occ o) to_come_then) s.left gives)
   where
     its : passings book a (s.os ++ o ∷ []) ≡ passings book a s.os ++ replicate (length passed) o.pc
     its = ap (map (λ (n : Note). n.pc)) (notes_over_append book a.thread a.sets a.past s.os (o ∷ []) ∙ ap (λ (xs : List Note). notes_over book a.thread a.sets a.past s.os ++ xs) (append-nil (notes_at book a.thread (a.past ++ s.os) o 0 a.sets) ∙ notes book (consuming s.os a) s.stands))
         ∙ map-append (λ (n : Note). n.pc) (notes_over book a.thread a.sets a.past s.os) (map (note a.thread set o) passed)
         ∙ ap (λ (xs : List ℕ). passings book a s.os ++ xs) (pcs_of a.thread set o passed)
 
-    go : (later : List Occ) → stream.rest ≡ s.os ++ later → NextGives (Some (record { rest = later; mark = stream.mark })) (next.Occ o) then → SoFar core_then then book a stream pcs_then
+    go : (later : List Occ) → stream.rest ≡ s.os ++ later → NextGives (Some (record { rest = later; mark = stream.mark })) (next.Occ o) to_come_then → SoFar core_then to_come_then book a stream entry_then
     go [] e g = absurd (not_at_mark stream.mark o g.0)
     go (x ∷ xs) e g =
         let same : x ≡ o = (let h : next.Occ o ≡ next.Occ x = g.0 in cc) in
@@ -91,16 +99,19 @@ one_more core core_then to_come then book a stream pcs pcs_then o set passed sta
           rest = e ∙ ap (λ (y : Occ). s.os ++ y ∷ xs) same ∙ sym (append_assoc s.os (o ∷ []) xs);
           left = g.1;
           stands = subst (λ (past : List Occ). CoreStands book core_then (record a { past = past })) (append_assoc a.past s.os (o ∷ [])) (stands book (consuming s.os a) s.stands);
-          pcs = more ∙ ap (λ (xs : List ℕ). xs ++ replicate (length passed) o.pc) s.pcs ∙ sym its;
+          exact = λ pc. more pc ∙ ap (λ (n : ℕ). n + passings_at (replicate (length passed) o.pc) pc) (s.exact pc)
+              ∙ sym (ap (λ (xs : List ℕ). passings_at xs pc) its ∙ passings_at_append pc (passings book a s.os) (replicate (length passed) o.pc));
         }
 
 -- where the stream stops, nothing is left and this is its mark
-pub at_end : (core : CoreView) (to_come then : Option Coming) (book : Book) (a : Account) (stream : Coming) (pcs : List ℕ) (m : Mark)
-    → NextGives to_come (at_mark m) then → SoFar core to_come book a stream pcs → (pcs ≡ passings book a stream.rest) × (stream.mark ≡ m)
-at_end core to_come then book a stream pcs m gives s = go s.later s.rest (subst (λ x. NextGives x (at_mark m) then) s.left gives)
+pub at_end : (core : CoreView) (to_come to_come_then : Option Coming) (book : Book) (a : Account) (stream : Coming) (entry : ℕ → Option ℕ) (m : Mark)
+    → NextGives to_come (at_mark m) to_come_then → SoFar core to_come book a stream entry
+    → ((pc : ℕ) → unwrap_or (entry pc) 0 ≡ passings_at (passings book a stream.rest) pc) × (stream.mark ≡ m)
+at_end core to_come to_come_then book a stream entry m gives s = go s.later s.rest (subst (λ x. NextGives x (at_mark m) to_come_then) s.left gives)
   where
-    go : (later : List Occ) → stream.rest ≡ s.os ++ later → NextGives (Some (record { rest = later; mark = stream.mark })) (at_mark m) then → (pcs ≡ passings book a stream.rest) × (stream.mark ≡ m)
-    go [] e g = (s.pcs ∙ ap (passings book a) (sym (e ∙ append-nil s.os)), same_mark m stream.mark g.0)
+    go : (later : List Occ) → stream.rest ≡ s.os ++ later → NextGives (Some (record { rest = later; mark = stream.mark })) (at_mark m) to_come_then
+        → ((pc : ℕ) → unwrap_or (entry pc) 0 ≡ passings_at (passings book a stream.rest) pc) × (stream.mark ≡ m)
+    go [] e g = (λ pc. s.exact pc ∙ ap (λ (os : List Occ). passings_at (passings book a os) pc) (sym (e ∙ append-nil s.os)), same_mark m stream.mark g.0)
     go (x ∷ xs) e g = absurd (not_at_mark m x (sym g.0))
 
 -- the stamp of a next occurrence is not before the core's time
@@ -120,6 +131,19 @@ in_step_then core core_then reader later o t l s n = record {
   last = ap (option_map (λ (x : Occ). x.stamp)) l ∙ sym n.last;
 }
 
--- what a vector holds that was made longer by so many of one value
-pub longer : (xs : List ℕ) (k size more x : ℕ) → size ≡ length xs → k ≡ size + more → take k xs ++ replicate (k - size) x ≡ xs ++ replicate more x
-longer xs k size more x e f = ap₂ (λ (ys : List ℕ) (n : ℕ). ys ++ replicate n x) (take_all k xs (omega (arith, e, f))) (omega (arith, f))
+-- how often an address is among so many of one
+pub passings_at_replicate : (n pc other : ℕ) → passings_at (replicate n pc) other ≡ (if pc == other then n else 0)
+passings_at_replicate zero pc other = grind arith
+passings_at_replicate (suc n) pc other = passings_at_append other (pc ∷ []) (replicate n pc) ∙ grind (arith, passings_at_replicate n pc other)
+
+module _ (m : BTreeMap ℕ ℕ) (es : List (ℕ × ℕ)) (k more : ℕ)
+    (up : (q : ℕ) → lookup (is_at (nat_cmp q)) es ≡ (if is_at (nat_cmp k) q then Some (unwrap_or (get nat_cmp m k) 0 + more) else get nat_cmp m q)) where
+  -- the entries after so many more at an address
+  pub raised : (pc : ℕ) → unwrap_or (lookup (is_at (nat_cmp pc)) es) 0 ≡ unwrap_or (get nat_cmp m pc) 0 + passings_at (replicate more k) pc
+  raised pc = grind (arith, up pc, passings_at_replicate more k pc)
+
+  pub few_raised : (bound bound_then : ℕ) → ((pc : ℕ) → unwrap_or (get nat_cmp m pc) 0 ≤ bound) → bound + more ≤ bound_then → (pc : ℕ) → unwrap_or (lookup (is_at (nat_cmp pc)) es) 0 ≤ bound_then
+  few_raised bound bound_then few fits pc = grind (arith, few pc, fits, raised pc, passings_at_replicate more k pc)
+
+  pub some_raised : 0 < more → ((pc x : ℕ) → get nat_cmp m pc ≡ Some x → 0 < x) → (pc x : ℕ) → lookup (is_at (nat_cmp pc)) es ≡ Some x → 0 < x
+  some_raised above some pc x got = grind (arith, above, some pc x, got, up pc)

@@ -1,23 +1,24 @@
 -- Profiles of an event over a stream: the passings of its count are the notes of PAPI_overflow(3).
-use Rattle.std.specs.Prelude.{◌≡◌, ℕ, List, [], All, Contains, map, Ok, Err, Result, None, Vec}
+use Rattle.std.specs.Prelude.{◌≡◌, ℕ, List, [], All, Contains, Ok, Err, Result, None, Vec}
 use Rattle.std.specs.declared.alloc.Global.{Global}
-use Rattle.papi_base.specs.Streams.{Coming, Dry}
-use Rattle.papi_base.specs.declared.code.Code.TheVariants as code
-use Rattle.papi_base.specs.declared.native.Native.{Native}
-use Rattle.papi_base.specs.declared.occurrence.Occ.{Occ}
 use Rattle.event_sets.specs.AtRest.{Widths}
 use Rattle.event_tables.specs.Tables.{shape_of}
 use Rattle.event_tables.specs.Unit.{ReadsUnit, unit_fault, unit_tables}
 use Rattle.name_encoder.specs.Names.{names}
+use Rattle.papi_base.specs.Streams.{Coming, Dry}
+use Rattle.papi_base.specs.declared.code.Code.TheVariants as code
+use Rattle.papi_base.specs.declared.native.Native.{Native}
+use Rattle.papi_base.specs.declared.occurrence.Occ.{Occ}
 use Rattle.session_model.specs.Account.{Account, opening}
+use Rattle.session_model.specs.Replies.{refused}
 use Rattle.session_model.specs.Step.{account_after, replies_to}
 use Rattle.session_model.specs.declared.reply.Reply.{Reply}
 use Rattle.profiler.specs.Hottest.{AreHottest}
 use Rattle.profiler.specs.Passings.{Stops, calls, passings}
 use Rattle.profiler.specs.declared.profile.Fault.{Fault}
 use Rattle.profiler.specs.declared.profile.Fault.TheVariants as fault
-use Rattle.profiler.specs.declared.profile.TheConstants.{MOST}
 use Rattle.profiler.specs.declared.ranking.Hot.{Hot}
+use Rattle.profiler.specs.declared.ranking.TheConstants.{MOST}
 
 -- a thread before its first call
 abbrev pub before : Account
@@ -41,22 +42,11 @@ pub record IsProfiled (rows : List Hot) (unit event : List ℕ) (t : ℕ) (strea
   pub whole : stream.mark ≡ Dry
   pub hottest : AreHottest MOST (passings_over (shape_of (unit_tables unit)) native t stream.rest) rows
 
--- the passings of a native event, or why there are none
-abbrev pub ArePassings : Result (Vec ℕ Global) Fault → Widths → Native → ℕ → Coming → Type 0
-ArePassings (Ok pcs) shape n t stream =
-    All (λ reply. reply.code ≡ code.Ok) (replies shape n t) × (stream.mark ≡ Dry) × (pcs.items ≡ passings_over shape n t stream.rest)
-ArePassings (Err (fault.Refused c)) shape n t stream = Contains (map (λ reply. reply.code) (replies shape n t)) c
-ArePassings (Err (fault.Stream f)) shape n t stream = Stops f stream.mark
-ArePassings (Err fault.Memory) shape n t stream = Unit {0}
-ArePassings (Err (fault.Unit f)) shape n t stream = ⊥
-ArePassings (Err (fault.Event f)) shape n t stream = ⊥
-
 -- the profile of this unit, event, threshold and stream, or the first fault: memory may run out at any time
 abbrev pub IsProfile : Result (Vec Hot Global) Fault → List ℕ → List ℕ → ℕ → Coming → Type 0
 IsProfile (Ok rows) unit event t stream = IsProfiled rows.items unit event t stream
 IsProfile (Err (fault.Unit f)) unit event t stream = ReadsUnit (Err f) unit
 IsProfile (Err (fault.Event f)) unit event t stream = names (unit_tables unit) event ≡ Err f
-IsProfile (Err (fault.Refused c)) unit event t stream =
-    (n : Native) × (names (unit_tables unit) event ≡ Ok n) × Contains (map (λ reply. reply.code) (replies (shape_of (unit_tables unit)) n t)) c
-IsProfile (Err (fault.Stream f)) unit event t stream = Stops f stream.mark
-IsProfile (Err fault.Memory) unit event t stream = Unit {0}
+IsProfile (Err (fault.Refused r)) unit event t stream =
+    (n : Native) × (names (unit_tables unit) event ≡ Ok n) × Contains (replies (shape_of (unit_tables unit)) n t) (refused r)
+IsProfile (Err f) unit event t stream = Stops f stream.mark

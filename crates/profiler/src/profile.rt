@@ -1,24 +1,20 @@
 //! Profiles: the addresses at which an event most often passes a threshold.
 ghost use Rattle.std.specs.Prelude.{◌≡◌, Some};
-ghost use Rattle.event_tables.specs.Tables.{shape_of};
 ghost use Rattle.papi_base.specs.Outside.{Tape};
-ghost use Rattle.name_encoder.specs.Names.{FitsShape};
 ghost use Rattle.stream_reader.specs.Occurs.{occurs_of};
-ghost use Rattle.profiler.specs.Profiles.{ArePassings, IsProfile};
+ghost use Rattle.profiler.specs.Profiles.{IsProfile};
 
 use crate::ranking::{Hot, hottest};
-use crate::sampling::{Unsampled, arm, sample};
-use event_tables::{TableFault, Tables, read_unit};
+use crate::sampling::{arm, sample};
+use event_sets::Refusal;
+use event_tables::{TableFault, read_unit};
 use name_encoder::{NameFault, encode};
-use papi_base::{Code, Native, Source};
+use papi_base::{LineCause, Source};
 use postfix_rules::PresetBook;
 use std::alloc::Global;
 use stream_reader::StreamReader;
 use thiserror::Error;
 use thread_core::Core;
-
-/// How many addresses a profile has at most.
-pub const MOST: usize = 10;
 
 /// Why there is no profile.
 #[derive(Debug, Drop, Error)]
@@ -28,9 +24,11 @@ pub enum Fault {
     #[error("the event: {0}")]
     Event(NameFault),
     #[error("the event or the threshold is refused: {0:?}")]
-    Refused(Code),
-    #[error("the stream: {0:?}")]
-    Stream(Unsampled),
+    Refused(Refusal),
+    #[error("line {line} of the stream: {cause:?}")]
+    Line { line: u64, cause: LineCause },
+    #[error("the stream cannot be read")]
+    Read,
     #[error("out of memory")]
     Memory,
 }
@@ -46,47 +44,11 @@ pub fn profile<S: Source>(
     ensures { (tape : Tape) → S.tape stream ≡ Some tape
         → IsProfile result unit.now event.now threshold (occurs_of tape.ending tape.bytes) }
 {
-    let tables = match read_unit(alloc, unit) {
-        Ok(tables) => tables,
-        Err(fault) => return Err(Fault::Unit(fault)),
-    };
-    let native = match encode(&tables, event) {
-        Ok(native) => native,
-        Err(fault) => return Err(Fault::Event(fault)),
-    };
-    let pcs = match passings(alloc, &tables, native, threshold, stream) {
-        Ok(pcs) => pcs,
-        Err(fault) => return Err(fault),
-    };
-    match hottest(alloc, &pcs, MOST) {
-        Ok(rows) => Ok(rows),
-        Err(_) => Err(Fault::Memory),
-    }
-}
-
-// The address of each passing of the native event's count.
-fn passings<S: Source>(
-    alloc: Global,
-    tables: &Tables,
-    native: Native,
-    threshold: u64,
-    stream: S,
-) -> Result<Vec<u64>, Fault>
-    requires fits { FitsShape (shape_of tables.now) native }
-    ensures { (tape : Tape) → S.tape stream ≡ Some tape
-        → ArePassings result (shape_of tables.now) native threshold
-        (occurs_of tape.ending tape.bytes) }
-{
-    let Ok(mut core) = Core::new(alloc, 0, tables.shape()) else {
-        return Err(Fault::Memory);
-    };
+    let tables = read_unit(alloc, unit).map_err(Fault::Unit)?;
+    let native = encode(&tables, event).map_err(Fault::Event)?;
     let book = PresetBook::new(Vec::new(alloc));
-    if let Err(code) = arm(&mut core, &book, native, threshold) {
-        return Err(Fault::Refused(code));
-    }
-    let mut reader = StreamReader::new(stream);
-    match sample(alloc, &mut core, &mut reader) {
-        Ok(pcs) => Ok(pcs),
-        Err(fault) => Err(Fault::Stream(fault)),
-    }
+    let mut core = Core::new(alloc, 0, tables.shape()).map_err(|_| Fault::Memory)?;
+    arm(&mut core, &book, native, threshold).map_err(Fault::Refused)?;
+    let counts = sample(alloc, &mut core, &mut StreamReader::new(stream))?;
+    hottest(alloc, counts).map_err(|_| Fault::Memory)
 }

@@ -1,37 +1,40 @@
-use Rattle.std.proofs.Common.{arith, ◌∙◌, length}
+use Rattle.std.proofs.Common.{rules, arith, length}
+use Rattle.std.proofs.lemmas.Grind.{common_steps}
+use Rattle.std.specs.BTreeMap.{get}
+use Rattle.std.specs.Ordering.{nat_cmp}
 use Rattle.papi_base.specs.Streams.{Bad, Dry, Fault}
-use Rattle.profiler.proofs.Sampled.{at_end, at_start, in_step_then, in_time, longer, one_more}
+use Rattle.profiler.proofs.Sampled.{at_end, in_step_then, few_raised, one_more, passings_at_replicate, raised, some_raised}
 use Rattle.profiler.proofs.sampling.sample.Goals as goal
 
-pub loop-o-init : goal.loop-o-init
-loop-o-init g c = record {
-  in_step = c.requires.in_step;
-  so_far = λ book a stream stands told. at_start c.args.core.now _ book a stream c.new-pcs.result.items stands told c.new-pcs.ensures.items;
+pub loop-o-preserved-then-passed-gt0 : goal.loop-o-preserved-then-passed-gt0
+loop-o-preserved-then-passed-gt0 g c = record {
+  in_step = in_step_then c.loop-o.core c.take.new.self c.loop-o.reader c.next.new.self c.in-Occ.o c.take.ensures.taken c.take.ensures.last c.loop-o.invariant.in_step c.in-Occ.ensures.counts;
+  few = few_raised c.loop-o.counts _ c.in-Occ.o.pc (length c.take.result.passed) (search rules) _ _ c.loop-o.invariant.few (omega (arith, c.take.ensures.taken, c.len.ensures.short));
+  some = some_raised c.loop-o.counts _ c.in-Occ.o.pc (length c.take.result.passed) (search rules) (omega (arith, c.len.ensures.length, c.from-passed.ensures, c.if-passed-gt0.true)) c.loop-o.invariant.some;
+  so_far = λ book a stream stands told. one_more c.loop-o.core c.take.new.self _ _ book a stream (get nat_cmp c.loop-o.counts) _ c.in-Occ.o c.take.result.set c.take.result.passed
+      c.take.ensures.stands c.take.ensures.notes c.in-Occ.ensures.told
+      (raised c.loop-o.counts _ c.in-Occ.o.pc (length c.take.result.passed) (search rules))
+      (c.loop-o.invariant.so_far book a stream stands told);
 }
-
-pub take-requires-clause-few : goal.take-requires-clause-few
-take-requires-clause-few g c = omega (arith, c.loop-o.invariant.in_step.taken, c.in-Occ.ensures.counts.given, c.in-Occ.ensures.within.few)
-
-pub take-requires-clause-rises : goal.take-requires-clause-rises
-take-requires-clause-rises g c = in_time c.loop-o.core c.loop-o.reader c.next.new.self c.in-Occ.o c.loop-o.invariant.in_step c.in-Occ.ensures.counts
-
-pub loop-o-smaller : goal.loop-o-smaller
-loop-o-smaller g c = omega (arith, c.in-Occ.ensures.counts.given, c.in-Occ.ensures.within.few)
 
 pub loop-o-preserved : goal.loop-o-preserved
 loop-o-preserved g c = record {
   in_step = in_step_then c.loop-o.core c.take.new.self c.loop-o.reader c.next.new.self c.in-Occ.o c.take.ensures.taken c.take.ensures.last c.loop-o.invariant.in_step c.in-Occ.ensures.counts;
-  so_far = λ book a stream stands told. one_more c.loop-o.core c.take.new.self _ _ book a stream c.loop-o.pcs.items _ c.in-Occ.o c.take.result.set c.take.result.passed
+  few = λ pc. omega (arith, c.loop-o.invariant.few pc, c.take.ensures.taken);
+  some = c.loop-o.invariant.some;
+  so_far = λ book a stream stands told. one_more c.loop-o.core c.take.new.self _ _ book a stream (get nat_cmp c.loop-o.counts) _ c.in-Occ.o c.take.result.set c.take.result.passed
       c.take.ensures.stands c.take.ensures.notes c.in-Occ.ensures.told
-      (c.in_ok-resize-in-Occ.ensures.items ∙ longer c.loop-o.pcs.items _ c.loop-o.pcs.len (length c.take.result.passed) c.in-Occ.o.pc (omega (arith, c.loop-o.pcs.ok)) (omega (arith, c.len.ensures, c.len-passed.ensures.length)))
+      (λ pc. grind (arith, common_steps, passings_at_replicate (length c.take.result.passed) c.in-Occ.o.pc pc))
       (c.loop-o.invariant.so_far book a stream stands told);
 }
 
 pub returns-in-End : goal.returns-in-End
-returns-in-End g c book a stream stands told = at_end c.loop-o.core _ _ book a stream c.loop-o.pcs.items Dry c.in-End.ensures.told (c.loop-o.invariant.so_far book a stream stands told)
+returns-in-End g c book a stream stands told =
+    let all = at_end c.loop-o.core _ _ book a stream (get nat_cmp c.loop-o.counts) Dry c.in-End.ensures.told (c.loop-o.invariant.so_far book a stream stands told) in
+    (record { exact = all.0; some = c.loop-o.invariant.some }, all.1)
 
 pub returns-in-Bad : goal.returns-in-Bad
-returns-in-Bad g c book a stream stands told = (at_end c.loop-o.core _ _ book a stream c.loop-o.pcs.items (Bad c.in-Bad.line c.in-Bad.cause) c.in-Bad.ensures.told (c.loop-o.invariant.so_far book a stream stands told)).1
+returns-in-Bad g c book a stream stands told = (at_end c.loop-o.core _ _ book a stream (get nat_cmp c.loop-o.counts) (Bad c.in-Bad.line c.in-Bad.cause) c.in-Bad.ensures.told (c.loop-o.invariant.so_far book a stream stands told)).1
 
 pub returns-in-ReadFault : goal.returns-in-ReadFault
-returns-in-ReadFault g c book a stream stands told = (at_end c.loop-o.core _ _ book a stream c.loop-o.pcs.items Fault c.in-ReadFault.ensures.told (c.loop-o.invariant.so_far book a stream stands told)).1
+returns-in-ReadFault g c book a stream stands told = (at_end c.loop-o.core _ _ book a stream (get nat_cmp c.loop-o.counts) Fault c.in-ReadFault.ensures.told (c.loop-o.invariant.so_far book a stream stands told)).1

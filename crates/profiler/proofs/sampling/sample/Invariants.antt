@@ -1,5 +1,8 @@
-use Rattle.std.proofs.Common.{◌≡◌, ◌-◌, Some}
+use Rattle.std.proofs.Common.{◌≡◌, ◌-◌, ◌*◌, ◌≤◌, ◌<◌, ℕ, Some, unwrap_or}
+use Rattle.std.specs.BTreeMap.{get}
+use Rattle.std.specs.Ordering.{nat_cmp}
 use Rattle.papi_base.specs.Streams.{Coming}
+use Rattle.papi_base.specs.declared.limits.TheConstants.{MOST_OCCURRENCES, MOST_SET_EVENTS}
 use Rattle.postfix_rules.specs.Presets.{Book}
 use Rattle.session_model.specs.Account.{Account}
 use Rattle.stream_reader.specs.Reader.{coming}
@@ -11,9 +14,11 @@ use Rattle.profiler.proofs.sampling.sample.Given as goal
 abbrev pub invariant-loop-o : goal.invariant-loop-o
 invariant-loop-o g l = record {
   in_step : AreInStep l.core l.reader;
+  few : (pc : ℕ) → unwrap_or (get nat_cmp l.counts pc) 0 ≤ MOST_SET_EVENTS * l.core.taken;
+  some : (pc n : ℕ) → get nat_cmp l.counts pc ≡ Some n → 0 < n;
   so_far : (book : Book) (a : Account) (stream : Coming) → CoreStands book l.fn.core a → coming l.fn.reader ≡ Some stream
-      → SoFar l.core (coming l.reader) book a stream l.pcs.items;
+      → SoFar l.core (coming l.reader) book a stream (get nat_cmp l.counts);
 }
 
 abbrev pub decreases-loop-o : goal.decreases-loop-o
-decreases-loop-o g l = 5200000 - l.reader.start.given
+decreases-loop-o g l = MOST_OCCURRENCES - l.reader.start.given
