@@ -1,36 +1,26 @@
 -- A call that has said what it has to say, or nothing, has carried out its words.
-use Rattle.std.proofs.Common.{◌≡◌, ◌<◌, ◌⊎◌, ℕ, List, Option, None, Some, IfSome, refl, sym, ◌∙◌, ap, arith, inl, inr}
+use Rattle.std.proofs.Common.{◌≡◌, ◌<◌, ◌⊎◌, ℕ, List, Option, Ok, Err, refl, arith, inl, inr, subst}
 use Rattle.papi_base.specs.Outside.{Rose, next_count}
+use Rattle.overflow_dispatch.specs.declared.handler.Note.{Note}
+use Rattle.overflow_dispatch.specs.Notes.{EachGrown}
 use Rattle.tool_words.specs.Form.{form}
-use Rattle.papi_tools.specs.Carried.{CarriesOut}
+use Rattle.papi_tools.specs.Carried.{CarriesOut, CarriesOutAndTells, CarriesOutOver}
 use Rattle.papi_tools.specs.Causes.{CauseFor, IsCaused, SaysNo}
+use Rattle.papi_tools.specs.Openings.{ForSome, Openings}
 use Rattle.papi_tools.specs.Saying.{HasSinkCause, IsJudged, Says, SaysAll}
 use Rattle.papi_tools.specs.Seen.{FilesSeen, SinkSeen}
 use Rattle.papi_tools.specs.Status.{status_of}
-use Rattle.papi_tools.specs.Steps.{Verdict}
-use Rattle.papi_tools.specs.Verdict.{known_verdict}
+use Rattle.papi_tools.specs.Verdict.{IsSettledAs, verdict}
 use Rattle.papi_tools.specs.declared.said.Said.{Said}
 use Rattle.papi_tools.specs.declared.status.Outcome.{Outcome}
 use Rattle.papi_tools.specs.declared.status.Outcome.TheVariants as outcome
 use Rattle.papi_tools.specs.declared.status.Status.{Status}
 use Rattle.papi_tools.specs.declared.status.Status.TheVariants as status
-use Rattle.papi_tools.proofs.CauseLemmas.{nothing_said, silence}
+use Rattle.papi_tools.proofs.CauseLemmas.{nothing_said}
+use Rattle.papi_tools.proofs.FindingLemmas.{some_openings}
+use Rattle.papi_tools.proofs.TellingLemmas.{all_told, none_begun, none_grown}
 
 -- the outcome that stands for this status
-by_status : (o : Outcome) → status.Refused ≡ status_of o → o ≡ outcome.Refused
-by_status outcome.Whole e = cc
-by_status outcome.No e = cc
-by_status outcome.Refused e = refl
-by_status outcome.ReadFault e = cc
-
-says_refused : (s : Status) (said : Said) (out out' err err' : Option (List ℕ)) → Says s said out out' err err' → s ≡ status.Refused → said.outcome ≡ outcome.Refused
-says_refused status.Whole said out out' err err' h e = cc
-says_refused status.No said out out' err err' h e = cc
-says_refused status.Refused said out out' err err' h e = by_status said.outcome h.0
-says_refused status.ReadFault said out out' err err' h e = cc
-says_refused status.Memory said out out' err err' h e = cc
-says_refused status.WriteFault said out out' err err' h e = cc
-
 fault_by : (o : Outcome) → status.ReadFault ≡ status_of o → o ≡ outcome.ReadFault
 fault_by outcome.Whole e = cc
 fault_by outcome.No e = cc
@@ -101,67 +91,65 @@ all_said status.ReadFault said o o' e e' f f' g g' h c no_o no_e = inl h
 all_said status.Memory said o o' e e' f f' g g' h c no_o no_e = inr refl
 all_said status.WriteFault said o o' e e' f f' g g' h c no_o no_e = absurd (neither f f' g g' no_o no_e c)
 
-told_all : (verdict : Option Verdict) (s : Status) (said : Said) (o o' e e' : SinkSeen) → IfSome verdict (λ v. said ≡ v.said) →
-    Says s said o.taken o'.taken e.taken e'.taken → HasSinkCause s o.faults o'.faults e.faults e'.faults →
-    IfSome verdict (λ v. ¬ (Rose o.faults o'.faults) → ¬ (Rose e.faults e'.faults) → SaysAll s v.said o.taken o'.taken e.taken e'.taken)
-told_all None s said o o' e e' is h c = tt
-told_all (Some v) s said o o' e e' is h c =
-    λ no_o no_e. rw (← is) (all_said s said o.taken o'.taken e.taken e'.taken o.faults o'.faults e.faults e'.faults h c no_o no_e)
-
-told_says : (verdict : Option Verdict) (s : Status) (said : Said) (out out' err err' : Option (List ℕ)) → IfSome verdict (λ v. said ≡ v.said) →
-    Says s said out out' err err' → IfSome verdict (λ v. Says s v.said out out' err err')
-told_says None s said out out' err err' e h = tt
-told_says (Some v) s said out out' err err' e h = rw (← e) h
-
-told_refused : (verdict : Option Verdict) (s : Status) (said : Said) (out out' err err' : Option (List ℕ)) → IfSome verdict (λ v. said ≡ v.said) →
-    Says s said out out' err err' → IfSome verdict (λ v. s ≡ status.Refused → v.said.outcome ≡ outcome.Refused)
-told_refused None s said out out' err err' e h = tt
-told_refused (Some v) s said out out' err err' e h = λ r. ap (λ (x : Said). x.outcome) (sym e) ∙ says_refused s said out out' err err' h r
-
 -- what the words come to has been said, whole or up to where it ended
-pub carried : (words : List (List ℕ)) (s : Status) (files files' : FilesSeen) (out out' err err' : SinkSeen) (said : Said) → IfSome (known_verdict words files.held) (λ v. said ≡ v.said) →
+carried : (openings : Openings) (words : List (List ℕ)) (s : Status) (files files' : FilesSeen) (out out' err err' : SinkSeen) (said : Said) → said ≡ (verdict words openings).said →
     Says s said out.taken out'.taken err.taken err'.taken → IsCaused (form words) files files' said → HasSinkCause s out.faults out'.faults err.faults err'.faults → files'.lent ≡ files.lent →
-    CarriesOut words s files files' out out' err err'
-carried words s files files' out out' err err' said told says cause sinks returned =
+    CarriesOutOver openings words s files files' out out' err err'
+carried openings words s files files' out out' err err' said is says cause sinks returned =
     let read_fault : s ≡ status.ReadFault → Rose files.faults files'.faults =
     λ e. fault_rose words files files' said cause (says_fault s said out.taken out'.taken err.taken err'.taken says e) in
+    let all : Says s (verdict words openings).said out.taken out'.taken err.taken err'.taken = subst (λ (x : Said). Says s x out.taken out'.taken err.taken err'.taken) is says in
     record {
-      says = told_says (known_verdict words files.held) s said out.taken out'.taken err.taken err'.taken told says;
-      refused = told_refused (known_verdict words files.held) s said out.taken out'.taken err.taken err'.taken told says;
-      cause = (said, says, cause);
+      says = all;
+      cause = λ here. subst (λ (x : Said). IsCaused (form words) files files' x) is cause;
       no = λ e. no_allowed words files files' said cause (says_no s said out.taken out'.taken err.taken err'.taken says e);
       read_fault = read_fault;
       sinks = sinks;
       rises = rises_by s out.faults out'.faults err.faults err'.faults sinks;
       complete = judged s files.faults files'.faults out.faults out'.faults err.faults err'.faults read_fault sinks;
-      whole = told_all (known_verdict words files.held) s said out out' err err' told says sinks;
+      whole = all_said s (verdict words openings).said out.taken out'.taken err.taken err'.taken out.faults out'.faults err.faults err'.faults all sinks;
       returned = returned;
     }
 
-nothing_told : (verdict : Option Verdict) (out err : Option (List ℕ)) → IfSome verdict (λ v. Says status.Memory v.said out out err err)
-nothing_told None out err = tt
-nothing_told (Some v) out err = nothing_said v.said out err
-
-not_refused : (verdict : Option Verdict) → IfSome verdict (λ v. status.Memory ≡ status.Refused → v.said.outcome ≡ outcome.Refused)
-not_refused None = tt
-not_refused (Some v) = λ e. cc
-
-memory_ran_out : (verdict : Option Verdict) (out err : SinkSeen) →
-    IfSome verdict (λ v. ¬ (Rose out.faults out.faults) → ¬ (Rose err.faults err.faults) → SaysAll status.Memory v.said out.taken out.taken err.taken err.taken)
-memory_ran_out None out err = tt
-memory_ran_out (Some v) out err = λ no_o no_e. inr refl
+-- and handlers have been told their notes
+pub carried_out : {E : Type 0} (words : List (List ℕ)) (s : Status) (files files' : FilesSeen) (out out' err err' : SinkSeen) (before after : List (List Note)) (said : Said) →
+    ForSome files.held (λ openings. IsSettledAs {E = E} (Ok said) (verdict words openings) before after) → EachGrown before after →
+    Says s said out.taken out'.taken err.taken err'.taken → IsCaused (form words) files files' said → HasSinkCause s out.faults out'.faults err.faults err'.faults → files'.lent ≡ files.lent →
+    CarriesOutAndTells words s files files' out out' err err' before after
+carried_out words s files files' out out' err err' before after said (o, can, is) grown says cause sinks returned =
+    (o, can, (carried o words s files files' out out' err err' said is.said says cause sinks returned, record { tells = all_told s before (verdict words o).notes after is.told; grown = grown }))
 
 -- nothing has been said, for memory ran out
-pub starved : (words : List (List ℕ)) (files files' : FilesSeen) (out err : SinkSeen) → files'.lent ≡ files.lent → CarriesOut words status.Memory files files' out out err err
-starved words files files' out err returned = record {
-  says = nothing_told (known_verdict words files.held) out.taken err.taken;
-  refused = not_refused (known_verdict words files.held);
-  cause = (silence, nothing_said silence out.taken err.taken, tt);
+starved : (openings : Openings) (words : List (List ℕ)) (files files' : FilesSeen) (out err : SinkSeen) → files'.lent ≡ files.lent → CarriesOutOver openings words status.Memory files files' out out err err
+starved openings words files files' out err returned = record {
+  says = nothing_said (verdict words openings).said out.taken err.taken;
+  cause = λ here. absurd (here refl);
   no = λ e. cc;
   read_fault = λ e. cc;
   sinks = (refl, refl);
   rises = λ r. absurd (stay out.faults out.faults err.faults err.faults refl refl r);
   complete = λ no_f no_o no_e. tt;
-  whole = memory_ran_out (known_verdict words files.held) out err;
+  whole = λ no_o no_e. inr refl;
   returned = returned;
 }
+
+-- and handlers have been told some of the first of their notes
+pub ran_out : {E : Type 0} (words : List (List ℕ)) (files files' : FilesSeen) (out err : SinkSeen) (before after : List (List Note)) (error : E) →
+    ForSome files.held (λ openings. IsSettledAs (Err error) (verdict words openings) before after) → EachGrown before after → files'.lent ≡ files.lent → CarriesOutAndTells words status.Memory files files' out out err err before after
+ran_out words files files' out err before after error (o, can, is) grown returned = (o, can, (starved o words files files' out err returned, record { tells = is.begun; grown = grown }))
+
+-- a call for which memory ran out before it began
+pub not_begun : (words : List (List ℕ)) (files : FilesSeen) (out err : SinkSeen) → CarriesOut words status.Memory files files out out err err
+not_begun words files out err =
+    let (o, can) = some_openings files.held in
+    (o, can, starved o words files files out err refl)
+
+pub not_begun_tells : (words : List (List ℕ)) (files : FilesSeen) (out err : SinkSeen) (lists : List (List Note)) → CarriesOutAndTells words status.Memory files files out out err err lists lists
+not_begun_tells words files out err lists =
+    let (o, can) = some_openings files.held in
+    (o, can, (starved o words files files out err refl, record { tells = none_begun lists (verdict words o).notes; grown = none_grown lists }))
+
+-- a call that told handlers has carried out its words
+pub without_telling : (words : List (List ℕ)) (s : Status) (files files' : FilesSeen) (out out' err err' : SinkSeen) (before after : List (List Note)) → CarriesOutAndTells words s files files' out out' err err' before after →
+    CarriesOut words s files files' out out' err err'
+without_telling words s files files' out out' err err' before after (o, can, done) = (o, can, done.0)

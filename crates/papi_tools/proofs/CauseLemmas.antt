@@ -28,7 +28,3 @@ appended-nil (Some xs) = ap Some (sym (append-nil xs))
 -- nothing has been written
 pub nothing_said : (said : Said) (out err : Option (List ℕ)) → Says status.Memory said out out err err
 nothing_said said out err = (0, record { out_is = appended-nil out; err_is = rw zero-sub (appended-nil err) })
-
--- says nothing, and ends well
-abbrev pub silence : Said
-silence = record { outcome = Whole; out = []; err = [] }

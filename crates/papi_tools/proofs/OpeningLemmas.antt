@@ -1,107 +1,150 @@
 -- The first of the streams are open, in readers.
-use Rattle.std.proofs.Common.{◌≡◌, ◌<◌, ◌+◌, ℕ, suc, List, [], ◌∷◌, ◌++◌, length, drop, map, Option, Some, None, IfSome, Result, Ok, Err, refl, sym, ap, ◌∙◌, append_assoc, append-nil, get_or, IsOkAnd, add-one, drop-cons}
-use Rattle.std.proofs.lemmas.List.{map-append}
-use Rattle.std.specs.Option.{option_map}
-use Rattle.papi_base.specs.Outside.{Tape, Held, opened}
+use Rattle.std.proofs.Common.{◌≡◌, ◌<◌, ◌+◌, ◌-◌, ℕ, zero, suc, true, false, List, [], ◌∷◌, ◌++◌, All, length, drop, map, replicate, Option, Some, None, Result, Ok, Err, refl, sym, ap, ap₂, ◌∙◌, append_assoc, append-nil, get_or, add-one, drop-cons, arith, subst}
+use Rattle.papi_base.specs.Outside.{Tape, Held}
+use Rattle.papi_base.specs.declared.outside.Ending.TheVariants.{End}
 use Rattle.papi_base.specs.Streams.{Coming}
-use Rattle.papi_tools.specs.Answers.{AnswersBy, IsTold}
-use Rattle.papi_tools.specs.Opening.{tape_under, tapes_under}
+use Rattle.plan_runner.specs.Runs.{CanEachCome}
+use Rattle.stream_reader.specs.Occurs.{occurs_of}
+use Rattle.stream_reader.specs.Reader.{ReaderView, SourceView, comes, new_view, tape_of}
+use Rattle.thread_session.specs.Prospects.{CanCome}
+use Rattle.papi_tools.specs.Opening.{tapes_under}
+use Rattle.papi_tools.specs.Openings.{CanGive, CanOpen, Ends, ForSome, Leads, Openings, opened, tape_under}
 use Rattle.papi_tools.specs.Steps.{and_then}
-use Rattle.stream_reader.specs.Reader.{ReaderView}
-use Rattle.papi_tools.specs.Streams.{AreStreams, TellExpected, TellStreams, stream_of, streams_of, streams_under}
+use Rattle.papi_tools.specs.Streams.{CanEachGive, IsUnread, empty_stream, stream_of, streams_of, streams_under}
 use Rattle.papi_tools.specs.declared.refusal.Refusal.{Refusal}
 use Rattle.papi_tools.specs.declared.refusal.Stop.{Stop}
 use Rattle.papi_tools.specs.declared.refusal.Stop.TheVariants as stop
+use Rattle.papi_tools.proofs.FindingLemmas.{some_openings}
 
--- These are open, and with the rest they are what was asked for.
-pub record AreOpen (expected : Result (List Tape) Refusal) (rest : List (List ℕ)) (held : Option Held) (comes : List (Option Coming)) : Type 0 where
-  pub tapes : List Tape
-  pub now : Held
-  pub now_is : held ≡ Some now
-  pub comes_is : comes ≡ map (λ t. Some (stream_of t)) tapes
-  pub goes_on : expected ≡ and_then (tapes_under now rest) (λ more. Ok (tapes ++ more))
-
--- where it is told
-abbrev pub AreOpenTold : Option Held → List (List ℕ) → List (List ℕ) → Option Held → List (Option Coming) → Type 0
-AreOpenTold told names rest held comes = IfSome told (λ first. AreOpen (tapes_under first names) rest held comes)
+-- These are open, and whatever tapes they have and the openings after them find, some openings gave these tapes and go on so.
+pub record AreOpen (before : Option Held) (names rest : List (List ℕ)) (now : Option Held) (readers : List ReaderView) : Type 0 where
+  pub each : (tapes : List Tape) → CanEachGive readers tapes → (later : Openings) → CanOpen now later →
+      ForSome before (λ openings. tapes_under openings names ≡ and_then (tapes_under later rest) (λ more. Ok (tapes ++ more)))
 
 by_all : (all : Result (List Tape) Refusal) → all ≡ and_then all (λ more. Ok ([] ++ more))
 by_all (Ok tapes) = refl
 by_all (Err refusal) = refl
 
-pub start : (told : Option Held) (names : List (List ℕ)) → AreOpenTold told names names told []
-start None names = tt
-start (Some first) names = record { tapes = []; now = first; now_is = refl; comes_is = refl; goes_on = by_all (tapes_under first names) }
+start_by : (before : Option Held) (names : List (List ℕ)) (tapes : List Tape) → CanEachGive [] tapes → (later : Openings) → CanOpen before later →
+    ForSome before (λ openings. tapes_under openings names ≡ and_then (tapes_under later names) (λ more. Ok (tapes ++ more)))
+start_by before names [] h later can = (later, can, by_all (tapes_under later names))
+start_by before names (t ∷ ts) h later can = absurd h
 
-known : (answer : Result Tape Refusal) (tape : Option Tape) → IsOkAnd answer (λ t. tape ≡ Some t) → (t : Tape) × (answer ≡ Ok t) × (tape ≡ Some t)
-known (Ok t) tape h = (t, refl, h)
-known (Err refusal) tape h = absurd h
+pub start : (before : Option Held) (names : List (List ℕ)) → AreOpen before names names before []
+start before names = record { each = start_by before names }
+
+-- the tapes of the first readers, and that of the last
+last_of : (readers : List ReaderView) (r : ReaderView) (tapes : List Tape) → CanEachGive (readers ++ r ∷ []) tapes → (first : List Tape) × (t : Tape) × (tapes ≡ first ++ t ∷ []) × CanEachGive readers first × CanGive (tape_of r) t
+last_of [] r [] h = absurd h
+last_of [] r (t ∷ []) h = ([], t, refl, tt, h.0)
+last_of [] r (t ∷ u ∷ ts) h = absurd h.1
+last_of (x ∷ xs) r [] h = absurd h
+last_of (x ∷ xs) r (t ∷ ts) h =
+    let (first, u, e, f, g) = last_of xs r ts h.1 in
+    (t ∷ first, u, ap (λ us. t ∷ us) e, (h.0, f), g)
 
 one_more : (tapes : List Tape) (t : Tape) (rest : Result (List Tape) Refusal) → and_then (and_then rest (λ more. Ok (t ∷ more))) (λ more. Ok (tapes ++ more)) ≡ and_then rest (λ more. Ok ((tapes ++ t ∷ []) ++ more))
 one_more tapes t (Ok more) = ap Ok (sym (append_assoc tapes (t ∷ []) more))
 one_more tapes t (Err refusal) = refl
 
-opened_more : (expected : Result (List Tape) Refusal) (now : Held) (next : Option Held) (rest : List (List ℕ)) (name : List ℕ) (tapes : List Tape) (comes : List (Option Coming)) (c : Option Coming) (t : Tape) →
-    next ≡ Some (opened now) → comes ≡ map (λ u. Some (stream_of u)) tapes → expected ≡ and_then (tapes_under now (name ∷ rest)) (λ more. Ok (tapes ++ more)) → tape_under now name ≡ Ok t →
-    c ≡ Some (stream_of t) → AreOpen expected rest next (comes ++ c ∷ [])
-opened_more expected now next rest name tapes comes c t n ts e u s =
-    record {
-      tapes = tapes ++ t ∷ [];
-      now = opened now;
-      now_is = n;
-      comes_is = ap (λ us. us ++ c ∷ []) ts ∙ ap (λ x. map (λ u. Some (stream_of u)) tapes ++ x ∷ []) s ∙ sym (map-append (λ u. Some (stream_of u)) tapes (t ∷ []));
-      goes_on = (rw u at e) ∙ one_more tapes t (tapes_under (opened now) rest);
-    }
-
-more : (told held next : Option Held) (names rest : List (List ℕ)) (name : List ℕ) (comes : List (Option Coming)) (tape : Option Tape) (c : Option Coming) → AreOpenTold told names (name ∷ rest) held comes →
-    IfSome held (λ now. IsOkAnd (tape_under now name) (λ t. tape ≡ Some t)) → next ≡ option_map opened held → c ≡ option_map stream_of tape → AreOpenTold told names rest next (comes ++ c ∷ [])
-more None held next names rest name comes tape c a o e s = tt
-more (Some first) held next names rest name comes tape c a o e s =
-    let k = known (tape_under a.now name) tape (rw a.now_is at o) in
-    opened_more _ a.now next rest name a.tapes comes c k.0 (rw a.now_is at e) a.comes_is a.goes_on k.1 (s ∙ ap (option_map stream_of) k.2)
+more : {S : Type 0} (tape : S → Option Tape) (source : S) (before now next : Option Held) (names rest : List (List ℕ)) (name : List ℕ) (readers : List ReaderView) (r : ReaderView) → AreOpen before names (name ∷ rest) now readers →
+    Leads (λ s t. CanGive (tape s) t) (Ok source) (λ o. tape_under o name) opened now next → tape_of r ≡ tape source → AreOpen before names rest next (readers ++ r ∷ [])
+more tape source before now next names rest name readers r a opens e = record {
+  each = λ tapes give later can.
+      let (first, t, parts, f_give, t_give) = last_of readers r tapes give in
+      let (mid, m_can, (there, goes)) = opens t (rw e at t_give) later can in
+      let (o, o_can, is) = a.each first f_give mid m_can in
+      (o, o_can, subst (λ (ts : List Tape). tapes_under o names ≡ and_then (tapes_under later rest) (λ more. Ok (ts ++ more))) (sym parts) ((rw (there, goes) at is) ∙ one_more first t (tapes_under later rest)));
+}
 
 next_name : (names : List (List ℕ)) (i : ℕ) (item name : List ℕ) → i < length names → item ≡ get_or names i item → name ≡ item → drop i names ≡ name ∷ drop (i + 1) names
 next_name names i item name h e same = rw add-one (drop-cons names i item h ∙ ap (λ x. x ∷ drop (suc i) names) (sym e ∙ sym same))
 
-pub more_at : (told held next : Option Held) (names : List (List ℕ)) (i : ℕ) (item name : List ℕ) (comes : List (Option Coming)) (tape : Option Tape) (c : Option Coming) → i < length names →
-    item ≡ get_or names i item → name ≡ item → AreOpenTold told names (drop i names) held comes → IfSome held (λ now. IsOkAnd (tape_under now name) (λ t. tape ≡ Some t)) →
-    next ≡ option_map opened held → c ≡ option_map stream_of tape → AreOpenTold told names (drop (i + 1) names) next (comes ++ c ∷ [])
-more_at told held next names i item name comes tape c h e same a o n s =
-    more told held next names (drop (i + 1) names) name comes tape c (rw (next_name names i item name h e same) at a) o n s
-
-ended : (expected : Result (List Tape) Refusal) (held : Option Held) (comes : List (Option Coming)) → AreOpen expected [] held comes → AreStreams comes expected
-ended expected held comes a = let e : expected ≡ Ok (a.tapes ++ []) = a.goes_on in rw (e, append-nil) a.comes_is
+pub more_at : {S : Type 0} (tape : S → Option Tape) (source : S) (before now next : Option Held) (names : List (List ℕ)) (i : ℕ) (item name : List ℕ) (readers : List ReaderView) (r : ReaderView) → i < length names →
+    item ≡ get_or names i item → name ≡ item → AreOpen before names (drop i names) now readers → Leads (λ s t. CanGive (tape s) t) (Ok source) (λ o. tape_under o name) opened now next →
+    tape_of r ≡ tape source → AreOpen before names (drop (i + 1) names) next (readers ++ r ∷ [])
+more_at tape source before now next names i item name readers r h e same a opens s =
+    more tape source before now next names (drop (i + 1) names) name readers r (rw (next_name names i item name h e same) at a) opens s
 
 -- all of them are open
-pub all_open : (told held : Option Held) (names rest : List (List ℕ)) (comes : List (Option Coming)) → rest ≡ [] → AreOpenTold told names rest held comes → IfSome told (λ first. AreStreams comes (tapes_under first names))
-all_open None held names rest comes none a = tt
-all_open (Some first) held names rest comes none a = ended (tapes_under first names) held comes (rw none at a)
+pub all_open : (before now : Option Held) (names rest : List (List ℕ)) (readers : List ReaderView) → rest ≡ [] → AreOpen before names rest now readers →
+    (tapes : List Tape) → CanEachGive readers tapes → ForSome before (λ openings. tapes_under openings names ≡ Ok tapes)
+all_open before now names rest readers none a tapes give =
+    let (later, can) = some_openings now in
+    let (o, o_can, is) = a.each tapes give later can in
+    (o, o_can, (rw none at is) ∙ ap Ok (append-nil tapes))
 
-refused_at : (expected : Result (List Tape) Refusal) (held : Option Held) (rest : List (List ℕ)) (name : List ℕ) (comes : List (Option Coming)) (refusal : Refusal) (a : AreOpen expected (name ∷ rest) held comes) →
-    tape_under a.now name ≡ Err refusal → expected ≡ Err refusal
-refused_at expected held rest name comes refusal a e = rw e at a.goes_on
+some_tape : (told : Option Tape) → (tape : Tape) × CanGive told tape
+some_tape None = (record { bytes = []; ending = End }, tt)
+some_tape (Some tape) = (tape, refl)
+
+some_tapes : (readers : List ReaderView) → (tapes : List Tape) × CanEachGive readers tapes
+some_tapes [] = ([], tt)
+some_tapes (r ∷ rs) =
+    let (t, t_can) = some_tape (tape_of r) in
+    let (ts, ts_can) = some_tapes rs in
+    (t ∷ ts, (t_can, ts_can))
 
 -- a file that is not opened ends the opening
-stopped : {S : Type 0} (tape : S → Option Tape) (told held : Option Held) (names rest : List (List ℕ)) (name : List ℕ) (comes : List (Option Coming)) (s : Stop) → AreOpenTold told names (name ∷ rest) held comes →
-    IfSome held (λ now. AnswersBy (IsTold tape) (Err s) (tape_under now name)) → IfSome told (λ first. AnswersBy {A = Unit {0}} (λ x tapes. AreStreams comes tapes) (Err s) (tapes_under first names))
-stopped tape None held names rest name comes s a h = tt
-stopped tape (Some first) held names rest name comes stop.Memory a h = tt
-stopped tape (Some first) held names rest name comes (stop.Refused refusal) a h = refused_at (tapes_under first names) held rest name comes refusal a (rw a.now_is at h)
+stopped : {S : Type 0} (tape : S → Option Tape) (before now next : Option Held) (names rest : List (List ℕ)) (name : List ℕ) (readers : List ReaderView) (s : Stop) → AreOpen before names (name ∷ rest) now readers →
+    Leads {A = S} (λ x t. CanGive (tape x) t) (Err s) (λ o. tape_under o name) opened now next → Ends {A = Unit {0}} (λ x tapes. CanEachGive readers tapes) (Err s) (λ o. tapes_under o names) before
+stopped tape before now next names rest name readers stop.Memory a h = tt
+stopped tape before now next names rest name readers (stop.Refused refusal) a h =
+    let (mid, m_can, there) = h in
+    let (tapes, give) = some_tapes readers in
+    let (o, o_can, is) = a.each tapes give mid m_can in
+    (o, o_can, rw there at is)
 
-pub stopped_at : {S : Type 0} (tape : S → Option Tape) (told held : Option Held) (names : List (List ℕ)) (i : ℕ) (item name : List ℕ) (comes : List (Option Coming)) (s : Stop) →
-    i < length names → item ≡ get_or names i item → name ≡ item → AreOpenTold told names (drop i names) held comes → IfSome held (λ now. AnswersBy (IsTold tape) (Err s) (tape_under now name)) →
-    IfSome told (λ first. AnswersBy {A = Unit {0}} (λ x tapes. AreStreams comes tapes) (Err s) (tapes_under first names))
-stopped_at tape told held names i item name comes s h e same a o =
-    stopped tape told held names (drop (i + 1) names) name comes s (rw (next_name names i item name h e same) at a) o
+pub stopped_at : {S : Type 0} (tape : S → Option Tape) (before now next : Option Held) (names : List (List ℕ)) (i : ℕ) (item name : List ℕ) (readers : List ReaderView) (s : Stop) → i < length names → item ≡ get_or names i item →
+    name ≡ item → AreOpen before names (drop i names) now readers → Leads {A = S} (λ x t. CanGive (tape x) t) (Err s) (λ o. tape_under o name) opened now next →
+    Ends {A = Unit {0}} (λ x tapes. CanEachGive readers tapes) (Err s) (λ o. tapes_under o names) before
+stopped_at tape before now next names i item name readers s h e same a opens =
+    stopped tape before now next names (drop (i + 1) names) name readers s (rw (next_name names i item name h e same) at a) opens
 
 -- ---- the streams of all threads
 
-by_tapes : (expected : Result (List Tape) Refusal) (named : List (Option Coming)) (readers : List ReaderView) → ((tapes : List Tape) → named ≡ map (λ t. Some (stream_of t)) tapes → TellStreams readers (streams_of tapes)) →
-    AreStreams named expected → TellExpected readers (and_then expected (λ tapes. Ok (streams_of tapes)))
-by_tapes (Ok tapes) named readers each h = each tapes h
-by_tapes (Err refusal) named readers each h = absurd h
+-- a new reader gives the stream of the whole tape
+pub unread : (r : ReaderView) (source : Option SourceView) → r ≡ new_view source false → IsUnread r
+unfolding comes occurs_of
+unread r source e tape = rw e refl
 
-pub streams_told : (told : Option Held) (names : List (List ℕ)) (named : List (Option Coming)) (readers : List ReaderView) → ((tapes : List Tape) → named ≡ map (λ t. Some (stream_of t)) tapes → TellStreams readers (streams_of tapes)) →
-    IfSome told (λ held. AreStreams named (tapes_under held names)) → IfSome told (λ held. TellExpected readers (streams_under held names))
-streams_told None names named readers each h = tt
-streams_told (Some held) names named readers each h = by_tapes (tapes_under held names) named readers each h
+abbrev no_reader : ReaderView
+no_reader = new_view None true
+
+nothing_comes : (s : Coming) → CanCome no_reader s → s ≡ empty_stream
+unfolding comes
+nothing_comes s can = sym can.says
+
+later_come : (r : ReaderView) (rs : List ReaderView) (s : Coming) (ss : List Coming) → CanEachCome (r ∷ rs) (s ∷ ss) → CanEachCome rs ss
+later_come r rs s ss h = record { same_length = let e = h.same_length in omega arith; each = λ t x y small. h.each (suc t) x y (omega arith) }
+
+none_come : (n : ℕ) (streams : List Coming) → CanEachCome (replicate n no_reader) streams → streams ≡ replicate n empty_stream
+none_come zero [] h = refl
+none_come zero (s ∷ ss) h = absurd (let e = h.same_length in omega arith)
+none_come (suc n) [] h = absurd (let e = h.same_length in omega arith)
+none_come (suc n) (s ∷ ss) h =
+    rw (nothing_comes s (h.each 0 no_reader s (omega arith))) (ap (λ xs. empty_stream ∷ xs) (none_come n ss (later_come no_reader (replicate n no_reader) s ss h)))
+
+-- what can come of readers that were not read, and of empty ones, are the streams of tapes, and empty ones
+tapes_of : (readers : List ReaderView) (n : ℕ) (streams : List Coming) → All IsUnread readers → CanEachCome (readers ++ replicate n no_reader) streams →
+    (tapes : List Tape) × CanEachGive readers tapes × (length tapes ≡ length readers) × (map stream_of tapes ++ replicate n empty_stream ≡ streams)
+tapes_of [] n streams new h = ([], tt, refl, sym (none_come n streams h))
+tapes_of (r ∷ rs) n [] new h = absurd (let e = h.same_length in omega arith)
+tapes_of (r ∷ rs) n (s ∷ ss) new h =
+    let first = h.each 0 r s (omega arith) in
+    let tape = first.tape in
+    let whole : comes r tape.ending tape.bytes ≡ stream_of tape = new 0 r (omega arith) tape in
+    let (tapes, give, long, is) = tapes_of rs n ss (λ k d small. new (suc k) d (omega arith)) (later_come r (rs ++ replicate n no_reader) s ss h) in
+    (tape ∷ tapes, (first.told, give), ap suc long, ap₂ (λ x xs. x ∷ xs) (sym whole ∙ first.says) is)
+
+streams_under_tapes : (o : Openings) (names : List (List ℕ)) (tapes : List Tape) (n m : ℕ) (streams : List Coming) → tapes_under o names ≡ Ok tapes → length tapes ≡ m → n ≡ m →
+    map stream_of tapes ++ replicate (64 - n) empty_stream ≡ streams → streams_under o names ≡ Ok streams
+unfolding streams_of
+streams_under_tapes o names tapes n m streams gave long many is = rw (gave, long ∙ sym many) (ap Ok is)
+
+pub streams_found : (readers all : List ReaderView) (n : ℕ) (names : List (List ℕ)) (before : Option Held) → n ≡ length readers → all ≡ readers ++ replicate (64 - n) no_reader → All IsUnread readers →
+    Ends {A = Unit {0}} (λ x tapes. CanEachGive readers tapes) (Ok tt) (λ o. tapes_under o names) before → Ends (λ rs streams. CanEachCome rs streams) (Ok all) (λ o. streams_under o names) before
+streams_found readers all n names before many e new found = λ streams can.
+    let (tapes, give, long, is) = tapes_of readers (64 - n) streams new (rw e at can) in
+    let (o, o_can, gave) = found tapes give in
+    (o, o_can, streams_under_tapes o names tapes n (length readers) streams gave long many is)

@@ -1,5 +1,5 @@
 -- What was read at the lines of a region script is what the positions of the threads' streams give.
-use Rattle.std.proofs.Common.{◌≡◌, ◌∙◌, ◌<◌, ◌≤◌, ◌+◌, ◌++◌, ◌∷◌, ℕ, true, false, List, [], All, length, map, Option, None, Some, Result, Ok, Err, refl, sym, ap, ap₂, arith, subst}
+use Rattle.std.proofs.Common.{◌≡◌, ◌∙◌, ◌<◌, ◌≤◌, ◌++◌, ◌∷◌, ℕ, true, false, List, [], All, length, map, Option, None, Some, Result, Ok, Err, refl, sym, ap, ap₂, arith, subst}
 use Rattle.std.specs.Prelude.{is_ok}
 use Rattle.papi_base.specs.declared.code.Code.{Code}
 use Rattle.papi_base.specs.declared.native.EventRef.{EventRef}

@@ -1,5 +1,5 @@
 -- The notes of an event that a profile counts, and what is said of them.
-use Rattle.std.proofs.Common.{◌≡◌, ◌<◌, ◌≤◌, ◌+◌, ◌-◌, ◌∙◌, ℕ, zero, suc, true, false, List, [], ◌∷◌, ◌++◌, length, drop, filter, get_or, map, take, Some, None, Result, Ok, Err, Vec, Global, Option, vec_len, refl, sym, ap, arith, slice_index_or}
+use Rattle.std.proofs.Common.{◌≡◌, ◌<◌, ◌≤◌, ◌+◌, ◌-◌, ◌∙◌, ℕ, zero, suc, true, false, List, [], ◌∷◌, ◌++◌, length, drop, filter, get_or, map, take, Some, None, Result, Ok, Err, Vec, Global, Option, vec_len, refl, sym, ap, ap₂, arith, slice_index_or}
 use Rattle.std.proofs.Math.Seq.{drop-append_seam}
 use Rattle.std.proofs.lemmas.List.{drop-append-le, length-take-le, map-append, take_all, take_more}
 use Rattle.std.proofs.lemmas.List.Elements.{filter-append}
@@ -7,20 +7,23 @@ use Rattle.std.proofs.lemmas.Option.{get_or_from_slice_get, slice_get_within}
 use Rattle.std.specs.Prelude.{slice_get}
 use Rattle.overflow_dispatch.specs.declared.handler.Note.{Note}
 use Rattle.overflow_dispatch.specs.Notes.{EachAdded, EachBegun}
+use Rattle.component_table.specs.Catalogs.{CatalogView}
+use Rattle.script_lines.specs.declared.script.ScriptLine.{ScriptLine}
 use Rattle.session_model.specs.declared.reply.Ended.{Ended}
+use Rattle.stream_reader.specs.Reader.{ReaderView}
 use Rattle.plan_runner.specs.declared.result.ReplyLine.{ReplyLine}
 use Rattle.plan_runner.specs.Marks.{marks_in}
 use Rattle.profil_hist.specs.Histograms.{HistText, IsHistogram}
 use Rattle.profil_hist.specs.Ranges.{RangeText}
 use Rattle.tool_words.specs.declared.profil.ProfilWords.{ProfilWords}
 use Rattle.papi_tools.specs.Answers.{Answers}
-use Rattle.papi_tools.specs.Profiling.{Profiled, counted_in, is_counted, profile_said, profiled_verdict}
+use Rattle.papi_tools.specs.Profiling.{CanBeProfiled, Profiled, counted_in, is_counted, profile_said, profiled_verdict}
 use Rattle.papi_tools.specs.Running.{note_counts, ran_notes, ran_replies}
 use Rattle.papi_tools.specs.Verdict.{AnswersSaid, TellsBy}
 use Rattle.papi_tools.specs.declared.refusal.Stop.{Stop}
 use Rattle.papi_tools.specs.declared.refusal.Stop.TheVariants as stop
 use Rattle.papi_tools.specs.declared.said.Said.{Said}
-use Rattle.papi_tools.proofs.RunLemmas.{as_many}
+use Rattle.papi_tools.proofs.RunLemmas.{as_many, given_is}
 use Rattle.papi_tools.proofs.TellingLemmas.{added_begun}
 
 -- ---- the notes, one after another
@@ -153,3 +156,8 @@ added_tells words given before after (Err stop.Memory) h = added_begun before (r
 pub begun_tells : (words : ProfilWords) (given : Profiled) (before after : List (List Note)) → EachBegun before (ran_notes given.run) after → TellsBy (Err stop.Memory) (profiled_verdict words given).notes before after
 unfolding profiled_verdict
 begun_tells words given before after h = h
+
+-- what can be profiled is made of the ranges and of what can be given to the run
+pub profiled_is : (ranges : List RangeText) (catalog : CatalogView) (script : List ScriptLine) (readers : List ReaderView) (given : Profiled) → CanBeProfiled ranges catalog script readers given →
+    record { ranges = ranges; run = record { catalog = catalog; script = script; streams = given.run.streams } } ≡ given
+profiled_is ranges catalog script readers given is = ap₂ (λ rs run. record { ranges = rs; run = run }) is.ranges_are (given_is catalog script readers given.run is.run)

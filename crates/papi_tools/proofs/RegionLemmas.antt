@@ -1,15 +1,15 @@
 -- What is said of the regions of a program: the report by what was read, or the first event that is refused.
-use Rattle.std.proofs.Common.{◌≡◌, ◌∙◌, ◌++◌, ◌≤◌, ◌<◌, ◌+◌, ℕ, ℤ, Bool, true, false, List, [], ◌∷◌, All, length, take, Option, None, Some, IfOk, IfSome, IsOkAnd, Result, Ok, Err, refl, sym, ap, ap₂, get_or, subst}
+use Rattle.std.proofs.Common.{◌≡◌, ◌∙◌, ◌++◌, ◌≤◌, ◌<◌, ◌+◌, ℕ, ℤ, Bool, true, false, List, [], ◌∷◌, All, length, take, Option, IfOk, Result, Ok, Err, refl, sym, ap, ap₂, get_or, subst}
 use Rattle.std.specs.Prelude.{is_ok}
 use Rattle.std.proofs.lemmas.Grind.{flat_map-append}
 use Rattle.std.proofs.lemmas.List.{take_more}
-use Rattle.papi_base.specs.Outside.{Held}
 use Rattle.chooser_list.specs.Choosing as Choosing
 use Rattle.chooser_list.specs.Choosing.{all_taken, chooser_text, given_set, refused_text, text_of}
 use Rattle.chooser_list.specs.declared.candidates.Candidates.{Candidates}
 use Rattle.component_table.specs.Catalogs.{CatalogView}
 use Rattle.plan_runner.specs.Marks.{marks_in}
 use Rattle.plan_runner.specs.declared.result.ReplyLine.{ReplyLine}
+use Rattle.plan_runner.proofs.Worlds.{some-streams}
 use Rattle.region_report.specs.CallLines as Calls
 use Rattle.region_report.specs.CallLines.{asked, numbered}
 use Rattle.region_laws.specs.Nesting.{AreBegun}
@@ -23,13 +23,11 @@ use Rattle.script_lines.specs.declared.script.ScriptLine.{ScriptLine}
 use Rattle.session_model.specs.declared.reply.Ended.{Ended}
 use Rattle.stream_reader.specs.Reader.{ReaderView}
 use Rattle.tool_words.specs.EventList as Words
-use Rattle.papi_tools.specs.Answers.{Answers, AnswersBy, IsExpected}
+use Rattle.papi_tools.specs.Answers.{Answers, IsExpected}
 use Rattle.papi_tools.specs.Marks.{marked_said}
-use Rattle.papi_tools.specs.RegionCounts.{Counted, IsCounted, calls_of, counted_said, readings_in, regions_said, said_with, values_in}
-use Rattle.papi_tools.specs.Running.{IsGiven, ran_replies}
-use Rattle.papi_tools.specs.Steps.{and_then}
+use Rattle.papi_tools.specs.RegionCounts.{CanBeCounted, Counted, calls_of, counted_said, readings_in, regions_said, said_with, values_in}
+use Rattle.papi_tools.specs.Running.{CanBeGiven, Given, ran_replies}
 use Rattle.papi_tools.specs.Texts.{text_said}
-use Rattle.papi_tools.specs.declared.refusal.Refusal.{Refusal}
 use Rattle.papi_tools.specs.declared.refusal.Stop.{Stop}
 use Rattle.papi_tools.specs.declared.refusal.Stop.TheVariants as stop
 use Rattle.papi_tools.specs.declared.said.Said.{Said}
@@ -46,14 +44,11 @@ reading_more lines i line now next small is step so_far =
     step ∙ ap (λ rs. rs ++ readings_in (line ∷ [])) so_far
     ∙ sym (ap readings_in (take_more lines i line small ∙ ap (λ l. take i lines ++ l ∷ []) (sym is)) ∙ flat_map-append (λ (l : ReplyLine). values_in l.reply.body) (take i lines) (line ∷ []))
 
--- what the readers and the region script give to the run
-pub is_given : (catalog : CatalogView) (lines : List RegionLine) (script : List ScriptLine) (readers : List ReaderView) (events : List (List ℕ)) (given : Counted) → IsCounted catalog lines readers given →
-    script ≡ numbered 1 (asked lines events) → IsGiven catalog script readers (calls_of events given)
-is_given catalog lines script readers events given is e = record {
-  catalog_is = is.catalog_is;
-  script_is = e ∙ ap (λ ls. numbered 1 (asked ls events)) is.lines_are;
-  told = is.told;
-}
+-- the calls that the region script asks for are what is given to the run
+pub are_calls : (catalog : CatalogView) (lines : List RegionLine) (script : List ScriptLine) (readers : List ReaderView) (events : List (List ℕ)) (given : Given) → CanBeGiven catalog script readers given →
+    script ≡ numbered 1 (asked lines events) → given ≡ calls_of events (record { catalog = catalog; lines = lines; streams = given.streams })
+are_calls catalog lines script readers events given is e =
+    ap₂ (λ k ls. record { catalog = k; script = ls; streams = given.streams }) (sym is.catalog_is) (sym is.script_is ∙ e)
 
 -- the script of calls as it is read
 pub script_is : (lines : List RegionLine) (texts events : List (List ℕ)) (calls : List ScriptLine) → texts ≡ events → IsExpected calls (Ok (numbered 1 (asked lines texts))) → calls ≡ numbered 1 (asked lines events)
@@ -85,43 +80,35 @@ unfolding regions_said
 counted_by events given named = taken_by events given (given_set given.catalog events) named
 
 -- the report, where all are taken
-pub counted_told : ScriptIsLookedUp → SpansByPosition → (catalog : CatalogView) (lines : List RegionLine) (readers : List ReaderView) (events : List (List ℕ)) (given : Counted) (taken : Bool) (replies : List ReplyLine) (marks : List (Option Ended))
-    (answer : Result Said Stop) → IsCounted catalog lines readers given → IsRegions lines → AreBegun lines → 1 ≤ length events → taken ≡ all_taken catalog events → taken ≡ true →
+pub counted_told : ScriptIsLookedUp → SpansByPosition → (catalog : CatalogView) (lines : List RegionLine) (events : List (List ℕ)) (given : Counted) (taken : Bool) (replies : List ReplyLine) (marks : List (Option Ended))
+    (answer : Result Said Stop) → catalog ≡ given.catalog → lines ≡ given.lines → IsRegions lines → AreBegun lines → 1 ≤ length events → taken ≡ all_taken catalog events → taken ≡ true →
     replies ≡ ran_replies (calls_of events given) → marks ≡ marks_in replies → IfOk answer (λ _. AllFit (readings_in replies)) →
     Answers answer (Ok (marked_said marks (report_text (length events) (spans_from (readings_in replies) 0 lines)))) → Answers answer (Ok (regions_said events given))
-counted_told script_law span_law catalog lines readers events given taken replies marks (Ok said) is kept begun some t named r m fit h =
+counted_told script_law span_law catalog lines events given taken replies marks (Ok said) catalog_is lines_are kept begun some t named r m fit h =
     let same : marked_said marks (report_text (length events) (spans_from (readings_in replies) 0 lines)) ≡ said = cc h in
-    let each = all_named catalog events given taken is.catalog_is t named in
+    let each = all_named catalog events given taken catalog_is t named in
     let spans =
-    ap₂ (λ rs ls. spans_from (readings_in rs) 0 ls) r is.lines_are
-    ∙ by_position script_law span_law events given (subst (λ (ls : List RegionLine). All (λ l. l.thread < 64) ls) is.lines_are kept.threads) (subst AreBegun is.lines_are begun) some each
+    ap₂ (λ rs ls. spans_from (readings_in rs) 0 ls) r lines_are
+    ∙ by_position script_law span_law events given (subst (λ (ls : List RegionLine). All (λ l. l.thread < 64) ls) lines_are kept.threads) (subst AreBegun lines_are begun) some each
     (subst (λ (rs : List ReplyLine). AllFit (readings_in rs)) r fit) in
     ap Ok (counted_by events given each ∙ sym (sym same ∙ ap₂ (λ ms ss. marked_said ms (report_text (length events) ss)) (m ∙ ap marks_in r) spans))
-counted_told script_law span_law catalog lines readers events given taken replies marks (Err (stop.Refused refusal)) is kept begun some t named r m fit h = absurd cc
-counted_told script_law span_law catalog lines readers events given taken replies marks (Err stop.Memory) is kept begun some t named r m fit h = tt
+counted_told script_law span_law catalog lines events given taken replies marks (Err (stop.Refused refusal)) catalog_is lines_are kept begun some t named r m fit h = absurd cc
+counted_told script_law span_law catalog lines events given taken replies marks (Err stop.Memory) catalog_is lines_are kept begun some t named r m fit h = tt
 
--- ---- the steps
+-- ---- where nothing is run
 
-answers_by : {X : Type 0} (expected : Result X Refusal) (say : X → Said) (Is : X → Type 0) (answer : Result Said Stop) → IsOkAnd expected Is →
-    ((x : X) → Is x → Answers answer (Ok (say x))) → Answers answer (and_then expected (λ x. Ok (say x)))
-answers_by (Ok x) say Is answer is each = each x is
-answers_by (Err refusal) say Is answer is each = absurd is
+pub nothing_counted : (catalog : CatalogView) (lines : List RegionLine) (readers : List ReaderView) (events : List (List ℕ)) (answer : Result Said Stop) → length readers ≡ 64 →
+    ((given : Counted) → catalog ≡ given.catalog → Answers answer (Ok (regions_said events given))) → (given : Counted) × CanBeCounted catalog lines readers given × Answers answer (Ok (regions_said events given))
+nothing_counted catalog lines readers events answer long said =
+    let (streams, can) = some-streams readers long in
+    let given : Counted = record { catalog = catalog; lines = lines; streams = streams } in
+    (given, record { catalog_is = refl; lines_are = refl; can_come = can }, said given refl)
 
--- what is said of what the steps gave
-pub answers_after : {X : Type 0} (told : Option Held) (expected : Held → Result X Refusal) (say : X → Said) (Is : X → Type 0) (answer : Result Said Stop) → IfSome told (λ held. IsOkAnd (expected held) Is) →
-    ((x : X) → Is x → Answers answer (Ok (say x))) → IfSome told (λ held. Answers answer (and_then (expected held) (λ x. Ok (say x))))
-answers_after None expected say Is answer is each = tt
-answers_after (Some held) expected say Is answer is each = answers_by (expected held) say Is answer is each
+-- the script of calls is not refused, so memory ran out
+pub out_of_memory : {A B : Type 0} (s : Stop) (x : A) (y : B) → Answers (Err s) (Ok x) → Answers (Err s) (Ok y)
+out_of_memory (stop.Refused refusal) x y h = absurd cc
+out_of_memory stop.Memory x y h = tt
 
-abbrev pub IsRefused : {X : Type 0} → Stop → Result X Refusal → Type 0
-IsRefused s expected = AnswersBy {A = Unit {0}} (λ x e. Unit {0}) (Err s) expected
-
-refused_by_step : {X : Type 0} (expected : Result X Refusal) (say : X → Said) (s : Stop) → IsRefused s expected → Answers (Err s) (and_then expected (λ x. Ok (say x)))
-refused_by_step expected say (stop.Refused refusal) h = let e : expected ≡ Err refusal = h in rw e refl
-refused_by_step expected say stop.Memory h = tt
-
--- a step that refuses ends the call
-pub refused_answers : {X : Type 0} (told : Option Held) (expected : Held → Result X Refusal) (say : X → Said) (s : Stop) → IfSome told (λ held. IsRefused s (expected held)) →
-    IfSome told (λ held. Answers (Err s) (and_then (expected held) (λ x. Ok (say x))))
-refused_answers None expected say s h = tt
-refused_answers (Some held) expected say s h = refused_by_step (expected held) say s h
+-- what can be counted is made of the catalog, the lines and the streams
+pub counted_is : (catalog : CatalogView) (lines : List RegionLine) (readers : List ReaderView) (given : Counted) → CanBeCounted catalog lines readers given → record { catalog = catalog; lines = lines; streams = given.streams } ≡ given
+counted_is catalog lines readers given is = ap₂ (λ k ls. record { catalog = k; lines = ls; streams = given.streams }) is.catalog_is is.lines_are

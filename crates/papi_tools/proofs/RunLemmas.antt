@@ -1,5 +1,5 @@
 -- What is said of a run is what the definition says.
-use Rattle.std.proofs.Common.{◌≡◌, ◌≢◌, ◌<◌, ◌≤◌, ◌+◌, ℕ, zero, suc, Bool, true, false, List, [], ◌∷◌, length, map, Option, Some, None, IfSome, IfOk, IsOkAnd, Result, Ok, Err, Vec, Global, vec_len, refl, sym, ap, ◌∙◌, arith, All, cond, if◌then◌else◌, inl, inr, is_some, slice_index_or, zero-add}
+use Rattle.std.proofs.Common.{◌≡◌, ◌≢◌, ◌<◌, ◌≤◌, ◌+◌, ℕ, zero, suc, Bool, true, false, List, [], ◌∷◌, length, map, Option, Some, None, IfOk, Result, Ok, Err, Vec, Global, vec_len, refl, sym, ap, ap₂, ◌∙◌, arith, All, cond, if◌then◌else◌, inl, inr, is_some, slice_index_or, zero-add}
 use Rattle.std.proofs.lemmas.List.{length-map}
 use Rattle.std.specs.List.{range_with_len}
 use Rattle.std.specs.Option.{option_map, option_map_or}
@@ -8,7 +8,7 @@ use Rattle.postfix_rules.specs.Presets.{Book}
 use Rattle.overflow_dispatch.specs.declared.handler.Note.{Note}
 use Rattle.overflow_dispatch.specs.Notes.{EachAdded, EachBegun, told_since}
 use Rattle.overflow_dispatch.proofs.SinceLemmas.{added_is_told}
-use Rattle.papi_base.specs.Outside.{Held, Rose}
+use Rattle.papi_base.specs.Outside.{Rose}
 use Rattle.session_model.specs.World.{Told, notes_of_thread}
 use Rattle.session_model.specs.declared.reply.Ended.{Ended}
 use Rattle.stream_reader.specs.Reader.{ReaderView, SourceView}
@@ -22,17 +22,14 @@ use Rattle.plan_runner.specs.Plans.{IsPlanOf}
 use Rattle.plan_runner.specs.Runs.{AllKept, IsPlannedFrom, Tells, reply_lines}
 use Rattle.plan_runner.proofs.Worlds.{some-streams}
 use Rattle.script_runner.specs.Resolving.{lines_of, reply_lines_of, setting_of}
-use Rattle.tool_words.specs.declared.run.RunWords.{RunWords}
-use Rattle.papi_tools.specs.Answers.{Answers, AnswersBy}
+use Rattle.papi_tools.specs.Answers.{Answers}
 use Rattle.papi_tools.specs.Causes.{MetCause}
 use Rattle.papi_tools.specs.Marks.{marked_said, outcome_at}
-use Rattle.papi_tools.specs.Run.{given_under, ran_verdict, run_said, run_verdict, shown_notes}
+use Rattle.papi_tools.specs.Run.{ran_verdict, run_said, shown_notes}
 use Rattle.papi_tools.specs.Running.{CanBeGiven, Given, IsGiven, note_counts, ran_notes, ran_replies, told_in}
 use Rattle.papi_tools.specs.Seen.{FilesSeen}
 use Rattle.papi_tools.specs.Streams.{SomeFailed, sources_in}
-use Rattle.papi_tools.specs.Steps.{Verdict, and_then}
-use Rattle.papi_tools.specs.Verdict.{AnswersSaid, TellsBy, notes_in}
-use Rattle.papi_tools.specs.declared.refusal.Refusal.{Refusal}
+use Rattle.papi_tools.specs.Verdict.{AnswersSaid, TellsBy}
 use Rattle.papi_tools.specs.declared.refusal.Stop.{Stop}
 use Rattle.papi_tools.specs.declared.refusal.Stop.TheVariants as stop
 use Rattle.papi_tools.specs.declared.said.Said.{Said}
@@ -40,7 +37,7 @@ use Rattle.papi_tools.specs.declared.status.Outcome.{Outcome}
 use Rattle.papi_tools.specs.declared.status.Outcome.TheVariants.{Whole, No, Refused, ReadFault}
 use Rattle.papi_tools.proofs.FaultLemmas.{SomeFault, fault_replied, never_no}
 use Rattle.papi_tools.proofs.StreamLemmas.{sources_in-append}
-use Rattle.papi_tools.proofs.TellingLemmas.{added_begun, none_added, none_begun}
+use Rattle.papi_tools.proofs.TellingLemmas.{added_begun}
 
 -- ---- the run of a script
 
@@ -196,58 +193,6 @@ marked_yes lines marks text (Ok said) e m =
     rw (← same) (never_no marks)
 marked_yes lines marks text (Err s) e m = tt
 
--- ---- the whole of it
-
-said_by : (expected : Result Given Refusal) (wanted : Bool) (catalog : CatalogView) (script : List ScriptLine) (readers : List ReaderView) (answer : Result Said Stop) →
-    IsOkAnd expected (IsGiven catalog script readers) → ((given : Given) → IsGiven catalog script readers given → AnswersSaid answer (Ok (ran_verdict wanted given))) →
-    AnswersSaid answer (and_then expected (λ given. Ok (ran_verdict wanted given)))
-said_by (Ok given) wanted catalog script readers answer is each = each given is
-said_by (Err refusal) wanted catalog script readers answer is each = absurd is
-
-pub run_told : (told : Option Held) (words : RunWords) (catalog : CatalogView) (script : List ScriptLine) (readers : List ReaderView) (answer : Result Said Stop) →
-    IfSome told (λ held. IsOkAnd (given_under held words) (IsGiven catalog script readers)) → ((given : Given) → IsGiven catalog script readers given → AnswersSaid answer (Ok (ran_verdict words.notes given))) →
-    IfSome told (λ held. AnswersSaid answer (run_verdict held words))
-unfolding run_verdict
-run_told None words catalog script readers answer is each = tt
-run_told (Some held) words catalog script readers answer is each = said_by (given_under held words) words.notes catalog script readers answer is each
-
-tells_by : (expected : Result Given Refusal) (wanted : Bool) (catalog : CatalogView) (script : List ScriptLine) (readers : List ReaderView) (before after : List (List Note)) (answer : Result Said Stop) →
-    IsOkAnd expected (IsGiven catalog script readers) → ((given : Given) → IsGiven catalog script readers given → TellsBy answer (ran_verdict wanted given).notes before after) →
-    TellsBy answer (notes_in (and_then expected (λ given. Ok (ran_verdict wanted given)))) before after
-tells_by (Ok given) wanted catalog script readers before after answer is each = each given is
-tells_by (Err refusal) wanted catalog script readers before after answer is each = absurd is
-
-pub run_tells : (told : Option Held) (words : RunWords) (catalog : CatalogView) (script : List ScriptLine) (readers : List ReaderView) (before after : List (List Note)) (answer : Result Said Stop) →
-    IfSome told (λ held. IsOkAnd (given_under held words) (IsGiven catalog script readers)) →
-    ((given : Given) → IsGiven catalog script readers given → TellsBy answer (ran_verdict words.notes given).notes before after) →
-    IfSome told (λ held. TellsBy answer (notes_in (run_verdict held words)) before after)
-unfolding run_verdict
-run_tells None words catalog script readers before after answer is each = tt
-run_tells (Some held) words catalog script readers before after answer is each = tells_by (given_under held words) words.notes catalog script readers before after answer is each
-
--- an answer that is not a value
-abbrev pub IsRefusedBy : Stop → Result Given Refusal → Type 0
-IsRefusedBy s expected = AnswersBy {A = Unit {0}} (λ x e. Unit {0}) (Err s) expected
-
-refused_by : (expected : Result Given Refusal) (wanted : Bool) (s : Stop) → IsRefusedBy s expected → AnswersSaid (Err s) (and_then expected (λ given. Ok (ran_verdict wanted given)))
-refused_by expected wanted (stop.Refused refusal) h = let e : expected ≡ Err refusal = h in rw e refl
-refused_by expected wanted stop.Memory h = tt
-
--- a file that is refused ends the call
-pub run_refused : (told : Option Held) (words : RunWords) (s : Stop) → IfSome told (λ held. IsRefusedBy s (given_under held words)) → IfSome told (λ held. AnswersSaid (Err s) (run_verdict held words))
-unfolding run_verdict
-run_refused None words s h = tt
-run_refused (Some held) words s h = refused_by (given_under held words) words.notes s h
-
-untold_by : (expected : Result Verdict Refusal) (lists : List (List Note)) (s : Stop) → AnswersSaid (Err s) expected → TellsBy (Err s) (notes_in expected) lists lists
-untold_by expected lists (stop.Refused refusal) h = let e : expected ≡ Err refusal = h in rw e (none_added lists [] refl)
-untold_by expected lists stop.Memory h = none_begun lists (notes_in expected)
-
--- and nothing is told then
-pub none_told : (told : Option Held) (expected : Held → Result Verdict Refusal) (lists : List (List Note)) (s : Stop) → IfSome told (λ held. AnswersSaid (Err s) (expected held)) → IfSome told (λ held. TellsBy (Err s) (notes_in (expected held)) lists lists)
-none_told None expected lists s h = tt
-none_told (Some held) expected lists s h = untold_by (expected held) lists s h
-
 met_at : (o : Outcome) (before between after : FilesSeen) (said : Said) → before.faults ≤ between.faults → between.faults ≤ after.faults → MetCause o between after said → MetCause o before after said
 met_at Whole before between after said small big h = tt
 met_at No before between after said small big h = tt
@@ -258,3 +203,7 @@ pub met_later : (before between after : FilesSeen) (answer : Result Said Stop) �
     IfOk answer (λ said. MetCause said.outcome before after said)
 met_later before between after (Ok said) small big h = met_at said.outcome before between after said small big h
 met_later before between after (Err s) small big h = tt
+
+-- what can be given is made of the catalog, the script and the streams
+pub given_is : (catalog : CatalogView) (script : List ScriptLine) (readers : List ReaderView) (given : Given) → CanBeGiven catalog script readers given → record { catalog = catalog; script = script; streams = given.streams } ≡ given
+given_is catalog script readers given is = ap₂ (λ k ls. record { catalog = k; script = ls; streams = given.streams }) is.catalog_is is.script_is

@@ -1,15 +1,15 @@
 -- What a call says at the end of its steps is what is expected, and has its cause.
-use Rattle.std.specs.Option.{option_map}
-use Rattle.std.proofs.Common.{◌≡◌, List, [], Option, None, Some, IfSome, IfOk, IsOkAnd, OnOk, OnErr, Result, Ok, Err, refl, sym, ◌∙◌, inl, inr}
+use Rattle.std.proofs.Common.{◌≡◌, List, [], Option, None, Some, IfOk, IsOkAnd, Result, Ok, Err, refl, sym, ◌∙◌, inl, inr}
 use Rattle.papi_base.specs.Outside.{Held}
 use Rattle.overflow_dispatch.specs.declared.handler.Note.{Note}
-use Rattle.overflow_dispatch.specs.Notes.{EachAdded, EachBegun}
+use Rattle.overflow_dispatch.specs.Notes.{EachBegun}
 use Rattle.tool_words.specs.declared.command.Command.{Command}
 use Rattle.papi_tools.specs.Looking.{HasFileCause, Looked}
+use Rattle.papi_tools.specs.Openings.{ForSome, Openings}
 use Rattle.papi_tools.specs.Seen.{FilesSeen}
 use Rattle.papi_tools.specs.Causes.{IsCaused, IsTextual, MetCause, SaysNo}
 use Rattle.papi_tools.specs.Steps.{Verdict}
-use Rattle.papi_tools.specs.Verdict.{AnswersSaid, IsSettled, TellsBy, ended, known, notes_in, refused_said}
+use Rattle.papi_tools.specs.Verdict.{ComesTo, IsSettled, IsSettledAs, TellsBy, command_verdict, ended, notes_in, refused_said, verdict_for}
 use Rattle.papi_tools.specs.declared.refusal.Refusal.{Refusal}
 use Rattle.papi_tools.specs.declared.refusal.Refusal.TheVariants.{BadWords, NoSuchFile, CannotRead, TooLarge, Row, PresetRow, MapRow, Line, RegionLine}
 use Rattle.papi_tools.specs.declared.refusal.Stop.{Stop}
@@ -18,95 +18,50 @@ use Rattle.papi_tools.specs.declared.said.Said.{Said}
 use Rattle.papi_tools.specs.declared.status.Outcome.{Outcome}
 use Rattle.papi_tools.specs.declared.status.Outcome.TheVariants as outcome
 use Rattle.papi_tools.proofs.CauseLemmas.{met_is_caused}
+use Rattle.papi_tools.proofs.FindingLemmas.{some_openings}
 use Rattle.papi_tools.proofs.TellingLemmas.{added_begun, none_added, none_begun, same_notes}
 
--- ---- what is said
+-- ---- what is said, and what handlers are told
 
 expected_said : (expected : Result Verdict Refusal) (answer said : Said) → IsOkAnd expected (λ verdict. verdict.said ≡ answer) → said ≡ answer → said ≡ (ended expected).said
 expected_said (Ok verdict) answer said h e = e ∙ sym h
 expected_said (Err refusal) answer said h e = absurd h
-
-settled_said : (expected : Result Verdict Refusal) (answer : Result Said Stop) (said : Said) → AnswersSaid answer expected → IsSettled answer said → said ≡ (ended expected).said
-settled_said expected (Ok answer) said h e = expected_said expected answer said h e
-settled_said expected (Err (stop.Refused refusal)) said h e = let q : expected ≡ Err refusal = h in rw q e
-settled_said expected (Err stop.Memory) said h e = absurd e
-
-said_if_known : {E : Type 0} (expected : Option (Result Verdict Refusal)) (answer : Result Said Stop) (result : Result Said E) →
-    IfSome expected (λ e. AnswersSaid answer e) → IfOk result (IsSettled answer) → IfSome (option_map ended expected) (λ v. IfOk result (λ said. said ≡ v.said))
-said_if_known None answer result h s = tt
-said_if_known (Some expected) answer (Ok said) h s = settled_said expected answer said h s
-said_if_known (Some expected) answer (Err error) h s = tt
-
--- what the steps say is what is expected of the words
-pub settled_told : {E : Type 0} (told : Option Held) (asked : Option Command) (command : Command) (answer : Result Said Stop) (result : Result Said E) → asked ≡ Some command →
-    IfSome (known (Some command) told) (λ e. AnswersSaid answer e) → IfOk result (IsSettled answer) → IfSome (option_map ended (known asked told)) (λ v. IfOk result (λ said. said ≡ v.said))
-settled_told told asked command answer result e h s = rw e (said_if_known (known (Some command) told) answer result h s)
-
-line_if_refused : {E : Type 0} (result : Result Said E) → IfOk result (λ said. said ≡ refused_said BadWords) → IfOk result (λ said. said ≡ (ended (Err BadWords)).said)
-line_if_refused (Ok said) s = s
-line_if_refused (Err error) s = tt
-
-no_words : {E : Type 0} (told : Option Held) (result : Result Said E) →
-    IfOk result (λ said. said ≡ refused_said BadWords) → IfSome (option_map ended (known None told)) (λ v. IfOk result (λ said. said ≡ v.said))
-no_words None result s = line_if_refused result s
-no_words (Some held) result s = line_if_refused result s
-
--- words that ask for nothing are refused
-pub refused_told : {E : Type 0} (told : Option Held) (asked : Option Command) (result : Result Said E) → asked ≡ None →
-    IfOk result (λ said. said ≡ refused_said BadWords) → IfSome (option_map ended (known asked told)) (λ v. IfOk result (λ said. said ≡ v.said))
-refused_told told asked result e s = rw e (no_words told result s)
-
-no_notes : {E : Type 0} (told : Option Held) (lists : List (List Note)) (result : Result Said E) → IfSome (option_map ended (known None told)) (λ v. OnOk result (EachAdded lists v.notes lists))
-no_notes None lists (Ok said) = none_added lists [] refl
-no_notes None lists (Err error) = tt
-no_notes (Some held) lists (Ok said) = none_added lists [] refl
-no_notes (Some held) lists (Err error) = tt
-
-no_prefix : {E : Type 0} (told : Option Held) (lists : List (List Note)) (result : Result Said E) → IfSome (option_map ended (known None told)) (λ v. OnErr result (EachBegun lists v.notes lists))
-no_prefix None lists (Ok said) = tt
-no_prefix None lists (Err error) = none_begun lists []
-no_prefix (Some held) lists (Ok said) = tt
-no_prefix (Some held) lists (Err error) = none_begun lists []
-
--- nor is any handler told anything
-pub refused_tells : {E : Type 0} (told : Option Held) (asked : Option Command) (lists : List (List Note)) (result : Result Said E) → asked ≡ None → IfSome (option_map ended (known asked told)) (λ v. OnOk result (EachAdded lists v.notes lists))
-refused_tells told asked lists result e = rw e (no_notes told lists result)
-
-pub refused_begun : {E : Type 0} (told : Option Held) (asked : Option Command) (lists : List (List Note)) (result : Result Said E) → asked ≡ None → IfSome (option_map ended (known asked told)) (λ v. OnErr result (EachBegun lists v.notes lists))
-refused_begun told asked lists result e = rw e (no_prefix told lists result)
-
--- ---- what handlers are told
-
-tells_if_known : {E : Type 0} (expected : Option (Result Verdict Refusal)) (before after : List (List Note)) (answer : Result Said Stop) (result : Result Said E) →
-    IfSome expected (λ e. TellsBy answer (notes_in e) before after) → IfOk result (IsSettled answer) → IfSome (option_map ended expected) (λ v. OnOk result (EachAdded before v.notes after))
-tells_if_known None before after answer result h s = tt
-tells_if_known (Some expected) before after answer (Err error) h s = tt
-tells_if_known (Some expected) before after (Ok answer) (Ok said) h s = rw (← same_notes expected) h
-tells_if_known (Some expected) before after (Err (stop.Refused refusal)) (Ok said) h s = rw (← same_notes expected) h
-tells_if_known (Some expected) before after (Err stop.Memory) (Ok said) h s = absurd s
-
--- all notes are told where something is said
-pub settled_tells : {E : Type 0} (told : Option Held) (asked : Option Command) (command : Command) (before after : List (List Note)) (answer : Result Said Stop) (result : Result Said E) → asked ≡ Some command →
-    IfSome (known (Some command) told) (λ e. TellsBy answer (notes_in e) before after) → IfOk result (IsSettled answer) →
-    IfSome (option_map ended (known asked told)) (λ v. OnOk result (EachAdded before v.notes after))
-settled_tells told asked command before after answer result e h s = rw e (tells_if_known (known (Some command) told) before after answer result h s)
 
 begun_by : (given before after : List (List Note)) (answer : Result Said Stop) → TellsBy answer given before after → EachBegun before given after
 begun_by given before after (Ok answer) h = added_begun before given after h
 begun_by given before after (Err (stop.Refused refusal)) h = added_begun before given after h
 begun_by given before after (Err stop.Memory) h = h
 
-begun_if_known : {E : Type 0} (expected : Option (Result Verdict Refusal)) (before after : List (List Note)) (answer : Result Said Stop) (result : Result Said E) →
-    IfSome expected (λ e. TellsBy answer (notes_in e) before after) → IfSome (option_map ended expected) (λ v. OnErr result (EachBegun before v.notes after))
-begun_if_known None before after answer result h = tt
-begun_if_known (Some expected) before after answer (Ok said) h = tt
-begun_if_known (Some expected) before after answer (Err error) h = rw (← same_notes expected) (begun_by (notes_in expected) before after answer h)
+settled_by : {E : Type 0} (expected : Result Verdict Refusal) (before after : List (List Note)) (answer : Result Said Stop) (result : Result Said E) → ComesTo answer expected before after → IfOk result (IsSettled answer) →
+    IsSettledAs result (ended expected) before after
+settled_by expected before after answer (Err error) h s = record { said = tt; told = tt; begun = rw (← same_notes expected) (begun_by (notes_in expected) before after answer h.told) }
+settled_by expected before after (Ok answer) (Ok said) h s = record { said = expected_said expected answer said h.said s; told = rw (← same_notes expected) h.told; begun = tt }
+settled_by expected before after (Err (stop.Refused refusal)) (Ok said) h s =
+    let refused : expected ≡ Err refusal = h.said in
+    record { said = rw refused s; told = rw (← same_notes expected) h.told; begun = tt }
+settled_by expected before after (Err stop.Memory) (Ok said) h s = absurd s
 
--- a prefix of the notes is told in any case
-pub settled_begun : {E : Type 0} (told : Option Held) (asked : Option Command) (command : Command) (before after : List (List Note)) (answer : Result Said Stop) (result : Result Said E) → asked ≡ Some command →
-    IfSome (known (Some command) told) (λ e. TellsBy answer (notes_in e) before after) →
-    IfSome (option_map ended (known asked told)) (λ v. OnErr result (EachBegun before v.notes after))
-settled_begun told asked command before after answer result e h = rw e (begun_if_known (known (Some command) told) before after answer result h)
+-- what the steps say and tell is what is expected of the words
+pub settled_as : {E : Type 0} (held : Option Held) (asked : Option Command) (command : Command) (before after : List (List Note)) (answer : Result Said Stop) (result : Result Said E) → asked ≡ Some command →
+    ForSome held (λ o. ComesTo answer (command_verdict o command) before after) → IfOk result (IsSettled answer) → ForSome held (λ o. IsSettledAs result (ended (verdict_for o asked)) before after)
+settled_as held asked command before after answer result e (o, can, h) s = (o, can, rw e (settled_by (command_verdict o command) before after answer result h s))
+
+no_words : {E : Type 0} (lists : List (List Note)) (result : Result Said E) → IfOk result (λ said. said ≡ refused_said BadWords) → IsSettledAs result (ended (Err BadWords)) lists lists
+no_words lists (Ok said) s = record { said = s; told = none_added lists [] refl; begun = tt }
+no_words lists (Err error) s = record { said = tt; told = tt; begun = none_begun lists [] }
+
+-- words that ask for nothing are refused, and no handler is told anything
+pub refused_as : {E : Type 0} (held : Option Held) (asked : Option Command) (lists : List (List Note)) (result : Result Said E) → asked ≡ None →
+    IfOk result (λ said. said ≡ refused_said BadWords) → ForSome held (λ o. IsSettledAs result (ended (verdict_for o asked)) lists lists)
+refused_as held asked lists result e s =
+    let (o, can) = some_openings held in
+    (o, can, rw e (no_words lists result s))
+
+-- memory ran out before anything was told
+pub starved_as : {E : Type 0} (held : Option Held) (expected : Openings → Verdict) (lists : List (List Note)) (error : E) → ForSome held (λ o. IsSettledAs (Err error) (expected o) lists lists)
+starved_as held expected lists error =
+    let (o, can) = some_openings held in
+    (o, can, record { said = tt; told = tt; begun = none_begun lists (expected o).notes })
 
 -- ---- its cause
 

@@ -1,12 +1,11 @@
 -- A soak: what it runs, what is said of it, and what the handlers are told.
-use Rattle.std.proofs.Common.{◌≡◌, ◌<◌, ◌+◌, ◌-◌, ℕ, zero, suc, Bool, true, false, List, [], ◌∷◌, ◌++◌, length, map, replicate, Option, Some, None, IfSome, IsOkAnd, Result, Ok, Err, Vec, Global, vec_len, get_or, drop, refl, sym, ap, ap₂, ◌∙◌, arith, length-append}
+use Rattle.std.proofs.Common.{◌≡◌, ◌<◌, ◌+◌, ◌-◌, ℕ, zero, suc, Bool, true, false, List, [], ◌∷◌, ◌++◌, length, map, replicate, Option, Some, IsOkAnd, Result, Ok, Err, Vec, Global, vec_len, get_or, drop, refl, sym, ap, ap₂, ◌∙◌, arith, length-append}
 use Rattle.std.proofs.lemmas.List.{drop_more, length-map, map-append}
 use Rattle.std.proofs.lemmas.List.FromFn.{map-range_with_len_more}
 use Rattle.std.specs.Prelude.{find, slice_index, slice_index_or}
 use Rattle.std.specs.List.{range_with_len}
 use Rattle.overflow_dispatch.specs.declared.handler.Note.{Note}
 use Rattle.overflow_dispatch.specs.Notes.{EachAdded, EachBegun}
-use Rattle.papi_base.specs.Outside.{Held}
 use Rattle.papi_base.specs.Streams.{Coming}
 use Rattle.stream_reader.specs.Reader.{ReaderView, coming}
 use Rattle.component_table.specs.Catalogs.{CatalogView}
@@ -14,7 +13,7 @@ use Rattle.script_lines.specs.declared.script.ScriptLine.{ScriptLine}
 use Rattle.plan_runner.specs.declared.result.ReplyLine.{ReplyLine}
 use Rattle.soak_input.specs.declared.summary.ThreadTotal.{ThreadTotal}
 use Rattle.tool_words.specs.declared.soak.SoakWords.{SoakWords}
-use Rattle.papi_tools.specs.Answers.{Answers}
+use Rattle.papi_tools.specs.Answers.{Answers, AnswersBy}
 use Rattle.papi_tools.specs.Running.{Given, IsGiven, note_counts, ran_notes, ran_replies}
 use Rattle.papi_tools.specs.Soaking.{soak_given, soak_tape, soak_tapes, soak_verdict, soaked, stop_values, summary_said, thread_total, thread_totals, total_between, totals_between}
 use Rattle.papi_tools.specs.Steps.{Verdict, and_then}
@@ -24,7 +23,7 @@ use Rattle.papi_tools.specs.declared.refusal.Refusal.{Refusal}
 use Rattle.papi_tools.specs.declared.refusal.Stop.{Stop}
 use Rattle.papi_tools.specs.declared.refusal.Stop.TheVariants as stop
 use Rattle.papi_tools.specs.declared.said.Said.{Said}
-use Rattle.papi_tools.proofs.RunLemmas.{IsRefusedBy, counted}
+use Rattle.papi_tools.proofs.RunLemmas.{counted}
 use Rattle.papi_tools.proofs.StreamLemmas.{all_streams}
 use Rattle.papi_tools.proofs.TellingLemmas.{added_begun, none_added, none_begun}
 
@@ -134,6 +133,10 @@ pub run_tells : (words : SoakWords) (rounds : ℕ) (catalog : CatalogView) (scri
     TellsBy answer (notes_in (soak_verdict words)) before after
 unfolding soak_verdict
 run_tells words rounds catalog script readers before after answer same is each = rw (← same) (tells_by (soak_given rounds) catalog script readers before after answer is each)
+
+-- an answer that is not a value
+abbrev pub IsRefusedBy : Stop → Result Given Refusal → Type 0
+IsRefusedBy s expected = AnswersBy {A = Unit {0}} (λ x e. Unit {0}) (Err s) expected
 
 refused_by : (expected : Result Given Refusal) (s : Stop) → IsRefusedBy s expected → AnswersSaid (Err s) (and_then expected (λ given. Ok (soaked given)))
 refused_by expected (stop.Refused refusal) h = let e : expected ≡ Err refusal = h in rw e refl

@@ -1,48 +1,47 @@
--- A tool whose verdict is made of what its first steps give: what is said and told is what is expected.
-use Rattle.std.proofs.Common.{◌≡◌, List, Option, None, Some, IfSome, IsOkAnd, Result, Ok, Err, refl}
+-- A tool whose verdict is made of what its steps gave: what is said and told is what is expected.
+use Rattle.std.proofs.Common.{List, [], Option, Result, Ok, Err, refl}
 use Rattle.overflow_dispatch.specs.declared.handler.Note.{Note}
 use Rattle.papi_base.specs.Outside.{Held}
-use Rattle.papi_tools.specs.Answers.{AnswersBy}
+use Rattle.papi_tools.specs.Answers.{Answers}
+use Rattle.papi_tools.specs.Openings.{Ends, ForSome, Openings}
 use Rattle.papi_tools.specs.Steps.{Verdict, and_then}
-use Rattle.papi_tools.specs.Verdict.{AnswersSaid, TellsBy, notes_in}
+use Rattle.papi_tools.specs.Verdict.{ComesTo, notes_in}
 use Rattle.papi_tools.specs.declared.refusal.Refusal.{Refusal}
 use Rattle.papi_tools.specs.declared.refusal.Stop.{Stop}
 use Rattle.papi_tools.specs.declared.refusal.Stop.TheVariants as stop
 use Rattle.papi_tools.specs.declared.said.Said.{Said}
+use Rattle.papi_tools.proofs.FindingLemmas.{some_openings}
+use Rattle.papi_tools.proofs.TellingLemmas.{none_added, none_begun}
 
-said_after : {X : Type 0} (expected : Result X Refusal) (verdict : X → Verdict) (Is : X → Type 0) (answer : Result Said Stop) → IsOkAnd expected Is →
-    ((x : X) → Is x → AnswersSaid answer (Ok (verdict x))) → AnswersSaid answer (and_then expected (λ x. Ok (verdict x)))
-said_after (Ok x) verdict Is answer is each = each x is
-said_after (Err refusal) verdict Is answer is each = absurd is
+-- what is said and told of something that the steps can have given
+pub ran_after : {I X : Type 0} (CanBe : I → X → Type 0) (input : I) (gives : Openings → Result X Refusal) (verdict : X → Verdict) (held : Option Held) (before after : List (List Note)) (answer : Result Said Stop) →
+    Ends CanBe (Ok input) gives held → ((x : X) × CanBe input x × ComesTo answer (Ok (verdict x)) before after) → ForSome held (λ o. ComesTo answer (and_then (gives o) (λ x. Ok (verdict x))) before after)
+ran_after CanBe input gives verdict held before after answer ends (x, can, comes) =
+    let (o, o_can, gave) = ends x can in
+    (o, o_can, rw gave comes)
 
--- what is said of what the steps gave
-pub told_after : {X : Type 0} (told : Option Held) (expected : Held → Result X Refusal) (verdict : X → Verdict) (Is : X → Type 0) (answer : Result Said Stop) → IfSome told (λ held. IsOkAnd (expected held) Is) →
-    ((x : X) → Is x → AnswersSaid answer (Ok (verdict x))) → IfSome told (λ held. AnswersSaid answer (and_then (expected held) (λ x. Ok (verdict x))))
-told_after None expected verdict Is answer is each = tt
-told_after (Some held) expected verdict Is answer is each = said_after (expected held) verdict Is answer is each
+-- a step that failed ends the call, and nothing is told
+pub stopped_after : {I X : Type 0} (CanBe : I → X → Type 0) (gives : Openings → Result X Refusal) (verdict : X → Verdict) (held : Option Held) (lists : List (List Note)) (s : Stop) →
+    Ends CanBe (Err s) gives held → ForSome held (λ o. ComesTo (Err s) (and_then (gives o) (λ x. Ok (verdict x))) lists lists)
+stopped_after CanBe gives verdict held lists (stop.Refused refusal) ends =
+    let (o, can, gave) = ends in
+    (o, can, rw gave (record { said = refl; told = none_added lists [] refl }))
+stopped_after CanBe gives verdict held lists stop.Memory ends =
+    let (o, can) = some_openings held in
+    (o, can, record { said = tt; told = none_begun lists (notes_in (and_then (gives o) (λ x. Ok (verdict x)))) })
 
-notes_after : {X : Type 0} (expected : Result X Refusal) (verdict : X → Verdict) (Is : X → Type 0) (before after : List (List Note)) (answer : Result Said Stop) → IsOkAnd expected Is →
-    ((x : X) → Is x → TellsBy answer (verdict x).notes before after) → TellsBy answer (notes_in (and_then expected (λ x. Ok (verdict x)))) before after
-notes_after (Ok x) verdict Is before after answer is each = each x is
-notes_after (Err refusal) verdict Is before after answer is each = absurd is
+-- the same of a tool that tells no handler anything
+pub said_after : {I X : Type 0} (CanBe : I → X → Type 0) (input : I) (gives : Openings → Result X Refusal) (say : X → Said) (held : Option Held) (answer : Result Said Stop) → Ends CanBe (Ok input) gives held →
+    ((x : X) × CanBe input x × Answers answer (Ok (say x))) → ForSome held (λ o. Answers answer (and_then (gives o) (λ x. Ok (say x))))
+said_after CanBe input gives say held answer ends (x, can, said) =
+    let (o, o_can, gave) = ends x can in
+    (o, o_can, rw gave said)
 
--- what handlers are told then
-pub tells_after : {X : Type 0} (told : Option Held) (expected : Held → Result X Refusal) (verdict : X → Verdict) (Is : X → Type 0) (before after : List (List Note)) (answer : Result Said Stop) →
-    IfSome told (λ held. IsOkAnd (expected held) Is) → ((x : X) → Is x → TellsBy answer (verdict x).notes before after) →
-    IfSome told (λ held. TellsBy answer (notes_in (and_then (expected held) (λ x. Ok (verdict x)))) before after)
-tells_after None expected verdict Is before after answer is each = tt
-tells_after (Some held) expected verdict Is before after answer is each = notes_after (expected held) verdict Is before after answer is each
-
--- an answer that is not a value
-abbrev pub IsRefused : {X : Type 0} → Stop → Result X Refusal → Type 0
-IsRefused s expected = AnswersBy {A = Unit {0}} (λ x e. Unit {0}) (Err s) expected
-
-refusal_after : {X : Type 0} (expected : Result X Refusal) (verdict : X → Verdict) (s : Stop) → IsRefused s expected → AnswersSaid (Err s) (and_then expected (λ x. Ok (verdict x)))
-refusal_after expected verdict (stop.Refused refusal) h = let e : expected ≡ Err refusal = h in rw e refl
-refusal_after expected verdict stop.Memory h = tt
-
--- a step that refuses ends the call
-pub refused_after : {X : Type 0} (told : Option Held) (expected : Held → Result X Refusal) (verdict : X → Verdict) (s : Stop) → IfSome told (λ held. IsRefused s (expected held)) →
-    IfSome told (λ held. AnswersSaid (Err s) (and_then (expected held) (λ x. Ok (verdict x))))
-refused_after None expected verdict s h = tt
-refused_after (Some held) expected verdict s h = refusal_after (expected held) verdict s h
+pub refused_after : {I X : Type 0} (CanBe : I → X → Type 0) (gives : Openings → Result X Refusal) (say : X → Said) (held : Option Held) (s : Stop) → Ends CanBe (Err s) gives held →
+    ForSome held (λ o. Answers (Err s) (and_then (gives o) (λ x. Ok (say x))))
+refused_after CanBe gives say held (stop.Refused refusal) ends =
+    let (o, can, gave) = ends in
+    (o, can, rw gave refl)
+refused_after CanBe gives say held stop.Memory ends =
+    let (o, can) = some_openings held in
+    (o, can, tt)

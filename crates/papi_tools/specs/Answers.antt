@@ -1,5 +1,5 @@
 -- How the answer of a step stands to what is expected.
-use Rattle.std.specs.Prelude.{◌≡◌, Option, Some, IsOkAnd, Result, Ok, Err}
+use Rattle.std.specs.Prelude.{◌≡◌, Result, Ok, Err}
 use Rattle.papi_tools.specs.declared.refusal.Refusal.{Refusal}
 use Rattle.papi_tools.specs.declared.refusal.Stop.{Stop}
 use Rattle.papi_tools.specs.declared.refusal.Stop.TheVariants.{Refused, Memory}
@@ -13,10 +13,6 @@ AnswersBy is (Err Memory) expected = Unit {0}
 -- the value itself is expected
 abbrev pub IsExpected : {A : Type 0} → A → Result A Refusal → Type 0
 IsExpected value expected = expected ≡ Ok value
-
--- a value is expected that the other one tells
-abbrev pub IsTold : {A B : Type 0} → (A → Option B) → A → Result B Refusal → Type 0
-IsTold told value expected = IsOkAnd expected (λ e. told value ≡ Some e)
 
 -- the answer is the expected value or refusal, or memory ran out
 abbrev pub Answers : {A : Type 0} → Result A Stop → Result A Refusal → Type 0

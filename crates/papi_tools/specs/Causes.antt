@@ -1,4 +1,4 @@
--- What the words and the counts of the files show of what is said, where nothing is told.
+-- What the words and the counts of the files show of what is said.
 use Rattle.std.specs.Prelude.{◌≡◌, ◌⊎◌, List, Option, Some, None, IsSome}
 use Rattle.papi_base.specs.Outside.{Rose}
 use Rattle.session_model.specs.declared.reply.Ended.{Ended}
@@ -20,10 +20,9 @@ MetBad said = (marks : List (Option Ended)) × (outcome_at marks ≡ outcome.Ref
 
 -- what an outcome shows that stands beside the text of a tool
 abbrev pub MetCause : Outcome → FilesSeen → FilesSeen → Said → Type 0
-MetCause outcome.Whole before after said = Unit {0}
-MetCause outcome.No before after said = Unit {0}
 MetCause outcome.Refused before after said = MetBad said
 MetCause outcome.ReadFault before after said = Rose before.faults after.faults
+MetCause _ before after said = Unit {0}
 
 -- the tools that may say no: to the name of an event, to names, or to events that do not go together
 abbrev pub SaysNo : Option Command → Type 0

@@ -1,7 +1,6 @@
 -- What `papi_event_chooser` comes to: the events that can be added to given ones, after papi_event_chooser(1). The text is that of
 -- docs/FORMATS.md.
 use Rattle.std.specs.Prelude.{ℕ, List, Result, Ok}
-use Rattle.papi_base.specs.Outside.{Held}
 use Rattle.chooser_list.specs.Choosing.{all_taken, chooser_text}
 use Rattle.chooser_list.specs.declared.candidates.Candidates.{Candidates}
 use Rattle.chooser_list.specs.declared.candidates.Candidates.TheVariants as candidates
@@ -9,6 +8,7 @@ use Rattle.component_table.specs.Catalogs.{CatalogView}
 use Rattle.tool_words.specs.declared.chooser.ChooserWords.{ChooserWords}
 use Rattle.tool_words.specs.declared.chooser.EventKind.{EventKind}
 use Rattle.tool_words.specs.declared.chooser.EventKind.TheVariants as kind
+use Rattle.papi_tools.specs.Openings.{Openings}
 use Rattle.papi_tools.specs.Steps.{and_then}
 use Rattle.papi_tools.specs.Tables.{catalog_under}
 use Rattle.papi_tools.specs.Texts.{text_said}
@@ -25,6 +25,6 @@ abbrev pub choice_said : CatalogView → EventKind → List (List ℕ) → Said
 choice_said catalog which events = text_said (all_taken catalog events) (chooser_text catalog (candidates_of which) events)
 
 -- the unit, then the presets where they are asked for
-unfoldable pub chooser_verdict : Held → ChooserWords → Result Said Refusal
-chooser_verdict held words =
-    and_then (catalog_under held words.unit words.presets) (λ catalog. Ok (choice_said catalog words.kind words.events))
+unfoldable pub chooser_verdict : Openings → ChooserWords → Result Said Refusal
+chooser_verdict openings words =
+    and_then (catalog_under openings words.unit words.presets) (λ catalog. Ok (choice_said catalog words.kind words.events))

@@ -1,6 +1,5 @@
 -- What `papi_decode` comes to: the presets and user events of a cpu as a preset file, after papi_decode(1). The text is that of docs/FORMATS.md.
 use Rattle.std.specs.Prelude.{ℕ, Bool, true, false, List, Result, Ok}
-use Rattle.papi_base.specs.Outside.{Held, opened}
 use Rattle.component_table.specs.Books.{available_only, book_of, rows_in}
 use Rattle.event_tables.specs.Tables.{ComponentText}
 use Rattle.tool_words.specs.declared.decode.DecodeWords.{DecodeWords}
@@ -9,6 +8,7 @@ use Rattle.user_events.specs.Written.{extended_text}
 use Rattle.papi_tools.specs.Opening.{file_bytes}
 use Rattle.papi_tools.specs.PresetFile.{presets_of}
 use Rattle.papi_tools.specs.declared.limits.TheConstants.{TABLE_BYTES}
+use Rattle.papi_tools.specs.Openings.{Openings, opened}
 use Rattle.papi_tools.specs.Steps.{and_then}
 use Rattle.papi_tools.specs.Texts.{text_said}
 use Rattle.papi_tools.specs.UnitFile.{unit_under}
@@ -28,9 +28,14 @@ shown_in words tables bytes = and_then (presets_of words.presets bytes) (λ pres
 abbrev pub decoded_said : ExtendedView → Said
 decoded_said presets = text_said true (extended_text presets)
 
+-- those out of the bytes of the preset file, as a preset file
+abbrev pub decoded_in : DecodeWords → List ComponentText → List ℕ → Result Said Refusal
+decoded_in words tables bytes = and_then (shown_in words tables bytes) (λ presets. Ok (decoded_said presets))
+
+-- with the tables of the unit: the preset file
+abbrev pub decoded_with : DecodeWords → List ComponentText → Openings → Result Said Refusal
+decoded_with words tables openings = and_then (file_bytes TABLE_BYTES openings words.presets.file) (decoded_in words tables)
+
 -- the unit, then the preset file
-unfoldable pub decode_verdict : Held → DecodeWords → Result Said Refusal
-decode_verdict held words =
-    and_then (unit_under held words.unit) (λ tables.
-    and_then (file_bytes TABLE_BYTES (opened held) words.presets.file) (λ bytes.
-    and_then (shown_in words tables bytes) (λ presets. Ok (decoded_said presets))))
+unfoldable pub decode_verdict : Openings → DecodeWords → Result Said Refusal
+decode_verdict openings words = and_then (unit_under openings words.unit) (λ tables. decoded_with words tables (opened openings))

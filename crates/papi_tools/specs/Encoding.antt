@@ -3,13 +3,13 @@
 use Rattle.std.specs.Prelude.{ℕ, List, [], ◌∷◌, ◌++◌, false, codes, is_ok, Result, Ok, Err}
 use Rattle.std.specs.Fmt.{digits}
 use Rattle.std.specs.List.{list_all}
-use Rattle.papi_base.specs.Outside.{Held}
 use Rattle.papi_base.specs.declared.native.Native.{Native}
 use Rattle.event_tables.specs.Tables.{ComponentText}
 use Rattle.name_encoder.specs.Canonical.{canonical, code64}
 use Rattle.name_encoder.specs.Names.{names, word_of}
 use Rattle.name_encoder.specs.declared.fault.NameFault.{NameFault}
 use Rattle.tool_words.specs.declared.encode.EncodeWords.{EncodeWords}
+use Rattle.papi_tools.specs.Openings.{Openings}
 use Rattle.papi_tools.specs.Steps.{and_then}
 use Rattle.papi_tools.specs.Texts.{text_said}
 use Rattle.papi_tools.specs.UnitFile.{unit_under}
@@ -35,5 +35,5 @@ unfoldable pub encoded_said : List ComponentText → List (List ℕ) → Said
 encoded_said tables ns = text_said (list_all (λ n. is_ok (names tables n)) ns) (encoding_lines tables ns)
 
 -- the unit, then the names
-unfoldable pub encode_verdict : Held → EncodeWords → Result Said Refusal
-encode_verdict held words = and_then (unit_under held words.unit) (λ tables. Ok (encoded_said tables words.names))
+unfoldable pub encode_verdict : Openings → EncodeWords → Result Said Refusal
+encode_verdict openings words = and_then (unit_under openings words.unit) (λ tables. Ok (encoded_said tables words.names))

@@ -11,6 +11,7 @@ pub mod Marks
 pub mod NativeListing
 pub mod NoFiles
 pub mod Opening
+pub mod Openings
 pub mod Outputs
 pub mod PresetFile
 pub mod PresetListing

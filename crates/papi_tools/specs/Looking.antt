@@ -1,29 +1,23 @@
--- What looking at files does to their counts, told or not.
+-- What looking at files does to their counts.
 use Rattle.std.specs.Prelude.{◌≡◌, ◌≤◌, ◌+◌, ℕ, Result, Ok, Err}
 use Rattle.papi_base.specs.Outside.{Rose}
 use Rattle.papi_tools.specs.Seen.{FilesSeen}
 use Rattle.papi_tools.specs.declared.refusal.Refusal.{Refusal}
-use Rattle.papi_tools.specs.declared.refusal.Refusal.TheVariants.{BadWords, NoSuchFile, CannotRead, TooLarge, Row, PresetRow, MapRow, Line, RegionLine}
+use Rattle.papi_tools.specs.declared.refusal.Refusal.TheVariants.{BadWords, NoSuchFile, CannotRead}
 use Rattle.papi_tools.specs.declared.refusal.Stop.{Stop}
-use Rattle.papi_tools.specs.declared.refusal.Stop.TheVariants.{Refused, Memory}
+use Rattle.papi_tools.specs.declared.refusal.Stop.TheVariants.{Refused}
 
 -- what the counts of the files show of a refusal of a file
 abbrev pub HasFileCause : FilesSeen → FilesSeen → Refusal → Type 0
 HasFileCause before after BadWords = ⊥
 HasFileCause before after (NoSuchFile name) = Rose before.misses after.misses
 HasFileCause before after (CannotRead name) = Rose before.faults after.faults
-HasFileCause before after (TooLarge name) = Unit {0}
-HasFileCause before after (Row name row cause) = Unit {0}
-HasFileCause before after (PresetRow name row cause) = Unit {0}
-HasFileCause before after (MapRow name row cause) = Unit {0}
-HasFileCause before after (Line name line cause) = Unit {0}
-HasFileCause before after (RegionLine name line cause) = Unit {0}
+HasFileCause before after _ = Unit {0}
 
 -- a step that ends the call by a refusal has its cause
 abbrev pub StopsByFile : {A : Type 0} → Result A Stop → FilesSeen → FilesSeen → Type 0
-StopsByFile (Ok value) before after = Unit {0}
 StopsByFile (Err (Refused refusal)) before after = HasFileCause before after refusal
-StopsByFile (Err Memory) before after = Unit {0}
+StopsByFile _ before after = Unit {0}
 
 -- how many sources are out with the value of an answer
 abbrev pub out_with : {A E : Type 0} → (A → ℕ) → Result A E → ℕ

@@ -1,9 +1,9 @@
 -- What a map of program counters by name gives: docs/FORMATS.md.
 use Rattle.std.specs.Prelude.{ℕ, List, Option, Some, None, Result, Ok, Err}
-use Rattle.papi_base.specs.Outside.{Held}
 use Rattle.profil_hist.specs.Maps.{map_fault, map_ranges}
 use Rattle.profil_hist.specs.Ranges.{RangeText}
 use Rattle.profil_hist.specs.declared.fault.MapCause.{MapCause}
+use Rattle.papi_tools.specs.Openings.{Openings}
 use Rattle.papi_tools.specs.Steps.{and_then}
 use Rattle.papi_tools.specs.Opening.{file_bytes}
 use Rattle.papi_tools.specs.declared.limits.TheConstants.{TABLE_BYTES}
@@ -20,5 +20,5 @@ unfoldable pub map_of : List ℕ → List ℕ → Result (List RangeText) Refusa
 map_of name bytes = ranges_unless name (map_fault bytes) (map_ranges bytes)
 
 -- the map of this name, whose opening is the next one
-unfoldable pub map_under : Held → List ℕ → Result (List RangeText) Refusal
-map_under held name = and_then (file_bytes TABLE_BYTES held name) (map_of name)
+unfoldable pub map_under : Openings → List ℕ → Result (List RangeText) Refusal
+map_under openings name = and_then (file_bytes TABLE_BYTES openings name) (map_of name)

@@ -1,12 +1,12 @@
 -- What `papi_native_avail` comes to: the native events of a unit, or one of them, after papi_native_avail(1). The text is that of
 -- docs/FORMATS.md.
 use Rattle.std.specs.Prelude.{ℕ, true, List, Option, Some, None, is_ok, Result, Ok}
-use Rattle.papi_base.specs.Outside.{Held}
 use Rattle.event_tables.specs.Tables.{ComponentText}
 use Rattle.listing_text.specs.NativeEvents.{native_event}
 use Rattle.listing_text.specs.NativeLists.{native_list}
 use Rattle.name_encoder.specs.Names.{names}
 use Rattle.tool_words.specs.declared.native_avail.NativeAvailWords.{NativeAvailWords}
+use Rattle.papi_tools.specs.Openings.{Openings}
 use Rattle.papi_tools.specs.Steps.{and_then}
 use Rattle.papi_tools.specs.Texts.{text_said}
 use Rattle.papi_tools.specs.UnitFile.{unit_under}
@@ -19,5 +19,5 @@ natives_said tables words None = text_said true (native_list tables words.includ
 natives_said tables words (Some name) = text_said (is_ok (names tables name)) (native_event tables name)
 
 -- the unit, then its events
-unfoldable pub native_avail_verdict : Held → NativeAvailWords → Result Said Refusal
-native_avail_verdict held words = and_then (unit_under held words.unit) (λ tables. Ok (natives_said tables words words.event))
+unfoldable pub native_avail_verdict : Openings → NativeAvailWords → Result Said Refusal
+native_avail_verdict openings words = and_then (unit_under openings words.unit) (λ tables. Ok (natives_said tables words words.event))

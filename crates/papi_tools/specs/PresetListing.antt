@@ -1,10 +1,10 @@
 -- What `papi_avail` comes to: the presets and user events of a cpu, or one of them, after papi_avail(1). The text is that of docs/FORMATS.md.
 use Rattle.std.specs.Prelude.{ℕ, Bool, true, List, Option, Some, None, is_some, Result, Ok}
-use Rattle.papi_base.specs.Outside.{Held}
 use Rattle.component_table.specs.Catalogs.{CatalogView, row_named}
 use Rattle.listing_text.specs.PresetEvents.{preset_event}
 use Rattle.listing_text.specs.PresetLists.{preset_list}
 use Rattle.tool_words.specs.declared.avail.AvailWords.{AvailWords}
+use Rattle.papi_tools.specs.Openings.{Openings}
 use Rattle.papi_tools.specs.Steps.{and_then}
 use Rattle.papi_tools.specs.Tables.{catalog_under}
 use Rattle.papi_tools.specs.Texts.{text_said}
@@ -18,6 +18,6 @@ presets_said catalog available None = text_said true (preset_list catalog availa
 presets_said catalog available (Some name) = text_said (is_some (row_named catalog name)) (preset_event catalog name)
 
 -- the unit, then the preset file
-unfoldable pub avail_verdict : Held → AvailWords → Result Said Refusal
-avail_verdict held words =
-    and_then (catalog_under held words.unit (Some words.presets)) (λ catalog. Ok (presets_said catalog words.available words.event))
+unfoldable pub avail_verdict : Openings → AvailWords → Result Said Refusal
+avail_verdict openings words =
+    and_then (catalog_under openings words.unit (Some words.presets)) (λ catalog. Ok (presets_said catalog words.available words.event))

@@ -1,6 +1,5 @@
 -- What `papi_profil` comes to: where in a program the thresholds of an event were passed, after PAPI_profil(3).
 use Rattle.std.specs.Prelude.{◌≡◌, ◌&&◌, ◌==◌, ℕ, Bool, List, [], filter, map, slice_index_or, Result, Ok, Option}
-use Rattle.papi_base.specs.Outside.{Held, opened}
 use Rattle.overflow_dispatch.specs.declared.handler.Note.{Note}
 use Rattle.session_model.specs.declared.reply.Ended.{Ended}
 use Rattle.component_table.specs.Catalogs.{CatalogView}
@@ -12,8 +11,9 @@ use Rattle.profil_hist.specs.Ranges.{RangeText}
 use Rattle.tool_words.specs.declared.profil.ProfilWords.{ProfilWords}
 use Rattle.papi_tools.specs.MapFile.{map_under}
 use Rattle.papi_tools.specs.Marks.{marked_said}
-use Rattle.papi_tools.specs.Running.{Given, IsGiven, ran_notes, ran_replies}
+use Rattle.papi_tools.specs.Running.{CanBeGiven, Given, ran_notes, ran_replies}
 use Rattle.papi_tools.specs.ScriptFile.{script_under}
+use Rattle.papi_tools.specs.Openings.{Openings, opened}
 use Rattle.papi_tools.specs.Steps.{Verdict, and_then}
 use Rattle.papi_tools.specs.Streams.{streams_under}
 use Rattle.papi_tools.specs.Tables.{after_tables, catalog_under}
@@ -37,10 +37,10 @@ pub record Profiled : Type 0 where
   pub ranges : List RangeText
   pub run : Given
 
--- this map is given, and this catalog, this script and the streams that the readers tell
-pub record IsProfiled (ranges : List RangeText) (catalog : CatalogView) (script : List ScriptLine) (readers : List ReaderView) (given : Profiled) : Type 0 where
+-- this map is given, and this catalog, this script and streams that can come of the readers
+pub record CanBeProfiled (ranges : List RangeText) (catalog : CatalogView) (script : List ScriptLine) (readers : List ReaderView) (given : Profiled) : Type 0 where
   pub ranges_are : ranges ≡ given.ranges
-  pub run : IsGiven catalog script readers given.run
+  pub run : CanBeGiven catalog script readers given.run
 
 -- the program counters of the asked event, out of the notes that the handler of the asked thread was told
 abbrev pub counted_of : ProfilWords → Given → List ℕ
@@ -53,15 +53,24 @@ profiled_verdict words given = record {
   notes = ran_notes given.run;
 }
 
+-- what is given with this catalog, this map and this script: the streams in their order
+abbrev pub profiled_with : CatalogView → List RangeText → List ScriptLine → ProfilWords → Openings → Result Profiled Refusal
+profiled_with catalog ranges script words openings =
+    and_then (streams_under openings words.streams) (λ streams. Ok (record { ranges = ranges; run = record { catalog = catalog; script = script; streams = streams } }))
+
+-- what is given with this catalog and this map: the script, then the streams
+abbrev pub profiled_over : CatalogView → List RangeText → ProfilWords → Openings → Result Profiled Refusal
+profiled_over catalog ranges words openings = and_then (script_under openings words.script) (λ script. profiled_with catalog ranges script words (opened openings))
+
+-- what is given with this catalog: the map, then the script, then the streams
+abbrev pub profiled_of : CatalogView → ProfilWords → Openings → Result Profiled Refusal
+profiled_of catalog words openings = and_then (map_under openings words.map) (λ ranges. profiled_over catalog ranges words (opened openings))
+
 -- the tables, then the map, then the script, then the streams in their order
-unfoldable pub profiled_under : Held → ProfilWords → Result Profiled Refusal
-profiled_under held words =
-    and_then (catalog_under held words.unit words.presets) (λ catalog.
-    and_then (map_under (after_tables words.presets held) words.map) (λ ranges.
-    and_then (script_under (opened (after_tables words.presets held)) words.script) (λ script.
-    and_then (streams_under (opened (opened (after_tables words.presets held))) words.streams) (λ streams.
-    Ok (record { ranges = ranges; run = record { catalog = catalog; script = script; streams = streams } })))))
+unfoldable pub profiled_under : Openings → ProfilWords → Result Profiled Refusal
+profiled_under openings words =
+    and_then (catalog_under openings words.unit words.presets) (λ catalog. profiled_of catalog words (after_tables words.presets openings))
 
 -- what is given, and then the run
-unfoldable pub profil_verdict : Held → ProfilWords → Result Verdict Refusal
-profil_verdict held words = and_then (profiled_under held words) (λ given. Ok (profiled_verdict words given))
+unfoldable pub profil_verdict : Openings → ProfilWords → Result Verdict Refusal
+profil_verdict openings words = and_then (profiled_under openings words) (λ given. Ok (profiled_verdict words given))

@@ -1,7 +1,6 @@
 -- What `papi_regions` comes to: counts by region of a program, after PAPI_hl_region_begin(3).
 use Rattle.std.specs.Prelude.{◌≡◌, ℕ, ℤ, false, List, [], ◌∷◌, length, Result, Ok, Err}
 use Rattle.std.specs.List.{flat_map}
-use Rattle.papi_base.specs.Outside.{Held, opened}
 use Rattle.papi_base.specs.Streams.{Coming}
 use Rattle.papi_base.specs.declared.code.Code.{Code}
 use Rattle.papi_base.specs.declared.native.EventRef.{EventRef}
@@ -9,6 +8,7 @@ use Rattle.chooser_list.specs.Choosing as Choosing
 use Rattle.chooser_list.specs.Choosing.{given_set, refused_text}
 use Rattle.component_table.specs.Catalogs.{CatalogView, looked_up}
 use Rattle.plan_runner.specs.Marks.{marks_in}
+use Rattle.plan_runner.specs.Runs.{CanEachCome}
 use Rattle.plan_runner.specs.declared.result.ReplyLine.{ReplyLine}
 use Rattle.region_laws.specs.Spans.{region_spans}
 use Rattle.region_report.specs.CallLines.{asked, numbered}
@@ -21,8 +21,9 @@ use Rattle.tool_words.specs.declared.regions.RegionsWords.{RegionsWords}
 use Rattle.papi_tools.specs.Marks.{marked_said}
 use Rattle.papi_tools.specs.RegionFile.{regions_under}
 use Rattle.papi_tools.specs.Running.{Given, ran_replies}
+use Rattle.papi_tools.specs.Openings.{Openings, opened}
 use Rattle.papi_tools.specs.Steps.{and_then}
-use Rattle.papi_tools.specs.Streams.{TellStreams, streams_under}
+use Rattle.papi_tools.specs.Streams.{streams_under}
 use Rattle.papi_tools.specs.Tables.{after_tables, catalog_under}
 use Rattle.papi_tools.specs.Texts.{text_said}
 use Rattle.papi_tools.specs.declared.refusal.Refusal.{Refusal}
@@ -36,11 +37,11 @@ pub record Counted : Type 0 where
   pub lines : List RegionLine
   pub streams : List Coming
 
--- this catalog and these lines are given, and the readers tell the streams that are
-pub record IsCounted (catalog : CatalogView) (lines : List RegionLine) (readers : List ReaderView) (given : Counted) : Type 0 where
+-- this catalog and these lines are given, and the streams can come of the readers
+pub record CanBeCounted (catalog : CatalogView) (lines : List RegionLine) (readers : List ReaderView) (given : Counted) : Type 0 where
   pub catalog_is : catalog ≡ given.catalog
   pub lines_are : lines ≡ given.lines
-  pub told : TellStreams readers given.streams
+  pub can_come : CanEachCome readers given.streams
 
 -- the script of calls: a set of the events for each thread that has lines, and then a call for each line
 abbrev pub calls_of : List (List ℕ) → Counted → Given
@@ -85,14 +86,20 @@ regions_said events given = said_with events given (given_set given.catalog even
 
 -- ---- the steps
 
+-- what is given with this catalog and these lines: the streams in their order
+abbrev pub counted_with : CatalogView → List RegionLine → RegionsWords → Openings → Result Counted Refusal
+counted_with catalog lines words openings =
+    and_then (streams_under openings words.streams) (λ streams. Ok (record { catalog = catalog; lines = lines; streams = streams }))
+
+-- what is given with this catalog: the region script, then the streams
+abbrev pub counted_of : CatalogView → RegionsWords → Openings → Result Counted Refusal
+counted_of catalog words openings = and_then (regions_under openings words.script) (λ lines. counted_with catalog lines words (opened openings))
+
 -- the tables, then the region script, then the streams in their order
-unfoldable pub counted_under : Held → RegionsWords → Result Counted Refusal
-counted_under held words =
-    and_then (catalog_under held words.unit words.presets) (λ catalog.
-    and_then (regions_under (after_tables words.presets held) words.script) (λ lines.
-    and_then (streams_under (opened (after_tables words.presets held)) words.streams) (λ streams.
-    Ok (record { catalog = catalog; lines = lines; streams = streams }))))
+unfoldable pub counted_under : Openings → RegionsWords → Result Counted Refusal
+counted_under openings words =
+    and_then (catalog_under openings words.unit words.presets) (λ catalog. counted_of catalog words (after_tables words.presets openings))
 
 -- what is given, and then the run
-unfoldable pub regions_verdict : Held → RegionsWords → Result Said Refusal
-regions_verdict held words = and_then (counted_under held words) (λ given. Ok (regions_said words.events given))
+unfoldable pub regions_verdict : Openings → RegionsWords → Result Said Refusal
+regions_verdict openings words = and_then (counted_under openings words) (λ given. Ok (regions_said words.events given))

@@ -2,17 +2,18 @@
 -- which follow the replies where `--notes` asks for them.
 use Rattle.std.specs.Prelude.{◌++◌, Bool, true, false, List, [], Result, Ok, Option}
 use Rattle.std.specs.List.{flat_map}
-use Rattle.papi_base.specs.Outside.{Held, opened}
 use Rattle.overflow_dispatch.specs.declared.handler.Note.{Note}
 use Rattle.session_model.specs.declared.reply.Ended.{Ended}
 use Rattle.component_table.specs.Catalogs.{CatalogView}
 use Rattle.plan_runner.specs.Marks.{marks_in}
 use Rattle.plan_runner.specs.declared.result.ReplyLine.{ReplyLine}
+use Rattle.script_lines.specs.declared.script.ScriptLine.{ScriptLine}
 use Rattle.script_runner.specs.Replies.{notes_text, reply_text}
 use Rattle.tool_words.specs.declared.run.RunWords.{RunWords}
 use Rattle.papi_tools.specs.Marks.{marked_said}
 use Rattle.papi_tools.specs.Running.{Given, ran_notes, ran_replies}
 use Rattle.papi_tools.specs.ScriptFile.{script_under}
+use Rattle.papi_tools.specs.Openings.{Openings, opened}
 use Rattle.papi_tools.specs.Steps.{Verdict, and_then}
 use Rattle.papi_tools.specs.Streams.{streams_under}
 use Rattle.papi_tools.specs.Tables.{after_tables, catalog_under}
@@ -35,14 +36,20 @@ ran_verdict wanted given = record {
   notes = ran_notes given;
 }
 
+-- what is given with this catalog and this script: the streams in their order
+abbrev pub given_with : CatalogView → List ScriptLine → RunWords → Openings → Result Given Refusal
+given_with catalog script words openings =
+    and_then (streams_under openings words.streams) (λ streams. Ok (record { catalog = catalog; script = script; streams = streams }))
+
+-- what is given with this catalog: the script, then the streams
+abbrev pub given_of : CatalogView → RunWords → Openings → Result Given Refusal
+given_of catalog words openings = and_then (script_under openings words.script) (λ script. given_with catalog script words (opened openings))
+
 -- the tables, then the script, then the streams in their order
-unfoldable pub given_under : Held → RunWords → Result Given Refusal
-given_under held words =
-    and_then (catalog_under held words.unit words.presets) (λ catalog.
-    and_then (script_under (after_tables words.presets held) words.script) (λ script.
-    and_then (streams_under (opened (after_tables words.presets held)) words.streams) (λ streams.
-    Ok (record { catalog = catalog; script = script; streams = streams }))))
+unfoldable pub given_under : Openings → RunWords → Result Given Refusal
+given_under openings words =
+    and_then (catalog_under openings words.unit words.presets) (λ catalog. given_of catalog words (after_tables words.presets openings))
 
 -- what is given, and then the run
-unfoldable pub run_verdict : Held → RunWords → Result Verdict Refusal
-run_verdict held words = and_then (given_under held words) (λ given. Ok (ran_verdict words.notes given))
+unfoldable pub run_verdict : Openings → RunWords → Result Verdict Refusal
+run_verdict openings words = and_then (given_under openings words) (λ given. Ok (ran_verdict words.notes given))

@@ -1,8 +1,8 @@
 -- What a script by name gives: docs/FORMATS.md.
 use Rattle.std.specs.Prelude.{ℕ, List, Result, Ok, Err}
-use Rattle.papi_base.specs.Outside.{Held}
 use Rattle.script_lines.specs.Scripts.{Refused, script_of}
 use Rattle.script_lines.specs.declared.script.ScriptLine.{ScriptLine}
+use Rattle.papi_tools.specs.Openings.{Openings}
 use Rattle.papi_tools.specs.Steps.{and_then}
 use Rattle.papi_tools.specs.Opening.{file_bytes}
 use Rattle.papi_tools.specs.declared.limits.TheConstants.{SCRIPT_BYTES}
@@ -15,5 +15,5 @@ script_unless name (Ok script) = Ok script
 script_unless name (Err refused) = Err (Line name refused.line refused.cause)
 
 -- the script of this name, whose opening is the next one
-unfoldable pub script_under : Held → List ℕ → Result (List ScriptLine) Refusal
-script_under held name = and_then (file_bytes SCRIPT_BYTES held name) (λ bytes. script_unless name (script_of bytes))
+unfoldable pub script_under : Openings → List ℕ → Result (List ScriptLine) Refusal
+script_under openings name = and_then (file_bytes SCRIPT_BYTES openings name) (λ bytes. script_unless name (script_of bytes))

@@ -1,7 +1,5 @@
--- What a call of the program comes to, as a function of its words and of the files that are held.
-use Rattle.std.specs.Prelude.{◌≡◌, ℕ, List, [], Option, Some, None, IsOkAnd, Result, Ok, Err}
-use Rattle.std.specs.Option.{option_map}
-use Rattle.papi_base.specs.Outside.{Held}
+-- What a call of the program comes to, as a function of its words and of what its openings find.
+use Rattle.std.specs.Prelude.{◌≡◌, ℕ, List, [], Option, Some, None, IfOk, IsOkAnd, OnErr, OnOk, Result, Ok, Err}
 use Rattle.overflow_dispatch.specs.declared.handler.Note.{Note}
 use Rattle.overflow_dispatch.specs.Notes.{EachAdded, EachBegun}
 use Rattle.tool_words.specs.Form.{form}
@@ -18,6 +16,7 @@ use Rattle.papi_tools.specs.Profiling.{profil_verdict}
 use Rattle.papi_tools.specs.RegionCounts.{regions_verdict}
 use Rattle.papi_tools.specs.Run.{run_verdict}
 use Rattle.papi_tools.specs.Soaking.{soak_verdict}
+use Rattle.papi_tools.specs.Openings.{Openings}
 use Rattle.papi_tools.specs.Steps.{Verdict, quiet}
 use Rattle.papi_tools.specs.declared.refusal.Refusal.{Refusal}
 use Rattle.papi_tools.specs.declared.refusal.Refusal.TheVariants.{BadWords}
@@ -26,21 +25,21 @@ use Rattle.papi_tools.specs.declared.refusal.Stop.TheVariants as stop
 use Rattle.papi_tools.specs.declared.said.Said.{Said}
 
 -- what a command comes to: a row for each tool
-abbrev pub command_verdict : Held → Command → Result Verdict Refusal
-command_verdict held (Run words) = run_verdict held words
-command_verdict held (Avail words) = quiet (avail_verdict held words)
-command_verdict held (NativeAvail words) = quiet (native_avail_verdict held words)
-command_verdict held (Decode words) = quiet (decode_verdict held words)
-command_verdict held (EventChooser words) = quiet (chooser_verdict held words)
-command_verdict held (Encode words) = quiet (encode_verdict held words)
-command_verdict held (Soak words) = soak_verdict words
-command_verdict held (Profil words) = profil_verdict held words
-command_verdict held (Regions words) = quiet (regions_verdict held words)
+abbrev pub command_verdict : Openings → Command → Result Verdict Refusal
+command_verdict openings (Run words) = run_verdict openings words
+command_verdict openings (Avail words) = quiet (avail_verdict openings words)
+command_verdict openings (NativeAvail words) = quiet (native_avail_verdict openings words)
+command_verdict openings (Decode words) = quiet (decode_verdict openings words)
+command_verdict openings (EventChooser words) = quiet (chooser_verdict openings words)
+command_verdict openings (Encode words) = quiet (encode_verdict openings words)
+command_verdict openings (Soak words) = soak_verdict words
+command_verdict openings (Profil words) = profil_verdict openings words
+command_verdict openings (Regions words) = quiet (regions_verdict openings words)
 
 -- what the words come to, where they are a command
-abbrev pub verdict_for : Held → Option Command → Result Verdict Refusal
-verdict_for held None = Err BadWords
-verdict_for held (Some command) = command_verdict held command
+abbrev pub verdict_for : Openings → Option Command → Result Verdict Refusal
+verdict_for openings None = Err BadWords
+verdict_for openings (Some command) = command_verdict openings command
 
 -- a refusal says its line and nothing else, and there are no notes
 abbrev pub refused_said : Refusal → Said
@@ -51,24 +50,9 @@ abbrev pub ended : Result Verdict Refusal → Verdict
 ended (Ok verdict) = verdict
 ended (Err refusal) = record { said = refused_said refusal; notes = [] }
 
--- What a call of the program comes to: both outputs, the outcome, and the notes of each thread, by its words and by what the files hold.
-abbrev pub verdict : List (List ℕ) → Held → Verdict
-verdict words held = ended (verdict_for held (form words))
-
--- what the words come to where no file matters: words that are refused, and a soak
-abbrev pub fileless : Option Command → Option (Result Verdict Refusal)
-fileless None = Some (Err BadWords)
-fileless (Some (Soak words)) = Some (soak_verdict words)
-fileless (Some _) = None
-
--- what the words come to, where it is known: by what the files hold, where they tell it, or where no file matters
-abbrev pub known : Option Command → Option Held → Option (Result Verdict Refusal)
-known asked None = fileless asked
-known asked (Some held) = Some (verdict_for held asked)
-
--- The verdict, where it is known: that of the words and of what the files hold, where they tell it; and where no file matters, the same.
-abbrev pub known_verdict : List (List ℕ) → Option Held → Option Verdict
-known_verdict words held = option_map ended (known (form words) held)
+-- What a call of the program comes to: both outputs, the outcome, and the notes of each thread, by its words and by what its openings find.
+abbrev pub verdict : List (List ℕ) → Openings → Verdict
+verdict words openings = ended (verdict_for openings (form words))
 
 -- the notes of what is expected: a refusal has none
 abbrev pub notes_in : Result Verdict Refusal → List (List Note)
@@ -94,3 +78,14 @@ abbrev pub TellsBy : Result Said Stop → List (List Note) → List (List Note) 
 TellsBy (Ok said) given before after = EachAdded before given after
 TellsBy (Err (stop.Refused refusal)) given before after = EachAdded before given after
 TellsBy (Err stop.Memory) given before after = EachBegun before given after
+
+-- A tool with this answer says what is expected, and has told the handlers its notes.
+pub record ComesTo (answer : Result Said Stop) (expected : Result Verdict Refusal) (before after : List (List Note)) : Type 0 where
+  pub said : AnswersSaid answer expected
+  pub told : TellsBy answer (notes_in expected) before after
+
+-- What is to be said is what the call comes to, and its notes are told; where memory ran out, a prefix of them.
+pub record IsSettledAs {E : Type 0} (result : Result Said E) (verdict : Verdict) (before after : List (List Note)) : Type 0 where
+  pub said : IfOk result (λ said. said ≡ verdict.said)
+  pub told : OnOk result (EachAdded before verdict.notes after)
+  pub begun : OnErr result (EachBegun before verdict.notes after)

@@ -1,10 +1,11 @@
 //! `papi_event_chooser`: lists the events that can be added to given ones.
-ghost use Rattle.std.specs.Prelude.{◌≡◌, IfOk, IfSome};
+ghost use Rattle.std.specs.Prelude.{◌≡◌, IfOk};
 ghost use Rattle.papi_tools.specs.Answers.{Answers};
 ghost use Rattle.papi_tools.specs.Causes.{IsTextual};
 ghost use Rattle.papi_tools.specs.Choosing as Choosing;
 ghost use Rattle.papi_tools.specs.Choosing.{chooser_verdict, choice_said};
 ghost use Rattle.papi_tools.specs.Looking.{Looked};
+ghost use Rattle.papi_tools.specs.Openings.{ForSome};
 ghost use Rattle.papi_tools.specs.Seen.{files_seen};
 
 use crate::tables::read_catalog;
@@ -41,14 +42,13 @@ fn said_of(
 
 /// `papi_event_chooser`: reads the unit, and the presets where they are asked for, and lists the events that can be added to
 /// the given ones, or says which of these is refused, and how.
-#[tactic(auto, unfolding(crate::specs::Choosing::chooser_verdict))]
 pub fn choose_events<F: Files>(
     alloc: Global,
     files: &mut F,
     words: &ChooserWords,
 ) -> Result<Said, Stop>
-    ensures told { IfSome (F.held files.old)
-        (λ held. Answers result (chooser_verdict held words.now)) }
+    ensures said { ForSome (F.held files.old)
+        (λ openings. Answers result (chooser_verdict openings words.now)) }
     ensures textual { IfOk result (λ said. IsTextual said.outcome) }
     ensures looked { Looked result 0 (files_seen F.held F.misses F.faults F.lent files.old)
         (files_seen F.held F.misses F.faults F.lent files.new) }

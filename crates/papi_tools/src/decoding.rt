@@ -1,9 +1,10 @@
 //! `papi_decode`: gives the presets and user events of a cpu.
-ghost use Rattle.std.specs.Prelude.{◌≡◌, ◌≢◌, IfOk, IfSome};
+ghost use Rattle.std.specs.Prelude.{◌≡◌, ◌≢◌, IfOk};
 ghost use Rattle.papi_tools.specs.Answers.{Answers};
 ghost use Rattle.papi_tools.specs.Causes.{IsTextual};
 ghost use Rattle.papi_tools.specs.Decoding.{decode_verdict, decoded_said, shown_in};
 ghost use Rattle.papi_tools.specs.Looking.{Looked, StopsByFile};
+ghost use Rattle.papi_tools.specs.Openings.{ForSome};
 ghost use Rattle.papi_tools.specs.Seen.{FilesSeen, files_seen};
 ghost use Rattle.papi_tools.specs.declared.status.Outcome.TheVariants as outcome;
 
@@ -50,14 +51,13 @@ fn said_of(alloc: Global, presets: &Extended) -> Result<Said, AllocError>
 
 /// `papi_decode`: reads the unit and the preset file, and gives the presets and user events of a cpu as a preset file, all
 /// of them or the available ones alone.
-#[tactic(auto, unfolding(crate::specs::Decoding::decode_verdict))]
 pub fn decode_presets<F: Files>(
     alloc: Global,
     files: &mut F,
     words: &DecodeWords,
 ) -> Result<Said, Stop>
-    ensures told { IfSome (F.held files.old)
-        (λ held. Answers result (decode_verdict held words.now)) }
+    ensures said { ForSome (F.held files.old)
+        (λ openings. Answers result (decode_verdict openings words.now)) }
     ensures textual { IfOk result (λ said. IsTextual said.outcome) }
     ensures yes { IfOk result (λ said. said.outcome ≢ outcome.No) }
     ensures looked { Looked result 0 (files_seen F.held F.misses F.faults F.lent files.old)

@@ -1,9 +1,10 @@
 //! `papi_encode`: gives the codes of events.
-ghost use Rattle.std.specs.Prelude.{◌≡◌, IfOk, IfSome, string_bytes};
+ghost use Rattle.std.specs.Prelude.{◌≡◌, IfOk, string_bytes};
 ghost use Rattle.papi_tools.specs.Answers.{Answers};
 ghost use Rattle.papi_tools.specs.Causes.{IsTextual};
 ghost use Rattle.papi_tools.specs.Encoding.{answer_line, encode_verdict, encoded_said};
 ghost use Rattle.papi_tools.specs.Looking.{Looked};
+ghost use Rattle.papi_tools.specs.Openings.{ForSome};
 ghost use Rattle.papi_tools.specs.Seen.{files_seen};
 
 use crate::unit_file::read_unit_file;
@@ -56,14 +57,13 @@ fn said_of(alloc: Global, tables: &Tables, names: &[Text]) -> Result<Said, Alloc
 }
 
 /// `papi_encode`: reads the unit, and gives each name's canonical name and code, or why it names no native event.
-#[tactic(auto, unfolding(crate::specs::Encoding::encode_verdict))]
 pub fn encode_names<F: Files>(
     alloc: Global,
     files: &mut F,
     words: &EncodeWords,
 ) -> Result<Said, Stop>
-    ensures told { IfSome (F.held files.old)
-        (λ held. Answers result (encode_verdict held words.now)) }
+    ensures said { ForSome (F.held files.old)
+        (λ openings. Answers result (encode_verdict openings words.now)) }
     ensures textual { IfOk result (λ said. IsTextual said.outcome) }
     ensures looked { Looked result 0 (files_seen F.held F.misses F.faults F.lent files.old)
         (files_seen F.held F.misses F.faults F.lent files.new) }

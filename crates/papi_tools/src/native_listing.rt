@@ -1,9 +1,10 @@
 //! `papi_native_avail`: lists the native events of a unit, or says what one of them is.
-ghost use Rattle.std.specs.Prelude.{◌≡◌, IfOk, IfSome, IsSome, option_map};
+ghost use Rattle.std.specs.Prelude.{◌≡◌, IfOk, IsSome, option_map};
 ghost use Rattle.papi_tools.specs.Answers.{Answers};
 ghost use Rattle.papi_tools.specs.Causes.{IsTextual};
 ghost use Rattle.papi_tools.specs.Looking.{Looked};
 ghost use Rattle.papi_tools.specs.NativeListing.{native_avail_verdict, natives_said};
+ghost use Rattle.papi_tools.specs.Openings.{ForSome};
 ghost use Rattle.papi_tools.specs.Seen.{files_seen};
 ghost use Rattle.papi_tools.specs.declared.status.Outcome.TheVariants as outcome;
 
@@ -47,14 +48,13 @@ fn said_of(alloc: Global, tables: &Tables, words: &NativeAvailWords) -> Result<S
 
 /// `papi_native_avail`: reads the unit, and lists those of its native events that the words choose, or says what the event of a
 /// name is.
-#[tactic(auto, unfolding(crate::specs::NativeListing::native_avail_verdict))]
 pub fn list_natives<F: Files>(
     alloc: Global,
     files: &mut F,
     words: &NativeAvailWords,
 ) -> Result<Said, Stop>
-    ensures told { IfSome (F.held files.old)
-        (λ held. Answers result (native_avail_verdict held words.now)) }
+    ensures said { ForSome (F.held files.old)
+        (λ openings. Answers result (native_avail_verdict openings words.now)) }
     ensures textual { IfOk result (λ said. IsTextual said.outcome) }
     ensures no { IfOk result (λ said. said.outcome ≡ outcome.No → IsSome words.now.event) }
     ensures looked { Looked result 0 (files_seen F.held F.misses F.faults F.lent files.old)

@@ -1,10 +1,8 @@
 //! Files by name: opened, or read whole.
-ghost use Rattle.std.specs.Prelude.{◌≡◌, ◌≤◌, IfSome, IfOk, length};
-ghost use Rattle.std.specs.Option.{option_map};
-ghost use Rattle.papi_base.specs.Outside.{opened};
-ghost use Rattle.papi_tools.specs.Answers.{Answers, AnswersBy, IsTold};
+ghost use Rattle.std.specs.Prelude.{◌≡◌, ◌≤◌, IfOk, length};
 ghost use Rattle.papi_tools.specs.Looking.{Looked, out_with};
-ghost use Rattle.papi_tools.specs.Opening.{file_bytes, tape_under};
+ghost use Rattle.papi_tools.specs.Opening.{file_bytes};
+ghost use Rattle.papi_tools.specs.Openings.{CanGive, Is, Leads, opened, tape_under};
 ghost use Rattle.papi_tools.specs.Seen.{files_seen};
 
 use crate::{Refusal, Stop};
@@ -13,10 +11,10 @@ use std::alloc::Global;
 
 /// Opens a file, or says why not. The source has no faults.
 pub fn open_named<F: Files>(alloc: Global, files: &mut F, name: &str) -> Result<F::S, Stop>
-    ensures told { IfSome (F.held files.old)
-        (λ held. AnswersBy (IsTold F.S.tape) result (tape_under held name.now)) }
+    ensures found { Leads (λ source tape. CanGive (F.S.tape source) tape) result
+        (λ openings. tape_under openings name.now) opened
+        (F.held files.old) (F.held files.new) }
     ensures fresh { IfOk result (λ source. F.S.faults source ≡ 0) }
-    ensures held { F.held files.new ≡ option_map opened (F.held files.old) }
     ensures looked { Looked result (out_with (λ _. 1) result)
         (files_seen F.held F.misses F.faults F.lent files.old)
         (files_seen F.held F.misses F.faults F.lent files.new) }
@@ -35,17 +33,15 @@ pub fn open_named<F: Files>(alloc: Global, files: &mut F, name: &str) -> Result<
 }
 
 /// Opens a file of at most `limit` bytes, reads it whole and closes it, or says why not.
-#[tactic(auto, unfolding(crate::specs::Opening::file_bytes))]
 pub fn whole_file<F: Files>(
     alloc: Global,
     files: &mut F,
     name: &str,
     limit: usize,
 ) -> Result<Bytes, Stop>
-    ensures told { IfSome (F.held files.old)
-        (λ held. Answers result (file_bytes limit held name.now)) }
+    ensures found { Leads Is result (λ openings. file_bytes limit openings name.now) opened
+        (F.held files.old) (F.held files.new) }
     ensures small { IfOk result (λ bytes. length bytes ≤ limit) }
-    ensures held { F.held files.new ≡ option_map opened (F.held files.old) }
     ensures looked { Looked result 0 (files_seen F.held F.misses F.faults F.lent files.old)
         (files_seen F.held F.misses F.faults F.lent files.new) }
 {

@@ -1,10 +1,8 @@
 //! Preset files by name.
-ghost use Rattle.std.specs.Prelude.{◌≡◌, IfSome};
-ghost use Rattle.std.specs.Option.{option_map};
-ghost use Rattle.papi_base.specs.Outside.{opened};
 ghost use Rattle.papi_tools.specs.Answers.{Answers};
 ghost use Rattle.papi_tools.specs.Looking.{Looked, StopsByFile};
 ghost use Rattle.papi_tools.specs.Opening.{file_bytes};
+ghost use Rattle.papi_tools.specs.Openings.{Is, Leads, opened};
 ghost use Rattle.papi_tools.specs.PresetFile as PresetFile;
 ghost use Rattle.papi_tools.specs.PresetFile.{after_presets, presets_of, presets_under};
 ghost use Rattle.papi_tools.specs.Seen.{FilesSeen, files_seen};
@@ -42,9 +40,9 @@ pub fn read_preset_bytes<F: Files>(
     files: &mut F,
     words: &PresetWords,
 ) -> Result<Bytes, Stop>
-    ensures told { IfSome (F.held files.old)
-        (λ held. Answers result (file_bytes TABLE_BYTES held words.now.file)) }
-    ensures held { F.held files.new ≡ option_map opened (F.held files.old) }
+    ensures found { Leads Is result
+        (λ openings. file_bytes TABLE_BYTES openings words.now.file) opened (F.held files.old)
+        (F.held files.new) }
     ensures looked { Looked result 0 (files_seen F.held F.misses F.faults F.lent files.old)
         (files_seen F.held F.misses F.faults F.lent files.new) }
 {
@@ -52,15 +50,13 @@ pub fn read_preset_bytes<F: Files>(
 }
 
 /// Reads the presets and user events that are asked for, or says why not.
-#[tactic(auto, unfolding(crate::specs::PresetFile::presets_under))]
 pub fn read_preset_file<F: Files>(
     alloc: Global,
     files: &mut F,
     words: &PresetWords,
 ) -> Result<Extended, Stop>
-    ensures told { IfSome (F.held files.old)
-        (λ held. Answers result (presets_under held words.now)) }
-    ensures held { F.held files.new ≡ option_map opened (F.held files.old) }
+    ensures found { Leads Is result (λ openings. presets_under openings words.now) opened
+        (F.held files.old) (F.held files.new) }
     ensures looked { Looked result 0 (files_seen F.held F.misses F.faults F.lent files.old)
         (files_seen F.held F.misses F.faults F.lent files.new) }
 {
@@ -74,9 +70,8 @@ pub fn read_presets_asked<F: Files>(
     files: &mut F,
     words: &Option<PresetWords>,
 ) -> Result<Option<Extended>, Stop>
-    ensures told { IfSome (F.held files.old)
-        (λ held. Answers result (PresetFile.presets_asked held words.now)) }
-    ensures held { F.held files.new ≡ option_map (after_presets words.now) (F.held files.old) }
+    ensures found { Leads Is result (λ openings. PresetFile.presets_asked openings words.now)
+        (after_presets words.now) (F.held files.old) (F.held files.new) }
     ensures looked { Looked result 0 (files_seen F.held F.misses F.faults F.lent files.old)
         (files_seen F.held F.misses F.faults F.lent files.new) }
 {

@@ -1,8 +1,9 @@
 //! `papi_avail`: lists the presets and user events of a cpu, or says what one of them is.
-ghost use Rattle.std.specs.Prelude.{◌≡◌, IfOk, IfSome, IsSome};
+ghost use Rattle.std.specs.Prelude.{◌≡◌, IfOk, IsSome};
 ghost use Rattle.papi_tools.specs.Answers.{Answers};
 ghost use Rattle.papi_tools.specs.Causes.{IsTextual};
 ghost use Rattle.papi_tools.specs.Looking.{Looked};
+ghost use Rattle.papi_tools.specs.Openings.{ForSome};
 ghost use Rattle.papi_tools.specs.PresetListing.{avail_verdict, presets_said};
 ghost use Rattle.papi_tools.specs.Seen.{files_seen};
 ghost use Rattle.papi_tools.specs.declared.status.Outcome.TheVariants as outcome;
@@ -40,14 +41,13 @@ fn said_of(
 
 /// `papi_avail`: reads the unit and the preset file, and lists the presets of a cpu, all of them or the available ones alone,
 /// or says what the event of a name is.
-#[tactic(auto, unfolding(crate::specs::PresetListing::avail_verdict))]
 pub fn list_presets<F: Files>(
     alloc: Global,
     files: &mut F,
     words: &AvailWords,
 ) -> Result<Said, Stop>
-    ensures told { IfSome (F.held files.old)
-        (λ held. Answers result (avail_verdict held words.now)) }
+    ensures said { ForSome (F.held files.old)
+        (λ openings. Answers result (avail_verdict openings words.now)) }
     ensures textual { IfOk result (λ said. IsTextual said.outcome) }
     ensures no { IfOk result (λ said. said.outcome ≡ outcome.No → IsSome words.now.event) }
     ensures looked { Looked result 0 (files_seen F.held F.misses F.faults F.lent files.old)

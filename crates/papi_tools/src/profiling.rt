@@ -1,16 +1,17 @@
 //! `papi_profil`: counts where in a program the thresholds of an event were passed.
-ghost use Rattle.std.specs.Prelude.{◌≡◌, ◌≢◌, ◌≤◌, ◌<◌, ◌-◌, ◌+◌, ◌^◌, ◌∷◌, ◌++◌, All, IfOk, IfSome};
-ghost use Rattle.std.specs.Prelude.{IsOkAnd, OnOk, ℕ, [], List, drop, length, map, slice_get, slice_index_or, vec_len};
+ghost use Rattle.std.specs.Prelude.{◌≡◌, ◌≢◌, ◌≤◌, ◌<◌, ◌-◌, ◌+◌, ◌^◌, ◌∷◌, ◌++◌, All, IfOk};
+ghost use Rattle.std.specs.Prelude.{OnOk, ℕ, [], List, drop, length, map, slice_get, slice_index_or, vec_len};
 ghost use Rattle.overflow_dispatch.specs.Notes.{EachGrown};
 ghost use Rattle.profil_hist.specs.Histograms.{IsHistogram};
 ghost use Rattle.thread_session.specs.SessionView.{IsFresh};
-ghost use Rattle.papi_tools.specs.Answers.{Answers, AnswersBy};
+ghost use Rattle.papi_tools.specs.Answers.{Answers};
 ghost use Rattle.papi_tools.specs.Causes.{MetCause};
 ghost use Rattle.papi_tools.specs.Looking.{Looked, StopsByFile, out_with};
-ghost use Rattle.papi_tools.specs.Profiling.{IsProfiled, Profiled, counted_in, is_counted, profil_verdict, profile_said, profiled_under, profiled_verdict};
+ghost use Rattle.papi_tools.specs.Openings.{Ends, ForSome};
+ghost use Rattle.papi_tools.specs.Profiling.{CanBeProfiled, Profiled, counted_in, is_counted, profil_verdict, profile_said, profiled_under, profiled_verdict};
 ghost use Rattle.papi_tools.specs.Seen.{FilesSeen, files_seen};
 ghost use Rattle.papi_tools.specs.Streams.{sources_in};
-ghost use Rattle.papi_tools.specs.Verdict.{AnswersSaid, TellsBy, notes_in};
+ghost use Rattle.papi_tools.specs.Verdict.{ComesTo};
 ghost use Rattle.papi_tools.specs.declared.status.Outcome.TheVariants as outcome;
 
 use crate::map_file::read_map_file;
@@ -160,16 +161,14 @@ struct ProfilInput<S: Source> {
 }
 
 // Reads the tables, the map and the script, and opens the streams, or says why not.
-#[tactic(auto, unfolding(crate::specs::Profiling::profiled_under))]
 fn open_input<F: Files>(
     alloc: Global,
     files: &mut F,
     words: &ProfilWords,
 ) -> Result<ProfilInput<F::S>, Stop>
-    ensures told { IfSome (F.held files.old) (λ held.
-        AnswersBy (λ input given.
-        IsOkAnd given (IsProfiled input.map input.catalog input.script input.readers.items)) result
-        (profiled_under held words.now)) }
+    ensures found { Ends (λ input given.
+        CanBeProfiled input.map input.catalog input.script input.readers.items given) result
+        (λ openings. profiled_under openings words.now) (F.held files.old) }
     ensures len { IfOk result (λ input. vec_len input.readers ≡ THREADS) }
     ensures fresh { IfOk result (λ input. All IsFresh input.readers.items) }
     ensures looked { Looked result (out_with (λ input. sources_in input.readers.items) result)
@@ -201,12 +200,9 @@ fn carry_out<R: Threads + Sync, F: Files>(
     requires fresh { All IsFresh input.readers.items }
     requires handlers { vec_len handlers.old ≡ THREADS }
     ensures len { vec_len handlers.new ≡ THREADS }
-    ensures told { (given : Profiled)
-        → IsProfiled input.map input.catalog input.script input.readers.items given
-        → AnswersSaid result (Ok (profiled_verdict words.now given)) }
-    ensures tells { (given : Profiled)
-        → IsProfiled input.map input.catalog input.script input.readers.items given
-        → TellsBy result (profiled_verdict words.now given).notes
+    ensures ran { (given : Profiled)
+        × CanBeProfiled input.map input.catalog input.script input.readers.items given
+        × ComesTo result (Ok (profiled_verdict words.now given))
         (map (λ b. notes b) handlers.old.items) (map (λ b. notes b) handlers.new.items) }
     ensures grown { EachGrown (map (λ b. notes b) handlers.old.items)
         (map (λ b. notes b) handlers.new.items) }
@@ -253,10 +249,8 @@ pub fn profile<R: Threads + Sync, F: Files>(
 ) -> Result<Said, Stop>
     requires handlers { vec_len handlers.old ≡ THREADS }
     ensures len { vec_len handlers.new ≡ THREADS }
-    ensures told { IfSome (F.held files.old)
-        (λ held. AnswersSaid result (profil_verdict held words.now)) }
-    ensures tells { IfSome (F.held files.old)
-        (λ held. TellsBy result (notes_in (profil_verdict held words.now))
+    ensures ran { ForSome (F.held files.old)
+        (λ openings. ComesTo result (profil_verdict openings words.now)
         (map (λ b. notes b) handlers.old.items) (map (λ b. notes b) handlers.new.items)) }
     ensures grown { EachGrown (map (λ b. notes b) handlers.old.items)
         (map (λ b. notes b) handlers.new.items) }

@@ -1,11 +1,10 @@
 //! Region scripts by name.
-ghost use Rattle.std.specs.Prelude.{◌≡◌, IfOk, IfSome};
-ghost use Rattle.std.specs.Option.{option_map};
-ghost use Rattle.papi_base.specs.Outside.{opened};
+ghost use Rattle.std.specs.Prelude.{IfOk};
 ghost use Rattle.region_laws.specs.Nesting.{AreBegun};
 ghost use Rattle.region_report.specs.Scripts.{regions_of};
 ghost use Rattle.papi_tools.specs.Answers.{Answers};
 ghost use Rattle.papi_tools.specs.Looking.{Looked, StopsByFile};
+ghost use Rattle.papi_tools.specs.Openings.{Is, Leads, opened};
 ghost use Rattle.papi_tools.specs.RegionFile.{regions_under, regions_unless};
 ghost use Rattle.papi_tools.specs.Seen.{FilesSeen, files_seen};
 
@@ -37,12 +36,10 @@ pub fn regions_in(alloc: Global, name: &str, bytes: &[u8]) -> Result<Regions, St
 }
 
 /// Reads a region script whole, or says why not.
-#[tactic(auto, unfolding(crate::specs::RegionFile::regions_under))]
 pub fn read_region_file<F: Files>(alloc: Global, files: &mut F, name: &str) -> Result<Regions, Stop>
-    ensures told { IfSome (F.held files.old)
-        (λ held. Answers result (regions_under held name.now)) }
+    ensures found { Leads Is result (λ openings. regions_under openings name.now) opened
+        (F.held files.old) (F.held files.new) }
     ensures begun { IfOk result (λ regions. AreBegun regions) }
-    ensures held { F.held files.new ≡ option_map opened (F.held files.old) }
     ensures looked { Looked result 0 (files_seen F.held F.misses F.faults F.lent files.old)
         (files_seen F.held F.misses F.faults F.lent files.new) }
 {

@@ -1,5 +1,5 @@
 //! `papi_regions`: counts by region of a program.
-ghost use Rattle.std.specs.Prelude.{◌≡◌, ◌≤◌, ◌-◌, ◌++◌, ◌∷◌, [], All, IfOk, IfSome, IsOkAnd, Ok, OnOk, length, vec_len};
+ghost use Rattle.std.specs.Prelude.{◌≡◌, ◌≤◌, ◌-◌, ◌++◌, ◌∷◌, [], All, IfOk, Ok, OnOk, length, vec_len};
 ghost use Rattle.papi_base.specs.Outside.{Rose};
 ghost use Rattle.papi_base.specs.declared.limits.TheConstants.{MOST_SET_EVENTS};
 ghost use Rattle.region_laws.specs.Nesting.{AreBegun};
@@ -8,11 +8,12 @@ ghost use Rattle.region_report.specs.CallLines.{AreEvents, asked, numbered};
 ghost use Rattle.region_report.specs.Reports.{report_text};
 ghost use Rattle.region_report.specs.Spans.{reading_values, spans_from};
 ghost use Rattle.thread_session.specs.SessionView.{IsFresh};
-ghost use Rattle.papi_tools.specs.Answers.{Answers, AnswersBy};
+ghost use Rattle.papi_tools.specs.Answers.{Answers};
 ghost use Rattle.papi_tools.specs.Causes.{MetCause};
 ghost use Rattle.papi_tools.specs.Looking.{Looked, StopsByFile, out_with};
 ghost use Rattle.papi_tools.specs.Marks.{marked_said};
-ghost use Rattle.papi_tools.specs.RegionCounts.{Counted, IsCounted, counted_under, readings_in, regions_said, regions_verdict};
+ghost use Rattle.papi_tools.specs.Openings.{Ends, ForSome};
+ghost use Rattle.papi_tools.specs.RegionCounts.{CanBeCounted, Counted, counted_under, readings_in, regions_said, regions_verdict};
 ghost use Rattle.papi_tools.specs.Seen.{FilesSeen, files_seen};
 ghost use Rattle.papi_tools.specs.Streams.{SomeFailed, sources_in};
 
@@ -110,8 +111,9 @@ fn count<R: Threads + Sync, S: Source + Send>(
     requires readers { vec_len readers.old ≡ THREADS }
     requires fresh { All IsFresh readers.old.items }
     requires begun { AreBegun regions.now }
-    ensures told { (given : Counted) → IsCounted catalog.now regions.now readers.old.items given
-        → Answers result (Ok (regions_said words.now.events given)) }
+    ensures counted { (given : Counted)
+        × CanBeCounted catalog.now regions.now readers.old.items given
+        × Answers result (Ok (regions_said words.now.events given)) }
     ensures met { (before after : FilesSeen)
         → (SomeFailed readers.new.items → Rose before.faults after.faults)
         → IfOk result (λ said. MetCause said.outcome before after said) }
@@ -159,16 +161,14 @@ struct RegionsInput<S: Source> {
 }
 
 // Reads the tables and the region script, and opens the streams, or says why not.
-#[tactic(auto, unfolding(crate::specs::RegionCounts::counted_under))]
 fn open_input<F: Files>(
     alloc: Global,
     files: &mut F,
     words: &RegionsWords,
 ) -> Result<RegionsInput<F::S>, Stop>
-    ensures told { IfSome (F.held files.old) (λ held.
-        AnswersBy (λ input given.
-        IsOkAnd given (IsCounted input.catalog input.regions input.readers.items)) result
-        (counted_under held words.now)) }
+    ensures found { Ends (λ input given.
+        CanBeCounted input.catalog input.regions input.readers.items given) result
+        (λ openings. counted_under openings words.now) (F.held files.old) }
     ensures begun { IfOk result (λ input. AreBegun input.regions) }
     ensures len { IfOk result (λ input. vec_len input.readers ≡ THREADS) }
     ensures fresh { IfOk result (λ input. All IsFresh input.readers.items) }
@@ -197,9 +197,9 @@ fn carry_out<R: Threads + Sync, F: Files>(
     requires readers { vec_len input.readers ≡ THREADS }
     requires fresh { All IsFresh input.readers.items }
     requires begun { AreBegun input.regions }
-    ensures told { (given : Counted)
-        → IsCounted input.catalog input.regions input.readers.items given
-        → Answers result (Ok (regions_said words.now.events given)) }
+    ensures counted { (given : Counted)
+        × CanBeCounted input.catalog input.regions input.readers.items given
+        × Answers result (Ok (regions_said words.now.events given)) }
     ensures met { IfOk result (λ said. MetCause said.outcome
         (files_seen F.held F.misses F.faults F.lent files.old)
         (files_seen F.held F.misses F.faults F.lent files.new) said) }
@@ -227,8 +227,8 @@ pub fn count_regions<R: Threads + Sync, F: Files>(
     files: &mut F,
     words: &RegionsWords,
 ) -> Result<Said, Stop>
-    ensures told { IfSome (F.held files.old)
-        (λ held. Answers result (regions_verdict held words.now)) }
+    ensures said { ForSome (F.held files.old)
+        (λ openings. Answers result (regions_verdict openings words.now)) }
     ensures met { IfOk result (λ said. MetCause said.outcome
         (files_seen F.held F.misses F.faults F.lent files.old)
         (files_seen F.held F.misses F.faults F.lent files.new) said) }

@@ -1,15 +1,16 @@
 //! `papi_run`: carries out a script.
-ghost use Rattle.std.specs.Prelude.{◌≡◌, ◌≢◌, ◌≤◌, ◌-◌, All, IfOk, IfSome, IsOkAnd, if◌then◌else◌, [], length, map, vec_len};
+ghost use Rattle.std.specs.Prelude.{◌≡◌, ◌≢◌, ◌≤◌, ◌-◌, All, IfOk, if◌then◌else◌, [], length, map, vec_len};
 ghost use Rattle.overflow_dispatch.specs.Notes.{EachGrown, told_since};
 ghost use Rattle.thread_session.specs.SessionView.{IsFresh};
-ghost use Rattle.papi_tools.specs.Answers.{Answers, AnswersBy};
+ghost use Rattle.papi_tools.specs.Answers.{Answers};
 ghost use Rattle.papi_tools.specs.Causes.{MetCause};
 ghost use Rattle.papi_tools.specs.Looking.{Looked, StopsByFile, out_with};
+ghost use Rattle.papi_tools.specs.Openings.{Ends, ForSome};
 ghost use Rattle.papi_tools.specs.Run.{given_under, ran_verdict, run_said, run_verdict};
-ghost use Rattle.papi_tools.specs.Running.{Given, IsGiven};
+ghost use Rattle.papi_tools.specs.Running.{CanBeGiven, Given};
 ghost use Rattle.papi_tools.specs.Seen.{FilesSeen, files_seen};
 ghost use Rattle.papi_tools.specs.Streams.{sources_in};
-ghost use Rattle.papi_tools.specs.Verdict.{AnswersSaid, TellsBy, notes_in};
+ghost use Rattle.papi_tools.specs.Verdict.{ComesTo};
 ghost use Rattle.papi_tools.specs.declared.status.Outcome.TheVariants as outcome;
 
 use crate::marks::{lines_of, outcome_of};
@@ -80,16 +81,14 @@ struct RunInput<S: Source> {
 }
 
 // Reads the tables and the script, and opens the streams, or says why not.
-#[tactic(auto, unfolding(crate::specs::Run::given_under))]
 fn open_input<F: Files>(
     alloc: Global,
     files: &mut F,
     words: &RunWords,
 ) -> Result<RunInput<F::S>, Stop>
-    ensures told { IfSome (F.held files.old) (λ held.
-        AnswersBy (λ input given.
-        IsOkAnd given (IsGiven input.catalog input.script input.readers.items)) result
-        (given_under held words.now)) }
+    ensures found { Ends (λ input given.
+        CanBeGiven input.catalog input.script input.readers.items given) result
+        (λ openings. given_under openings words.now) (F.held files.old) }
     ensures len { IfOk result (λ input. vec_len input.readers ≡ THREADS) }
     ensures fresh { IfOk result (λ input. All IsFresh input.readers.items) }
     ensures looked { Looked result (out_with (λ input. sources_in input.readers.items) result)
@@ -119,10 +118,8 @@ fn carry_out<R: Threads + Sync, F: Files>(
     requires fresh { All IsFresh input.readers.items }
     requires handlers { vec_len handlers.old ≡ THREADS }
     ensures len { vec_len handlers.new ≡ THREADS }
-    ensures told { (given : Given) → IsGiven input.catalog input.script input.readers.items given
-        → AnswersSaid result (Ok (ran_verdict words.now.notes given)) }
-    ensures tells { (given : Given) → IsGiven input.catalog input.script input.readers.items given
-        → TellsBy result (ran_verdict words.now.notes given).notes
+    ensures ran { (given : Given) × CanBeGiven input.catalog input.script input.readers.items given
+        × ComesTo result (Ok (ran_verdict words.now.notes given))
         (map (λ b. notes b) handlers.old.items) (map (λ b. notes b) handlers.new.items) }
     ensures grown { EachGrown (map (λ b. notes b) handlers.old.items)
         (map (λ b. notes b) handlers.new.items) }
@@ -168,10 +165,8 @@ pub fn run<R: Threads + Sync, F: Files>(
 ) -> Result<Said, Stop>
     requires handlers { vec_len handlers.old ≡ THREADS }
     ensures len { vec_len handlers.new ≡ THREADS }
-    ensures told { IfSome (F.held files.old)
-        (λ held. AnswersSaid result (run_verdict held words.now)) }
-    ensures tells { IfSome (F.held files.old)
-        (λ held. TellsBy result (notes_in (run_verdict held words.now))
+    ensures ran { ForSome (F.held files.old)
+        (λ openings. ComesTo result (run_verdict openings words.now)
         (map (λ b. notes b) handlers.old.items) (map (λ b. notes b) handlers.new.items)) }
     ensures grown { EachGrown (map (λ b. notes b) handlers.old.items)
         (map (λ b. notes b) handlers.new.items) }

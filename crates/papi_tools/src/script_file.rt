@@ -1,10 +1,8 @@
 //! Scripts by name.
-ghost use Rattle.std.specs.Prelude.{◌≡◌, IfSome};
-ghost use Rattle.std.specs.Option.{option_map};
-ghost use Rattle.papi_base.specs.Outside.{opened};
 ghost use Rattle.script_lines.specs.Scripts.{script_of};
 ghost use Rattle.papi_tools.specs.Answers.{Answers};
 ghost use Rattle.papi_tools.specs.Looking.{Looked, StopsByFile};
+ghost use Rattle.papi_tools.specs.Openings.{Is, Leads, opened};
 ghost use Rattle.papi_tools.specs.ScriptFile.{script_under, script_unless};
 ghost use Rattle.papi_tools.specs.Seen.{FilesSeen, files_seen};
 
@@ -33,10 +31,9 @@ pub fn script_in(alloc: Global, name: &str, bytes: &[u8]) -> Result<Script, Stop
 }
 
 /// Reads a script whole, or says why not.
-#[tactic(auto, unfolding(crate::specs::ScriptFile::script_under))]
 pub fn read_script_file<F: Files>(alloc: Global, files: &mut F, name: &str) -> Result<Script, Stop>
-    ensures told { IfSome (F.held files.old) (λ held. Answers result (script_under held name.now)) }
-    ensures held { F.held files.new ≡ option_map opened (F.held files.old) }
+    ensures found { Leads Is result (λ openings. script_under openings name.now) opened
+        (F.held files.old) (F.held files.new) }
     ensures looked { Looked result 0 (files_seen F.held F.misses F.faults F.lent files.old)
         (files_seen F.held F.misses F.faults F.lent files.new) }
 {

@@ -1,13 +1,14 @@
 //! The streams of a run: opened in their order into the readers of all threads, and closed.
-ghost use Rattle.std.specs.Prelude.{◌≡◌, ◌<◌, ◌≤◌, ◌-◌, ◌++◌, [], ◌∷◌, All, IfOk, IfSome, Some, length, map, replicate, vec_capacity, vec_len};
+ghost use Rattle.std.specs.Prelude.{◌≡◌, ◌<◌, ◌≤◌, ◌-◌, ◌++◌, [], ◌∷◌, All, IfOk, None, Some, length, map, replicate, true, vec_capacity, vec_len};
 ghost use Rattle.papi_base.specs.Outside.{Rose};
-ghost use Rattle.stream_reader.specs.Reader.{coming, faults_of};
+ghost use Rattle.plan_runner.specs.Runs.{CanEachCome};
+ghost use Rattle.stream_reader.specs.Reader.{coming, faults_of, new_view};
 ghost use Rattle.thread_session.specs.SessionView.{IsFresh};
-ghost use Rattle.papi_tools.specs.Answers.{AnswersBy};
 ghost use Rattle.papi_tools.specs.Looking.{Looked, out_with};
 ghost use Rattle.papi_tools.specs.Opening.{tapes_under};
+ghost use Rattle.papi_tools.specs.Openings.{Ends};
 ghost use Rattle.papi_tools.specs.Seen.{files_seen};
-ghost use Rattle.papi_tools.specs.Streams.{AreStreams, SomeFailed, TellExpected, empty_stream, sources_in, streams_under};
+ghost use Rattle.papi_tools.specs.Streams.{CanEachGive, IsUnread, SomeFailed, empty_stream, sources_in, streams_under};
 
 use crate::Stop;
 use crate::opening::open_named;
@@ -24,9 +25,9 @@ fn open_into<F: Files>(
 ) -> Result<(), Stop>
     requires none { vec_len readers.old ≡ 0 }
     requires room { length names.now ≤ vec_capacity readers.old }
-    ensures told { IfSome (F.held files.old) (λ held.
-        AnswersBy (λ _ tapes. AreStreams (map coming readers.new.items) tapes) result
-        (tapes_under held names.now)) }
+    ensures found { Ends (λ _ tapes. CanEachGive readers.new.items tapes) result
+        (λ openings. tapes_under openings names.now) (F.held files.old) }
+    ensures unread { All IsUnread readers.new.items }
     ensures few { vec_len readers.new ≤ length names.now }
     ensures room { vec_capacity readers.new ≡ vec_capacity readers.old }
     ensures fresh { All IsFresh readers.new.items }
@@ -50,6 +51,8 @@ pub fn add_empty<S: Source>(readers: &mut Vec<StreamReader<S>>)
     requires fresh { All IsFresh readers.old.items }
     ensures len { vec_len readers.new ≡ THREADS }
     ensures fresh { All IsFresh readers.new.items }
+    ensures empty { readers.new.items
+        ≡ readers.old.items ++ replicate (THREADS - vec_len readers.old) (new_view None true) }
     ensures coming { map coming readers.new.items ≡ map coming readers.old.items
         ++ replicate (THREADS - vec_len readers.old) (Some empty_stream) }
     ensures sources { sources_in readers.new.items ≡ sources_in readers.old.items }
@@ -67,9 +70,8 @@ pub fn open_readers<F: Files>(
     names: &[Text],
 ) -> Result<Vec<StreamReader<F::S>>, Stop>
     requires few { length names.now ≤ THREADS }
-    ensures told { IfSome (F.held files.old)
-        (λ held. AnswersBy (λ readers streams. TellExpected readers.items streams) result
-        (streams_under held names.now)) }
+    ensures found { Ends (λ readers streams. CanEachCome readers.items streams) result
+        (λ openings. streams_under openings names.now) (F.held files.old) }
     ensures len { IfOk result (λ readers. vec_len readers ≡ THREADS) }
     ensures fresh { IfOk result (λ readers. All IsFresh readers.items) }
     ensures looked { Looked result (out_with (λ readers. sources_in readers.items) result)

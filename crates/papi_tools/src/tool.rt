@@ -1,6 +1,6 @@
 //! The tools by themselves, each over the words after its name.
 ghost use Rattle.std.specs.Prelude.{◌≡◌, ◌∷◌, IfOk, codes, map, string_bytes, vec_len};
-ghost use Rattle.papi_tools.specs.Carried.{CarriesOut, TellsHandlers};
+ghost use Rattle.papi_tools.specs.Carried.{CarriesOut, CarriesOutAndTells};
 ghost use Rattle.papi_tools.specs.NoFiles.{no_files};
 ghost use Rattle.papi_tools.specs.Seen.{files_seen, sink_seen};
 
@@ -38,12 +38,11 @@ fn telling_tool<R: Threads + Sync, F: Files, K: Sink>(
 ) -> Status
     requires handlers { vec_len handlers.old ≡ THREADS }
     ensures len { vec_len handlers.new ≡ THREADS }
-    ensures carries_out { CarriesOut (tool.now ∷ map string_bytes words.now) result
+    ensures carries_out { CarriesOutAndTells (tool.now ∷ map string_bytes words.now) result
         (files_seen F.held F.misses F.faults F.lent files.old)
         (files_seen F.held F.misses F.faults F.lent files.new)
         (sink_seen K.taken K.faults out.old) (sink_seen K.taken K.faults out.new)
-        (sink_seen K.taken K.faults err.old) (sink_seen K.taken K.faults err.new) }
-    ensures tells { TellsHandlers (tool.now ∷ map string_bytes words.now) result (F.held files.old)
+        (sink_seen K.taken K.faults err.old) (sink_seen K.taken K.faults err.new)
         (map (λ b. notes b) handlers.old.items) (map (λ b. notes b) handlers.new.items) }
 {
     match named(alloc, tool, words) {
@@ -64,13 +63,11 @@ pub fn run_tool<R: Threads + Sync, F: Files, K: Sink>(
 ) -> Status
     requires handlers { vec_len handlers.old ≡ THREADS }
     ensures len { vec_len handlers.new ≡ THREADS }
-    ensures carries_out { CarriesOut (codes "papi_run" ∷ map string_bytes words.now) result
+    ensures carries_out { CarriesOutAndTells (codes "papi_run" ∷ map string_bytes words.now) result
         (files_seen F.held F.misses F.faults F.lent files.old)
         (files_seen F.held F.misses F.faults F.lent files.new)
         (sink_seen K.taken K.faults out.old) (sink_seen K.taken K.faults out.new)
-        (sink_seen K.taken K.faults err.old) (sink_seen K.taken K.faults err.new) }
-    ensures tells { TellsHandlers (codes "papi_run" ∷ map string_bytes words.now) result
-        (F.held files.old)
+        (sink_seen K.taken K.faults err.old) (sink_seen K.taken K.faults err.new)
         (map (λ b. notes b) handlers.old.items) (map (λ b. notes b) handlers.new.items) }
 {
     telling_tool(rt, alloc, "papi_run", words, files, out, err, handlers)
@@ -88,13 +85,12 @@ pub fn profil_tool<R: Threads + Sync, F: Files, K: Sink>(
 ) -> Status
     requires handlers { vec_len handlers.old ≡ THREADS }
     ensures len { vec_len handlers.new ≡ THREADS }
-    ensures carries_out { CarriesOut (codes "papi_profil" ∷ map string_bytes words.now) result
+    ensures carries_out { CarriesOutAndTells (codes "papi_profil" ∷ map string_bytes words.now)
+        result
         (files_seen F.held F.misses F.faults F.lent files.old)
         (files_seen F.held F.misses F.faults F.lent files.new)
         (sink_seen K.taken K.faults out.old) (sink_seen K.taken K.faults out.new)
-        (sink_seen K.taken K.faults err.old) (sink_seen K.taken K.faults err.new) }
-    ensures tells { TellsHandlers (codes "papi_profil" ∷ map string_bytes words.now) result
-        (F.held files.old)
+        (sink_seen K.taken K.faults err.old) (sink_seen K.taken K.faults err.new)
         (map (λ b. notes b) handlers.old.items) (map (λ b. notes b) handlers.new.items) }
 {
     telling_tool(rt, alloc, "papi_profil", words, files, out, err, handlers)
@@ -250,12 +246,10 @@ pub fn soak<R: Threads + Sync, K: Sink>(
 ) -> Status
     requires handlers { vec_len handlers.old ≡ THREADS }
     ensures len { vec_len handlers.new ≡ THREADS }
-    ensures carries_out { CarriesOut (codes "papi_soak" ∷ map string_bytes words.now) result
-        no_files no_files
+    ensures carries_out { CarriesOutAndTells (codes "papi_soak" ∷ map string_bytes words.now)
+        result no_files no_files
         (sink_seen K.taken K.faults out.old) (sink_seen K.taken K.faults out.new)
-        (sink_seen K.taken K.faults err.old) (sink_seen K.taken K.faults err.new) }
-    ensures tells { TellsHandlers (codes "papi_soak" ∷ map string_bytes words.now) result
-        no_files.held
+        (sink_seen K.taken K.faults err.old) (sink_seen K.taken K.faults err.new)
         (map (λ b. notes b) handlers.old.items) (map (λ b. notes b) handlers.new.items) }
 {
     match named(alloc, "papi_soak", words) {

@@ -1,12 +1,13 @@
 //! The top call.
-ghost use Rattle.std.specs.Prelude.{◌≡◌, IfOk, IfSome, OnErr, OnOk, Some, map, string_bytes, vec_len};
-ghost use Rattle.overflow_dispatch.specs.Notes.{EachAdded, EachBegun, EachGrown};
+ghost use Rattle.std.specs.Prelude.{◌≡◌, IfOk, Some, map, string_bytes, vec_len};
+ghost use Rattle.overflow_dispatch.specs.Notes.{EachGrown};
 ghost use Rattle.tool_words.specs.Form.{form};
-ghost use Rattle.papi_tools.specs.Carried.{CarriesOut, TellsHandlers};
+ghost use Rattle.papi_tools.specs.Carried.{CarriesOutAndTells};
 ghost use Rattle.papi_tools.specs.Causes.{IsCaused, MetCause, SaysNo};
 ghost use Rattle.papi_tools.specs.Looking.{Looked};
+ghost use Rattle.papi_tools.specs.Openings.{ForSome};
 ghost use Rattle.papi_tools.specs.Seen.{files_seen, sink_seen};
-ghost use Rattle.papi_tools.specs.Verdict.{AnswersSaid, TellsBy, known, known_verdict, notes_in};
+ghost use Rattle.papi_tools.specs.Verdict.{ComesTo, IsSettledAs, command_verdict, verdict};
 ghost use Rattle.papi_tools.specs.declared.status.Outcome.TheVariants as outcome;
 
 use crate::choosing::choose_events;
@@ -38,10 +39,8 @@ fn carried_out<R: Threads + Sync, F: Files>(
 ) -> Result<Said, Stop>
     requires handlers { vec_len handlers.old ≡ THREADS }
     ensures len { vec_len handlers.new ≡ THREADS }
-    ensures told { IfSome (known (Some command.now) (F.held files.old))
-        (λ expected. AnswersSaid result expected) }
-    ensures tells { IfSome (known (Some command.now) (F.held files.old))
-        (λ expected. TellsBy result (notes_in expected)
+    ensures ran { ForSome (F.held files.old)
+        (λ openings. ComesTo result (command_verdict openings command.now)
         (map (λ b. notes b) handlers.old.items) (map (λ b. notes b) handlers.new.items)) }
     ensures grown { EachGrown (map (λ b. notes b) handlers.old.items)
         (map (λ b. notes b) handlers.new.items) }
@@ -75,16 +74,9 @@ fn said_of<R: Threads + Sync, F: Files>(
 ) -> Result<Said, AllocError>
     requires handlers { vec_len handlers.old ≡ THREADS }
     ensures len { vec_len handlers.new ≡ THREADS }
-    ensures told { IfSome (known_verdict (map string_bytes words.now.items) (F.held files.old))
-        (λ verdict. IfOk result (λ said. said ≡ verdict.said)) }
-    ensures tells { IfSome (known_verdict (map string_bytes words.now.items) (F.held files.old))
-        (λ verdict.
-        OnOk result (EachAdded (map (λ b. notes b) handlers.old.items) verdict.notes
-        (map (λ b. notes b) handlers.new.items))) }
-    ensures begun { IfSome (known_verdict (map string_bytes words.now.items) (F.held files.old))
-        (λ verdict.
-        OnErr result (EachBegun (map (λ b. notes b) handlers.old.items) verdict.notes
-        (map (λ b. notes b) handlers.new.items))) }
+    ensures said { ForSome (F.held files.old)
+        (λ openings. IsSettledAs result (verdict (map string_bytes words.now.items) openings)
+        (map (λ b. notes b) handlers.old.items) (map (λ b. notes b) handlers.new.items)) }
     ensures grown { EachGrown (map (λ b. notes b) handlers.old.items)
         (map (λ b. notes b) handlers.new.items) }
     ensures cause { IfOk result (IsCaused (form (map string_bytes words.now.items))
@@ -117,12 +109,11 @@ pub fn papi_main<R: Threads + Sync, F: Files, K: Sink>(
 ) -> Status
     requires handlers { vec_len handlers.old ≡ THREADS }
     ensures len { vec_len handlers.new ≡ THREADS }
-    ensures carries_out { CarriesOut (map string_bytes words.now.items) result
+    ensures carries_out { CarriesOutAndTells (map string_bytes words.now.items) result
         (files_seen F.held F.misses F.faults F.lent files.old)
         (files_seen F.held F.misses F.faults F.lent files.new)
         (sink_seen K.taken K.faults out.old) (sink_seen K.taken K.faults out.new)
-        (sink_seen K.taken K.faults err.old) (sink_seen K.taken K.faults err.new) }
-    ensures tells { TellsHandlers (map string_bytes words.now.items) result (F.held files.old)
+        (sink_seen K.taken K.faults err.old) (sink_seen K.taken K.faults err.new)
         (map (λ b. notes b) handlers.old.items) (map (λ b. notes b) handlers.new.items) }
 {
     match said_of(rt, alloc, words, files, handlers) {

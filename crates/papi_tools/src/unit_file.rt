@@ -1,9 +1,7 @@
 //! Unit files by name.
-ghost use Rattle.std.specs.Prelude.{◌≡◌, IfSome};
-ghost use Rattle.std.specs.Option.{option_map};
-ghost use Rattle.papi_base.specs.Outside.{opened};
 ghost use Rattle.papi_tools.specs.Answers.{Answers};
 ghost use Rattle.papi_tools.specs.Looking.{Looked, StopsByFile};
+ghost use Rattle.papi_tools.specs.Openings.{Is, Leads, opened};
 ghost use Rattle.papi_tools.specs.Seen.{FilesSeen, files_seen};
 ghost use Rattle.papi_tools.specs.UnitFile.{unit_of, unit_under};
 
@@ -33,10 +31,9 @@ pub fn unit_in(alloc: Global, name: &str, bytes: &[u8]) -> Result<Tables, Stop>
 }
 
 /// Reads a unit file whole, or says why not.
-#[tactic(auto, unfolding(crate::specs::UnitFile::unit_under))]
 pub fn read_unit_file<F: Files>(alloc: Global, files: &mut F, name: &str) -> Result<Tables, Stop>
-    ensures told { IfSome (F.held files.old) (λ held. Answers result (unit_under held name.now)) }
-    ensures held { F.held files.new ≡ option_map opened (F.held files.old) }
+    ensures found { Leads Is result (λ openings. unit_under openings name.now) opened
+        (F.held files.old) (F.held files.new) }
     ensures looked { Looked result 0 (files_seen F.held F.misses F.faults F.lent files.old)
         (files_seen F.held F.misses F.faults F.lent files.new) }
 {

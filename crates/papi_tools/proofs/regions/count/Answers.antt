@@ -1,29 +1,62 @@
-use Rattle.std.proofs.Common.{◌∙◌, ap}
+use Rattle.std.proofs.Common.{◌≡◌, ◌∙◌, Err, Ok, ap, arith, refl, rules}
 use Rattle.chooser_list.specs.Choosing.{all_taken, chooser_text}
-use Rattle.papi_tools.specs.RegionCounts.{calls_of}
-use Rattle.papi_tools.proofs.RegionLemmas.{are_events, counted_told, is_given, refused_said, script_is}
+use Rattle.papi_tools.specs.RegionCounts.{Counted}
+use Rattle.papi_tools.specs.Running.{ran_replies}
+use Rattle.papi_tools.specs.declared.refusal.Stop.TheVariants.{Memory}
+use Rattle.papi_tools.proofs.RegionLemmas.{are_calls, are_events, counted_told, nothing_counted, out_of_memory, refused_said, script_is}
 use Rattle.papi_tools.proofs.RunLemmas.{met_in_said}
 use Rattle.papi_tools.proofs.regions.count.Goals as goal
 
 pub calls_of-requires : goal.calls_of-requires
 calls_of-requires g c = are_events _ _ c.as_slice-events.ensures.texts c.as_slice-events.ensures.events
 
-pub returns-then-not-choice-clause-told : goal.returns-then-not-choice-clause-told
-returns-then-not-choice-clause-told g c given is =
+pub returns-then-not-choice-clause-counted : goal.returns-then-not-choice-clause-counted
+returns-then-not-choice-clause-counted g c =
     let texts = c.as_slice-events.ensures.texts in
-    refused_said c.args.catalog.now c.args.words.now.events given _ c.in_ok-choice.choice.all_taken c.text.result c.in_ok-choice.choice.text is.catalog_is
-    (c.in_ok-choice.ensures.taken ∙ ap (all_taken c.args.catalog.now) texts) c.if-not-choice.true (c.in_ok-choice.ensures.text ∙ ap (chooser_text c.args.catalog.now _) texts) c.text.ensures.said
+    nothing_counted c.args.catalog.now c.args.regions.now c.args.readers.now.items c.args.words.now.events (Ok c.text.result) (omega (arith, c.requires.readers, c.args.readers.now.ok.0)) (λ given is.
+    refused_said c.args.catalog.now c.args.words.now.events given _ c.in_ok-choice.choice.all_taken c.text.result c.in_ok-choice.choice.text is
+    (c.in_ok-choice.ensures.taken ∙ ap (all_taken c.args.catalog.now) texts) c.if-not-choice.true (c.in_ok-choice.ensures.text ∙ ap (chooser_text c.args.catalog.now _) texts) c.text.ensures.said)
 
-pub returns-in-Ok-clause-told : goal.returns-in-Ok-clause-told
-returns-in-Ok-clause-told g c given is =
+pub returns-in-Ok-clause-counted : goal.returns-in-Ok-clause-counted
+returns-in-Ok-clause-counted g c =
     let texts = c.as_slice-events.ensures.texts in
     let script = script_is c.args.regions.now _ c.args.words.now.events _ texts c.in_ok-script.ensures.told in
     let said = rw texts at c.said_of.ensures.said in
-    counted_told c.script_law.ensures c.span_law.ensures c.args.catalog.now c.args.regions.now c.args.readers.now.items c.args.words.now.events given c.in_ok-choice.choice.all_taken _ _ c.said_of.result is
-    c.lines-lines.ensures.kept c.requires.begun c.as_slice-events.ensures.events.some (c.in_ok-choice.ensures.taken ∙ ap (all_taken c.args.catalog.now) texts) c.if-not-choice.false
-    (c.in-Ok.ensures.replies (calls_of c.args.words.now.events given) (is_given c.args.catalog.now c.args.regions.now _ c.args.readers.now.items c.args.words.now.events given is script))
-    c.in-Ok.ensures.marks c.said_of.ensures.fit said
+    let (run, can, replies, notes, begun) = c.in-Ok.ensures.possible in
+    let given : Counted = record { catalog = c.args.catalog.now; lines = c.args.regions.now; streams = run.streams } in
+    let same = are_calls c.args.catalog.now c.args.regions.now _ c.args.readers.now.items c.args.words.now.events run can script in (
+      given,
+      record { catalog_is = refl; lines_are = refl; can_come = can.can_come },
+      counted_told c.script_law.ensures c.span_law.ensures c.args.catalog.now c.args.regions.now c.args.words.now.events given c.in_ok-choice.choice.all_taken _ _ c.said_of.result refl refl
+          c.lines-lines.ensures.kept c.requires.begun c.as_slice-events.ensures.events.some (c.in_ok-choice.ensures.taken ∙ ap (all_taken c.args.catalog.now) texts) c.if-not-choice.false
+          (replies ∙ ap ran_replies same) c.in-Ok.ensures.marks c.said_of.ensures.fit said,
+    )
 
 pub returns-in-Ok-clause-met : goal.returns-in-Ok-clause-met
 returns-in-Ok-clause-met g c before after rose =
     met_in_said _ _ _ before after c.said_of.result c.said_of.ensures.said c.in-Ok.ensures.marks (λ some. rose (c.in-Ok.ensures.faulty some))
+
+pub returns-in_err-choice-clause-counted : goal.returns-in_err-choice-clause-counted
+returns-in_err-choice-clause-counted g c =
+    let same : c.from_residual.result ≡ Err Memory = search rules in
+    rw same (nothing_counted c.args.catalog.now c.args.regions.now c.args.readers.now.items c.args.words.now.events (Err Memory) (omega (arith, c.requires.readers, c.args.readers.now.ok.0)) (λ given is. tt))
+
+pub returns-in_err-script-clause-counted : goal.returns-in_err-script-clause-counted
+returns-in_err-script-clause-counted g c =
+    let same : c.from_residual-in_err-script.result ≡ Err c.in_err-script.field-0.0 = search rules in
+    rw same (nothing_counted c.args.catalog.now c.args.regions.now c.args.readers.now.items c.args.words.now.events (Err c.in_err-script.field-0.0) (omega (arith, c.requires.readers, c.args.readers.now.ok.0))
+    (λ given is. out_of_memory c.in_err-script.field-0.0 _ _ c.in_err-script.ensures.told))
+
+pub returns-in_err-new-clause-counted : goal.returns-in_err-new-clause-counted
+returns-in_err-new-clause-counted g c =
+    let same : c.from_residual-in_err-new.result ≡ Err Memory = search rules in
+    rw same (nothing_counted c.args.catalog.now c.args.regions.now c.args.readers.now.items c.args.words.now.events (Err Memory) (omega (arith, c.requires.readers, c.args.readers.now.ok.0)) (λ given is. tt))
+
+pub returns-in_err-push-clause-counted : goal.returns-in_err-push-clause-counted
+returns-in_err-push-clause-counted g c =
+    let same : c.from_residual-in_err-push.result ≡ Err Memory = search rules in
+    rw same (nothing_counted c.args.catalog.now c.args.regions.now c.args.readers.now.items c.args.words.now.events (Err Memory) (omega (arith, c.requires.readers, c.args.readers.now.ok.0)) (λ given is. tt))
+
+pub returns-clause-counted : goal.returns-clause-counted
+returns-clause-counted g c =
+    nothing_counted c.args.catalog.now c.args.regions.now c.args.readers.now.items c.args.words.now.events (Err Memory) (omega (arith, c.requires.readers, c.args.readers.now.ok.0)) (λ given is. tt)

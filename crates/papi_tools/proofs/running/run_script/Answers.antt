@@ -39,35 +39,35 @@ returns-clause-faulty g c = λ some. faulty _ _ _ c.in_ok-lines.ensures.faulty s
 
 pub returns-in_err-noted-clause-possible : goal.returns-in_err-noted-clause-possible
 returns-in_err-noted-clause-possible g c =
-    let some = nothing_ran c.args.catalog.now c.args.script.now c.args.readers.now.items (omega (arith, c.requires.readers, c.args.readers.now.ok.0)) in
-    (some.0, some.1, search rules, search rules, none_begun _ _)
+    let (given, can) = nothing_ran c.args.catalog.now c.args.script.now c.args.readers.now.items (omega (arith, c.requires.readers, c.args.readers.now.ok.0)) in
+    (given, can, search rules, search rules, none_begun _ (ran_notes given))
 
 pub returns-in_err-plan-clause-possible : goal.returns-in_err-plan-clause-possible
 returns-in_err-plan-clause-possible g c =
-    let some = nothing_ran c.args.catalog.now c.args.script.now c.args.readers.now.items (omega (arith, c.requires.readers, c.args.readers.now.ok.0)) in
-    (some.0, some.1, search rules, search rules, none_begun _ _)
+    let (given, can) = nothing_ran c.args.catalog.now c.args.script.now c.args.readers.now.items (omega (arith, c.requires.readers, c.args.readers.now.ok.0)) in
+    (given, can, search rules, search rules, none_begun _ (ran_notes given))
 
 pub returns-in_err-lines-clause-possible : goal.returns-in_err-lines-clause-possible
 unfolding ran_notes
 returns-in_err-lines-clause-possible g c =
-    let p = c.in_err-lines.ensures.possible in
-    let from = planned_from c.args.catalog.now c.args.script.now _ _ _ c.book.ensures.book c.shape-shape.ensures.shape c.in_ok-plan.ensures.plan in (
-      record { catalog = c.args.catalog.now; script = c.args.script.now; streams = p.0 },
-      record { catalog_is = refl; script_is = refl; can_come = p.1 },
+    let (streams, can, ran) = c.in_err-lines.ensures.possible in
+    let (replies, notes, begun) = ran _ _ (planned_from c.args.catalog.now c.args.script.now _ _ _ c.book.ensures.book c.shape-shape.ensures.shape c.in_ok-plan.ensures.plan) in (
+      record { catalog = c.args.catalog.now; script = c.args.script.now; streams = streams },
+      record { catalog_is = refl; script_is = refl; can_come = can },
       search rules,
       search rules,
-      (p.2 _ _ from).2,
+      begun,
     )
 
 pub returns-clause-possible : goal.returns-clause-possible
 unfolding ran_notes
 returns-clause-possible g c =
-    let p = c.in_ok-lines.ensures.possible in
-    let given : Given = record { catalog = c.args.catalog.now; script = c.args.script.now; streams = p.0 } in
-    let ran = p.2 _ _ (planned_from c.args.catalog.now c.args.script.now _ _ _ c.book.ensures.book c.shape-shape.ensures.shape c.in_ok-plan.ensures.plan) in (
+    let (streams, can, ran) = c.in_ok-lines.ensures.possible in
+    let given : Given = record { catalog = c.args.catalog.now; script = c.args.script.now; streams = streams } in
+    let (replies, notes, begun) = ran _ _ (planned_from c.args.catalog.now c.args.script.now _ _ _ c.book.ensures.book c.shape-shape.ensures.shape c.in_ok-plan.ensures.plan) in (
       given,
-      record { catalog_is = refl; script_is = refl; can_come = p.1 },
-      replied given c.args.script.now _ _ refl ran.0 c.in_ok-plan.ensures.heads,
-      ran.1,
-      ran.2,
+      record { catalog_is = refl; script_is = refl; can_come = can },
+      replied given c.args.script.now _ _ refl replies c.in_ok-plan.ensures.heads,
+      notes,
+      begun,
     )

@@ -1,7 +1,7 @@
-use Rattle.std.proofs.Common.{◌≡◌, Some, arith, rules, vec_len}
+use Rattle.std.proofs.Common.{◌≡◌, None, Some, arith, rules, vec_len, true}
 use Rattle.std.proofs.lemmas.List.{map-append}
 use Rattle.std.proofs.lemmas.List.Elements.{All-push}
-use Rattle.stream_reader.specs.Reader.{coming}
+use Rattle.stream_reader.specs.Reader.{coming, new_view}
 use Rattle.thread_session.specs.SessionView.{IsFresh}
 use Rattle.papi_tools.specs.Streams.{empty_stream}
 use Rattle.papi_tools.proofs.StreamLemmas.{one_empty_more, sources_in-append}
@@ -13,6 +13,8 @@ loop-readers-preserved g c = record {
   more = grind arith;
   room = grind arith;
   fresh = rw c.push_reserved.ensures.items (All-push IsFresh _ _ c.loop-readers.invariant.fresh (search rules));
+  empty =
+      rw c.push_reserved.ensures.items (rw c.ended.ensures.view (one_empty_more _ _ (new_view None true) (vec_len c.args.readers.now) (vec_len c.loop-readers.readers) (vec_len c.push_reserved.new.self) c.loop-readers.invariant.empty c.loop-readers.invariant.more (grind arith)));
   comes =
       rw (c.push_reserved.ensures.items, map-append) (let v : coming c.ended.result ≡ Some empty_stream = search rules in
       rw v (one_empty_more _ _ (Some empty_stream) (vec_len c.args.readers.now) (vec_len c.loop-readers.readers) (vec_len c.push_reserved.new.self) c.loop-readers.invariant.comes c.loop-readers.invariant.more (grind arith)));

@@ -1,5 +1,5 @@
-use Rattle.std.proofs.Common.{◌≡◌, ◌≤◌, ◌-◌, ◌++◌, All, Some, map, replicate, vec_capacity, vec_len}
-use Rattle.stream_reader.specs.Reader.{coming}
+use Rattle.std.proofs.Common.{◌≡◌, ◌≤◌, ◌-◌, ◌++◌, All, None, Some, map, replicate, vec_capacity, vec_len, true}
+use Rattle.stream_reader.specs.Reader.{coming, new_view}
 use Rattle.thread_session.specs.SessionView.{IsFresh}
 use Rattle.papi_tools.specs.Streams.{empty_stream, sources_in}
 use Rattle.papi_tools.proofs.streams.add_empty.Given as goal
@@ -10,6 +10,7 @@ invariant-loop-readers g l = record {
   more : vec_len l.initial.readers ≤ vec_len l.readers;
   room : vec_capacity l.readers ≡ vec_capacity l.initial.readers;
   fresh : All IsFresh l.readers.items;
+  empty : l.readers.items ≡ l.initial.readers.items ++ replicate (vec_len l.readers - vec_len l.initial.readers) (new_view None true);
   comes : map coming l.readers.items ≡ map coming l.initial.readers.items ++ replicate (vec_len l.readers - vec_len l.initial.readers) (Some empty_stream);
   sources : sources_in l.readers.items ≡ sources_in l.initial.readers.items;
 }

@@ -1,8 +1,10 @@
-use Rattle.std.proofs.Common.{◌≡◌, [], arith, refl, rules}
-use Rattle.std.proofs.lemmas.List.{map-append}
+use Rattle.std.proofs.Common.{◌≡◌, [], ap, arith, refl, rules}
+use Rattle.std.proofs.lemmas.List.{drop_all}
 use Rattle.std.proofs.lemmas.List.Elements.{All-push}
+use Rattle.stream_reader.specs.Reader.{tape_of}
 use Rattle.thread_session.specs.SessionView.{IsFresh}
-use Rattle.papi_tools.proofs.OpeningLemmas.{more_at, start, stopped_at}
+use Rattle.papi_tools.specs.Streams.{IsUnread}
+use Rattle.papi_tools.proofs.OpeningLemmas.{all_open, more_at, start, stopped_at, unread}
 use Rattle.papi_tools.proofs.StreamLemmas.{no_items, sources_in-append}
 use Rattle.papi_tools.proofs.streams.open_into.Goals as goal
 
@@ -10,7 +12,8 @@ pub loop-name-init : goal.loop-name-init
 loop-name-init g c =
     let none : c.args.readers.now.items ≡ [] = no_items c.args.readers.now c.requires.none in
     record {
-      told = rw none (start _ _);
+      found = rw none (start _ _);
+      unread = rw none (λ k d small. absurd (omega arith));
       each = c.requires.none;
       room = refl;
       fresh = rw none (λ k d small. absurd (omega arith));
@@ -19,13 +22,14 @@ loop-name-init g c =
       faults_stay = omega arith;
     }
 
-pub returns-in-Err-clause-told : goal.returns-in-Err-clause-told
-returns-in-Err-clause-told g c =
-    stopped_at g.F.S.Source.tape _ _ c.args.names.now c.loop-name.name-index c.name-item.result c.as_str.result.now _ _ c.loop-name-test.true c.name-item.is c.as_str.ensures c.loop-name.invariant.told c.in-Err.ensures.told
+pub returns-in-Err-clause-found : goal.returns-in-Err-clause-found
+returns-in-Err-clause-found g c =
+    stopped_at g.F.S.Source.tape _ _ _ c.args.names.now c.loop-name.name-index c.name-item.result c.as_str.result.now _ _ c.loop-name-test.true c.name-item.is c.as_str.ensures c.loop-name.invariant.found c.in-Err.ensures.found
 
 pub loop-name-preserved : goal.loop-name-preserved
 loop-name-preserved g c = record {
-  told = rw (c.push_reserved.ensures.items, map-append) (more_at _ _ _ c.args.names.now c.loop-name.name-index c.name-item.result c.as_str.result.now _ _ _ c.loop-name-test.true c.name-item.is c.as_str.ensures c.loop-name.invariant.told c.in-Ok.ensures.told c.in-Ok.ensures.held c.new.ensures.coming);
+  found = rw c.push_reserved.ensures.items (more_at g.F.S.Source.tape c.in-Ok.source _ _ _ c.args.names.now c.loop-name.name-index c.name-item.result c.as_str.result.now _ _ c.loop-name-test.true c.name-item.is c.as_str.ensures c.loop-name.invariant.found c.in-Ok.ensures.found (ap tape_of c.new.ensures.view));
+  unread = rw c.push_reserved.ensures.items (All-push IsUnread _ _ c.loop-name.invariant.unread (unread _ _ c.new.ensures.view));
   each = grind arith;
   room = grind arith;
   fresh = rw c.push_reserved.ensures.items (All-push IsFresh _ _ c.loop-name.invariant.fresh (search rules));
@@ -33,3 +37,6 @@ loop-name-preserved g c = record {
   misses_stay = let h = c.in-Ok.ensures.looked.misses_stay in omega arith;
   faults_stay = let h = c.in-Ok.ensures.looked.faults_stay in omega arith;
 }
+
+pub returns-clause-found : goal.returns-clause-found
+returns-clause-found g c = all_open _ _ c.args.names.now _ _ (drop_all c.loop-name.name-index c.args.names.now (omega arith)) c.loop-name.invariant.found

@@ -1,13 +1,13 @@
-use Rattle.std.proofs.Common.{◌≡◌, ◌≤◌, ◌+◌, All, drop, map, vec_capacity, vec_len}
-use Rattle.stream_reader.specs.Reader.{coming}
+use Rattle.std.proofs.Common.{◌≡◌, ◌≤◌, ◌+◌, All, drop, vec_capacity, vec_len}
 use Rattle.thread_session.specs.SessionView.{IsFresh}
-use Rattle.papi_tools.specs.Streams.{sources_in}
-use Rattle.papi_tools.proofs.OpeningLemmas.{AreOpenTold}
+use Rattle.papi_tools.specs.Streams.{IsUnread, sources_in}
+use Rattle.papi_tools.proofs.OpeningLemmas.{AreOpen}
 use Rattle.papi_tools.proofs.streams.open_into.Given as goal
 
 abbrev pub invariant-loop-name : goal.invariant-loop-name
 invariant-loop-name g l = record {
-  told : AreOpenTold (g.F.Files.held l.initial.files) l.names (drop l.name-index l.names) (g.F.Files.held l.files) (map coming l.readers.items);
+  found : AreOpen (g.F.Files.held l.initial.files) l.names (drop l.name-index l.names) (g.F.Files.held l.files) l.readers.items;
+  unread : All IsUnread l.readers.items;
   each : vec_len l.readers ≡ l.name-index;
   room : vec_capacity l.readers ≡ vec_capacity l.initial.readers;
   fresh : All IsFresh l.readers.items;

@@ -1,13 +1,16 @@
-use Rattle.std.proofs.Common.{arith}
-use Rattle.stream_reader.specs.Reader.{coming}
+use Rattle.std.proofs.Common.{arith, vec_len}
+use Rattle.papi_tools.specs.Opening.{tapes_under}
+use Rattle.papi_tools.proofs.FindingLemmas.{Never, ended}
 use Rattle.papi_tools.proofs.LookingLemmas.{stopped_then}
-use Rattle.papi_tools.proofs.OpeningLemmas.{streams_told}
-use Rattle.papi_tools.proofs.StreamLemmas.{all_streams, count}
+use Rattle.papi_tools.proofs.OpeningLemmas.{streams_found}
 use Rattle.papi_tools.proofs.streams.open_readers.Goals as goal
 
-pub returns-in-Ok-clause-told : goal.returns-in-Ok-clause-told
-returns-in-Ok-clause-told g c =
-    streams_told _ c.args.names.now _ _ (λ tapes is. record { each = all_streams tapes _ _ _ is (count coming c.open_into.new.readers) c.add_empty.ensures.coming }) c.in-Ok.ensures.told
+pub returns-in-Ok-clause-found : goal.returns-in-Ok-clause-found
+returns-in-Ok-clause-found g c =
+    streams_found c.open_into.new.readers.items _ (vec_len c.open_into.new.readers) c.args.names.now _ (grind arith) c.add_empty.ensures.empty c.open_into.ensures.unread c.in-Ok.ensures.found
+
+pub returns-in-Err-clause-found : goal.returns-in-Err-clause-found
+returns-in-Err-clause-found g c = ended Never Never c.in-Err.stop (λ o. tapes_under o c.args.names.now) _ _ c.in-Err.ensures.found
 
 pub returns-in-Ok-clause-looked : goal.returns-in-Ok-clause-looked
 returns-in-Ok-clause-looked g c =

@@ -1,10 +1,5 @@
-use Rattle.std.proofs.Common.{refl}
-use Rattle.papi_tools.proofs.CarriedLemmas.{starved}
-use Rattle.papi_tools.proofs.TellingLemmas.{untold}
+use Rattle.papi_tools.proofs.CarriedLemmas.{not_begun_tells}
 use Rattle.papi_tools.proofs.tool.soak.Goals as goal
 
 pub returns-in-Err-clause-carries_out : goal.returns-in-Err-clause-carries_out
-returns-in-Err-clause-carries_out g c = starved _ _ _ _ _ refl
-
-pub returns-in-Err-clause-tells : goal.returns-in-Err-clause-tells
-returns-in-Err-clause-tells g c = untold _ _ _
+returns-in-Err-clause-carries_out g c = not_begun_tells _ _ _ _ _

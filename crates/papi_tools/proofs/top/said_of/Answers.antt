@@ -1,17 +1,11 @@
-use Rattle.papi_tools.proofs.SettlingLemmas.{refused_begun, refused_caused, refused_tells, refused_told, settled_begun, settled_caused, settled_tells, settled_told}
+use Rattle.std.proofs.Common.{map, string_bytes}
+use Rattle.papi_tools.proofs.SettlingLemmas.{refused_as, refused_caused, settled_as, settled_caused, starved_as}
+use Rattle.papi_tools.specs.Verdict.{verdict}
 use Rattle.papi_tools.proofs.top.said_of.Goals as goal
 
-pub returns-clause-told : goal.returns-clause-told
-returns-clause-told g c =
-    settled_told _ _ c.in-Ok.command c.carried_out-answer.result _ (rw c.as_slice.ensures.value at c.in-Ok.ensures) c.carried_out-answer.ensures.told c.settled.ensures
-
-pub returns-clause-tells : goal.returns-clause-tells
-returns-clause-tells g c =
-    settled_tells _ _ c.in-Ok.command _ _ c.carried_out-answer.result _ (rw c.as_slice.ensures.value at c.in-Ok.ensures) c.carried_out-answer.ensures.tells c.settled.ensures
-
-pub returns-clause-begun : goal.returns-clause-begun
-returns-clause-begun g c =
-    settled_begun _ _ c.in-Ok.command _ _ c.carried_out-answer.result c.settled.result (rw c.as_slice.ensures.value at c.in-Ok.ensures) c.carried_out-answer.ensures.tells
+pub returns-clause-said : goal.returns-clause-said
+returns-clause-said g c =
+    settled_as _ _ c.in-Ok.command _ _ c.carried_out-answer.result _ (rw c.as_slice.ensures.value at c.in-Ok.ensures) c.carried_out-answer.ensures.ran c.settled.ensures
 
 pub returns-clause-cause : goal.returns-clause-cause
 returns-clause-cause g c =
@@ -22,14 +16,9 @@ pub returns-in-Err-BadWords-clause-cause : goal.returns-in-Err-BadWords-clause-c
 returns-in-Err-BadWords-clause-cause g c =
     refused_caused _ _ _ _ (rw (c.in-Err-BadWords.field-0-is, c.as_slice.ensures.value) at c.in-Err-BadWords.ensures) c.refused.ensures
 
-pub returns-in-Err-BadWords-clause-told : goal.returns-in-Err-BadWords-clause-told
-returns-in-Err-BadWords-clause-told g c =
-    refused_told _ _ c.refused.result (rw (c.in-Err-BadWords.field-0-is, c.as_slice.ensures.value) at c.in-Err-BadWords.ensures) c.refused.ensures
+pub returns-in-Err-BadWords-clause-said : goal.returns-in-Err-BadWords-clause-said
+returns-in-Err-BadWords-clause-said g c =
+    refused_as _ _ _ c.refused.result (rw (c.in-Err-BadWords.field-0-is, c.as_slice.ensures.value) at c.in-Err-BadWords.ensures) c.refused.ensures
 
-pub returns-in-Err-BadWords-clause-tells : goal.returns-in-Err-BadWords-clause-tells
-returns-in-Err-BadWords-clause-tells g c =
-    refused_tells _ _ _ c.refused.result (rw (c.in-Err-BadWords.field-0-is, c.as_slice.ensures.value) at c.in-Err-BadWords.ensures)
-
-pub returns-in-Err-BadWords-clause-begun : goal.returns-in-Err-BadWords-clause-begun
-returns-in-Err-BadWords-clause-begun g c =
-    refused_begun _ _ _ c.refused.result (rw (c.in-Err-BadWords.field-0-is, c.as_slice.ensures.value) at c.in-Err-BadWords.ensures)
+pub returns-in-Err-Memory-clause-said : goal.returns-in-Err-Memory-clause-said
+returns-in-Err-Memory-clause-said g c = starved_as _ (λ o. verdict (map string_bytes c.args.words.now.items) o) _ _

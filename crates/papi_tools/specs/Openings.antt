@@ -1,0 +1,65 @@
+-- What the openings of a call find, one after the other: this project's own order of work, docs/FORMATS.md.
+use Rattle.std.specs.Prelude.{◌≡◌, ℕ, List, Option, Some, None, Result, Ok, Err, IfSome, if◌then◌else◌}
+use Rattle.papi_base.specs.Outside as Outside
+use Rattle.papi_base.specs.Outside.{Tape, Held, fails_next, tape_of}
+use Rattle.papi_tools.specs.declared.refusal.Refusal.{Refusal}
+use Rattle.papi_tools.specs.declared.refusal.Refusal.TheVariants.{NoSuchFile, CannotRead}
+use Rattle.papi_tools.specs.declared.refusal.Stop.{Stop}
+use Rattle.papi_tools.specs.declared.refusal.Stop.TheVariants.{Refused, Memory}
+
+-- what an opening finds: no file, a failure, or a file with this tape
+pub data Found : Type 0 where
+  Absent : Found
+  Failing : Found
+  Open : Tape → Found
+
+-- What the coming openings find: what these files hold by name; or this first, and that then. So a file can differ from one opening to the next.
+pub data Openings : Type 0 where
+  ByName : Held → Openings
+  First : Found → Openings → Openings
+
+-- the openings after the next one
+abbrev pub opened : Openings → Openings
+opened (ByName held) = ByName (Outside.opened held)
+opened (First found later) = later
+
+-- the tape that is held under a name, or the refusal of a name that has none
+abbrev pub found : List ℕ → Option Tape → Result Tape Refusal
+found name None = Err (NoSuchFile name)
+found name (Some tape) = Ok tape
+
+-- what the next opening finds, which is that of this name
+abbrev pub tape_under : Openings → List ℕ → Result Tape Refusal
+tape_under (ByName held) name = if fails_next held then Err (CannotRead name) else found name (tape_of held.tapes name)
+tape_under (First Absent later) name = Err (NoSuchFile name)
+tape_under (First Failing later) name = Err (CannotRead name)
+tape_under (First (Open tape) later) name = Ok tape
+
+-- These can be the coming openings of files: by what the files hold, where they tell it.
+abbrev pub CanOpen : Option Held → Openings → Type 0
+CanOpen held openings = IfSome held (λ h. openings ≡ ByName h)
+
+-- a tape that can be that of a source: the one that it tells, where it tells
+abbrev pub CanGive : Option Tape → Tape → Type 0
+CanGive told tape = IfSome told (λ t. t ≡ tape)
+
+-- There are openings that can be those of the files, for which it is so.
+abbrev pub ForSome : Option Held → (Openings → Type 0) → Type 0
+ForSome held Is = (openings : Openings) × CanOpen held openings × Is openings
+
+-- The last step of those that open files, with this answer: whatever its value can stand for is what some openings give.
+abbrev pub Ends : {A B : Type 0} → (A → B → Type 0) → Result A Stop → (Openings → Result B Refusal) → Option Held → Type 0
+Ends {A} {B} CanBe (Ok value) gives before = (expected : B) → CanBe value expected → ForSome before (λ openings. gives openings ≡ Ok expected)
+Ends {A} {B} CanBe (Err (Refused refusal)) gives before = ForSome before (λ openings. gives openings ≡ Err refusal)
+Ends {A} {B} CanBe (Err Memory) gives before = Unit {0}
+
+-- A step with others after it: the same, whatever the openings after it find.
+abbrev pub Leads : {A B : Type 0} → (A → B → Type 0) → Result A Stop → (Openings → Result B Refusal) → (Openings → Openings) → Option Held → Option Held → Type 0
+Leads {A} {B} CanBe (Ok value) gives rest before after =
+    (expected : B) → CanBe value expected → (later : Openings) → CanOpen after later → ForSome before (λ openings. (gives openings ≡ Ok expected) × (rest openings ≡ later))
+Leads {A} {B} CanBe (Err (Refused refusal)) gives rest before after = ForSome before (λ openings. gives openings ≡ Err refusal)
+Leads {A} {B} CanBe (Err Memory) gives rest before after = Unit {0}
+
+-- the value itself is meant
+abbrev pub Is : {A : Type 0} → A → A → Type 0
+Is value expected = value ≡ expected
