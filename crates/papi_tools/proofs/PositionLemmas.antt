@@ -30,10 +30,6 @@ unfolding with_texts
 ends_refused catalog r [] = refl
 ends_refused catalog r (text ∷ texts) = ends_refused catalog r texts
 
-no_text : (catalog : CatalogView) (given : Choosing.Given) → with_texts catalog given [] ≡ given
-unfolding with_texts
-no_text catalog given = refl
-
 one_text : (catalog : CatalogView) (given : Choosing.Given) (text : List ℕ) (texts : List (List ℕ)) → with_texts catalog given (text ∷ texts) ≡ with_texts catalog (with_text catalog given text) texts
 unfolding with_texts
 one_text catalog given text texts = refl

@@ -1,5 +1,5 @@
 -- The notes of an event that a profile counts, and what is said of them.
-use Rattle.std.proofs.Common.{◌≡◌, ◌<◌, ◌≤◌, ◌+◌, ◌-◌, ◌∙◌, ℕ, zero, suc, true, false, List, [], ◌∷◌, ◌++◌, length, drop, filter, get_or, map, take, Some, None, Result, Ok, Err, Vec, Global, Option, vec_len, refl, sym, ap, ap₂, arith, slice_index_or}
+use Rattle.std.proofs.Common.{◌≡◌, ◌<◌, ◌≤◌, ◌+◌, ◌-◌, ◌∙◌, ℕ, zero, suc, List, [], ◌∷◌, ◌++◌, length, drop, filter, get_or, map, take, Some, None, Result, Ok, Err, Vec, Global, Option, vec_len, refl, sym, ap, ap₂, arith, slice_index_or}
 use Rattle.std.proofs.Math.Seq.{drop-append_seam}
 use Rattle.std.proofs.lemmas.List.{drop-append-le, length-take-le, map-append, take_all, take_more}
 use Rattle.std.proofs.lemmas.List.Elements.{filter-append}
@@ -52,20 +52,6 @@ notes_more set index first i told note low there =
     ∙ ap (counted_in set index) (drop-append-le first (take i told) (note ∷ []) (omega (arith, long)))
     ∙ ap (map (λ (n : Note). n.pc)) (filter-append (is_counted set index) (drop first (take i told)) (note ∷ []))
     ∙ map-append (λ (n : Note). n.pc) (filter (is_counted set index) (drop first (take i told))) (filter (is_counted set index) (note ∷ []))
-
-pub counted_note : (set index : ℕ) (note : Note) → is_counted set index note ≡ true → counted_in set index (note ∷ []) ≡ note.pc ∷ []
-counted_note set index note e = rw e refl
-
-other_note : (set index : ℕ) (note : Note) → is_counted set index note ≡ false → counted_in set index (note ∷ []) ≡ []
-other_note set index note e = rw e refl
-
-append_nothing : (pcs : List ℕ) → pcs ++ [] ≡ pcs
-append_nothing [] = refl
-append_nothing (pc ∷ pcs) = ap (λ ps. pc ∷ ps) (append_nothing pcs)
-
--- a note of another event counts for nothing
-pub not_counted : (set index : ℕ) (note : Note) (hist : HistText) (pcs : List ℕ) → is_counted set index note ≡ false → IsHistogram hist pcs → IsHistogram hist (pcs ++ counted_in set index (note ∷ []))
-not_counted set index note hist pcs e h = rw (other_note set index note e, append_nothing pcs) h
 
 pub count_one : (hist hist' : HistText) (ranges : List RangeText) (set index first i : ℕ) (told : List Note) (note : Note) → first ≤ i → slice_get told i ≡ Some note →
     hist'.map ≡ hist.map → hist'.total ≤ hist.total + 1 → ((pcs : List ℕ) → IsHistogram hist pcs → IsHistogram hist' (pcs ++ counted_in set index (note ∷ []))) →
