@@ -1,6 +1,8 @@
 -- What a region script by name gives: docs/FORMATS.md.
 use Rattle.std.specs.Prelude.{ℕ, List, Result, Ok, Err}
-use Rattle.region_report.specs.Scripts.{Refused, regions_of}
+use Rattle.script_lines.specs.ByLine.{Refused}
+use Rattle.region_report.specs.Scripts.{regions_of}
+use Rattle.region_report.specs.declared.fault.RegionCause.{RegionCause}
 use Rattle.region_report.specs.declared.regions.RegionLine.{RegionLine}
 use Rattle.papi_tools.specs.Openings.{Openings}
 use Rattle.papi_tools.specs.Steps.{and_then}
@@ -10,7 +12,7 @@ use Rattle.papi_tools.specs.declared.refusal.Refusal.{Refusal}
 use Rattle.papi_tools.specs.declared.refusal.Refusal.TheVariants as refusal
 
 -- the lines of a region script of this name, where it has no fault
-abbrev pub regions_unless : List ℕ → Result (List RegionLine) Refused → Result (List RegionLine) Refusal
+abbrev pub regions_unless : List ℕ → Result (List RegionLine) (Refused RegionCause) → Result (List RegionLine) Refusal
 regions_unless name (Ok lines) = Ok lines
 regions_unless name (Err refused) = Err (refusal.RegionLine name refused.line refused.cause)
 

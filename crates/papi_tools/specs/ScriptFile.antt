@@ -1,6 +1,8 @@
 -- What a script by name gives: docs/FORMATS.md.
 use Rattle.std.specs.Prelude.{ℕ, List, Result, Ok, Err}
-use Rattle.script_lines.specs.Scripts.{Refused, script_of}
+use Rattle.script_lines.specs.ByLine.{Refused}
+use Rattle.script_lines.specs.Scripts.{script_of}
+use Rattle.script_lines.specs.declared.fault.ScriptCause.{ScriptCause}
 use Rattle.script_lines.specs.declared.script.ScriptLine.{ScriptLine}
 use Rattle.papi_tools.specs.Openings.{Openings}
 use Rattle.papi_tools.specs.Steps.{and_then}
@@ -10,7 +12,7 @@ use Rattle.papi_tools.specs.declared.refusal.Refusal.{Refusal}
 use Rattle.papi_tools.specs.declared.refusal.Refusal.TheVariants.{Line}
 
 -- the script of this name, where it has no fault
-abbrev pub script_unless : List ℕ → Result (List ScriptLine) Refused → Result (List ScriptLine) Refusal
+abbrev pub script_unless : List ℕ → Result (List ScriptLine) (Refused ScriptCause) → Result (List ScriptLine) Refusal
 script_unless name (Ok script) = Ok script
 script_unless name (Err refused) = Err (Line name refused.line refused.cause)
 

@@ -13,7 +13,8 @@ use Rattle.table_rows.specs.Texts.{Text}
 use Rattle.script_lines.specs.Lines.{is_skipped}
 use Rattle.region_report.specs.Lines.{Open, after_line, after_reading, innermost, is_reading, line_with, open_of, region_line}
 use Rattle.region_report.specs.Reports.{is_begin, name_of}
-use Rattle.region_report.specs.Scripts.{Refused, all_ended, put_before, none_open, onto, regions_from, regions_of}
+use Rattle.script_lines.specs.ByLine.{Refused, lines_from, onto, put_before}
+use Rattle.region_report.specs.Scripts.{above_line, all_ended, none_open, region_scripts, regions_of}
 use Rattle.region_report.specs.declared.fault.RegionCause.{RegionCause}
 use Rattle.region_report.specs.declared.fault.RegionCause.TheVariants.{NotEnded}
 use Rattle.region_report.specs.declared.regions.RegionCall.{RegionCall}
@@ -306,39 +307,39 @@ after_one before count opens number l s h =
 
 -- ---- all lines
 
-no_more : (before ys : List RegionLine) (b : Bool) (refused : Refused) → (if b then Ok [] else Err refused) ≡ Ok ys → AreBegun before → AreBegun (before ++ ys)
+no_more : (before ys : List RegionLine) (b : Bool) (refused : Refused RegionCause) → (if b then Ok [] else Err refused) ≡ Ok ys → AreBegun before → AreBegun (before ++ ys)
 no_more before ys true refused e h =
     let none : [] ≡ ys = cc in
     subst (λ ls. AreBegun (before ++ ls)) none (subst AreBegun (sym (append-nil before)) h)
 no_more before ys false refused e h = cc
 
-onto_more : (before ys : List RegionLine) (number : ℕ) (read : Result RegionLine RegionCause) (below : RegionLine → Result (List RegionLine) Refused)
+onto_more : (before ys : List RegionLine) (number : ℕ) (read : Result RegionLine RegionCause) (below : RegionLine → Result (List RegionLine) (Refused RegionCause))
     → ((l : RegionLine) → read ≡ Ok l → (zs : List RegionLine) → below l ≡ Ok zs → AreBegun ((before ++ l ∷ []) ++ zs))
     → onto number read below ≡ Ok ys → AreBegun (before ++ ys)
 onto_more before ys number (Err cause) below given e = cc
 onto_more before ys number (Ok l) below given e = go (below l) refl e where
-  go : (r : Result (List RegionLine) Refused) → below l ≡ r → put_before (l ∷ []) r ≡ Ok ys → AreBegun (before ++ ys)
+  go : (r : Result (List RegionLine) (Refused RegionCause)) → below l ≡ r → put_before (l ∷ []) r ≡ Ok ys → AreBegun (before ++ ys)
   go (Ok zs) q h =
       let same : l ∷ zs ≡ ys = cc in
       subst (λ ls. AreBegun (before ++ ls)) same (subst AreBegun (append_assoc before (l ∷ []) zs) (given l refl zs q))
   go (Err refused) q h = cc
 
 abbrev Reads : List RegionLine → ℕ → ℕ → ℕ → List (List Open) → List Text → Type 0
-Reads before number above count opens texts = (ys : List RegionLine) → regions_from number above count opens texts ≡ Ok ys → AreBegun (before ++ ys)
+Reads before number above count opens texts = (ys : List RegionLine) → lines_from region_scripts number (above_line above count opens) texts ≡ Ok ys → AreBegun (before ++ ys)
 
 read_on : (texts : List Text) (before : List RegionLine) (number above count : ℕ) (opens : List (List Open)) → Stand before count opens → Reads before number above count opens texts
-unfolding regions_from
+unfolding lines_from
 read_on [] before number above count opens s ys e = no_more before ys (all_ended opens) (record { line = number; cause = NotEnded }) e s.begun
 read_on (text ∷ texts) before number above count opens s ys e =
     go (is_skipped text) e
     (read_on texts before (number + 1) above count opens s ys)
     (λ l read zs. read_on texts (before ++ l ∷ []) (number + 1) (above + 1) (after_reading count l) (after_line opens l)
     (after_one before count opens number l s (line_is number above count opens text l read)) zs) where
-      next : RegionLine → Result (List RegionLine) Refused
-      next l = regions_from (number + 1) (above + 1) (after_reading count l) (after_line opens l) texts
+      next : RegionLine → Result (List RegionLine) (Refused RegionCause)
+      next l = lines_from region_scripts (number + 1) (above_line (above + 1) (after_reading count l) (after_line opens l)) texts
 
-      go : (b : Bool) → (if b then regions_from (number + 1) above count opens texts else onto number (region_line number above count opens text) next) ≡ Ok ys
-          → (regions_from (number + 1) above count opens texts ≡ Ok ys → AreBegun (before ++ ys))
+      go : (b : Bool) → (if b then lines_from region_scripts (number + 1) (above_line above count opens) texts else onto number (region_line number above count opens text) next) ≡ Ok ys
+          → (lines_from region_scripts (number + 1) (above_line above count opens) texts ≡ Ok ys → AreBegun (before ++ ys))
           → ((l : RegionLine) → region_line number above count opens text ≡ Ok l → (zs : List RegionLine) → next l ≡ Ok zs → AreBegun ((before ++ l ∷ []) ++ zs))
           → AreBegun (before ++ ys)
       go true h skipped called = skipped h

@@ -4,9 +4,10 @@ use Rattle.std.specs.Prelude.{if◌then◌else◌}
 use Rattle.std.proofs.lemmas.Slice.Eq.{bytes_eq-Decides}
 use Rattle.table_rows.specs.Texts.{Text}
 use Rattle.script_lines.specs.Arguments.{one_number}
+use Rattle.script_lines.specs.Answers.{and_then}
 use Rattle.script_lines.specs.Lines.{thread_in}
 use Rattle.script_lines.specs.Words.{words_of}
-use Rattle.region_report.specs.Lines.{Open, and_then, begin_call, begun_name, begun_of, by_script, call_of, innermost, innermost_call, innermost_name}
+use Rattle.region_report.specs.Lines.{Open, begin_call, begun_name, begun_of, by_script, call_of, innermost, innermost_call, innermost_name}
 use Rattle.region_report.specs.Lines.{line_of_thread, line_of_words, line_with, one_name, open_of, region_line, run_call}
 use Rattle.region_report.specs.declared.fault.RegionCause.{RegionCause}
 use Rattle.region_report.specs.declared.fault.RegionCause.TheVariants.{OverLimit, UnknownCall, WrongRegion}

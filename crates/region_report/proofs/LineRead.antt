@@ -1,6 +1,6 @@
 -- A line of the script of calls is read as its call.
 use Rattle.std.proofs.Common.{◌≡◌, ◌∙◌, ◌<◌, ◌≤◌, ◌+◌, ◌^◌, ◌∷◌, ◌++◌, ℕ, zero, suc, Bool, true, false, not, List, [], Some, codes}
-use Rattle.std.proofs.Common.{decimal, length, map, refl, sym, ap, ap₂, arith, tests, append-nil, get_or, nat_le, slice_index}
+use Rattle.std.proofs.Common.{decimal, length, map, refl, sym, subst, ap, ap₂, arith, tests, append-nil, get_or, nat_le, slice_index}
 use Rattle.std.specs.Prelude.{◌&&◌, ◌||◌, ◌==◌, Ok}
 use Rattle.std.specs.List.{AllByRecursion, list_all}
 use Rattle.std.proofs.lemmas.Bool.{and_from, le-leb}
@@ -14,9 +14,11 @@ use Rattle.script_lines.specs.declared.fault.ScriptCause.TheVariants.{BadNumber,
 use Rattle.script_lines.specs.Arguments.{number_in, number_or}
 use Rattle.script_lines.specs.Calls.{call_of, call_rows}
 use Rattle.script_lines.specs.Lines.{call_line, is_skipped, line_of_words, line_with, thread_in}
-use Rattle.script_lines.specs.Scripts.{onto, script_from}
+use Rattle.script_lines.specs.ByLine.{lines_from, onto}
+use Rattle.script_lines.specs.Scripts.{scripts}
 use Rattle.script_lines.specs.Words.{words_of}
-use Rattle.script_lines.proofs.Splits.{is_plain, word-ends}
+use Rattle.script_lines.proofs.Reading.{no_more, said}
+use Rattle.script_lines.proofs.Splits.{is_plain, no-words, word-ends}
 use Rattle.region_report.specs.Calls.{call_text}
 use Rattle.region_report.specs.CallLines.{Asked, is_event, is_event_character, numbered}
 
@@ -44,6 +46,34 @@ IsWritten (script.Start set) = set ≡ 0
 IsWritten (script.Read set) = set ≡ 0
 IsWritten (script.Run count) = count < 2 ^ 32
 IsWritten other = ⊥
+
+-- what each of these calls has, every written call has
+pub written : (P : ScriptCall → Type 0) → P script.Create → ((event : Text) → is_event event ≡ true → P (script.Add 0 event)) → P (script.Start 0) → P (script.Read 0)
+    → ((count : ℕ) → count < 2 ^ 32 → P (script.Run count)) → (c : ScriptCall) → IsWritten c → P c
+written P create add start read run script.Create h = create
+written P create add start read run (script.Add set event) h = subst (λ n. P (script.Add n event)) (sym h.0) (add event h.1)
+written P create add start read run (script.Start set) h = subst (λ n. P (script.Start n)) (sym h) start
+written P create add start read run (script.Read set) h = subst (λ n. P (script.Read n)) (sym h) read
+written P create add start read run (script.Run count) h = run count h
+written P create add start read run script.Register h = absurd h
+written P create add start read run script.Unregister h = absurd h
+written P create add start read run script.Threads h = absurd h
+written P create add start read run (script.Destroy set) h = absurd h
+written P create add start read run (script.Cleanup set) h = absurd h
+written P create add start read run (script.Remove set event) h = absurd h
+written P create add start read run (script.Component set component) h = absurd h
+written P create add start read run (script.Domain set bits) h = absurd h
+written P create add start read run (script.Multiplex set slice) h = absurd h
+written P create add start read run (script.Overflow set event threshold) h = absurd h
+written P create add start read run (script.Stop set) h = absurd h
+written P create add start read run (script.Accum set) h = absurd h
+written P create add start read run (script.Reset set) h = absurd h
+written P create add start read run (script.State set) h = absurd h
+written P create add start read run (script.Events set) h = absurd h
+written P create add start read run (script.Assign set) h = absurd h
+written P create add start read run (script.Raw set counter) h = absurd h
+written P create add start read run (script.Code event) h = absurd h
+written P create add start read run (script.Name code) h = absurd h
 
 abbrev pub AreWritten : List Asked → Type 0
 AreWritten as' = AllByRecursion (λ a. (a.thread < 64) × IsWritten a.call) as'
@@ -73,10 +103,6 @@ blank_first : (rest : Text) → words_of (32 ∷ rest) ≡ words_of rest
 unfolding words_of
 blank_first rest = refl
 
-no_words : words_of [] ≡ []
-unfolding words_of
-no_words = refl
-
 -- a word, a space and what follows
 word_then : (w rest : Text) → 0 < length w → list_all is_plain w ≡ true → words_of (w ++ 32 ∷ rest) ≡ w ∷ words_of rest
 word_then [] rest some p = absurd (omega arith)
@@ -84,7 +110,7 @@ word_then (b ∷ w) rest some p = word-ends b w (32 ∷ rest) p refl ∙ ap (λ 
 
 last_word : (w : Text) → 0 < length w → list_all is_plain w ≡ true → words_of w ≡ w ∷ []
 last_word [] some p = absurd (omega arith)
-last_word (b ∷ w) some p = ap words_of (sym (append-nil (b ∷ w))) ∙ word-ends b w [] p refl ∙ ap (λ ws. (b ∷ w) ∷ ws) no_words
+last_word (b ∷ w) some p = ap words_of (sym (append-nil (b ∷ w))) ∙ word-ends b w [] p refl ∙ ap (λ ws. (b ∷ w) ∷ ws) no-words
 
 numeral_word : (n : ℕ) → n < 2 ^ 64 → list_all is_plain (decimal n) ≡ true
 numeral_word n small = plain_digits (decimal n) (decimal-digits n small)
@@ -144,35 +170,17 @@ later_words other = []
 
 words_later : (c : ScriptCall) → IsWritten c → words_of (words_for c) ≡ later_words c
 unfolding words_of
-words_later script.Create h = refl
-words_later (script.Add set event) h =
-    let parts = and_parts (not (is_empty event)) (list_all is_event_character event) h.1 in
-    word_then (codes "add") (codes "0 " ++ event) (omega arith) refl
-    ∙ ap (λ ws. codes "add" ∷ ws) (word_then (codes "0") event (omega arith) refl ∙ ap (λ ws. codes "0" ∷ ws) (last_word event (filled_event event parts.0) (plain_event event parts.1)))
-words_later (script.Start set) h = refl
-words_later (script.Read set) h = refl
-words_later (script.Run count) h =
-    word_then (codes "run") (decimal count) (omega arith) refl
-    ∙ ap (λ ws. codes "run" ∷ ws) (last_word (decimal count) (decimal_nonempty count (omega (arith, h))) (numeral_word count (omega (arith, h))))
-words_later script.Register h = absurd h
-words_later script.Unregister h = absurd h
-words_later script.Threads h = absurd h
-words_later (script.Destroy set) h = absurd h
-words_later (script.Cleanup set) h = absurd h
-words_later (script.Remove set event) h = absurd h
-words_later (script.Component set component) h = absurd h
-words_later (script.Domain set bits) h = absurd h
-words_later (script.Multiplex set slice) h = absurd h
-words_later (script.Overflow set event threshold) h = absurd h
-words_later (script.Stop set) h = absurd h
-words_later (script.Accum set) h = absurd h
-words_later (script.Reset set) h = absurd h
-words_later (script.State set) h = absurd h
-words_later (script.Events set) h = absurd h
-words_later (script.Assign set) h = absurd h
-words_later (script.Raw set counter) h = absurd h
-words_later (script.Code event) h = absurd h
-words_later (script.Name code) h = absurd h
+words_later = written (λ c. words_of (words_for c) ≡ later_words c) refl add refl refl run where
+  add : (event : Text) → is_event event ≡ true → words_of (words_for (script.Add 0 event)) ≡ later_words (script.Add 0 event)
+  add event h =
+      let parts = and_parts (not (is_empty event)) (list_all is_event_character event) h in
+      word_then (codes "add") (codes "0 " ++ event) (omega arith) refl
+      ∙ ap (λ ws. codes "add" ∷ ws) (word_then (codes "0") event (omega arith) refl ∙ ap (λ ws. codes "0" ∷ ws) (last_word event (filled_event event parts.0) (plain_event event parts.1)))
+
+  run : (count : ℕ) → count < 2 ^ 32 → words_of (words_for (script.Run count)) ≡ later_words (script.Run count)
+  run count h =
+      word_then (codes "run") (decimal count) (omega arith) refl
+      ∙ ap (λ ws. codes "run" ∷ ws) (last_word (decimal count) (decimal_nonempty count (omega (arith, h))) (numeral_word count (omega (arith, h))))
 
 printable_character : (b : ℕ) → is_event_character b ≡ true → is_printable_byte b ≡ true
 printable_character b e = grind (arith, tests, e)
@@ -194,34 +202,12 @@ Gives number thread (word ∷ arguments) c = call_of word arguments ≡ Ok c
 
 call_read : (number thread : ℕ) (c : ScriptCall) → IsWritten c → Gives number thread (later_words c) c
 unfolding call_rows
-call_read number thread script.Create h = refl
-call_read number thread (script.Add set event) h =
-    let parts = and_parts (not (is_empty event)) (list_all is_event_character event) h.1 in
-    let printable = printable_event event parts.1 in
-    let zero_set : set ≡ 0 = h.0 in
-    rw (printable, zero_read, zero_set) refl
-call_read number thread (script.Start set) h = let zero_set : set ≡ 0 = h in rw (zero_read, zero_set) refl
-call_read number thread (script.Read set) h = let zero_set : set ≡ 0 = h in rw (zero_read, zero_set) refl
-call_read number thread (script.Run count) h = rw (number_read count h) refl
-call_read number thread script.Register h = absurd h
-call_read number thread script.Unregister h = absurd h
-call_read number thread script.Threads h = absurd h
-call_read number thread (script.Destroy set) h = absurd h
-call_read number thread (script.Cleanup set) h = absurd h
-call_read number thread (script.Remove set event) h = absurd h
-call_read number thread (script.Component set component) h = absurd h
-call_read number thread (script.Domain set bits) h = absurd h
-call_read number thread (script.Multiplex set slice) h = absurd h
-call_read number thread (script.Overflow set event threshold) h = absurd h
-call_read number thread (script.Stop set) h = absurd h
-call_read number thread (script.Accum set) h = absurd h
-call_read number thread (script.Reset set) h = absurd h
-call_read number thread (script.State set) h = absurd h
-call_read number thread (script.Events set) h = absurd h
-call_read number thread (script.Assign set) h = absurd h
-call_read number thread (script.Raw set counter) h = absurd h
-call_read number thread (script.Code event) h = absurd h
-call_read number thread (script.Name code) h = absurd h
+call_read number thread = written (λ c. Gives number thread (later_words c) c) refl add (rw zero_read refl) (rw zero_read refl) (λ count h. rw (number_read count h) refl) where
+  add : (event : Text) → is_event event ≡ true → Gives number thread (later_words (script.Add 0 event)) (script.Add 0 event)
+  add event h =
+      let parts = and_parts (not (is_empty event)) (list_all is_event_character event) h in
+      let printable = printable_event event parts.1 in
+      rw (printable, zero_read) refl
 
 by_words : (number thread : ℕ) (words : List Text) (c : ScriptCall) → Gives number thread words c → thread_in (decimal thread) ≡ Ok thread →
     line_of_words number (decimal thread ∷ words) ≡ Ok (line_with number thread c)
@@ -239,16 +225,8 @@ line_read number above a few small h =
     let room : nat_le 100000 above ≡ false = grind (arith, tests, few) in
     rw (room, line_words a small h) (by_words number a.thread (later_words a.call) a.call (call_read number a.thread a.call h) (thread_read a.thread small))
 
-one_line : (number above : ℕ) (line : Text) (rest : List Text) → is_skipped line ≡ false → script_from number above (line ∷ rest) ≡ onto number (call_line number above line) (script_from (number + 1) (above + 1) rest)
-unfolding script_from
-one_line number above line rest s = rw s refl
-
-no_line : (number above : ℕ) → script_from number above [] ≡ Ok []
-unfolding script_from
-no_line number above = refl
-
-pub lines_read : (number above : ℕ) (as' : List Asked) → AreWritten as' → above + length as' ≤ 100000 → script_from number above (map line_for as') ≡ Ok (numbered number as')
-lines_read number above [] h few = no_line number above
+pub lines_read : (number above : ℕ) (as' : List Asked) → AreWritten as' → above + length as' ≤ 100000 → lines_from scripts number above (map line_for as') ≡ Ok (numbered number as')
+lines_read number above [] h few = no_more scripts number above
 lines_read number above (a ∷ as') h few =
-    one_line number above (line_for a) (map line_for as') (not_skipped a h.0.0)
-    ∙ ap₂ (λ read below. onto number read below) (line_read number above a (omega arith) h.0.0 h.0.1) (lines_read (number + 1) (above + 1) as' h.1 (omega arith))
+    said scripts number above (line_for a) (map line_for as') (not_skipped a h.0.0)
+    ∙ ap₂ (λ read below. onto number read (λ line. below)) (line_read number above a (omega arith) h.0.0 h.0.1) (lines_read (number + 1) (above + 1) as' h.1 (omega arith))

@@ -15,7 +15,8 @@ use Rattle.table_rows.specs.Texts.{Text}
 use Rattle.table_rows.proofs.Texts.{Digits, decimal-digits}
 use Rattle.script_lines.specs.declared.call.ScriptCall.{ScriptCall}
 use Rattle.script_lines.specs.declared.call.ScriptCall.TheVariants as script
-use Rattle.script_lines.specs.Scripts.{script_from, script_of}
+use Rattle.script_lines.specs.ByLine.{lines_from}
+use Rattle.script_lines.specs.Scripts.{script_of, scripts}
 use Rattle.script_lines.proofs.LineCuts.{lines-cut}
 use Rattle.region_report.specs.Calls.{call_text, has_lines, line_text, opening, script_text, thread_opening, words_of_call}
 use Rattle.region_report.specs.CallLines.{AreEvents, Asked, IsRead, asked, asked_at, asked_first, asks, call_for, is_event}
@@ -24,7 +25,7 @@ use Rattle.region_report.specs.Kept.{IsRegions, count_of}
 use Rattle.region_report.specs.declared.regions.RegionCall.{RegionCall}
 use Rattle.region_report.specs.declared.regions.RegionCall.TheVariants as call
 use Rattle.region_report.specs.declared.regions.RegionLine.{RegionLine}
-use Rattle.region_report.proofs.LineRead.{AreWritten, IsWritten, and_parts, line_for, lines_read, text_for, words_for}
+use Rattle.region_report.proofs.LineRead.{AreWritten, IsWritten, and_parts, line_for, lines_read, text_for, words_for, written}
 
 -- ---- lines
 
@@ -52,32 +53,14 @@ known [] e = tt
 known (b ∷ t) e = let parts = and_parts (is_inside b) (list_all is_inside t) e in (parts.0, known t parts.1)
 
 inside_words : (c : ScriptCall) → IsWritten c → AreInside (words_for c)
-inside_words script.Create h = known (codes "create") refl
-inside_words (script.Add set event) h =
-    let parts = and_parts (not (is_empty event)) (list_all is_event_character event) h.1 in
-    inside-append (codes "add 0 ") event (known (codes "add 0 ") refl) (inside_event event parts.1)
-inside_words (script.Start set) h = known (codes "start 0") refl
-inside_words (script.Read set) h = known (codes "read 0") refl
-inside_words (script.Run count) h = inside-append (codes "run ") (decimal count) (known (codes "run ") refl) (inside_digits (decimal count) (decimal-digits count (omega (arith, h))))
-inside_words script.Register h = absurd h
-inside_words script.Unregister h = absurd h
-inside_words script.Threads h = absurd h
-inside_words (script.Destroy set) h = absurd h
-inside_words (script.Cleanup set) h = absurd h
-inside_words (script.Remove set event) h = absurd h
-inside_words (script.Component set component) h = absurd h
-inside_words (script.Domain set bits) h = absurd h
-inside_words (script.Multiplex set slice) h = absurd h
-inside_words (script.Overflow set event threshold) h = absurd h
-inside_words (script.Stop set) h = absurd h
-inside_words (script.Accum set) h = absurd h
-inside_words (script.Reset set) h = absurd h
-inside_words (script.State set) h = absurd h
-inside_words (script.Events set) h = absurd h
-inside_words (script.Assign set) h = absurd h
-inside_words (script.Raw set counter) h = absurd h
-inside_words (script.Code event) h = absurd h
-inside_words (script.Name code) h = absurd h
+inside_words = written (λ c. AreInside (words_for c)) (known (codes "create") refl) add (known (codes "start 0") refl) (known (codes "read 0") refl) run where
+  add : (event : Text) → is_event event ≡ true → AreInside (codes "add 0 " ++ event)
+  add event h =
+      let parts = and_parts (not (is_empty event)) (list_all is_event_character event) h in
+      inside-append (codes "add 0 ") event (known (codes "add 0 ") refl) (inside_event event parts.1)
+
+  run : (count : ℕ) → count < 2 ^ 32 → AreInside (codes "run " ++ decimal count)
+  run count h = inside-append (codes "run ") (decimal count) (known (codes "run ") refl) (inside_digits (decimal count) (decimal-digits count (omega (arith, h))))
 
 inside_line : (a : Asked) → a.thread < 64 → IsWritten a.call → AreInside (line_for a)
 inside_line a small h =
@@ -232,5 +215,5 @@ asked_few ls events r e =
 pub is_read : (ls : List RegionLine) (events : List Text) → IsRegions ls → IsRead ls events
 unfolding script_of
 is_read ls events r e =
-    ap (λ (t : Text). script_from 1 0 (lines t)) (script_text_is ls events) ∙ ap (script_from 1 0) (lines_of_text (asked ls events) (asked_written ls events r e))
+    ap (λ (t : Text). lines_from scripts 1 0 (lines t)) (script_text_is ls events) ∙ ap (lines_from scripts 1 0) (lines_of_text (asked ls events) (asked_written ls events r e))
     ∙ lines_read 1 0 (asked ls events) (asked_written ls events r e) (omega (arith, asked_few ls events r e))

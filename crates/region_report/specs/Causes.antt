@@ -2,12 +2,8 @@
 use Rattle.std.specs.Prelude.{ℕ, List, codes}
 use Rattle.script_lines.specs.declared.fault.ScriptCause.{ScriptCause}
 use Rattle.script_lines.specs.declared.fault.ScriptCause.TheVariants as script
-use Rattle.region_report.specs.declared.fault.LineFault.{LineFault}
-use Rattle.region_report.specs.declared.fault.LineFault.TheVariants as line
 use Rattle.region_report.specs.declared.fault.RegionCause.{RegionCause}
 use Rattle.region_report.specs.declared.fault.RegionCause.TheVariants as cause
-use Rattle.region_report.specs.declared.fault.RegionFault.{RegionFault}
-use Rattle.region_report.specs.declared.fault.RegionFault.TheVariants as region
 
 -- each cause as it stands in a message, after the number of the line
 abbrev pub text_of : RegionCause → List ℕ
@@ -26,8 +22,3 @@ cause_of script.BadThread = cause.BadThread
 cause_of script.UnknownCall = cause.UnknownCall
 cause_of script.BadArguments = cause.BadArguments
 cause_of script.BadNumber = cause.BadNumber
-
--- the script's fault where this is the fault of a line of it
-abbrev pub fault_at : ℕ → LineFault → RegionFault
-fault_at number (line.Cause cause) = region.Line number cause
-fault_at number line.Memory = region.Memory

@@ -1,15 +1,14 @@
 -- One line of a region script: this project's own format, docs/FORMATS.md.
-use Rattle.std.specs.Prelude.{◌≡◌, ◌+◌, ◌-◌, ℕ, Bool, true, false, List, [], ◌∷◌, ◌++◌, length}
+use Rattle.std.specs.Prelude.{◌+◌, ◌-◌, ℕ, Bool, true, false, List, [], ◌∷◌, ◌++◌, length}
 use Rattle.std.specs.Prelude.{take, Option, Some, None, Result, Ok, Err, codes, if◌then◌else◌, nat_le, slice_get, slice_index_or, slice_set}
 use Rattle.std.specs.Str.{bytes_eq}
 use Rattle.table_rows.specs.Texts.{Text, is_name}
+use Rattle.script_lines.specs.Answers.{and_then}
 use Rattle.script_lines.specs.Arguments.{one_number}
 use Rattle.script_lines.specs.Lines.{thread_in}
 use Rattle.script_lines.specs.Words.{words_of}
 use Rattle.script_lines.specs.declared.fault.ScriptCause.{ScriptCause}
 use Rattle.region_report.specs.Causes.{cause_of}
-use Rattle.region_report.specs.declared.fault.LineFault.{LineFault}
-use Rattle.region_report.specs.declared.fault.LineFault.TheVariants as fault
 use Rattle.region_report.specs.declared.fault.RegionCause.{RegionCause}
 use Rattle.region_report.specs.declared.fault.RegionCause.TheVariants.{BadArguments, BadThread, OverLimit, UnknownCall, WrongRegion}
 use Rattle.region_report.specs.declared.regions.RegionCall.{RegionCall}
@@ -59,11 +58,6 @@ abbrev pub after_reading : ℕ → RegionLine → ℕ
 after_reading readings line = if is_reading line then readings + 1 else readings
 
 -- ---- the parts of a line
-
--- what is read from what was read before
-abbrev pub and_then : {A B : Type 0} → Result A RegionCause → (A → Result B RegionCause) → Result B RegionCause
-and_then (Ok value) next = next value
-and_then (Err cause) next = Err cause
 
 -- a word that the format of scripts has too, and that is refused for the same cause here
 abbrev pub by_script : {A : Type 0} → Result A ScriptCause → Result A RegionCause
@@ -133,9 +127,3 @@ line_of_words number readings opens (thread ∷ words) =
 unfoldable pub region_line : ℕ → ℕ → ℕ → List (List Open) → Text → Result RegionLine RegionCause
 region_line number above readings opens line =
     if nat_le MOST_LINES above then Err OverLimit else line_of_words number readings opens (words_of line)
-
--- The answer where this is read, or refused for its cause. Memory may run out at any line.
-abbrev pub Answers : {A : Type 0} → Result A LineFault → Result A RegionCause → Type 0
-Answers (Ok value) read = read ≡ Ok value
-Answers (Err (fault.Cause cause)) read = read ≡ Err cause
-Answers (Err fault.Memory) read = Unit {0}

@@ -1,12 +1,11 @@
 //! Why a region script is refused.
 
 ghost use Rattle.std.specs.Prelude.{◌≡◌};
-ghost use Rattle.region_report.specs.Causes.{cause_of, fault_at, text_of};
-ghost use Rattle.region_report.specs.declared.fault.LineFault.TheVariants as line;
-ghost use Rattle.region_report.specs.declared.fault.RegionFault.TheVariants as region;
+ghost use Rattle.table_rows.specs.declared.fault.Refusal.TheVariants as refusal;
+ghost use Rattle.region_report.specs.Causes.{cause_of, text_of};
 
-use script_lines::ScriptCause;
-use std::alloc::{AllocError, AllocFailed};
+use script_lines::{LineFault, ScriptCause};
+use table_rows::Refusal;
 use thiserror::Error;
 
 /// What is wrong with a line of a region script; of several causes the first in this order counts.
@@ -36,32 +35,7 @@ pub enum RegionCause {
 }
 
 /// Why a region script is refused: its first faulty line, numbered from 1, with its first cause, or memory ran out.
-#[derive(Clone, Copy, Debug, PartialEq, Eq, Error)]
-pub enum RegionFault {
-    #[error("line {line}: {cause}")]
-    Line { line: u64, cause: RegionCause },
-    #[error("out of memory")]
-    Memory,
-}
-
-// Why a line is not read.
-#[derive(Drop)]
-pub(crate) enum LineFault {
-    Cause(RegionCause),
-    Memory,
-}
-
-impl LineFault {
-    // The script's fault where this is the fault of a line of it.
-    pub(crate) fn at_line(self, line: u64) -> RegionFault
-        ensures { result ≡ fault_at line self }
-    {
-        match self {
-            LineFault::Cause(cause) => RegionFault::Line { line, cause },
-            LineFault::Memory => RegionFault::Memory,
-        }
-    }
-}
+pub type RegionFault = LineFault<RegionCause>;
 
 /// A cause in words, as a message names it.
 pub fn cause_text(cause: RegionCause) -> &'static str
@@ -78,47 +52,15 @@ pub fn cause_text(cause: RegionCause) -> &'static str
     }
 }
 
-// The cause that a line of a script of calls would have.
-pub(crate) fn cause_of(cause: ScriptCause) -> RegionCause
-    ensures { result ≡ cause_of cause }
+// The refusal of a line for the cause that a line of a script of calls would have.
+pub(crate) fn refusal_of(cause: ScriptCause) -> Refusal<RegionCause>
+    ensures { result ≡ refusal.Cause (cause_of cause) }
 {
-    match cause {
+    Refusal::Cause(match cause {
         ScriptCause::OverLimit => RegionCause::OverLimit,
         ScriptCause::BadThread => RegionCause::BadThread,
         ScriptCause::UnknownCall => RegionCause::UnknownCall,
         ScriptCause::BadArguments => RegionCause::BadArguments,
         ScriptCause::BadNumber => RegionCause::BadNumber,
-    }
-}
-
-impl From<AllocError> for LineFault {
-    ghost from_gives = { λ _ fault. fault ≡ line.Memory };
-
-    fn from(_error: AllocError) -> LineFault {
-        LineFault::Memory
-    }
-}
-
-impl From<ScriptCause> for LineFault {
-    ghost from_gives = { λ cause fault. fault ≡ line.Cause (cause_of cause) };
-
-    fn from(cause: ScriptCause) -> LineFault {
-        LineFault::Cause(cause_of(cause))
-    }
-}
-
-impl From<AllocError> for RegionFault {
-    ghost from_gives = { λ _ fault. fault ≡ region.Memory };
-
-    fn from(_error: AllocError) -> RegionFault {
-        RegionFault::Memory
-    }
-}
-
-impl<T: Drop> From<AllocFailed<T>> for RegionFault {
-    ghost from_gives = { λ _ fault. fault ≡ region.Memory };
-
-    fn from(_error: AllocFailed<T>) -> RegionFault {
-        RegionFault::Memory
-    }
+    })
 }

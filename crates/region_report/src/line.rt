@@ -2,40 +2,41 @@
 
 ghost use Rattle.std.specs.Prelude.{◌≡◌, ◌<◌, ◌^◌, IfOk, map, option_map};
 ghost use Rattle.papi_base.specs.declared.limits.TheConstants.{THREADS};
+ghost use Rattle.script_lines.specs.Answers.{Answers};
 ghost use Rattle.region_report.specs.Kept.{count_of};
 ghost use Rattle.region_report.specs.Lines as Lines;
-ghost use Rattle.region_report.specs.Lines.{Answers, open_of};
+ghost use Rattle.region_report.specs.Lines.{open_of};
 ghost use Rattle.region_report.specs.Opens.{open_text};
 
-use crate::fault::{LineFault, RegionCause};
+use crate::fault::{RegionCause, refusal_of};
 use crate::opened::{OpenRegion, OpenRegions};
 use crate::regions::{MOST_LINES, MOST_OPEN, RegionCall, RegionLine};
 use papi_base::Text;
 use script_lines::{one_number, split_words, thread_in};
 use std::alloc::Global;
-use table_rows::name_text;
+use table_rows::{Refusal, name_text};
 
 // The one name of these arguments.
-fn one_name(alloc: Global, arguments: &[&[u8]]) -> Result<Text, LineFault>
+fn one_name(alloc: Global, arguments: &[&[u8]]) -> Result<Text, Refusal<RegionCause>>
     ensures { Answers result (Lines.one_name (map (λ w. w.now) arguments.now)) }
 {
     let [name] = arguments else {
-        return Err(LineFault::Cause(RegionCause::BadArguments));
+        return Err(Refusal::Cause(RegionCause::BadArguments));
     };
     match name_text(*name) {
         Some(name) => Ok(Text::copy_of(alloc, name)?),
-        None => Err(LineFault::Cause(RegionCause::BadArguments)),
+        None => Err(Refusal::Cause(RegionCause::BadArguments)),
     }
 }
 
 // The reading at which the innermost open region began, which must have this name.
-fn begun_of(opens: Option<&OpenRegion>, name: &Text) -> Result<usize, LineFault>
+fn begun_of(opens: Option<&OpenRegion>, name: &Text) -> Result<usize, Refusal<RegionCause>>
     ensures { Answers result
         (Lines.begun_of (option_map (λ o. open_text o.now) opens.entry) name.now) }
 {
     match opens {
         Some(opens) if opens.name.as_str() == name.as_str() => Ok(opens.begun),
-        _ => Err(LineFault::Cause(RegionCause::WrongRegion)),
+        _ => Err(Refusal::Cause(RegionCause::WrongRegion)),
     }
 }
 
@@ -45,13 +46,13 @@ fn begun_name(
     opens: &OpenRegions,
     thread: u32,
     arguments: &[&[u8]],
-) -> Result<Text, LineFault>
+) -> Result<Text, Refusal<RegionCause>>
     requires { thread < THREADS }
     ensures { Answers result
         (Lines.begun_name (open_of opens.now thread) (map (λ w. w.now) arguments.now)) }
 {
     if opens.count(thread) >= MOST_OPEN {
-        return Err(LineFault::Cause(RegionCause::OverLimit));
+        return Err(Refusal::Cause(RegionCause::OverLimit));
     }
     one_name(alloc, arguments)
 }
@@ -61,7 +62,7 @@ fn innermost_name(
     alloc: Global,
     opens: Option<&OpenRegion>,
     arguments: &[&[u8]],
-) -> Result<(Text, usize), LineFault>
+) -> Result<(Text, usize), Refusal<RegionCause>>
     ensures { Answers result
         (Lines.innermost_name (option_map (λ o. open_text o.now) opens.entry)
         (map (λ w. w.now) arguments.now)) }
@@ -79,7 +80,7 @@ fn call_of(
     thread: u32,
     word: &[u8],
     arguments: &[&[u8]],
-) -> Result<(RegionCall, usize), LineFault>
+) -> Result<(RegionCall, usize), Refusal<RegionCause>>
     requires { thread < THREADS }
     ensures call { Answers result
         (Lines.call_of readings (open_of opens.now thread) word.now
@@ -99,10 +100,10 @@ fn call_of(
         return Ok((RegionCall::End { name }, begun));
     }
     if word == b"run".as_slice() {
-        let count = one_number(arguments)?;
+        let count = one_number(arguments).map_err(refusal_of)?;
         return Ok((RegionCall::Run { count }, readings));
     }
-    Err(LineFault::Cause(RegionCause::UnknownCall))
+    Err(Refusal::Cause(RegionCause::UnknownCall))
 }
 
 // The line of the words after its thread.
@@ -113,7 +114,7 @@ fn line_of_thread(
     opens: &OpenRegions,
     thread: u32,
     words: &[&[u8]],
-) -> Result<RegionLine, LineFault>
+) -> Result<RegionLine, Refusal<RegionCause>>
     requires { thread < THREADS }
     ensures line { Answers result
         (Lines.line_of_thread number readings opens.now thread (map (λ w. w.now) words.now)) }
@@ -121,7 +122,7 @@ fn line_of_thread(
     ensures count { IfOk result (λ line. count_of line.call < 2 ^ 32) }
 {
     let [word, arguments @ ..] = words else {
-        return Err(LineFault::Cause(RegionCause::UnknownCall));
+        return Err(Refusal::Cause(RegionCause::UnknownCall));
     };
     let (call, begun) = call_of(alloc, readings, opens, thread, *word, arguments)?;
     Ok(RegionLine {
@@ -139,16 +140,16 @@ fn line_of_words(
     readings: usize,
     opens: &OpenRegions,
     words: &[&[u8]],
-) -> Result<RegionLine, LineFault>
+) -> Result<RegionLine, Refusal<RegionCause>>
     ensures line { Answers result
         (Lines.line_of_words number readings opens.now (map (λ w. w.now) words.now)) }
     ensures thread { IfOk result (λ line. line.thread < THREADS) }
     ensures count { IfOk result (λ line. count_of line.call < 2 ^ 32) }
 {
     let [thread, words @ ..] = words else {
-        return Err(LineFault::Cause(RegionCause::BadThread));
+        return Err(Refusal::Cause(RegionCause::BadThread));
     };
-    let thread = thread_in(*thread)?;
+    let thread = thread_in(*thread).map_err(refusal_of)?;
     line_of_thread(alloc, number, readings, opens, thread, words)
 }
 
@@ -161,13 +162,13 @@ pub(crate) fn region_line(
     readings: usize,
     opens: &OpenRegions,
     line: &[u8],
-) -> Result<RegionLine, LineFault>
+) -> Result<RegionLine, Refusal<RegionCause>>
     ensures line { Answers result (Lines.region_line number above readings opens.now line.now) }
     ensures few { IfOk result (λ line. (above < MOST_LINES) × (line.thread < THREADS)) }
     ensures count { IfOk result (λ line. count_of line.call < 2 ^ 32) }
 {
     if above >= MOST_LINES {
-        return Err(LineFault::Cause(RegionCause::OverLimit));
+        return Err(Refusal::Cause(RegionCause::OverLimit));
     }
     let words = split_words(alloc, line)?;
     line_of_words(alloc, number, readings, opens, words.as_slice())

@@ -10,7 +10,7 @@ use crate::fault::{RegionCause, RegionFault};
 use crate::line::region_line;
 use crate::opened::OpenRegions;
 use papi_base::Text;
-use script_lines::{cut_line, is_skipped};
+use script_lines::{cut_line, fault_at, is_skipped};
 use std::alloc::Global;
 use std::marker::Model;
 
@@ -117,7 +117,7 @@ pub fn read_regions(alloc: Global, bytes: &[u8]) -> Result<Regions, RegionFault>
                     readings = after_reading(readings, &line);
                     lines.push(line)?;
                 }
-                Err(fault) => return Err(fault.at_line(number)),
+                Err(refusal) => return Err(fault_at(number, refusal)),
             }
         }
     }

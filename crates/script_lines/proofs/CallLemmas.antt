@@ -1,28 +1,18 @@
 -- Words that name no call, and numbers in their range.
 use Rattle.std.proofs.Common.{◌≡◌, ◌<◌, ◌≤◌, ◌+◌, ℕ, Bool, true, false, List, None, Some, drop, get_or, length, refl, arith}
-use Rattle.std.specs.Prelude.{◌&&◌, if◌then◌else◌, nat_le, Result, Ok, Err}
-use Rattle.std.specs.Result.{IsErr, IsErrAnd}
+use Rattle.std.specs.Prelude.{◌&&◌, if◌then◌else◌, nat_le}
 use Rattle.std.specs.Str.{bytes_eq}
 use Rattle.std.specs.Str.Parse.{digits_value}
 use Rattle.std.proofs.lemmas.Bool.{leb-true}
 use Rattle.std.proofs.lemmas.List.{drop_more}
 use Rattle.papi_base.specs.CallNames.{word_of}
 use Rattle.table_rows.specs.Texts.{Text, decimal_in, is_decimal}
-use Rattle.script_lines.specs.declared.fault.LineFault.{LineFault}
-use Rattle.script_lines.specs.declared.fault.LineFault.TheVariants.{Cause}
-use Rattle.script_lines.specs.declared.fault.ScriptCause.{ScriptCause}
-use Rattle.script_lines.specs.Answers.{Answers}
 use Rattle.script_lines.specs.Calls.{CallRow, form_of}
 
 -- a word that the next row does not name has its form in the rows below that
 pub form_of-skips : (word : Text) (rows : List CallRow) (i : ℕ) (row : CallRow) → i < length rows → bytes_eq (word_of (get_or rows i row).name) word ≡ false
     → form_of word (drop i rows) ≡ form_of word (drop (i + 1) rows)
 form_of-skips word rows i row inside other = rw (drop_more rows i row inside, other) refl
-
--- the answer that a cause gives
-pub answers_cause : {A : Type 0} (answer : Result A LineFault) (read : Result A ScriptCause) (cause : ScriptCause) → IsErr answer × IsErrAnd answer (λ fault. fault ≡ Cause cause) → read ≡ Err cause → Answers answer read
-answers_cause (Ok value) read cause h e = let no : false ≡ true = h.0 in cc no
-answers_cause (Err fault) read cause h e = rw (h.1, e) refl
 
 -- a number that is read is at most the greatest
 pub decimal-most : (low high : ℕ) (word : Text) (n : ℕ) → Some n ≡ decimal_in low high word → n ≤ high

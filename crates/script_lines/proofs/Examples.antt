@@ -8,14 +8,15 @@ use Rattle.script_lines.specs.declared.fault.ScriptCause.TheVariants as cause
 use Rattle.script_lines.specs.declared.script.ScriptLine.{ScriptLine}
 use Rattle.script_lines.specs.Calls.{call_rows}
 use Rattle.script_lines.specs.Lines.{call_line, line_with}
-use Rattle.script_lines.specs.Scripts.{Refused, script_from, script_of}
+use Rattle.script_lines.specs.ByLine.{Refused, lines_from}
+use Rattle.script_lines.specs.Scripts.{script_of}
 use Rattle.script_lines.specs.Words.{words_of}
 
 unfoldable on_scripts : Unit {0}
-unfolding script_of script_from call_line words_of call_rows decimal_in hex_in is_decimal is_numeral
+unfolding script_of lines_from call_line words_of call_rows decimal_in hex_in is_decimal is_numeral
 on_scripts = tt
 
-abbrev refused : ℕ → ScriptCause → Result (List ScriptLine) Refused
+abbrev refused : ℕ → ScriptCause → Result (List ScriptLine) (Refused ScriptCause)
 refused line cause = Err (record { line = line; cause = cause })
 
 pub numbered : script_of (codes "# sets\n0 create\r\n\n 0\tadd 0 CYCLES") ≡ Ok (line_with 2 0 call.Create ∷ line_with 4 0 (call.Add 0 (codes "CYCLES")) ∷ [])

@@ -108,7 +108,7 @@ reads-ended s from i words lt b r = go (take (i - from) (drop from s)) refl
               ∙ sym (append_assoc words ((c ∷ w) ∷ []) (words_of (drop (i + 1) s)));
         }
 
-no-words : words_of [] ≡ []
+pub no-words : words_of [] ≡ []
 unfolding words_of
 no-words = refl
 

@@ -1,5 +1,6 @@
 pub mod Answers
 pub mod Arguments
+pub mod ByLine
 pub mod Calls
 pub mod Causes
 pub mod Kept

@@ -2,8 +2,8 @@
 use Rattle.std.specs.Prelude.{◌<◌, ◌-◌, ◌||◌, ◌==◌, ℕ, Bool, List, [], ◌∷◌, length, Result, Err, if◌then◌else◌, nat_le, slice_index, IfOk}
 use Rattle.papi_base.specs.declared.limits.TheConstants.{THREADS}
 use Rattle.table_rows.specs.Texts.{Text, decimal_in}
+use Rattle.table_rows.specs.declared.fault.Refusal.{Refusal}
 use Rattle.script_lines.specs.declared.call.ScriptCall.{ScriptCall}
-use Rattle.script_lines.specs.declared.fault.LineFault.{LineFault}
 use Rattle.script_lines.specs.declared.fault.ScriptCause.{ScriptCause}
 use Rattle.script_lines.specs.declared.fault.ScriptCause.TheVariants.{BadThread, OverLimit, UnknownCall}
 use Rattle.script_lines.specs.declared.script.ScriptLine.{ScriptLine}
@@ -40,5 +40,5 @@ unfoldable pub call_line : ℕ → ℕ → Text → Result ScriptLine ScriptCaus
 call_line number above line = if nat_le MOST_CALLS above then Err OverLimit else line_of_words number (words_of line)
 
 -- a line was read after fewer than the most, and its thread is one that there is
-abbrev pub IsAllowed : ℕ → Result ScriptLine LineFault → Type 0
+abbrev pub IsAllowed : ℕ → Result ScriptLine (Refusal ScriptCause) → Type 0
 IsAllowed above read = IfOk read (λ line. (above < MOST_CALLS) × (line.thread < THREADS))

@@ -9,9 +9,10 @@ use crate::arguments::{
     nothing, one_code, one_event, one_number, set_and_event, set_event_and_threshold, two_numbers,
 };
 use crate::call::ScriptCall;
-use crate::fault::{LineFault, ScriptCause};
+use crate::fault::ScriptCause;
 use papi_base::{CallName, Text, call_word};
 use std::alloc::Global;
+use table_rows::Refusal;
 
 // The names of all calls, in the order of the table of calls.
 const NAMES: [CallName; 24] = [
@@ -127,7 +128,11 @@ fn event_call(name: CallName, set: u32, event: Text) -> ScriptCall
 
 // The call of a name with its arguments.
 #[tactic(auto, unfolding(crate::specs::Calls::call_rows))]
-fn call_with(alloc: Global, name: CallName, arguments: &[&[u8]]) -> Result<ScriptCall, LineFault>
+fn call_with(
+    alloc: Global,
+    name: CallName,
+    arguments: &[&[u8]],
+) -> Result<ScriptCall, Refusal<ScriptCause>>
     ensures { Answers result (Calls.call_of (word_of name) (map (λ w. w.now) arguments.now)) }
 {
     match name {
@@ -182,11 +187,11 @@ pub(crate) fn call_of(
     alloc: Global,
     word: &[u8],
     arguments: &[&[u8]],
-) -> Result<ScriptCall, LineFault>
+) -> Result<ScriptCall, Refusal<ScriptCause>>
     ensures { Answers result (Calls.call_of word.now (map (λ w. w.now) arguments.now)) }
 {
     match name_in(word) {
         Some(name) => call_with(alloc, name, arguments),
-        None => Err(LineFault::Cause(ScriptCause::UnknownCall)),
+        None => Err(Refusal::Cause(ScriptCause::UnknownCall)),
     }
 }

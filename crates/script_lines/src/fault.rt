@@ -1,11 +1,14 @@
 //! Why a script is refused.
 
 ghost use Rattle.std.specs.Prelude.{◌≡◌};
-ghost use Rattle.script_lines.specs.Causes.{fault_at, text_of};
-ghost use Rattle.script_lines.specs.declared.fault.LineFault.TheVariants as line;
-ghost use Rattle.script_lines.specs.declared.fault.ScriptFault.TheVariants as script;
+ghost use Rattle.table_rows.specs.declared.fault.Refusal.TheVariants as refusal;
+ghost use Rattle.script_lines.specs.Causes as Causes;
+ghost use Rattle.script_lines.specs.declared.fault.LineFault.TheVariants as fault;
 
 use std::alloc::{AllocError, AllocFailed};
+use std::error::Error;
+use std::fmt;
+use table_rows::Refusal;
 use thiserror::Error;
 
 /// What is wrong with a line of a script; of several causes the first in this order counts.
@@ -28,37 +31,40 @@ pub enum ScriptCause {
     BadNumber,
 }
 
+/// Why a text is refused that is read line by line: its first faulty line, numbered from 1, with its first cause, or memory ran out.
+#[derive(Clone, Copy, Debug, PartialEq, Eq)]
+pub enum LineFault<C> {
+    Line { line: u64, cause: C },
+    Memory,
+}
+
 /// Why a script is refused: its first line, numbered from 1, that is not a call line, or memory ran out.
-#[derive(Clone, Copy, Debug, PartialEq, Eq, Error)]
-pub enum ScriptFault {
-    #[error("line {line}: {cause}")]
-    Line { line: u64, cause: ScriptCause },
-    #[error("out of memory")]
-    Memory,
-}
+pub type ScriptFault = LineFault<ScriptCause>;
 
-// Why a line is not read.
-#[derive(Drop)]
-pub(crate) enum LineFault {
-    Cause(ScriptCause),
-    Memory,
-}
-
-impl LineFault {
-    // The script's fault where this is the fault of a line of it.
-    pub(crate) fn at_line(self, line: u64) -> ScriptFault
-        ensures { result ≡ fault_at line self }
-    {
+impl<C: fmt::Display + Copy> fmt::Display for LineFault<C> {
+    fn fmt<W: fmt::Write>(&self, f: &mut fmt::Formatter<W>) -> fmt::Result {
         match self {
-            LineFault::Cause(cause) => ScriptFault::Line { line, cause },
-            LineFault::Memory => ScriptFault::Memory,
+            LineFault::Line { line, cause } => write!(f, "line {line}: {cause}"),
+            LineFault::Memory => f.write_str("out of memory"),
         }
+    }
+}
+
+impl<C: fmt::Display + fmt::Debug + Copy> Error for LineFault<C> {}
+
+/// The fault of a text where the line of this number is refused.
+pub fn fault_at<C: Copy>(line: u64, refusal: Refusal<C>) -> LineFault<C>
+    ensures { result ≡ Causes.fault_at line refusal }
+{
+    match refusal {
+        Refusal::Cause(cause) => LineFault::Line { line, cause },
+        Refusal::Memory => LineFault::Memory,
     }
 }
 
 /// A cause in words, as a message names it.
 pub fn cause_text(cause: ScriptCause) -> &'static str
-    ensures text { result.now ≡ text_of cause }
+    ensures text { result.now ≡ Causes.text_of cause }
 {
     match cause {
         ScriptCause::OverLimit => "over a limit",
@@ -69,34 +75,26 @@ pub fn cause_text(cause: ScriptCause) -> &'static str
     }
 }
 
-impl From<AllocError> for LineFault {
-    ghost from_gives = { λ _ fault. fault ≡ line.Memory };
+impl From<ScriptCause> for Refusal<ScriptCause> {
+    ghost from_gives = { λ cause why. why ≡ refusal.Cause cause };
 
-    fn from(_error: AllocError) -> LineFault {
+    fn from(cause: ScriptCause) -> Refusal<ScriptCause> {
+        Refusal::Cause(cause)
+    }
+}
+
+impl<C> From<AllocError> for LineFault<C> {
+    ghost from_gives = { λ _ why. why ≡ fault.Memory };
+
+    fn from(_error: AllocError) -> LineFault<C> {
         LineFault::Memory
     }
 }
 
-impl From<ScriptCause> for LineFault {
-    ghost from_gives = { λ cause fault. fault ≡ line.Cause cause };
+impl<C, T: Drop> From<AllocFailed<T>> for LineFault<C> {
+    ghost from_gives = { λ _ why. why ≡ fault.Memory };
 
-    fn from(cause: ScriptCause) -> LineFault {
-        LineFault::Cause(cause)
-    }
-}
-
-impl From<AllocError> for ScriptFault {
-    ghost from_gives = { λ _ fault. fault ≡ script.Memory };
-
-    fn from(_error: AllocError) -> ScriptFault {
-        ScriptFault::Memory
-    }
-}
-
-impl<T: Drop> From<AllocFailed<T>> for ScriptFault {
-    ghost from_gives = { λ _ fault. fault ≡ script.Memory };
-
-    fn from(_error: AllocFailed<T>) -> ScriptFault {
-        ScriptFault::Memory
+    fn from(_error: AllocFailed<T>) -> LineFault<C> {
+        LineFault::Memory
     }
 }

@@ -11,7 +11,7 @@ mod words;
 
 pub use arguments::one_number;
 pub use call::ScriptCall;
-pub use fault::{ScriptCause, ScriptFault, cause_text};
+pub use fault::{LineFault, ScriptCause, ScriptFault, cause_text, fault_at};
 pub use line::{cut_line, is_skipped, thread_in};
 pub use script::{MOST_CALLS, Script, ScriptLine, read_script};
 pub use words::split_words;

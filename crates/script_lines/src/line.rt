@@ -7,12 +7,12 @@ ghost use Rattle.script_lines.specs.Lines as Lines;
 ghost use Rattle.script_lines.specs.Words.{words_of};
 
 use crate::asked::call_of;
-use crate::fault::{LineFault, ScriptCause};
+use crate::fault::ScriptCause;
 use crate::script::{MOST_CALLS, ScriptLine};
 use crate::words::split_words;
 use papi_base::THREADS;
 use std::alloc::Global;
-use table_rows::decimal_in;
+use table_rows::{Refusal, decimal_in};
 
 // A line without the carriage return at its end.
 fn without_return(line: &[u8]) -> &[u8]
@@ -68,12 +68,12 @@ fn line_of_call(
     number: u64,
     thread: u32,
     words: &[&[u8]],
-) -> Result<ScriptLine, LineFault>
+) -> Result<ScriptLine, Refusal<ScriptCause>>
     ensures line { Answers result (Lines.line_of_call number thread (map (λ w. w.now) words.now)) }
     ensures same { IfOk result (λ line. line.thread ≡ thread) }
 {
     let [word, arguments @ ..] = words else {
-        return Err(LineFault::Cause(ScriptCause::UnknownCall));
+        return Err(Refusal::Cause(ScriptCause::UnknownCall));
     };
     let call = call_of(alloc, *word, arguments)?;
     Ok(ScriptLine {
@@ -84,18 +84,22 @@ fn line_of_call(
 }
 
 // The call line of some words.
-fn line_of_words(alloc: Global, number: u64, words: &[&[u8]]) -> Result<ScriptLine, LineFault>
+fn line_of_words(
+    alloc: Global,
+    number: u64,
+    words: &[&[u8]],
+) -> Result<ScriptLine, Refusal<ScriptCause>>
     ensures line { Answers result (Lines.line_of_words number (map (λ w. w.now) words.now)) }
     ensures thread { IfOk result (λ line. line.thread < THREADS) }
 {
     let [thread, words @ ..] = words else {
-        return Err(LineFault::Cause(ScriptCause::BadThread));
+        return Err(Refusal::Cause(ScriptCause::BadThread));
     };
     line_of_call(alloc, number, thread_in(*thread)?, words)
 }
 
 // The call line of a number.
-fn line_in(alloc: Global, number: u64, line: &[u8]) -> Result<ScriptLine, LineFault>
+fn line_in(alloc: Global, number: u64, line: &[u8]) -> Result<ScriptLine, Refusal<ScriptCause>>
     ensures line { Answers result (Lines.line_of_words number (words_of line.now)) }
     ensures thread { IfOk result (λ line. line.thread < THREADS) }
 {
@@ -110,12 +114,12 @@ pub(crate) fn call_line(
     number: u64,
     above: usize,
     line: &[u8],
-) -> Result<ScriptLine, LineFault>
+) -> Result<ScriptLine, Refusal<ScriptCause>>
     ensures call { Answers result (Lines.call_line number above line.now) }
     ensures few { Lines.IsAllowed above result }
 {
     if above >= MOST_CALLS {
-        return Err(LineFault::Cause(ScriptCause::OverLimit));
+        return Err(Refusal::Cause(ScriptCause::OverLimit));
     }
     line_in(alloc, number, line)
 }

@@ -5,7 +5,7 @@ ghost use Rattle.script_lines.specs.Kept.{IsScript};
 ghost use Rattle.script_lines.specs.Scripts.{ReadsScript};
 
 use crate::call::ScriptCall;
-use crate::fault::ScriptFault;
+use crate::fault::{ScriptFault, fault_at};
 use crate::line::{call_line, cut_line, is_skipped};
 use std::alloc::Global;
 use std::marker::Model;
@@ -66,7 +66,7 @@ pub fn read_script(alloc: Global, bytes: &[u8]) -> Result<Script, ScriptFault>
         if !is_skipped(line) {
             match call_line(alloc, number, lines.len(), line) {
                 Ok(line) => lines.push(line)?,
-                Err(fault) => return Err(fault.at_line(number)),
+                Err(refusal) => return Err(fault_at(number, refusal)),
             }
         }
     }
