@@ -1,5 +1,5 @@
 -- A written table reads back.
-use Rattle.std.proofs.Common.{◌≡◌, ◌∙◌, ◌∷◌, ◌++◌, true, false, List, [], length, map, fold, refl, sym, ap, ap₂, arith, codes, None, Ok}
+use Rattle.std.proofs.Common.{◌≡◌, ◌∙◌, ◌∷◌, ◌++◌, true, false, List, [], length, map, fold, refl, sym, ap, ap₂, arith, append-nil, codes, None, Ok}
 use Rattle.std.specs.Prelude.{if◌then◌else◌, is_some}
 use Rattle.std.specs.List.{AllByRecursion}
 use Rattle.std.specs.Str.{bytes_eq}
@@ -8,10 +8,11 @@ use Rattle.table_rows.specs.Texts.{Text}
 use Rattle.table_rows.proofs.RowsBack.{rows-back}
 use Rattle.table_rows.proofs.Texts.{all-map}
 use Rattle.preset_table.specs.Table.{preset_rows, row_of}
-use Rattle.preset_csv.specs.Entries.{judged}
-use Rattle.preset_csv.specs.Lines.{Derivation, Line, cpu, line_of, lines_of, preset}
+use Rattle.preset_csv.specs.Defs.{DefView, IsDef}
+use Rattle.preset_csv.specs.Entries.{InfixJudging, judged, judged_by, uncomputed}
+use Rattle.preset_csv.specs.Lines.{Derivation, Line, cpu, event, gives, Word, line_of, lines_of, preset}
 use Rattle.table_rows.specs.Tables.{first_fault}
-use Rattle.preset_csv.specs.Presets.{cuts_off, entry_of, entry_or, group, has_cpu, is_read, line_cause, presets, read_from}
+use Rattle.preset_csv.specs.Presets.{Judging, cuts_off, entry_of, entry_or, group, has_cpu, holds, line_cause, preset_read, presets, read_from}
 use Rattle.preset_csv.specs.Tables.{IsEntry, TableView, symbols}
 use Rattle.preset_csv.specs.Written.{rows_of_entries, table_text}
 use Rattle.preset_csv.specs.declared.entry.Entry.{Entry}
@@ -37,7 +38,7 @@ rows-plain (s ∷ ss) (entry.Missing ∷ es) g h = rows-plain ss es g.1 h.1
 rows-plain (s ∷ ss) (entry.Uncomputed ∷ es) g h = (good-plain (rest_fields s) (rest-good s g.0) (refl, refl), rows-plain ss es g.1 h.1)
 rows-plain (s ∷ ss) (entry.Def d ∷ es) g h = (good-plain (row_fields s d.kind d.formula d.natives) (def-good s d g.0 h.0) (refl, refl), rows-plain ss es g.1 h.1)
 
-pub rows-lines : (ss : List Text) (es : List Entry) → AllByRecursion IsGood ss → AllByRecursion IsEntry es → map line_of (rows_of_entries ss es) ≡ map preset (rows_back ss es)
+pub rows-lines : (ss : List Text) (es : List Entry) → AllByRecursion IsGood ss → AllByRecursion IsEntry es → map line_of (rows_of_entries ss es) ≡ map (gives preset) (rows_back ss es)
 unfolding rows_of_entries rows_back
 rows-lines [] es g h = refl
 rows-lines (s ∷ ss) [] g h = refl
@@ -45,42 +46,53 @@ rows-lines (s ∷ ss) (entry.Missing ∷ es) g h = rows-lines ss es g.1 h.1
 rows-lines (s ∷ ss) (entry.Uncomputed ∷ es) g h = ap₂ (λ (x : Line) (xs : List Line). x ∷ xs) (rest-line s g.0) (rows-lines ss es g.1 h.1)
 rows-lines (s ∷ ss) (entry.Def d ∷ es) g h = ap₂ (λ (x : Line) (xs : List Line). x ∷ xs) (def-line s d g.0 h.0) (rows-lines ss es g.1 h.1)
 
+-- PRESET rows, and EVENT rows below them
+abbrev pub both : List Derivation → List Derivation → List Line
+both rs es = map (gives preset) rs ++ map (gives event) es
+
 -- the lines of a written table
-written-lines : (t : TableView) → IsGood t.cpu → AllByRecursion IsEntry t.rows → lines_of (table_text t) ≡ cpu t.cpu ∷ map preset (rows_back symbols t.rows)
+written-lines : (t : TableView) → IsGood t.cpu → AllByRecursion IsEntry t.rows → lines_of (table_text t) ≡ cpu t.cpu ∷ both (rows_back symbols t.rows) []
 unfolding table_text
 written-lines t g h =
     let plain : AllByRecursion IsPlainRow ((codes "CPU" ∷ t.cpu ∷ []) ∷ rows_of_entries symbols t.rows) =
     (good-plain (codes "CPU" ∷ t.cpu ∷ []) (word-good (codes "CPU") refl, (g, tt)) (refl, refl), rows-plain symbols t.rows symbols-good h) in
     ap (map line_of) (rows-back ((codes "CPU" ∷ t.cpu ∷ []) ∷ rows_of_entries symbols t.rows) plain)
-    ∙ ap₂ (λ (x : Line) (xs : List Line). x ∷ xs) (cpu-line t.cpu g) (rows-lines symbols t.rows symbols-good h)
+    ∙ ap₂ (λ (x : Line) (xs : List Line). x ∷ xs) (cpu-line t.cpu g) (rows-lines symbols t.rows symbols-good h ∙ sym (append-nil _))
 
 -- ---- the rows are read, and have no cause
 
 -- a row of the table's symbols that has an entry
-abbrev pub IsTaken : Derivation → Type 0
-IsTaken r = (is_some (row_of r.symbol) ≡ true) × ((e : Entry) × (judged r ≡ Ok e))
+abbrev pub IsTaken : Judging → Derivation → Type 0
+IsTaken judge r = (is_some (row_of r.symbol) ≡ true) × ((e : Entry) × (judge r ≡ Ok e))
 
 abbrev pub Stands : Text → List Line → Type 0
 Stands name above = (group above ≡ name ∷ []) × (has_cpu above ≡ true)
 
-pub stands-more : (name : Text) (above : List Line) (r : Derivation) → Stands name above → Stands name (above ++ preset r ∷ [])
-stands-more name above r s = (names-more above (preset r) ∙ s.0, has_cpu-more above (preset r) ∙ rw s.1 refl)
+pub stands-more : (name : Text) (above : List Line) (w : Word) (r : Derivation) → Stands name above → Stands name (above ++ gives w r ∷ [])
+stands-more name above w r s = (names-more above (gives w r) ∙ s.0, has_cpu-more above (gives w r) ∙ rw s.1 refl)
 
-reads : (name : Text) (above : List Line) (r : Derivation) → Stands name above → IsTaken r → is_read name above r ≡ true
-reads name above r s t = rw (s.0, same-text name, t.0) refl
+pub all-held : (name : Text) (above : List Line) → Stands name above → holds name above ≡ true
+all-held name above s = rw (s.0, same-text name) refl
 
-no-cause : (name : Text) (above : List Line) (r : Derivation) → Stands name above → IsTaken r → line_cause name above (preset r) ≡ None
-no-cause name above r s t = rw (s.1, reads name above r s t, t.1.1) refl
+pub no-cause : (judge : Judging) (name : Text) (above : List Line) (r : Derivation) → Stands name above → IsTaken judge r → line_cause judge name above (gives preset r) ≡ None
+no-cause judge name above r s t = rw (s.1, all-held name above s, t.0, t.1.1) refl
 
-all-read : (name : Text) (above : List Line) (rows : List Derivation) → Stands name above → AllByRecursion IsTaken rows → read_from name above (map preset rows) ≡ rows
+pub all-read : (judge : Judging) (name : Text) (above : List Line) (rs es : List Derivation) → Stands name above → AllByRecursion (IsTaken judge) rs → read_from (preset_read name) above (both rs es) ≡ rs
 unfolding read_from
-all-read name above [] s h = refl
-all-read name above (r ∷ rows) s h = rw (reads name above r s h.0) (ap (λ (t : List Derivation). r ∷ t) (all-read name (above ++ preset r ∷ []) rows (stands-more name above r s) h.1))
+all-read judge name above [] [] s h = refl
+all-read judge name above [] (r ∷ es) s h = all-read judge name (above ++ gives event r ∷ []) [] es (stands-more name above event r s) tt
+all-read judge name above (r ∷ rs) es s h =
+    rw (all-held name above s, h.0.0) (ap (λ (t : List Derivation). r ∷ t) (all-read judge name (above ++ gives preset r ∷ []) rs es (stands-more name above preset r s) h.1))
 
-no-fault : (name : Text) (above : List Line) (rows : List Derivation) → Stands name above → AllByRecursion IsTaken rows → first_fault (line_cause name) above (map preset rows) ≡ None
+no-fault : (name : Text) (above : List Line) (rows : List Derivation) → Stands name above → AllByRecursion (IsTaken judged) rows → first_fault (line_cause judged name) above (both rows []) ≡ None
 unfolding first_fault
 no-fault name above [] s h = refl
-no-fault name above (r ∷ rows) s h = rw (no-cause name above r s h.0) (no-fault name (above ++ preset r ∷ []) rows (stands-more name above r s) h.1)
+no-fault name above (r ∷ rows) s h = rw (no-cause judged name above r s h.0) (no-fault name (above ++ gives preset r ∷ []) rows (stands-more name above preset r s) h.1)
+
+-- a written row is judged to give its entry
+pub record GivesBack (judge : Judging) : Type 0 where
+  pub rest : (s : Text) → judge (rest_row s) ≡ Ok entry.Uncomputed
+  pub def : (s : Text) (d : DefView) → IsDef d → judge (def_row s d.kind d.formula d.natives) ≡ Ok (entry.Def d)
 
 abbrev InTable : Text → Type 0
 InTable s = is_some (row_of s) ≡ true
@@ -89,55 +101,59 @@ pub symbols-in : AllByRecursion InTable symbols
 unfolding symbols preset_rows row_of
 symbols-in = all-test (λ s. is_some (row_of s)) symbols refl
 
-pub all-taken : (ss : List Text) (es : List Entry) → AllByRecursion InTable ss → AllByRecursion IsEntry es → AllByRecursion IsTaken (rows_back ss es)
+all-taken : (judge : Judging) → GivesBack judge → (ss : List Text) (es : List Entry) → AllByRecursion InTable ss → AllByRecursion IsEntry es → AllByRecursion (IsTaken judge) (rows_back ss es)
 unfolding rows_back
-all-taken [] es t h = tt
-all-taken (s ∷ ss) [] t h = tt
-all-taken (s ∷ ss) (entry.Missing ∷ es) t h = all-taken ss es t.1 h.1
-all-taken (s ∷ ss) (entry.Uncomputed ∷ es) t h = ((t.0, (entry.Uncomputed, rest-judged s)), all-taken ss es t.1 h.1)
-all-taken (s ∷ ss) (entry.Def d ∷ es) t h = ((t.0, (entry.Def d, def-judged s d h.0)), all-taken ss es t.1 h.1)
+all-taken judge b [] es t h = tt
+all-taken judge b (s ∷ ss) [] t h = tt
+all-taken judge b (s ∷ ss) (entry.Missing ∷ es) t h = all-taken judge b ss es t.1 h.1
+all-taken judge b (s ∷ ss) (entry.Uncomputed ∷ es) t h = ((t.0, (entry.Uncomputed, b.rest s)), all-taken judge b ss es t.1 h.1)
+all-taken judge b (s ∷ ss) (entry.Def d ∷ es) t h = ((t.0, (entry.Def d, b.def s d h.0)), all-taken judge b ss es t.1 h.1)
+
+pub table-taken : (judge : Judging) → GivesBack judge → (es : List Entry) → AllByRecursion IsEntry es → AllByRecursion (IsTaken judge) (rows_back symbols es)
+table-taken judge b es h = all-taken judge b symbols es symbols-in h
 
 -- ---- each symbol's entry
 
-abbrev step : Text → Entry → Derivation → Entry
-step symbol e r = if bytes_eq r.symbol symbol then entry_or e (judged r) else e
+abbrev step : Judging → Text → Entry → Derivation → Entry
+step judge symbol e r = if bytes_eq r.symbol symbol then entry_or e (judge r) else e
 
 -- no row is of this symbol
-skips : (symbol : Text) (e : Entry) (ss : List Text) (es : List Entry) → AllByRecursion (λ t. bytes_eq t symbol ≡ false) ss → fold (step symbol) e (rows_back ss es) ≡ e
+skips : (judge : Judging) (symbol : Text) (e : Entry) (ss : List Text) (es : List Entry) → AllByRecursion (λ t. bytes_eq t symbol ≡ false) ss → fold (step judge symbol) e (rows_back ss es) ≡ e
 unfolding rows_back
-skips symbol e [] es h = refl
-skips symbol e (s ∷ ss) [] h = refl
-skips symbol e (s ∷ ss) (entry.Missing ∷ es) h = skips symbol e ss es h.1
-skips symbol e (s ∷ ss) (entry.Uncomputed ∷ es) h = rw (fold, h.0) (skips symbol e ss es h.1)
-skips symbol e (s ∷ ss) (entry.Def d ∷ es) h = rw (fold, h.0) (skips symbol e ss es h.1)
+skips judge symbol e [] es h = refl
+skips judge symbol e (s ∷ ss) [] h = refl
+skips judge symbol e (s ∷ ss) (entry.Missing ∷ es) h = skips judge symbol e ss es h.1
+skips judge symbol e (s ∷ ss) (entry.Uncomputed ∷ es) h = rw (fold, h.0) (skips judge symbol e ss es h.1)
+skips judge symbol e (s ∷ ss) (entry.Def d ∷ es) h = rw (fold, h.0) (skips judge symbol e ss es h.1)
 
 -- a first row of another symbol changes nothing
 map-same : (f g : Text → Entry) (ss : List Text) → AllByRecursion (λ t. f t ≡ g t) ss → map f ss ≡ map g ss
 map-same f g [] h = refl
 map-same f g (s ∷ ss) h = ap₂ (λ (x : Entry) (xs : List Entry). x ∷ xs) h.0 (map-same f g ss h.1)
 
-others-same : (s : Text) (r : Derivation) (rows : List Derivation) (ss : List Text) → r.symbol ≡ s → AllByRecursion (AreApart s) ss → map (entry_of judged (r ∷ rows)) ss ≡ map (entry_of judged rows) ss
+others-same : (judge : Judging) (s : Text) (r : Derivation) (rows : List Derivation) (ss : List Text) → r.symbol ≡ s → AllByRecursion (AreApart s) ss
+    → map (entry_of judge (r ∷ rows)) ss ≡ map (entry_of judge rows) ss
 unfolding entry_of
-others-same s r rows ss is h =
-    map-same (entry_of judged (r ∷ rows)) (entry_of judged rows) ss (all-map (AreApart s) (λ t. entry_of judged (r ∷ rows) t ≡ entry_of judged rows t) ss (λ t k. rw (is, k.0) refl) h)
+others-same judge s r rows ss is h =
+    map-same (entry_of judge (r ∷ rows)) (entry_of judge rows) ss (all-map (AreApart s) (λ t. entry_of judge (r ∷ rows) t ≡ entry_of judge rows t) ss (λ t k. rw (is, k.0) refl) h)
 
 flip : (s : Text) (ss : List Text) → AllByRecursion (AreApart s) ss → AllByRecursion (λ t. bytes_eq t s ≡ false) ss
 flip s ss h = all-map (AreApart s) (λ t. bytes_eq t s ≡ false) ss (λ t k. k.1) h
 
-pub entries-back : (ss : List Text) (es : List Entry) → Apart ss → length es ≡ length ss → AllByRecursion IsEntry es → map (entry_of judged (rows_back ss es)) ss ≡ es
+entries-back : (judge : Judging) → GivesBack judge → (ss : List Text) (es : List Entry) → Apart ss → length es ≡ length ss → AllByRecursion IsEntry es → map (entry_of judge (rows_back ss es)) ss ≡ es
 unfolding entry_of rows_back
-entries-back [] [] a n h = refl
-entries-back [] (e ∷ es) a n h = absurd (omega arith)
-entries-back (s ∷ ss) [] a n h = absurd (omega arith)
-entries-back (s ∷ ss) (entry.Missing ∷ es) a n h =
-    ap₂ (λ (x : Entry) (xs : List Entry). x ∷ xs) (skips s entry.Missing ss es (flip s ss a.0)) (entries-back ss es a.1 (omega arith) h.1)
-entries-back (s ∷ ss) (entry.Uncomputed ∷ es) a n h =
-    let first : fold (step s) (step s entry.Missing (rest_row s)) (rows_back ss es) ≡ entry.Uncomputed = rw (same-text s, rest-judged s) (skips s entry.Uncomputed ss es (flip s ss a.0)) in
-    ap₂ (λ (x : Entry) (xs : List Entry). x ∷ xs) first (others-same s (rest_row s) (rows_back ss es) ss refl a.0 ∙ entries-back ss es a.1 (omega arith) h.1)
-entries-back (s ∷ ss) (entry.Def d ∷ es) a n h =
+entries-back judge b [] [] a n h = refl
+entries-back judge b [] (e ∷ es) a n h = absurd (omega arith)
+entries-back judge b (s ∷ ss) [] a n h = absurd (omega arith)
+entries-back judge b (s ∷ ss) (entry.Missing ∷ es) a n h =
+    ap₂ (λ (x : Entry) (xs : List Entry). x ∷ xs) (skips judge s entry.Missing ss es (flip s ss a.0)) (entries-back judge b ss es a.1 (omega arith) h.1)
+entries-back judge b (s ∷ ss) (entry.Uncomputed ∷ es) a n h =
+    let first : fold (step judge s) (step judge s entry.Missing (rest_row s)) (rows_back ss es) ≡ entry.Uncomputed = rw (same-text s, b.rest s) (skips judge s entry.Uncomputed ss es (flip s ss a.0)) in
+    ap₂ (λ (x : Entry) (xs : List Entry). x ∷ xs) first (others-same judge s (rest_row s) (rows_back ss es) ss refl a.0 ∙ entries-back judge b ss es a.1 (omega arith) h.1)
+entries-back judge b (s ∷ ss) (entry.Def d ∷ es) a n h =
     let r = def_row s d.kind d.formula d.natives in
-    let first : fold (step s) (step s entry.Missing r) (rows_back ss es) ≡ entry.Def d = rw (same-text s, def-judged s d h.0) (skips s (entry.Def d) ss es (flip s ss a.0)) in
-    ap₂ (λ (x : Entry) (xs : List Entry). x ∷ xs) first (others-same s r (rows_back ss es) ss refl a.0 ∙ entries-back ss es a.1 (omega arith) h.1)
+    let first : fold (step judge s) (step judge s entry.Missing r) (rows_back ss es) ≡ entry.Def d = rw (same-text s, b.def s d h.0) (skips judge s (entry.Def d) ss es (flip s ss a.0)) in
+    ap₂ (λ (x : Entry) (xs : List Entry). x ∷ xs) first (others-same judge s r (rows_back ss es) ss refl a.0 ∙ entries-back judge b ss es a.1 (omega arith) h.1)
 
 -- ---- the law for a cpu whose name can stand in a field
 
@@ -145,24 +161,27 @@ pub first-stands : (name : Text) → Stands name (cpu name ∷ [])
 unfolding group cuts_off has_cpu
 first-stands name = (refl, refl)
 
-fault-back : (name : Text) (rows : List Derivation) → AllByRecursion IsTaken rows → first_fault (line_cause name) [] (cpu name ∷ map preset rows) ≡ None
+pub written-back : (judge : InfixJudging) → GivesBack (judged_by judge)
+written-back judge = record { rest = rest-judged judge; def = def-judged judge }
+
+fault-back : (name : Text) (rows : List Derivation) → AllByRecursion (IsTaken judged) rows → first_fault (line_cause judged name) [] (cpu name ∷ both rows []) ≡ None
 unfolding first_fault
 fault-back name rows h = no-fault name (cpu name ∷ []) rows (first-stands name) h
-
-read-back : (name : Text) (rows : List Derivation) → AllByRecursion IsTaken rows → read_from name [] (cpu name ∷ map preset rows) ≡ rows
-unfolding read_from
-read-back name rows h = all-read name (cpu name ∷ []) rows (first-stands name) h
 
 length-symbols : length symbols ≡ 26
 unfolding symbols preset_rows
 length-symbols = refl
 
-pub fault-of-written : (t : TableView) → IsGood t.cpu → AllByRecursion IsEntry t.rows → first_fault (line_cause t.cpu) [] (lines_of (table_text t)) ≡ None
-fault-of-written t g h = ap (first_fault (line_cause t.cpu) []) (written-lines t g h) ∙ fault-back t.cpu (rows_back symbols t.rows) (all-taken symbols t.rows symbols-in h)
+pub fault-of-written : (t : TableView) → IsGood t.cpu → AllByRecursion IsEntry t.rows → first_fault (line_cause judged t.cpu) [] (lines_of (table_text t)) ≡ None
+fault-of-written t g h = ap (first_fault (line_cause judged t.cpu) []) (written-lines t g h) ∙ fault-back t.cpu (rows_back symbols t.rows) (table-taken judged (written-back uncomputed) t.rows h)
 
-pub presets-of-written : (t : TableView) → IsGood t.cpu → length t.rows ≡ 26 → AllByRecursion IsEntry t.rows → presets t.cpu (lines_of (table_text t)) ≡ t.rows
-unfolding presets
-presets-of-written t g n h =
-    ap (λ (ls : List Line). map (entry_of judged (read_from t.cpu [] ls)) symbols) (written-lines t g h)
-    ∙ ap (λ (rs : List Derivation). map (entry_of judged rs) symbols) (read-back t.cpu (rows_back symbols t.rows) (all-taken symbols t.rows symbols-in h))
-    ∙ entries-back symbols t.rows symbols-apart (n ∙ sym length-symbols) h
+-- a table's rows, and EVENT rows below them, give its entries
+pub presets-back : (judge : Judging) → GivesBack judge → (name : Text) (rows : List Entry) (es : List Derivation) → length rows ≡ 26 → AllByRecursion IsEntry rows
+    → presets judge name (cpu name ∷ both (rows_back symbols rows) es) ≡ rows
+unfolding presets read_from
+presets-back judge b name rows es n h =
+    ap (λ (rs : List Derivation). map (entry_of judge rs) symbols) (all-read judge name (cpu name ∷ []) (rows_back symbols rows) es (first-stands name) (table-taken judge b rows h))
+    ∙ entries-back judge b symbols rows symbols-apart (n ∙ sym length-symbols) h
+
+pub presets-of-written : (t : TableView) → IsGood t.cpu → length t.rows ≡ 26 → AllByRecursion IsEntry t.rows → presets judged t.cpu (lines_of (table_text t)) ≡ t.rows
+presets-of-written t g n h = ap (presets judged t.cpu) (written-lines t g h) ∙ presets-back judged (written-back uncomputed) t.cpu t.rows [] n h

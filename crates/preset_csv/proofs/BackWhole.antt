@@ -8,20 +8,22 @@ use Rattle.csv.specs.declared.parser.Action.{Action}
 use Rattle.csv.specs.declared.parser.Action.TheVariants as act
 use Rattle.csv.specs.declared.parser.State.{State}
 use Rattle.csv.specs.declared.parser.State.TheVariants as st
-use Rattle.table_rows.specs.Rows.{rows_of, rows_text, table_config}
+use Rattle.table_rows.specs.Rows.{IsReadRow, rows_of, rows_text, table_config}
 use Rattle.table_rows.specs.Texts.{Text, text_at}
 use Rattle.table_rows.proofs.Texts.{all-append}
-use Rattle.preset_csv.specs.Lines.{Line, cpu, line_of, lines_of, other, preset}
+use Rattle.preset_csv.specs.Lines.{Line, cpu, event, gives, line_of, lines_of, other, preset}
 use Rattle.table_rows.specs.Tables.{first_fault}
-use Rattle.preset_csv.specs.Presets.{has_cpu, line_cause, preset_fault, presets, presets_in}
+use Rattle.preset_csv.specs.Entries.{judged}
+use Rattle.preset_csv.specs.Presets.{Judging, has_cpu, holds, line_cause, preset_fault, presets, presets_in}
 use Rattle.preset_csv.specs.Tables.{IsMissing, IsTable, TableView, is_field, symbols}
 use Rattle.preset_csv.specs.Written.{ReadsBack, rows_of_entries, table_text}
 use Rattle.preset_csv.specs.declared.entry.Entry.{Entry}
+use Rattle.preset_csv.specs.declared.fault.PresetCause.{PresetCause}
 use Rattle.preset_csv.proofs.Back.{fault-of-written, presets-of-written}
 use Rattle.preset_csv.proofs.Fields.{field-good}
 use Rattle.preset_csv.proofs.Groups.{has_cpu-more}
 use Rattle.preset_csv.proofs.RowBack.{cpu-begins}
-use Rattle.preset_csv.proofs.TableKept.{IsLine, length-presets, lines-plain, no-presets, not-in-group}
+use Rattle.preset_csv.proofs.TableKept.{IsLine, length-presets, line-kept, lines-plain, no-presets, not-in-group}
 
 -- ---- the first record of a text that begins with a field and a comma
 
@@ -84,10 +86,10 @@ cpu-first : (xs : List ℕ) → next_record table_config st.StartRecord [] [] (c
 unfolding next_record
 cpu-first xs = refl
 
-pub record FirstRow (rows : List (List Text)) : Type 0 where
-  pub more : List Text
-  pub below : List (List Text)
-  pub is : rows ≡ (codes "CPU" ∷ more) ∷ below
+record FirstRow (rows : List (List Text)) : Type 0 where
+  more : List Text
+  below : List (List Text)
+  is : rows ≡ (codes "CPU" ∷ more) ∷ below
 
 strip-cpu : (xs : List ℕ) → strip_bom (cpu_text xs) ≡ cpu_text xs
 unfolding strip_bom
@@ -99,7 +101,7 @@ records-cpu n xs =
     let b = next-begins st.StartField (codes "CPU") [] [] xs tt in
     record { more = b.more; below = records_from table_config n b.state b.rest; is = ap (records_next (records_from table_config n)) (cpu-first xs ∙ b.is) }
 
-pub first-row : (xs : List ℕ) → FirstRow (rows_of (cpu_text xs))
+first-row : (xs : List ℕ) → FirstRow (rows_of (cpu_text xs))
 unfolding rows_of
 first-row xs =
     let n : length (cpu_text xs) + 1 ≡ suc (length (cpu_text xs)) = omega arith in
@@ -113,27 +115,36 @@ first-row xs =
 
 -- ---- a cpu whose name can stand in no field
 
-pub none-faulty : (name : Text) (above lines : List Line) → is_field name ≡ false → has_cpu above ≡ true → AllByRecursion IsLine above
-    → AllByRecursion IsLine lines → first_fault (line_cause name) above lines ≡ None
+-- no row below a CPU row has a cause, where the group above it does not hold the cpu
+abbrev pub Spares : Text → (List Line → Line → Option PresetCause) → Type 0
+Spares name cause = (above : List Line) (line : Line) → has_cpu above ≡ true → holds name above ≡ false → cause above line ≡ None
+
+none-faulty : (name : Text) (cause : List Line → Line → Option PresetCause) → Spares name cause → (above lines : List Line) → is_field name ≡ false → has_cpu above ≡ true
+    → AllByRecursion IsLine above → AllByRecursion IsLine lines → first_fault cause above lines ≡ None
 unfolding first_fault
-none-faulty name above [] e c a h = refl
-none-faulty name above (other ∷ rest) e c a h =
-    none-faulty name (above ++ other ∷ []) rest e (has_cpu-more above other ∙ rw c refl) (all-append IsLine above (other ∷ []) a (tt, tt)) h.1
-none-faulty name above (cpu n ∷ rest) e c a h =
-    none-faulty name (above ++ cpu n ∷ []) rest e (has_cpu-more above (cpu n) ∙ rw c refl) (all-append IsLine above (cpu n ∷ []) a (h.0, tt)) h.1
-none-faulty name above (preset r ∷ rest) e c a h =
-    rw (c, not-in-group name above e a)
-    (none-faulty name (above ++ preset r ∷ []) rest e (has_cpu-more above (preset r) ∙ rw c refl) (all-append IsLine above (preset r ∷ []) a (h.0, tt)) h.1)
+none-faulty name cause spares above [] e c a h = refl
+none-faulty name cause spares above (line ∷ rest) e c a h =
+    rw (spares above line c (not-in-group name above e a))
+    (none-faulty name cause spares (above ++ line ∷ []) rest e (has_cpu-more above line ∙ rw c refl) (all-append IsLine above (line ∷ []) a (h.0, tt)) h.1)
 
-begun-faultless : (name n : Text) (lines : List Line) → is_field name ≡ false → AllByRecursion IsLine (cpu n ∷ lines) → first_fault (line_cause name) [] (cpu n ∷ lines) ≡ None
+begun-faultless : (name : Text) (cause : List Line → Line → Option PresetCause) → Spares name cause → (n : Text) (lines : List Line) → cause [] (cpu n) ≡ None
+    → is_field name ≡ false → AllByRecursion IsLine (cpu n ∷ lines) → first_fault cause [] (cpu n ∷ lines) ≡ None
 unfolding first_fault has_cpu
-begun-faultless name n lines e h = none-faulty name (cpu n ∷ []) lines e refl (h.0, tt) h.1
+begun-faultless name cause spares n lines first e h = rw first (none-faulty name cause spares (cpu n ∷ []) lines e refl (h.0, tt) h.1)
 
-bad-faultless : (name : Text) (xs : List ℕ) → is_field name ≡ false → first_fault (line_cause name) [] (lines_of (cpu_text xs)) ≡ None
-bad-faultless name xs e =
+-- what each row says, which for a row of a cpu is that cpu
+pub record Says (of : List Text → Line) : Type 0 where
+  pub kept : (fields : List Text) → IsReadRow fields → IsLine (of fields)
+  pub begins : (rest : List Text) → of (codes "CPU" ∷ rest) ≡ cpu (text_at (codes "CPU" ∷ rest) 1)
+
+pub bad-faultless : (name : Text) (cause : List Line → Line → Option PresetCause) → Spares name cause → (of : List Text → Line) → Says of → ((n : Text) → cause [] (cpu n) ≡ None)
+    → (xs : List ℕ) → is_field name ≡ false → first_fault cause [] (map of (rows_of (cpu_text xs))) ≡ None
+bad-faultless name cause spares of says first xs e =
     let r = first-row xs in
-    let lines : lines_of (cpu_text xs) ≡ cpu (text_at (codes "CPU" ∷ r.more) 1) ∷ map line_of r.below = ap (map line_of) r.is ∙ ap (λ (l : Line). l ∷ map line_of r.below) (cpu-begins r.more) in
-    ap (first_fault (line_cause name) []) lines ∙ begun-faultless name (text_at (codes "CPU" ∷ r.more) 1) (map line_of r.below) e (subst (AllByRecursion IsLine) lines (lines-plain (cpu_text xs)))
+    let lines : map of (rows_of (cpu_text xs)) ≡ cpu (text_at (codes "CPU" ∷ r.more) 1) ∷ map of r.below = ap (map of) r.is ∙ ap (λ (l : Line). l ∷ map of r.below) (says.begins r.more) in
+    ap (first_fault cause []) lines
+    ∙ begun-faultless name cause spares (text_at (codes "CPU" ∷ r.more) 1) (map of r.below) (first (text_at (codes "CPU" ∷ r.more) 1)) e
+    (subst (AllByRecursion IsLine) lines (lines-plain of says.kept (cpu_text xs)))
 
 missing-same : (es fs : List Entry) → AllByRecursion IsMissing es → AllByRecursion IsMissing fs → length es ≡ length fs → es ≡ fs
 missing-same [] [] h k n = refl
@@ -146,19 +157,28 @@ missing-same (e ∷ es) (f ∷ fs) h k n = ap₂ (λ (x : Entry) (xs : List Entr
 abbrev table-of : Text → List Entry → TableView
 table-of name rows = record { cpu = name; rows = rows }
 
-bad-text : (t : TableView) → is_field t.cpu ≡ false → first_fault (line_cause t.cpu) [] (lines_of (table_text t)) ≡ None
+pub spares : (judge : Judging) (name : Text) → Spares name (line_cause judge name)
+spares judge name above other c h = refl
+spares judge name above (cpu n) c h = refl
+spares judge name above (gives preset r) c h = rw (c, h) refl
+spares judge name above (gives event r) c h = rw c refl
+
+says : Says line_of
+says = record { kept = line-kept; begins = cpu-begins }
+
+bad-text : (t : TableView) → is_field t.cpu ≡ false → first_fault (line_cause judged t.cpu) [] (lines_of (table_text t)) ≡ None
 unfolding table_text rows_text
-bad-text t e = bad-faultless t.cpu (t.cpu ++ (10 ∷ rows_text (rows_of_entries symbols t.rows))) e
+bad-text t e = bad-faultless t.cpu (line_cause judged t.cpu) (spares judged t.cpu) line_of says (λ n. refl) (t.cpu ++ (10 ∷ rows_text (rows_of_entries symbols t.rows))) e
+
+-- where no row is read, the table has no entry
+pub no-entries : (judge : Judging) (t : TableView) (lines : List Line) → IsTable t → is_field t.cpu ≡ false → AllByRecursion IsLine lines → presets judge t.cpu lines ≡ t.rows
+no-entries judge t lines h e l = missing-same _ _ (no-presets judge t.cpu lines e l) (h.named e) (length-presets judge t.cpu lines ∙ sym h.all)
 
 -- what is written reads back
 pub reads-back : (t : TableView) → IsTable t → ReadsBack (table_text t) t
 unfolding preset_fault presets_in
 reads-back t h = go (is_field t.cpu) refl
   where
-    go : (b : Bool) → is_field t.cpu ≡ b → (first_fault (line_cause t.cpu) [] (lines_of (table_text t)) ≡ None) × (table-of t.cpu (presets t.cpu (lines_of (table_text t))) ≡ t)
+    go : (b : Bool) → is_field t.cpu ≡ b → (first_fault (line_cause judged t.cpu) [] (lines_of (table_text t)) ≡ None) × (table-of t.cpu (presets judged t.cpu (lines_of (table_text t))) ≡ t)
     go true e = (fault-of-written t (field-good t.cpu e) h.each, ap (table-of t.cpu) (presets-of-written t (field-good t.cpu e) h.all h.each))
-    go false e = (
-      bad-text t e,
-      ap (table-of t.cpu)
-          (missing-same _ _ (no-presets t.cpu (lines_of (table_text t)) e (lines-plain (table_text t))) (h.named e) (length-presets t.cpu (lines_of (table_text t)) ∙ sym h.all)),
-    )
+    go false e = (bad-text t e, ap (table-of t.cpu) (no-entries judged t (lines_of (table_text t)) h e (lines-plain line_of line-kept (table_text t))))

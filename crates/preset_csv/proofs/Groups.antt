@@ -2,23 +2,23 @@
 use Rattle.std.proofs.Common.{◌≡◌, ◌∙◌, ◌∷◌, ◌++◌, ◌||◌, Bool, true, false, List, [], refl}
 use Rattle.std.specs.Prelude.{if◌then◌else◌}
 use Rattle.table_rows.specs.Texts.{Text}
-use Rattle.preset_csv.specs.Lines.{Line, other, cpu, preset}
+use Rattle.preset_csv.specs.Lines.{Line, other, cpu, gives}
 use Rattle.preset_csv.specs.Presets.{cuts_off, group, has_cpu}
 use Rattle.preset_csv.specs.Steps.{is_closed}
 
 abbrev pub is_cpu : Line → Bool
 is_cpu other = false
 is_cpu (cpu n) = true
-is_cpu (preset r) = false
+is_cpu (gives w r) = false
 
 pub has_cpu-more : (above : List Line) (line : Line) → has_cpu (above ++ line ∷ []) ≡ (has_cpu above || is_cpu line)
 unfolding has_cpu
 has_cpu-more [] other = refl
 has_cpu-more [] (cpu n) = refl
-has_cpu-more [] (preset r) = refl
+has_cpu-more [] (gives w r) = refl
 has_cpu-more (other ∷ rest) line = has_cpu-more rest line
 has_cpu-more (cpu n ∷ rest) line = refl
-has_cpu-more (preset r ∷ rest) line = has_cpu-more rest line
+has_cpu-more (gives w r ∷ rest) line = has_cpu-more rest line
 
 pub or-false : (b : Bool) → (b || false) ≡ b
 or-false true = refl
@@ -33,18 +33,18 @@ cuts-same : (above : List Line) (line : Line) → is_cpu line ≡ false → cuts
 unfolding cuts_off has_cpu
 cuts-same [] other e = refl
 cuts-same [] (cpu n) e = refl
-cuts-same [] (preset r) e = refl
+cuts-same [] (gives w r) e = refl
 cuts-same (other ∷ rest) line e = cuts-same rest line e
 cuts-same (cpu n ∷ rest) line e = cuts-same rest line e
-cuts-same (preset r ∷ rest) line e = has_cpu-more rest line ∙ rw e (or-false (has_cpu rest))
+cuts-same (gives w r ∷ rest) line e = has_cpu-more rest line ∙ rw e (or-false (has_cpu rest))
 
 group-same : (above : List Line) (line : Line) → is_cpu line ≡ false → group (above ++ line ∷ []) ≡ group above
 unfolding group cuts_off
 group-same [] other e = refl
 group-same [] (cpu n) e = cc e
-group-same [] (preset r) e = refl
+group-same [] (gives w r) e = refl
 group-same (other ∷ rest) line e = group-same rest line e
-group-same (preset r ∷ rest) line e = group-same rest line e
+group-same (gives w r ∷ rest) line e = group-same rest line e
 group-same (cpu n ∷ rest) line e = rw (cuts-same rest line e, group-same rest line e) refl
 
 -- a CPU row: a closed group is cut off
@@ -53,14 +53,14 @@ unfolding is_closed cuts_off has_cpu
 has_preset-cuts [] n e = cc e
 has_preset-cuts (other ∷ rest) n e = has_preset-cuts rest n e
 has_preset-cuts (cpu m ∷ rest) n e = has_preset-cuts rest n e
-has_preset-cuts (preset r ∷ rest) n e = has_cpu-more rest (cpu n) ∙ or-true (has_cpu rest)
+has_preset-cuts (gives w r ∷ rest) n e = has_cpu-more rest (cpu n) ∙ or-true (has_cpu rest)
 
 cuts-open : (above : List Line) (n : Text) → is_closed above ≡ false → cuts_off (above ++ cpu n ∷ []) ≡ cuts_off above
 unfolding is_closed cuts_off has_cpu
 cuts-open [] n e = refl
 cuts-open (other ∷ rest) n e = cuts-open rest n e
 cuts-open (cpu m ∷ rest) n e = cuts-open rest n e
-cuts-open (preset r ∷ rest) n e = go (has_cpu rest) e (has_cpu-more rest (cpu n) ∙ or-true (has_cpu rest))
+cuts-open (gives w r ∷ rest) n e = go (has_cpu rest) e (has_cpu-more rest (cpu n) ∙ or-true (has_cpu rest))
   where
     go : (b : Bool) → (if b then is_closed rest else true) ≡ false → has_cpu (rest ++ cpu n ∷ []) ≡ true → has_cpu (rest ++ cpu n ∷ []) ≡ b
     go true q t = t
@@ -70,7 +70,7 @@ group-open : (above : List Line) (n : Text) → is_closed above ≡ false → gr
 unfolding group cuts_off is_closed
 group-open [] n e = refl
 group-open (other ∷ rest) n e = group-open rest n e
-group-open (preset r ∷ rest) n e = go (has_cpu rest) e (λ q. group-open rest n q)
+group-open (gives w r ∷ rest) n e = go (has_cpu rest) e (λ q. group-open rest n q)
   where
     go : (b : Bool) → (if b then is_closed rest else true) ≡ false → (is_closed rest ≡ false → group (rest ++ cpu n ∷ []) ≡ group rest ++ n ∷ []) → group (rest ++ cpu n ∷ []) ≡ group rest ++ n ∷ []
     go true q more = more q
@@ -82,19 +82,19 @@ group-open (cpu m ∷ rest) n e = go (cuts_off rest) (cuts-open rest n e) (group
     go true c g = rw (c, g) refl
     go false c g = rw (c, g) refl
 
--- with a PRESET row in it and no CPU row after it
+-- with a row in it that gives an entry, and no CPU row after it
 group-closed : (above : List Line) (n : Text) → is_closed above ≡ true → group (above ++ cpu n ∷ []) ≡ n ∷ []
 unfolding group cuts_off is_closed has_cpu
 group-closed [] n e = cc e
 group-closed (other ∷ rest) n e = group-closed rest n e
 group-closed (cpu m ∷ rest) n e = rw (has_preset-cuts rest n e) (group-closed rest n e)
-group-closed (preset r ∷ rest) n e = go (has_cpu rest) refl e (λ q. group-closed rest n q)
+group-closed (gives w r ∷ rest) n e = go (has_cpu rest) refl e (λ q. group-closed rest n q)
   where
     none : (xs : List Line) → has_cpu xs ≡ false → group (xs ++ cpu n ∷ []) ≡ n ∷ []
     none [] q = refl
     none (other ∷ xs) q = none xs q
     none (cpu m ∷ xs) q = cc q
-    none (preset s ∷ xs) q = none xs q
+    none (gives v s ∷ xs) q = none xs q
 
     go : (b : Bool) → has_cpu rest ≡ b → (if b then is_closed rest else true) ≡ true → (is_closed rest ≡ true → group (rest ++ cpu n ∷ []) ≡ n ∷ []) → group (rest ++ cpu n ∷ []) ≡ n ∷ []
     go true h q more = more q
@@ -103,17 +103,17 @@ group-closed (preset r ∷ rest) n e = go (has_cpu rest) refl e (λ q. group-clo
 -- the group with one row more
 abbrev pub names_more : List Line → Line → List Text
 names_more above other = group above
-names_more above (preset r) = group above
+names_more above (gives w r) = group above
 names_more above (cpu n) = if is_closed above then n ∷ [] else group above ++ n ∷ []
 
 abbrev pub closed_more : List Line → Line → Bool
 closed_more above other = is_closed above
-closed_more above (preset r) = true
+closed_more above (gives w r) = true
 closed_more above (cpu n) = false
 
 pub names-more : (above : List Line) (line : Line) → group (above ++ line ∷ []) ≡ names_more above line
 names-more above other = group-same above other refl
-names-more above (preset r) = group-same above (preset r) refl
+names-more above (gives w r) = group-same above (gives w r) refl
 names-more above (cpu n) = go (is_closed above) refl
   where
     go : (b : Bool) → is_closed above ≡ b → group (above ++ cpu n ∷ []) ≡ (if b then n ∷ [] else group above ++ n ∷ [])
@@ -124,16 +124,16 @@ pub closed-more : (above : List Line) (line : Line) → is_closed (above ++ line
 unfolding is_closed has_cpu
 closed-more [] other = refl
 closed-more [] (cpu n) = refl
-closed-more [] (preset r) = refl
+closed-more [] (gives w r) = refl
 closed-more (other ∷ rest) other = closed-more rest other
 closed-more (other ∷ rest) (cpu n) = closed-more rest (cpu n)
-closed-more (other ∷ rest) (preset r) = closed-more rest (preset r)
+closed-more (other ∷ rest) (gives w r) = closed-more rest (gives w r)
 closed-more (cpu m ∷ rest) other = closed-more rest other
 closed-more (cpu m ∷ rest) (cpu n) = closed-more rest (cpu n)
-closed-more (cpu m ∷ rest) (preset r) = closed-more rest (preset r)
-closed-more (preset s ∷ rest) other = rw (has_cpu-more rest other, or-false (has_cpu rest), closed-more rest other) refl
-closed-more (preset s ∷ rest) (cpu n) = rw (has_cpu-more rest (cpu n), or-true (has_cpu rest), closed-more rest (cpu n)) refl
-closed-more (preset s ∷ rest) (preset r) = rw (has_cpu-more rest (preset r), or-false (has_cpu rest), closed-more rest (preset r)) (go (has_cpu rest))
+closed-more (cpu m ∷ rest) (gives w r) = closed-more rest (gives w r)
+closed-more (gives v s ∷ rest) other = rw (has_cpu-more rest other, or-false (has_cpu rest), closed-more rest other) refl
+closed-more (gives v s ∷ rest) (cpu n) = rw (has_cpu-more rest (cpu n), or-true (has_cpu rest), closed-more rest (cpu n)) refl
+closed-more (gives v s ∷ rest) (gives w r) = rw (has_cpu-more rest (gives w r), or-false (has_cpu rest), closed-more rest (gives w r)) (go (has_cpu rest))
   where
     go : (b : Bool) → (if b then true else true) ≡ true
     go true = refl

@@ -9,7 +9,7 @@ use Rattle.postfix_rules.specs.Faults.{FormulaView, IsFormula}
 use Rattle.postfix_rules.specs.Reading.{Refused, formula_of}
 use Rattle.postfix_rules.proofs.Refusals.{same_tokens}
 use Rattle.preset_csv.specs.Defs.{Agrees, IsDef, IsNativeText}
-use Rattle.preset_csv.specs.Entries.{formula_entry, has_rate, judged, judged_as, kept_entry, kept_natives, typed_entry}
+use Rattle.preset_csv.specs.Entries.{InfixJudging, formula_entry, has_rate, judged_as, judged_by, kept_entry, kept_natives, typed_entry}
 use Rattle.preset_csv.specs.Lines.{Derivation}
 use Rattle.preset_csv.specs.Tables.{IsEntry}
 use Rattle.preset_csv.specs.declared.entry.Entry.{Entry}
@@ -48,50 +48,54 @@ formula-kept natives text ready = go (formula_of (length natives) text) refl
     go (Ok f) e = def-kept natives kind.Postfix (Some f) ready (read-agrees natives text f e)
     go (Err refused) e = tt
 
-typed-kept : (t : DerivedType) (formula : Text) (natives : List Text) → Ready natives → Keeps (typed_entry t formula natives)
-typed-kept derived.NotDerived formula natives ready = go (length natives == 1) refl
+-- the entries of formulas in infix order can stand in a table
+abbrev pub InfixKept : InfixJudging → Type 0
+InfixKept judge = (formula : Text) (natives : List Text) → Ready natives → Keeps (judge formula natives)
+
+typed-kept : (judge : InfixJudging) → InfixKept judge → (t : DerivedType) (formula : Text) (natives : List Text) → Ready natives → Keeps (typed_entry judge t formula natives)
+typed-kept judge k derived.NotDerived formula natives ready = go (length natives == 1) refl
   where
     go : (b : Bool) → (length natives == 1) ≡ b → Keeps (if b then Ok (entry.Def (record { kind = kind.NotDerived; formula = None; natives = natives })) else Ok entry.Uncomputed)
     go true e = def-kept natives kind.NotDerived None ready (eqb-true (length natives) 1 e)
     go false e = tt
-typed-kept derived.Add formula natives ready = def-kept natives kind.Add None ready tt
-typed-kept derived.Sub formula natives ready = def-kept natives kind.Sub None ready tt
-typed-kept derived.Postfix formula natives ready = go (has_rate formula)
+typed-kept judge k derived.Add formula natives ready = def-kept natives kind.Add None ready tt
+typed-kept judge k derived.Sub formula natives ready = def-kept natives kind.Sub None ready tt
+typed-kept judge k derived.Postfix formula natives ready = go (has_rate formula)
   where
     go : (b : Bool) → Keeps (if b then Ok entry.Uncomputed else formula_entry natives (formula_of (length natives) formula))
     go true = tt
     go false = formula-kept natives formula ready
-typed-kept derived.Infix formula natives ready = tt
-typed-kept derived.Ps formula natives ready = tt
-typed-kept derived.AddPs formula natives ready = tt
-typed-kept derived.Cmpd formula natives ready = tt
+typed-kept judge k derived.Infix formula natives ready = k formula natives ready
+typed-kept judge k derived.Ps formula natives ready = tt
+typed-kept judge k derived.AddPs formula natives ready = tt
+typed-kept judge k derived.Cmpd formula natives ready = tt
 
 some-natives : (natives : List Text) → is_empty natives ≡ false → 1 ≤ length natives
 some-natives [] e = cc e
 some-natives (t ∷ rest) e = omega arith
 
-entry-kept : (t : DerivedType) (formula : Text) (natives : Result (List Text) PresetCause)
-    → IfOk natives (λ kept. AllByRecursion IsNativeText kept × (length kept ≤ MOST_NATIVES)) → Keeps (kept_entry t formula natives)
-entry-kept t formula (Ok natives) h = go (is_empty natives) refl
+entry-kept : (judge : InfixJudging) → InfixKept judge → (t : DerivedType) (formula : Text) (natives : Result (List Text) PresetCause)
+    → IfOk natives (λ kept. AllByRecursion IsNativeText kept × (length kept ≤ MOST_NATIVES)) → Keeps (kept_entry judge t formula natives)
+entry-kept judge k t formula (Ok natives) h = go (is_empty natives) refl
   where
-    go : (b : Bool) → is_empty natives ≡ b → Keeps (if b then Ok entry.Uncomputed else typed_entry t formula natives)
+    go : (b : Bool) → is_empty natives ≡ b → Keeps (if b then Ok entry.Uncomputed else typed_entry judge t formula natives)
     go true e = tt
-    go false e = typed-kept t formula natives (record { each = h.0; some = some-natives natives e; few = h.1 })
-entry-kept t formula (Err why) h = tt
+    go false e = typed-kept judge k t formula natives (record { each = h.0; some = some-natives natives e; few = h.1 })
+entry-kept judge k t formula (Err why) h = tt
 
-as-kept : (t : Option DerivedType) (formula : Text) (natives : List Text) → AllByRecursion IsNative natives → Keeps (judged_as t formula natives)
-as-kept None formula natives h = tt
-as-kept (Some t) formula natives h = go (is_printable formula)
+as-kept : (judge : InfixJudging) → InfixKept judge → (t : Option DerivedType) (formula : Text) (natives : List Text) → AllByRecursion IsNative natives → Keeps (judged_as judge t formula natives)
+as-kept judge k None formula natives h = tt
+as-kept judge k (Some t) formula natives h = go (is_printable formula)
   where
     texts : (o : Result (List Text) PresetCause) → kept_natives natives ≡ o → IfOk o (λ kept. AllByRecursion IsNativeText kept × (length kept ≤ MOST_NATIVES))
-    texts (Ok kept) e = let k = kept-is natives kept e in (subst (AllByRecursion IsNativeText) k.0 (texts-kept natives h k.1), k.2)
+    texts (Ok kept) e = let i = kept-is natives kept e in (subst (AllByRecursion IsNativeText) i.0 (texts-kept natives h i.1), i.2)
     texts (Err why) e = tt
 
-    go : (b : Bool) → Keeps (if b then kept_entry t formula (kept_natives natives) else Err cause.BadField)
-    go true = entry-kept t formula (kept_natives natives) (texts (kept_natives natives) refl)
+    go : (b : Bool) → Keeps (if b then kept_entry judge t formula (kept_natives natives) else Err cause.BadField)
+    go true = entry-kept judge k t formula (kept_natives natives) (texts (kept_natives natives) refl)
     go false = tt
 
 -- the entry of a row whose natives are fields
-pub judged-kept : (r : Derivation) → AllByRecursion IsNative r.natives → Keeps (judged r)
-unfolding judged
-judged-kept r h = as-kept r.derived_type r.formula r.natives h
+pub judged-kept : (judge : InfixJudging) → InfixKept judge → (r : Derivation) → AllByRecursion IsNative r.natives → Keeps (judged_by judge r)
+unfolding judged_by
+judged-kept judge k r h = as-kept judge k r.derived_type r.formula r.natives h

@@ -7,9 +7,8 @@ use Rattle.std.proofs.lemmas.List.Folds.{list_any-append}
 use Rattle.std.proofs.lemmas.List.Sums.{fold-append}
 use Rattle.table_rows.specs.Texts.{Text}
 use Rattle.preset_table.specs.Table.{row_of}
-use Rattle.preset_csv.specs.Entries.{judged}
-use Rattle.preset_csv.specs.Lines.{Derivation, Line, cpu, other, preset}
-use Rattle.preset_csv.specs.Presets.{Judging, entry_of, entry_or, group, has_cpu, is_read, line_cause, presets, read_from, rows_if}
+use Rattle.preset_csv.specs.Lines.{Derivation, Line, cpu, event, gives, other, preset}
+use Rattle.preset_csv.specs.Presets.{Judging, entry_of, entry_or, group, has_cpu, holds, line_cause, preset_read, presets, presets_read, read_from, rows_if}
 use Rattle.preset_csv.specs.Steps.{cause_more, entries_more, entries_with, group_at, group_more, is_closed, placed}
 use Rattle.preset_csv.specs.Tables.{symbols}
 use Rattle.preset_csv.specs.declared.entry.Entry.{Entry}
@@ -36,36 +35,27 @@ holds-more name n false names = list_any-append (λ m. bytes_eq name m) names (n
 
 pub group-one-more : (name : Text) (above : List Line) (line : Line) → group_at name (above ++ line ∷ []) ≡ group_more name (group_at name above) line
 group-one-more name above other = rw (has_cpu-more above other, or-false (has_cpu above), closed-more above other, names-more above other) refl
-group-one-more name above (preset r) = rw (has_cpu-more above (preset r), or-false (has_cpu above), closed-more above (preset r), names-more above (preset r)) refl
+group-one-more name above (gives w r) = rw (has_cpu-more above (gives w r), or-false (has_cpu above), closed-more above (gives w r), names-more above (gives w r)) refl
 group-one-more name above (cpu n) =
     rw (has_cpu-more above (cpu n), or-true (has_cpu above), closed-more above (cpu n), names-more above (cpu n))
     (ap (group_of true false) (holds-more name n (is_closed above) (group above)))
 
 -- ---- the cause
 
-pub cause-one-more : (name : Text) (above : List Line) (line : Line) → line_cause name above line ≡ cause_more (group_at name above) line
-cause-one-more name above other = refl
-cause-one-more name above (cpu n) = refl
-cause-one-more name above (preset r) = refl
+pub cause-one-more : (judge : Judging) (name : Text) (above : List Line) (line : Line) → line_cause judge name above line ≡ cause_more judge (group_at name above) line
+cause-one-more judge name above other = refl
+cause-one-more judge name above (cpu n) = refl
+cause-one-more judge name above (gives preset r) = refl
+cause-one-more judge name above (gives event r) = refl
 
 -- ---- the entries
 
-read-append : (name : Text) (a xs : List Line) (line : Line) → read_from name a (xs ++ line ∷ []) ≡ read_from name a xs ++ read_from name (a ++ xs) (line ∷ [])
+pub read-more : (adds : List Line → Line → List Derivation) (a xs : List Line) (line : Line) → read_from adds a (xs ++ line ∷ []) ≡ read_from adds a xs ++ adds (a ++ xs) line
 unfolding read_from
-read-append name a [] line = ap (λ (b : List Line). read_from name b (line ∷ [])) (sym (append-nil a))
-read-append name a (other ∷ xs) line =
-    read-append name (a ++ other ∷ []) xs line ∙ ap (λ (b : List Line). read_from name (a ++ other ∷ []) xs ++ read_from name b (line ∷ [])) (append_assoc a (other ∷ []) xs)
-read-append name a (cpu n ∷ xs) line =
-    read-append name (a ++ cpu n ∷ []) xs line ∙ ap (λ (b : List Line). read_from name (a ++ cpu n ∷ []) xs ++ read_from name b (line ∷ [])) (append_assoc a (cpu n ∷ []) xs)
-read-append name a (preset r ∷ xs) line =
-    go (is_read name a r) (read-append name (a ++ preset r ∷ []) xs line
-    ∙ ap (λ (b : List Line). read_from name (a ++ preset r ∷ []) xs ++ read_from name b (line ∷ [])) (append_assoc a (preset r ∷ []) xs))
-  where
-    go : (b : Bool) → read_from name (a ++ preset r ∷ []) (xs ++ line ∷ []) ≡ read_from name (a ++ preset r ∷ []) xs ++ read_from name (a ++ preset r ∷ xs) (line ∷ [])
-        → (if b then r ∷ read_from name (a ++ preset r ∷ []) (xs ++ line ∷ []) else read_from name (a ++ preset r ∷ []) (xs ++ line ∷ []))
-        ≡ (if b then r ∷ read_from name (a ++ preset r ∷ []) xs else read_from name (a ++ preset r ∷ []) xs) ++ read_from name (a ++ preset r ∷ xs) (line ∷ [])
-    go true e = ap (λ (t : List Derivation). r ∷ t) e
-    go false e = e
+read-more adds a [] line = append-nil (adds a line) ∙ ap (λ (b : List Line). adds b line) (sym (append-nil a))
+read-more adds a (x ∷ xs) line =
+    ap (λ (rs : List Derivation). adds a x ++ rs) (read-more adds (a ++ x ∷ []) xs line ∙ ap (λ (b : List Line). read_from adds (a ++ x ∷ []) xs ++ adds b line) (append_assoc a (x ∷ []) xs))
+    ∙ sym (append_assoc (adds a x) (read_from adds (a ++ x ∷ []) xs) (adds (a ++ x ∷ xs) line))
 
 pub map-same : {X : Type 0} (f g : Text → X) (ss : List Text) → ((s : Text) → f s ≡ g s) → map f ss ≡ map g ss
 map-same f g [] h = refl
@@ -111,10 +101,12 @@ taken-more judge rows r true =
     go None h = unread judge rows
     go (Some row) h = h
 
-pub entries-one-more : (name : Text) (above : List Line) (line : Line) → presets name (above ++ line ∷ []) ≡ entries_more (group_at name above) (presets name above) line
-unfolding presets read_from
-entries-one-more name above other = ap (λ (t : List Derivation). map (entry_of judged t) symbols) (read-append name [] above other) ∙ unread judged (read_from name [] above)
-entries-one-more name above (cpu n) = ap (λ (t : List Derivation). map (entry_of judged t) symbols) (read-append name [] above (cpu n)) ∙ unread judged (read_from name [] above)
-entries-one-more name above (preset r) =
-    ap (λ (t : List Derivation). map (entry_of judged t) symbols) (read-append name [] above (preset r))
-    ∙ taken-more judged (read_from name [] above) r (list_any (λ n. bytes_eq name n) (group above))
+pub entries-one-more : (judge : Judging) (name : Text) (above : List Line) (line : Line) → presets judge name (above ++ line ∷ []) ≡ entries_more judge (group_at name above) (presets judge name above) line
+unfolding presets
+entries-one-more judge name above line = ap (λ (t : List Derivation). map (entry_of judge t) symbols) (read-more (preset_read name) [] above line) ∙ go line
+  where
+    go : (line : Line) → map (entry_of judge (presets_read name above ++ preset_read name above line)) symbols ≡ entries_more judge (group_at name above) (map (entry_of judge (presets_read name above)) symbols) line
+    go other = unread judge (presets_read name above)
+    go (cpu n) = unread judge (presets_read name above)
+    go (gives preset r) = taken-more judge (presets_read name above) r (holds name above)
+    go (gives event r) = unread judge (presets_read name above)

@@ -11,9 +11,9 @@ use Rattle.postfix_rules.specs.Reading.{formula_of}
 use Rattle.postfix_rules.specs.Tokens.{formula_text}
 use Rattle.postfix_rules.proofs.Written.{written_read}
 use Rattle.preset_csv.specs.Defs.{Agrees, DefView, IsDef, IsNativeText}
-use Rattle.preset_csv.specs.Entries.{judged}
+use Rattle.preset_csv.specs.Entries.{InfixJudging, judged_by}
 use Rattle.preset_csv.specs.Kinds.{kind_text, type_of}
-use Rattle.preset_csv.specs.Lines.{Derivation, cpu, derivation, derivation_of, line_of, natives_in, preset}
+use Rattle.preset_csv.specs.Lines.{Derivation, cpu, derivation, derivation_of, line_of, gives, natives_in, preset}
 use Rattle.preset_csv.specs.Written.{formula_fields}
 use Rattle.preset_csv.specs.declared.entry.Entry.TheVariants as entry
 use Rattle.preset_csv.specs.declared.kind.Kind.{Kind}
@@ -88,7 +88,7 @@ pub fourth-good : (a b c t : Text) (rest : List Text) → IsGood t → text_at (
 unfolding text_at
 fourth-good a b c t rest g = g.1
 
-preset-line : (rest : List Text) → line_of (codes "PRESET" ∷ rest) ≡ preset (derivation_of (codes "PRESET" ∷ rest))
+pub preset-line : (rest : List Text) → line_of (codes "PRESET" ∷ rest) ≡ gives preset (derivation_of (codes "PRESET" ∷ rest))
 unfolding line_of
 preset-line rest = rw (first-good (codes "PRESET") rest (word-good (codes "PRESET") refl)) refl
 
@@ -125,19 +125,19 @@ typed-row s kind.Postfix (Some f) natives g each few agrees =
       natives-read natives each,
     ) refl
 
-pub def-line : (s : Text) (d : DefView) → IsGood s → IsDef d → line_of (row_fields s d.kind d.formula d.natives) ≡ preset (def_row s d.kind d.formula d.natives)
+pub def-line : (s : Text) (d : DefView) → IsGood s → IsDef d → line_of (row_fields s d.kind d.formula d.natives) ≡ gives preset (def_row s d.kind d.formula d.natives)
 unfolding derivation_of
 def-line s d g h =
     let fields = row_fields s d.kind d.formula d.natives in
     let type_is = third-good (codes "PRESET") s (kind_text d.kind) (formula_fields d.formula ++ d.natives) (kind-good d.kind) in
     preset-line (s ∷ kind_text d.kind ∷ (formula_fields d.formula ++ d.natives))
-    ∙ ap preset (ap (λ (t : Text). derivation fields (type_of t)) type_is ∙ ap (derivation fields) (type-back d.kind) ∙ typed-row s d.kind d.formula d.natives g h.each h.few h.agrees)
+    ∙ ap (gives preset) (ap (λ (t : Text). derivation fields (type_of t)) type_is ∙ ap (derivation fields) (type-back d.kind) ∙ typed-row s d.kind d.formula d.natives g h.each h.few h.agrees)
 
-pub rest-line : (s : Text) → IsGood s → line_of (rest_fields s) ≡ preset (rest_row s)
+pub rest-line : (s : Text) → IsGood s → line_of (rest_fields s) ≡ gives preset (rest_row s)
 unfolding derivation_of type_of natives_in
 rest-line s g =
     preset-line (s ∷ codes "DERIVED_CMPD" ∷ [])
-    ∙ ap preset (rw (third-good (codes "PRESET") s (codes "DERIVED_CMPD") [] (word-good (codes "DERIVED_CMPD") refl), second-good (codes "PRESET") s (codes "DERIVED_CMPD" ∷ []) g) refl)
+    ∙ ap (gives preset) (rw (third-good (codes "PRESET") s (codes "DERIVED_CMPD") [] (word-good (codes "DERIVED_CMPD") refl), second-good (codes "PRESET") s (codes "DERIVED_CMPD" ∷ []) g) refl)
 
 -- ---- the row's judgement
 
@@ -148,34 +148,34 @@ filled (t ∷ rest) h = refl
 eight : (natives : List Text) → length natives ≤ MOST_NATIVES → nat_lt MOST_NATIVES (length natives) ≡ false
 eight natives h = le-ltb MOST_NATIVES (length natives) h
 
-judged-plain : (s : Text) (k : Kind) (natives : List Text) → AllByRecursion IsNativeText natives → 1 ≤ length natives → length natives ≤ MOST_NATIVES → Agrees k None natives
-    → judged (def_row s k None natives) ≡ Ok (entry.Def (record { kind = k; formula = None; natives = natives }))
-unfolding judged
-judged-plain s kind.NotDerived natives each some few agrees = rw (natives-printed natives each, eight natives few, filled natives some, eq-eqb (length natives) 1 agrees) refl
-judged-plain s kind.Add natives each some few agrees = rw (natives-printed natives each, eight natives few, filled natives some) refl
-judged-plain s kind.Sub natives each some few agrees = rw (natives-printed natives each, eight natives few, filled natives some) refl
-judged-plain s kind.Postfix natives each some few agrees = absurd agrees
+judged-plain : (judge : InfixJudging) (s : Text) (k : Kind) (natives : List Text) → AllByRecursion IsNativeText natives → 1 ≤ length natives → length natives ≤ MOST_NATIVES → Agrees k None natives
+    → judged_by judge (def_row s k None natives) ≡ Ok (entry.Def (record { kind = k; formula = None; natives = natives }))
+unfolding judged_by
+judged-plain judge s kind.NotDerived natives each some few agrees = rw (natives-printed natives each, eight natives few, filled natives some, eq-eqb (length natives) 1 agrees) refl
+judged-plain judge s kind.Add natives each some few agrees = rw (natives-printed natives each, eight natives few, filled natives some) refl
+judged-plain judge s kind.Sub natives each some few agrees = rw (natives-printed natives each, eight natives few, filled natives some) refl
+judged-plain judge s kind.Postfix natives each some few agrees = absurd agrees
 
-judged-postfix : (s : Text) (f : FormulaView) (natives : List Text) → AllByRecursion IsNativeText natives → 1 ≤ length natives → length natives ≤ MOST_NATIVES → Agrees kind.Postfix (Some f) natives
-    → judged (def_row s kind.Postfix (Some f) natives) ≡ Ok (entry.Def (record { kind = kind.Postfix; formula = Some f; natives = natives }))
-unfolding judged
-judged-postfix s f natives each some few agrees =
+judged-postfix : (judge : InfixJudging) (s : Text) (f : FormulaView) (natives : List Text) → AllByRecursion IsNativeText natives → 1 ≤ length natives → length natives ≤ MOST_NATIVES → Agrees kind.Postfix (Some f) natives
+    → judged_by judge (def_row s kind.Postfix (Some f) natives) ≡ Ok (entry.Def (record { kind = kind.Postfix; formula = Some f; natives = natives }))
+unfolding judged_by
+judged-postfix judge s f natives each some few agrees =
     let lt = small f natives few agrees.0 in
     let written = formula-ink f lt agrees.1 in
     let read : formula_of (length natives) (formula_text f.tokens) ≡ Ok f = subst (λ (n : ℕ). formula_of n (formula_text f.tokens) ≡ Ok f) agrees.0 (written_read f lt agrees.1) in
     rw (ink-printed (formula_text f.tokens) written, natives-printed natives each, eight natives few, filled natives some, no-rate (formula_text f.tokens) written, read) refl
 
-pub def-judged : (s : Text) (d : DefView) → IsDef d → judged (def_row s d.kind d.formula d.natives) ≡ Ok (entry.Def d)
-def-judged s d h = go d.kind d.formula d.natives h.each h.some h.few h.agrees
+pub def-judged : (judge : InfixJudging) (s : Text) (d : DefView) → IsDef d → judged_by judge (def_row s d.kind d.formula d.natives) ≡ Ok (entry.Def d)
+def-judged judge s d h = go d.kind d.formula d.natives h.each h.some h.few h.agrees
   where
     go : (k : Kind) (f : Option FormulaView) (natives : List Text) → AllByRecursion IsNativeText natives → 1 ≤ length natives → length natives ≤ MOST_NATIVES → Agrees k f natives
-        → judged (def_row s k f natives) ≡ Ok (entry.Def (record { kind = k; formula = f; natives = natives }))
-    go k None natives each some few agrees = judged-plain s k natives each some few agrees
+        → judged_by judge (def_row s k f natives) ≡ Ok (entry.Def (record { kind = k; formula = f; natives = natives }))
+    go k None natives each some few agrees = judged-plain judge s k natives each some few agrees
     go kind.NotDerived (Some f) natives each some few agrees = absurd agrees
     go kind.Add (Some f) natives each some few agrees = absurd agrees
     go kind.Sub (Some f) natives each some few agrees = absurd agrees
-    go kind.Postfix (Some f) natives each some few agrees = judged-postfix s f natives each some few agrees
+    go kind.Postfix (Some f) natives each some few agrees = judged-postfix judge s f natives each some few agrees
 
-pub rest-judged : (s : Text) → judged (rest_row s) ≡ Ok entry.Uncomputed
-unfolding judged
-rest-judged s = refl
+pub rest-judged : (judge : InfixJudging) (s : Text) → judged_by judge (rest_row s) ≡ Ok entry.Uncomputed
+unfolding judged_by
+rest-judged judge s = refl

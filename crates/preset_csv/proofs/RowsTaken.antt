@@ -43,19 +43,21 @@ not-taken judge fields false row f h at j = cc h
 
 -- ---- the rows of a file
 
-pub none-taken : (name : Text) (g : Group) (entries : List Entry) → g ≡ record { begun = false; closed = false; holds = false }
-    → entries ≡ replicate 26 entry.Missing → IsTaken name [] g entries
+pub none-taken : (judge : Judging) (name : Text) (g : Group) (entries : List Entry) → g ≡ record { begun = false; closed = false; holds = false }
+    → entries ≡ replicate 26 entry.Missing → IsTaken judge name [] g entries
 unfolding has_cpu is_closed group presets symbols preset_rows read_from entry_of
-none-taken name g entries begins are = record { group = begins; entries_are = are }
+none-taken judge name g entries begins are = record { group = begins; entries_are = are }
 
-pub row-taken : (name : Text) (above : List Line) (line : Line) (g h : Group) (old new : List Entry) (result : Result Unit (Refusal PresetCause)) → IsTaken name above g old
-    → TakesRow (cause_more g line) (IsMore name line g old h new) result → TakesRow (line_cause name above line) (IsTaken name (above ++ line ∷ []) h new) result
-row-taken name above line g h old new result t takes =
-    takes-as (cause_more g line) (line_cause name above line) (IsMore name line g old h new) (IsTaken name (above ++ line ∷ []) h new) result
-    (ap (λ (g : Group). cause_more g line) t.group ∙ sym (cause-one-more name above line))
-    (λ none more. record {
-      group = more.0 ∙ ap (λ (g : Group). group_more name g line) t.group ∙ sym (group-one-more name above line);
-      entries_are = more.1 ∙ ap (λ (g : Group). entries_more g old line) t.group ∙ ap (λ (es : List Entry). entries_more (group_at name above) es line) t.entries_are
-          ∙ sym (entries-one-more name above line);
-    })
-    takes
+pub more-taken : (judge : Judging) (name : Text) (above : List Line) (line : Line) (g h : Group) (old new : List Entry) → IsTaken judge name above g old → IsMore judge name line g old h new
+    → IsTaken judge name (above ++ line ∷ []) h new
+more-taken judge name above line g h old new t more = record {
+  group = more.0 ∙ ap (λ (g : Group). group_more name g line) t.group ∙ sym (group-one-more name above line);
+  entries_are = more.1 ∙ ap (λ (g : Group). entries_more judge g old line) t.group ∙ ap (λ (es : List Entry). entries_more judge (group_at name above) es line) t.entries_are
+      ∙ sym (entries-one-more judge name above line);
+}
+
+pub row-taken : (judge : Judging) (name : Text) (above : List Line) (line : Line) (g h : Group) (old new : List Entry) (result : Result Unit (Refusal PresetCause)) → IsTaken judge name above g old
+    → TakesRow (cause_more judge g line) (IsMore judge name line g old h new) result → TakesRow (line_cause judge name above line) (IsTaken judge name (above ++ line ∷ []) h new) result
+row-taken judge name above line g h old new result t takes =
+    takes-as (cause_more judge g line) (line_cause judge name above line) (IsMore judge name line g old h new) (IsTaken judge name (above ++ line ∷ []) h new) result
+    (ap (λ (g : Group). cause_more judge g line) t.group ∙ sym (cause-one-more judge name above line)) (λ none more. more-taken judge name above line g h old new t more) takes

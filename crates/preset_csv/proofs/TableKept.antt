@@ -10,15 +10,14 @@ use Rattle.table_rows.specs.Rows.{IsInner, IsPlainField, IsReadRow, rows_of}
 use Rattle.table_rows.specs.Texts.{Text, text_at, trimmed}
 use Rattle.table_rows.proofs.Texts.{all-append, trimmed-all, trimmed-once}
 use Rattle.preset_table.specs.Table.{preset_rows}
-use Rattle.preset_csv.specs.Entries.{judged}
 use Rattle.preset_csv.specs.Kinds.{has_formula, type_of}
-use Rattle.preset_csv.specs.Lines.{Derivation, Line, cpu, derivation_of, line_of, lines_of, natives_in, other, preset}
-use Rattle.preset_csv.specs.Presets.{cuts_off, entry_of, entry_or, group, is_read, presets, read_from}
+use Rattle.preset_csv.specs.Lines.{Derivation, Line, cpu, derivation_of, event, gives, line_of, natives_in, other, preset}
+use Rattle.preset_csv.specs.Presets.{Judging, cuts_off, entry_of, entry_or, group, holds, is_read, preset_read, presets, presets_read, read_from, rows_if}
 use Rattle.preset_csv.specs.Tables.{IsEntry, IsMissing, IsTable, is_field, is_field_byte, symbols}
 use Rattle.preset_csv.specs.declared.entry.Entry.{Entry}
 use Rattle.preset_csv.specs.declared.entry.Entry.TheVariants as entry
 use Rattle.preset_csv.specs.declared.fault.PresetCause.{PresetCause}
-use Rattle.preset_csv.proofs.Judged.{Keeps, judged-kept}
+use Rattle.preset_csv.proofs.Judged.{Keeps}
 use Rattle.preset_csv.proofs.NativesKept.{IsNative, cut-natives, cut-trimmed, read-drop}
 use Rattle.table_rows.proofs.PlainFields.{rows-plain}
 use Rattle.preset_csv.proofs.SymbolRows.{same-text}
@@ -63,52 +62,64 @@ text-field fields i h =
 abbrev pub IsLine : Line → Type 0
 IsLine other = ⊤
 IsLine (cpu n) = is_field n ≡ true
-IsLine (preset r) = IsKept r
+IsLine (gives w r) = IsKept r
 
 pub line-kept : (fields : List Text) → IsReadRow fields → IsLine (line_of fields)
 unfolding line_of
 line-kept fields h = go (str_eq_ignore_ascii_case (text_at fields 0) (codes "CPU")) (str_eq_ignore_ascii_case (text_at fields 0) (codes "PRESET"))
   where
-    go : (b c : Bool) → IsLine (if b then cpu (text_at fields 1) else if c then preset (derivation_of fields) else other)
+    go : (b c : Bool) → IsLine (if b then cpu (text_at fields 1) else if c then gives preset (derivation_of fields) else other)
     go true c = text-field fields 1 h
     go false true = derivation-kept fields h
     go false false = tt
 
-lines-kept : (rows : List (List Text)) → AllByRecursion IsReadRow rows → AllByRecursion IsLine (map line_of rows)
-lines-kept [] h = tt
-lines-kept (row ∷ rows) h = (line-kept row h.0, lines-kept rows h.1)
+-- the rows of any bytes, by what each of them says
+pub lines-plain : (of : List Text → Line) → ((fields : List Text) → IsReadRow fields → IsLine (of fields)) → (bytes : List ℕ) → AllByRecursion IsLine (map of (rows_of bytes))
+lines-plain of kept bytes = go (rows_of bytes) (rows-plain bytes)
+  where
+    go : (rows : List (List Text)) → AllByRecursion IsReadRow rows → AllByRecursion IsLine (map of rows)
+    go [] h = tt
+    go (row ∷ rows) h = (kept row h.0, go rows h.1)
 
-read-kept : (name : Text) (above lines : List Line) → AllByRecursion IsLine lines → AllByRecursion IsKept (read_from name above lines)
+one-kept : (name : Text) (above : List Line) (line : Line) → IsLine line → AllByRecursion IsKept (preset_read name above line)
+one-kept name above other h = tt
+one-kept name above (cpu n) h = tt
+one-kept name above (gives preset r) h = go (is_read name above r)
+  where
+    go : (b : Bool) → AllByRecursion IsKept (rows_if b r)
+    go true = (h, tt)
+    go false = tt
+one-kept name above (gives event r) h = tt
+
+read-kept : (name : Text) (above lines : List Line) → AllByRecursion IsLine lines → AllByRecursion IsKept (read_from (preset_read name) above lines)
 unfolding read_from
 read-kept name above [] h = tt
-read-kept name above (other ∷ rest) h = read-kept name (above ++ other ∷ []) rest h.1
-read-kept name above (cpu n ∷ rest) h = read-kept name (above ++ cpu n ∷ []) rest h.1
-read-kept name above (preset r ∷ rest) h = go (is_read name above r) (read-kept name (above ++ preset r ∷ []) rest h.1)
-  where
-    go : (b : Bool) → AllByRecursion IsKept (read_from name (above ++ preset r ∷ []) rest)
-        → AllByRecursion IsKept (if b then r ∷ read_from name (above ++ preset r ∷ []) rest else read_from name (above ++ preset r ∷ []) rest)
-    go true k = (h.0, k)
-    go false k = k
+read-kept name above (line ∷ rest) h = all-append IsKept (preset_read name above line) _ (one-kept name above line h.0) (read-kept name (above ++ line ∷ []) rest h.1)
 
 -- ---- the entries
 
-step-kept : (symbol : Text) (e : Entry) (r : Derivation) → IsEntry e → IsKept r → IsEntry (if bytes_eq r.symbol symbol then entry_or e (judged r) else e)
-step-kept symbol e r k h = go (bytes_eq r.symbol symbol) (judged r) (judged-kept r h)
+-- the entries that rows are judged to give can stand in a table
+abbrev pub AllKeep : Judging → Type 0
+AllKeep judge = (r : Derivation) → IsKept r → Keeps (judge r)
+
+step-kept : (judge : Judging) → AllKeep judge → (symbol : Text) (e : Entry) (r : Derivation) → IsEntry e → IsKept r → IsEntry (if bytes_eq r.symbol symbol then entry_or e (judge r) else e)
+step-kept judge keeps symbol e r k h = go (bytes_eq r.symbol symbol) (judge r) (keeps r h)
   where
     go : (b : Bool) (o : Result Entry PresetCause) → Keeps o → IsEntry (if b then entry_or e o else e)
     go true (Ok x) p = p
     go true (Err why) p = k
     go false o p = k
 
-fold-kept : (symbol : Text) (e : Entry) (rows : List Derivation) → IsEntry e → AllByRecursion IsKept rows
-    → IsEntry (fold (λ e r. if bytes_eq r.symbol symbol then entry_or e (judged r) else e) e rows)
-fold-kept symbol e [] k h = k
-fold-kept symbol e (r ∷ rows) k h = fold-kept symbol (if bytes_eq r.symbol symbol then entry_or e (judged r) else e) rows (step-kept symbol e r k h.0) h.1
+fold-kept : (judge : Judging) → AllKeep judge → (symbol : Text) (e : Entry) (rows : List Derivation) → IsEntry e → AllByRecursion IsKept rows
+    → IsEntry (fold (λ e r. if bytes_eq r.symbol symbol then entry_or e (judge r) else e) e rows)
+fold-kept judge keeps symbol e [] k h = k
+fold-kept judge keeps symbol e (r ∷ rows) k h =
+    fold-kept judge keeps symbol (if bytes_eq r.symbol symbol then entry_or e (judge r) else e) rows (step-kept judge keeps symbol e r k h.0) h.1
 
-each-kept : (rows : List Derivation) (ss : List Text) → AllByRecursion IsKept rows → AllByRecursion IsEntry (map (entry_of judged rows) ss)
+each-kept : (judge : Judging) → AllKeep judge → (rows : List Derivation) (ss : List Text) → AllByRecursion IsKept rows → AllByRecursion IsEntry (map (entry_of judge rows) ss)
 unfolding entry_of
-each-kept rows [] h = tt
-each-kept rows (s ∷ ss) h = (fold-kept s entry.Missing rows tt h, each-kept rows ss h)
+each-kept judge keeps rows [] h = tt
+each-kept judge keeps rows (s ∷ ss) h = (fold-kept judge keeps s entry.Missing rows tt h, each-kept judge keeps rows ss h)
 
 -- ---- a name that can stand in no field
 
@@ -119,48 +130,51 @@ other-name name n e k = go (bytes_eq name n) (bytes_eq-Decides name n)
     go true d = let same : is_field n ≡ false = subst (λ (t : Text). is_field t ≡ false) (d.0 refl) e in cc (same, k)
     go false d = refl
 
-pub not-in-group : (name : Text) (above : List Line) → is_field name ≡ false → AllByRecursion IsLine above → list_any (λ n. bytes_eq name n) (group above) ≡ false
+pub not-in-group : (name : Text) (above : List Line) → is_field name ≡ false → AllByRecursion IsLine above → holds name above ≡ false
 unfolding group
 not-in-group name [] e h = refl
 not-in-group name (other ∷ rest) e h = not-in-group name rest e h.1
-not-in-group name (preset r ∷ rest) e h = not-in-group name rest e h.1
+not-in-group name (gives w r ∷ rest) e h = not-in-group name rest e h.1
 not-in-group name (cpu n ∷ rest) e h = go (cuts_off rest) (not-in-group name rest e h.1)
   where
     go : (b : Bool) → list_any (λ n. bytes_eq name n) (group rest) ≡ false → list_any (λ n. bytes_eq name n) (if b then group rest else n ∷ group rest) ≡ false
     go true k = k
     go false k = rw (other-name name n e h.0) k
 
-none-read : (name : Text) (above lines : List Line) → is_field name ≡ false → AllByRecursion IsLine above → AllByRecursion IsLine lines → read_from name above lines ≡ []
+-- a row that is read only where the group above it holds the cpu
+pub none-read : (adds : List Line → Line → List Derivation) (name : Text) → ((above : List Line) (line : Line) → holds name above ≡ false → adds above line ≡ []) → (above lines : List Line)
+    → is_field name ≡ false → AllByRecursion IsLine above → AllByRecursion IsLine lines → read_from adds above lines ≡ []
 unfolding read_from
-none-read name above [] e a h = refl
-none-read name above (other ∷ rest) e a h = none-read name (above ++ other ∷ []) rest e (all-append IsLine above (other ∷ []) a (tt, tt)) h.1
-none-read name above (cpu n ∷ rest) e a h = none-read name (above ++ cpu n ∷ []) rest e (all-append IsLine above (cpu n ∷ []) a (h.0, tt)) h.1
-none-read name above (preset r ∷ rest) e a h =
-    rw (not-in-group name above e a) (none-read name (above ++ preset r ∷ []) rest e (all-append IsLine above (preset r ∷ []) a (h.0, tt)) h.1)
+none-read adds name none above [] e a h = refl
+none-read adds name none above (line ∷ rest) e a h =
+    rw (none above line (not-in-group name above e a)) (none-read adds name none (above ++ line ∷ []) rest e (all-append IsLine above (line ∷ []) a (h.0, tt)) h.1)
 
-all-missing : (ss : List Text) → AllByRecursion IsMissing (map (entry_of judged []) ss)
+unread-unheld : (name : Text) (above : List Line) (line : Line) → holds name above ≡ false → preset_read name above line ≡ []
+unread-unheld name above other h = refl
+unread-unheld name above (cpu n) h = refl
+unread-unheld name above (gives preset r) h = rw h refl
+unread-unheld name above (gives event r) h = refl
+
+all-missing : (judge : Judging) (ss : List Text) → AllByRecursion IsMissing (map (entry_of judge []) ss)
 unfolding entry_of
-all-missing [] = tt
-all-missing (s ∷ ss) = (refl, all-missing ss)
-
-pub lines-plain : (bytes : List ℕ) → AllByRecursion IsLine (lines_of bytes)
-lines-plain bytes = lines-kept (rows_of bytes) (rows-plain bytes)
+all-missing judge [] = tt
+all-missing judge (s ∷ ss) = (refl, all-missing judge ss)
 
 -- for such a name there are no presets
-pub no-presets : (name : Text) (lines : List Line) → is_field name ≡ false → AllByRecursion IsLine lines → AllByRecursion IsMissing (presets name lines)
+pub no-presets : (judge : Judging) (name : Text) (lines : List Line) → is_field name ≡ false → AllByRecursion IsLine lines → AllByRecursion IsMissing (presets judge name lines)
 unfolding presets
-no-presets name lines e h = rw (none-read name [] lines e tt h) (all-missing symbols)
+no-presets judge name lines e h = rw (none-read (preset_read name) name (unread-unheld name) [] lines e tt h) (all-missing judge symbols)
 
-pub length-presets : (name : Text) (lines : List Line) → length (presets name lines) ≡ 26
+pub length-presets : (judge : Judging) (name : Text) (lines : List Line) → length (presets judge name lines) ≡ 26
 unfolding presets symbols preset_rows
-length-presets name lines = refl
+length-presets judge name lines = refl
 
 -- ---- the law
 
-pub presets-kept : (name : Text) (bytes : List ℕ) → IsTable (record { cpu = name; rows = presets name (lines_of bytes) })
+pub presets-kept : (judge : Judging) → AllKeep judge → (name : Text) (lines : List Line) → AllByRecursion IsLine lines → IsTable (record { cpu = name; rows = presets judge name lines })
 unfolding presets
-presets-kept name bytes = record {
-  all = length-presets name (lines_of bytes);
-  each = each-kept (read_from name [] (lines_of bytes)) symbols (read-kept name [] (lines_of bytes) (lines-plain bytes));
-  named = λ e. no-presets name (lines_of bytes) e (lines-plain bytes);
+presets-kept judge keeps name lines h = record {
+  all = length-presets judge name lines;
+  each = each-kept judge keeps (presets_read name lines) symbols (read-kept name [] lines h);
+  named = λ e. no-presets judge name lines e h;
 }

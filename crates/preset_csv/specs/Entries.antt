@@ -29,16 +29,24 @@ abbrev pub formula_entry : List Text → Result FormulaView Refused → Result E
 formula_entry natives (Ok formula) = Ok (def_entry kind.Postfix (Some formula) natives)
 formula_entry natives (Err refused) = Err (cause.BadFormula refused.cause)
 
+-- how the entry of a formula in infix order and of one or more natives is judged
+abbrev pub InfixJudging : Type 0
+InfixJudging = Text → List Text → Result Entry PresetCause
+
+-- in a file of presets alone such a formula is not computed
+abbrev pub uncomputed : InfixJudging
+uncomputed formula natives = Ok entry.Uncomputed
+
 -- the entry of a formula and of one or more natives, by the derived type
-abbrev pub typed_entry : DerivedType → Text → List Text → Result Entry PresetCause
-typed_entry derived.NotDerived formula natives = if length natives == 1 then Ok (def_entry kind.NotDerived None natives) else Ok entry.Uncomputed
-typed_entry derived.Add formula natives = Ok (def_entry kind.Add None natives)
-typed_entry derived.Sub formula natives = Ok (def_entry kind.Sub None natives)
-typed_entry derived.Postfix formula natives = if has_rate formula then Ok entry.Uncomputed else formula_entry natives (formula_of (length natives) formula)
-typed_entry derived.Infix formula natives = Ok entry.Uncomputed
-typed_entry derived.Ps formula natives = Ok entry.Uncomputed
-typed_entry derived.AddPs formula natives = Ok entry.Uncomputed
-typed_entry derived.Cmpd formula natives = Ok entry.Uncomputed
+abbrev pub typed_entry : InfixJudging → DerivedType → Text → List Text → Result Entry PresetCause
+typed_entry judge derived.NotDerived formula natives = if length natives == 1 then Ok (def_entry kind.NotDerived None natives) else Ok entry.Uncomputed
+typed_entry judge derived.Add formula natives = Ok (def_entry kind.Add None natives)
+typed_entry judge derived.Sub formula natives = Ok (def_entry kind.Sub None natives)
+typed_entry judge derived.Postfix formula natives = if has_rate formula then Ok entry.Uncomputed else formula_entry natives (formula_of (length natives) formula)
+typed_entry judge derived.Infix formula natives = judge formula natives
+typed_entry judge derived.Ps formula natives = Ok entry.Uncomputed
+typed_entry judge derived.AddPs formula natives = Ok entry.Uncomputed
+typed_entry judge derived.Cmpd formula natives = Ok entry.Uncomputed
 
 -- the natives of a row, where each is printable and there are not too many; a field that is refused takes precedence over the limit
 abbrev pub kept_natives : List Text → Result (List Text) PresetCause
@@ -48,15 +56,19 @@ kept_natives natives =
     else Ok natives
 
 -- what is not computed takes precedence over a broken formula
-abbrev pub kept_entry : DerivedType → Text → Result (List Text) PresetCause → Result Entry PresetCause
-kept_entry t formula (Ok natives) = if is_empty natives then Ok entry.Uncomputed else typed_entry t formula natives
-kept_entry t formula (Err why) = Err why
+abbrev pub kept_entry : InfixJudging → DerivedType → Text → Result (List Text) PresetCause → Result Entry PresetCause
+kept_entry judge t formula (Ok natives) = if is_empty natives then Ok entry.Uncomputed else typed_entry judge t formula natives
+kept_entry judge t formula (Err why) = Err why
 
 -- the entry of a row of this type, or why the row is refused
-abbrev pub judged_as : Option DerivedType → Text → List Text → Result Entry PresetCause
-judged_as None formula natives = Err cause.BadField
-judged_as (Some t) formula natives = if is_printable formula then kept_entry t formula (kept_natives natives) else Err cause.BadField
+abbrev pub judged_as : InfixJudging → Option DerivedType → Text → List Text → Result Entry PresetCause
+judged_as judge None formula natives = Err cause.BadField
+judged_as judge (Some t) formula natives = if is_printable formula then kept_entry judge t formula (kept_natives natives) else Err cause.BadField
 
 -- the entry of a row, or its first cause
-unfoldable pub judged : Derivation → Result Entry PresetCause
-judged r = judged_as r.derived_type r.formula r.natives
+unfoldable pub judged_by : InfixJudging → Derivation → Result Entry PresetCause
+judged_by judge r = judged_as judge r.derived_type r.formula r.natives
+
+-- the same in a file of presets alone
+abbrev pub judged : Derivation → Result Entry PresetCause
+judged = judged_by uncomputed

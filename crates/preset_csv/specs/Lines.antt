@@ -17,11 +17,16 @@ pub record Derivation : Type 0 where
   pub formula : Text
   pub natives : List Text
 
--- a row by its kind; one that is passed over is of another kind than CPU and PRESET
+-- the word that begins a row that derives an entry: that of a preset's symbol, or that of a user event's name
+pub data Word : Type 0 where
+  preset : Word
+  event : Word
+
+-- a row by its kind; one that is passed over is of another kind. EVENT rows are told only where user events are read.
 pub data Line : Type 0 where
   other : Line
   cpu : Text → Line
-  preset : Derivation → Line
+  gives : Word → Derivation → Line
 
 -- the fields up to the first that ends the natives
 unfoldable pub natives_in : List Text → List Text
@@ -47,7 +52,7 @@ derivation_of fields = derivation fields (type_of (text_at fields 2))
 unfoldable pub line_of : List Text → Line
 line_of fields =
     if str_eq_ignore_ascii_case (text_at fields 0) (codes "CPU") then cpu (text_at fields 1)
-    else if str_eq_ignore_ascii_case (text_at fields 0) (codes "PRESET") then preset (derivation_of fields)
+    else if str_eq_ignore_ascii_case (text_at fields 0) (codes "PRESET") then gives preset (derivation_of fields)
     else other
 
 -- what each row of a preset file says
@@ -58,4 +63,5 @@ lines_of bytes = map line_of (rows_of bytes)
 abbrev pub row_line : Row → Line
 row_line row.Other = other
 row_line (row.Cpu name) = cpu name.now
-row_line (row.Preset r) = preset (derivation_of (fields_of r.now))
+row_line (row.Preset r) = gives preset (derivation_of (fields_of r.now))
+row_line (row.Event r) = gives event (derivation_of (fields_of r.now))

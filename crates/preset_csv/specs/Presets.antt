@@ -7,7 +7,7 @@ use Rattle.table_rows.specs.Tables.{ReadsTable, first_fault}
 use Rattle.table_rows.specs.Texts.{Text}
 use Rattle.preset_table.specs.Table.{row_of}
 use Rattle.preset_csv.specs.Entries.{judged}
-use Rattle.preset_csv.specs.Lines.{Derivation, Line, cpu, lines_of, other, preset}
+use Rattle.preset_csv.specs.Lines.{Derivation, Line, cpu, event, gives, lines_of, other, preset}
 use Rattle.preset_csv.specs.Tables.{TableView, symbols}
 use Rattle.preset_csv.specs.declared.entry.Entry.{Entry}
 use Rattle.preset_csv.specs.declared.entry.Entry.TheVariants as entry
@@ -23,39 +23,51 @@ unfoldable pub has_cpu : List Line → Bool
 has_cpu [] = false
 has_cpu (other ∷ rest) = has_cpu rest
 has_cpu (cpu name ∷ rest) = true
-has_cpu (preset r ∷ rest) = has_cpu rest
+has_cpu (gives w r ∷ rest) = has_cpu rest
 
--- a PRESET row stands in the rows, and a CPU row below it: what stands above the rows is cut off
+-- a row that gives an entry stands in the rows, and a CPU row below it: what stands above the rows is cut off
 unfoldable pub cuts_off : List Line → Bool
 cuts_off [] = false
 cuts_off (other ∷ rest) = cuts_off rest
 cuts_off (cpu name ∷ rest) = cuts_off rest
-cuts_off (preset r ∷ rest) = has_cpu rest
+cuts_off (gives w r ∷ rest) = has_cpu rest
 
 -- the names of the CPU rows that are not cut off from the end of the rows
 unfoldable pub group : List Line → List Text
 group [] = []
 group (other ∷ rest) = group rest
 group (cpu name ∷ rest) = if cuts_off rest then group rest else name ∷ group rest
-group (preset r ∷ rest) = group rest
+group (gives w r ∷ rest) = group rest
 
 -- ---- the rows that are read
 
+-- the group of CPU rows at the end of these rows holds the cpu
+abbrev pub holds : Text → List Line → Bool
+holds name above = list_any (λ n. bytes_eq name n) (group above)
+
 -- a PRESET row below these rows is read for this cpu
 abbrev pub is_read : Text → List Line → Derivation → Bool
-is_read name above r = list_any (λ n. bytes_eq name n) (group above) && is_some (row_of r.symbol)
+is_read name above r = holds name above && is_some (row_of r.symbol)
 
 -- a row, where it is read
 abbrev pub rows_if : Bool → Derivation → List Derivation
 rows_if read r = if read then r ∷ [] else []
 
--- the rows that are read of some rows below `above`
-unfoldable pub read_from : Text → List Line → List Line → List Derivation
-read_from name above [] = []
-read_from name above (other ∷ rest) = read_from name (above ++ other ∷ []) rest
-read_from name above (cpu n ∷ rest) = read_from name (above ++ cpu n ∷ []) rest
-read_from name above (preset r ∷ rest) =
-    if is_read name above r then r ∷ read_from name (above ++ preset r ∷ []) rest else read_from name (above ++ preset r ∷ []) rest
+-- what one row below these adds to the PRESET rows that are read
+abbrev pub preset_read : Text → List Line → Line → List Derivation
+preset_read name above other = []
+preset_read name above (cpu n) = []
+preset_read name above (gives preset r) = rows_if (is_read name above r) r
+preset_read name above (gives event r) = []
+
+-- the rows that are read of some rows below `above`, where one row adds these
+unfoldable pub read_from : (List Line → Line → List Derivation) → List Line → List Line → List Derivation
+read_from adds above [] = []
+read_from adds above (line ∷ rest) = adds above line ++ read_from adds (above ++ line ∷ []) rest
+
+-- the PRESET rows that are read for a cpu
+abbrev pub presets_read : Text → List Line → List Derivation
+presets_read name lines = read_from (preset_read name) [] lines
 
 -- ---- the entries
 
@@ -73,8 +85,8 @@ unfoldable pub entry_of : Judging → List Derivation → Text → Entry
 entry_of judge rows symbol = fold (λ e r. if bytes_eq r.symbol symbol then entry_or e (judge r) else e) entry.Missing rows
 
 -- the entries of the preset table's symbols
-unfoldable pub presets : Text → List Line → List Entry
-presets name lines = map (entry_of judged (read_from name [] lines)) symbols
+unfoldable pub presets : Judging → Text → List Line → List Entry
+presets judge name lines = map (entry_of judge (presets_read name lines)) symbols
 
 -- ---- the first fault
 
@@ -87,23 +99,24 @@ judged_cause (Err why) = Some why
 abbrev pub cause_if : Bool → Result Entry PresetCause → Option PresetCause
 cause_if read judgement = if read then judged_cause judgement else None
 
--- the cause of a row below these rows
-abbrev pub line_cause : Text → List Line → Line → Option PresetCause
-line_cause name above other = None
-line_cause name above (cpu n) = None
-line_cause name above (preset r) =
+-- the cause of a row below these rows, but for what an EVENT row says
+abbrev pub line_cause : Judging → Text → List Line → Line → Option PresetCause
+line_cause judge name above other = None
+line_cause judge name above (cpu n) = None
+line_cause judge name above (gives preset r) =
     if not (has_cpu above) then Some cause.NoCpu
-    else cause_if (is_read name above r) (judged r)
+    else cause_if (is_read name above r) (judge r)
+line_cause judge name above (gives event r) = if not (has_cpu above) then Some cause.NoCpu else None
 
 -- ---- what a caller gets
 
 -- the first faulty row of a preset file, from 1, and its first cause
 unfoldable pub preset_fault : Text → List ℕ → Option (ℕ × PresetCause)
-preset_fault name bytes = first_fault (line_cause name) [] (lines_of bytes)
+preset_fault name bytes = first_fault (line_cause judged name) [] (lines_of bytes)
 
 -- the presets for a cpu in a file that has no faulty row
 unfoldable pub presets_in : Text → List ℕ → TableView
-presets_in name bytes = record { cpu = name; rows = presets name (lines_of bytes) }
+presets_in name bytes = record { cpu = name; rows = presets judged name (lines_of bytes) }
 
 -- the presets where no row is faulty, or the first fault, or that memory ran out
 abbrev pub ReadsPresets : Result PresetTable (RowFault PresetCause) → List ℕ → Text → Type 0

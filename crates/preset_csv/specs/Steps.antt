@@ -9,8 +9,7 @@ use Rattle.table_rows.specs.Texts.{Text}
 use Rattle.postfix_rules.specs.declared.fault.FormulaFault.{FormulaFault}
 use Rattle.postfix_rules.specs.declared.fault.FormulaFault.TheVariants as formula
 use Rattle.preset_table.specs.Table.{row_of}
-use Rattle.preset_csv.specs.Entries.{judged}
-use Rattle.preset_csv.specs.Lines.{Derivation, Line, cpu, other, preset}
+use Rattle.preset_csv.specs.Lines.{Derivation, Line, cpu, event, gives, other, preset}
 use Rattle.preset_csv.specs.Presets.{Judging, cause_if, group, has_cpu}
 use Rattle.preset_csv.specs.declared.entry.Entry.{Entry}
 use Rattle.preset_csv.specs.declared.fault.PresetCause.{PresetCause}
@@ -21,12 +20,12 @@ use Rattle.table_rows.specs.declared.fault.Refusal.TheVariants as refusal
 use Rattle.preset_csv.specs.declared.row.Row.{Row}
 use Rattle.preset_csv.specs.declared.row.Row.TheVariants as row
 
--- a PRESET row stands below the last CPU row, so that the next CPU row begins a new group
+-- a row that gives an entry stands below the last CPU row, so that the next CPU row begins a new group
 unfoldable pub is_closed : List Line → Bool
 is_closed [] = false
 is_closed (other ∷ rest) = is_closed rest
 is_closed (cpu name ∷ rest) = is_closed rest
-is_closed (preset r ∷ rest) = if has_cpu rest then is_closed rest else true
+is_closed (gives w r ∷ rest) = if has_cpu rest then is_closed rest else true
 
 -- the group at the end of the rows: whether there is one, whether it is closed, and whether it holds a cpu
 abbrev pub group_at : Text → List Line → Group
@@ -36,7 +35,7 @@ group_at name above = record { begun = has_cpu above; closed = is_closed above; 
 abbrev pub group_more : Text → Group → Line → Group
 group_more name g other = g
 group_more name g (cpu n) = record { begun = true; closed = false; holds = bytes_eq name n || (not g.closed && g.holds) }
-group_more name g (preset r) = record { begun = g.begun; closed = true; holds = g.holds }
+group_more name g (gives w r) = record { begun = g.begun; closed = true; holds = g.holds }
 
 -- entries with one put in its row
 abbrev pub placed : List Entry → Option ℕ → Result Entry PresetCause → List Entry
@@ -49,30 +48,33 @@ abbrev pub entries_with : Judging → Bool → List Entry → Derivation → Lis
 entries_with judge holds entries r = if holds then placed entries (row_of r.symbol) (judge r) else entries
 
 -- the entries with one row more
-abbrev pub entries_more : Group → List Entry → Line → List Entry
-entries_more g entries other = entries
-entries_more g entries (cpu n) = entries
-entries_more g entries (preset r) = entries_with judged g.holds entries r
+abbrev pub entries_more : Judging → Group → List Entry → Line → List Entry
+entries_more judge g entries other = entries
+entries_more judge g entries (cpu n) = entries
+entries_more judge g entries (gives preset r) = entries_with judge g.holds entries r
+entries_more judge g entries (gives event r) = entries
 
 -- the cause of what one row more derives, where its group holds the cpu
 abbrev pub read_cause : Judging → Bool → Derivation → Option PresetCause
 read_cause judge holds r = cause_if (holds && is_some (row_of r.symbol)) (judge r)
 
--- why one row more is refused, if it is
-abbrev pub cause_more : Group → Line → Option PresetCause
-cause_more g other = None
-cause_more g (cpu n) = None
-cause_more g (preset r) = if not g.begun then Some cause.NoCpu else read_cause judged g.holds r
+-- why one row more is refused, if it is, but for what an EVENT row says
+abbrev pub cause_more : Judging → Group → Line → Option PresetCause
+cause_more judge g other = None
+cause_more judge g (cpu n) = None
+cause_more judge g (gives preset r) = if not g.begun then Some cause.NoCpu else read_cause judge g.holds r
+cause_more judge g (gives event r) = if not g.begun then Some cause.NoCpu else None
 
 -- the group and the entries with one row more
-abbrev pub IsMore : Text → Line → Group → List Entry → Group → List Entry → Type 0
-IsMore name line g old h new = (h ≡ group_more name g line) × (new ≡ entries_more g old line)
+abbrev pub IsMore : Judging → Text → Line → Group → List Entry → Group → List Entry → Type 0
+IsMore judge name line g old h new = (h ≡ group_more name g line) × (new ≡ entries_more judge g old line)
 
 -- no byte of a field of this row ends a field or a row
 abbrev pub IsPlainRow : Row → Type 0
 IsPlainRow row.Other = Unit {0}
 IsPlainRow (row.Cpu name) = Unit {0}
 IsPlainRow (row.Preset r) = IsReadRow (fields_of r.now)
+IsPlainRow (row.Event r) = IsReadRow (fields_of r.now)
 
 -- why a row with a broken formula is refused
 abbrev pub formula_refusal : FormulaFault → Refusal PresetCause

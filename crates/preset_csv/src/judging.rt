@@ -7,7 +7,6 @@ ghost use Rattle.postfix_rules.specs.declared.derived.TheConstants.{MOST_NATIVES
 ghost use Rattle.preset_csv.specs.Defs.{IsNativeText};
 ghost use Rattle.preset_csv.specs.Entries as Entries;
 ghost use Rattle.preset_csv.specs.Lines.{derivation_of};
-ghost use Rattle.preset_csv.specs.Presets.{Judging};
 ghost use Rattle.preset_csv.specs.Steps as Steps;
 ghost use Rattle.table_rows.specs.Rows.{IsReadRow};
 ghost use Rattle.preset_csv.specs.Steps.{Judges};
@@ -51,7 +50,7 @@ fn postfix_entry(
     requires each { AllByRecursion IsNativeText (map string_bytes natives.items) }
     requires some { 1 ≤ length natives.items }
     requires few { length natives.items ≤ MOST_NATIVES }
-    ensures { Judges (Entries.typed_entry derived.Postfix formula.now
+    ensures { Judges (Entries.typed_entry Entries.uncomputed derived.Postfix formula.now
         (map string_bytes natives.items)) result }
 {
     if has_rate(formula.as_bytes()) {
@@ -64,7 +63,7 @@ fn postfix_entry(
 }
 
 // The entry of a formula and of one or more natives, by the derived type.
-fn typed_entry(
+fn typed_entry<J: RowJudge>(
     alloc: Global,
     derived_type: DerivedType,
     formula: &str,
@@ -73,7 +72,7 @@ fn typed_entry(
     requires each { AllByRecursion IsNativeText (map string_bytes natives.items) }
     requires some { 1 ≤ length natives.items }
     requires few { length natives.items ≤ MOST_NATIVES }
-    ensures { Judges (Entries.typed_entry derived_type formula.now
+    ensures { Judges (Entries.typed_entry J.infix_judged derived_type formula.now
         (map string_bytes natives.items)) result }
 {
     match derived_type {
@@ -87,14 +86,13 @@ fn typed_entry(
         DerivedType::Add => Ok(Entry::Def(Def::new(Kind::Add, None, natives))),
         DerivedType::Sub => Ok(Entry::Def(Def::new(Kind::Sub, None, natives))),
         DerivedType::Postfix => postfix_entry(alloc, formula, natives),
-        DerivedType::Infix | DerivedType::Ps | DerivedType::AddPs | DerivedType::Cmpd => {
-            Ok(Entry::Uncomputed)
-        }
+        DerivedType::Infix => J::infix_entry(alloc, formula, natives),
+        DerivedType::Ps | DerivedType::AddPs | DerivedType::Cmpd => { Ok(Entry::Uncomputed) }
     }
 }
 
 // The entry of a printable formula and of natives that may stand in a row, by the derived type.
-fn kept_entry(
+fn kept_entry<J: RowJudge>(
     alloc: Global,
     derived_type: DerivedType,
     formula: &str,
@@ -102,43 +100,53 @@ fn kept_entry(
 ) -> Result<Entry, Refusal<PresetCause>>
     requires each { AllByRecursion IsNativeText (map string_bytes natives.items) }
     requires few { length natives.items ≤ MOST_NATIVES }
-    ensures { Judges (Entries.kept_entry derived_type formula.now
+    ensures { Judges (Entries.kept_entry J.infix_judged derived_type formula.now
         (Ok (map string_bytes natives.items))) result }
 {
     if natives.is_empty() {
         return Ok(Entry::Uncomputed);
     }
-    typed_entry(alloc, derived_type, formula, natives)
+    typed_entry::<J>(alloc, derived_type, formula, natives)
 }
 
-/// How the rows of a preset file are judged.
+/// How the formulas in infix order of a preset file are judged.
 pub trait RowJudge {
-    // The entry that a row gives, or its first cause.
-    ghost judged: { Judging };
+    // The entry of such a formula over natives, or why its row is refused.
+    ghost infix_judged: { Entries.InfixJudging };
 
-    /// The entry that a row gives, or its first cause.
-    fn judge_row(alloc: Global, row: &ByteRecord) -> Result<Entry, Refusal<PresetCause>>
-        requires { IsReadRow (fields_of row.now) }
-        ensures { Judges (judged (derivation_of (fields_of row.now))) result };
+    /// The entry of such a formula over natives, or why its row is refused.
+    fn infix_entry(
+        alloc: Global,
+        formula: &str,
+        natives: Vec<String>,
+    ) -> Result<Entry, Refusal<PresetCause>>
+        requires each { AllByRecursion IsNativeText (map string_bytes natives.items) }
+        requires some { 1 ≤ length natives.items }
+        requires few { length natives.items ≤ MOST_NATIVES }
+        ensures { Judges (infix_judged formula.now (map string_bytes natives.items)) result };
 }
 
-/// The rows of a file of presets alone.
+/// The formulas of a file of presets alone.
 pub struct PresetJudge;
 
 impl RowJudge for PresetJudge {
-    ghost judged = { Entries.judged };
+    ghost infix_judged = { Entries.uncomputed };
 
-    fn judge_row(alloc: Global, row: &ByteRecord) -> Result<Entry, Refusal<PresetCause>> {
-        judge(alloc, row)
+    fn infix_entry(
+        _alloc: Global,
+        _formula: &str,
+        _natives: Vec<String>,
+    ) -> Result<Entry, Refusal<PresetCause>> {
+        Ok(Entry::Uncomputed)
     }
 }
 
 /// The entry that a row gives by its derived type, its formula and its natives, whatever its first two fields say, or its
 /// first cause.
-#[tactic(auto, unfolding(crate::specs::Entries::judged, crate::specs::Lines::derivation_of))]
-pub fn judge(alloc: Global, row: &ByteRecord) -> Result<Entry, Refusal<PresetCause>>
+#[tactic(auto, unfolding(crate::specs::Entries::judged_by, crate::specs::Lines::derivation_of))]
+pub fn judge<J: RowJudge>(alloc: Global, row: &ByteRecord) -> Result<Entry, Refusal<PresetCause>>
     requires { IsReadRow (fields_of row.now) }
-    ensures { Judges (Entries.judged (derivation_of (fields_of row.now))) result }
+    ensures { Judges (Entries.judged_by J.infix_judged (derivation_of (fields_of row.now))) result }
 {
     let Some(derived_type) = type_of(text_at(row, 2)) else {
         return Err(Refusal::Cause(PresetCause::BadField));
@@ -152,5 +160,5 @@ pub fn judge(alloc: Global, row: &ByteRecord) -> Result<Entry, Refusal<PresetCau
         return Err(Refusal::Cause(PresetCause::BadField));
     };
     let natives = row_natives(alloc, row, first)?;
-    kept_entry(alloc, derived_type, formula, natives)
+    kept_entry::<J>(alloc, derived_type, formula, natives)
 }

@@ -21,7 +21,7 @@ pub use crate::group::Group;
 pub use crate::judging::{RowJudge, formula_refusal, judge};
 pub use crate::kind::{DerivedType, Kind, kind_text, type_of};
 pub use crate::natives::row_natives;
-pub use crate::reading::{all_missing, read_presets, take_preset};
+pub use crate::reading::{Taken, all_missing, read_presets, take_line};
 pub use crate::row::{Row, row_of};
 pub use crate::symbol::symbol_row;
 pub use crate::table::PresetTable;

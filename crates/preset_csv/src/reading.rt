@@ -5,6 +5,7 @@ ghost use Rattle.csv.specs.Records.{fields_of};
 ghost use Rattle.table_rows.specs.Rows.{IsReadRow};
 ghost use Rattle.table_rows.specs.Tables.{TakesRow};
 ghost use Rattle.preset_table.specs.declared.TheConstants.{PRESETS};
+ghost use Rattle.preset_csv.specs.Entries.{judged, judged_by};
 ghost use Rattle.preset_csv.specs.Lines.{Line, derivation_of, line_of, row_line};
 ghost use Rattle.preset_csv.specs.Presets.{ReadsPresets, line_cause};
 ghost use Rattle.preset_csv.specs.Reading.{IsTaken};
@@ -14,7 +15,7 @@ ghost use Rattle.preset_csv.specs.declared.entry.Entry.TheVariants as entry;
 use crate::entry::Entry;
 use crate::fault::{PresetCause, PresetFault};
 use crate::group::Group;
-use crate::judging::{PresetJudge, RowJudge};
+use crate::judging::{PresetJudge, RowJudge, judge};
 use crate::row::{Row, row_of};
 use crate::symbol::symbol_row;
 use crate::table::PresetTable;
@@ -50,28 +51,29 @@ pub fn take_preset<J: RowJudge>(
 ) -> Result<(), Refusal<PresetCause>>
     requires plain { IsReadRow (fields_of row.now) }
     requires all { length entries.old.items ≡ PRESETS }
-    ensures { TakesRow (read_cause J.judged holds (derivation_of (fields_of row.now)))
-        (entries.new.items ≡ entries_with J.judged holds entries.old.items
+    ensures { TakesRow
+        (read_cause (judged_by J.infix_judged) holds (derivation_of (fields_of row.now)))
+        (entries.new.items ≡ entries_with (judged_by J.infix_judged) holds entries.old.items
         (derivation_of (fields_of row.now))) result }
 {
     if !holds {
         return Ok(());
     }
     if let Some(place) = symbol_row(text_at(row, 1)) {
-        put(entries, place, J::judge_row(alloc, row)?);
+        put(entries, place, judge::<J>(alloc, row)?);
     }
     Ok(())
 }
 
-// What the rows so far gave: the group of CPU rows at their end, and the entries.
+/// What the rows so far gave: the group of CPU rows at their end, and the entries.
 #[derive(Drop)]
-struct Taken {
-    group: Group,
-    entries: Vec<Entry>,
+pub struct Taken {
+    pub group: Group,
+    pub entries: Vec<Entry>,
 }
 
-// Takes a row below the others, for a cpu.
-fn take_line(
+/// Takes a row below the others, for a cpu. What an EVENT row says is left to the caller.
+pub fn take_line<J: RowJudge>(
     alloc: Global,
     cpu: &str,
     row: Row<'_>,
@@ -79,9 +81,9 @@ fn take_line(
 ) -> Result<(), Refusal<PresetCause>>
     requires plain { IsPlainRow row }
     requires all { length taken.old.entries.items ≡ PRESETS }
-    ensures { TakesRow (cause_more taken.old.group (row_line row.entry))
-        (IsMore cpu.now (row_line row.entry) taken.old.group taken.old.entries.items
-        taken.new.group taken.new.entries.items) result }
+    ensures { TakesRow (cause_more (judged_by J.infix_judged) taken.old.group (row_line row.entry))
+        (IsMore (judged_by J.infix_judged) cpu.now (row_line row.entry)
+        taken.old.group taken.old.entries.items taken.new.group taken.new.entries.items) result }
 {
     match row {
         Row::Other => Ok(()),
@@ -94,7 +96,15 @@ fn take_line(
                 return Err(Refusal::Cause(PresetCause::NoCpu));
             }
             taken.group = taken.group.with_preset();
-            take_preset::<PresetJudge>(alloc, row, taken.group.holds, &mut taken.entries)
+            take_preset::<J>(alloc, row, taken.group.holds, &mut taken.entries)
+        }
+        Row::Event(_) => {
+            if taken.group.begun {
+                taken.group = taken.group.with_preset();
+                Ok(())
+            } else {
+                Err(Refusal::Cause(PresetCause::NoCpu))
+            }
         }
     }
 }
@@ -114,9 +124,9 @@ impl<'c> TableKind for PresetRows<'c> {
 
     ghost line_of = { line_of };
 
-    ghost cause = { λ p above line. line_cause p.cpu.now above line };
+    ghost cause = { λ p above line. line_cause judged p.cpu.now above line };
 
-    ghost gives = { λ p lines taken. IsTaken p.cpu.now lines taken.group taken.entries.items };
+    ghost gives = { λ p lines taken. IsTaken judged p.cpu.now lines taken.group taken.entries.items };
 
     fn no_rows(&self, alloc: Global) -> Result<Taken, AllocError> {
         Ok(Taken {
@@ -131,7 +141,7 @@ impl<'c> TableKind for PresetRows<'c> {
         taken: &mut Taken,
         row: &ByteRecord,
     ) -> Result<(), Refusal<PresetCause>> {
-        take_line(alloc, self.cpu, row_of(row), taken)
+        take_line::<PresetJudge>(alloc, self.cpu, row_of(row), taken)
     }
 }
 

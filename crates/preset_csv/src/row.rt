@@ -14,9 +14,10 @@ pub enum Row<'r> {
     Other,
     Cpu(&'r [u8]),
     Preset(&'r ByteRecord),
+    Event(&'r ByteRecord),
 }
 
-/// What a record is, by its first field, without regard to ASCII case.
+/// What a record is in a file of presets alone, by its first field, without regard to ASCII case.
 #[tactic(auto, unfolding(crate::specs::Lines::line_of))]
 pub fn row_of(row: &ByteRecord) -> Row<'_>
     ensures line { row_line result ≡ line_of (fields_of row.now) }

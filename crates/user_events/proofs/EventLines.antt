@@ -10,18 +10,18 @@ use Rattle.table_rows.proofs.RowsBack.{rows-back}
 use Rattle.table_rows.proofs.Texts.{all-append, all-map}
 use Rattle.preset_csv.specs.Defs.{DefView, IsDef}
 use Rattle.preset_csv.specs.Lines as Presets
-use Rattle.preset_csv.specs.Lines.{Derivation, Line, cpu, derivation_of, preset}
+use Rattle.preset_csv.specs.Lines.{Derivation, Line, cpu, derivation_of, event, gives, preset}
 use Rattle.preset_csv.specs.Tables.{IsEntry, symbols}
 use Rattle.preset_csv.specs.Written.{def_fields, rows_of_entries, table_text}
 use Rattle.preset_csv.specs.declared.entry.Entry.{Entry}
 use Rattle.preset_csv.specs.declared.entry.Entry.TheVariants as entry
-use Rattle.preset_csv.proofs.Back.{rows-lines, rows-plain, rows_back}
+use Rattle.preset_csv.proofs.Back.{both, rows-lines, rows-plain, rows_back}
 use Rattle.preset_csv.proofs.Fields.{IsGood, IsInk, ink-good, symbols-good, word-good}
-use Rattle.preset_csv.proofs.RowBack.{cpu-line, def-good, def-line, def_row, first-good, good-plain, rest-good, rest-line, rest_row}
+use Rattle.preset_csv.proofs.RowBack.{cpu-line, def-good, def-line, def_row, first-good, good-plain, preset-line, rest-good, rest-line, rest_row}
 use Rattle.preset_csv.proofs.SymbolRows.{all-test}
 use Rattle.preset_csv.proofs.WrittenParts.{rows-append}
 use Rattle.user_events.specs.Events.{EventView, ExtendedView, IsEvent, IsGiven}
-use Rattle.user_events.specs.Lines.{EventLine, event, line_of, lines_of, plain}
+use Rattle.user_events.specs.Lines.{line_of, lines_of}
 use Rattle.user_events.specs.Names.{is_event_byte, is_event_name}
 use Rattle.user_events.specs.Written.{event_rows, extended_text, named_rows}
 
@@ -45,11 +45,7 @@ same-row : (a b : Text) (rest : List Text) → derivation_of (a ∷ rest) ≡ de
 unfolding derivation_of text_at
 same-row a b rest = refl
 
-preset-line : (rest : List Text) → Presets.line_of (codes "PRESET" ∷ rest) ≡ preset (derivation_of (codes "PRESET" ∷ rest))
-unfolding Presets.line_of
-preset-line rest = rw (first-good (codes "PRESET") rest (word-good (codes "PRESET") refl)) refl
-
-same-preset : (r q : Derivation) → preset r ≡ preset q → r ≡ q
+same-preset : (r q : Derivation) → gives preset r ≡ gives preset q → r ≡ q
 same-preset r q e = cc e
 
 def-derived : (s : Text) (d : DefView) → IsGood s → IsDef d → derivation_of (codes "EVENT" ∷ s ∷ def_fields d) ≡ def_row s d.kind d.formula d.natives
@@ -59,30 +55,27 @@ rest-derived : (s : Text) → IsGood s → derivation_of (codes "EVENT" ∷ s �
 rest-derived s g =
     same-row (codes "EVENT") (codes "PRESET") (s ∷ codes "DERIVED_CMPD" ∷ []) ∙ same-preset _ _ (sym (preset-line (s ∷ codes "DERIVED_CMPD" ∷ [])) ∙ rest-line s g)
 
-event-line : (rest : List Text) → line_of (codes "EVENT" ∷ rest) ≡ event (derivation_of (codes "EVENT" ∷ rest))
+event-line : (rest : List Text) → line_of (codes "EVENT" ∷ rest) ≡ gives event (derivation_of (codes "EVENT" ∷ rest))
 unfolding line_of
 event-line rest = rw (first-good (codes "EVENT") rest (word-good (codes "EVENT") refl)) refl
 
-plain-preset : (rest : List Text) → line_of (codes "PRESET" ∷ rest) ≡ plain (Presets.line_of (codes "PRESET" ∷ rest))
+plain-preset : (rest : List Text) → line_of (codes "PRESET" ∷ rest) ≡ Presets.line_of (codes "PRESET" ∷ rest)
 unfolding line_of
 plain-preset rest = rw (first-good (codes "PRESET") rest (word-good (codes "PRESET") refl)) refl
 
-pub plain-cpu : (rest : List Text) → line_of (codes "CPU" ∷ rest) ≡ plain (Presets.line_of (codes "CPU" ∷ rest))
+pub plain-cpu : (rest : List Text) → line_of (codes "CPU" ∷ rest) ≡ Presets.line_of (codes "CPU" ∷ rest)
 unfolding line_of
 plain-cpu rest = rw (first-good (codes "CPU") rest (word-good (codes "CPU") refl)) refl
 
 -- ---- the rows of the presets
 
-table-plain : (ss : List Text) (es : List Entry) → map line_of (rows_of_entries ss es) ≡ map plain (map Presets.line_of (rows_of_entries ss es))
+table-plain : (ss : List Text) (es : List Entry) → map line_of (rows_of_entries ss es) ≡ map Presets.line_of (rows_of_entries ss es)
 unfolding rows_of_entries
 table-plain [] es = refl
 table-plain (s ∷ ss) [] = refl
 table-plain (s ∷ ss) (entry.Missing ∷ es) = table-plain ss es
-table-plain (s ∷ ss) (entry.Uncomputed ∷ es) = ap₂ (λ (x : EventLine) (xs : List EventLine). x ∷ xs) (plain-preset (s ∷ codes "DERIVED_CMPD" ∷ [])) (table-plain ss es)
-table-plain (s ∷ ss) (entry.Def d ∷ es) = ap₂ (λ (x : EventLine) (xs : List EventLine). x ∷ xs) (plain-preset (s ∷ def_fields d)) (table-plain ss es)
-
-table-lines : (es : List Entry) → AllByRecursion IsEntry es → map line_of (rows_of_entries symbols es) ≡ map plain (map preset (rows_back symbols es))
-table-lines es h = table-plain symbols es ∙ ap (map plain) (rows-lines symbols es symbols-good h)
+table-plain (s ∷ ss) (entry.Uncomputed ∷ es) = ap₂ (λ (x : Line) (xs : List Line). x ∷ xs) (plain-preset (s ∷ codes "DERIVED_CMPD" ∷ [])) (table-plain ss es)
+table-plain (s ∷ ss) (entry.Def d ∷ es) = ap₂ (λ (x : Line) (xs : List Line). x ∷ xs) (plain-preset (s ∷ def_fields d)) (table-plain ss es)
 
 -- ---- the rows of the user events
 
@@ -95,13 +88,13 @@ row_back s (entry.Def d) = def_row s d.kind d.formula d.natives
 abbrev pub event_row : EventView → Derivation
 event_row e = row_back e.name e.entry
 
-named-lines : (s : Text) (x : Entry) (rows : List (List Text)) (rs : List Derivation) → IsGood s → IsEntry x → IsGiven x → map line_of rows ≡ map event rs
-    → map line_of (named_rows s x ++ rows) ≡ event (row_back s x) ∷ map event rs
+named-lines : (s : Text) (x : Entry) (rows : List (List Text)) (rs : List Derivation) → IsGood s → IsEntry x → IsGiven x → map line_of rows ≡ map (gives event) rs
+    → map line_of (named_rows s x ++ rows) ≡ gives event (row_back s x) ∷ map (gives event) rs
 named-lines s entry.Missing rows rs g h k e = absurd k
-named-lines s entry.Uncomputed rows rs g h k e = ap₂ (λ (x : EventLine) (xs : List EventLine). x ∷ xs) (event-line (s ∷ codes "DERIVED_CMPD" ∷ []) ∙ ap event (rest-derived s g)) e
-named-lines s (entry.Def d) rows rs g h k e = ap₂ (λ (x : EventLine) (xs : List EventLine). x ∷ xs) (event-line (s ∷ def_fields d) ∙ ap event (def-derived s d g h)) e
+named-lines s entry.Uncomputed rows rs g h k e = ap₂ (λ (x : Line) (xs : List Line). x ∷ xs) (event-line (s ∷ codes "DERIVED_CMPD" ∷ []) ∙ ap (gives event) (rest-derived s g)) e
+named-lines s (entry.Def d) rows rs g h k e = ap₂ (λ (x : Line) (xs : List Line). x ∷ xs) (event-line (s ∷ def_fields d) ∙ ap (gives event) (def-derived s d g h)) e
 
-events-lines : (es : List EventView) → AllByRecursion IsEvent es → map line_of (event_rows es) ≡ map event (map event_row es)
+events-lines : (es : List EventView) → AllByRecursion IsEvent es → map line_of (event_rows es) ≡ map (gives event) (map event_row es)
 unfolding event_rows
 events-lines [] h = refl
 events-lines (e ∷ es) h = named-lines e.name e.entry (event_rows es) (map event_row es) (name-good e.name h.0.0) h.0.1 h.0.2 (events-lines es h.1)
@@ -118,20 +111,16 @@ events-plain (e ∷ es) h = named-plain e.name e.entry (event_rows es) (name-goo
 
 -- ---- all rows
 
--- PRESET rows, and EVENT rows below them
-abbrev pub both : List Derivation → List Derivation → List EventLine
-both rs es = map plain (map preset rs) ++ map event es
-
 pub written-lines : (x : ExtendedView) → IsGood x.presets.cpu → AllByRecursion IsEntry x.presets.rows → AllByRecursion IsEvent x.events
-    → lines_of (extended_text x) ≡ plain (cpu x.presets.cpu) ∷ both (rows_back symbols x.presets.rows) (map event_row x.events)
+    → lines_of (extended_text x) ≡ cpu x.presets.cpu ∷ both (rows_back symbols x.presets.rows) (map event_row x.events)
 unfolding extended_text table_text
 written-lines x g h k =
     let n = x.presets.cpu in
     let table = (codes "CPU" ∷ n ∷ []) ∷ rows_of_entries symbols x.presets.rows in
     let fine : AllByRecursion IsPlainRow table = (good-plain (codes "CPU" ∷ n ∷ []) (word-good (codes "CPU") refl, (g, tt)) (refl, refl), rows-plain symbols x.presets.rows symbols-good h) in
     let all : AllByRecursion IsPlainRow (table ++ event_rows x.events) = all-append IsPlainRow table (event_rows x.events) fine (events-plain x.events k) in
-    let first : line_of (codes "CPU" ∷ n ∷ []) ≡ plain (cpu n) = plain-cpu (n ∷ []) ∙ ap plain (cpu-line n g) in
+    let first : line_of (codes "CPU" ∷ n ∷ []) ≡ cpu n = plain-cpu (n ∷ []) ∙ cpu-line n g in
     ap (λ (t : Text). map line_of (rows_of t)) (sym (rows-append table (event_rows x.events)))
     ∙ ap (map line_of) (rows-back (table ++ event_rows x.events) all)
     ∙ map-append line_of table (event_rows x.events)
-    ∙ ap₂ (λ (a b : List EventLine). a ++ b) (ap₂ (λ (l : EventLine) (ls : List EventLine). l ∷ ls) first (table-lines x.presets.rows h)) (events-lines x.events k)
+    ∙ ap₂ (λ (a b : List Line). a ++ b) (ap₂ (λ (l : Line) (ls : List Line). l ∷ ls) first (table-plain symbols x.presets.rows ∙ rows-lines symbols x.presets.rows symbols-good h)) (events-lines x.events k)

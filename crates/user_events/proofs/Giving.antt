@@ -5,7 +5,7 @@ use Rattle.table_rows.specs.Texts.{Text, is_empty, is_printable}
 use Rattle.postfix_rules.specs.Faults.{FormulaView}
 use Rattle.postfix_rules.specs.InfixReading.{infix_of}
 use Rattle.postfix_rules.specs.Reading.{Refused, formula_of}
-use Rattle.preset_csv.specs.Entries.{def_entry, formula_entry, judged, judged_as, kept_entry, kept_natives, typed_entry}
+use Rattle.preset_csv.specs.Entries.{def_entry, formula_entry, judged_as, judged_by, kept_entry, kept_natives, typed_entry}
 use Rattle.preset_csv.specs.Entries as Presets
 use Rattle.preset_csv.specs.Lines.{Derivation}
 use Rattle.preset_csv.specs.declared.entry.Entry.{Entry}
@@ -15,7 +15,7 @@ use Rattle.preset_csv.specs.declared.fault.PresetCause.TheVariants as cause
 use Rattle.preset_csv.specs.declared.kind.DerivedType.{DerivedType}
 use Rattle.preset_csv.specs.declared.kind.DerivedType.TheVariants as derived
 use Rattle.preset_csv.specs.declared.kind.Kind.TheVariants as kind
-use Rattle.user_events.specs.Entries.{event_judged, has_rate, infix_entry, infix_judged, infix_kept, is_infix}
+use Rattle.user_events.specs.Entries.{event_judged, has_rate, infix_entry}
 use Rattle.user_events.specs.Events.{IsGiven}
 
 abbrev pub Gives : Result Entry PresetCause → Type 0
@@ -30,40 +30,27 @@ formula-gives : (natives : List Text) (o : Result FormulaView Refused) → Gives
 formula-gives natives (Ok f) = tt
 formula-gives natives (Err refused) = tt
 
-typed-gives : (t : DerivedType) (formula : Text) (natives : List Text) → Gives (typed_entry t formula natives)
+typed-gives : (t : DerivedType) (formula : Text) (natives : List Text) → Gives (typed_entry infix_entry t formula natives)
 typed-gives derived.NotDerived formula natives = either (length natives == 1) (Ok (def_entry kind.NotDerived None natives)) (Ok entry.Uncomputed) tt tt
 typed-gives derived.Add formula natives = tt
 typed-gives derived.Sub formula natives = tt
 typed-gives derived.Postfix formula natives =
     either (Presets.has_rate formula) (Ok entry.Uncomputed) (formula_entry natives (formula_of (length natives) formula)) tt (formula-gives natives (formula_of (length natives) formula))
-typed-gives derived.Infix formula natives = tt
+typed-gives derived.Infix formula natives =
+    either (has_rate formula) (Ok entry.Uncomputed) (formula_entry natives (infix_of (length natives) formula)) tt (formula-gives natives (infix_of (length natives) formula))
 typed-gives derived.Ps formula natives = tt
 typed-gives derived.AddPs formula natives = tt
 typed-gives derived.Cmpd formula natives = tt
 
-natives-give : (t : DerivedType) (formula : Text) (natives : Result (List Text) PresetCause) → Gives (kept_entry t formula natives)
-natives-give t formula (Ok natives) = either (is_empty natives) (Ok entry.Uncomputed) (typed_entry t formula natives) tt (typed-gives t formula natives)
+natives-give : (t : DerivedType) (formula : Text) (natives : Result (List Text) PresetCause) → Gives (kept_entry infix_entry t formula natives)
+natives-give t formula (Ok natives) = either (is_empty natives) (Ok entry.Uncomputed) (typed_entry infix_entry t formula natives) tt (typed-gives t formula natives)
 natives-give t formula (Err why) = tt
 
-type-gives : (t : Option DerivedType) (formula : Text) (natives : List Text) → Gives (judged_as t formula natives)
+type-gives : (t : Option DerivedType) (formula : Text) (natives : List Text) → Gives (judged_as infix_entry t formula natives)
 type-gives None formula natives = tt
 type-gives (Some t) formula natives =
-    either (is_printable formula) (kept_entry t formula (kept_natives natives)) (Err cause.BadField) (natives-give t formula (kept_natives natives)) tt
-
-judged-gives : (r : Derivation) → Gives (judged r)
-unfolding judged
-judged-gives r = type-gives r.derived_type r.formula r.natives
-
-rate-gives : (formula : Text) (natives : List Text) → Gives (infix_entry formula natives)
-rate-gives formula natives =
-    either (has_rate formula) (Ok entry.Uncomputed) (formula_entry natives (infix_of (length natives) formula)) tt (formula-gives natives (infix_of (length natives) formula))
-
-infix-gives : (formula : Text) (natives : Result (List Text) PresetCause) → Gives (infix_kept formula natives)
-infix-gives formula (Ok natives) = either (is_empty natives) (Ok entry.Uncomputed) (infix_entry formula natives) tt (rate-gives formula natives)
-infix-gives formula (Err why) = tt
+    either (is_printable formula) (kept_entry infix_entry t formula (kept_natives natives)) (Err cause.BadField) (natives-give t formula (kept_natives natives)) tt
 
 pub event-gives : (r : Derivation) → Gives (event_judged r)
-unfolding event_judged
-event-gives r =
-    either (is_infix r.derived_type) (infix_judged r) (judged r)
-    (either (is_printable r.formula) (infix_kept r.formula (kept_natives r.natives)) (Err cause.BadField) (infix-gives r.formula (kept_natives r.natives)) tt) (judged-gives r)
+unfolding judged_by
+event-gives r = type-gives r.derived_type r.formula r.natives

@@ -1,25 +1,20 @@
--- The entry of a row can stand in a table.
-use Rattle.std.proofs.Common.{◌≡◌, ◌≤◌, ◌+◌, ◌∷◌, ℕ, Bool, true, false, List, [], Option, Some, None, length, map, refl, sym, subst, arith}
+-- The entry of a formula in infix order can stand in a table.
+use Rattle.std.proofs.Common.{◌≡◌, ◌+◌, ◌∷◌, ℕ, Bool, true, false, List, [], Option, Some, None, length, map, refl, sym, subst}
 use Rattle.std.specs.Prelude.{Ok, Err, Result, is_some, if◌then◌else◌, nat_lt, ⊤}
-use Rattle.std.specs.List.{AllByRecursion}
 use Rattle.std.specs.Option.{option_map_or}
-use Rattle.table_rows.specs.Texts.{Text, is_empty, is_printable}
+use Rattle.table_rows.specs.Texts.{Text}
 use Rattle.postfix_rules.specs.declared.fault.FormulaCause.{FormulaCause}
 use Rattle.postfix_rules.specs.declared.fault.FormulaCause.TheVariants as cause
 use Rattle.postfix_rules.specs.Faults.{FormulaView, IsFormula, fault_from}
 use Rattle.postfix_rules.specs.InfixReading.{OrderView, ended_tokens, infix_end, infix_ended, infix_of, moved_by, order_begun, order_cause, refused_at}
 use Rattle.postfix_rules.specs.InfixTokens.{InfixPart, infix_parts}
 use Rattle.postfix_rules.specs.Reading.{Refused}
-use Rattle.preset_csv.specs.Defs.{Agrees, IsNativeText}
-use Rattle.preset_csv.specs.Entries.{formula_entry, judged, kept_natives}
-use Rattle.preset_csv.specs.Lines.{Derivation}
+use Rattle.preset_csv.specs.Defs.{Agrees}
+use Rattle.preset_csv.specs.Entries.{formula_entry}
 use Rattle.preset_csv.specs.declared.entry.Entry.TheVariants as entry
-use Rattle.preset_csv.specs.declared.fault.PresetCause.{PresetCause}
-use Rattle.preset_csv.specs.declared.fault.PresetCause.TheVariants as row_cause
 use Rattle.preset_csv.specs.declared.kind.Kind.TheVariants as kind
-use Rattle.preset_csv.proofs.Judged.{Keeps, Ready, def-kept, judged-kept}
-use Rattle.preset_csv.proofs.NativesKept.{IsNative, kept-is, texts-kept}
-use Rattle.user_events.specs.Entries.{event_judged, has_rate, infix_judged, infix_kept, is_infix}
+use Rattle.preset_csv.proofs.Judged.{InfixKept, Keeps, Ready, def-kept}
+use Rattle.user_events.specs.Entries.{has_rate, infix_entry}
 
 abbrev IsOne : ℕ → Result FormulaView Refused → Type 0
 IsOne natives (Ok f) = (f.natives ≡ natives) × IsFormula natives f.tokens
@@ -59,37 +54,9 @@ formula-kept natives text ready = go (infix_of (length natives) text) refl
     go (Ok f) e = def-kept natives kind.Postfix (Some f) ready (infix-agrees natives text f e)
     go (Err refused) e = tt
 
-some-natives : (natives : List Text) → is_empty natives ≡ false → 1 ≤ length natives
-some-natives [] e = cc e
-some-natives (t ∷ rest) e = omega arith
-
-natives-kept : (formula : Text) (natives kept : List Text) → AllByRecursion IsNative natives → kept_natives natives ≡ Ok kept → Keeps (infix_kept formula (Ok kept))
-natives-kept formula natives kept h e = go (is_empty kept) (has_rate formula) refl
+pub infix-kept : InfixKept infix_entry
+infix-kept text natives ready = go (has_rate text)
   where
-    ready : is_empty kept ≡ false → Ready kept
-    ready n = let k = kept-is natives kept e in record { each = subst (AllByRecursion IsNativeText) k.0 (texts-kept natives h k.1); some = some-natives kept n; few = k.2 }
-
-    go : (b c : Bool) → is_empty kept ≡ b → Keeps (if b then Ok entry.Uncomputed else if c then Ok entry.Uncomputed else formula_entry kept (infix_of (length kept) formula))
-    go true c n = tt
-    go false true n = tt
-    go false false n = formula-kept kept formula (ready n)
-
-infix-kept : (r : Derivation) → AllByRecursion IsNative r.natives → Keeps (infix_judged r)
-infix-kept r h = go (is_printable r.formula)
-  where
-    taken : (o : Result (List Text) PresetCause) → kept_natives r.natives ≡ o → Keeps (infix_kept r.formula o)
-    taken (Ok kept) e = natives-kept r.formula r.natives kept h e
-    taken (Err why) e = tt
-
-    go : (b : Bool) → Keeps (if b then infix_kept r.formula (kept_natives r.natives) else Err row_cause.BadField)
-    go true = taken (kept_natives r.natives) refl
-    go false = tt
-
--- the entry of a row whose natives are fields
-pub event-kept : (r : Derivation) → AllByRecursion IsNative r.natives → Keeps (event_judged r)
-unfolding event_judged
-event-kept r h = go (is_infix r.derived_type)
-  where
-    go : (b : Bool) → Keeps (if b then infix_judged r else judged r)
-    go true = infix-kept r h
-    go false = judged-kept r h
+    go : (b : Bool) → Keeps (if b then Ok entry.Uncomputed else formula_entry natives (infix_of (length natives) text))
+    go true = tt
+    go false = formula-kept natives text ready

@@ -1,4 +1,3 @@
-pub mod Judged
 pub mod Putting
 pub mod TakingRow
 pub mod InfixKept

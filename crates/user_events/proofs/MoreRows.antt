@@ -1,5 +1,5 @@
--- The presets and user events of some rows and of one row more.
-use Rattle.std.proofs.Common.{◌≡◌, ◌∙◌, ◌∷◌, ◌++◌, Bool, true, false, List, [], map, fold, refl, sym, ap, ap₂, subst, append_assoc, append-nil, None, Result, Ok, Err}
+-- The user events of some rows and of one row more.
+use Rattle.std.proofs.Common.{◌≡◌, ◌∙◌, ◌∷◌, ◌++◌, Bool, true, false, List, [], map, fold, refl, sym, ap, ap₂, subst, append-nil, None, Result, Ok, Err}
 use Rattle.std.specs.Prelude.{◌||◌, if◌then◌else◌}
 use Rattle.std.specs.Bool.{Decides}
 use Rattle.std.specs.List.{AllByRecursion}
@@ -8,43 +8,20 @@ use Rattle.std.proofs.lemmas.List.Sums.{fold-append}
 use Rattle.std.proofs.lemmas.Slice.Eq.{bytes_eq-Decides}
 use Rattle.table_rows.specs.Texts.{Text}
 use Rattle.table_rows.proofs.Texts.{all-append}
-use Rattle.preset_csv.specs.Lines.{Derivation, Line, cpu, other, preset}
-use Rattle.preset_csv.specs.Presets.{cause_if, entry_of, entry_or, rows_if}
+use Rattle.preset_csv.specs.Lines.{Derivation, Line, cpu, event, gives, other, preset}
+use Rattle.preset_csv.specs.Presets.{cause_if, entry_of, entry_or, holds, rows_if}
 use Rattle.preset_csv.specs.Steps.{group_at}
-use Rattle.preset_csv.specs.Tables.{symbols}
 use Rattle.preset_csv.specs.declared.entry.Entry.{Entry}
 use Rattle.preset_csv.specs.declared.fault.PresetCause.{PresetCause}
 use Rattle.preset_csv.specs.declared.fault.PresetCause.TheVariants as cause
-use Rattle.preset_csv.proofs.OneMore.{entry-append, map-same, taken-more, unread}
+use Rattle.preset_csv.proofs.OneMore.{entry-append, map-same, read-more}
 use Rattle.preset_csv.proofs.SymbolRows.{same-text}
 use Rattle.user_events.specs.Entries.{event_judged}
 use Rattle.user_events.specs.Events.{Distinct, EventView, names_of}
-use Rattle.user_events.specs.Lines.{EventLine, event, in_groups, plain}
 use Rattle.user_events.specs.Names.{is_event_name}
-use Rattle.user_events.specs.Rows.{among, event_of, event_read, events_of, events_read, holds, is_too_many, limited, name_added}
-use Rattle.user_events.specs.Rows.{named_entry, names_in, preset_entries, preset_read, presets_read, read_from}
-use Rattle.user_events.specs.Steps.{entries_more, events_more, put_event, put_judged}
-
-abbrev groups : List EventLine → List Line
-groups above = map in_groups above
-
-pub read-more : (adds : List EventLine → EventLine → List Derivation) (a xs : List EventLine) (line : EventLine) → read_from adds a (xs ++ line ∷ []) ≡ read_from adds a xs ++ adds (a ++ xs) line
-unfolding read_from
-read-more adds a [] line = append-nil (adds a line) ∙ ap (λ (b : List EventLine). adds b line) (sym (append-nil a))
-read-more adds a (x ∷ xs) line =
-    ap (λ (rs : List Derivation). adds a x ++ rs) (read-more adds (a ++ x ∷ []) xs line ∙ ap (λ (b : List EventLine). read_from adds (a ++ x ∷ []) xs ++ adds b line) (append_assoc a (x ∷ []) xs))
-    ∙ sym (append_assoc (adds a x) (read_from adds (a ++ x ∷ []) xs) (adds (a ++ x ∷ xs) line))
-
--- ---- the entries of the presets
-
-abbrev entries_by : List Derivation → List Entry
-entries_by rows = map (entry_of event_judged rows) symbols
-
-pub presets-more : (name : Text) (above : List EventLine) (line : EventLine) → preset_entries name (above ++ line ∷ []) ≡ entries_more (group_at name (groups above)) (preset_entries name above) line
-presets-more name above (plain other) = ap entries_by (read-more (preset_read name) [] above (plain other)) ∙ unread event_judged (presets_read name above)
-presets-more name above (plain (cpu n)) = ap entries_by (read-more (preset_read name) [] above (plain (cpu n))) ∙ unread event_judged (presets_read name above)
-presets-more name above (plain (preset r)) = ap entries_by (read-more (preset_read name) [] above (plain (preset r))) ∙ taken-more event_judged (presets_read name above) r (holds name above)
-presets-more name above (event r) = ap entries_by (read-more (preset_read name) [] above (event r)) ∙ unread event_judged (presets_read name above)
+use Rattle.user_events.specs.Rows.{among, event_of, event_read, events_of, events_read, is_too_many, limited, name_added}
+use Rattle.user_events.specs.Rows.{named_entry, names_in}
+use Rattle.user_events.specs.Steps.{events_more, events_with, put_event, put_judged}
 
 -- ---- the names of the user events differ
 
@@ -153,20 +130,28 @@ same-events : (rows : List Derivation) → events_of (rows ++ []) ≡ events_of 
 same-events rows = ap events_of (append-nil rows)
 
 -- an EVENT row that is read has no cause
-abbrev pub events_more_cause : Text → List EventLine → EventLine → Type 0
-events_more_cause name above (plain line) = Unit {0}
-events_more_cause name above (event r) = cause_if (holds name above) (named_entry (names_in (events_read name above)) r) ≡ None
+abbrev pub events_more_cause : Text → List Line → Line → Type 0
+events_more_cause name above other = Unit {0}
+events_more_cause name above (cpu n) = Unit {0}
+events_more_cause name above (gives preset r) = Unit {0}
+events_more_cause name above (gives event r) = cause_if (holds name above) (named_entry (names_in (events_read name above)) r) ≡ None
 
-pub events-more : (name : Text) (above : List EventLine) (line : EventLine) → events_more_cause name above line
-    → events_of (events_read name (above ++ line ∷ [])) ≡ events_more (group_at name (groups above)) (events_of (events_read name above)) line
-events-more name above (plain line) h = ap events_of (read-more (event_read name) [] above (plain line)) ∙ same-events (events_read name above)
-events-more name above (event r) h = ap events_of (read-more (event_read name) [] above (event r)) ∙ go (holds name above) h
+pub events-more : (name : Text) (above : List Line) (line : Line) → events_more_cause name above line
+    → events_of (events_read name (above ++ line ∷ [])) ≡ events_more (group_at name above) (events_of (events_read name above)) line
+events-more name above line h = ap events_of (read-more (event_read name) [] above line) ∙ any line h
   where
-    go : (b : Bool) → cause_if b (named_entry (names_in (events_read name above)) r) ≡ None
-        → events_of (events_read name above ++ rows_if b r) ≡ (if b then put_judged (events_of (events_read name above)) r.symbol (named_entry (names_of (events_of (events_read name above))) r) else events_of (events_read name above))
-    go false e = same-events (events_read name above)
-    go true e =
-        let x = no-cause (named_entry (names_in (events_read name above)) r) e in
-        let n = named-ok (names_in (events_read name above)) r x.0 x.1 in
-        put-more (events_read name above) r x.0 n.entry
-        ∙ sym (ap (put_judged (events_of (events_read name above)) r.symbol) (ap (λ (ns : List Text). named_entry ns r) (names-are (events_read name above)) ∙ x.1))
+    rows : List Derivation
+    rows = events_read name above
+
+    go : (r : Derivation) (b : Bool) → cause_if b (named_entry (names_in rows) r) ≡ None → events_of (rows ++ rows_if b r) ≡ events_with b (events_of rows) r
+    go r false e = same-events rows
+    go r true e =
+        let x = no-cause (named_entry (names_in rows) r) e in
+        let n = named-ok (names_in rows) r x.0 x.1 in
+        put-more rows r x.0 n.entry ∙ sym (ap (put_judged (events_of rows) r.symbol) (ap (λ (ns : List Text). named_entry ns r) (names-are rows) ∙ x.1))
+
+    any : (line : Line) → events_more_cause name above line → events_of (rows ++ event_read name above line) ≡ events_more (group_at name above) (events_of rows) line
+    any other h = same-events rows
+    any (cpu n) h = same-events rows
+    any (gives preset r) h = same-events rows
+    any (gives event r) h = go r (holds name above) h

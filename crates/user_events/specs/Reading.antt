@@ -1,30 +1,27 @@
 -- What the rows of a preset file with user events gave so far.
-use Rattle.std.specs.Prelude.{◌≡◌, ◌≤◌, false, List, [], length, map}
+use Rattle.std.specs.Prelude.{◌≡◌, ◌≤◌, List, length, map}
 use Rattle.std.specs.List.{AllByRecursion}
 use Rattle.table_rows.specs.Texts.{Text}
-use Rattle.preset_csv.specs.Steps.{group_at}
-use Rattle.preset_csv.specs.Tables.{IsEntry, IsMissing, is_field}
-use Rattle.user_events.specs.Events.{IsEvent, event_view}
-use Rattle.user_events.specs.Lines.{EventLine, in_groups}
-use Rattle.user_events.specs.Rows.{events_of, events_read, preset_entries}
+use Rattle.preset_csv.specs.Lines.{Line}
+use Rattle.preset_csv.specs.Reading as Presets
+use Rattle.user_events.specs.Entries.{event_judged}
+use Rattle.user_events.specs.Events.{EventView, IsEvent, event_view}
+use Rattle.user_events.specs.Rows.{events_of, events_read}
 use Rattle.user_events.specs.Steps.{Taking}
 use Rattle.user_events.specs.declared.event.TheConstants.{MOST_EVENTS}
-use Rattle.user_events.specs.declared.reading.Taken.{Taken}
+use Rattle.user_events.specs.declared.reading.WithEvents.{WithEvents}
 
 -- what the rows so far gave, as callers see it
-abbrev pub taking : Taken → Taking
-taking t = record { group = t.group; entries = t.entries.items; events = map event_view t.events.items }
+abbrev pub taking : WithEvents → Taking
+taking t = record { group = t.presets.group; entries = t.presets.entries.items; events = map event_view t.events.items }
 
--- entries and events of their form, of which there are none for a cpu whose name can stand in no field
-pub record IsKept (name : Text) (s : Taking) : Type 0 where
-  pub each : AllByRecursion IsEntry s.entries
-  pub few : length s.events ≤ MOST_EVENTS
-  pub events : AllByRecursion IsEvent s.events
-  pub named : is_field name ≡ false → (s.group.holds ≡ false) × AllByRecursion IsMissing s.entries × (s.events ≡ [])
+-- events of their form, and not too many
+pub record IsKept (events : List EventView) : Type 0 where
+  pub few : length events ≤ MOST_EVENTS
+  pub each : AllByRecursion IsEvent events
 
 -- the group of CPU rows at the end of these rows, and the presets and user events that they give for a cpu
-pub record IsTaken (name : Text) (lines : List EventLine) (s : Taking) : Type 0 where
-  pub group : s.group ≡ group_at name (map in_groups lines)
-  pub entries : s.entries ≡ preset_entries name lines
+pub record IsTaken (name : Text) (lines : List Line) (s : Taking) : Type 0 where
+  pub presets : Presets.IsTaken event_judged name lines s.group s.entries
   pub events : s.events ≡ events_of (events_read name lines)
-  pub kept : IsKept name s
+  pub kept : IsKept s.events

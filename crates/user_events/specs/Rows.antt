@@ -1,54 +1,35 @@
 -- The presets and user events of a file for one cpu, and its first fault: papi_events.csv.
 use Rattle.std.specs.Prelude.{◌≡◌, ◌&&◌, ℕ, Bool, true, false, not, List, [], ◌∷◌, ◌++◌, length, map, fold, Option, Some}
-use Rattle.std.specs.Prelude.{None, Result, Ok, Err, is_some, if◌then◌else◌, nat_le}
+use Rattle.std.specs.Prelude.{None, Result, Ok, Err, if◌then◌else◌, nat_le}
 use Rattle.std.specs.List.{list_any}
 use Rattle.std.specs.Str.{bytes_eq}
 use Rattle.table_rows.specs.Tables.{ReadsTable, first_fault}
 use Rattle.table_rows.specs.Texts.{Text}
-use Rattle.preset_table.specs.Table.{row_of}
-use Rattle.preset_csv.specs.Lines.{Derivation, cpu, other, preset}
-use Rattle.preset_csv.specs.Presets.{cause_if, entry_of, group, has_cpu, rows_if}
-use Rattle.preset_csv.specs.Tables.{symbols}
+use Rattle.preset_csv.specs.Lines.{Derivation, Line, cpu, event, gives, other, preset}
+use Rattle.preset_csv.specs.Presets as Presets
+use Rattle.preset_csv.specs.Presets.{cause_if, entry_of, has_cpu, holds, presets, read_from, rows_if}
 use Rattle.preset_csv.specs.declared.entry.Entry.{Entry}
 use Rattle.preset_csv.specs.declared.fault.PresetCause.{PresetCause}
 use Rattle.preset_csv.specs.declared.fault.PresetCause.TheVariants as cause
 use Rattle.table_rows.specs.declared.fault.RowFault.{RowFault}
 use Rattle.user_events.specs.Entries.{event_judged}
 use Rattle.user_events.specs.Events.{EventView, ExtendedView}
-use Rattle.user_events.specs.Lines.{EventLine, event, in_groups, lines_of, plain}
+use Rattle.user_events.specs.Lines.{lines_of}
 use Rattle.user_events.specs.Names.{is_event_name}
 use Rattle.user_events.specs.declared.event.TheConstants.{MOST_EVENTS}
 use Rattle.user_events.specs.declared.extended.Extended.{Extended}
 
 -- ---- the rows that are read
 
--- the group of CPU rows at the end of these rows holds the cpu
-abbrev pub holds : Text → List EventLine → Bool
-holds name above = list_any (λ n. bytes_eq name n) (group (map in_groups above))
-
--- what one row below these adds to the PRESET rows that are read: those whose symbol is in the table
-abbrev pub preset_read : Text → List EventLine → EventLine → List Derivation
-preset_read name above (plain other) = []
-preset_read name above (plain (cpu n)) = []
-preset_read name above (plain (preset r)) = rows_if (holds name above && is_some (row_of r.symbol)) r
-preset_read name above (event r) = []
-
 -- what one row below these adds to the EVENT rows that are read
-abbrev pub event_read : Text → List EventLine → EventLine → List Derivation
-event_read name above (plain line) = []
-event_read name above (event r) = rows_if (holds name above) r
-
--- the rows that are read of some rows below `above`, where one row adds these
-unfoldable pub read_from : (List EventLine → EventLine → List Derivation) → List EventLine → List EventLine → List Derivation
-read_from adds above [] = []
-read_from adds above (line ∷ rest) = adds above line ++ read_from adds (above ++ line ∷ []) rest
-
--- the PRESET rows that are read for a cpu
-abbrev pub presets_read : Text → List EventLine → List Derivation
-presets_read name lines = read_from (preset_read name) [] lines
+abbrev pub event_read : Text → List Line → Line → List Derivation
+event_read name above other = []
+event_read name above (cpu n) = []
+event_read name above (gives preset r) = []
+event_read name above (gives event r) = rows_if (holds name above) r
 
 -- the EVENT rows that are read for a cpu
-abbrev pub events_read : Text → List EventLine → List Derivation
+abbrev pub events_read : Text → List Line → List Derivation
 events_read name lines = read_from (event_read name) [] lines
 
 -- ---- the entries
@@ -68,10 +49,6 @@ names_in rows = fold name_added [] rows
 -- the event of a name: the entry of its last row
 abbrev pub event_of : List Derivation → Text → EventView
 event_of rows name = record { name = name; entry = entry_of event_judged rows name }
-
--- the entries of the preset table's symbols, and the user events
-abbrev pub preset_entries : Text → List EventLine → List Entry
-preset_entries name lines = map (entry_of event_judged (presets_read name lines)) symbols
 
 -- the events of some rows, in the order of their first rows
 abbrev pub events_of : List Derivation → List EventView
@@ -97,14 +74,12 @@ abbrev pub named_entry : List Text → Derivation → Result Entry PresetCause
 named_entry names r = if is_event_name r.symbol then limited (is_too_many names r.symbol) (event_judged r) else Err cause.BadField
 
 -- the cause of a row below these rows
-abbrev pub line_cause : Text → List EventLine → EventLine → Option PresetCause
-line_cause name above (plain other) = None
-line_cause name above (plain (cpu n)) = None
-line_cause name above (plain (preset r)) =
-    if not (has_cpu (map in_groups above)) then Some cause.NoCpu
-    else cause_if (holds name above && is_some (row_of r.symbol)) (event_judged r)
-line_cause name above (event r) =
-    if not (has_cpu (map in_groups above)) then Some cause.NoCpu
+abbrev pub line_cause : Text → List Line → Line → Option PresetCause
+line_cause name above other = None
+line_cause name above (cpu n) = None
+line_cause name above (gives preset r) = Presets.line_cause event_judged name above (gives preset r)
+line_cause name above (gives event r) =
+    if not (has_cpu above) then Some cause.NoCpu
     else cause_if (holds name above) (named_entry (names_in (events_read name above)) r)
 
 -- ---- what a caller gets
@@ -116,7 +91,7 @@ extended_fault name bytes = first_fault (line_cause name) [] (lines_of bytes)
 -- the presets and user events for a cpu in a file that has no faulty row
 unfoldable pub extended_in : Text → List ℕ → ExtendedView
 extended_in name bytes =
-    record { presets = record { cpu = name; rows = preset_entries name (lines_of bytes) }; events = events_of (events_read name (lines_of bytes)) }
+    record { presets = record { cpu = name; rows = presets event_judged name (lines_of bytes) }; events = events_of (events_read name (lines_of bytes)) }
 
 -- these where no row is faulty, or the first fault, or out of memory
 abbrev pub ReadsExtended : Result Extended (RowFault PresetCause) → List ℕ → Text → Type 0

@@ -7,7 +7,6 @@ mod extended;
 mod judging;
 pub mod laws;
 mod reading;
-mod row;
 mod writing;
 
 pub use crate::event::{LONGEST_EVENT_NAME, MOST_EVENTS, UserEvent};

@@ -5,23 +5,37 @@ ghost use Rattle.csv.specs.Records.{fields_of};
 ghost use Rattle.table_rows.specs.Rows.{IsReadRow};
 ghost use Rattle.table_rows.specs.Tables.{TakesRow};
 ghost use Rattle.preset_table.specs.declared.TheConstants.{PRESETS};
-ghost use Rattle.preset_csv.specs.Lines.{derivation_of};
+ghost use Rattle.preset_csv.specs.Lines.{Line, derivation_of, row_line};
+ghost use Rattle.preset_csv.specs.Steps.{IsPlainRow};
 ghost use Rattle.user_events.specs.Events.{event_view, names_of};
-ghost use Rattle.user_events.specs.Lines.{EventLine, line_of};
+ghost use Rattle.user_events.specs.Lines.{line_of};
 ghost use Rattle.user_events.specs.Reading.{IsTaken, taking};
 ghost use Rattle.user_events.specs.Rows as Rows;
 ghost use Rattle.user_events.specs.Rows.{ReadsExtended};
-ghost use Rattle.user_events.specs.Steps.{IsMore, IsOverLimit, IsPlainRow, cause_more, event_cause, events_with, row_line};
+ghost use Rattle.user_events.specs.Steps.{IsMore, IsOverLimit, cause_more, event_cause, events_with};
 
 use crate::event::{MOST_EVENTS, UserEvent, is_event_name, place_of, put_event};
 use crate::extended::Extended;
-use crate::judging::{EventJudge, judge_event};
-use crate::row::{EventRow, event_row_of};
+use crate::judging::EventJudge;
 use preset_csv::{
-    Entry, Group, PresetCause, PresetFault, PresetTable, Row, all_missing, take_preset,
+    Entry, Group, PresetCause, PresetFault, PresetTable, Row, Taken, all_missing, judge, row_of,
+    take_line,
 };
 use std::alloc::{AllocError, Global};
 use table_rows::{ByteRecord, Refusal, TableKind, printable_text, read_table, text_at};
+
+/// What a record is, by its first field, without regard to ASCII case.
+#[tactic(auto, unfolding(crate::specs::Lines::line_of))]
+fn event_row_of(row: &ByteRecord) -> Row<'_>
+    ensures line { row_line result ≡ line_of (fields_of row.now) }
+    ensures plain { IsReadRow (fields_of row.now) → IsPlainRow result }
+{
+    if text_at(row, 0).eq_ignore_ascii_case(b"EVENT") {
+        Row::Event(row)
+    } else {
+        row_of(row)
+    }
+}
 
 // Whether a name is new, and there are as many as there may be.
 fn is_too_many(events: &[UserEvent], name: &str) -> bool
@@ -65,7 +79,7 @@ fn take_event(
     let Some(name) = printable_text(name) else {
         return Err(Refusal::Cause(PresetCause::BadField));
     };
-    let judged = judge_event(alloc, row);
+    let judged = judge::<EventJudge>(alloc, row);
     if is_too_many(events.as_slice(), name) {
         return Err(over_limit(judged));
     }
@@ -73,47 +87,30 @@ fn take_event(
     Ok(())
 }
 
-// What the rows so far gave: the group of CPU rows at their end, the entries of the presets, and the user events.
+// What the rows so far gave: what a file of presets alone gives, and the user events.
 #[derive(Drop)]
-struct Taken {
-    group: Group,
-    entries: Vec<Entry>,
+struct WithEvents {
+    presets: Taken,
     events: Vec<UserEvent>,
 }
 
 // Takes a row below the others, for a cpu.
-fn take_line(
+fn take_any_line(
     alloc: Global,
     cpu: &str,
-    row: EventRow<'_>,
-    taken: &mut Taken,
+    row: Row<'_>,
+    taken: &mut WithEvents,
 ) -> Result<(), Refusal<PresetCause>>
     requires plain { IsPlainRow row }
-    requires all { length taken.old.entries.items ≡ PRESETS }
-    ensures { TakesRow (cause_more taken.old.group (map event_view taken.old.events.items)
+    requires all { length taken.old.presets.entries.items ≡ PRESETS }
+    ensures { TakesRow (cause_more taken.old.presets.group (map event_view taken.old.events.items)
         (row_line row.entry))
         (IsMore cpu.now (row_line row.entry) (taking taken.old) (taking taken.new)) result }
 {
+    take_line::<EventJudge>(alloc, cpu, row, &mut taken.presets)?;
     match row {
-        EventRow::Plain(Row::Other) => Ok(()),
-        EventRow::Plain(Row::Cpu(name)) => {
-            taken.group = taken.group.with_cpu(cpu.as_bytes() == name);
-            Ok(())
-        }
-        EventRow::Plain(Row::Preset(row)) => {
-            if !taken.group.begun {
-                return Err(Refusal::Cause(PresetCause::NoCpu));
-            }
-            taken.group = taken.group.with_preset();
-            take_preset::<EventJudge>(alloc, row, taken.group.holds, &mut taken.entries)
-        }
-        EventRow::Event(row) => {
-            if !taken.group.begun {
-                return Err(Refusal::Cause(PresetCause::NoCpu));
-            }
-            taken.group = taken.group.with_preset();
-            take_event(alloc, row, taken.group.holds, &mut taken.events)
-        }
+        Row::Event(row) => take_event(alloc, row, taken.presets.group.holds, &mut taken.events),
+        _ => Ok(()),
     }
 }
 
@@ -124,11 +121,11 @@ struct EventRows<'c> {
 }
 
 impl<'c> TableKind for EventRows<'c> {
-    type Read = Taken;
+    type Read = WithEvents;
 
     type Cause = PresetCause;
 
-    ghost Line = { EventLine };
+    ghost Line = { Line };
 
     ghost line_of = { line_of };
 
@@ -136,10 +133,12 @@ impl<'c> TableKind for EventRows<'c> {
 
     ghost gives = { λ p lines taken. IsTaken p.cpu.now lines (taking taken) };
 
-    fn no_rows(&self, alloc: Global) -> Result<Taken, AllocError> {
-        Ok(Taken {
-            group: Group::new(),
-            entries: all_missing(alloc)?,
+    fn no_rows(&self, alloc: Global) -> Result<WithEvents, AllocError> {
+        Ok(WithEvents {
+            presets: Taken {
+                group: Group::new(),
+                entries: all_missing(alloc)?,
+            },
             events: Vec::new(alloc),
         })
     }
@@ -147,10 +146,10 @@ impl<'c> TableKind for EventRows<'c> {
     fn take_row(
         &self,
         alloc: Global,
-        taken: &mut Taken,
+        taken: &mut WithEvents,
         row: &ByteRecord,
     ) -> Result<(), Refusal<PresetCause>> {
-        take_line(alloc, self.cpu, event_row_of(row), taken)
+        take_any_line(alloc, self.cpu, event_row_of(row), taken)
     }
 }
 
@@ -162,6 +161,6 @@ pub fn read_extended(alloc: Global, bytes: &[u8], cpu: &str) -> Result<Extended,
     ensures { ReadsExtended result bytes.now cpu.now }
 {
     let taken = read_table(alloc, bytes, &EventRows { cpu })?;
-    let presets = PresetTable::new(String::from_str(alloc, cpu)?, taken.entries);
+    let presets = PresetTable::new(String::from_str(alloc, cpu)?, taken.presets.entries);
     Ok(Extended::new(presets, taken.events))
 }

@@ -1,8 +1,11 @@
 use Rattle.std.proofs.Common.{◌≡◌, ◌∙◌, Err, List, ap₂, rules}
 use Rattle.table_rows.specs.Texts.{Text}
+use Rattle.preset_csv.specs.Entries.{judged, uncomputed}
+use Rattle.preset_csv.specs.Lines.{line_of, lines_of}
 use Rattle.preset_csv.specs.Presets.{preset_fault, presets_in}
 use Rattle.preset_csv.specs.declared.entry.Entry.{Entry}
-use Rattle.preset_csv.proofs.TableKept.{presets-kept}
+use Rattle.preset_csv.proofs.Judged.{judged-kept}
+use Rattle.preset_csv.proofs.TableKept.{line-kept, lines-plain, presets-kept}
 use Rattle.preset_csv.proofs.reading.read_presets.Goals as goal
 
 pub returns-in_err-taken : goal.returns-in_err-taken
@@ -12,7 +15,7 @@ returns-in_err-taken c =
     rw same c.in_err-taken.ensures
 
 pub new-requires : goal.new-requires
-new-requires c = rw (c.in_ok-from_str.ensures.ok, c.in_ok-taken.ensures.1.entries_are) (presets-kept c.args.cpu.now c.args.bytes.now)
+new-requires c = rw (c.in_ok-from_str.ensures.ok, c.in_ok-taken.ensures.1.entries_are) (presets-kept judged (judged-kept uncomputed (λ f n r. tt)) c.args.cpu.now (lines_of c.args.bytes.now) (lines-plain line_of line-kept c.args.bytes.now))
 
 pub returns : goal.returns
 unfolding preset_fault presets_in

@@ -28,7 +28,7 @@ returns-then-is_too_many c =
     let is : c.in-Some.name.now ≡ text_at (fields_of c.args.row.now) 1 = printed-some c.in-Some.name.now c.text_at-name.result.now c.in-Some.ensures ∙ c.text_at-name.ensures in
     let many = ap (is_too_many (names_of (map event_view items))) (sym is) ∙ ap (λ (xs : List UserEvent). is_too_many (names_of (map event_view xs)) c.in-Some.name.now) (sym c.as_slice.ensures.value)
     ∙ sym c.is_too_many.ensures ∙ c.if-is_too_many.true in
-    over-taken (fields_of c.args.row.now) c.args.holds (map event_view items) c.judge_event-judged.result c.over_limit.result c.if-not-holds.false name many c.judge_event-judged.ensures c.over_limit.ensures
+    over-taken (fields_of c.args.row.now) c.args.holds (map event_view items) c.judge-judged.result c.over_limit.result c.if-not-holds.false name many c.judge-judged.ensures c.over_limit.ensures
 
 pub returns-in_err-judged : goal.returns-in_err-judged
 returns-in_err-judged c =
@@ -38,7 +38,7 @@ returns-in_err-judged c =
     let few = ap (is_too_many (names_of (map event_view items))) (sym is) ∙ ap (λ (xs : List UserEvent). is_too_many (names_of (map event_view xs)) c.in-Some.name.now) (sym c.as_slice.ensures.value)
     ∙ sym c.is_too_many.ensures ∙ c.if-is_too_many.false in
     let p = err_from_is_err_and c.from_residual.result c.from_residual.ensures.1 in
-    let refused = subst (Judges (event_judged (derivation_of (fields_of c.args.row.now)))) c.in_err-judged.was c.judge_event-judged.ensures in
+    let refused = subst (Judges (event_judged (derivation_of (fields_of c.args.row.now)))) c.in_err-judged.was c.judge-judged.ensures in
     rw (p.1, p.2) (event-refused (fields_of c.args.row.now) c.args.holds (map event_view items) c.in_err-judged.field-0.0 c.if-not-holds.false name few refused)
 
 pub returns : goal.returns
@@ -48,6 +48,6 @@ returns c =
     let is : c.in-Some.name.now ≡ text_at (fields_of c.args.row.now) 1 = printed-some c.in-Some.name.now c.text_at-name.result.now c.in-Some.ensures ∙ c.text_at-name.ensures in
     let few = ap (is_too_many (names_of (map event_view items))) (sym is) ∙ ap (λ (xs : List UserEvent). is_too_many (names_of (map event_view xs)) c.in-Some.name.now) (sym c.as_slice.ensures.value)
     ∙ sym c.is_too_many.ensures ∙ c.if-is_too_many.false in
-    let entry = subst (Judges (event_judged (derivation_of (fields_of c.args.row.now)))) c.in_ok-judged.was c.judge_event-judged.ensures in
+    let entry = subst (Judges (event_judged (derivation_of (fields_of c.args.row.now)))) c.in_ok-judged.was c.judge-judged.ensures in
     event-taken (fields_of c.args.row.now) c.args.holds (map event_view items) (map event_view c.put_event.new.events.items) c.in_ok-judged.field-0 c.if-not-holds.false name few entry
     (c.in_ok-put_event.ensures ∙ ap (λ (n : Text). put_event (map event_view items) n c.in_ok-judged.field-0) is)

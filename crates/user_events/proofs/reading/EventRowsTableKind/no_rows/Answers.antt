@@ -1,9 +1,7 @@
 use Rattle.std.proofs.Common.{ap, map}
 use Rattle.user_events.specs.Events.{event_view}
-use Rattle.user_events.proofs.Taking.{none-taken, same-taking}
+use Rattle.user_events.proofs.Taking.{none-taken}
 use Rattle.user_events.proofs.reading.EventRowsTableKind.no_rows.Goals as goal
 
 pub returns : goal.returns
-returns c =
-    none-taken c.args.self.now.cpu.now _
-    (same-taking c.new.result _ c.in_ok-all_missing.field-0.items _ (map event_view c.new-2.result.items) _ c.new.ensures c.in_ok-all_missing.ensures (ap (map event_view) c.new-2.ensures.items))
+returns c = none-taken c.args.self.now.cpu.now _ c.new.ensures c.in_ok-all_missing.ensures (ap (map event_view) c.new-2.ensures.items)
