@@ -20,7 +20,7 @@ use Rattle.session_model.specs.Refusals.{rows}
 use Rattle.session_model.specs.Replies.{refused}
 use Rattle.session_model.specs.Step.{account_refusal, performed, replies_to, step, unless}
 use Rattle.session_laws.proofs.Sets.{test_fails}
-use Rattle.call_laws.specs.History.{Answered, Thread, answered, begun, history, is_number, is_ok, makes}
+use Rattle.call_laws.specs.History.{CallReply, Thread, answered, begun, history, is_number, is_ok, makes}
 use Rattle.call_laws.specs.Passings.{first_native, threshold_at}
 use Rattle.call_laws.specs.SetCalls.{changed, holds_after, set_now, set_of_call}
 use Rattle.call_laws.proofs.Histories.{set_now-changed, set_now-made, set_now-other}
@@ -33,11 +33,11 @@ abbrev pub IsThreshold : ℕ → Type 0
 IsThreshold t = (t ≡ 0) ⊎ (LEAST_THRESHOLD ≤ t)
 
 -- what a call that changed a set shows
-record IsSeen (x : Answered) : Type 0 where
+record IsSeen (x : CallReply) : Type 0 where
   few : (k : ℕ) → changed k x ≡ true → k < MOST_SETS
   high : (k : ℕ) (e : EventRef) (t : ℕ) → x.call ≡ call.Overflow k (Ok e) t → changed k x ≡ true → IsThreshold t
 
-abbrev AllSeen : List Answered → Type 0
+abbrev AllSeen : List CallReply → Type 0
 AllSeen [] = Unit {0}
 AllSeen (x ∷ log) = IsSeen x × AllSeen log
 
@@ -65,7 +65,7 @@ first_row book shape a (call.Reset j) k q = ap (is_absent (faces_of a.sets)) (le
 first_row book shape a c k q = cc
 
 -- the set that a call changed is the one that it names
-names : (k : ℕ) (x : Answered) → changed k x ≡ true → set_of_call x.call ≡ Some k
+names : (k : ℕ) (x : CallReply) → changed k x ≡ true → set_of_call x.call ≡ Some k
 names k x on = go (set_of_call x.call) (is_ok x.reply.code) on where
   go : (o : Option ℕ) (ok : Bool) → (is_number k o && ok) ≡ true → o ≡ Some k
   go None ok e = cc
@@ -78,7 +78,7 @@ is_threshold shape t s h = go (t == 0) refl (nat_le LEAST_THRESHOLD t) refl h wh
   go false e true f h = inr (grind (arith, nat_tests, f))
   go false e false f h = absurd (both_ways (is_bad_threshold shape t s) h (rw (e, f) refl))
 
-performed_seen : (t : Thread) (log : List Answered) (a : Account) (c : Call) → Belongs t log a → account_refusal t.book t.shape a c ≡ None
+performed_seen : (t : Thread) (log : List CallReply) (a : Account) (c : Call) → Belongs t log a → account_refusal t.book t.shape a c ≡ None
     → IsSeen (said c (performed t.book t.shape a c).reply)
 performed_seen t log a c h q = record {
   few = λ k on.
@@ -93,7 +93,7 @@ performed_seen t log a c h q = record {
       let p = present t.book t.shape a x k taken refl in
       is_threshold t.shape threshold p.0.set (test_fails t.book t.shape a x 3 k (is_bad_threshold t.shape threshold) p.0 taken p.1 refl)
 
-step_seen : (t : Thread) (log : List Answered) (a : Account) (c : Call) → Belongs t log a → IsSeen (said c (step t.book t.shape a c).reply)
+step_seen : (t : Thread) (log : List CallReply) (a : Account) (c : Call) → Belongs t log a → IsSeen (said c (step t.book t.shape a c).reply)
 step_seen t log a c h = go (account_refusal t.book t.shape a c) refl where
   go : (o : Option Refusal) → account_refusal t.book t.shape a c ≡ o → IsSeen (said c (unless o a (performed t.book t.shape a c)).reply)
   go (Some r) q = record {
@@ -102,7 +102,7 @@ step_seen t log a c h = go (account_refusal t.book t.shape a c) refl where
   }
   go None q = performed_seen t log a c h q
 
-all_seen : (t : Thread) (log : List Answered) (a : Account) (calls : List Call) → Belongs t log a → AllSeen log → AllSeen (history calls (replies_to t.book t.shape a calls) log)
+all_seen : (t : Thread) (log : List CallReply) (a : Account) (calls : List Call) → Belongs t log a → AllSeen log → AllSeen (history calls (replies_to t.book t.shape a calls) log)
 all_seen t log a [] h seen = seen
 all_seen t log a (c ∷ calls) h seen =
     let x = said c (step t.book t.shape a c).reply in
@@ -111,7 +111,7 @@ all_seen t log a (c ∷ calls) h seen =
 -- ---- all calls
 
 -- a set with an event has a number
-set_few : (book : Book) (log : List Answered) (k i : ℕ) (n : Native) → AllSeen log → first_native book (set_now book k log) i ≡ Some n → k < MOST_SETS
+set_few : (book : Book) (log : List CallReply) (k i : ℕ) (n : Native) → AllSeen log → first_native book (set_now book k log) i ≡ Some n → k < MOST_SETS
 set_few book [] k i n seen e = cc
 set_few book (x ∷ log) k i n seen e = go (makes k x) (changed k x) refl refl (λ f. set_few book log k i n seen.1 f) where
   go : (made on : Bool) → makes k x ≡ made → changed k x ≡ on → (first_native book (set_now book k log) i ≡ Some n → k < MOST_SETS) → k < MOST_SETS
@@ -119,7 +119,7 @@ set_few book (x ∷ log) k i n seen e = go (makes k x) (changed k x) refl refl (
   go false true m c earlier = seen.0.few k c
   go false false m c earlier = earlier (sym (ap (λ s. first_native book s i) (set_now-other book k x log m c)) ∙ e)
 
-holds_high : (book : Book) (k : ℕ) (x : Answered) (s : AtRest) → IsSeen x → changed k x ≡ true → All IsThreshold s.thresholds → All IsThreshold (holds_after book x.call s).thresholds
+holds_high : (book : Book) (k : ℕ) (x : CallReply) (s : AtRest) → IsSeen x → changed k x ≡ true → All IsThreshold s.thresholds → All IsThreshold (holds_after book x.call s).thresholds
 holds_high book k x s seen on h = go x.call refl where
   named : (j : ℕ) (e : EventRef) (t : ℕ) → x.call ≡ call.Overflow j (Ok e) t → set_of_call x.call ≡ Some k → x.call ≡ call.Overflow k (Ok e) t
   named j e t q is = q ∙ ap (λ i. call.Overflow i (Ok e) t) (let both : Some j ≡ Some k = sym (ap set_of_call q) ∙ is in let same : j ≡ k = cc in same)
@@ -131,7 +131,7 @@ holds_high book k x s seen on h = go x.call refl where
   go (call.Overflow j (Ok e) t) q = All-set IsThreshold s.thresholds (place_of e s) t (seen.high k e t (named j e t q (names k x on)) on) h
   go c q = h
 
-set_high : (book : Book) (log : List Answered) (k : ℕ) → AllSeen log → All IsThreshold (set_now book k log).thresholds
+set_high : (book : Book) (log : List CallReply) (k : ℕ) → AllSeen log → All IsThreshold (set_now book k log).thresholds
 set_high book [] k seen = All-nil IsThreshold
 set_high book (x ∷ log) k seen = go (makes k x) (changed k x) refl refl (set_high book log k seen.1) where
   thresholds : AtRest → Type 0

@@ -19,7 +19,7 @@ use Rattle.session_model.specs.Counts.{in_window}
 use Rattle.session_model.specs.Faces.{at, change}
 use Rattle.session_model.specs.Values.{measured, sums, values_of}
 use Rattle.session_laws.proofs.Sets.{each_at}
-use Rattle.call_laws.specs.History.{Answered, Placed, is_ok, makes, newly_taken, placed_after, taken, taken_by}
+use Rattle.call_laws.specs.History.{CallReply, OccAfter, is_ok, makes, newly_taken, placed_after, taken, taken_by}
 use Rattle.call_laws.specs.SetCalls.{changed, set_now, holds_after, is_accum, is_clearing, is_zeroing, runs_now, runs_after, set_of_call, zeroes}
 use Rattle.call_laws.specs.Measures.{values_over}
 use Rattle.call_laws.specs.Values.{added, column_sums, plus, values_now, window, wrapped_sums}
@@ -34,7 +34,7 @@ use Rattle.call_laws.proofs.Sums.{sums_more, value_addable, wrapped_zeros}
 -- ---- what follows
 
 -- what is kept of a set is what the history says
-pub record SetFollows (book : Book) (stream : List Occ) (log : List Answered) (past : List Occ) (k : ℕ) (s : Kept) : Type 0 where
+pub record SetFollows (book : Book) (stream : List Occ) (log : List CallReply) (past : List Occ) (k : ℕ) (s : Kept) : Type 0 where
   pub holds : s.set ≡ set_now book k log
   pub windowed : in_window s (placed_after None past) ≡ window stream k log
   pub valued : s.values ≡ wrapped_sums (length s.set.events) (added book stream k log)
@@ -43,7 +43,7 @@ pub record SetFollows (book : Book) (stream : List Occ) (log : List Answered) (p
 abbrev pub running : Option Kept → Bool
 running place = option_map_or (λ s. s.running) place false
 
-pub record Follows (book : Book) (stream : List Occ) (log : List Answered) (past rest : List Occ) (sets : List (Option Kept)) : Type 0 where
+pub record Follows (book : Book) (stream : List Occ) (log : List CallReply) (past rest : List Occ) (sets : List (Option Kept)) : Type 0 where
   pub past_is : past ≡ take (taken log) stream
   pub rest_is : rest ≡ drop (taken log) stream
   pub within : AllWithin (length past) sets
@@ -51,7 +51,7 @@ pub record Follows (book : Book) (stream : List Occ) (log : List Answered) (past
   pub each : (k : ℕ) (s : Kept) → at sets k ≡ Some s → SetFollows book stream log past k s
 
 -- the values of the set are what the history says
-pub values_follow : (book : Book) (stream : List Occ) (log : List Answered) (past : List Occ) (k : ℕ) (s : Kept) → IsWithin (length past) s → SetFollows book stream log past k s
+pub values_follow : (book : Book) (stream : List Occ) (log : List CallReply) (past : List Occ) (k : ℕ) (s : Kept) → IsWithin (length past) s → SetFollows book stream log past k s
     → values_of book past s ≡ values_now book stream k log
 values_follow book stream log past k s inside h = values_are book past s inside ∙ ap₂ (values_over book) h.holds h.windowed
 
@@ -69,7 +69,7 @@ kept_runs book past (call.Remove k (Ok e)) s = refl
 kept_runs book past (call.Overflow k (Ok e) t) s = refl
 kept_runs book past c s = refl
 
-kept_window : (book : Book) (past : List Occ) (c : Call) (k : ℕ) (s : Kept) (xs : List Placed) → set_of_call c ≡ Some k → length xs ≡ length past → IsWithin (length past) s
+kept_window : (book : Book) (past : List Occ) (c : Call) (k : ℕ) (s : Kept) (xs : List OccAfter) → set_of_call c ≡ Some k → length xs ≡ length past → IsWithin (length past) s
     → in_window (kept_after book past c s) xs ≡ (if is_zeroing c then [] else in_window s xs)
 kept_window book past (call.Cleanup j) k s xs q same h = window-zeroed (length past) s xs same
 kept_window book past (call.Add j (Ok e)) k s xs q same h = window-zeroed (length past) s xs same
@@ -84,7 +84,7 @@ kept_window book past (call.Reset j) k s xs q same h = window-zeroed (length pas
 kept_window book past (call.AssignComponent j comp) k s xs q same h = refl
 kept_window book past c k s xs q same h = cc
 
-kept_values : (book : Book) (stream : List Occ) (log : List Answered) (past : List Occ) (c : Call) (k : ℕ) (s : Kept) → set_of_call c ≡ Some k → IsWithin (length past) s → SetFollows book stream log past k s
+kept_values : (book : Book) (stream : List Occ) (log : List CallReply) (past : List Occ) (c : Call) (k : ℕ) (s : Kept) → set_of_call c ≡ Some k → IsWithin (length past) s → SetFollows book stream log past k s
     → (kept_after book past c s).values
     ≡ wrapped_sums (length (holds_after book c s.set).events) (if is_clearing c then [] else (if is_accum c then values_now book stream k log ∷ [] else []) ++ added book stream k log)
 kept_values book stream log past (call.Cleanup j) k s q inside h = sym (wrapped_zeros 0)
@@ -106,7 +106,7 @@ kept_values book stream log past (call.AssignComponent j comp) k s q inside h = 
 kept_values book stream log past c k s q inside h = cc
 
 -- what is kept of the set that a call changed
-changed_set : (book : Book) (stream : List Occ) (log : List Answered) (past : List Occ) (c : Call) (r : Reply) (k : ℕ) (s : Kept)
+changed_set : (book : Book) (stream : List Occ) (log : List CallReply) (past : List Occ) (c : Call) (r : Reply) (k : ℕ) (s : Kept)
     → set_of_call c ≡ Some k → is_ok r.code ≡ true → IsQuiet r.body → IsWithin (length past) s → SetFollows book stream log past k s
     → SetFollows book stream (said c r ∷ log) past k (kept_after book past c s)
 changed_set book stream log past c r k s q ok quiet inside h =
@@ -125,7 +125,7 @@ changed_set book stream log past c r k s q ok quiet inside h =
       go false z = h.windowed ∙ sym (window-same stream k (said c r) log z quiet.takes_none)
 
 -- what is kept of a set that a call did not change
-other_set : (book : Book) (stream : List Occ) (log : List Answered) (past : List Occ) (x : Answered) (k : ℕ) (s : Kept)
+other_set : (book : Book) (stream : List Occ) (log : List CallReply) (past : List Occ) (x : CallReply) (k : ℕ) (s : Kept)
     → makes k x ≡ false → changed k x ≡ false → taken_by x.reply.body ≡ 0 → SetFollows book stream log past k s → SetFollows book stream (x ∷ log) past k s
 other_set book stream log past x k s m off none h = record {
   holds = h.holds ∙ sym (set_now-other book k x log m off);
@@ -140,11 +140,11 @@ by_number : (P : ℕ → Type 0) (j k : ℕ) → P k → (j ≢ k → P j) → P
 by_number P j k here other = elim (eqb_tells j k) [ inl e ↦ subst P (sym e.1) here | inr e ↦ other e.1 ]
 
 -- a call that took nothing leaves what was taken
-still : (x : Answered) (log : List Answered) → taken_by x.reply.body ≡ 0 → taken log ≡ taken (x ∷ log)
+still : (x : CallReply) (log : List CallReply) → taken_by x.reply.body ≡ 0 → taken log ≡ taken (x ∷ log)
 still x log none = omega (arith, none)
 
 -- a call that changed nothing
-pub idle_follows : (book : Book) (stream : List Occ) (log : List Answered) (past rest : List Occ) (sets : List (Option Kept)) (x : Answered)
+pub idle_follows : (book : Book) (stream : List Occ) (log : List CallReply) (past rest : List Occ) (sets : List (Option Kept)) (x : CallReply)
     → ((k : ℕ) → makes k x ≡ false) → ((k : ℕ) → changed k x ≡ false) → taken_by x.reply.body ≡ 0
     → Follows book stream log past rest sets → Follows book stream (x ∷ log) past rest sets
 idle_follows book stream log past rest sets x m off none h = record {
@@ -156,7 +156,7 @@ idle_follows book stream log past rest sets x m off none h = record {
 }
 
 -- a call that changed the set of a number
-pub changed_follows : (book : Book) (stream : List Occ) (log : List Answered) (past rest : List Occ) (sets : List (Option Kept)) (c : Call) (r : Reply) (k : ℕ) (s : Kept)
+pub changed_follows : (book : Book) (stream : List Occ) (log : List CallReply) (past rest : List Occ) (sets : List (Option Kept)) (c : Call) (r : Reply) (k : ℕ) (s : Kept)
     → set_of_call c ≡ Some k → is_ok r.code ≡ true → IsQuiet r.body → at sets k ≡ Some s
     → AllWithin (length past) (change (kept_after book past c) sets k)
     → Follows book stream log past rest sets → Follows book stream (said c r ∷ log) past rest (change (kept_after book past c) sets k)
@@ -183,7 +183,7 @@ changed_follows book stream log past rest sets c r k s q ok quiet there inside h
       (changed_set book stream log past c r k s q ok quiet (each_at (IsWithin (length past)) sets k s h.within.each there) (h.each k s there))
 
 -- a new set
-new_set_follows : (book : Book) (stream : List Occ) (log : List Answered) (past : List Occ) (x : Answered) (k : ℕ) → makes k x ≡ true → SetFollows book stream (x ∷ log) past k new_kept
+new_set_follows : (book : Book) (stream : List Occ) (log : List CallReply) (past : List Occ) (x : CallReply) (k : ℕ) → makes k x ≡ true → SetFollows book stream (x ∷ log) past k new_kept
 new_set_follows book stream log past x k m = record {
   holds = sym (set_now-made book k x log m);
   windowed = sym (window-made stream k x log m);
@@ -195,7 +195,7 @@ not_running None h = refl
 not_running (Some s) h = ap (λ (t : Kept). t.running) (sym (h s refl))
 
 -- a call that made a set
-pub made_follows : (book : Book) (stream : List Occ) (log : List Answered) (past rest : List Occ) (sets : List (Option Kept)) (x : Answered) (k : ℕ)
+pub made_follows : (book : Book) (stream : List Occ) (log : List CallReply) (past rest : List Occ) (sets : List (Option Kept)) (x : CallReply) (k : ℕ)
     → makes k x ≡ true → ((j : ℕ) → j ≢ k → makes j x ≡ false) → ((j : ℕ) → changed j x ≡ false) → taken_by x.reply.body ≡ 0 → at sets k ≡ None
     → AllWithin (length past) (slice_set sets k (Some new_kept))
     → Follows book stream log past rest sets → Follows book stream (x ∷ log) past rest (slice_set sets k (Some new_kept))
@@ -212,7 +212,7 @@ made_follows book stream log past rest sets x k m others off none empty inside h
 }
 
 -- a call that took a stopped set away
-pub gone_follows : (book : Book) (stream : List Occ) (log : List Answered) (past rest : List Occ) (sets : List (Option Kept)) (x : Answered) (k : ℕ)
+pub gone_follows : (book : Book) (stream : List Occ) (log : List CallReply) (past rest : List Occ) (sets : List (Option Kept)) (x : CallReply) (k : ℕ)
     → ((j : ℕ) → makes j x ≡ false) → ((j : ℕ) → changed j x ≡ false) → taken_by x.reply.body ≡ 0 → running (at sets k) ≡ false
     → AllWithin (length past) (slice_set sets k None)
     → Follows book stream log past rest sets → Follows book stream (x ∷ log) past rest (slice_set sets k None)
@@ -231,7 +231,7 @@ gone_follows book stream log past rest sets x k m off none stopped inside h = re
 -- ---- runs
 
 -- what is kept of a set over which a run took its next occurrences
-ran_set : (book : Book) (stream : List Occ) (log : List Answered) (past later : List Occ) (x : Answered) (k : ℕ) (s : Kept)
+ran_set : (book : Book) (stream : List Occ) (log : List CallReply) (past later : List Occ) (x : CallReply) (k : ℕ) (s : Kept)
     → makes k x ≡ false → changed k x ≡ false → past ≡ take (taken log) stream → later ≡ take (taken (x ∷ log)) stream
     → s.running ≡ runs_now k log → IsWithin (length past) s → SetFollows book stream log past k s → SetFollows book stream (x ∷ log) later k s
 ran_set book stream log past later x k s m off old new on inside h = record {
@@ -260,7 +260,7 @@ ran_set book stream log past later x k s m off old new on inside h = record {
       ∙ sym (window-stays stream k x log (zeroes-other k x m off) (sym on ∙ stopped_now))
 
 -- a run
-pub ran_follows : (book : Book) (stream : List Occ) (log : List Answered) (past rest : List Occ) (sets : List (Option Kept)) (x : Answered)
+pub ran_follows : (book : Book) (stream : List Occ) (log : List CallReply) (past rest : List Occ) (sets : List (Option Kept)) (x : CallReply)
     → ((j : ℕ) → makes j x ≡ false) → ((j : ℕ) → changed j x ≡ false)
     → AllWithin (length (past ++ take (taken_by x.reply.body) rest)) sets
     → Follows book stream log past rest sets → Follows book stream (x ∷ log) (past ++ take (taken_by x.reply.body) rest) (drop (taken_by x.reply.body) rest) sets

@@ -20,7 +20,7 @@ use Rattle.session_model.specs.Bounds.{IsWithin}
 use Rattle.session_model.specs.Counts.{in_window}
 use Rattle.session_model.specs.Estimates.{estimated, total, turns_of}
 use Rattle.session_model.specs.Values.{measured, values_of}
-use Rattle.call_laws.specs.History.{Placed, placed_after}
+use Rattle.call_laws.specs.History.{OccAfter, placed_after}
 use Rattle.call_laws.specs.Measures.{begins, ends, estimate_in, estimate_over, measure_over, values_over}
 use Rattle.call_laws.proofs.Windows.{placed-drop, placed-take, weighed_is}
 
@@ -69,17 +69,17 @@ estimate-none total active = go (active == 0) where
   go true = refl
   go false = rw (zero-mul total) (zero-div active)
 
--- the estimate of one native event, where the window and the one before it are given
+-- the estimate of one native event, if the window and the one before it are given
 estimate_placed : (s : AtRest) (before : Option Occ) (os : List Occ) (n : Native) (slice count group : ℕ)
     → let turns : Turns = record { slice = slice; count = count; start = time_after before } in
     let time = time_after (last_after before os) - time_after before in
-    estimate (sum (map (λ (p : Placed). weight_in_turn turns group n s.domain p.before p.occ) (placed_after before os))) time (active turns group time)
+    estimate (sum (map (λ (p : OccAfter). weight_in_turn turns group n s.domain p.before p.occ) (placed_after before os))) time (active turns group time)
     ≡ estimate_in s (placed_after before os) n (record { slice = slice; count = count; start = begins (placed_after before os) }) group
 estimate_placed s before [] n slice count group =
     estimate-none (time_after before - time_after before) (active (record { slice = slice; count = count; start = time_after before }) group (time_after before - time_after before)) ∙ sym (estimate-none (0 - 0) (active (record { slice = slice; count = count; start = 0 }) group (0 - 0)))
 estimate_placed s before (o ∷ os) n slice count group =
     let turns : Turns = record { slice = slice; count = count; start = time_after before } in
-    ap (λ time. estimate (sum (map (λ (p : Placed). weight_in_turn turns group n s.domain p.before p.occ) (placed_after before (o ∷ os)))) (time - time_after before) (active turns group (time - time_after before)))
+    ap (λ time. estimate (sum (map (λ (p : OccAfter). weight_in_turn turns group n s.domain p.before p.occ) (placed_after before (o ∷ os)))) (time - time_after before) (active turns group (time - time_after before)))
     (sym (ends_is before (o ∷ os)))
 
 estimated_is : (book : Book) (past : List Occ) (s : Kept) (slice : ℕ) (n : Native) → IsWithin (length past) s
@@ -89,7 +89,7 @@ estimated_is book past s slice n h =
     let group = slice_index numbers (position_or_len (same_native n) (set_natives book s.set)) in
     let turns = turns_of slice numbers past s in
     ap₂ (λ (w time : ℕ). estimate w time (active turns group time))
-    (weighed_is (weight_in_turn turns group n s.set.domain) past s ∙ ap (λ ps. sum (map (λ (p : Placed). weight_in_turn turns group n s.set.domain p.before p.occ) ps)) (placed_window past s))
+    (weighed_is (weight_in_turn turns group n s.set.domain) past s ∙ ap (λ ps. sum (map (λ (p : OccAfter). weight_in_turn turns group n s.set.domain p.before p.occ) ps)) (placed_window past s))
     (total_is past s h)
     ∙ estimate_placed s.set (before_window past s) (in_window s past) n slice turns.count group
     ∙ ap (λ ps. estimate_over book s.set slice ps n) (sym (placed_window past s))

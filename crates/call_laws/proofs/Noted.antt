@@ -20,7 +20,7 @@ use Rattle.session_model.specs.Step.{account_refusal, notes_to, performed, repli
 use Rattle.session_model.specs.Thresholds.{notes_at, notes_of_place, notes_over, passed_in}
 use Rattle.session_laws.proofs.Counted.{places_stay}
 use Rattle.session_laws.proofs.Sets.{each_at, step_has}
-use Rattle.call_laws.specs.History.{Answered, Placed, Thread, begun, history, placed_after, taken, taken_by}
+use Rattle.call_laws.specs.History.{CallReply, OccAfter, Thread, begun, history, placed_after, taken, taken_by}
 use Rattle.call_laws.specs.Passings.{NotesAreThePassings, note_of, notes_of_call, notes_of_occ, notes_of_run, notes_of_set, passing_indexes, passings}
 use Rattle.call_laws.specs.SetCalls.{runs_now, set_now}
 use Rattle.call_laws.specs.Values.{window}
@@ -34,18 +34,18 @@ use Rattle.call_laws.proofs.Windows.{placed-drop, placed-take}
 -- ---- in the middle of a run
 
 -- what is kept of a set that runs is what the history says, with the occurrences that the run took
-record SetStands (t : Thread) (log : List Answered) (before : List Placed) (past : List Occ) (k : ℕ) (s : Kept) : Type 0 where
+record SetStands (t : Thread) (log : List CallReply) (before : List OccAfter) (past : List Occ) (k : ℕ) (s : Kept) : Type 0 where
   holds : s.set ≡ set_now t.book k log
   from_in : s.from ≤ length past
   windowed : s.running ≡ true → in_window s (placed_after None past) ≡ window t.stream k log ++ before
 
-record Stands (t : Thread) (log : List Answered) (before : List Placed) (past : List Occ) (sets : List (Option Kept)) : Type 0 where
+record Stands (t : Thread) (log : List CallReply) (before : List OccAfter) (past : List Occ) (sets : List (Option Kept)) : Type 0 where
   places : length sets ≡ MOST_SETS
   runs_is : (k : ℕ) → running (at sets k) ≡ runs_now k log
   each : (k : ℕ) (s : Kept) → at sets k ≡ Some s → SetStands t log before past k s
 
 -- one more occurrence
-stands_next : (t : Thread) (log : List Answered) (before : List Placed) (past : List Occ) (o : Occ) (sets : List (Option Kept)) → Stands t log before past sets
+stands_next : (t : Thread) (log : List CallReply) (before : List OccAfter) (past : List Occ) (o : Occ) (sets : List (Option Kept)) → Stands t log before past sets
     → Stands t log (before ++ next past o ∷ []) (past ++ o ∷ []) sets
 stands_next t log before past o sets h = record {
   places = h.places;
@@ -58,7 +58,7 @@ stands_next t log before past o sets h = record {
 }
 
 -- the notes of the place of a set
-place_noted : (t : Thread) (log : List Answered) (before : List Placed) (past : List Occ) (o : Occ) (k : ℕ) (place : Option Kept)
+place_noted : (t : Thread) (log : List CallReply) (before : List OccAfter) (past : List Occ) (o : Occ) (k : ℕ) (place : Option Kept)
     → running place ≡ runs_now k log → ((s : Kept) → place ≡ Some s → SetStands t log before past k s)
     → notes_of_place t.book t.number past o k place ≡ (if runs_now k log then notes_of_set t log before (next past o) k else [])
 place_noted t log before past o k None on h = rw (← on) refl
@@ -68,11 +68,11 @@ place_noted t log before past o k (Some s) on h = rw (← on) (go s.running refl
       let g = h s refl in
       ap (λ b. map (note_of t.number k o) (passed_in b t.book past s o)) runs
       ∙ ap (map (note_of t.number k o)) (passed_here t.book past s o runs g.from_in)
-      ∙ ap₂ (λ (x : AtRest) (os : List Placed). map (note_of t.number k o) (passing_indexes t.book (record { set = x; so_far = os; now = next past o }))) g.holds (g.windowed runs)
+      ∙ ap₂ (λ (x : AtRest) (os : List OccAfter). map (note_of t.number k o) (passing_indexes t.book (record { set = x; so_far = os; now = next past o }))) g.holds (g.windowed runs)
   go false stopped = ap (λ b. map (note_of t.number k o) (passed_in b t.book past s o)) stopped
 
 -- the notes of an occurrence
-occ_noted : (t : Thread) (log : List Answered) (before : List Placed) (past : List Occ) (o : Occ) (sets : List (Option Kept)) → Stands t log before past sets
+occ_noted : (t : Thread) (log : List CallReply) (before : List OccAfter) (past : List Occ) (o : Occ) (sets : List (Option Kept)) → Stands t log before past sets
     → notes_at t.book t.number past o 0 sets ≡ notes_of_occ t log before (next past o)
 occ_noted t log before past o sets h =
     noted_is t.book t.number past o (λ k. runs_now k log) (notes_of_set t log before (next past o)) 0 sets (λ j.
@@ -81,7 +81,7 @@ occ_noted t log before past o sets h =
     ∙ ap (λ n. flat_map (notes_of_set t log before (next past o)) (filter (λ k. runs_now k log) (range_with_len 0 n))) h.places
 
 -- the notes of the next occurrences
-run_noted : (t : Thread) (log : List Answered) (before : List Placed) (past os : List Occ) (sets : List (Option Kept)) → Stands t log before past sets
+run_noted : (t : Thread) (log : List CallReply) (before : List OccAfter) (past os : List Occ) (sets : List (Option Kept)) → Stands t log before past sets
     → notes_over t.book t.number sets past os ≡ notes_of_run t log before (placed_after (last_after None past) os)
 run_noted t log before past [] sets h = refl
 run_noted t log before past (o ∷ os) sets h = ap₂ (λ (a b : List Note). a ++ b) (occ_noted t log before past o sets h)
@@ -91,13 +91,13 @@ run_noted t log before past (o ∷ os) sets h = ap₂ (λ (a b : List Note). a +
 -- ---- one call
 
 -- the account is one of the thread after these calls
-pub record Belongs (t : Thread) (log : List Answered) (a : Account) : Type 0 where
+pub record Belongs (t : Thread) (log : List CallReply) (a : Account) : Type 0 where
   pub follows : HistoryFollows t.book t.stream log a
   pub own : a.thread ≡ t.number
   pub places : length a.sets ≡ MOST_SETS
 
 -- before the first occurrence of a run
-stands : (t : Thread) (log : List Answered) (a : Account) → Belongs t log a → Stands t log [] a.past a.sets
+stands : (t : Thread) (log : List CallReply) (a : Account) → Belongs t log a → Stands t log [] a.past a.sets
 stands t log a h = record {
   places = h.places;
   runs_is = h.follows.runs_is;
@@ -112,17 +112,17 @@ stands t log a h = record {
 }
 
 -- the occurrences that a run took come after the past
-taken_next : (t : Thread) (log : List Answered) (a : Account) (k : ℕ) → Belongs t log a
+taken_next : (t : Thread) (log : List CallReply) (a : Account) (k : ℕ) → Belongs t log a
     → placed_after (last_after None a.past) (take k a.rest) ≡ take k (drop (taken log) (placed_after None t.stream))
 taken_next t log a k h =
     placed-take (last_after None a.past) k a.rest
     ∙ ap (take k) (ap₂ (λ (past rest : List Occ). placed_after (last_after None past) rest) h.follows.past_is h.follows.rest_is ∙ sym (placed-drop None (taken log) t.stream))
 
 -- a call that took nothing has no notes
-none_taken : (t : Thread) (log : List Answered) (x : Answered) → taken_by x.reply.body ≡ 0 → [] ≡ notes_of_call t x log
+none_taken : (t : Thread) (log : List CallReply) (x : CallReply) → taken_by x.reply.body ≡ 0 → [] ≡ notes_of_call t x log
 none_taken t log x none = rw none refl
 
-performed_noted : (t : Thread) (log : List Answered) (a : Account) (c : Call) → Belongs t log a
+performed_noted : (t : Thread) (log : List CallReply) (a : Account) (c : Call) → Belongs t log a
     → (performed t.book t.shape a c).notes ≡ notes_of_call t (said c (performed t.book t.shape a c).reply) log
 performed_noted t log a (call.Run n) h =
     let k = min n (length a.rest) in
@@ -133,7 +133,7 @@ performed_noted t log a call.Create h = refl
 performed_noted t log a c h =
     none_taken t log (said c (performed t.book t.shape a c).reply) (quiet_reply t.book (sight_of_kept t.book t.shape a.past) a.sets c (λ e. cc)).takes_none
 
-step_noted : (t : Thread) (log : List Answered) (a : Account) (c : Call) → Belongs t log a
+step_noted : (t : Thread) (log : List CallReply) (a : Account) (c : Call) → Belongs t log a
     → (step t.book t.shape a c).notes ≡ notes_of_call t (said c (step t.book t.shape a c).reply) log
 step_noted t log a c h = go (account_refusal t.book t.shape a c) refl where
   go : (o : Option Refusal) → account_refusal t.book t.shape a c ≡ o
@@ -149,14 +149,14 @@ performed_thread book shape a call.Register = refl
 performed_thread book shape a call.Unregister = refl
 performed_thread book shape a c = refl
 
-pub step_belongs : (t : Thread) (log : List Answered) (a : Account) (c : Call) → Belongs t log a → Belongs t (said c (step t.book t.shape a c).reply ∷ log) (step t.book t.shape a c).account
+pub step_belongs : (t : Thread) (log : List CallReply) (a : Account) (c : Call) → Belongs t log a → Belongs t (said c (step t.book t.shape a c).reply ∷ log) (step t.book t.shape a c).account
 step_belongs t log a c h = record {
   follows = step_follows t.book t.shape t.stream log a c h.follows;
   own = step_has (λ b. b.thread ≡ a.thread) t.book t.shape a c refl (λ q. performed_thread t.book t.shape a c) ∙ h.own;
   places = places_stay t.book t.shape a c ∙ h.places;
 }
 
-all_noted : (t : Thread) (log : List Answered) (a : Account) (calls : List Call) → Belongs t log a
+all_noted : (t : Thread) (log : List CallReply) (a : Account) (calls : List Call) → Belongs t log a
     → passings t log ++ notes_to t.book t.shape a calls ≡ passings t (history calls (replies_to t.book t.shape a calls) log)
 all_noted t log a [] h = append-nil (passings t log)
 all_noted t log a (c ∷ calls) h =

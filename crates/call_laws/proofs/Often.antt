@@ -22,7 +22,7 @@ use Rattle.postfix_rules.specs.Presets.{Book, lead}
 use Rattle.event_sets.specs.AtRest.{AtRest}
 use Rattle.session_model.specs.declared.call.Call.{Call}
 use Rattle.session_model.specs.declared.call.Call.TheVariants as call
-use Rattle.call_laws.specs.History.{Answered, Placed, Thread, answered, makes, newly_taken, placed_after, taken, taken_by}
+use Rattle.call_laws.specs.History.{CallReply, OccAfter, Thread, answered, makes, newly_taken, placed_after, taken, taken_by}
 use Rattle.call_laws.specs.Measures.{count_over}
 use Rattle.call_laws.specs.Passings.{Moment, OneNoteForEach, first_native, is_note_of, moment, note_of, notes_of_call, notes_of_occ, notes_of_run, notes_of_set, passes, passings_since, reaches_more, threshold_at}
 use Rattle.call_laws.specs.SetCalls.{changed, holds_after, is_zeroing, runs_now, set_now, zeroes}
@@ -89,14 +89,14 @@ only_at test notes chosen k a (suc n) only from below = elim (eqb_tells a k) [
 other_index : (thread k i : ℕ) (o : Occ) → OnlyAt (is_note_of k i) (λ j. note_of thread k o j ∷ []) i
 other_index thread k i o j apart = rw (eq-eqb k k refl, ne_eqb j i apart) refl
 
-other_set : (t : Thread) (log : List Answered) (before : List Placed) (p : Placed) (k i : ℕ) → OnlyAt (is_note_of k i) (notes_of_set t log before p) k
+other_set : (t : Thread) (log : List CallReply) (before : List OccAfter) (p : OccAfter) (k i : ℕ) → OnlyAt (is_note_of k i) (notes_of_set t log before p) k
 other_set t log before p k i j apart = go (filter (passes t.book (moment t log before p j)) (range_with_len 0 (length (set_now t.book j log).events))) where
   go : (is : List ℕ) → how_many (is_note_of k i) (map (note_of t.number j p.occ) is) ≡ 0
   go [] = refl
   go (x ∷ is) = rw (ne_eqb j k apart) (go is)
 
 -- the notes of the event of a set that runs
-in_set : (t : Thread) (log : List Answered) (before : List Placed) (p : Placed) (k i : ℕ) → i < length (set_now t.book k log).events
+in_set : (t : Thread) (log : List CallReply) (before : List OccAfter) (p : OccAfter) (k i : ℕ) → i < length (set_now t.book k log).events
     → how_many (is_note_of k i) (notes_of_set t log before p k) ≡ (if passes t.book (moment t log before p k) i then 1 else 0)
 in_set t log before p k i below =
     let chosen = passes t.book (moment t log before p k) in
@@ -107,15 +107,15 @@ in_set t log before p k i below =
       own : how_many (is_note_of k i) (note_of t.number k p.occ i ∷ []) ≡ 1
       own = rw (eq-eqb k k refl, eq-eqb i i refl) refl
 
-in_all : (t : Thread) (log : List Answered) (before : List Placed) (p : Placed) (k i : ℕ) → k < MOST_SETS
+in_all : (t : Thread) (log : List CallReply) (before : List OccAfter) (p : OccAfter) (k i : ℕ) → k < MOST_SETS
     → how_many (is_note_of k i) (notes_of_occ t log before p) ≡ (if runs_now k log then how_many (is_note_of k i) (notes_of_set t log before p k) else 0)
 in_all t log before p k i few = only_at (is_note_of k i) (notes_of_set t log before p) (λ j. runs_now j log) k 0 MOST_SETS (other_set t log before p k i) (omega arith) (omega (arith, few))
 
 -- ---- counts
 
-count-append : (s : AtRest) (n : Native) (xs ys : List Placed) → count_over s (xs ++ ys) n ≡ count_over s xs n + count_over s ys n
+count-append : (s : AtRest) (n : Native) (xs ys : List OccAfter) → count_over s (xs ++ ys) n ≡ count_over s xs n + count_over s ys n
 count-append s n xs ys =
-    let weigh : Placed → ℕ = λ p. weight_of n s.domain p.before p.occ in
+    let weigh : OccAfter → ℕ = λ p. weight_of n s.domain p.before p.occ in
     ap sum (map-append weigh xs ys) ∙ sum_by-append (λ w. w) (map weigh xs) (map weigh ys)
 
 -- the multiples of a threshold that one occurrence takes a count past
@@ -134,13 +134,13 @@ one_more t c d w e small = elim (cases_lt (c / t) (d / t)) [ inl h ↦ rw (lt-lt
 abbrev AmountFits : Occ → Type 0
 AmountFits o = o.amount ≤ LARGEST_AMOUNT
 
-abbrev IsSmall : Placed → Type 0
+abbrev IsSmall : OccAfter → Type 0
 IsSmall p = AmountFits p.occ
 
 -- ---- one run
 
 -- the event at this index has a threshold on this native event
-record Armed (t : Thread) (log : List Answered) (k i : ℕ) (n : Native) : Type 0 where
+record Armed (t : Thread) (log : List CallReply) (k i : ℕ) (n : Native) : Type 0 where
   few : k < MOST_SETS
   high : LEAST_THRESHOLD ≤ threshold_at (set_now t.book k log) i
   leads : first_native t.book (set_now t.book k log) i ≡ Some n
@@ -150,7 +150,7 @@ has_index book n [] i e = cc
 has_index book n (x ∷ es) zero e = omega arith
 has_index book n (x ∷ es) (suc i) e = omega (arith, has_index book n es i e)
 
-occ_often : (t : Thread) (log : List Answered) (before : List Placed) (p : Placed) (k i : ℕ) (n : Native) → Armed t log k i n → runs_now k log ≡ true
+occ_often : (t : Thread) (log : List CallReply) (before : List OccAfter) (p : OccAfter) (k i : ℕ) (n : Native) → Armed t log k i n → runs_now k log ≡ true
     → how_many (is_note_of k i) (notes_of_occ t log before p) ≡ (if reaches_more (moment t log before p k) (threshold_at (set_now t.book k log) i) n then 1 else 0)
 occ_often t log before p k i n h runs =
     in_all t log before p k i h.few
@@ -168,7 +168,7 @@ occ_often t log before p k i n h runs =
           ap (λ b. b && option_map_or (reaches_more m threshold) (first_native t.book m.set i) false) (lt-ltb 0 threshold (omega (arith, h.high)))
           ∙ ap (λ o. option_map_or (reaches_more m threshold) o false) h.leads
 
-run_often : (t : Thread) (log : List Answered) (before ps : List Placed) (k i : ℕ) (n : Native) → Armed t log k i n → runs_now k log ≡ true → All IsSmall ps
+run_often : (t : Thread) (log : List CallReply) (before ps : List OccAfter) (k i : ℕ) (n : Native) → Armed t log k i n → runs_now k log ≡ true → All IsSmall ps
     → how_many (is_note_of k i) (notes_of_run t log before ps) + count_over (set_now t.book k log) (window t.stream k log ++ before) n / threshold_at (set_now t.book k log) i
     ≡ count_over (set_now t.book k log) (window t.stream k log ++ (before ++ ps)) n / threshold_at (set_now t.book k log) i
 run_often t log before [] k i n h runs small = zero-add _ ∙ ap (λ os. count_over (set_now t.book k log) (window t.stream k log ++ os) n / threshold_at (set_now t.book k log) i) (sym (append-nil before))
@@ -182,7 +182,7 @@ run_often t log before (p ∷ ps) k i n h runs small =
       threshold : ℕ
       threshold = threshold_at s i
 
-      so_far : List Placed
+      so_far : List OccAfter
       so_far = window t.stream k log ++ before
 
       weight : ℕ
@@ -199,7 +199,7 @@ run_often t log before (p ∷ ps) k i n h runs small =
       ended = ap (λ os. count_over s (window t.stream k log ++ os) n / threshold) (append_assoc before (p ∷ []) ps)
 
 -- a set that does not run has no notes
-run_without : (t : Thread) (log : List Answered) (before ps : List Placed) (k i : ℕ) → k < MOST_SETS → runs_now k log ≡ false → how_many (is_note_of k i) (notes_of_run t log before ps) ≡ 0
+run_without : (t : Thread) (log : List CallReply) (before ps : List OccAfter) (k i : ℕ) → k < MOST_SETS → runs_now k log ≡ false → how_many (is_note_of k i) (notes_of_run t log before ps) ≡ 0
 run_without t log before [] k i few stopped = refl
 run_without t log before (p ∷ ps) k i few stopped =
     let none = in_all t log before p k i few ∙ ap (λ b. if b then how_many (is_note_of k i) (notes_of_set t log before p k) else 0) stopped in
@@ -218,7 +218,7 @@ not_zeroed book (call.SetMultiplex j slice) s e = cc
 not_zeroed book (call.Overflow j x threshold) s e = cc
 not_zeroed book c s e = (s.component, refl)
 
-set_stays : (book : Book) (k : ℕ) (x : Answered) (log : List Answered) → zeroes k x ≡ false
+set_stays : (book : Book) (k : ℕ) (x : CallReply) (log : List CallReply) → zeroes k x ≡ false
     → (comp : Option ℕ) × (set_now book k (x ∷ log) ≡ record (set_now book k log) { component = comp })
 set_stays book k x log z = go (makes k x) (changed k x) refl refl where
   go : (made on : Bool) → makes k x ≡ made → changed k x ≡ on → (comp : Option ℕ) × (set_now book k (x ∷ log) ≡ record (set_now book k log) { component = comp })
@@ -233,21 +233,21 @@ all_placed before [] h = All-nil IsSmall
 all_placed before (o ∷ os) h =
     All-cons IsSmall (record { before = before; occ = o }) (placed_after (Some o) os) (All-head AmountFits o os h) (all_placed (Some o) os (All-tail AmountFits o os h))
 
-since-zeroed : (t : Thread) (k : ℕ) (x : Answered) (log : List Answered) → zeroes k x ≡ true → passings_since t k (x ∷ log) ≡ []
+since-zeroed : (t : Thread) (k : ℕ) (x : CallReply) (log : List CallReply) → zeroes k x ≡ true → passings_since t k (x ∷ log) ≡ []
 since-zeroed t k x log z = rw z refl
 
-since-more : (t : Thread) (k : ℕ) (x : Answered) (log : List Answered) → zeroes k x ≡ false → passings_since t k (x ∷ log) ≡ passings_since t k log ++ notes_of_call t x log
+since-more : (t : Thread) (k : ℕ) (x : CallReply) (log : List CallReply) → zeroes k x ≡ false → passings_since t k (x ∷ log) ≡ passings_since t k log ++ notes_of_call t x log
 since-more t k x log z = rw z refl
 
 -- the multiples of the threshold that the count over these occurrences has reached
-abbrev reached : Native → ℕ → AtRest → List Placed → ℕ
+abbrev reached : Native → ℕ → AtRest → List OccAfter → ℕ
 reached n i s os = count_over s os n / threshold_at s i
 
 -- one more call that does not zero
-call_often : (t : Thread) (x : Answered) (log : List Answered) (k i : ℕ) (n : Native) → All AmountFits t.stream → Armed t log k i n → zeroes k x ≡ false
+call_often : (t : Thread) (x : CallReply) (log : List CallReply) (k i : ℕ) (n : Native) → All AmountFits t.stream → Armed t log k i n → zeroes k x ≡ false
     → reached n i (set_now t.book k log) (window t.stream k log) + how_many (is_note_of k i) (notes_of_call t x log) ≡ reached n i (set_now t.book k log) (window t.stream k (x ∷ log))
 call_often t x log k i n small h z = go (runs_now k log) refl where
-  new : List Placed
+  new : List OccAfter
   new = newly_taken t.stream x log
 
   go : (b : Bool) → runs_now k log ≡ b
@@ -261,7 +261,7 @@ call_often t x log k i n small h z = go (runs_now k log) refl where
       let none = run_without t log [] new k i h.few stopped in
       omega (arith, none) ∙ ap (reached n i (set_now t.book k log)) (sym (window-stays t.stream k x log z stopped))
 
-often : (t : Thread) (log : List Answered) (k i : ℕ) (n : Native) → All AmountFits t.stream → Armed t log k i n
+often : (t : Thread) (log : List CallReply) (k i : ℕ) (n : Native) → All AmountFits t.stream → Armed t log k i n
     → how_many (is_note_of k i) (passings_since t k log) ≡ reached n i (set_now t.book k log) (window t.stream k log)
 often t [] k i n small h = sym (zero-div (threshold_at (set_now t.book k []) i))
 often t (x ∷ log) k i n small h = go (zeroes k x) refl (λ armed. often t log k i n small armed) where

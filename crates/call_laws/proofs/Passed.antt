@@ -16,7 +16,7 @@ use Rattle.session_model.specs.Counts.{in_window}
 use Rattle.session_model.specs.Faces.{at}
 use Rattle.session_model.specs.Thresholds.{notes_at, notes_of_place, passed_from}
 use Rattle.session_model.specs.Thresholds.{passes as model_passes}
-use Rattle.call_laws.specs.History.{Placed, placed_after}
+use Rattle.call_laws.specs.History.{OccAfter, placed_after}
 use Rattle.call_laws.specs.Measures.{count_over}
 use Rattle.call_laws.specs.Passings.{Moment, passes, passing_indexes, reaches_more}
 use Rattle.call_laws.proofs.Windows.{length-placed, weighed_is}
@@ -24,7 +24,7 @@ use Rattle.call_laws.proofs.Windows.{length-placed, weighed_is}
 -- ---- one more occurrence
 
 -- the occurrence that comes after these
-abbrev pub next : List Occ → Occ → Placed
+abbrev pub next : List Occ → Occ → OccAfter
 next past o = record { before = last_after None past; occ = o }
 
 placed-more : (before : Option Occ) (past : List Occ) (o : Occ) → placed_after before (past ++ o ∷ []) ≡ placed_after before past ++ record { before = last_after before past; occ = o } ∷ []

@@ -1,4 +1,4 @@
--- Sets under their numbers, where one is changed or put anew; and tests of a number.
+-- Sets under their numbers, if one is changed or put anew; and tests of a number.
 use Rattle.std.proofs.Common.{◌≡◌, ◌≢◌, ℕ, zero, suc, true, false, List, [], ◌∷◌, refl, ap, arith, slice_set, Option, Some, None}
 use Rattle.std.specs.Option.{option_map}
 use Rattle.std.proofs.lemmas.Bool.{eq-eqb, ne_eqb}

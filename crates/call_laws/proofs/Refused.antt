@@ -114,7 +114,7 @@ lines_keep P at w (l ∷ ls) longer h = lines_keep P at (world_after_line at w l
 pub names_stay : NamesStay
 names_stay at w ls c n h = lines_keep (λ ns. native_named ns c ≡ Some n) at w ls (λ xs m e. named_front xs (m ∷ []) c n e) h
 
--- the first place that passes, where one does, is the same in a longer list
+-- the first place that passes, if one does, is the same in a longer list
 place_front : {X : Type 0} (p : X → Bool) (xs ys : List X) → list_any p xs ≡ true → (position_or_len p (xs ++ ys) ≡ position_or_len p xs) × (list_any p (xs ++ ys) ≡ true)
 place_front p [] ys e = cc
 place_front p (x ∷ xs) ys e = go (p x) e (place_front p xs ys) where

@@ -19,13 +19,13 @@ use Rattle.session_model.specs.Refusals.{clash_at, conflict_of, first_of, rows}
 use Rattle.session_model.specs.Replies.{Sight, refused, reply_over}
 use Rattle.session_model.specs.Step.{account_refusal}
 use Rattle.session_laws.proofs.Sets.{row_fails}
-use Rattle.call_laws.specs.History.{Answered, is_number, is_ok, makes, set_made, taken_by}
+use Rattle.call_laws.specs.History.{CallReply, is_number, is_ok, makes, set_made, taken_by}
 use Rattle.call_laws.specs.SetCalls.{changed, set_of_call}
 use Rattle.call_laws.proofs.Places.{is_number-other, is_number-same}
 
 -- ---- a call and its reply
 
-abbrev pub said : Call → Reply → Answered
+abbrev pub said : Call → Reply → CallReply
 said c r = record { call = c; reply = r }
 
 -- the results are neither a run's nor the number of a new set

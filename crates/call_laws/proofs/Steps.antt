@@ -20,7 +20,7 @@ use Rattle.session_model.specs.Replies.{refused, reply_over, sight_of_kept}
 use Rattle.session_model.specs.Step.{account_after, account_refusal, performed, replies_to, step, unless}
 use Rattle.session_laws.proofs.Sets.{at_map, row_fails}
 use Rattle.session_laws.proofs.Within.{opening_within, within_stays}
-use Rattle.call_laws.specs.History.{Answered, Thread, answered, begun, history}
+use Rattle.call_laws.specs.History.{CallReply, Thread, answered, begun, history}
 use Rattle.call_laws.specs.SetCalls.{set_of_call}
 use Rattle.call_laws.proofs.Follows.{Follows, changed_follows, gone_follows, idle_follows, made_follows, ran_follows, running}
 use Rattle.call_laws.proofs.Places.{at-free, is_number-other, is_number-same}
@@ -50,7 +50,7 @@ at_rest book shape a k q = go (at a.sets k) (at_map face_of a.sets k) (row_fails
 -- ---- one call
 
 -- the history follows the account
-abbrev pub HistoryFollows : Book → List Occ → List Answered → Account → Type 0
+abbrev pub HistoryFollows : Book → List Occ → List CallReply → Account → Type 0
 HistoryFollows book stream log a = Follows book stream log a.past a.rest a.sets
 
 -- the reply to a call that is carried out and is no run
@@ -58,7 +58,7 @@ abbrev reply_to : Book → Widths → Account → Call → Reply
 reply_to book shape a c = reply_over book (sight_of_kept book shape a.past) a.sets c
 
 -- a call that changes the set that it names
-changed_step : (book : Book) (shape : Widths) (stream : List Occ) (log : List Answered) (a : Account) (c : Call) (k : ℕ) → c ≢ call.Create → set_of_call c ≡ Some k
+changed_step : (book : Book) (shape : Widths) (stream : List Occ) (log : List CallReply) (a : Account) (c : Call) (k : ℕ) → c ≢ call.Create → set_of_call c ≡ Some k
     → account_refusal book shape a c ≡ None
     → option_map_or (λ r. r.0) (slice_get (rows book shape a.registered (faces_of a.sets) c) 0) false ≡ is_absent (faces_of a.sets) k
     → AllWithin (length a.past) (change (kept_after book a.past c) a.sets k)
@@ -70,14 +70,14 @@ changed_step book shape stream log a c k other e q same inside h =
     changed_follows book stream log a.past a.rest a.sets c (reply_to book shape a c) k p.0 e (ok_reply book sight a.sets c) (quiet_reply book sight a.sets c other) p.1 inside h
 
 -- a call that changes no set
-idle_step : (book : Book) (shape : Widths) (stream : List Occ) (log : List Answered) (a : Account) (c : Call) → c ≢ call.Create → set_of_call c ≡ None
+idle_step : (book : Book) (shape : Widths) (stream : List Occ) (log : List CallReply) (a : Account) (c : Call) → c ≢ call.Create → set_of_call c ≡ None
     → HistoryFollows book stream log a → Follows book stream (said c (reply_to book shape a c) ∷ log) a.past a.rest a.sets
 idle_step book shape stream log a c other e h =
     let r = reply_to book shape a c in
     let quiet = quiet_reply book (sight_of_kept book shape a.past) a.sets c other in
     idle_follows book stream log a.past a.rest a.sets (said c r) (λ j. quiet_makes c r j quiet) (λ j. changes_none c r j e) quiet.takes_none h
 
-performed_follows : (book : Book) (shape : Widths) (stream : List Occ) (log : List Answered) (a : Account) (c : Call) → account_refusal book shape a c ≡ None
+performed_follows : (book : Book) (shape : Widths) (stream : List Occ) (log : List CallReply) (a : Account) (c : Call) → account_refusal book shape a c ≡ None
     → AllWithin (length (performed book shape a c).account.past) (performed book shape a c).account.sets
     → HistoryFollows book stream log a
     → HistoryFollows book stream (said c (performed book shape a c).reply ∷ log) (performed book shape a c).account
@@ -105,7 +105,7 @@ performed_follows book shape stream log a (call.Reset k) q inside h = changed_st
 performed_follows book shape stream log a c q inside h = idle_step book shape stream log a c (λ e. cc) refl h
 
 -- one more call, refused or carried out
-pub step_follows : (book : Book) (shape : Widths) (stream : List Occ) (log : List Answered) (a : Account) (c : Call) → HistoryFollows book stream log a
+pub step_follows : (book : Book) (shape : Widths) (stream : List Occ) (log : List CallReply) (a : Account) (c : Call) → HistoryFollows book stream log a
     → HistoryFollows book stream (said c (step book shape a c).reply ∷ log) (step book shape a c).account
 step_follows book shape stream log a c h = go (account_refusal book shape a c) refl (within_stays book shape a c h.within) where
   go : (o : Option Refusal) → account_refusal book shape a c ≡ o
@@ -117,7 +117,7 @@ step_follows book shape stream log a c h = go (account_refusal book shape a c) r
 
 -- ---- all calls
 
-all_follow : (book : Book) (shape : Widths) (stream : List Occ) (log : List Answered) (a : Account) (calls : List Call) → HistoryFollows book stream log a
+all_follow : (book : Book) (shape : Widths) (stream : List Occ) (log : List CallReply) (a : Account) (calls : List Call) → HistoryFollows book stream log a
     → HistoryFollows book stream (history calls (replies_to book shape a calls) log) (account_after book shape a calls)
 all_follow book shape stream log a [] h = h
 all_follow book shape stream log a (c ∷ calls) h =

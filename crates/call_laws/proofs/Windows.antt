@@ -6,7 +6,7 @@ use Rattle.std.proofs.Math.Seq.{take-add}
 use Rattle.papi_base.specs.declared.occurrence.Occ.{Occ}
 use Rattle.session_model.specs.Account.{Kept, last_after, zeroed}
 use Rattle.session_model.specs.Counts.{along, in_window, weighed}
-use Rattle.call_laws.specs.History.{Placed, placed_after}
+use Rattle.call_laws.specs.History.{OccAfter, placed_after}
 
 pub placed-take : (before : Option Occ) (n : ℕ) (os : List Occ) → placed_after before (take n os) ≡ take n (placed_after before os)
 placed-take before zero os = refl
@@ -33,10 +33,10 @@ window-map f s xs = go s.running where
   go false = ap (take (s.to - s.from)) (drop-map f s.from xs) ∙ take-map f (s.to - s.from) (drop s.from xs)
 
 -- what is weighed is the sum over the occurrences of the window
-pub weighed_is : (weigh : Option Occ → Occ → ℕ) (past : List Occ) (s : Kept) → weighed weigh past s ≡ sum (map (λ (p : Placed). weigh p.before p.occ) (in_window s (placed_after None past)))
+pub weighed_is : (weigh : Option Occ → Occ → ℕ) (past : List Occ) (s : Kept) → weighed weigh past s ≡ sum (map (λ (p : OccAfter). weigh p.before p.occ) (in_window s (placed_after None past)))
 weighed_is weigh past s =
     ap (λ ws. sum (in_window s ws)) (along-placed weigh None past)
-    ∙ ap sum (window-map (λ (p : Placed). weigh p.before p.occ) s (placed_after None past))
+    ∙ ap sum (window-map (λ (p : OccAfter). weigh p.before p.occ) s (placed_after None past))
 
 -- ---- windows over more occurrences
 

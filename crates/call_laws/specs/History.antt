@@ -23,12 +23,12 @@ pub record Thread : Type 0 where
   pub mark : Mark
 
 -- a call and its reply
-pub record Answered : Type 0 where
+pub record CallReply : Type 0 where
   pub call : Call
   pub reply : Reply
 
 -- some calls and their replies, the latest first, and before them the earlier ones
-abbrev pub history : List Call → List Reply → List Answered → List Answered
+abbrev pub history : List Call → List Reply → List CallReply → List CallReply
 history [] replies earlier = earlier
 history (c ∷ calls) [] earlier = earlier
 history (c ∷ calls) (r ∷ replies) earlier = history calls replies (record { call = c; reply = r } ∷ earlier)
@@ -38,7 +38,7 @@ abbrev pub begun : Thread → Account
 begun t = opening t.number t.stream t.mark
 
 -- the thread's first calls and their replies, the latest first
-abbrev pub answered : Thread → List Call → List Answered
+abbrev pub answered : Thread → List Call → List CallReply
 answered t calls = history calls (replies_to t.book t.shape (begun t) calls) []
 
 -- the reply to a call that comes after these
@@ -48,12 +48,12 @@ reply_after t calls c = (step t.book t.shape (account_after t.book t.shape (begu
 -- ---- occurrences
 
 -- an occurrence, and the one that came just before it in the stream, if one did
-pub record Placed : Type 0 where
+pub record OccAfter : Type 0 where
   pub before : Option Occ
   pub occ : Occ
 
 -- the occurrences of a stream, each with the one before it
-abbrev pub placed_after : Option Occ → List Occ → List Placed
+abbrev pub placed_after : Option Occ → List Occ → List OccAfter
 placed_after before [] = []
 placed_after before (o ∷ os) = record { before = before; occ = o } ∷ placed_after (Some o) os
 
@@ -63,12 +63,12 @@ taken_by (body.Ran r) = r.consumed
 taken_by b = 0
 
 -- how many occurrences the calls took
-abbrev pub taken : List Answered → ℕ
+abbrev pub taken : List CallReply → ℕ
 taken [] = 0
 taken (x ∷ earlier) = taken earlier + taken_by x.reply.body
 
--- the occurrences that a call took, where these came before it
-abbrev pub newly_taken : List Occ → Answered → List Answered → List Placed
+-- the occurrences that a call took, if these came before it
+abbrev pub newly_taken : List Occ → CallReply → List CallReply → List OccAfter
 newly_taken stream x earlier = take (taken_by x.reply.body) (drop (taken earlier) (placed_after None stream))
 
 -- ---- what a call did
@@ -88,5 +88,5 @@ set_made (body.SetNumber k) = Some k
 set_made b = None
 
 -- the call made the set of this number
-abbrev pub makes : ℕ → Answered → Bool
+abbrev pub makes : ℕ → CallReply → Bool
 makes k x = is_number k (set_made x.reply.body)

@@ -113,7 +113,7 @@ named n = Ok (event.Native n)
 abbrev pub preset : ℕ → Result EventRef Code
 preset row = Ok (event.Preset row)
 
--- occurrences, of mode user and at the program counter 1 where nothing else is said
+-- occurrences, of mode user and at the program counter 1 if nothing else is said
 abbrev pub occ_at : ℕ → ℕ → ℕ → ℕ → ℕ → Occ
 occ_at select umask amount pc stamp = record { comp = 0; select = select; umask = umask; kernel = false; amount = amount; pc = pc; stamp = stamp }
 
@@ -137,7 +137,7 @@ number k = done (body.SetNumber k)
 abbrev pub values : List ℤ → Reply
 values xs = done (body.Values xs)
 
--- a run that took k occurrences and made so many notes
+-- a run that took k occurrences and made n notes
 abbrev pub ran : ℕ → ℕ → Reply
 ran k notes = done (body.Ran (record { consumed = k; notes = notes; ended = ended.Going }))
 
@@ -165,12 +165,12 @@ state bits = done (body.State bits)
 abbrev pub note : ℕ → ℕ → ℕ → Note
 note set index pc = record { thread = 0; set = set; index = index; pc = pc }
 
--- so many occurrences of one native, with stamps and program counters that go up by one
+-- n occurrences of one native, with stamps and program counters that go up by one
 abbrev pub steady : ℕ → ℕ → ℕ → ℕ → ℕ → List Occ
 steady zero select amount pc stamp = []
 steady (suc n) select amount pc stamp = occ_at select 0 amount pc stamp ∷ steady n select amount (pc + 1) (stamp + 1)
 
--- so many times the same calls
+-- the same calls n times
 abbrev pub times : {X : Type 0} → ℕ → List X → List X
 times zero xs = []
 times (suc n) xs = xs ++ times n xs

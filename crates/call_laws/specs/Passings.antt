@@ -10,7 +10,7 @@ use Rattle.postfix_rules.specs.Presets.{Book, lead}
 use Rattle.event_sets.specs.AtRest.{AtRest}
 use Rattle.session_model.specs.declared.call.Call.{Call}
 use Rattle.session_model.specs.Step.{notes_to}
-use Rattle.call_laws.specs.History.{Answered, Placed, Thread, answered, begun, newly_taken}
+use Rattle.call_laws.specs.History.{CallReply, OccAfter, Thread, answered, begun, newly_taken}
 use Rattle.call_laws.specs.Measures.{count_over}
 use Rattle.call_laws.specs.SetCalls.{runs_now, set_now, zeroes}
 use Rattle.call_laws.specs.Values.{window}
@@ -20,8 +20,8 @@ use Rattle.call_laws.specs.Values.{window}
 -- what the set holds, the occurrences of its window so far, and the one that comes now
 pub record Moment : Type 0 where
   pub set : AtRest
-  pub so_far : List Placed
-  pub now : Placed
+  pub so_far : List OccAfter
+  pub now : OccAfter
 
 -- the threshold of the set's event at this index, or 0 if it has none
 abbrev pub threshold_at : AtRest → ℕ → ℕ
@@ -49,11 +49,11 @@ passing_indexes book m = filter (passes book m) (range_with_len 0 (length m.set.
 -- ---- all sets
 
 -- the numbers of the sets that run after these calls
-abbrev pub running_sets : List Answered → List ℕ
+abbrev pub running_sets : List CallReply → List ℕ
 running_sets earlier = filter (λ k. runs_now k earlier) (range_with_len 0 MOST_SETS)
 
 -- a set that runs, at an occurrence of the next run; the run took these before it
-abbrev pub moment : Thread → List Answered → List Placed → Placed → ℕ → Moment
+abbrev pub moment : Thread → List CallReply → List OccAfter → OccAfter → ℕ → Moment
 moment t earlier before p k =
     record { set = set_now t.book k earlier; so_far = window t.stream k earlier ++ before; now = p }
 
@@ -62,26 +62,26 @@ abbrev pub note_of : ℕ → ℕ → Occ → ℕ → Note
 note_of thread k o i = record { thread = thread; set = k; index = i; pc = o.pc }
 
 -- the notes of a set that runs, by the index of the event
-abbrev pub notes_of_set : Thread → List Answered → List Placed → Placed → ℕ → List Note
+abbrev pub notes_of_set : Thread → List CallReply → List OccAfter → OccAfter → ℕ → List Note
 notes_of_set t earlier before p k =
     map (note_of t.number k p.occ) (passing_indexes t.book (moment t earlier before p k))
 
 -- the notes of an occurrence, by the number of the set
-abbrev pub notes_of_occ : Thread → List Answered → List Placed → Placed → List Note
+abbrev pub notes_of_occ : Thread → List CallReply → List OccAfter → OccAfter → List Note
 notes_of_occ t earlier before p = flat_map (notes_of_set t earlier before p) (running_sets earlier)
 
 -- the notes of the next occurrences of a run, one after another
-abbrev pub notes_of_run : Thread → List Answered → List Placed → List Placed → List Note
+abbrev pub notes_of_run : Thread → List CallReply → List OccAfter → List OccAfter → List Note
 notes_of_run t earlier before [] = []
 notes_of_run t earlier before (p ∷ ps) =
     notes_of_occ t earlier before p ++ notes_of_run t earlier (before ++ p ∷ []) ps
 
 -- the notes of a call
-abbrev pub notes_of_call : Thread → Answered → List Answered → List Note
+abbrev pub notes_of_call : Thread → CallReply → List CallReply → List Note
 notes_of_call t x earlier = notes_of_run t earlier [] (newly_taken t.stream x earlier)
 
 -- the notes of all calls in their order, which are given the latest first
-abbrev pub passings : Thread → List Answered → List Note
+abbrev pub passings : Thread → List CallReply → List Note
 passings t [] = []
 passings t (x ∷ earlier) = passings t earlier ++ notes_of_call t x earlier
 
@@ -93,7 +93,7 @@ NotesAreThePassings = (t : Thread) (calls : List Call)
 -- ---- how many
 
 -- the notes since the last call that zeroes the set of this number
-abbrev pub passings_since : Thread → ℕ → List Answered → List Note
+abbrev pub passings_since : Thread → ℕ → List CallReply → List Note
 passings_since t k [] = []
 passings_since t k (x ∷ earlier) =
     if zeroes k x then [] else passings_since t k earlier ++ notes_of_call t x earlier
@@ -103,11 +103,11 @@ abbrev pub is_note_of : ℕ → ℕ → Note → Bool
 is_note_of k i note = (note.set == k) && (note.index == i)
 
 -- the notes of this event since that call
-abbrev pub notes_of_event : Thread → ℕ → ℕ → List Answered → List Note
+abbrev pub notes_of_event : Thread → ℕ → ℕ → List CallReply → List Note
 notes_of_event t k i log = filter (is_note_of k i) (passings_since t k log)
 
 -- floor (count / T): the multiples of the threshold that the native event's count over the window has reached
-abbrev pub multiples_reached : Thread → ℕ → ℕ → Native → List Answered → ℕ
+abbrev pub multiples_reached : Thread → ℕ → ℕ → Native → List CallReply → ℕ
 multiples_reached t k i n log =
     let s = set_now t.book k log in
     count_over s (window t.stream k log) n / threshold_at s i

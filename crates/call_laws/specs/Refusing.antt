@@ -20,7 +20,7 @@ abbrev pub is_of_run : Body → Bool
 is_of_run (body.Ran r) = true
 is_of_run b = false
 
--- A refusal: a code that is not PAPI_OK. A run is never refused; it replies with PAPI_ESYS where its stream ends by a fault.
+-- A refusal: a code that is not PAPI_OK. A run is never refused; it replies with PAPI_ESYS if its stream ends by a fault.
 abbrev pub is_refusal : Reply → Bool
 is_refusal r = not (is_ok r.code) && not (is_of_run r.body)
 

@@ -5,7 +5,7 @@ use Rattle.postfix_rules.specs.Presets.{Book}
 use Rattle.event_sets.specs.AtRest.{AtRest, emptied, new_set, with_event, with_threshold, without_event}
 use Rattle.session_model.specs.declared.call.Call.{Call}
 use Rattle.session_model.specs.declared.call.Call.TheVariants as call
-use Rattle.call_laws.specs.History.{Answered, is_number, is_ok, makes}
+use Rattle.call_laws.specs.History.{CallReply, is_number, is_ok, makes}
 
 -- the set that a call changes, if its event was looked up
 abbrev pub set_of_call : Call → Option ℕ
@@ -23,7 +23,7 @@ set_of_call (call.Reset k) = Some k
 set_of_call c = None
 
 -- the call changed the set of this number: PAPI_OK was replied
-abbrev pub changed : ℕ → Answered → Bool
+abbrev pub changed : ℕ → CallReply → Bool
 changed k x = is_number k (set_of_call x.call) && is_ok x.reply.code
 
 -- the calls that zero the counts of their set
@@ -69,23 +69,23 @@ holds_after book (call.Overflow k (Ok e) t) s = with_threshold e t s
 holds_after book c s = s
 
 -- the call zeroed the counts of the set of this number, or made the set
-abbrev pub zeroes : ℕ → Answered → Bool
+abbrev pub zeroes : ℕ → CallReply → Bool
 zeroes k x = makes k x || (changed k x && is_zeroing x.call)
 
 -- the call began the caller's values of the set of this number, or made the set
-abbrev pub clears : ℕ → Answered → Bool
+abbrev pub clears : ℕ → CallReply → Bool
 clears k x = makes k x || (changed k x && is_clearing x.call)
 
 -- the call added the values of the set of this number to the caller's
-abbrev pub accumulates : ℕ → Answered → Bool
+abbrev pub accumulates : ℕ → CallReply → Bool
 accumulates k x = changed k x && is_accum x.call
 
 -- the set of this number runs: it was started, and not stopped since then
-abbrev pub runs_now : ℕ → List Answered → Bool
+abbrev pub runs_now : ℕ → List CallReply → Bool
 runs_now k [] = false
 runs_now k (x ∷ earlier) = if changed k x then runs_after x.call (runs_now k earlier) else runs_now k earlier
 
 -- what the set of this number holds: its events, their thresholds, its component, domain and slice
-abbrev pub set_now : Book → ℕ → List Answered → AtRest
+abbrev pub set_now : Book → ℕ → List CallReply → AtRest
 set_now book k [] = new_set
 set_now book k (x ∷ earlier) = if makes k x then new_set else if changed k x then holds_after book x.call (set_now book k earlier) else set_now book k earlier

@@ -60,7 +60,7 @@ none_of_clash true natives = refl
 none_of_clash false natives = refl
 
 module _ (book : Book) (shape : Widths) (e : EventRef) (s : SetView) (n : Native) (ready : Ready book shape e s n) (all : List Native) (joins : all ≡ joined_by s.natives (natives_of_event book e)) where
-  -- an event of the component that is not in the set is taken where there is room for its natives, and counters
+  -- an event of the component that is not in the set is taken if there is room for its natives, and counters
   pub takes_is : length s.rest.events < 32 → s.rest.slice ≡ None → is_none (add_refusal book e s.rest) ≡ (nat_le (length all) 32 && is_assignable (masks_of all))
   takes_is few unshared = go (nat_le (length all) 32) refl
     where

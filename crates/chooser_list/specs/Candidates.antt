@@ -56,7 +56,7 @@ natives_at tables comp = option_map_or (natives_of_component comp) (slice_get ta
 
 -- ---- presets and user events
 
--- the preset or user event in a row, where it is available
+-- the preset or user event in a row, if it is available
 abbrev pub preset_in : Book → ℕ → List EventRef
 preset_in book row = if is_available book row then event.Preset row ∷ [] else []
 

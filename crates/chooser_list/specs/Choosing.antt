@@ -22,40 +22,40 @@ pub record RefusedText : Type 0 where
   pub refusal : Refusal
 
 -- the set that holds the given events, or the first of their texts that was refused
-abbrev pub Given : Type 0
-Given = Result AtRest RefusedText
+abbrev pub GivenSet : Type 0
+GivenSet = Result AtRest RefusedText
 
 -- the event of a text is refused: nothing more is added
-abbrev pub refused_by : Text → Refusal → Given
+abbrev pub refused_by : Text → Refusal → GivenSet
 refused_by text refusal = Err (record { text = text; refusal = refusal })
 
 -- the set after PAPI_add_event(3), or the text with the refusal of that call
-abbrev pub taken_unless : Option Refusal → Text → AtRest → Given
+abbrev pub taken_unless : Option Refusal → Text → AtRest → GivenSet
 taken_unless None text s = Ok s
 taken_unless (Some refusal) text s = refused_by text refusal
 
 -- PAPI_add_event(3), of the event that a text names
-abbrev pub with_named : CatalogView → Text → AtRest → Result EventRef Code → Given
+abbrev pub with_named : CatalogView → Text → AtRest → Result EventRef Code → GivenSet
 with_named catalog text s (Ok e) = taken_unless (add_refusal catalog.book e s) text (with_event catalog.book e s)
 with_named catalog text s (Err code) = refused_by text (Plain code)
 
 -- one text more; the first refusal ends it
-abbrev pub with_text : CatalogView → Given → Text → Given
+abbrev pub with_text : CatalogView → GivenSet → Text → GivenSet
 with_text catalog (Err refused) text = Err refused
 with_text catalog (Ok s) text = with_named catalog text s (looked_up catalog text)
 
 -- all texts in their order, up to the first that is refused
-unfoldable pub with_texts : CatalogView → Given → List Text → Given
+unfoldable pub with_texts : CatalogView → GivenSet → List Text → GivenSet
 with_texts catalog given [] = given
 with_texts catalog given (text ∷ texts) = with_texts catalog (with_text catalog given text) texts
 
 -- a new set to which the events that texts name are added in order, or the first refusal
-abbrev pub given_set : CatalogView → List Text → Given
+abbrev pub given_set : CatalogView → List Text → GivenSet
 given_set catalog texts = with_texts catalog (Ok new_set) texts
 
 -- ---- what can be added to it
 
--- a set takes an event where none of the refusals of PAPI_add_event(3) comes
+-- a set takes an event if none of the refusals of PAPI_add_event(3) comes
 abbrev pub takes : CatalogView → AtRest → EventRef → Bool
 takes catalog s e = is_none (add_refusal catalog.book e s)
 
@@ -82,7 +82,7 @@ abbrev pub refused_text : CatalogView → RefusedText → Text
 refused_text catalog r = r.text ++ (58 ∷ (reply_text catalog (refused r.refusal) ++ 10 ∷ []))
 
 -- the list of what the set still takes, or the line of the text that was refused
-abbrev pub text_of : CatalogView → Candidates → Given → Text
+abbrev pub text_of : CatalogView → Candidates → GivenSet → Text
 text_of catalog which (Ok s) = list_text catalog (taken catalog s which)
 text_of catalog which (Err r) = refused_text catalog r
 

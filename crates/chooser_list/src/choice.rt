@@ -56,7 +56,7 @@ fn push_list(
 /// What can be added to a new set, once the events that some texts name are added to it in order.
 ///
 /// The text has a line for each candidate that the set would take, the events that it has being free to move to other
-/// counters, and the line `Total events: N`. Where a text is refused, it has the first such text, a colon and the refusal
+/// counters, and the line `Total events: N`. If a text is refused, it has the first such text, a colon and the refusal
 /// as a reply has it (docs/FORMATS.md). Source: papi_event_chooser(1), PAPI_add_event(3).
 pub fn choose(
     alloc: Global,

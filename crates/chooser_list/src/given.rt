@@ -12,7 +12,7 @@ use papi_base::{Code, EventRef, Shape, Text};
 
 /// A text that was refused, and how.
 #[derive(Drop)]
-pub struct Refused<'a> {
+pub struct RefusedEvent<'a> {
     pub text: &'a str,
     pub refusal: Refusal,
 }
@@ -41,7 +41,7 @@ fn add(
 }
 
 /// A new set with the events that some texts name, or the first text that is refused.
-pub fn given_set<'a>(catalog: &Catalog, texts: &'a [Text]) -> Result<EventSet, Refused<'a>>
+pub fn given_set<'a>(catalog: &Catalog, texts: &'a [Text]) -> Result<EventSet, RefusedEvent<'a>>
     ensures given { IfOk result (λ set. Choosing.given_set catalog.now texts.now ≡ Ok set.rest) }
     ensures over { IfOk result (IsOver catalog.now) }
     ensures refused { IfErr result
@@ -52,7 +52,7 @@ pub fn given_set<'a>(catalog: &Catalog, texts: &'a [Text]) -> Result<EventSet, R
     for text in texts {
         let text = text.as_str();
         if let Err(refusal) = add(catalog, &shape, &mut set, catalog.lookup(text)) {
-            return Err(Refused { text, refusal });
+            return Err(RefusedEvent { text, refusal });
         }
     }
     Ok(set)

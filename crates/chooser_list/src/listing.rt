@@ -21,7 +21,7 @@ use event_tables::EventRow;
 use papi_base::EventRef;
 use std::alloc::{AllocError, Global};
 
-// Appends an event, where the set would take it.
+// Appends an event, if the set would take it.
 fn keep(
     events: &mut Vec<EventRef>,
     catalog: &Catalog,
@@ -96,7 +96,7 @@ fn keep_component(
     Ok(())
 }
 
-// Appends the preset or user event of a row, where it is available and the set would take it.
+// Appends the preset or user event of a row, if it is available and the set would take it.
 fn keep_preset(
     events: &mut Vec<EventRef>,
     catalog: &Catalog,

@@ -27,7 +27,7 @@ fn has_other(set: &EventSet, comp: u32) -> bool
     }
 }
 
-/// The set's native events on the counters of a component; none where the set has another component.
+/// The set's native events on the counters of a component; none if the set has another component.
 pub fn opened(catalog: &Catalog, set: &EventSet, comp: u32) -> Option<Matching>
     requires there { comp < length catalog.now.tables }
     requires over { IsOver catalog.now set.now }

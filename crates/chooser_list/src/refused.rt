@@ -5,7 +5,7 @@ ghost use Rattle.chooser_list.specs.Choosing as Choosing;
 ghost use Rattle.reply_text.specs.Replies.{reply_text};
 ghost use Rattle.session_model.specs.Replies as Replies;
 
-use crate::given::Refused;
+use crate::given::RefusedEvent;
 use component_table::Catalog;
 use event_sets::Refusal;
 use papi_base::{Bytes, Code};
@@ -49,7 +49,7 @@ pub fn push_refused(
     alloc: Global,
     text: &mut Bytes,
     catalog: &Catalog,
-    refused: Refused<'_>,
+    refused: RefusedEvent<'_>,
 ) -> Result<(), AllocError>
     ensures { OnOk result (text.new ≡ text.old
         ++ Choosing.refused_text catalog.now

@@ -13,8 +13,8 @@ use Rattle.postfix_rules.specs.declared.rule.Rule.{Rule}
 use Rattle.postfix_rules.specs.declared.rule.Rule.TheVariants as rule
 use Rattle.postfix_rules.specs.Faults.{FormulaView}
 use Rattle.postfix_rules.specs.Presets.{Book}
-use Rattle.postfix_rules.specs.Rules.{Counts, DerivedView, IsDerived}
-use Rattle.preset_csv.specs.Defs.{Agrees, DefView, IsDef}
+use Rattle.postfix_rules.specs.Rules.{DerivedView, IsDerived, TakesCounts}
+use Rattle.preset_csv.specs.Defs.{DefView, FitsKind, IsDef}
 use Rattle.preset_csv.specs.declared.kind.Kind.{Kind}
 use Rattle.preset_csv.specs.declared.kind.Kind.TheVariants as kind
 use Rattle.table_rows.specs.Texts.{Text}
@@ -36,7 +36,7 @@ all-together [] component each = refl
 all-together (first ∷ others) component each =
     list_all-from_AllPass (λ n. n.comp == first.comp) others (λ k d small. eq-eqb _ _ (each (suc k) d (omega arith) ∙ sym (each 0 d (omega arith))))
 
-plain-one : (k : Kind) (f : Option FormulaView) (texts : List Text) → Agrees k f texts → rule_of k f ≡ rule.Plain → length texts ≡ 1
+plain-one : (k : Kind) (f : Option FormulaView) (texts : List Text) → FitsKind k f texts → rule_of k f ≡ rule.Plain → length texts ≡ 1
 plain-one kind.NotDerived None texts a e = a
 plain-one kind.NotDerived (Some f) texts a e = absurd a
 plain-one kind.Add f texts a e = cc e
@@ -44,7 +44,7 @@ plain-one kind.Sub f texts a e = cc e
 plain-one kind.Postfix None texts a e = absurd a
 plain-one kind.Postfix (Some f) texts a e = cc e
 
-rule-counts : (k : Kind) (f : Option FormulaView) (texts : List Text) → Agrees k f texts → Counts (rule_of k f) (length texts)
+rule-counts : (k : Kind) (f : Option FormulaView) (texts : List Text) → FitsKind k f texts → TakesCounts (rule_of k f) (length texts)
 rule-counts kind.NotDerived f texts a = tt
 rule-counts kind.Add f texts a = tt
 rule-counts kind.Sub f texts a = tt
@@ -64,7 +64,7 @@ derivable tables d natives def named together =
       fits = rw count (rule-counts d.kind d.formula d.natives def.agrees);
     }
 
--- what a computed preset derives, where its natives and its rule make a derived event
+-- what a computed preset derives, if its natives and its rule make a derived event
 pub derives : (tables : List ComponentText) (d : DefView) (natives : List Native) (r : Rule) → natives_named tables d.natives ≡ Some natives
     → r ≡ rule_of d.kind d.formula → IsDerived (record { natives = natives; rule = r })
     → derived_of tables d ≡ Some (record { natives = natives; rule = r })
@@ -73,7 +73,7 @@ derives tables d natives r named is made =
     ∙ ap (λ b. derived_if b natives (rule_of d.kind d.formula)) (all-together natives made.one_component.0 made.one_component.1)
     ∙ ap (λ q. derived_if true natives q) (sym is)
 
--- a computed preset derives nothing where its natives and its rule make no derived event
+-- a computed preset derives nothing if its natives and its rule make no derived event
 pub derives-none : (tables : List ComponentText) (d : DefView) (natives : List Native) (r : Rule) → IsDef d → natives_named tables d.natives ≡ Some natives
     → r ≡ rule_of d.kind d.formula → ¬ IsDerived (record { natives = natives; rule = r })
     → derived_of tables d ≡ None

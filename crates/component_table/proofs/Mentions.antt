@@ -48,7 +48,7 @@ first_same natives n i = position_or_len (λ m. natives_same n m i) natives
 
 -- ---- codes and mentions
 
--- the code of a native event by its rank, where it is mentioned
+-- the code of a native event by its rank, if it is mentioned
 ranked : (natives : List Native) (n : Native) (rank : Option ℕ) → rank ≡ position (eq-value.it n) natives → is_some rank ≡ list_any (eq-value.it n) natives
     → option_map (λ k. 0x40000000 + k) rank ≡ code_in natives n
 ranked natives n None is found = ap (λ b. if b then Some (native_code natives n) else None) (found ∙ among_same natives n)

@@ -8,12 +8,12 @@ use Rattle.papi_base.specs.declared.native.Native.{Native}
 use Rattle.table_rows.specs.Texts.{Text}
 use Rattle.component_table.specs.Books.{natives_named, with_first}
 
--- some natives before those that come, where these are named
+-- some natives before those that come, if these are named
 abbrev pub after : List Native → Option (List Native) → Option (List Native)
 after natives None = None
 after natives (Some more) = Some (natives ++ more)
 
--- what a loop over the texts keeps: the natives of the first so many of them
+-- what a loop over the texts keeps: the natives of the first n of them
 pub record Named (tables : List ComponentText) (texts : List Text) (i : ℕ) (natives : List Native) : Type 0 where
   pub so_far : natives_named tables texts ≡ after natives (natives_named tables (drop i texts))
   pub count : length natives ≡ i

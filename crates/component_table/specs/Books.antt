@@ -19,13 +19,13 @@ use Rattle.preset_table.specs.Table.{preset_count}
 use Rattle.table_rows.specs.Texts.{Text}
 use Rattle.user_events.specs.Events.{EventView, ExtendedView}
 
--- one more native before some, where its text names one and theirs do
+-- one more native before some, if its text names one and theirs do
 abbrev pub with_first : Result Native NameFault → Option (List Native) → Option (List Native)
 with_first (Ok native) (Some natives) = Some (native ∷ natives)
 with_first (Ok native) None = None
 with_first (Err fault) natives = None
 
--- the native events that some texts name, in their order, where each text names one
+-- the native events that some texts name, in their order, if each text names one
 unfoldable pub natives_named : List ComponentText → List Text → Option (List Native)
 natives_named tables [] = Some []
 natives_named tables (text ∷ texts) = with_first (names tables text) (natives_named tables texts)
@@ -35,7 +35,7 @@ abbrev pub are_together : List Native → Bool
 are_together [] = true
 are_together (first ∷ others) = list_all (λ n. n.comp == first.comp) others
 
--- how the value of a preset of this kind comes from its counts; the formula stands where the kind is `Postfix`
+-- how the value of a preset of this kind comes from its counts; the formula stands if the kind is `Postfix`
 abbrev pub rule_of : Kind → Option FormulaView → Rule
 rule_of kind.NotDerived formula = rule.Plain
 rule_of kind.Add formula = rule.Sum
@@ -47,16 +47,16 @@ rule_of kind.Postfix (Some formula) = rule.Postfix formula
 abbrev pub derived_if : Bool → List Native → Rule → Option DerivedView
 derived_if together natives r = if together then Some (record { natives = natives; rule = r }) else None
 
--- what is derived where each text names a native event
+-- what is derived if each text names a native event
 abbrev pub derived_by : Option (List Native) → Rule → Option DerivedView
 derived_by None r = None
 derived_by (Some natives) r = derived_if (are_together natives) natives r
 
--- A computed preset is available where each of its texts names a native event of the unit, all of one component.
+-- A computed preset is available if each of its texts names a native event of the unit, all of one component.
 abbrev pub derived_of : List ComponentText → DefView → Option DerivedView
 derived_of tables d = derived_by (natives_named tables d.natives) (rule_of d.kind d.formula)
 
--- what is derived by an entry of a preset file, where the event is available
+-- what is derived by an entry of a preset file, if the event is available
 abbrev pub derived_from : List ComponentText → Entry → Option DerivedView
 derived_from tables row.Missing = None
 derived_from tables row.Uncomputed = None
@@ -95,7 +95,7 @@ unfoldable pub available_from : Book → ℕ → List Entry → List Entry
 available_from book r [] = []
 available_from book r (e ∷ rest) = (if is_available book r then e else row.Missing) ∷ available_from book (r + 1) rest
 
--- a user event, kept where it is available
+-- a user event, kept if it is available
 abbrev pub kept_if : Bool → EventView → List EventView
 kept_if available e = if available then e ∷ [] else []
 

@@ -8,11 +8,12 @@ use Rattle.papi_base.specs.declared.code.Code.{Code}
 use Rattle.papi_base.specs.declared.code.Code.TheVariants.{Enoevnt}
 use Rattle.papi_base.specs.declared.native.EventRef.{EventRef}
 use Rattle.papi_base.specs.declared.native.EventRef.TheVariants as event
+use Rattle.papi_base.specs.declared.limits.TheConstants.{FIRST_USER_EVENT_CODE}
 use Rattle.papi_base.specs.declared.native.Native.{Native}
 use Rattle.event_tables.specs.Tables as Tables
 use Rattle.event_tables.specs.Tables.{ComponentText}
 use Rattle.name_encoder.specs.declared.fault.NameFault.{NameFault}
-use Rattle.name_encoder.specs.Names.{code_of, names}
+use Rattle.name_encoder.specs.Names.{fault_code, names}
 use Rattle.postfix_rules.specs.Fitting.{BookFits}
 use Rattle.postfix_rules.specs.Presets.{Book, entry}
 use Rattle.component_table.specs.Books.{book_of, rows_in}
@@ -20,7 +21,7 @@ use Rattle.preset_table.specs.Table.{code_at, preset_count, row_of, symbol_at}
 use Rattle.table_rows.specs.Texts.{Text}
 use Rattle.user_events.specs.Events.{Distinct, ExtendedView, names_of}
 use Rattle.user_events.specs.Names.{is_event_name}
-use Rattle.user_events.specs.declared.event.TheConstants.{MOST_EVENTS}
+use Rattle.user_events.specs.declared.event.TheConstants.{MOST_USER_EVENTS}
 
 -- A unit's tables; what is derived in each row, the presets' rows first and then those of the user events; and the names of the user events in
 -- the order of their ranks.
@@ -41,7 +42,7 @@ shape_of tables = Tables.shape_of tables
 -- The book fits the counters. The user events' names are as many as there may be, have their form and differ pairwise.
 pub record IsCatalog (c : CatalogView) : Type 0 where
   pub fits : BookFits (shape_of c.tables) c.book
-  pub few : length c.names ≤ MOST_EVENTS
+  pub few : length c.names ≤ MOST_USER_EVENTS
   pub each : AllByRecursion (λ n. is_event_name n ≡ true) c.names
   pub distinct : Distinct c.names
 
@@ -55,9 +56,9 @@ row_count catalog = preset_count + length catalog.names
 abbrev pub row_name : CatalogView → ℕ → Text
 row_name catalog row = if nat_lt row preset_count then symbol_at row else get_or catalog.names (row - preset_count) []
 
--- a preset's code, or 0xC0000000 and the rank of a user event
+-- a preset's code, or FIRST_USER_EVENT_CODE and the rank of a user event
 abbrev pub code_of_row : ℕ → ℕ
-code_of_row row = if nat_lt row preset_count then code_at row else 0xC0000000 + (row - preset_count)
+code_of_row row = if nat_lt row preset_count then code_at row else FIRST_USER_EVENT_CODE + (row - preset_count)
 
 -- a text that begins as a preset's symbol does, which no name of a user event does
 abbrev pub is_symbol : Text → Bool
@@ -77,7 +78,7 @@ row_named catalog text = if is_symbol text then row_of text else row_of_name cat
 abbrev pub preset_if : Bool → ℕ → Result EventRef Code
 preset_if available row = if available then Ok (event.Preset row) else Err Enoevnt
 
--- the event in a row, where it is available
+-- the event in a row, if it is available
 abbrev pub preset_looked_up : Book → Option ℕ → Result EventRef Code
 preset_looked_up book None = Err Enoevnt
 preset_looked_up book (Some row) = preset_if (is_some (entry book row)) row
@@ -85,9 +86,9 @@ preset_looked_up book (Some row) = preset_if (is_some (entry book row)) row
 -- the native event that a text names, or the code for what is wrong with the text
 abbrev pub native_looked_up : Result Native NameFault → Result EventRef Code
 native_looked_up (Ok native) = Ok (event.Native native)
-native_looked_up (Err fault) = Err (code_of fault)
+native_looked_up (Err fault) = Err (fault_code fault)
 
--- the user event in this row, where it is available; else the native event of the text
+-- the user event in this row, if it is available; else the native event of the text
 abbrev pub other_looked_up : CatalogView → Text → Option ℕ → Result EventRef Code
 other_looked_up catalog text (Some row) = preset_looked_up catalog.book (Some row)
 other_looked_up catalog text None = native_looked_up (names catalog.tables text)

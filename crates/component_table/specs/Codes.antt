@@ -6,10 +6,10 @@ use Rattle.postfix_rules.specs.Sameness.{among}
 use Rattle.postfix_rules.specs.NativeCodes.{native_code}
 use Rattle.component_table.specs.Catalogs.{CatalogView, code_of_row, row_count}
 
--- the codes of the catalog's rows: those of the preset table, and from 0xC0000000 on those of the user events by their ranks
+-- the codes of the catalog's rows: those of the preset table, and from FIRST_USER_EVENT_CODE on those of the user events by their ranks
 unfoldable pub row_codes : CatalogView → List ℕ
 row_codes catalog = map code_of_row (range_with_len 0 (row_count catalog))
 
--- the code of a native event, where it is mentioned
+-- the code of a native event, if it is mentioned
 abbrev pub code_in : List Native → Native → Option ℕ
 code_in mentioned n = if among n mentioned then Some (native_code mentioned n) else None

@@ -9,7 +9,7 @@ use Rattle.preset_csv.specs.declared.entry.Entry.{Entry}
 use Rattle.preset_csv.specs.declared.entry.Entry.TheVariants as row
 use Rattle.component_table.specs.Books.{book_of, is_available}
 
--- what a preset's text gives where it names this native event
+-- what a preset's text gives if it names this native event
 abbrev pub named : Native → Result Native NameFault
 named n = Ok n
 
@@ -22,6 +22,6 @@ pub record Available (tables : List ComponentText) (rows : List Entry) (r : ℕ)
   pub texts_name : map (names tables) def.natives ≡ map named natives
   pub together : All (λ n. n.comp ≡ component) natives
 
--- a preset is available exactly where its texts name native events of the unit that are of one component
+-- a preset is available exactly if its texts name native events of the unit that are of one component
 abbrev pub ExactlyAvailable : Type 0
 ExactlyAvailable = (tables : List ComponentText) (rows : List Entry) (r : ℕ) → (is_available (book_of tables rows) r ≡ true) ↔ Available tables rows r

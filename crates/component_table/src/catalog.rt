@@ -8,7 +8,7 @@ ghost use Rattle.event_tables.specs.Tables.{shape_of};
 ghost use Rattle.postfix_rules.specs.Fitting.{BookFits};
 ghost use Rattle.preset_table.specs.declared.TheConstants.{PRESETS};
 ghost use Rattle.user_events.specs.Events.{IsExtended, event_view, names_of};
-ghost use Rattle.user_events.specs.declared.event.TheConstants.{MOST_EVENTS};
+ghost use Rattle.user_events.specs.declared.event.TheConstants.{MOST_USER_EVENTS};
 
 use crate::derivation::book_of;
 use event_tables::Tables;
@@ -20,7 +20,7 @@ use std::alloc::{AllocError, Global};
 use std::marker::Model;
 use user_events::{Extended, UserEvent};
 
-/// The tables of a unit, and the presets and user events over them: what is derived in each row, where the event is available, and the
+/// The tables of a unit, and the presets and user events over them: what is derived in each row, if the event is available, and the
 /// names of the user events. There is a row for each preset and below them one for each user event, in the order of the ranks.
 #[derive(Drop)]
 pub struct Catalog {
@@ -103,7 +103,7 @@ fn available_presets(book: &PresetBook, presets: PresetTable) -> PresetTable
     presets
 }
 
-// Keeps a user event where it is available.
+// Keeps a user event if it is available.
 fn keep_if(kept: &mut Vec<UserEvent>, event: UserEvent, available: bool) -> Result<(), AllocError>
     ensures { OnOk result (map event_view kept.new.items ≡ map event_view kept.old.items
         ++ kept_if available (event_view event)) }
@@ -120,7 +120,7 @@ fn available_events(
     book: &PresetBook,
     events: Vec<UserEvent>,
 ) -> Result<Vec<UserEvent>, AllocError>
-    requires few { length events.items ≤ MOST_EVENTS }
+    requires few { length events.items ≤ MOST_USER_EVENTS }
     ensures { IfOk result (λ kept. map event_view kept.items
         ≡ events_from book.now PRESETS (map event_view events.items)) }
 {
@@ -155,7 +155,7 @@ impl Catalog {
         &self.tables
     }
 
-    /// What is derived in each row, where the event is available.
+    /// What is derived in each row, if the event is available.
     pub fn book(&self) -> &PresetBook
         ensures book { result.now ≡ self.now.book }
         ensures fits { BookFits (shape_of self.now.tables) self.now.book }
@@ -166,7 +166,7 @@ impl Catalog {
     /// How many rows there are: one for each preset, and one for each user event.
     pub fn rows(&self) -> u32
         ensures rows { result ≡ row_count self.now }
-        ensures few { row_count self.now ≤ PRESETS + MOST_EVENTS }
+        ensures few { row_count self.now ≤ PRESETS + MOST_USER_EVENTS }
     {
         preset_count() + self.names.len() as u32
     }

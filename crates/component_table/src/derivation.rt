@@ -13,7 +13,7 @@ use postfix_rules::{Derived, Formula, PresetBook, Rule, is_derived};
 use preset_csv::{Def, Entry, Kind};
 use std::alloc::{AllocError, Global};
 
-// The native events that some texts name, in their order, where each text names one.
+// The native events that some texts name, in their order, if each text names one.
 fn natives_named(tables: &Tables, texts: &[String]) -> Option<Natives>
     requires few { length texts.now ≤ MOST_NATIVES }
     ensures named { result ≡ Books.natives_named tables.now (map string_bytes texts.now) }
@@ -44,7 +44,7 @@ fn rule_of(kind: Kind, formula: Option<Formula>) -> Rule
     }
 }
 
-// What a computed preset derives, where it is available.
+// What a computed preset derives, if it is available.
 fn derived_of(tables: &Tables, def: Def) -> Option<Derived>
     ensures derived { result ≡ Books.derived_of tables.now def }
     ensures fits { IfSome result (λ d. All (Fits (shape_of tables.now)) d.natives) }
@@ -58,7 +58,7 @@ fn derived_of(tables: &Tables, def: Def) -> Option<Derived>
     Some(Derived::new(natives, rule))
 }
 
-// What is derived in a row of a table of presets, where the preset is available.
+// What is derived in a row of a table of presets, if the preset is available.
 fn derived_from(tables: &Tables, entry: Entry) -> Option<Derived>
     ensures derived { result ≡ Books.derived_from tables.now entry }
     ensures fits { IfSome result (λ d. All (Fits (shape_of tables.now)) d.natives) }

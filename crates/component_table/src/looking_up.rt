@@ -9,16 +9,13 @@ ghost use Rattle.component_table.specs.EventNames as EventNames;
 ghost use Rattle.event_tables.specs.Tables.{shape_of};
 ghost use Rattle.postfix_rules.specs.Fitting.{IsNamed};
 ghost use Rattle.preset_table.specs.declared.TheConstants.{PRESETS};
-ghost use Rattle.user_events.specs.declared.event.TheConstants.{MOST_EVENTS};
+ghost use Rattle.user_events.specs.declared.event.TheConstants.{MOST_USER_EVENTS};
 
 use crate::catalog::Catalog;
 use name_encoder::{cause_code, encode, write_name};
-use papi_base::{Code, EventRef};
+use papi_base::{Code, EventRef, FIRST_USER_EVENT_CODE};
 use preset_table::{preset_code, preset_count, preset_row, preset_symbol};
 use std::alloc::{AllocError, Global};
-
-// The code of the first user event. PAPI_event_name_to_code(3) gives codes of events that a user adds above those of the presets.
-const FIRST_EVENT_CODE: u32 = 0xC0000000;
 
 // Whether a text begins as a preset's symbol does.
 fn is_symbol(text: &str) -> bool
@@ -29,13 +26,13 @@ fn is_symbol(text: &str) -> bool
 
 // The code in a row.
 fn code_of_row(row: u32) -> u32
-    requires { row < PRESETS + MOST_EVENTS }
+    requires { row < PRESETS + MOST_USER_EVENTS }
     ensures { result ≡ Catalogs.code_of_row row }
 {
     if row < preset_count() {
         preset_code(row)
     } else {
-        FIRST_EVENT_CODE + (row - preset_count())
+        FIRST_USER_EVENT_CODE + (row - preset_count())
     }
 }
 
@@ -49,7 +46,7 @@ fn rank_of(names: &[String], text: &str) -> Option<usize>
 
 // The row of a user event's name.
 fn row_of_name(names: &[String], text: &str) -> Option<u32>
-    requires { length names.now ≤ MOST_EVENTS }
+    requires { length names.now ≤ MOST_USER_EVENTS }
     ensures row { result ≡ Catalogs.row_of_name (map string_bytes names.now) text.now }
     ensures within { IfSome result (λ row. row < PRESETS + length names.now) }
 {
@@ -72,7 +69,7 @@ impl Catalog {
         }
     }
 
-    /// The code of a preset, or 0xC0000000 and the rank of a user event.
+    /// The code of a preset, or `FIRST_USER_EVENT_CODE` and the rank of a user event.
     pub fn code(&self, row: u32) -> u32
         requires { row < row_count self.now }
         ensures code { result ≡ Catalogs.code_of_row row }
@@ -81,7 +78,7 @@ impl Catalog {
         code_of_row(row)
     }
 
-    /// The row whose symbol or name is exactly this text, and `None` where there is none.
+    /// The row whose symbol or name is exactly this text, and `None` if there is none.
     pub fn row_named(&self, text: &str) -> Option<u32>
         ensures row { result ≡ Catalogs.row_named self.now text.now }
         ensures within { IfSome result (λ row. row < row_count self.now) }
@@ -93,7 +90,7 @@ impl Catalog {
         }
     }
 
-    /// The code in a row, and 0 where there is no such row.
+    /// The code in a row, and 0 if there is no such row.
     pub fn code_at(&self, row: u32) -> u32
         ensures code { result ≡ unwrap_or (slice_get (row_codes self.now) row) 0 }
     {
@@ -104,7 +101,7 @@ impl Catalog {
         }
     }
 
-    /// The row of a code, and `None` where no row has it.
+    /// The row of a code, and `None` if no row has it.
     pub fn row_of_code(&self, code: u32) -> Option<u32>
         ensures row { result ≡ position (λ x. x == code) (row_codes self.now) }
     {
@@ -116,7 +113,7 @@ impl Catalog {
         None
     }
 
-    // The event in a row, where it is available.
+    // The event in a row, if it is available.
     fn event_in(&self, row: Option<u32>) -> Result<EventRef, Code>
         ensures event { result ≡ preset_looked_up self.now.book row }
         ensures named { IsNamed self.now.book (shape_of self.now.tables) result }
@@ -133,7 +130,7 @@ impl Catalog {
     /// The event that a text names, PAPI_event_name_to_code(3), or the code that refuses it.
     ///
     /// A text that begins with `PAPI_` is the symbol of a preset. Any other text that is exactly the name of a user event is that
-    /// event. Both are Enoevnt where the event is not available, and the first also where it is not a symbol of the table. Any other text
+    /// event. Both are Enoevnt if the event is not available, and the first also if it is not a symbol of the table. Any other text
     /// is the name of a native event.
     pub fn lookup(&self, text: &str) -> Result<EventRef, Code>
         ensures event { result ≡ looked_up self.now text.now }
@@ -164,7 +161,7 @@ impl Catalog {
         }
     }
 
-    // The symbol or name in a row, and an empty text where there is no such row.
+    // The symbol or name in a row, and an empty text if there is no such row.
     fn name_or_empty(&self, row: u32) -> &str
         ensures { result.now ≡ row_name self.now row }
     {

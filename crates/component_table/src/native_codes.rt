@@ -6,14 +6,11 @@ ghost use Rattle.postfix_rules.specs.Sameness.{joined_by};
 ghost use Rattle.postfix_rules.specs.NativeCodes.{native_code, native_named};
 
 use indexmap::IndexSet;
-use papi_base::Native;
+use papi_base::{FIRST_NATIVE_CODE, Native};
 use std::alloc::{AllocError, Global};
 use std::marker::Model;
 
-// The code of the first native event that is mentioned: PAPI_NATIVE_MASK of papi.h.
-const FIRST_CODE: u32 = 0x40000000;
-
-/// How many native events may be mentioned: the codes of so many are below 0x80000000, where those of presets begin.
+/// How many native events may be mentioned: their codes are below 0x80000000, where those of presets begin.
 pub const MOST_MENTIONED: u32 = 0x40000000;
 
 /// The native events that were mentioned, in the order of their first mentions, which gives them their codes.
@@ -54,9 +51,9 @@ impl NativeCodes {
         self.natives.len() as u32
     }
 
-    /// Mentions a native event, and gives its code: 0x40000000 and the rank of its first mention.
+    /// Mentions a native event, and gives its code: `FIRST_NATIVE_CODE` and the rank of its first mention.
     ///
-    /// Where memory is refused, it is not mentioned.
+    /// If memory is refused, it is not mentioned.
     pub fn mention(&mut self, native: Native) -> Result<u32, AllocError>
         requires few { length self.old < MOST_MENTIONED }
         ensures mentioned { OnOk result (self.new ≡ joined_by self.old (native ∷ [])) }
@@ -64,26 +61,26 @@ impl NativeCodes {
         ensures unchanged { OnErr result (self.new ≡ self.old) }
     {
         let (rank, _) = self.natives.insert_full(native)?;
-        Ok(FIRST_CODE + rank as u32)
+        Ok(FIRST_NATIVE_CODE + rank as u32)
     }
 
-    /// The code of a native event, and `None` where it is not mentioned.
+    /// The code of a native event, and `None` if it is not mentioned.
     pub fn code_of(&self, native: &Native) -> Option<u32>
         ensures code { result ≡ code_in self.now native.now }
     {
         match self.natives.get_index_of(native) {
-            Some(rank) => Some(FIRST_CODE + rank as u32),
+            Some(rank) => Some(FIRST_NATIVE_CODE + rank as u32),
             None => None,
         }
     }
 
-    /// The native event of a code, among the first so many that were mentioned, and `None` where it is not one of them.
+    /// The native event of a code, among the first `first` that were mentioned, and `None` if it is not one of them.
     ///
     /// Source: PAPI_event_code_to_name(3).
     pub fn native_of(&self, code: u32, first: u32) -> Option<Native>
         ensures native { result ≡ native_named (take first self.now) code }
     {
-        let rank = code.checked_sub(FIRST_CODE)?;
+        let rank = code.checked_sub(FIRST_NATIVE_CODE)?;
         if rank >= first {
             return None;
         }

@@ -1,4 +1,4 @@
--- Where the counters do not suffice: a deficient set rules an assignment out, and a set closed under the counters' holders lies in each.
+-- If the counters do not suffice: a deficient set rules an assignment out, and a set closed under the counters' holders lies in each.
 use Rattle.std.proofs.Common.{◌≡◌, ◌≢◌, ℕ, ◌+◌, ◌^◌, ◌<◌, ◌≤◌, inl, inr, refl, sym, ap, ◌∙◌, arith, List, length, get_or}
 use Rattle.std.proofs.lemmas.Nat.Bits.{bit_at-lt}
 use Rattle.std.specs.Int.{bit_at}

@@ -270,7 +270,7 @@ least_listed allowed chosen masks least =
     first_listed (assigns allowed) chosen (ordered_assigns allowed) (listed allowed chosen masks least.is_assignment)
     (λ other h. least.comes_first other (of_listed allowed other h))
 
--- a list is assignable where it has assignments listed
+-- a list is assignable if it has assignments listed
 pub assignable_listed : (allowed : List ℕ) → AreMasks allowed → Assignable allowed → 0 < length (assigns allowed)
 assignable_listed allowed masks (chosen, assigned) = let at = contains_of chosen (assigns allowed) (listed allowed chosen masks assigned) in omega arith
 

@@ -28,7 +28,7 @@ pub record IsLeast (allowed chosen : List ℕ) : Type 0 where
   pub is_assignment : IsAssignment allowed chosen
   pub comes_first : (other : List ℕ) → IsAssignment allowed other → AtOrBefore chosen other
 
--- the counters allowed to some member, where the list begins at this place
+-- the counters allowed to some member, if the list begins at this place
 abbrev pub counters_from : ℕ → List ℕ → ℕ → ℕ
 counters_from place [] members = 0
 counters_from place (mask ∷ masks) members =

@@ -16,7 +16,7 @@ ListsEach = (allowed chosen : List ℕ) → AreMasks allowed → Contains (assig
 abbrev pub ListsInOrder : Type 0
 ListsInOrder = (allowed : List ℕ) → AllPairs IsBefore (assigns allowed)
 
--- the list of all assignments is not empty exactly where there is an assignment
+-- the list of all assignments is not empty exactly if there is an assignment
 abbrev pub ListsSome : Type 0
 ListsSome = (allowed : List ℕ) → AreMasks allowed → (is_assignable allowed ≡ true) ↔ Assignable allowed
 

@@ -127,7 +127,7 @@ fn visit(allowed: &[u32], chosen: &[u8], hole: usize, trail: &mut Trail, at: usi
     None
 }
 
-/// Gives the place without a counter one, moving others along an alternating path. Where there is none, the places
+/// Gives the place without a counter one, moving others along an alternating path. If there is none, the places
 /// that were reached are the least deficient set, and nothing has changed.
 pub fn augment(allowed: &[u32], chosen: &mut [u8], hole: usize) -> Result<(), u32>
     requires few { length allowed.now ≤ MOST_SET_NATIVES }

@@ -57,7 +57,7 @@ fn counters_of(allowed: &[u32], members: u32) -> u32
 }
 
 impl Matching {
-    /// No native events yet, on so many counters.
+    /// No native events yet, on n counters.
     pub fn empty(counters: u32) -> Self
         requires { counters ≤ MOST_COUNTERS }
         ensures { result ≡ record { counters = counters; allowed = [] } }
@@ -70,7 +70,7 @@ impl Matching {
         }
     }
 
-    /// Adds a native event that is allowed these counters, where all can then have counters of their own. A refusal
+    /// Adds a native event that is allowed these counters, if all can then have counters of their own. A refusal
     /// changes nothing.
     pub fn add(&mut self, allowed: u32) -> Result<(), Blame>
         requires room { length self.old.allowed < MOST_SET_NATIVES }

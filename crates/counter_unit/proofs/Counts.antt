@@ -46,7 +46,7 @@ added w n d t count more low fits small = go (cases_lt (count % m + more) m) whe
 pub whole_is : (w : ℕ) (n : Native) (d : Domain) (t count : ℕ) → whole w (register_at w n d t count) ≡ wrapped count
 whole_is w n d t count = let split = div-add-mod' count (period w t) in omega arith
 
--- and the count itself where it fits
+-- and the count itself if it fits
 pub sum_is : (w : ℕ) (n : Native) (d : Domain) (t count : ℕ) → count < 2 ^ 64 → (register_at w n d t count).bank + ((register_at w n d t count).value - beginning w t) ≡ count
 sum_is w n d t count fits = let split = div-add-mod' count (period w t) in omega arith
 

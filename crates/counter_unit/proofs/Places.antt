@@ -13,15 +13,15 @@ use Rattle.papi_base.specs.declared.occurrence.Occ.{Occ}
 use Rattle.papi_base.specs.declared.native.Native.{Native}
 use Rattle.papi_base.specs.declared.bits.Domain.{Domain}
 use Rattle.counter_unit.specs.declared.registers.Register.{Register}
-use Rattle.counter_unit.specs.Counting.{IsThreshold, period, beginning, begun, begun_again, at_place, IsSound, AreSound, moved, carries, moved_place, all_moved}
+use Rattle.counter_unit.specs.Counting.{IsThreshold, period, beginning, begun, begun_again, at_place, FitsWidth, FitWidths, moved, carries, moved_place, all_moved}
 
 pub at_place-replicate : (n c : ℕ) → at_place (replicate n None) c ≡ None
 at_place-replicate zero c = refl
 at_place-replicate (suc n) zero = refl
 at_place-replicate (suc n) (suc c) = at_place-replicate n c
 
-pub AreSound-put : (ws : List ℕ) (rs : List (Option Register)) (c : ℕ) (x : Option Register) → c < length ws → IsSound (get_or ws c 0) x → AreSound ws rs → AreSound ws (set rs c x)
-AreSound-put ws rs c x below sound h = record {
+pub FitWidths-put : (ws : List ℕ) (rs : List (Option Register)) (c : ℕ) (x : Option Register) → c < length ws → FitsWidth (get_or ws c 0) x → FitWidths ws rs → FitWidths ws (set rs c x)
+FitWidths-put ws rs c x below sound h = record {
   same_length = length-set rs c x ∙ h.same_length;
   each = λ k lt. elim (cases_eq k c) [
     | inl same ↦ rw (same, get_or-set_same rs c x None (omega (arith, h.same_length))) sound
@@ -29,8 +29,8 @@ AreSound-put ws rs c x below sound h = record {
   ];
 }
 
-pub AreSound-empty : (ws : List ℕ) → AreSound ws (replicate (length ws) None)
-AreSound-empty ws = record {
+pub FitWidths-empty : (ws : List ℕ) → FitWidths ws (replicate (length ws) None)
+FitWidths-empty ws = record {
   same_length = length-replicate (length ws) (let none : Option Register = None in none);
   each = λ k lt. rw (at_place-replicate (length ws) k) tt;
 }
@@ -52,15 +52,15 @@ pub period_fits : (w t : ℕ) → 16 ≤ w → IsThreshold w t → (256 ≤ peri
 period_fits w t low (inl none) = let most : 2 ^ 16 ≤ 2 ^ w = pow_mono low in let e = period_none w t none in (omega arith, omega arith)
 period_fits w t low (inr fits) = let e = period_some w t (omega (arith, fits.0)) in (omega (arith, fits.0), omega (arith, fits.1))
 
-pub begun-sound : (w : ℕ) (n : Native) (d : Domain) (t : ℕ) → 16 ≤ w → IsThreshold w t → IsSound w (Some (begun w n d t))
+pub begun-sound : (w : ℕ) (n : Native) (d : Domain) (t : ℕ) → 16 ≤ w → IsThreshold w t → FitsWidth w (Some (begun w n d t))
 begun-sound w n d t low fits = let p = period_fits w t low fits in (fits, omega arith, omega (arith, pow_pos w))
 
-pub again-sound : (w : ℕ) (place : Option Register) → 16 ≤ w → IsSound w place → IsSound w (option_map (begun_again w) place)
+pub again-sound : (w : ℕ) (place : Option Register) → 16 ≤ w → FitsWidth w place → FitsWidth w (option_map (begun_again w) place)
 again-sound w None low h = tt
 again-sound w (Some r) low h = let p = period_fits w r.threshold low h.0 in (h.0, omega arith, omega (arith, pow_pos w))
 
 -- what is added is less than a period, so a register stays sound
-moved-sound : (w more : ℕ) (r : Register) → 16 ≤ w → more ≤ 255 → IsSound w (Some r) → IsSound w (Some (moved w more r))
+moved-sound : (w more : ℕ) (r : Register) → 16 ≤ w → more ≤ 255 → FitsWidth w (Some r) → FitsWidth w (Some (moved w more r))
 moved-sound w more r low small h =
     let p = period_fits w r.threshold low h.0 in
     let P : ℕ → Type 0 = λ v. IsThreshold w r.threshold × (beginning w r.threshold ≤ v) × (v < 2 ^ w) in
@@ -68,7 +68,7 @@ moved-sound w more r low small h =
     (λ e. let over = leb-true (2 ^ w) (r.value + more) e in (h.0, omega arith, omega (arith, p.0, p.1, h.2)))
     (λ e. let under = leb-false (2 ^ w) (r.value + more) e in (h.0, omega (arith, h.1), omega arith))
 
-pub moved_place-sound : (before : Option Occ) (o : Occ) (w : ℕ) (r : Option Register) → 16 ≤ w → o.amount ≤ 255 → IsSound w r → IsSound w (moved_place before o w r).place
+pub moved_place-sound : (before : Option Occ) (o : Occ) (w : ℕ) (r : Option Register) → 16 ≤ w → o.amount ≤ 255 → FitsWidth w r → FitsWidth w (moved_place before o w r).place
 moved_place-sound before o w None low small h = tt
 moved_place-sound before o w (Some r) low small h = moved-sound w (weight_of r.native r.domain before o) r low (weight_of-le r.native r.domain before o small) h
 
@@ -79,8 +79,8 @@ at_place-all_moved before o (w ∷ ws) [] c e = absurd (omega arith)
 at_place-all_moved before o (w ∷ ws) (r ∷ rs) zero e = refl
 at_place-all_moved before o (w ∷ ws) (r ∷ rs) (suc c) e = at_place-all_moved before o ws rs c (omega arith)
 
-pub AreSound-moved : (before : Option Occ) (o : Occ) (ws : List ℕ) (rs : List (Option Register)) → AreWidths ws → o.amount ≤ 255 → AreSound ws rs → AreSound ws (all_moved before o ws rs)
-AreSound-moved before o ws rs widths small h = record {
+pub FitWidths-moved : (before : Option Occ) (o : Occ) (ws : List ℕ) (rs : List (Option Register)) → AreWidths ws → o.amount ≤ 255 → FitWidths ws rs → FitWidths ws (all_moved before o ws rs)
+FitWidths-moved before o ws rs widths small h = record {
   same_length = length-all_moved before o ws rs h.same_length ∙ h.same_length;
   each = λ c lt. rw (at_place-all_moved before o ws rs c h.same_length) (moved_place-sound before o (get_or ws c 0) (at_place rs c) (widths.low c lt) small (h.each c lt));
 }

@@ -13,7 +13,7 @@ use Rattle.papi_base.specs.Weight.{weight_of, holds, share}
 use Rattle.papi_base.specs.declared.occurrence.Occ.{Occ}
 use Rattle.counter_unit.specs.declared.registers.Register.{Register}
 use Rattle.counter_unit.specs.declared.selects.Key.TheVariants as key
-use Rattle.counter_unit.specs.Counting.{After, IsSound, AreSound, at_place, all_carries, all_moved, bits_of, carries, moved, moved_place}
+use Rattle.counter_unit.specs.Counting.{After, FitsWidth, FitWidths, at_place, all_carries, all_moved, bits_of, carries, moved, moved_place}
 use Rattle.counter_unit.specs.Selects.{admits, bit_of, has_code}
 use Rattle.counter_unit.proofs.Bits.{bit_at-bits_of}
 use Rattle.counter_unit.proofs.Places.{at_place-all_moved, length-all_moved}
@@ -67,7 +67,7 @@ after w r more = record { place = Some (moved w more r); carried = carries w mor
 abbrev pub unchanged : Option Register → After
 unchanged place = record { place = place; carried = false }
 
-pub unmoved : (before : Option Occ) (o : Occ) (w : ℕ) (r : Option Register) → IsSound w r → admits o r ≡ false → moved_place before o w r ≡ unchanged r
+pub unmoved : (before : Option Occ) (o : Occ) (w : ℕ) (r : Option Register) → FitsWidth w r → admits o r ≡ false → moved_place before o w r ≡ unchanged r
 unmoved before o w None sound other = refl
 unmoved before o w (Some r) sound other = ap (after w r) (weight_of_other r before o other) ∙ still r sound.2 where
   still : (r : Register) → r.value < 2 ^ w → after w r 0 ≡ unchanged (Some r)
@@ -84,7 +84,7 @@ pub record Stepping (before : Option Occ) (o : Occ) (ws : List ℕ) (rs : List (
   pub done : (k : ℕ) → bit_at left k ≡ 0 → at_place now k ≡ (moved_place before o (get_or ws k 0) (at_place rs k)).place
   pub carried : (k : ℕ) → k < 32 → bit_at left k ≡ 0 → bit_at carry k ≡ bit_of (moved_place before o (get_or ws k 0) (at_place rs k)).carried
 
-sound_at : (ws : List ℕ) (rs : List (Option Register)) (k : ℕ) → AreSound ws rs → IsSound (get_or ws k 0) (at_place rs k)
+sound_at : (ws : List ℕ) (rs : List (Option Register)) (k : ℕ) → FitWidths ws rs → FitsWidth (get_or ws k 0) (at_place rs k)
 sound_at ws rs k h = elim (cases_lt k (length ws)) [
   | inl below ↦ h.each k below
   | inr past ↦ let e = h.same_length in rw (get_or_past rs k None (omega arith)) tt
@@ -100,8 +100,8 @@ bit_is true false h = absurd (no_bit 0 (sym h) refl)
 bit_is false true h = absurd (no_bit 0 h refl)
 bit_is false false h = refl
 
--- what is looked at where the occurrence can move these counters
-pub begins : (before : Option Occ) (o : Occ) (ws : List ℕ) (rs : List (Option Register)) (all : ℕ) → length ws ≤ 32 → all < 2 ^ 32 → AreSound ws rs → AreAdmitted o rs all
+-- what is looked at if the occurrence can move these counters
+pub begins : (before : Option Occ) (o : Occ) (ws : List ℕ) (rs : List (Option Register)) (all : ℕ) → length ws ≤ 32 → all < 2 ^ 32 → FitWidths ws rs → AreAdmitted o rs all
     → Stepping before o ws rs (if all == 0 then min (length ws) 1 else all) rs 0
 begins before o ws rs all few small sound admitted = go (cases_eq all 0) where
   below : (k : ℕ) → bit_at all k ≡ 1 → k < length ws

@@ -62,7 +62,7 @@ pub record After : Type 0 where
   pub place : Option Register
   pub carried : Bool
 
--- nothing counts where nothing is programmed
+-- nothing counts if nothing is programmed
 abbrev pub moved_place : Option Occ → Occ → ℕ → Option Register → After
 moved_place before o width None = record { place = None; carried = false }
 moved_place before o width (Some r) = record {
@@ -88,14 +88,14 @@ bits_of [] = 0
 bits_of (b ∷ bs) = (if b then 1 else 0) + 2 * bits_of bs
 
 -- what is programmed has a threshold that fits, and is at its beginning or above
-abbrev pub IsSound : ℕ → Option Register → Type 0
-IsSound width None = Unit {0}
-IsSound width (Some r) = IsThreshold width r.threshold × (beginning width r.threshold ≤ r.value) × (r.value < 2 ^ width)
+abbrev pub FitsWidth : ℕ → Option Register → Type 0
+FitsWidth width None = Unit {0}
+FitsWidth width (Some r) = IsThreshold width r.threshold × (beginning width r.threshold ≤ r.value) × (r.value < 2 ^ width)
 
 -- so is each place, and there is one for each width
-pub record AreSound (widths : List ℕ) (registers : List (Option Register)) : Type 0 where
+pub record FitWidths (widths : List ℕ) (registers : List (Option Register)) : Type 0 where
   pub same_length : length registers ≡ length widths
-  pub each : (c : ℕ) → c < length widths → IsSound (slice_index widths c) (at_place registers c)
+  pub each : (c : ℕ) → c < length widths → FitsWidth (slice_index widths c) (at_place registers c)
 
 -- the register of a count: each multiple of the period was carried away
 abbrev pub register_at : ℕ → Native → Domain → ℕ → ℕ → Register
@@ -107,6 +107,6 @@ register_at width n d threshold count = record {
   bank = wrapped (count / period width threshold * period width threshold);
 }
 
--- the count on a counter, 0 where nothing is programmed
+-- the count on a counter, 0 if nothing is programmed
 abbrev pub count_on : UnitView → ℕ → ℕ
 count_on unit c = option_map_or (whole (slice_index unit.widths c)) (at_place unit.registers c) 0

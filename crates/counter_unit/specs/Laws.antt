@@ -5,7 +5,7 @@ use Rattle.papi_base.specs.declared.bits.Domain.{Domain}
 use Rattle.papi_base.specs.declared.limits.TheConstants.{LARGEST_AMOUNT, LEAST_WIDTH}
 use Rattle.counter_unit.specs.Counting.{IsThreshold, period, moved, carries, register_at, whole, wrapped}
 
--- what holds when a weight is added to a count: the register and its bank are those of the new count, and it carries where the
+-- what holds when a weight is added to a count: the register and its bank are those of the new count, and it carries if the
 -- count passes a multiple of its period
 pub record Added (w : ℕ) (n : Native) (d : Domain) (t count more : ℕ) : Type 0 where
   pub register : moved w more (register_at w n d t count) ≡ register_at w n d t (count + more)
@@ -19,6 +19,6 @@ FollowsCount = (w : ℕ) (n : Native) (d : Domain) (t count more : ℕ) → LEAS
 abbrev pub LosesNothing : Type 0
 LosesNothing = (w : ℕ) (n : Native) (d : Domain) (t count : ℕ) → whole w (register_at w n d t count) ≡ wrapped count
 
--- they are the count itself where it fits 64 bits
+-- they are the count itself if it fits 64 bits
 abbrev pub IsExact : Type 0
 IsExact = (w : ℕ) (n : Native) (d : Domain) (t count : ℕ) → count < 2 ^ 64 → whole w (register_at w n d t count) ≡ count

@@ -5,7 +5,7 @@ use Rattle.papi_base.specs.declared.native.Native.{Native}
 use Rattle.papi_base.specs.declared.bits.Domain.{Domain}
 use Rattle.papi_base.specs.Weight.{share}
 
--- whether it counts in user mode: by its own modes, or by the domain where it names none
+-- whether it counts in user mode: by its own modes, or by the domain if it names none
 abbrev pub counts_user : Native → Domain → Bool
 counts_user n d = if (n.mods.user || n.mods.kernel) then n.mods.user else share d.0 1
 

@@ -19,7 +19,7 @@ has_code key.User code r = (r.native.select == code) && counts_user r.native r.d
 has_code key.Kernel code r = (r.native.select == code) && counts_kernel r.native r.domain
 has_code key.Umask code r = (r.native.umask == 0) || share r.native.umask code
 
--- none can where nothing is programmed
+-- none can if nothing is programmed
 abbrev pub has : Key → ℕ → Option Register → Bool
 has key code None = false
 has key code (Some r) = has_code key code r

@@ -5,7 +5,7 @@ use Rattle.papi_base.specs.Widths.{AreWidths}
 use Rattle.papi_base.specs.declared.limits.TheConstants.{MOST_COUNTERS}
 use Rattle.counter_unit.specs.declared.registers.Register.{Register}
 use Rattle.counter_unit.specs.declared.selects.Selects.{Selects}
-use Rattle.counter_unit.specs.Counting.{AreSound}
+use Rattle.counter_unit.specs.Counting.{FitWidths}
 use Rattle.counter_unit.specs.Selects.{AreSelects}
 
 -- what holds of a unit between calls
@@ -13,5 +13,5 @@ pub record IsUnit (widths : List ℕ) (places : List (Option Register)) (tables 
   pub few : length widths ≤ MOST_COUNTERS
   pub are_widths : AreWidths widths
   pub long : length places ≡ MOST_COUNTERS
-  pub sound : AreSound widths (take (length widths) places)
+  pub sound : FitWidths widths (take (length widths) places)
   pub selects : AreSelects tables (take (length widths) places)

@@ -26,8 +26,8 @@ pub(crate) fn counts_kernel(n: &Native, d: Domain) -> bool
     if named { n.mods.kernel } else { d.0 & 2 != 0 }
 }
 
-/// What an occurrence adds to the register, where `before` came just before it: nothing unless it can move the register, and
-/// its amount as it is where neither an edge nor a least amount is asked for.
+/// What an occurrence adds to the register, if `before` came just before it: nothing unless it can move the register, and
+/// its amount as it is if neither an edge nor a least amount is asked for.
 #[inline(always)]
 #[tactic(auto, using(crate::proofs::Steps::weight_of_other))]
 pub(crate) fn weight_on(register: &Register, moves: bool, before: Option<&Occ>, o: &Occ) -> u8

@@ -78,7 +78,7 @@ fn mark(masks: &mut [u32; CODES], key: Key, c: u32, place: &Option<Register>)
     }
 }
 
-/// The select code of what is programmed on a counter, 0 where nothing is.
+/// The select code of what is programmed on a counter, 0 if nothing is.
 #[inline(always)]
 #[tactic(auto, using(crate::proofs::Tables::code_alone))]
 fn code_of(place: &Option<Register>) -> u8

@@ -5,7 +5,7 @@ ghost use Rattle.std.specs.Option.{option_copied, option_map};
 ghost use Rattle.papi_base.specs.Widths.{AreWidths};
 ghost use Rattle.papi_base.specs.declared.limits.TheConstants.{LEAST_WIDTH, MOST_COUNTERS, MOST_WIDTH};
 ghost use Rattle.counter_unit.specs.Selects.{admits};
-ghost use Rattle.counter_unit.specs.Counting.{IsThreshold, IsSound, beginning, period, at_place, begun, begun_again};
+ghost use Rattle.counter_unit.specs.Counting.{IsThreshold, FitsWidth, beginning, period, at_place, begun, begun_again};
 ghost use Rattle.counter_unit.specs.Counting.{moved_place, all_moved, all_carries, bits_of, count_on};
 
 use crate::modes::weight_on;
@@ -68,7 +68,7 @@ fn beginning_of(width: u8, threshold: u64) -> u64
     room(width) - period_of(width, threshold)
 }
 
-/// Counts one occurrence at a place, where it is told whether it moves it, and tells whether its register carried.
+/// Counts one occurrence at a place, given whether it moves it, and tells whether its register carried.
 #[inline(always)]
 fn count_place(
     place: &mut Option<Register>,
@@ -79,7 +79,7 @@ fn count_place(
 ) -> bool
     requires low { LEAST_WIDTH ≤ width }
     requires high { width ≤ MOST_WIDTH }
-    requires sound { IsSound width place.old }
+    requires sound { FitsWidth width place.old }
     requires admitted { moves ≡ admits o.now place.old }
     ensures place { place.new
         ≡ (moved_place (option_copied before.entry) o.now width place.old).place }
@@ -103,7 +103,7 @@ fn count_place(
     }
 }
 
-/// The counters to look at where an occurrence can move these of so many: the first one where it can move none.
+/// The counters to look at if an occurrence can move these of n: the first one if it can move none.
 // So there is mostly one turn, whether or not the occurrence counts, which a processor cannot foresee.
 #[inline(always)]
 fn one_at_least(moved: u32, counters: u32) -> u32
@@ -115,7 +115,7 @@ fn one_at_least(moved: u32, counters: u32) -> u32
 /// The register at its beginning again, if the counter is programmed.
 fn again(place: Option<Register>, width: u8) -> Option<Register>
     requires width { width ≤ MOST_WIDTH }
-    requires sound { IsSound width place }
+    requires sound { FitsWidth width place }
     ensures { result ≡ option_map (begun_again width) place }
 {
     let mut register = place?;
@@ -167,7 +167,7 @@ impl Unit {
     /// Another register, or none, is on the counter. The tables stay if it counts what was counted there.
     fn put(&mut self, c: u32, place: Option<Register>)
         requires exists { c < length self.old.widths }
-        requires sound { IsSound (slice_index self.old.widths c) place }
+        requires sound { FitsWidth (slice_index self.old.widths c) place }
         ensures { self.new ≡ record self.old { registers = slice_set self.old.registers c place } }
     {
         let old = self.registers[c as usize];
@@ -180,12 +180,12 @@ impl Unit {
     fn place(&self, c: u32) -> Option<Register>
         requires { c < length self.now.widths }
         ensures value { result ≡ at_place self.now.registers c }
-        ensures sound { IsSound (slice_index self.now.widths c) result }
+        ensures sound { FitsWidth (slice_index self.now.widths c) result }
     {
         self.registers[c as usize]
     }
 
-    /// Adds to each programmed register what the occurrence counts for it, where `before` came just before it. The result
+    /// Adds to each programmed register what the occurrence counts for it, if `before` came just before it. The result
     /// is the counters that carried, as bits.
     #[inline(always)]
     pub fn step(&mut self, before: Option<&Occ>, o: &Occ) -> u32
@@ -227,7 +227,7 @@ impl Unit {
         }
     }
 
-    /// What the native event on the counter counted since it was programmed or zeroed, modulo 2^64, and 0 where none is.
+    /// What the native event on the counter counted since it was programmed or zeroed, modulo 2^64, and 0 if none is.
     pub fn count(&self, c: u32) -> u64
         requires exists { c < length self.now.widths }
         ensures { result ≡ count_on self.now c }

@@ -139,7 +139,7 @@ const PLAIN: Mods = Mods {
     cmask: 0,
 };
 
-// It counts in both modes, where amounts begin to be below three.
+// It counts in both modes, each time that amounts begin to be below three.
 const FALLS_BELOW_THREE: Mods = Mods {
     user: true,
     kernel: true,

@@ -168,7 +168,7 @@ module _ (book : Book) (shape : Widths) (e : EventRef) (s : SetView) (n : Native
         go None is = ap masks_of (sym (no_natives is))
         go (Some c) is = matched.natives unshared
 
-      -- each has an allowed counter where no new one is without
+      -- each has an allowed counter if no new one is without
       some_counters : (slice : ℕ) → s.rest.slice ≡ Some slice → clash_of s.rest.slice (length s.natives) all ≡ None → All (λ m. 0 < m.allowed) all
       some_counters slice is none =
           let found_none : option_map alone (find (λ m. m.allowed == 0) (drop (length s.natives) all)) ≡ None = ap (λ o. clash_of o (length s.natives) all) (sym is) ∙ none in

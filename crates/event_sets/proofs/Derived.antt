@@ -8,7 +8,7 @@ use Rattle.papi_base.specs.contracts.native.NativePartialEq.TheImpl as native
 use Rattle.papi_base.specs.contracts.native.EventRefPartialEq.TheImpl as event_ref
 use Rattle.postfix_rules.specs.Sameness.{same_bool, same_event, same_native}
 
--- the tests in one row, where the modifiers are grouped
+-- the tests in one row, with the modifiers grouped
 in_row : (a b c d e f g h i j k : Bool) → (a && (b && (c && (d && (e && ((f && (g && (h && (i && j)))) && k)))))) ≡ (a && b && c && d && e && f && g && h && i && j && k)
 in_row false b c d e f g h i j k = refl
 in_row true false c d e f g h i j k = refl

@@ -26,7 +26,7 @@ pub joins_old : (seen more all : List Native) (i : ℕ) (n : Native) → slice_g
 joins_old seen more all i n e old h =
     ap (λ b. joined_by (if b then seen else seen ++ n ∷ []) (drop (i + 1) more)) (sym old) ∙ (ap (joined_by seen) (sym (drop_at more i n e)) ∙ h)
 
--- a new one where there is no room makes too many
+-- a new one if there is no room makes too many
 pub joined_over : (seen more all : List Native) (i : ℕ) (n : Native) → slice_get more i ≡ Some n → among n seen ≡ false → joined_by seen (drop i more) ≡ all
     → length seen < length all
 joined_over seen more all i n e new h =

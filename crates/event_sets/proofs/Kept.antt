@@ -122,7 +122,7 @@ assigned_sound comp counters s own few same h = record {
   in_range (inl none) = subst (All (λ n. n.allowed < 2 ^ counters)) (sym (no_natives s h none)) (none_of_it (λ n. n.allowed < 2 ^ counters))
   in_range (inr is) = subst (λ c. All (λ n. n.allowed < 2 ^ c) s.natives) (same is) h.in_range
 
--- its matching is the one that is kept, or a new one where no component was fixed
+-- its matching is the one that is kept, or a new one if no component was fixed
 pub assigned_matched : (comp counters : ℕ) (s : SetView) (kept : MatchingView) → is_other s.rest.component (Some comp) ≡ false
     → (s.rest.component ≡ Some comp → s.counters ≡ counters) → IsSound s → IsMatched s kept
     → IsMatched (assigned comp counters s) (if is_some s.rest.component then kept else record { counters = counters; allowed = [] })

@@ -39,7 +39,7 @@ conflict_is_least book e s clash masks room none is =
     blamed_least natives clash masks few (is_assignable (masks_of natives)) refl
     (sym (ap (λ slice. clash_of slice (length (set_natives book s)) natives) none) ∙ is)
 
--- the refusal is a conflict where the two before it do not come
+-- the refusal is a conflict if the two before it do not come
 last_refusal : (taken full : Bool) (o : Option Clash) (clash : Clash)
     → (if taken then Some (Plain Einval) else if full then Some (Plain Ecount) else option_map Conflict o) ≡ Some (Conflict clash)
     → (full ≡ false) × (o ≡ Some clash)

@@ -61,7 +61,7 @@ removed_is_sound book shape e s h = removed_sound book (place_of e s) (set_view 
 pub with_domain_is_sound : WithDomainIsSound
 with_domain_is_sound book shape bits s good h = domain_sound bits (set_view book shape s) good h
 
--- where neither of two refusals comes
+-- if neither of two refusals comes
 no_two : {X : Type 0} (a b : Bool) (x y : X) → (if a then Some x else if b then Some y else None) ≡ None → (a ≡ false) × (b ≡ false)
 no_two true b x y h = cc
 no_two false true x y h = cc
@@ -77,7 +77,7 @@ assigned_is_sound book shape comp s few taken h =
     let tests = no_two (nat_le (length shape) comp) (is_other s.component (Some comp)) Enocmp Einval taken in
     assigned_sound comp (length (widths_at shape (Some comp))) (set_view book shape s) tests.1 (few_counters shape comp few) (λ is. ap (λ c. length (widths_at shape c)) is) h
 
--- where a threshold is not refused, the natives do not take turns
+-- if a threshold is not refused, the natives do not take turns
 no_turns : {X : Type 0} (a b c : Bool) (o : Option ℕ) (x y : X) → (if a then Some x else if b then Some x else if c then Some x else if is_some o then Some y else None) ≡ None → o ≡ None
 no_turns true b c o x y h = cc
 no_turns false true c o x y h = cc
@@ -89,7 +89,7 @@ pub armed_is_sound : ArmedIsSound
 armed_is_sound book shape e t s taken h =
     armed_sound (place_of e s) t (set_view book shape s) (no_turns (cannot_arm book e s) (is_bad_threshold shape t s) (shares_native book e t s) s.slice Einval Ecombo taken) h
 
--- where no refusal comes, no row does
+-- if no refusal comes, no row does
 no_rows : (a b : Bool) (c : Option Clash) → (if a then Some (Plain Einval) else if b then Some (Plain Ecount) else option_map Conflict c) ≡ None → (a ≡ false) × (b ≡ false) × (c ≡ None)
 no_rows true b c h = cc
 no_rows false true c h = cc

@@ -12,7 +12,7 @@ use Rattle.event_sets.specs.declared.refusal.Clash.{Clash}
 abbrev pub counters_for : List Native → List ℕ
 counters_for natives = unwrap_or (least (masks_of natives)) []
 
--- the natives whose places are members of the set, where the list begins at this place
+-- the natives whose places are members of the set, if the list begins at this place
 abbrev pub members_from : ℕ → ℕ → List Native → List Native
 members_from members place [] = []
 members_from members place (n ∷ ns) = (if bit_at members place == 1 then n ∷ [] else []) ++ members_from members (place + 1) ns
@@ -30,7 +30,7 @@ blamed_unless false natives = Some (blamed natives)
 abbrev pub alone : Native → Clash
 alone n = record { natives = n ∷ []; counters = 0 }
 
--- What stands in the way of the natives, of which so many were there before. Not multiplexed, they need an assignment;
+-- What stands in the way of the natives, of which n were there before. Not multiplexed, they need an assignment;
 -- multiplexed, each new one needs an allowed counter.
 abbrev pub clash_of : Option ℕ → ℕ → List Native → Option Clash
 clash_of None before natives = blamed_unless (is_assignable (masks_of natives)) natives

@@ -15,7 +15,7 @@ use Rattle.postfix_rules.specs.Presets.{Book, component_of_event, lead, natives_
 use Rattle.event_sets.specs.declared.refusal.Clash.{Clash}
 use Rattle.event_sets.specs.Assigning.{clash_of}
 
--- its events, for each its threshold or 0, its component once that is fixed, its domain, and its slice where it is multiplexed
+-- its events, for each its threshold or 0, its component once that is fixed, its domain, and its slice if it is multiplexed
 pub record AtRest : Type 0 where
   pub events : List EventRef
   pub thresholds : List ℕ
@@ -96,7 +96,7 @@ armed_elsewhere book e n [] ts = false
 armed_elsewhere book e n (x ∷ xs) [] = false
 armed_elsewhere book e n (x ∷ xs) (t ∷ ts) = (not (same_event e x) && nat_lt 0 t && leads book n x) || armed_elsewhere book e n xs ts
 
--- a threshold above 0 on the event, where another event has one on the same native
+-- a threshold above 0 on the event, if another event has one on the same native
 abbrev pub shares_native : Book → EventRef → ℕ → AtRest → Bool
 shares_native book e t s = not (t == 0) && option_map_or (λ n. armed_elsewhere book e n s.events s.thresholds) (lead book e) false
 
@@ -120,6 +120,6 @@ without_event e s = record s { events = remove s.events (place_of e s); threshol
 abbrev pub emptied : AtRest → AtRest
 emptied s = record new_set { domain = s.domain }
 
--- PAPI_overflow(3): the event has this threshold, or none where it is 0
+-- PAPI_overflow(3): the event has this threshold, or none if it is 0
 abbrev pub with_threshold : EventRef → ℕ → AtRest → AtRest
 with_threshold e t s = record s { thresholds = slice_set s.thresholds (place_of e s) t }

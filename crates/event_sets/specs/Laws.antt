@@ -1,4 +1,4 @@
--- The changes of a set keep its agreement with the book, where the tests of their refusals fail; and what the natives of
+-- The changes of a set keep its agreement with the book, if the tests of their refusals fail; and what the natives of
 -- events are.
 use Rattle.std.specs.Prelude.{ℕ, ◌≡◌, true, false, not, List, [], ◌∷◌, Some, slice_get}
 use Rattle.std.specs.List.{filter, flat_map}
@@ -20,7 +20,7 @@ abbrev pub AddedAgrees : Type 0
 AddedAgrees = (book : Book) (e : EventRef) (s : AtRest) → IsHeld book e → cannot_take book e s ≡ false
     → Agrees book s → Agrees book (with_event book e s)
 
--- a set agrees after a component is assigned, where it has no other one: PAPI_assign_eventset_component(3)
+-- a set agrees after a component is assigned, if it has no other one: PAPI_assign_eventset_component(3)
 abbrev pub AssignedAgrees : Type 0
 AssignedAgrees = (book : Book) (comp : ℕ) (s : AtRest)
     → is_other s.component (Some comp) ≡ false

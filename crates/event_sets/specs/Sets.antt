@@ -9,7 +9,7 @@ use Rattle.counter_alloc.specs.Matchings.{MatchingView}
 use Rattle.postfix_rules.specs.Presets.{Book}
 use Rattle.event_sets.specs.AtRest.{AtRest, Widths, set_natives, widths_at, is_bad_domain, is_bad_slice}
 
--- what is told of the set, its native events, and the number of its component's counters, which is 0 where it has none
+-- what is told of the set, its native events, and the number of its component's counters, which is 0 if it has none
 pub record SetView : Type 0 where
   pub rest : AtRest
   pub natives : List Native

@@ -38,7 +38,7 @@ pub struct EventSet {
     /// How many counters the component has.
     counters: u32,
     domain: Domain,
-    /// The length of a time slice in ticks, where the native events take turns.
+    /// The length of a time slice in ticks, if the native events take turns.
     slice: Option<u32>,
     natives: Natives,
     /// The native events on counters of their own, unless they take turns.
@@ -83,7 +83,7 @@ fn counters_of(shape: &Shape, comp: u32) -> u32
     shape.comp(comp).counters()
 }
 
-/// The matching to which native events are added: the one that is kept, or a new one where no component was fixed.
+/// The matching to which native events are added: the one that is kept, or a new one if no component was fixed.
 fn begun(fixed: Option<u32>, kept: &Matching, counters: u32) -> Matching
     requires { counters ≤ MOST_COUNTERS }
     ensures { result ≡ (if is_some fixed then kept.now
@@ -126,9 +126,9 @@ impl EventSet {
 
     /// Adds an event with threshold 0, and fixes the component to the event's: PAPI_add_event(3).
     ///
-    /// EINVAL where the event is of another component or is in the set; ECOUNT where events or native events would be
-    /// more than 32; a conflict where the native events with the new ones cannot have counters of their own, or, where
-    /// the set is multiplexed, where a new one is allowed no counter.
+    /// EINVAL if the event is of another component or is in the set; ECOUNT if events or native events would be
+    /// more than 32; a conflict if the native events with the new ones cannot have counters of their own, or, if
+    /// the set is multiplexed, if a new one is allowed no counter.
     pub fn add(&mut self, book: &PresetBook, shape: &Shape, e: &EventRef) -> Result<(), Refusal>
         requires held { IsHeld book.now e.now }
         requires fits { All (Fits shape.now) (natives_of_event book.now e.now) }
@@ -168,7 +168,7 @@ impl EventSet {
 
     /// Takes an event away, with its threshold and the native events that no other event has: PAPI_remove_event(3).
     ///
-    /// EINVAL where the event is not in the set.
+    /// EINVAL if the event is not in the set.
     pub fn remove(&mut self, book: &PresetBook, e: &EventRef) -> Result<(), Code>
         requires natives { self.old.natives ≡ set_natives book.now self.old.rest }
         ensures removed { let rest = without_event e.now self.old.rest
@@ -200,7 +200,7 @@ impl EventSet {
 
     /// Fixes the domain in which the native events without a privilege modifier count: PAPI_set_domain(3).
     ///
-    /// EINVAL where the bits are 0 or have another one than 1 for the user and 2 for the kernel.
+    /// EINVAL if the bits are 0 or have another one than 1 for the user and 2 for the kernel.
     pub fn set_domain(&mut self, bits: u32) -> Result<(), Code>
         ensures set { OnOk result
             (self.new ≡ record self.old {
@@ -218,9 +218,9 @@ impl EventSet {
         Ok(())
     }
 
-    /// Has the native events take turns, each for a slice of so many ticks: PAPI_set_multiplex(3).
+    /// Has the native events take turns, each for a slice of n ticks: PAPI_set_multiplex(3).
     ///
-    /// EINVAL where the slice is not from 1 to 1,000,000 ticks, else ECOMBO where an event has a threshold.
+    /// EINVAL if the slice is not from 1 to 1,000,000 ticks, else ECOMBO if an event has a threshold.
     pub fn set_multiplex(&mut self, slice: u32) -> Result<(), Code>
         ensures set { OnOk result
             (self.new ≡ record self.old { rest = record self.old.rest { slice = Some slice } }) }
@@ -240,7 +240,7 @@ impl EventSet {
 
     /// Fixes the component: PAPI_assign_eventset_component(3).
     ///
-    /// ENOCMP where there is no such component, else EINVAL where another one is fixed.
+    /// ENOCMP if there is no such component, else EINVAL if another one is fixed.
     pub fn assign_component(&mut self, comp: u32, shape: &Shape) -> Result<(), Code>
         requires counters { self.old.counters
             ≡ length (widths_at shape.now self.old.rest.component) }
@@ -269,9 +269,9 @@ impl EventSet {
 
     /// Gives an event of the set a threshold, or with 0 takes its threshold away: PAPI_overflow(3).
     ///
-    /// EINVAL where the event is not in the set or is derived; where the threshold is neither 0 nor from 256 to the last
-    /// value of each register of the component; and where another event has a threshold on the same native event. Else
-    /// ECOMBO where the native events take turns.
+    /// EINVAL if the event is not in the set or is derived; if the threshold is neither 0 nor from 256 to the last
+    /// value of each register of the component; and if another event has a threshold on the same native event. Else
+    /// ECOMBO if the native events take turns.
     pub fn set_threshold(
         &mut self,
         book: &PresetBook,
@@ -319,7 +319,7 @@ impl EventSet {
         &self.events
     }
 
-    /// The component, where it is fixed.
+    /// The component, if it is fixed.
     pub fn component(&self) -> Option<u32>
         ensures { result ≡ self.now.rest.component }
     {
@@ -333,7 +333,7 @@ impl EventSet {
         self.domain
     }
 
-    /// The length of a time slice in ticks, where the native events take turns: PAPI_set_multiplex(3).
+    /// The length of a time slice in ticks, if the native events take turns: PAPI_set_multiplex(3).
     pub fn slice(&self) -> Option<u32>
         ensures { result ≡ self.now.rest.slice }
     {
@@ -355,7 +355,7 @@ impl EventSet {
         is_armed(&self.thresholds)
     }
 
-    /// The counter of each native event in the assignment that comes first, compared place by place; none where the set
+    /// The counter of each native event in the assignment that comes first, compared place by place; none if the set
     /// is multiplexed.
     pub fn assignment(&self) -> Option<Places>
         ensures multiplexed { IsNone result ↔ IsSome self.now.rest.slice }

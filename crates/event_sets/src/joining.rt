@@ -25,7 +25,7 @@ pub fn natives_of(book: &PresetBook, e: &EventRef) -> Natives
     }
 }
 
-/// The native events with those of `more` that are new, and none where these would be more than a set has.
+/// The native events with those of `more` that are new, and none if these would be more than a set has.
 pub fn joined(natives: &Natives, more: &Natives) -> Option<Natives>
     requires { length natives.now ≤ MOST_SET_NATIVES }
     ensures few { IfSome result (λ all. length all ≤ MOST_SET_NATIVES) }
@@ -45,7 +45,7 @@ pub fn joined(natives: &Natives, more: &Natives) -> Option<Natives>
     Some(all)
 }
 
-/// Joins those of `more` that are new, where there is room for them.
+/// Joins those of `more` that are new, if there is room for them.
 fn join(natives: &mut Natives, more: &Natives)
     requires { length (joined_by natives.old more.now) ≤ MOST_SET_NATIVES }
     ensures { natives.new ≡ joined_by natives.old more.now }

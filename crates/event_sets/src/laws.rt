@@ -5,7 +5,7 @@ ghost use Rattle.event_sets.specs.Laws.{NativesAreFirsts, NativesAreOwned, Remov
 ghost use Rattle.event_sets.specs.Soundness.{AddedIsSound, ArmedIsSound, AssignedIsSound, EmptiedIsSound, HeldFit};
 ghost use Rattle.event_sets.specs.Soundness.{NewIsSound, RemovedIsSound, WithDomainIsSound, WithSliceIsSound};
 
-/// The changes of a set keep its agreement with the book, where the tests of refusals fail.
+/// The changes of a set keep its agreement with the book, if the tests of refusals fail.
 pub fn agreement_laws()
     ensures emptied { EmptiedAgrees }
     ensures added { AddedAgrees }

@@ -34,7 +34,7 @@ pub fn counts_without(counts: &Counts, place: u32) -> Counts
     left
 }
 
-/// A new matching over so many counters, of the native events unless they take turns.
+/// A new matching over n counters, of the native events unless they take turns.
 pub fn matched(slice: Option<u32>, counters: u32, natives: &Natives) -> Matching
     requires few { counters ≤ MOST_COUNTERS }
     requires in_range { All (λ n. n.allowed < 2 ^ counters) natives.now }

@@ -38,7 +38,7 @@ pub fn is_plain(book: &PresetBook, e: &EventRef) -> bool
     }
 }
 
-/// The least width of the component's counters, and 0 where it has none.
+/// The least width of the component's counters, and 0 if it has none.
 fn least_width(comp: &CompShape) -> u8
     ensures least { result ≡ least_of comp.now }
     ensures high { result ≤ MOST_WIDTH }
@@ -53,7 +53,7 @@ fn least_width(comp: &CompShape) -> u8
     least
 }
 
-/// How many values each register of the component can have: 1 where there is no such component.
+/// How many values each register of the component can have: 1 if there is no such component.
 fn room(shape: &Shape, component: Option<u32>) -> u64
     ensures { result ≡ 2 ^ least_of (widths_at shape.now component) }
 {

@@ -57,7 +57,7 @@ place_bit-some : (o : Option ℕ) → is_some o ≡ true → 0 < place_bit o
 place_bit-some None e = cc e
 place_bit-some (Some p) e = pow_pos p
 
--- and there is one, where a name is given and known
+-- and there is one, if a name is given and known
 pub bits_of-some : (counters : List CounterText) (name : Text) (names : List Text) → is_some (counter_place counters name) ≡ true → 0 < bits_of counters (name ∷ names)
 bits_of-some counters name names e =
     let bit = place_bit-some (counter_place counters name) e in

@@ -17,7 +17,7 @@ use Rattle.event_tables.specs.declared.row.Row.{Row}
 use Rattle.event_tables.specs.declared.row.Row.TheVariants as row
 use Rattle.event_tables.specs.declared.fault.RowCause.{RowCause}
 use Rattle.event_tables.specs.declared.fault.RowCause.TheVariants as cause
-use Rattle.event_tables.specs.declared.limits.TheConstants.{MOST_EVENTS}
+use Rattle.event_tables.specs.declared.limits.TheConstants.{MOST_COMPONENT_EVENTS}
 
 pub on_last-set : {X Y : Type 0} (view : X → Y) (f : Y → Y) (xs : List X) (i : ℕ) (new d : X) → i + 1 ≡ length xs → view new ≡ f (view (get_or xs i d))
     → map view (set xs i new) ≡ on_last f (map view xs)
@@ -60,7 +60,7 @@ fresh false false o e = refl
 pub inner-grows : (above : List ComponentText) (line : Line) (c : ComponentText) → last_of above ≡ Some c → cause_in above line ≡ None → CanGrow line c
 unfolding cause_in
 inner-grows above (event n s ns t) c l e =
-    fresh (nat_le MOST_EVENTS (length c.events)) (list_any (λ (x : EventText). same_name x.name n) c.events) _ (rw l at e)
+    fresh (nat_le MOST_COMPONENT_EVENTS (length c.events)) (list_any (λ (x : EventText). same_name x.name n) c.events) _ (rw l at e)
 inner-grows above (umask m) c l e = events-filled c.events (λ x. mask_cause x.masks m.name m.preset_choice) (rw l at e)
 inner-grows above (counter n w f) c l e = tt
 inner-grows above skipped c l e = tt
@@ -86,7 +86,7 @@ cause-inner above (row.Counter n w f) c s b k l = rw l refl
 cause-inner above (row.Event n s' ns t) c s b k l = rw l refl
 cause-inner above (row.Umask n b' f t) c s b k l = rw l refl
 
--- and it has one where there is no component
+-- and it has one if there is no component
 pub cause-alone : (above : List ComponentText) (r : Row) → (r ≡ row.Skipped → ⊥) → (r ≡ row.Bad → ⊥) → ((n p : Bor Text) → r ≡ row.Component n p → ⊥)
     → last_of above ≡ None → Some cause.BadRow ≡ cause_in above (row_line r)
 unfolding cause_in
@@ -97,7 +97,7 @@ cause-alone above (row.Counter n w f) s b k l = rw l refl
 cause-alone above (row.Event n s' ns t) s b k l = rw l refl
 cause-alone above (row.Umask n b' f t) s b k l = rw l refl
 
--- and adds nothing where no component stands above it
+-- and adds nothing if no component stands above it
 pub none-above : (xs : List Component) (line : Line) → IsInner line → (0 < length xs → ⊥) → map component_text xs ≡ with_line (map component_text xs) line
 unfolding on_last
 none-above [] line i e = sym (inner-with [] line i)

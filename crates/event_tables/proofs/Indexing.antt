@@ -13,7 +13,7 @@ none-here : (a b : Bool) → (a || b) ≡ false → (a ≡ false) × (b ≡ fals
 none-here false b e = (refl, e)
 none-here true b e = cc e
 
--- some item is found where there is one
+-- some item is found if there is one
 pub any-found : {X : Type 0} (p : X → Bool) (i : ℕ) (xs : List X) → is_some (position_from p i xs) ≡ list_any p xs
 any-found p i [] = refl
 any-found p i (x ∷ xs) = go (p x) (any-found p (i + 1) xs)

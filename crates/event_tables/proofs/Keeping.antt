@@ -14,7 +14,7 @@ use Rattle.event_tables.specs.Unit.{event_row, events_in, inner_mask_cause, is_m
 use Rattle.event_tables.specs.Steps.{grown, on_last, with_counter, with_event, with_inner_mask, with_line, with_mask}
 use Rattle.event_tables.specs.Kept.{IsComponent, IsCounter, IsEvent, IsEventLine, IsLine, IsMask, IsTables, IsWidth, NoRepeats}
 use Rattle.event_tables.specs.declared.fault.RowCause.TheVariants as cause
-use Rattle.event_tables.specs.declared.limits.TheConstants.{MOST_COMPONENTS, MOST_COUNTERS, MOST_EVENTS, MOST_UMASKS}
+use Rattle.event_tables.specs.declared.limits.TheConstants.{MOST_COMPONENTS, MOST_COMPONENT_EVENTS, MOST_COUNTERS, MOST_UMASKS}
 use Rattle.event_tables.proofs.Bits.{bits_of-lt, bits_of-some}
 use Rattle.event_tables.proofs.Growing.{last_of-later}
 
@@ -156,7 +156,7 @@ all-known false e = cc e
 event-kept : (c : ComponentText) (name : Text) (select : ℕ) (names : List Text) (text : Text) → IsEventLine name select names → event_cause c name names ≡ None
     → IsComponent c → IsComponent (with_event (event_row c.counters name select names text []) c)
 event-kept c name select names text i e h =
-    let few = if-none (nat_le MOST_EVENTS (length c.events)) cause.OverLimit _ e in
+    let few = if-none (nat_le MOST_COMPONENT_EVENTS (length c.events)) cause.OverLimit _ e in
     let fresh = if-none (list_any (λ (x : EventText). same_name x.name name) c.events) cause.RepeatedName _ few.1 in
     let known = all-known (list_all (λ n. is_some (counter_place c.counters n)) names) fresh.1 in
     let new : EventText = event_row c.counters name select names text [] in
@@ -170,7 +170,7 @@ event-kept c name select names text i e h =
       distinct = tt;
       one_default = tt;
     } in
-    let low = leb-false MOST_EVENTS (length c.events) few.0 in
+    let low = leb-false MOST_COMPONENT_EVENTS (length c.events) few.0 in
     record {
       named = h.named;
       pmu_named = h.pmu_named;

@@ -3,8 +3,8 @@ use Rattle.std.proofs.Common.{◌≡◌, ◌∙◌, ◌∷◌, ◌++◌, List, [
 use Rattle.std.specs.Prelude.{OnOk, Result}
 use Rattle.std.specs.List.{AllByRecursion}
 use Rattle.table_rows.specs.Tables.{RefusesRow, TakesRow}
-use Rattle.table_rows.specs.declared.fault.Refusal.{Refusal}
-use Rattle.event_tables.specs.Index.{IsIndexed, IsRead}
+use Rattle.table_rows.specs.declared.fault.RowRefusal.{RowRefusal}
+use Rattle.event_tables.specs.Index.{GiveComponents, IsIndexed}
 use Rattle.event_tables.specs.Kept.{IsLine, IsTables}
 use Rattle.event_tables.specs.Lines.{Line}
 use Rattle.event_tables.specs.Steps.{with_line}
@@ -16,13 +16,13 @@ use Rattle.event_tables.specs.declared.fault.RowCause.{RowCause}
 use Rattle.event_tables.proofs.Keeping.{kept}
 use Rattle.event_tables.proofs.RowsMore.{components-more}
 
-pub none-read : IsRead [] []
+pub none-read : GiveComponents [] []
 unfolding components_in
 none-read = (refl, record { tables = record { few = omega arith; each = tt; names_distinct = tt; pmus_distinct = tt }; indexed = tt })
 
-pub row-taken : (above : List Line) (line : Line) (old new : List Component) (result : Result Unit (Refusal RowCause)) → IsLine line → IsRead above old
+pub row-taken : (above : List Line) (line : Line) (old new : List Component) (result : Result Unit (RowRefusal RowCause)) → IsLine line → GiveComponents above old
     → TakesRow (cause_in (map component_text old) line) (map component_text new ≡ with_line (map component_text old) line) result → OnOk result (AllByRecursion IsIndexed new)
-    → TakesRow (row_cause above line) (IsRead (above ++ line ∷ []) new) result
+    → TakesRow (row_cause above line) (GiveComponents (above ++ line ∷ []) new) result
 row-taken above line old new (Ok u) good read takes indexed =
     let same = ap (λ (cs : List ComponentText). cause_in cs line) read.0 in (
       sym same ∙ takes.0,

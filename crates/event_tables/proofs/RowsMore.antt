@@ -63,7 +63,7 @@ events_after (event n s ns t) counters events = events ++ event_row counters n s
 events_after (umask m) counters events = on_last (with_mask m) events
 events_after _ counters events = events
 
--- an event in front, with its umasks, where a row joins those after it
+-- an event in front, with its umasks, if a row joins those after it
 front : (above : List CounterText) (rows : List Line) (line : Line) (n : Text) (s : ℕ) (ns : List Text) (t : Text) (counters : List CounterText) → components_in rows ≡ []
     → events_in above (rows ++ line ∷ []) ≡ events_after line counters (events_in above rows)
     → event_row above n s ns t (masks_in (rows ++ line ∷ [])) ∷ events_in above (rows ++ line ∷ [])

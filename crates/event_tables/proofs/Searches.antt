@@ -13,7 +13,7 @@ pub position_from-map : {X Y : Type 0} (p : Y → Bool) (h : X → Y) (i : ℕ) 
 position_from-map p h i [] = refl
 position_from-map p h i (x ∷ xs) = ap (λ (o : Option ℕ). if p (h x) then Some i else o) (position_from-map p h (i + 1) xs)
 
--- some item passes where the filtered list has one
+-- some item passes if the filtered list has one
 filled : {X : Type 0} (p : X → Bool) (xs : List X) → list_any p xs ≡ not (is_empty (filter p xs))
 filled p [] = refl
 filled p (x ∷ xs) = go (p x) (filled p xs)
@@ -26,7 +26,7 @@ pub has_word-filled : (t : Text) → list_any (λ w. not (is_empty w)) (slice_sp
 unfolding words_of
 has_word-filled t = filled (λ w. not (is_empty w)) (slice_split (λ b. b == 32) t)
 
--- each item of the filtered list passes where each item passes or is left out
+-- each item of the filtered list passes if each item passes or is left out
 pub all-filled : {X : Type 0} (empty p : X → Bool) (xs : List X) → list_all (λ x. empty x || p x) xs ≡ list_all p (filter (λ x. not (empty x)) xs)
 all-filled empty p [] = refl
 all-filled empty p (x ∷ xs) = go (empty x) (all-filled empty p xs)

@@ -20,5 +20,5 @@ pub record AreKept (components : List Component) : Type 0 where
   pub indexed : AllByRecursion IsIndexed components
 
 -- the components of these rows, with what the tables keep
-abbrev pub IsRead : List Line → List Component → Type 0
-IsRead lines components = (map component_text components ≡ components_in lines) × AreKept components
+abbrev pub GiveComponents : List Line → List Component → Type 0
+GiveComponents lines components = (map component_text components ≡ components_in lines) × AreKept components

@@ -7,7 +7,7 @@ use Rattle.table_rows.specs.Texts.{Text, is_empty, is_name}
 use Rattle.event_tables.specs.Tables.{ComponentText, CounterText, EventText, MaskText, same_name}
 use Rattle.event_tables.specs.Lines.{Line, skipped, bad, component, counter, event, umask}
 use Rattle.event_tables.specs.Unit.{modifier_words}
-use Rattle.event_tables.specs.declared.limits.TheConstants.{MOST_COMPONENTS, MOST_COUNTERS, MOST_EVENTS, MOST_UMASKS}
+use Rattle.event_tables.specs.declared.limits.TheConstants.{MOST_COMPONENTS, MOST_COMPONENT_EVENTS, MOST_COUNTERS, MOST_UMASKS}
 
 -- no item repeats an earlier one
 abbrev pub NoRepeats : {X : Type 0} → (X → X → Bool) → List X → Type 0
@@ -26,7 +26,7 @@ pub record IsMask (m : MaskText) : Type 0 where
   pub no_modifier : AllByRecursion (λ w. same_name m.name w ≡ false) modifier_words
   pub byte : m.bits < 2 ^ 8
 
--- an event of a component with so many counters
+-- an event of a component with n counters
 pub record IsEvent (counters : ℕ) (e : EventText) : Type 0 where
   pub named : is_name e.name ≡ true
   pub byte : e.select < 2 ^ 8
@@ -42,7 +42,7 @@ pub record IsComponent (c : ComponentText) : Type 0 where
   pub named : is_name c.name ≡ true
   pub pmu_named : is_name c.pmu ≡ true
   pub few_counters : length c.counters ≤ MOST_COUNTERS
-  pub few_events : length c.events ≤ MOST_EVENTS
+  pub few_events : length c.events ≤ MOST_COMPONENT_EVENTS
   pub counters : AllByRecursion IsCounter c.counters
   pub counters_distinct : NoRepeats (λ (a b : CounterText). bytes_eq a.name b.name) c.counters
   pub events : AllByRecursion (IsEvent (length c.counters)) c.events

@@ -46,7 +46,7 @@ row_of_lower events lower = position_from (λ e. bytes_eq (str_to_ascii_lowercas
 abbrev pub event_of_lower : List ComponentText → ℕ → Text → Option ℕ
 event_of_lower tables comp lower = option_and_then (λ c. row_of_lower c.events lower) (slice_get tables comp)
 
--- the event in a row of a component, and a counter of a component, where there are such
+-- the event in a row of a component, and a counter of a component, if there are such
 abbrev pub event_at : List ComponentText → ℕ → ℕ → Option EventText
 event_at tables comp row = option_and_then (λ c. slice_get c.events row) (slice_get tables comp)
 

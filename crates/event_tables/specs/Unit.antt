@@ -14,7 +14,7 @@ use Rattle.event_tables.specs.declared.fault.RowCause.{RowCause}
 use Rattle.event_tables.specs.declared.fault.RowCause.TheVariants as cause
 use Rattle.table_rows.specs.declared.fault.RowFault.{RowFault}
 use Rattle.event_tables.specs.declared.tables.Tables.{Tables}
-use Rattle.event_tables.specs.declared.limits.TheConstants.{MOST_COMPONENTS, MOST_COUNTERS, MOST_EVENTS, MOST_UMASKS}
+use Rattle.event_tables.specs.declared.limits.TheConstants.{MOST_COMPONENTS, MOST_COMPONENT_EVENTS, MOST_COUNTERS, MOST_UMASKS}
 
 -- ---- the tables of some rows: each row under the row to which it belongs
 
@@ -26,7 +26,7 @@ counter_row name width fixed = record { name = name; width = unwrap_or width 0; 
 abbrev pub counter_place : List CounterText → Text → Option ℕ
 counter_place counters name = position_from (λ k. bytes_eq k.name name) 0 counters
 
--- the counter in a place as one bit of a set of counters, and no bit where the unit does not have it
+-- the counter in a place as one bit of a set of counters, and no bit if the unit does not have it
 abbrev pub place_bit : Option ℕ → ℕ
 place_bit None = 0
 place_bit (Some p) = 2 ^ p
@@ -59,7 +59,7 @@ counters_in (counter name width fixed ∷ rest) = counter_row name width fixed �
 counters_in (event name select names text ∷ rest) = counters_in rest
 counters_in (umask m ∷ rest) = counters_in rest
 
--- the events of the rows up to the next component, where `above` are the counters of the component above them
+-- the events of the rows up to the next component, if `above` are the counters of the component above them
 unfoldable pub events_in : List CounterText → List Line → List EventText
 events_in above [] = []
 events_in above (skipped ∷ rest) = events_in above rest
@@ -103,7 +103,7 @@ counter_cause above name width =
 -- why an EVENT row is refused in this component, if it is
 abbrev pub event_cause : ComponentText → Text → List Text → Option RowCause
 event_cause above name names =
-    if nat_le MOST_EVENTS (length above.events) then Some cause.OverLimit
+    if nat_le MOST_COMPONENT_EVENTS (length above.events) then Some cause.OverLimit
     else if list_any (λ e. same_name e.name name) above.events then Some cause.RepeatedName
     else if list_all (λ n. is_some (counter_place above.counters n)) names then None
     else Some cause.UnknownCounter
@@ -164,7 +164,7 @@ unit_fault bytes = first_fault row_cause [] (lines_of bytes)
 unfoldable pub unit_tables : List ℕ → List ComponentText
 unit_tables bytes = components_in (lines_of bytes)
 
--- the tables where no row is faulty, or the first fault, or out of memory
+-- the tables if no row is faulty, or the first fault, or out of memory
 abbrev pub ReadsUnit : Result Tables (RowFault RowCause) → List ℕ → Type 0
 ReadsUnit result bytes = ReadsTable (unit_fault bytes) (λ tables. tables ≡ unit_tables bytes) result
 

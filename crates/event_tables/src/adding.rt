@@ -7,10 +7,10 @@ ghost use Rattle.std.specs.Map.{update};
 ghost use Rattle.std.specs.Str.{bytes_eq, str_to_ascii_lowercase};
 ghost use Rattle.table_rows.specs.Texts.{Text, is_empty};
 ghost use Rattle.table_rows.specs.Tables.{TakesRow};
-ghost use Rattle.event_tables.specs.Index.{AreKept, IsIndexed, IsRead};
+ghost use Rattle.event_tables.specs.Index.{AreKept, GiveComponents, IsIndexed};
 ghost use Rattle.event_tables.specs.Kept.{IsLine};
 ghost use Rattle.event_tables.specs.Tables.{same_name};
-ghost use Rattle.event_tables.specs.declared.limits.TheConstants.{MOST_COUNTERS, MOST_EVENTS};
+ghost use Rattle.event_tables.specs.declared.limits.TheConstants.{MOST_COMPONENT_EVENTS, MOST_COUNTERS};
 ghost use Rattle.event_tables.specs.Lines as Lines;
 ghost use Rattle.event_tables.specs.Lines.{Line, line_of, row_line, words_of};
 ghost use Rattle.event_tables.specs.Steps as Steps;
@@ -24,9 +24,9 @@ use crate::fault::RowCause;
 use crate::row::{Flags, Row, row_of};
 use std::alloc::{AllocError, Global};
 use std::collections::HashMap;
-use table_rows::{ByteRecord, Refusal, TableKind};
+use table_rows::{ByteRecord, RowRefusal, TableKind};
 
-// A counter of this name as a bit, and 0 where there is none and where there is no name.
+// A counter of this name as a bit, and 0 if there is none and if there is no name.
 fn counter_bit(counters: &[Counter], name: &[u8]) -> u32
     requires { length counters.now ≤ MOST_COUNTERS }
     ensures { result ≡ (if is_empty name.now then 0
@@ -144,7 +144,7 @@ fn add_event(
     text: &str,
 ) -> Result<(), AllocError>
     requires few_counters { vec_len component.old.counters ≤ MOST_COUNTERS }
-    requires few_events { vec_len component.old.events ≤ MOST_EVENTS }
+    requires few_events { vec_len component.old.events ≤ MOST_COMPONENT_EVENTS }
     requires indexed { IsIndexed component.old }
     requires fresh { list_any
         (λ e. same_name e.name name.now) (map event_text component.old.events.items) ≡ false }
@@ -185,7 +185,7 @@ fn add_mask(
 // Adds a row of its own to a component.
 fn grow(alloc: Global, component: &mut Component, row: Row<'_>) -> Result<(), AllocError>
     requires few_counters { vec_len component.old.counters ≤ MOST_COUNTERS }
-    requires few_events { vec_len component.old.events ≤ MOST_EVENTS }
+    requires few_events { vec_len component.old.events ≤ MOST_COMPONENT_EVENTS }
     requires indexed { IsIndexed component.old }
     requires owned { CanGrow (row_line row) (component_text component.old) }
     ensures grown { OnOk result
@@ -253,7 +253,7 @@ fn add_row(
     alloc: Global,
     components: &mut Vec<Component>,
     row: Row<'_>,
-) -> Result<(), Refusal<RowCause>>
+) -> Result<(), RowRefusal<RowCause>>
     requires kept { AreKept components.old.items }
     requires line { IsLine (row_line row) }
     ensures adds { TakesRow (Unit.cause_in (map component_text components.old.items)
@@ -263,7 +263,7 @@ fn add_row(
     ensures indexed { OnOk result (AllByRecursion IsIndexed components.new.items) }
 {
     if let Some(cause) = cause_of(components.as_slice(), &row) {
-        return Err(Refusal::Cause(cause));
+        return Err(RowRefusal::Cause(cause));
     }
     put_row(alloc, components, row)?;
     Ok(())
@@ -283,7 +283,7 @@ impl TableKind for UnitRows {
 
     ghost cause = { λ _ above line. Unit.row_cause above line };
 
-    ghost gives = { λ _ lines components. IsRead lines components.items };
+    ghost gives = { λ _ lines components. GiveComponents lines components.items };
 
     fn no_rows(&self, alloc: Global) -> Result<Vec<Component>, AllocError> {
         Ok(Vec::new(alloc))
@@ -294,7 +294,7 @@ impl TableKind for UnitRows {
         alloc: Global,
         components: &mut Vec<Component>,
         row: &ByteRecord,
-    ) -> Result<(), Refusal<RowCause>> {
+    ) -> Result<(), RowRefusal<RowCause>> {
         add_row(alloc, components, row_of(row))
     }
 }

@@ -13,7 +13,7 @@ ghost use Rattle.std.specs.Str.{bytes_eq};
 
 use crate::component::{Component, Counter, UmaskRow};
 use crate::fault::RowCause;
-use crate::limits::{MOST_COMPONENTS, MOST_COUNTERS, MOST_EVENTS, MOST_UMASKS};
+use crate::limits::{MOST_COMPONENT_EVENTS, MOST_COMPONENTS, MOST_COUNTERS, MOST_UMASKS};
 use crate::lower_name::LowerName;
 use crate::row::{Flags, Row};
 
@@ -120,7 +120,7 @@ fn event_cause(above: &Component, name: &str, counters: &[u8]) -> Option<RowCaus
     ensures { result ≡ Unit.event_cause (component_text above.now) name.now
         (words_of counters.now) }
 {
-    if above.events.len() >= MOST_EVENTS {
+    if above.events.len() >= MOST_COMPONENT_EVENTS {
         return Some(RowCause::OverLimit);
     }
     if has_event(above, name) {
@@ -157,7 +157,7 @@ fn inner_mask_cause(above: &Component, name: &str, preset_choice: bool) -> Optio
     }
 }
 
-// The first cause of a row in the component to which it belongs, and `None` where it has none.
+// The first cause of a row in the component to which it belongs, and `None` if it has none.
 fn inner_cause(above: &Component, row: &Row<'_>) -> Option<RowCause>
     requires indexed { IsIndexed above.now }
     requires line { IsLine (row_line row.now) }
@@ -185,7 +185,7 @@ fn inner_cause(above: &Component, row: &Row<'_>) -> Option<RowCause>
     }
 }
 
-/// The first cause of a row, and `None` where it has none.
+/// The first cause of a row, and `None` if it has none.
 pub fn cause_of(above: &[Component], row: &Row<'_>) -> Option<RowCause>
     requires indexed { AllByRecursion IsIndexed above.now }
     requires line { IsLine (row_line row.now) }

@@ -14,7 +14,7 @@ mod unit;
 pub use crate::component::{Component, Counter, EventRow, UmaskRow};
 pub use crate::fault::{RowCause, TableFault, cause_text};
 pub use crate::limits::{
-    LONGEST_DESCRIPTION, MOST_COMPONENTS, MOST_COUNTERS, MOST_EVENTS, MOST_UMASKS,
+    LONGEST_DESCRIPTION, MOST_COMPONENT_EVENTS, MOST_COMPONENTS, MOST_COUNTERS, MOST_UMASKS,
 };
 pub use crate::lower_name::LowerName;
 pub use crate::tables::Tables;

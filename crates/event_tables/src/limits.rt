@@ -7,7 +7,7 @@ pub const MOST_COMPONENTS: usize = 16;
 pub const MOST_COUNTERS: usize = 32;
 
 /// The events of a component.
-pub const MOST_EVENTS: usize = 1024;
+pub const MOST_COMPONENT_EVENTS: usize = 1024;
 
 /// The umasks of an event.
 pub const MOST_UMASKS: usize = 16;

@@ -25,7 +25,7 @@ impl Model for LowerName {
 }
 
 impl LowerName {
-    /// Bytes that are a name in lower case, and `None` where they are not one.
+    /// Bytes that are a name in lower case, and `None` if they are not one.
     pub fn of(bytes: &[u8]) -> Option<LowerName>
         ensures { result ≡ (if is_name bytes.now then Some (str_to_ascii_lowercase bytes.now)
             else None) }

@@ -95,7 +95,7 @@ fn byte_of(bytes: &[u8]) -> Option<u8>
     }
 }
 
-// The width that a decimal number says, where it is in its range.
+// The width that a decimal number says, if it is in its range.
 fn width_of(bytes: &[u8]) -> Option<u8>
     ensures { result ≡ Texts.decimal_in LEAST_WIDTH MOST_WIDTH bytes.now }
 {
@@ -138,7 +138,7 @@ fn component_row<'r>(name: &'r [u8], pmu: &'r [u8]) -> Row<'r>
     }
 }
 
-// Whether a kind of counter is the fixed one, where it is a kind: `F` or `P`.
+// Whether a kind of counter is the fixed one, if it is a kind: `F` or `P`.
 fn fixed_of(kind: &[u8]) -> Option<bool>
     ensures { result ≡ (if bytes_eq kind.now (codes "F") then Some true
         else if bytes_eq kind.now (codes "P") then Some false else None) }

@@ -53,14 +53,14 @@ impl Tables {
         self.components.len() as u32
     }
 
-    /// The component in a place from 0, and `None` where there is none.
+    /// The component in a place from 0, and `None` if there is none.
     pub fn component(&self, i: u32) -> Option<&Component>
         ensures { option_map (λ c. component_text c.now) result ≡ slice_get self.now i }
     {
         self.components.as_slice().get(i as usize)
     }
 
-    /// The event in a row of a component, and `None` where there is none.
+    /// The event in a row of a component, and `None` if there is none.
     pub fn event(&self, comp: u32, row: u32) -> Option<&EventRow>
         ensures { option_map (λ e. event_text e.now) result ≡ Texts.event_at self.now comp row }
     {
@@ -70,7 +70,7 @@ impl Tables {
         }
     }
 
-    /// A counter of a component, and `None` where there is none.
+    /// A counter of a component, and `None` if there is none.
     pub fn counter(&self, comp: u32, c: u32) -> Option<&Counter>
         ensures { option_map (λ k. counter_text k.now) result ≡ Texts.counter_at self.now comp c }
     {
@@ -80,7 +80,7 @@ impl Tables {
         }
     }
 
-    /// The component of this name, without regard to ASCII case, and `None` where there is none.
+    /// The component of this name, without regard to ASCII case, and `None` if there is none.
     pub fn find_component(&self, name: &str) -> Option<u32>
         ensures { result ≡ Texts.component_of_name self.now name.now }
     {
@@ -90,7 +90,7 @@ impl Tables {
         }
     }
 
-    /// The row of the event of this name in a component, and `None` where there is none.
+    /// The row of the event of this name in a component, and `None` if there is none.
     pub fn find_event(&self, comp: u32, name: &LowerName) -> Option<u32>
         ensures { result ≡ Texts.event_of_lower self.now comp name.now }
     {

@@ -6,7 +6,7 @@ use Rattle.preset_csv.specs.Defs.{DefView, IsDef}
 use Rattle.listing_text.specs.NativeLists.{stands_in}
 use Rattle.listing_text.specs.PresetEvents.{kind_of}
 
--- a text stands in another one exactly where that is something, the text, and something
+-- a text stands in another one exactly if that is something, the text, and something
 abbrev pub StandsIn : Type 0
 StandsIn = (part text : List ℕ) → IsTrue (stands_in part text) ↔ HasSubslice text part
 

@@ -16,7 +16,7 @@ stands_in part (b ∷ rest) = starts_with nat_eq (b ∷ rest) part || stands_in 
 abbrev pub full_name : Text → EventText → Text
 full_name pmu event = pmu ++ (codes "::" ++ event.name)
 
--- the name contains the one text, where it is given, and does not contain the other, where that is given
+-- the name contains the one text, if it is given, and does not contain the other, if that is given
 abbrev pub is_chosen : Option Text → Option Text → Text → Bool
 is_chosen included excluded name =
     option_map_or (λ part. stands_in part name) included true && not (option_map_or (λ part. stands_in part name) excluded false)
@@ -25,7 +25,7 @@ is_chosen included excluded name =
 abbrev pub listed_events : Option Text → Option Text → ComponentText → List EventText
 listed_events included excluded component = filter (λ event. is_chosen included excluded (full_name component.pmu event)) component.events
 
--- the mark of the default umask, which an event has where its text names none
+-- the mark of the default umask, which an event has if its text names none
 abbrev pub default_mark : Bool → Text
 default_mark is_default = if is_default then codes " [default]" else []
 
@@ -37,7 +37,7 @@ umask_line umask = codes "  :" ++ (umask.name ++ (codes "  " ++ (umask.text ++ (
 abbrev pub umask_lines : Bool → List MaskText → Text
 umask_lines umasks masks = if umasks then flat_map umask_line masks else []
 
--- the name and the description of an event, and its umasks where they are listed
+-- the name and the description of an event, and its umasks if they are listed
 abbrev pub named_lines : Bool → Text → EventText → Text
 named_lines umasks name event = name ++ (codes "  " ++ (event.text ++ (10 ∷ umask_lines umasks event.masks)))
 

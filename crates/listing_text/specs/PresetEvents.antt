@@ -27,7 +27,7 @@ kind_of (rule.Postfix formula) = kind.Postfix
 abbrev pub type_line : Rule → Text
 type_line r = codes "Derived: " ++ (kind_text (kind_of r) ++ 10 ∷ [])
 
--- the line of a formula, where the rule has one
+-- the line of a formula, if the rule has one
 abbrev pub formula_line : Rule → Text
 formula_line rule.Plain = []
 formula_line rule.Sum = []

@@ -17,7 +17,7 @@ fn contains(name: &str, part: &str) -> bool
     name.contains(part)
 }
 
-// Which events are listed: those whose name contains the one text, where it is given, and does not contain the other, where that
+// Which events are listed: those whose name contains the one text, if it is given, and does not contain the other, if that
 // is given; and whether their umasks are.
 #[derive(Drop)]
 struct Selection<'a> {
@@ -68,7 +68,7 @@ fn push_umasks(text: &mut String, umasks: bool, masks: &[UmaskRow]) -> Result<()
     Ok(())
 }
 
-// Appends an event and, where they are listed, its umasks.
+// Appends an event and, if they are listed, its umasks.
 fn push_event(
     text: &mut String,
     name: &str,
@@ -152,11 +152,11 @@ fn push_components(
     Ok(total)
 }
 
-/// The list of the native events of a unit, as papi_native_avail(1) prints it: each component with its events and, where they
+/// The list of the native events of a unit, as papi_native_avail(1) prints it: each component with its events and, if they
 /// are asked for, their umasks, and how many events are listed.
 ///
-/// An event is listed where its name, `PMU::EVENT` as the tables spell it, contains the one text, where that is given, and
-/// does not contain the other, where that is given. The default umask is marked.
+/// An event is listed if its name, `PMU::EVENT` as the tables spell it, contains the one text, if that is given, and
+/// does not contain the other, if that is given. The default umask is marked.
 #[tactic(auto, unfolding(crate::specs::NativeLists::native_list))]
 pub fn native_list(
     alloc: Global,

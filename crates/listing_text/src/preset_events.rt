@@ -29,7 +29,7 @@ fn kind_of(rule: &Rule) -> Kind
     }
 }
 
-// Appends the line of a formula, where the rule has one.
+// Appends the line of a formula, if the rule has one.
 fn push_formula(text: &mut String, rule: &Rule) -> Result<(), AllocError>
     ensures { OnOk result (string_bytes text.new
         ≡ string_bytes text.old ++ PresetEvents.formula_line rule.now) }
@@ -66,7 +66,7 @@ fn push_derived(text: &mut String, tables: &Tables, derived: &Derived) -> Result
     Ok(())
 }
 
-// Appends whether the event in a row of the catalog is available, and what it derives where it is.
+// Appends whether the event in a row of the catalog is available, and what it derives if it is.
 fn push_availability(text: &mut String, catalog: &Catalog, row: u32) -> Result<(), AllocError>
     ensures { OnOk result (string_bytes text.new
         ≡ string_bytes text.old ++ PresetEvents.availability_lines catalog.now.tables
@@ -91,7 +91,7 @@ fn row_text(alloc: Global, catalog: &Catalog, row: u32) -> Result<String, AllocE
 }
 
 /// What papi_avail(1) prints of the preset of a symbol, or of the user event of a name: its name, its code, whether it is
-/// available, and then its type, its formula where it has one, and its native events by their canonical names.
+/// available, and then its type, its formula if it has one, and its native events by their canonical names.
 ///
 /// A name is compared exactly. Of one that is neither a symbol of the preset table nor a user event's it says that there is no
 /// such event.

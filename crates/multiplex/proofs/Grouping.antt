@@ -28,7 +28,7 @@ drop_at xs i x e = let one : suc i ≡ i + 1 = omega arith in let P : ℕ → Ty
   go (y ∷ xs) zero x e = let same : y ≡ x = cc in ap (λ z. z ∷ xs) same
   go (y ∷ xs) (suc i) x e = go xs i x e
 
--- one turn of the loop, where the place joins the last group
+-- one turn of the loop, if the place joins the last group
 pub turn_joins : (numbers group : List ℕ) (number i : ℕ) (masks all : List ℕ) (m : ℕ) → slice_get masks i ≡ Some m → is_assignable (group ++ m ∷ []) ≡ true
     → numbers ++ groups_from group number (drop i masks) ≡ all
     → (numbers ++ number ∷ []) ++ groups_from (group ++ m ∷ []) number (drop (i + 1) masks) ≡ all
@@ -39,7 +39,7 @@ turn_joins numbers group number i masks all m e fits h =
     ∙ (ap (λ xs. numbers ++ xs) (sym (ap step fits))
     ∙ (ap (λ xs. numbers ++ groups_from group number xs) (sym (drop_at masks i m e)) ∙ h))
 
--- and where it begins the next one
+-- and if it begins the next one
 pub turn_begins : (numbers group : List ℕ) (number i : ℕ) (masks all : List ℕ) (m : ℕ) → slice_get masks i ≡ Some m → is_assignable (group ++ m ∷ []) ≡ false
     → numbers ++ groups_from group number (drop i masks) ≡ all
     → (numbers ++ (number + 1) ∷ []) ++ groups_from (m ∷ []) (number + 1) (drop (i + 1) masks) ≡ all

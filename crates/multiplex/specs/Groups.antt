@@ -3,7 +3,7 @@
 use Rattle.std.specs.Prelude.{ℕ, ◌+◌, if◌then◌else◌, List, [], ◌∷◌, ◌++◌}
 use Rattle.counter_alloc.specs.Listing.{is_assignable}
 
--- The number of each place's group. A place joins the last group where that group with it is assignable, else it begins
+-- The number of each place's group. A place joins the last group if that group with it is assignable, else it begins
 -- the next one. `group` is the last one so far, and has the number `number`.
 abbrev pub groups_from : List ℕ → ℕ → List ℕ → List ℕ
 groups_from group number [] = []

@@ -7,7 +7,7 @@ use Rattle.counter_alloc.specs.Masks.{AreMasks}
 use Rattle.multiplex.specs.Groups.{groups}
 use Rattle.multiplex.specs.Turns.{Turns, active, estimate}
 
--- how many of the first n slices run the group, where there are so many groups
+-- how many of the first n slices run the group, if there are `count` groups
 abbrev pub slices_run : ℕ → ℕ → ℕ → ℕ
 slices_run count group n = count_by (λ s. (s % count) == group) (range_with_len 0 n)
 
@@ -24,11 +24,11 @@ ActiveInTurns = (t : Turns) (group total : ℕ) → 0 < t.slice → group < t.co
 abbrev pub ActiveWithin : Type 0
 ActiveWithin = (t : Turns) (group total : ℕ) → active t group total ≤ total
 
--- where all natives are in one group, it counts in every tick
+-- if all natives are in one group, it counts in every tick
 abbrev pub OneGroupActive : Type 0
 OneGroupActive = (t : Turns) (total : ℕ) → t.count ≡ 1 → active t 0 total ≡ total
 
--- where all natives are in one group, an estimate is the count itself
+-- if all natives are in one group, an estimate is the count itself
 abbrev pub OneGroupEstimate : Type 0
 OneGroupEstimate = (t : Turns) (count total : ℕ) → t.count ≡ 1 → (total ≡ 0 → count ≡ 0) → estimate count total (active t 0 total) ≡ count
 
@@ -47,18 +47,18 @@ AreLongest [] = Unit {0}
 AreLongest (part ∷ []) = is_assignable part ≡ true
 AreLongest (part ∷ next ∷ parts) = (is_assignable part ≡ true) × IsLong part next × AreLongest (next ∷ parts)
 
--- the number of its part for each place, where the first part has this number
+-- the number of its part for each place, if the first part has this number
 abbrev pub numbered : ℕ → List (List ℕ) → List ℕ
 numbered number [] = []
 numbered number (part ∷ parts) = replicate (length part) number ++ numbered (number + 1) parts
 
 -- the list in consecutive parts, each as long as it can be while assignable, and these numbers of theirs
-pub record IsCut (masks numbers : List ℕ) : Type 0 where
+pub record IsCutInGroups (masks numbers : List ℕ) : Type 0 where
   pub parts : List (List ℕ)
   pub whole : concat parts ≡ masks
   pub longest : AreLongest parts
   pub numbers_are : numbers ≡ numbered 0 parts
 
--- where each place has an allowed counter, the groups are these parts
+-- if each place has an allowed counter, the groups are these parts
 abbrev pub GroupsAreParts : Type 0
-GroupsAreParts = (masks : List ℕ) → AreMasks masks → All (λ mask. 0 < mask) masks → IsCut masks (groups masks)
+GroupsAreParts = (masks : List ℕ) → AreMasks masks → All (λ mask. 0 < mask) masks → IsCutInGroups masks (groups masks)

@@ -61,7 +61,7 @@ fn slice_of(kept: Slice, slice: u32, groups: u32, time: u64) -> Slice
     }
 }
 
-/// Adds a native event to the group's matching where it fits, and says whether it does.
+/// Adds a native event to the group's matching if it fits, and says whether it does.
 fn joins(group: &mut Matching, mask: u32) -> bool
     requires room { length group.old.allowed < MOST_SET_NATIVES }
     requires few { group.old.counters ≤ MOST_COUNTERS }
@@ -87,8 +87,8 @@ fn group_of_one(counters: u32, mask: u32) -> Matching
 }
 
 impl Rotation {
-    /// The groups of the native events, in their order, over a component with so many counters. A native event joins the
-    /// last group where all of that group can then have counters of their own, and else begins the next one. The time
+    /// The groups of the native events, in their order, over a component with n counters. A native event joins the
+    /// last group if all of that group can then have counters of their own, and else begins the next one. The time
     /// is 0.
     pub fn make(natives: &Natives, counters: u32, slice: u32) -> Rotation
         requires some { 0 < length natives.now }
@@ -193,8 +193,8 @@ impl Rotation {
     }
 }
 
-/// What a native event would have counted over `total` ticks, where it counted so much in the `active` ones, rounded
-/// down; 0 where none was active.
+/// What a native event would have counted over `total` ticks, if it counted so much in the `active` ones, rounded
+/// down; 0 if none was active.
 pub fn estimate(count: u64, total: u64, active: u64) -> u64
     requires within { active ≤ total }
     requires total { total < 2 ^ 32 }

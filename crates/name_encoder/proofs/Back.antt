@@ -12,7 +12,7 @@ use Rattle.papi_base.specs.declared.native.Mods.{Mods}
 use Rattle.papi_base.specs.declared.native.Native.{Native}
 use Rattle.name_encoder.specs.declared.fault.NameFault.{NameFault}
 use Rattle.name_encoder.specs.Split.{Split, attribute_of, split}
-use Rattle.name_encoder.specs.Names.{Found, Said, chosen, fault_from, found_from, mods_of, named_event, named_found, named_from, names, native_of, native_or, said_of, saids_of}
+use Rattle.name_encoder.specs.Names.{Found, SaidAttribute, chosen, fault_from, found_from, mods_of, named_event, named_found, named_from, names, native_of, native_or, said_of, saids_of}
 use Rattle.name_encoder.specs.Canonical.{ReadsBack, canonical}
 use Rattle.name_encoder.proofs.Bounds.{cmask-bound}
 use Rattle.name_encoder.proofs.Chosen.{Choice, choice-of, mods-own, named-own}
@@ -65,7 +65,7 @@ own-saids : (masks : List MaskText) (flags : List Bool) (mods : Mods) → AllByR
     → saids_of masks (chosen_words flags masks ++ mod_words mods) ≡ mask_saids 0 flags ++ mod_saids mods
 own-saids masks flags mods h d n =
     map-append (λ (a : Text). said_of masks (attribute_of a)) (chosen_words flags masks) (mod_words mods)
-    ∙ ap₂ (λ (x y : List Said). x ++ y) (words-said masks [] masks flags refl d h n) (mods-said masks mods h)
+    ∙ ap₂ (λ (x y : List SaidAttribute). x ++ y) (words-said masks [] masks flags refl d h n) (mods-said masks mods h)
 
 masks-lower : (k : ℕ) (flags : List Bool) → AllByRecursion (Lower 0) (mask_saids k flags)
 unfolding mask_saids
@@ -112,7 +112,7 @@ names-back tables text n t e = go (found_from (split text) 0 tables) refl e
     go None found q = cc q
     go (Some f) found q = judge (fault_from f.event.masks [] said) (chosen f.event.masks (named_from said 0 f.event.masks)) refl refl q
       where
-        said : List Said
+        said : List SaidAttribute
         said = saids_of f.event.masks (split text).attributes
 
         judge : (a : Option NameFault) (b : Option (List Bool)) → fault_from f.event.masks [] said ≡ a → chosen f.event.masks (named_from said 0 f.event.masks) ≡ b

@@ -8,7 +8,7 @@ use Rattle.std.specs.Str.Parse.{AllDigits, digits_value}
 use Rattle.std.proofs.lemmas.Bool.{and_parts, leb-true, ltb-true}
 use Rattle.std.proofs.lemmas.Int.Digits.{digits_value-lt}
 use Rattle.table_rows.specs.Texts.{Text, decimal_in, hex_in, is_decimal, is_hex_digit}
-use Rattle.name_encoder.specs.Names.{Said, cmask, cmask_value, means, modifier, set_to, value_of}
+use Rattle.name_encoder.specs.Names.{SaidAttribute, cmask, cmask_value, means, modifier, set_to, value_of}
 
 hex-digits : (t : Text) → list_all is_hex_digit t ≡ true → AllDigits 16 t
 hex-digits [] e = tt
@@ -58,10 +58,10 @@ value-bound (Some v) = go (starts_with nat_eq v (codes "0x"))
     go true = or-zero (hex_in 1 2 (drop 2 v)) (λ n e. hex-bound (drop 2 v) n e)
     go false = or-zero (decimal_in 0 255 v) (λ n e. decimal-bound v n e)
 
-pub cmask-bound : (said : List Said) → set_to said cmask < 256
+pub cmask-bound : (said : List SaidAttribute) → set_to said cmask < 256
 unfolding set_to
 cmask-bound said = go (find (means (modifier cmask)) said)
   where
-    go : (o : Option Said) → option_map_or (λ (s : Said). unwrap_or (value_of (modifier cmask) s.value) 0) o 0 < 256
+    go : (o : Option SaidAttribute) → option_map_or (λ (s : SaidAttribute). unwrap_or (value_of (modifier cmask) s.value) 0) o 0 < 256
     go None = omega arith
     go (Some s) = value-bound s.value

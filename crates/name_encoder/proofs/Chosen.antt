@@ -14,7 +14,7 @@ use Rattle.table_rows.specs.Texts.{Text}
 use Rattle.papi_base.specs.declared.native.Mods.{Mods}
 use Rattle.name_encoder.specs.declared.fault.NameFault.{NameFault}
 use Rattle.name_encoder.specs.declared.fault.NameFault.TheVariants as name_fault
-use Rattle.name_encoder.specs.Names.{Meaning, Modifier, Said, choices, chosen, clashes, cmask, edge, fault_from, flag_value}
+use Rattle.name_encoder.specs.Names.{Meaning, Modifier, SaidAttribute, choices, chosen, clashes, cmask, edge, fault_from, flag_value}
 use Rattle.name_encoder.specs.Names.{has_true, invert, kernel, mask, meaning_fault, means, mods_of, modifier, named_from}
 use Rattle.name_encoder.specs.Names.{names_alone, names_mask, rank, row_alone, said_fault, same_meaning, set_to, user, value_of}
 use Rattle.name_encoder.proofs.Faultless.{AllFlags, Combine, cmask-back}
@@ -39,7 +39,7 @@ unfolding mask_saids
 later-flags i k true flags le = rw (ne_eqb i k (λ e. absurd (omega (arith, e, le)))) refl
 later-flags i k false flags le = refl
 
-named-flags : (whole : List Said) (k : ℕ) (flags : List Bool) (masks : List MaskText) → length flags ≡ length masks
+named-flags : (whole : List SaidAttribute) (k : ℕ) (flags : List Bool) (masks : List MaskText) → length flags ≡ length masks
     → ((i : ℕ) → k ≤ i → list_any (means (mask i)) whole ≡ list_any (means (mask i)) (mask_saids k flags)) → named_from whole k masks ≡ flags
 unfolding named_from
 named-flags whole k [] [] n h = refl
@@ -50,7 +50,7 @@ named-flags whole k (b ∷ flags) (m ∷ masks) n h =
     (named-flags whole (k + 1) flags masks (omega arith) (λ i le. h i (omega (arith, le)) ∙ later-flags i k b flags le))
 
 -- modifiers name no umask
-mod-no-mask : (i : ℕ) (b : Bool) (m : Modifier) (v : Option Text) (rest : List Said) → list_any (means (mask i)) (said_if b m v ++ rest) ≡ list_any (means (mask i)) rest
+mod-no-mask : (i : ℕ) (b : Bool) (m : Modifier) (v : Option Text) (rest : List SaidAttribute) → list_any (means (mask i)) (said_if b m v ++ rest) ≡ list_any (means (mask i)) rest
 mod-no-mask i true m v rest = refl
 mod-no-mask i false m v rest = refl
 
@@ -73,17 +73,17 @@ named-own flags m masks n =
 
 -- ---- the modifiers of a canonical name
 
-find-masks : (m : Modifier) (k : ℕ) (flags : List Bool) (rest : List Said) → find (means (modifier m)) (mask_saids k flags ++ rest) ≡ find (means (modifier m)) rest
+find-masks : (m : Modifier) (k : ℕ) (flags : List Bool) (rest : List SaidAttribute) → find (means (modifier m)) (mask_saids k flags ++ rest) ≡ find (means (modifier m)) rest
 unfolding mask_saids
 find-masks m k [] rest = refl
 find-masks m k (true ∷ flags) rest = find-masks m (k + 1) flags rest
 find-masks m k (false ∷ flags) rest = find-masks m (k + 1) flags rest
 
-find-other : (m n : Modifier) (b : Bool) (v : Option Text) (rest : List Said) → (rank m == rank n) ≡ false → find (means (modifier m)) (said_if b n v ++ rest) ≡ find (means (modifier m)) rest
+find-other : (m n : Modifier) (b : Bool) (v : Option Text) (rest : List SaidAttribute) → (rank m == rank n) ≡ false → find (means (modifier m)) (said_if b n v ++ rest) ≡ find (means (modifier m)) rest
 find-other m n true v rest e = rw e refl
 find-other m n false v rest e = refl
 
-find-own : (m : Modifier) (b : Bool) (v : Option Text) (rest : List Said) → find (means (modifier m)) rest ≡ None
+find-own : (m : Modifier) (b : Bool) (v : Option Text) (rest : List SaidAttribute) → find (means (modifier m)) rest ≡ None
     → find (means (modifier m)) (said_if b m v ++ rest) ≡ (if b then Some (mod_said m v) else None)
 find-own m true v rest e = rw (eq-eqb (rank m) (rank m) refl) refl
 find-own m false v rest e = e
@@ -101,10 +101,10 @@ flag-set : (m : Modifier) (b : Bool) → value_of (modifier m) None ≡ Some 1
 flag-set m true e = rw e refl
 flag-set m false e = refl
 
-count-set : (n : ℕ) → n < 256 → option_map_or (λ (s : Said). unwrap_or (value_of (modifier cmask) s.value) 0) (if nat_lt 0 n then Some (mod_said cmask (Some (decimal n))) else None) 0 ≡ n
+count-set : (n : ℕ) → n < 256 → option_map_or (λ (s : SaidAttribute). unwrap_or (value_of (modifier cmask) s.value) 0) (if nat_lt 0 n then Some (mod_said cmask (Some (decimal n))) else None) 0 ≡ n
 count-set n lt = go (nat_lt 0 n) refl
   where
-    go : (b : Bool) → nat_lt 0 n ≡ b → option_map_or (λ (s : Said). unwrap_or (value_of (modifier cmask) s.value) 0) (if b then Some (mod_said cmask (Some (decimal n))) else None) 0 ≡ n
+    go : (b : Bool) → nat_lt 0 n ≡ b → option_map_or (λ (s : SaidAttribute). unwrap_or (value_of (modifier cmask) s.value) 0) (if b then Some (mod_said cmask (Some (decimal n))) else None) 0 ≡ n
     go true e = rw (cmask-back n lt) refl
     go false e = grind (arith, tests, e)
 
@@ -130,7 +130,7 @@ mods-own flags m lt =
 
 -- ---- faultless attributes: two umasks that they name can be combined
 
-abbrev pub Named : List Said → ℕ → Type 0
+abbrev pub Named : List SaidAttribute → ℕ → Type 0
 Named said i = list_any (means (mask i)) said ≡ true
 
 mask-meant : (i : ℕ) (o : Option Meaning) → option_map_or (same_meaning (mask i)) o false ≡ true → o ≡ Some (mask i)
@@ -138,14 +138,14 @@ mask-meant i None e = cc e
 mask-meant i (Some (mask j)) e = ap (λ (x : ℕ). Some (mask x)) (sym (eqb-true i j e))
 mask-meant i (Some (modifier m)) e = cc e
 
-named-mask : (said : List Said) (i : ℕ) → Named said i → list_any names_mask said ≡ true
+named-mask : (said : List SaidAttribute) (i : ℕ) → Named said i → list_any names_mask said ≡ true
 named-mask [] i e = cc e
 named-mask (s ∷ said) i e = elim (or_cases (means (mask i) s) (list_any (means (mask i)) said) e) [
   | inl t ↦ or_left (names_mask s) (list_any names_mask said) (rw (mask-meant i s.meaning t) refl)
   | inr t ↦ or_right (names_mask s) (list_any names_mask said) (named-mask said i t)
 ]
 
-none-alone : (masks : List MaskText) (said : List Said) (i : ℕ) → list_any (names_alone masks) said ≡ false → Named said i → row_alone masks i ≡ false
+none-alone : (masks : List MaskText) (said : List SaidAttribute) (i : ℕ) → list_any (names_alone masks) said ≡ false → Named said i → row_alone masks i ≡ false
 none-alone masks [] i f e = cc e
 none-alone masks (s ∷ said) i f e =
     let q = or_parts (names_alone masks s) (list_any (names_alone masks) said) f in
@@ -155,7 +155,7 @@ none-alone masks (s ∷ said) i f e =
     ]
 
 -- a faultless attribute that names a umask does not clash
-mask-clear : (masks : List MaskText) (above : List Said) (s : Said) (i : ℕ) → said_fault masks above s ≡ None → s.meaning ≡ Some (mask i) → clashes masks above s ≡ false
+mask-clear : (masks : List MaskText) (above : List SaidAttribute) (s : SaidAttribute) (i : ℕ) → said_fault masks above s ≡ None → s.meaning ≡ Some (mask i) → clashes masks above s ≡ false
 mask-clear masks above s i e is = go (list_any (means (mask i)) above) (is_none (value_of (mask i) s.value)) (clashes masks above s)
     (subst (λ (o : Option Meaning). option_map_or (meaning_fault masks above s) o (Some name_fault.Attr) ≡ None) is e)
   where
@@ -165,14 +165,14 @@ mask-clear masks above s i e is = go (list_any (means (mask i)) above) (is_none 
     go false false true q = cc q
     go false false false q = refl
 
-free-after : (masks : List MaskText) (above : List Said) (s : Said) (i j : ℕ) → said_fault masks above s ≡ None → s.meaning ≡ Some (mask j) → Named above i
+free-after : (masks : List MaskText) (above : List SaidAttribute) (s : SaidAttribute) (i j : ℕ) → said_fault masks above s ≡ None → s.meaning ≡ Some (mask j) → Named above i
     → list_any (names_alone masks) (above ++ s ∷ []) ≡ false
 free-after masks above s i j e is n =
     let clear = mask-clear masks above s j e is in
     let own : names_mask s ≡ true = rw is refl in
     rw (own, named-mask above i n) at clear
 
-combine-more : (masks : List MaskText) (above : List Said) (s : Said) → said_fault masks above s ≡ None → Combine masks (Named above) → Combine masks (Named (above ++ s ∷ []))
+combine-more : (masks : List MaskText) (above : List SaidAttribute) (s : SaidAttribute) → said_fault masks above s ≡ None → Combine masks (Named above) → Combine masks (Named (above ++ s ∷ []))
 combine-more masks above s e h i j ne ni nj = go (split i ni) (split j nj)
   where
     split : (x : ℕ) → Named (above ++ s ∷ []) x → (Named above x) ⊎ (s.meaning ≡ Some (mask x))
@@ -189,16 +189,16 @@ combine-more masks above s e h i j ne ni nj = go (split i ni) (split j nj)
         let same : i ≡ j = cc (sym a ∙ b) in
         cc (sym (eq-eqb i j same) ∙ ne)
 
-pub faultless-combine : (masks : List MaskText) (above rest : List Said) → fault_from masks above rest ≡ None → Combine masks (Named above) → Combine masks (Named (above ++ rest))
+pub faultless-combine : (masks : List MaskText) (above rest : List SaidAttribute) → fault_from masks above rest ≡ None → Combine masks (Named above) → Combine masks (Named (above ++ rest))
 unfolding fault_from
-faultless-combine masks above [] e h = subst (λ (t : List Said). Combine masks (Named t)) (sym (append-nil above)) h
+faultless-combine masks above [] e h = subst (λ (t : List SaidAttribute). Combine masks (Named t)) (sym (append-nil above)) h
 faultless-combine masks above (s ∷ rest) e h = go (said_fault masks above s) refl e (λ q p. faultless-combine masks (above ++ s ∷ []) rest q p)
   where
     go : (o : Option NameFault) → said_fault masks above s ≡ o → option_or o (fault_from masks (above ++ s ∷ []) rest) ≡ None
         → (fault_from masks (above ++ s ∷ []) rest ≡ None → Combine masks (Named (above ++ s ∷ [])) → Combine masks (Named ((above ++ s ∷ []) ++ rest)))
         → Combine masks (Named (above ++ s ∷ rest))
     go (Some f) o_is q more = cc q
-    go None o_is q more = subst (λ (t : List Said). Combine masks (Named t)) (append_assoc above (s ∷ []) rest) (more q (combine-more masks above s o_is h))
+    go None o_is q more = subst (λ (t : List SaidAttribute). Combine masks (Named t)) (append_assoc above (s ∷ []) rest) (more q (combine-more masks above s o_is h))
 
 -- ---- what may be chosen
 
@@ -210,12 +210,12 @@ pub record Choice (masks : List MaskText) (flags : List Bool) : Type 1 where
   pub len : length flags ≡ length masks
   pub again : chosen masks flags ≡ Some flags
 
-named-all : (said : List Said) (k : ℕ) (masks : List MaskText) → AllFlags (Named said) k (named_from said k masks)
+named-all : (said : List SaidAttribute) (k : ℕ) (masks : List MaskText) → AllFlags (Named said) k (named_from said k masks)
 unfolding AllFlags named_from
 named-all said k [] = tt
 named-all said k (m ∷ masks) = ((λ e. e), named-all said (k + 1) masks)
 
-named-length : (said : List Said) (k : ℕ) (masks : List MaskText) → length (named_from said k masks) ≡ length masks
+named-length : (said : List SaidAttribute) (k : ℕ) (masks : List MaskText) → length (named_from said k masks) ≡ length masks
 unfolding named_from
 named-length said k [] = refl
 named-length said k (m ∷ masks) = ap suc (named-length said (k + 1) masks)
@@ -249,7 +249,7 @@ one-default (m ∷ masks) zero (suc j) h ne a b = not-both m masks j h.0 a b
 one-default (m ∷ masks) (suc i) zero h ne a b = not-both m masks i h.0 b a
 one-default (m ∷ masks) (suc i) (suc j) h ne a b = one-default masks i j h.1 (ne_eqb i j (λ e. cc (sym (eq-eqb (suc i) (suc j) (ap suc e)) ∙ ne))) a b
 
-pub choice-of : (masks : List MaskText) (said : List Said) (flags : List Bool) → NoRepeats (λ (a b : MaskText). a.preset_choice && b.preset_choice) masks → fault_from masks [] said ≡ None
+pub choice-of : (masks : List MaskText) (said : List SaidAttribute) (flags : List Bool) → NoRepeats (λ (a b : MaskText). a.preset_choice && b.preset_choice) masks → fault_from masks [] said ≡ None
     → chosen masks (named_from said 0 masks) ≡ Some flags → Choice masks flags
 unfolding AllFlags
 choice-of [] said flags d e c =

@@ -14,8 +14,8 @@ use Rattle.name_encoder.specs.declared.fault.NameFault.{NameFault}
 use Rattle.name_encoder.specs.declared.fault.NameFault.TheVariants as name_fault
 use Rattle.name_encoder.specs.Split.{Split, split}
 use Rattle.name_encoder.specs.Names.{FitsShape, Found, allowed_with, chosen, fault_from, found_from, mods_of, named_event, named_found}
-use Rattle.name_encoder.specs.Names.{named_from, names, native_of, native_or, programmable, saids_of, Said}
-use Rattle.name_encoder.specs.declared.attribute.Given.{Given}
+use Rattle.name_encoder.specs.Names.{named_from, names, native_of, native_or, programmable, saids_of, SaidAttribute}
+use Rattle.name_encoder.specs.declared.attribute.Attributes.{Attributes}
 use Rattle.name_encoder.specs.Judged.{all_given, native_next, nothing}
 use Rattle.name_encoder.proofs.Judging.{named-given}
 use Rattle.name_encoder.proofs.Finds.{component-found, found-kept}
@@ -38,7 +38,7 @@ unfolding names
 names-found tables text s f is e = rw (← is, e) refl
 
 -- the code's steps, one after another
-pub encoded : (tables : List ComponentText) (text : Text) (s : Split) (f : Found) (r : Result Given NameFault) → s ≡ split text → found_from s 0 tables ≡ Some f → length f.event.masks ≤ 16
+pub encoded : (tables : List ComponentText) (text : Text) (s : Split) (f : Found) (r : Result Attributes NameFault) → s ≡ split text → found_from s 0 tables ≡ Some f → length f.event.masks ≤ 16
     → r ≡ all_given f.event.masks nothing (saids_of f.event.masks s.attributes) → native_next f r ≡ names tables text
 encoded tables text s f r is found le e = ap (native_next f) e ∙ named-given f s.attributes le ∙ sym (names-found tables text s f is found)
 
@@ -74,7 +74,7 @@ names-fit tables text n t e = go (found_from (split text) 0 tables) refl e
     go None found q = cc q
     go (Some f) found q = judge (fault_from f.event.masks [] said) (chosen f.event.masks (named_from said 0 f.event.masks)) q
       where
-        said : List Said
+        said : List SaidAttribute
         said = saids_of f.event.masks (split text).attributes
 
         judge : (a : Option NameFault) (b : Option (List Bool)) → native_or f (mods_of said) a b ≡ Ok n → FitsShape (shape_of tables) n

@@ -9,7 +9,7 @@ use Rattle.event_tables.specs.Tables.{MaskText}
 use Rattle.table_rows.specs.Texts.{Text, decimal_in, hex_in, is_decimal, is_numeral}
 use Rattle.table_rows.proofs.Texts.{all-append, all-map}
 use Rattle.papi_base.specs.declared.native.Mods.{Mods}
-use Rattle.name_encoder.specs.Names.{Meaning, Modifier, Said, clashes, cmask, cmask_value, edge, fault_from, flag_value, invert, kernel, mask, means}
+use Rattle.name_encoder.specs.Names.{Meaning, Modifier, SaidAttribute, clashes, cmask, cmask_value, edge, fault_from, flag_value, invert, kernel, mask, means}
 use Rattle.name_encoder.specs.Names.{modifier, names_alone, names_mask, rank, row_alone, said_fault, same_meaning, user, value_of}
 use Rattle.name_encoder.proofs.Saids.{mask_saids, mod_said, mod_saids, said_if}
 use Rattle.std.specs.Fmt.{digits}
@@ -17,7 +17,7 @@ use Rattle.std.specs.Fmt.{digits}
 -- ---- umasks
 
 -- it names a umask of a row below k, of which F holds
-pub record RowSaid (F : ℕ → Type 0) (k : ℕ) (s : Said) : Type 0 where
+pub record RowSaid (F : ℕ → Type 0) (k : ℕ) (s : SaidAttribute) : Type 0 where
   row : ℕ
   meaning_is : s.meaning ≡ Some (mask row)
   less : row < k
@@ -32,30 +32,30 @@ AllFlags F k (b ∷ flags) = (b ≡ true → F k) × AllFlags F (k + 1) flags
 abbrev pub Combine : List MaskText → (ℕ → Type 0) → Type 0
 Combine masks F = (i j : ℕ) → (i == j) ≡ false → F i → F j → row_alone masks i ≡ false
 
-row-more : (F : ℕ → Type 0) (k : ℕ) (s : Said) → RowSaid F k s → RowSaid F (k + 1) s
+row-more : (F : ℕ → Type 0) (k : ℕ) (s : SaidAttribute) → RowSaid F k s → RowSaid F (k + 1) s
 row-more F k s r = record { row = r.row; meaning_is = r.meaning_is; less = omega (arith, r.less); flagged = r.flagged }
 
-rows-more : (F : ℕ → Type 0) (k : ℕ) (above : List Said) → AllByRecursion (RowSaid F k) above → AllByRecursion (RowSaid F (k + 1)) above
+rows-more : (F : ℕ → Type 0) (k : ℕ) (above : List SaidAttribute) → AllByRecursion (RowSaid F k) above → AllByRecursion (RowSaid F (k + 1)) above
 rows-more F k above h = all-map (RowSaid F k) (RowSaid F (k + 1)) above (λ s r. row-more F k s r) h
 
 any-none : {X : Type 0} (p : X → Bool) (xs : List X) → AllByRecursion (λ x. p x ≡ false) xs → list_any p xs ≡ false
 any-none p [] h = refl
 any-none p (x ∷ xs) h = rw h.0 (any-none p xs h.1)
 
-row-other : (F : ℕ → Type 0) (k i : ℕ) (s : Said) → k ≤ i → RowSaid F k s → means (mask i) s ≡ false
+row-other : (F : ℕ → Type 0) (k i : ℕ) (s : SaidAttribute) → k ≤ i → RowSaid F k s → means (mask i) s ≡ false
 row-other F k i s le r =
     let ne : (i == r.row) ≡ false = ne_eqb i r.row (λ e. absurd (omega (arith, e, r.less, le))) in
     rw r.meaning_is ne
 
-row-free : (masks : List MaskText) (F : ℕ → Type 0) (k : ℕ) (s : Said) → Combine masks F → F k → RowSaid F k s → names_alone masks s ≡ false
+row-free : (masks : List MaskText) (F : ℕ → Type 0) (k : ℕ) (s : SaidAttribute) → Combine masks F → F k → RowSaid F k s → names_alone masks s ≡ false
 row-free masks F k s pairs flag r =
     let ne : (r.row == k) ≡ false = ne_eqb r.row k (λ e. absurd (omega (arith, e, r.less))) in
     rw r.meaning_is (pairs r.row k ne r.flagged flag)
 
-abbrev mask_said : ℕ → Said
+abbrev mask_said : ℕ → SaidAttribute
 mask_said k = record { meaning = Some (mask k); value = None }
 
-no-clash : (masks : List MaskText) (F : ℕ → Type 0) (above : List Said) (k : ℕ) → Combine masks F → AllByRecursion (RowSaid F k) above → F k → clashes masks above (mask_said k) ≡ false
+no-clash : (masks : List MaskText) (F : ℕ → Type 0) (above : List SaidAttribute) (k : ℕ) → Combine masks F → AllByRecursion (RowSaid F k) above → F k → clashes masks above (mask_said k) ≡ false
 no-clash masks F [] k pairs h flag = refl
 no-clash masks F (a ∷ above) k pairs h flag =
     let ne : (k == h.0.row) ≡ false = ne_eqb k h.0.row (λ e. absurd (omega (arith, e, h.0.less))) in
@@ -69,21 +69,21 @@ no-clash masks F (a ∷ above) k pairs h flag =
     and-false true = refl
     and-false false = refl
 
-mask-faultless : (masks : List MaskText) (F : ℕ → Type 0) (above : List Said) (k : ℕ) → Combine masks F → AllByRecursion (RowSaid F k) above → F k → said_fault masks above (mask_said k) ≡ None
+mask-faultless : (masks : List MaskText) (F : ℕ → Type 0) (above : List SaidAttribute) (k : ℕ) → Combine masks F → AllByRecursion (RowSaid F k) above → F k → said_fault masks above (mask_said k) ≡ None
 mask-faultless masks F above k pairs h flag =
     let apart : list_any (means (mask k)) above ≡ false = any-none (means (mask k)) above (all-map (RowSaid F k) (λ s. means (mask k) s ≡ false) above (λ s r. row-other F k k s (omega arith) r) h) in
     let free = no-clash masks F above k pairs h flag in
     rw (apart, free) refl
 
-pub masks-faultless : (masks : List MaskText) (F : ℕ → Type 0) (above : List Said) (k : ℕ) (flags : List Bool) (tail : List Said) → Combine masks F
+pub masks-faultless : (masks : List MaskText) (F : ℕ → Type 0) (above : List SaidAttribute) (k : ℕ) (flags : List Bool) (tail : List SaidAttribute) → Combine masks F
     → AllByRecursion (RowSaid F k) above → AllFlags F k flags
     → fault_from masks above (mask_saids k flags ++ tail) ≡ fault_from masks (above ++ mask_saids k flags) tail
 unfolding AllFlags mask_saids fault_from
-masks-faultless masks F above k [] tail pairs h a = ap (λ (t : List Said). fault_from masks t tail) (sym (append-nil above))
+masks-faultless masks F above k [] tail pairs h a = ap (λ (t : List SaidAttribute). fault_from masks t tail) (sym (append-nil above))
 masks-faultless masks F above k (true ∷ flags) tail pairs h a =
     let own : RowSaid F (k + 1) (mask_said k) = record { row = k; meaning_is = refl; less = omega arith; flagged = a.0 refl } in
     let more = masks-faultless masks F (above ++ mask_said k ∷ []) (k + 1) flags tail pairs (all-append (RowSaid F (k + 1)) above (mask_said k ∷ []) (rows-more F k above h) (own, tt)) a.1 in
-    rw (mask-faultless masks F above k pairs h (a.0 refl)) (more ∙ ap (λ (t : List Said). fault_from masks t tail) (append_assoc above (mask_said k ∷ []) (mask_saids (k + 1) flags)))
+    rw (mask-faultless masks F above k pairs h (a.0 refl)) (more ∙ ap (λ (t : List SaidAttribute). fault_from masks t tail) (append_assoc above (mask_said k ∷ []) (mask_saids (k + 1) flags)))
 masks-faultless masks F above k (false ∷ flags) tail pairs h a = masks-faultless masks F above (k + 1) flags tail pairs (rows-more F k above h) a.1
 
 -- ---- modifiers
@@ -94,7 +94,7 @@ lower_at r None = ⊥
 lower_at r (Some (mask row)) = ⊤
 lower_at r (Some (modifier m)) = rank m < r
 
-abbrev pub Lower : ℕ → Said → Type 0
+abbrev pub Lower : ℕ → SaidAttribute → Type 0
 Lower r s = lower_at r s.meaning
 
 lower-other : (m : Modifier) (o : Option Meaning) → lower_at (rank m) o → option_map_or (same_meaning (modifier m)) o false ≡ false
@@ -107,18 +107,18 @@ lower-more r None h = h
 lower-more r (Some (mask row)) h = h
 lower-more r (Some (modifier n)) h = omega (arith, h)
 
-mod-faultless : (masks : List MaskText) (above : List Said) (m : Modifier) (v : Option Text) → is_none (value_of (modifier m) v) ≡ false
+mod-faultless : (masks : List MaskText) (above : List SaidAttribute) (m : Modifier) (v : Option Text) → is_none (value_of (modifier m) v) ≡ false
     → AllByRecursion (Lower (rank m)) above → said_fault masks above (mod_said m v) ≡ None
 mod-faultless masks above m v e h =
     let apart : list_any (means (modifier m)) above ≡ false = any-none (means (modifier m)) above
     (all-map (Lower (rank m)) (λ s. means (modifier m) s ≡ false) above (λ s l. lower-other m s.meaning l) h) in
     rw (apart, e) refl
 
-pub record ModStep (masks : List MaskText) (above : List Said) (b : Bool) (m : Modifier) (v : Option Text) (rest : List Said) : Type 0 where
+pub record ModStep (masks : List MaskText) (above : List SaidAttribute) (b : Bool) (m : Modifier) (v : Option Text) (rest : List SaidAttribute) : Type 0 where
   same : fault_from masks above (said_if b m v ++ rest) ≡ fault_from masks (above ++ said_if b m v) rest
   more : AllByRecursion (Lower (rank m + 1)) (above ++ said_if b m v)
 
-mod-step : (masks : List MaskText) (above : List Said) (b : Bool) (m : Modifier) (v : Option Text) (rest : List Said) → (b ≡ true → is_none (value_of (modifier m) v) ≡ false)
+mod-step : (masks : List MaskText) (above : List SaidAttribute) (b : Bool) (m : Modifier) (v : Option Text) (rest : List SaidAttribute) → (b ≡ true → is_none (value_of (modifier m) v) ≡ false)
     → AllByRecursion (Lower (rank m)) above → ModStep masks above b m v rest
 unfolding fault_from
 mod-step masks above true m v rest e h =
@@ -126,7 +126,7 @@ mod-step masks above true m v rest e h =
     record { same = rw (mod-faultless masks above m v (e refl) h) refl; more = all-append (Lower (rank m + 1)) above (mod_said m v ∷ []) wider (omega arith, tt) }
 mod-step masks above false m v rest e h =
     let wider = all-map (Lower (rank m)) (Lower (rank m + 1)) above (λ s l. lower-more (rank m) s.meaning l) h in
-    record { same = ap (λ (t : List Said). fault_from masks t rest) (sym (append-nil above)); more = subst (AllByRecursion (Lower (rank m + 1))) (sym (append-nil above)) wider }
+    record { same = ap (λ (t : List SaidAttribute). fault_from masks t rest) (sym (append-nil above)); more = subst (AllByRecursion (Lower (rank m + 1))) (sym (append-nil above)) wider }
 
 -- the text of a counter mask reads back
 abbrev reads_back : ℕ → Bool
@@ -143,7 +143,7 @@ all-read = refl
 pub cmask-back : (n : ℕ) → n < 256 → cmask_value (Some (decimal n)) ≡ Some n
 cmask-back n lt = some-is n (cmask_value (Some (decimal n))) (agree_below_at reads_back (λ k. true) 256 n all-read lt)
 
-pub mods-faultless : (masks : List MaskText) (above : List Said) (m : Mods) → m.cmask < 256 → AllByRecursion (Lower 0) above → fault_from masks above (mod_saids m) ≡ None
+pub mods-faultless : (masks : List MaskText) (above : List SaidAttribute) (m : Mods) → m.cmask < 256 → AllByRecursion (Lower 0) above → fault_from masks above (mod_saids m) ≡ None
 unfolding fault_from flag_value
 mods-faultless masks above m lt h =
     let tail = said_if (nat_lt 0 m.cmask) cmask (Some (decimal m.cmask)) in

@@ -13,10 +13,10 @@ use Rattle.std.specs.Option.{option_map_or, option_or}
 use Rattle.table_rows.specs.Texts.{Text}
 use Rattle.event_tables.specs.Tables.{MaskText}
 use Rattle.papi_base.specs.declared.native.Mods.{Mods}
-use Rattle.name_encoder.specs.declared.attribute.Given.{Given}
+use Rattle.name_encoder.specs.declared.attribute.Attributes.{Attributes}
 use Rattle.name_encoder.specs.declared.fault.NameFault.{NameFault}
 use Rattle.name_encoder.specs.declared.fault.NameFault.TheVariants as name_fault
-use Rattle.name_encoder.specs.Names.{Found, Meaning, Modifier, Said, chosen, clashes, cmask, edge, fault_from, invert, is_set}
+use Rattle.name_encoder.specs.Names.{Found, Meaning, Modifier, SaidAttribute, chosen, clashes, cmask, edge, fault_from, invert, is_set}
 use Rattle.name_encoder.specs.Names.{kernel, mask, meaning_of, means, mods_of, modifier, named_event, named_from, names_alone}
 use Rattle.name_encoder.specs.Names.{names_mask, native_or, rank, row_alone, said_fault, saids_of, set_to, user, value_of}
 use Rattle.name_encoder.specs.Split.{attribute_of}
@@ -24,14 +24,14 @@ use Rattle.name_encoder.proofs.Steps.{meaning-row}
 use Rattle.name_encoder.specs.Judged.{all_given, flags_given, given_next, is_named, mask_given, mods_given, modifier_given, native_chosen}
 use Rattle.name_encoder.specs.Judged.{native_next, nothing, said_given, value_given, with_mask, with_value}
 
-abbrev said : Option Meaning → Option Text → Said
+abbrev said : Option Meaning → Option Text → SaidAttribute
 said o v = record { meaning = o; value = v }
 
--- what the attributes give a modifier, where they name it
-abbrev given_of : List Said → Modifier → Option ℕ
+-- what the attributes give a modifier, if they name it
+abbrev given_of : List SaidAttribute → Modifier → Option ℕ
 given_of xs m = option_map (λ s. unwrap_or (value_of (modifier m) s.value) 0) (find (means (modifier m)) xs)
 
-pub record IsGiven (masks : List MaskText) (xs : List Said) (g : Given) : Type 0 where
+pub record AreSaid (masks : List MaskText) (xs : List SaidAttribute) (g : Attributes) : Type 0 where
   pub room : length g.named ≡ 16
   pub named : flags_given masks g ≡ named_from xs 0 masks
   pub some : g.some ≡ list_any names_mask xs
@@ -56,7 +56,7 @@ no-values edge = refl
 no-values invert = refl
 no-values cmask = refl
 
-nothing-given : (masks : List MaskText) → length masks ≤ 16 → IsGiven masks [] nothing
+nothing-given : (masks : List MaskText) → length masks ≤ 16 → AreSaid masks [] nothing
 nothing-given masks le = record { room = refl; named = none-named 0 masks nothing.named (omega (arith, le)) all-false; some = refl; alone = refl; values = no-values }
 
 -- ---- one more
@@ -69,17 +69,17 @@ or-true : (b : Bool) → (b || true) ≡ true
 or-true true = refl
 or-true false = refl
 
-any-more : (p : Said → Bool) (xs : List Said) (s : Said) → list_any p (xs ++ s ∷ []) ≡ (list_any p xs || p s)
+any-more : (p : SaidAttribute → Bool) (xs : List SaidAttribute) (s : SaidAttribute) → list_any p (xs ++ s ∷ []) ≡ (list_any p xs || p s)
 any-more p xs s = list_any-append p xs (s ∷ []) ∙ ap (λ (b : Bool). list_any p xs || b) (or-false (p s))
 
-find-more : (p : Said → Bool) (xs : List Said) (s : Said) → find p (xs ++ s ∷ []) ≡ option_or (find p xs) (if p s then Some s else None)
+find-more : (p : SaidAttribute → Bool) (xs : List SaidAttribute) (s : SaidAttribute) → find p (xs ++ s ∷ []) ≡ option_or (find p xs) (if p s then Some s else None)
 find-more p xs s = find-append p xs (s ∷ [])
 
 or-none : {X : Type 0} (o : Option X) → option_or o None ≡ o
 or-none None = refl
 or-none (Some x) = refl
 
-found-any : (p : Said → Bool) (f : Said → ℕ) (xs : List Said) → is_some (option_map f (find p xs)) ≡ list_any p xs
+found-any : (p : SaidAttribute → Bool) (f : SaidAttribute → ℕ) (xs : List SaidAttribute) → is_some (option_map f (find p xs)) ≡ list_any p xs
 found-any p f [] = refl
 found-any p f (x ∷ xs) = go (p x) (found-any p f xs)
   where
@@ -93,7 +93,7 @@ none-of (Some x) e = cc e
 
 -- ---- the flags of named umasks
 
-named-at : (xs : List Said) (k i j : ℕ) (masks : List MaskText) → j ≡ k + i → i < length masks → slice_get (named_from xs k masks) i ≡ Some (list_any (means (mask j)) xs)
+named-at : (xs : List SaidAttribute) (k i j : ℕ) (masks : List MaskText) → j ≡ k + i → i < length masks → slice_get (named_from xs k masks) i ≡ Some (list_any (means (mask j)) xs)
 unfolding named_from
 named-at xs k i j [] e lt = absurd (omega (arith, lt))
 named-at xs k zero j (m ∷ masks) e lt = ap (λ (x : ℕ). Some (list_any (means (mask x)) xs)) (omega (arith, e))
@@ -106,7 +106,7 @@ get-take (b ∷ flags) (suc n) zero lt = refl
 get-take (b ∷ flags) (suc n) (suc i) lt = get-take flags n i (omega (arith, lt))
 
 -- a umask of an earlier row, or a modifier, names none of these
-named-other : (xs : List Said) (o : Option Meaning) (v : Option Text) (k : ℕ) (masks : List MaskText) → ((i : ℕ) → k ≤ i → means (mask i) (said o v) ≡ false)
+named-other : (xs : List SaidAttribute) (o : Option Meaning) (v : Option Text) (k : ℕ) (masks : List MaskText) → ((i : ℕ) → k ≤ i → means (mask i) (said o v) ≡ false)
     → named_from xs k masks ≡ named_from (xs ++ said o v ∷ []) k masks
 unfolding named_from
 named-other xs o v k [] h = refl
@@ -115,7 +115,7 @@ named-other xs o v k (m ∷ masks) h =
     (sym (any-more (means (mask k)) xs (said o v) ∙ ap (λ (b : Bool). list_any (means (mask k)) xs || b) (h k (omega arith)) ∙ or-false _))
     (named-other xs o v (k + 1) masks (λ i le. h i (omega (arith, le))))
 
-named-set : (xs : List Said) (v : Option Text) (k i j : ℕ) (masks : List MaskText) → j ≡ k + i → i < length masks
+named-set : (xs : List SaidAttribute) (v : Option Text) (k i j : ℕ) (masks : List MaskText) → j ≡ k + i → i < length masks
     → set (named_from xs k masks) i true ≡ named_from (xs ++ said (Some (mask j)) v ∷ []) k masks
 unfolding named_from
 named-set xs v k i j [] e lt = absurd (omega (arith, lt))
@@ -132,29 +132,29 @@ named-set xs v k (suc i) j (m ∷ masks) e lt =
 
 -- ---- what one more attribute does
 
-abbrev Says : List MaskText → List Said → Said → Result Given NameFault → Type 0
-Says masks xs s (Ok n) = (said_fault masks xs s ≡ None) × IsGiven masks (xs ++ s ∷ []) n
+abbrev Says : List MaskText → List SaidAttribute → SaidAttribute → Result Attributes NameFault → Type 0
+Says masks xs s (Ok n) = (said_fault masks xs s ≡ None) × AreSaid masks (xs ++ s ∷ []) n
 Says masks xs s (Err f) = said_fault masks xs s ≡ Some f
 
-mask-values : (g : Given) (row : ℕ) (a : Bool) (m : Modifier) → value_given (with_mask g row a) m ≡ value_given g m
+mask-values : (g : Attributes) (row : ℕ) (a : Bool) (m : Modifier) → value_given (with_mask g row a) m ≡ value_given g m
 mask-values g row a user = refl
 mask-values g row a kernel = refl
 mask-values g row a edge = refl
 mask-values g row a invert = refl
 mask-values g row a cmask = refl
 
-mask-more : (masks : List MaskText) (xs : List Said) (g : Given) (row : ℕ) (v : Option Text) → row < length masks → length masks ≤ 16 → IsGiven masks xs g
-    → IsGiven masks (xs ++ said (Some (mask row)) v ∷ []) (with_mask g row (row_alone masks row))
+mask-more : (masks : List MaskText) (xs : List SaidAttribute) (g : Attributes) (row : ℕ) (v : Option Text) → row < length masks → length masks ≤ 16 → AreSaid masks xs g
+    → AreSaid masks (xs ++ said (Some (mask row)) v ∷ []) (with_mask g row (row_alone masks row))
 mask-more masks xs g row v lt le h = record {
   room = length-set g.named row true ∙ h.room;
   named = take-set-lt (length masks) g.named row true lt ∙ ap (λ (bs : List Bool). set bs row true) h.named ∙ named-set xs v 0 row row masks (omega arith) lt;
   some = sym (any-more names_mask xs (said (Some (mask row)) v) ∙ or-true _);
   alone = ap (λ (b : Bool). b || row_alone masks row) h.alone ∙ sym (any-more (names_alone masks) xs (said (Some (mask row)) v));
   values = λ m. mask-values g row (row_alone masks row) m ∙ h.values m
-      ∙ sym (ap (λ (o : Option Said). option_map (λ s. unwrap_or (value_of (modifier m) s.value) 0) o) (find-more (means (modifier m)) xs (said (Some (mask row)) v) ∙ or-none _));
+      ∙ sym (ap (λ (o : Option SaidAttribute). option_map (λ s. unwrap_or (value_of (modifier m) s.value) 0) o) (find-more (means (modifier m)) xs (said (Some (mask row)) v) ∙ or-none _));
 }
 
-mask-judged : (masks : List MaskText) (xs : List Said) (g : Given) (row : ℕ) (v : Option Text) → row < length masks → length masks ≤ 16 → IsGiven masks xs g
+mask-judged : (masks : List MaskText) (xs : List SaidAttribute) (g : Attributes) (row : ℕ) (v : Option Text) → row < length masks → length masks ≤ 16 → AreSaid masks xs g
     → Says masks xs (said (Some (mask row)) v) (mask_given masks g row v)
 mask-judged masks xs g row v lt le h = go (is_named g row) (is_some v) (g.some && (g.alone || row_alone masks row)) refl refl refl
   where
@@ -177,7 +177,7 @@ mask-judged masks xs g row v lt le h = go (is_named g row) (is_some v) (g.some &
 
 -- ---- modifiers
 
-value-with : (g : Given) (m n : Modifier) (v : ℕ) → value_given (with_value g m v) n ≡ (if rank n == rank m then Some v else value_given g n)
+value-with : (g : Attributes) (m n : Modifier) (v : ℕ) → value_given (with_value g m v) n ≡ (if rank n == rank m then Some v else value_given g n)
 value-with g user user v = refl
 value-with g user kernel v = refl
 value-with g user edge v = refl
@@ -212,12 +212,12 @@ modifier-at (suc (suc (suc zero))) = invert
 modifier-at (suc (suc (suc (suc n)))) = cmask
 
 -- the other parts stay
-record Stays (g n : Given) : Type 0 where
+record Stays (g n : Attributes) : Type 0 where
   named : n.named ≡ g.named
   some : n.some ≡ g.some
   alone : n.alone ≡ g.alone
 
-stays : (g : Given) (m : Modifier) (v : ℕ) → Stays g (with_value g m v)
+stays : (g : Attributes) (m : Modifier) (v : ℕ) → Stays g (with_value g m v)
 stays g user v = record { named = refl; some = refl; alone = refl }
 stays g kernel v = record { named = refl; some = refl; alone = refl }
 stays g edge v = record { named = refl; some = refl; alone = refl }
@@ -238,14 +238,14 @@ none-found : {X : Type 0} (f : X → ℕ) (o : Option X) → is_some (option_map
 none-found f None e = refl
 none-found f (Some x) e = cc e
 
-value-more : (masks : List MaskText) (xs : List Said) (g : Given) (m : Modifier) (v : Option Text) (k : ℕ) → value_of (modifier m) v ≡ Some k → is_some (value_given g m) ≡ false → IsGiven masks xs g
+value-more : (masks : List MaskText) (xs : List SaidAttribute) (g : Attributes) (m : Modifier) (v : Option Text) (k : ℕ) → value_of (modifier m) v ≡ Some k → is_some (value_given g m) ≡ false → AreSaid masks xs g
     → (n : Modifier) → value_given (with_value g m k) n ≡ given_of (xs ++ said (Some (modifier m)) v ∷ []) n
 value-more masks xs g m v k is unseen h n = value-with g m n k ∙ go (rank n == rank m) refl
   where
-    of : Modifier → Said → ℕ
+    of : Modifier → SaidAttribute → ℕ
     of x s = unwrap_or (value_of (modifier x) s.value) 0
 
-    s : Said
+    s : SaidAttribute
     s = said (Some (modifier m)) v
 
     not-found : find (means (modifier m)) xs ≡ None
@@ -255,17 +255,17 @@ value-more masks xs g m v k is unseen h n = value-with g m n k ∙ go (rank n ==
     own =
         let here : (rank m == rank m) ≡ true = eq-eqb (rank m) (rank m) refl in
         let found : find (means (modifier m)) (xs ++ s ∷ []) ≡ Some s = find-more (means (modifier m)) xs s ∙ rw (not-found, here) refl in
-        sym (ap (λ (o : Option Said). option_map (of m) o) found ∙ ap (λ (o : Option ℕ). Some (unwrap_or o 0)) is)
+        sym (ap (λ (o : Option SaidAttribute). option_map (of m) o) found ∙ ap (λ (o : Option ℕ). Some (unwrap_or o 0)) is)
 
     go : (b : Bool) → (rank n == rank m) ≡ b → (if b then Some k else value_given g n) ≡ given_of (xs ++ s ∷ []) n
     go true e = subst (λ (x : Modifier). Some k ≡ given_of (xs ++ s ∷ []) x) (same-rank n m e) own
     go false e =
         let same : find (means (modifier n)) (xs ++ s ∷ []) ≡ find (means (modifier n)) xs = find-more (means (modifier n)) xs s ∙ rw e (or-none (find (means (modifier n)) xs)) in
-        h.values n ∙ sym (ap (λ (o : Option Said). option_map (of n) o) same)
+        h.values n ∙ sym (ap (λ (o : Option SaidAttribute). option_map (of n) o) same)
 
-modifier-more : (masks : List MaskText) (xs : List Said) (g : Given) (m : Modifier) (v : Option Text) (k : ℕ) → value_of (modifier m) v ≡ Some k
-    → is_some (value_given g m) ≡ false → IsGiven masks xs g
-    → IsGiven masks (xs ++ said (Some (modifier m)) v ∷ []) (with_value g m k)
+modifier-more : (masks : List MaskText) (xs : List SaidAttribute) (g : Attributes) (m : Modifier) (v : Option Text) (k : ℕ) → value_of (modifier m) v ≡ Some k
+    → is_some (value_given g m) ≡ false → AreSaid masks xs g
+    → AreSaid masks (xs ++ said (Some (modifier m)) v ∷ []) (with_value g m k)
 modifier-more masks xs g m v k is unseen h =
     let s = stays g m k in
     record {
@@ -276,7 +276,7 @@ modifier-more masks xs g m v k is unseen h =
       values = value-more masks xs g m v k is unseen h;
     }
 
-modifier-judged : (masks : List MaskText) (xs : List Said) (g : Given) (m : Modifier) (v : Option Text) → IsGiven masks xs g → Says masks xs (said (Some (modifier m)) v) (modifier_given g m v)
+modifier-judged : (masks : List MaskText) (xs : List SaidAttribute) (g : Attributes) (m : Modifier) (v : Option Text) → AreSaid masks xs g → Says masks xs (said (Some (modifier m)) v) (modifier_given g m v)
 modifier-judged masks xs g m v h = go (is_some (value_given g m)) (value_of (modifier m) v) refl refl
   where
     seen : is_some (value_given g m) ≡ list_any (means (modifier m)) xs
@@ -290,34 +290,34 @@ modifier-judged masks xs g m v h = go (is_some (value_given g m)) (value_of (mod
 
 -- ---- all of them
 
--- a umask's row is one of so many
+-- a umask's row is one of n
 abbrev Ranged : ℕ → Option Meaning → Type 0
 Ranged n None = ⊤
 Ranged n (Some (mask row)) = row < n
 Ranged n (Some (modifier m)) = ⊤
 
-judged : (masks : List MaskText) (xs : List Said) (g : Given) (o : Option Meaning) (v : Option Text) → Ranged (length masks) o → length masks ≤ 16 → IsGiven masks xs g
+judged : (masks : List MaskText) (xs : List SaidAttribute) (g : Attributes) (o : Option Meaning) (v : Option Text) → Ranged (length masks) o → length masks ≤ 16 → AreSaid masks xs g
     → Says masks xs (said o v) (said_given masks g (said o v))
 judged masks xs g None v r le h = refl
 judged masks xs g (Some (mask row)) v r le h = mask-judged masks xs g row v r le h
 judged masks xs g (Some (modifier m)) v r le h = modifier-judged masks xs g m v h
 
-abbrev AllSays : List MaskText → List Said → List Said → Result Given NameFault → Type 0
-AllSays masks xs rest (Ok n) = (fault_from masks xs rest ≡ None) × IsGiven masks (xs ++ rest) n
+abbrev AllSays : List MaskText → List SaidAttribute → List SaidAttribute → Result Attributes NameFault → Type 0
+AllSays masks xs rest (Ok n) = (fault_from masks xs rest ≡ None) × AreSaid masks (xs ++ rest) n
 AllSays masks xs rest (Err f) = fault_from masks xs rest ≡ Some f
 
-all-judged : (masks : List MaskText) (xs rest : List Said) (g : Given) → AllByRecursion (λ (s : Said). Ranged (length masks) s.meaning) rest → length masks ≤ 16 → IsGiven masks xs g
+all-judged : (masks : List MaskText) (xs rest : List SaidAttribute) (g : Attributes) → AllByRecursion (λ (s : SaidAttribute). Ranged (length masks) s.meaning) rest → length masks ≤ 16 → AreSaid masks xs g
     → AllSays masks xs rest (all_given masks g rest)
 unfolding all_given fault_from
-all-judged masks xs [] g r le h = (refl, subst (λ (t : List Said). IsGiven masks t g) (sym (append-nil xs)) h)
+all-judged masks xs [] g r le h = (refl, subst (λ (t : List SaidAttribute). AreSaid masks t g) (sym (append-nil xs)) h)
 all-judged masks xs (s ∷ rest) g r le h =
     go (said_given masks g s) (judged masks xs g s.meaning s.value r.0 le h) (λ n k. all-judged masks (xs ++ s ∷ []) rest n r.1 le k)
   where
-    carry : said_fault masks xs s ≡ None → (x : Result Given NameFault) → AllSays masks (xs ++ s ∷ []) rest x → AllSays masks xs (s ∷ rest) x
-    carry e (Ok n) p = (rw e p.0, subst (λ (t : List Said). IsGiven masks t n) (append_assoc xs (s ∷ []) rest) p.1)
+    carry : said_fault masks xs s ≡ None → (x : Result Attributes NameFault) → AllSays masks (xs ++ s ∷ []) rest x → AllSays masks xs (s ∷ rest) x
+    carry e (Ok n) p = (rw e p.0, subst (λ (t : List SaidAttribute). AreSaid masks t n) (append_assoc xs (s ∷ []) rest) p.1)
     carry e (Err f) p = rw e p
 
-    go : (x : Result Given NameFault) → Says masks xs s x → ((n : Given) → IsGiven masks (xs ++ s ∷ []) n → AllSays masks (xs ++ s ∷ []) rest (all_given masks n rest))
+    go : (x : Result Attributes NameFault) → Says masks xs s x → ((n : Attributes) → AreSaid masks (xs ++ s ∷ []) n → AllSays masks (xs ++ s ∷ []) rest (all_given masks n rest))
         → AllSays masks xs (s ∷ rest) (given_next (λ n. all_given masks n rest) x)
     go (Err f) e more = rw e refl
     go (Ok n) e more = carry e.0 (all_given masks n rest) (more n e.1)
@@ -327,24 +327,24 @@ ranged masks name None e = tt
 ranged masks name (Some (mask row)) e = meaning-row masks name row e
 ranged masks name (Some (modifier m)) e = tt
 
-all-ranged : (masks : List MaskText) (texts : List Text) → AllByRecursion (λ (s : Said). Ranged (length masks) s.meaning) (saids_of masks texts)
+all-ranged : (masks : List MaskText) (texts : List Text) → AllByRecursion (λ (s : SaidAttribute). Ranged (length masks) s.meaning) (saids_of masks texts)
 all-ranged masks [] = tt
 all-ranged masks (t ∷ texts) = (ranged masks (attribute_of t).name _ refl, all-ranged masks texts)
 
 -- ---- the native event
 
-set-given : (xs : List Said) (m : Modifier) → set_to xs m ≡ unwrap_or (given_of xs m) 0
+set-given : (xs : List SaidAttribute) (m : Modifier) → set_to xs m ≡ unwrap_or (given_of xs m) 0
 unfolding set_to
 set-given xs m = go (find (means (modifier m)) xs)
   where
-    go : (o : Option Said) → option_map_or (λ (s : Said). unwrap_or (value_of (modifier m) s.value) 0) o 0 ≡ unwrap_or (option_map (λ (s : Said). unwrap_or (value_of (modifier m) s.value) 0) o) 0
+    go : (o : Option SaidAttribute) → option_map_or (λ (s : SaidAttribute). unwrap_or (value_of (modifier m) s.value) 0) o 0 ≡ unwrap_or (option_map (λ (s : SaidAttribute). unwrap_or (value_of (modifier m) s.value) 0) o) 0
     go None = refl
     go (Some s) = refl
 
 mods : Bool → Bool → Bool → Bool → ℕ → Mods
 mods a b c d e = record { user = a; kernel = b; edge = c; invert = d; cmask = e }
 
-mods-given : (masks : List MaskText) (xs : List Said) (g : Given) → IsGiven masks xs g → mods_given g ≡ mods_of xs
+mods-given : (masks : List MaskText) (xs : List SaidAttribute) (g : Attributes) → AreSaid masks xs g → mods_given g ≡ mods_of xs
 mods-given masks xs g h =
     let set : (m : Modifier) → unwrap_or (value_given g m) 0 ≡ set_to xs m = λ m. ap (λ (o : Option ℕ). unwrap_or o 0) (h.values m) ∙ sym (set-given xs m) in
     let on : (m : Modifier) → nat_lt 0 (unwrap_or (value_given g m) 0) ≡ is_set xs m = λ m. ap (nat_lt 0) (set m) in
@@ -358,14 +358,14 @@ named-given f texts le = go (all_given masks nothing xs) (all-judged masks [] xs
     masks : List MaskText
     masks = f.event.masks
 
-    xs : List Said
+    xs : List SaidAttribute
     xs = saids_of masks texts
 
     choose : (m : Mods) (o : Option (List Bool)) → native_chosen f m o ≡ native_or f m None o
     choose m None = refl
     choose m (Some flags) = refl
 
-    go : (x : Result Given NameFault) → AllSays masks [] xs x → native_next f x ≡ named_event f xs
+    go : (x : Result Attributes NameFault) → AllSays masks [] xs x → native_next f x ≡ named_event f xs
     go (Err fault) e = rw e refl
     go (Ok g) e =
         ap₂ (λ (m : Mods) (flags : List Bool). native_chosen f m (chosen masks flags)) (mods-given masks xs g e.1) e.1.named

@@ -11,7 +11,7 @@ use Rattle.table_rows.specs.Texts.{Text}
 use Rattle.name_encoder.specs.Flags.{bits_of}
 use Rattle.papi_base.specs.declared.native.Mods.{Mods}
 use Rattle.name_encoder.specs.Split.{attribute_of, cut_at}
-use Rattle.name_encoder.specs.Names.{Modifier, Said, cmask, edge, invert, kernel, mask, meaning_of, modifier, modifier_of, said_of, saids_of, user}
+use Rattle.name_encoder.specs.Names.{Modifier, SaidAttribute, cmask, edge, invert, kernel, mask, meaning_of, modifier, modifier_of, said_of, saids_of, user}
 use Rattle.name_encoder.specs.Canonical.{masks_text, mods_text, text_if}
 use Rattle.name_encoder.proofs.Finds.{same-self}
 use Rattle.name_encoder.proofs.Splits.{attribute-word, name-signs, tail-append, tail_text}
@@ -72,18 +72,18 @@ mods-words m =
 
 -- ---- what the words say
 
-unfoldable pub mask_saids : ℕ → List Bool → List Said
+unfoldable pub mask_saids : ℕ → List Bool → List SaidAttribute
 mask_saids k [] = []
 mask_saids k (true ∷ flags) = record { meaning = Some (mask k); value = None } ∷ mask_saids (k + 1) flags
 mask_saids k (false ∷ flags) = mask_saids (k + 1) flags
 
-abbrev pub mod_said : Modifier → Option Text → Said
+abbrev pub mod_said : Modifier → Option Text → SaidAttribute
 mod_said m v = record { meaning = Some (modifier m); value = v }
 
-abbrev pub said_if : Bool → Modifier → Option Text → List Said
+abbrev pub said_if : Bool → Modifier → Option Text → List SaidAttribute
 said_if b m v = if b then mod_said m v ∷ [] else []
 
-abbrev pub mod_saids : Mods → List Said
+abbrev pub mod_saids : Mods → List SaidAttribute
 mod_saids m = said_if m.user user None ++ (said_if m.kernel kernel None ++ (said_if m.edge edge None ++ (said_if m.invert invert None ++ said_if (nat_lt 0 m.cmask) cmask (Some (decimal m.cmask)))))
 
 position-at : {X : Type 0} (p : X → Bool) (i n : ℕ) (above : List X) (m : X) (rest : List X) → n ≡ i + length above → AllByRecursion (λ x. p x ≡ false) above → p m ≡ true
@@ -120,7 +120,7 @@ words-said all above (m ∷ rest) [] is d h n = absurd (omega arith)
 words-said all above (m ∷ rest) (true ∷ flags) is d h n =
     let more = words-said all (above ++ m ∷ []) rest flags (is ∙ sym (append_assoc above (m ∷ []) rest)) d h.1 (omega arith) in
     let len : length (above ++ m ∷ []) ≡ length above + 1 = length-append above (m ∷ []) ∙ omega arith in
-    ap₂ (λ (x : Said) (xs : List Said). x ∷ xs) (mask-said all above rest m is d h.0) (subst (λ (k : ℕ). saids_of all (chosen_words flags rest) ≡ mask_saids k flags) len more)
+    ap₂ (λ (x : SaidAttribute) (xs : List SaidAttribute). x ∷ xs) (mask-said all above rest m is d h.0) (subst (λ (k : ℕ). saids_of all (chosen_words flags rest) ≡ mask_saids k flags) len more)
 words-said all above (m ∷ rest) (false ∷ flags) is d h n =
     let more = words-said all (above ++ m ∷ []) rest flags (is ∙ sym (append_assoc above (m ∷ []) rest)) d h.1 (omega arith) in
     let len : length (above ++ m ∷ []) ≡ length above + 1 = length-append above (m ∷ []) ∙ omega arith in
@@ -150,7 +150,7 @@ unfolding meaning_of
 own-meaning masks w m h e = rw (position-none (λ (x : MaskText). str_eq_ignore_ascii_case x.name w) 0 masks h, e) refl
 
 said-word : (masks : List MaskText) (b : Bool) (w : Text) (m : Modifier) (v : Option Text) → said_of masks (attribute_of w) ≡ mod_said m v → saids_of masks (word_if b w) ≡ said_if b m v
-said-word masks true w m v e = ap (λ (s : Said). s ∷ []) e
+said-word masks true w m v e = ap (λ (s : SaidAttribute). s ∷ []) e
 said-word masks false w m v e = refl
 
 pub mods-said : (masks : List MaskText) (m : Mods) → AllByRecursion IsMask masks → saids_of masks (mod_words m) ≡ mod_saids m

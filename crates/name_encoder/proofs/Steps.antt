@@ -6,7 +6,7 @@ use Rattle.std.specs.Str.{str_eq_ignore_ascii_case, str_to_ascii_lowercase}
 use Rattle.table_rows.specs.Texts.{Text}
 use Rattle.event_tables.specs.Tables.{MaskText}
 use Rattle.event_tables.proofs.Searches.{position_from-lt}
-use Rattle.name_encoder.specs.declared.attribute.Given.{Given}
+use Rattle.name_encoder.specs.declared.attribute.Attributes.{Attributes}
 use Rattle.name_encoder.specs.Split.{attribute_of}
 use Rattle.name_encoder.specs.Names as Names
 use Rattle.name_encoder.specs.Names.{mask_row, meaning_of, modifier_of, said_of, saids_of}
@@ -25,11 +25,11 @@ meaning-row masks name row e = go (mask_row masks name) (modifier_of (str_to_asc
     go None None is q = cc q
     go None (Some m) is q = cc q
 
-pub all-step : (masks : List MaskText) (g : Given) (parts : List Text) (a : Text) (more : List Text) → parts ≡ a ∷ more
+pub all-step : (masks : List MaskText) (g : Attributes) (parts : List Text) (a : Text) (more : List Text) → parts ≡ a ∷ more
     → all_given masks g (saids_of masks parts) ≡ given_next (λ n. all_given masks n (saids_of masks more)) (said_given masks g (said_of masks (attribute_of a)))
 unfolding all_given
 all-step masks g parts a more e = rw e refl
 
-pub all-done : (masks : List MaskText) (g : Given) → all_given masks g (saids_of masks []) ≡ Ok g
+pub all-done : (masks : List MaskText) (g : Attributes) → all_given masks g (saids_of masks []) ≡ Ok g
 unfolding all_given
 all-done masks g = refl

@@ -36,7 +36,7 @@ canonical tables n =
 abbrev pub ReadsBack : List ComponentText → Native → Type 0
 ReadsBack tables n = names tables (canonical tables n) ≡ Ok n
 
--- the layout of the event select register: user and kernel are both set where neither is asked for, bits 20 and 22 always
+-- the layout of the event select register: user and kernel are both set if neither is asked for, bits 20 and 22 always
 unfoldable pub code64 : Native → ℕ
 code64 n =
     let both = not (n.mods.user || n.mods.kernel) in

@@ -8,13 +8,13 @@ use Rattle.papi_base.specs.declared.native.Mods.{Mods}
 use Rattle.papi_base.specs.declared.native.Native.{Native}
 use Rattle.name_encoder.specs.declared.fault.NameFault.{NameFault}
 use Rattle.name_encoder.specs.declared.fault.NameFault.TheVariants as name_fault
-use Rattle.name_encoder.specs.declared.attribute.Given.{Given}
+use Rattle.name_encoder.specs.declared.attribute.Attributes.{Attributes}
 use Rattle.name_encoder.specs.declared.attribute.Meaning.{Meaning}
 use Rattle.name_encoder.specs.declared.attribute.Meaning.TheVariants as means_as
 use Rattle.name_encoder.specs.declared.attribute.Modifier.{Modifier}
 use Rattle.name_encoder.specs.declared.attribute.Modifier.TheVariants as modifier
 use Rattle.name_encoder.specs.Names as Names
-use Rattle.name_encoder.specs.Names.{Said, has_true, names_alone, names_mask, row_alone}
+use Rattle.name_encoder.specs.Names.{SaidAttribute, has_true, names_alone, names_mask, row_alone}
 
 -- ---- the code's kinds of meaning, as those of the definitions
 
@@ -33,8 +33,8 @@ meaning_text (means_as.Modifier m) = Names.modifier (modifier_text m)
 
 -- ---- one attribute more
 
--- what a modifier was given, where it was
-abbrev pub value_given : Given → Names.Modifier → Option ℕ
+-- what a modifier was given, if it was
+abbrev pub value_given : Attributes → Names.Modifier → Option ℕ
 value_given g Names.user = g.user
 value_given g Names.kernel = g.kernel
 value_given g Names.edge = g.edge
@@ -42,7 +42,7 @@ value_given g Names.invert = g.invert
 value_given g Names.cmask = g.cmask
 
 -- one modifier more has its value
-abbrev pub with_value : Given → Names.Modifier → ℕ → Given
+abbrev pub with_value : Attributes → Names.Modifier → ℕ → Attributes
 with_value g Names.user v = record g { user = Some v }
 with_value g Names.kernel v = record g { kernel = Some v }
 with_value g Names.edge v = record g { edge = Some v }
@@ -50,15 +50,15 @@ with_value g Names.invert v = record g { invert = Some v }
 with_value g Names.cmask v = record g { cmask = Some v }
 
 -- one umask more is named
-abbrev pub with_mask : Given → ℕ → Bool → Given
+abbrev pub with_mask : Attributes → ℕ → Bool → Attributes
 with_mask g row alone = record g { named = slice_set g.named row true; some = true; alone = g.alone || alone }
 
 -- the umask of this row was named before
-abbrev pub is_named : Given → ℕ → Bool
+abbrev pub is_named : Attributes → ℕ → Bool
 is_named g row = unwrap_or (slice_get g.named row) false
 
 -- one attribute more that is the umask of this row
-abbrev pub mask_given : List MaskText → Given → ℕ → Option Text → Result Given NameFault
+abbrev pub mask_given : List MaskText → Attributes → ℕ → Option Text → Result Attributes NameFault
 mask_given masks g row value =
     if is_named g row then Err name_fault.AttrSet
     else if is_some value then Err name_fault.AttrVal
@@ -66,32 +66,32 @@ mask_given masks g row value =
     else Ok (with_mask g row (row_alone masks row))
 
 -- one attribute more that is this modifier: each may be given once, with a value that it can have
-abbrev pub modifier_given : Given → Names.Modifier → Option Text → Result Given NameFault
+abbrev pub modifier_given : Attributes → Names.Modifier → Option Text → Result Attributes NameFault
 modifier_given g m value =
     if is_some (value_given g m) then Err name_fault.AttrSet
     else option_map_or (λ v. Ok (with_value g m v)) (Names.value_of (Names.modifier m) value) (Err name_fault.AttrVal)
 
 -- one attribute more that names this
-abbrev pub meaning_given : List MaskText → Given → Option Text → Names.Meaning → Result Given NameFault
+abbrev pub meaning_given : List MaskText → Attributes → Option Text → Names.Meaning → Result Attributes NameFault
 meaning_given masks g value (Names.mask row) = mask_given masks g row value
 meaning_given masks g value (Names.modifier m) = modifier_given g m value
 
 -- one attribute more
-abbrev pub said_given : List MaskText → Given → Said → Result Given NameFault
+abbrev pub said_given : List MaskText → Attributes → SaidAttribute → Result Attributes NameFault
 said_given masks g s = option_map_or (meaning_given masks g s.value) s.meaning (Err name_fault.Attr)
 
 -- the attributes after those that gave this
-abbrev pub given_next : (Given → Result Given NameFault) → Result Given NameFault → Result Given NameFault
+abbrev pub given_next : (Attributes → Result Attributes NameFault) → Result Attributes NameFault → Result Attributes NameFault
 given_next go (Ok g) = go g
 given_next go (Err f) = Err f
 
 -- all attributes, one by one
-unfoldable pub all_given : List MaskText → Given → List Said → Result Given NameFault
+unfoldable pub all_given : List MaskText → Attributes → List SaidAttribute → Result Attributes NameFault
 all_given masks g [] = Ok g
 all_given masks g (s ∷ rest) = given_next (λ n. all_given masks n rest) (said_given masks g s)
 
 -- nothing is given yet
-abbrev pub nothing : Given
+abbrev pub nothing : Attributes
 nothing = record {
   named = false ∷ false ∷ false ∷ false ∷ false ∷ false ∷ false ∷ false ∷ false ∷ false ∷ false ∷ false ∷ false ∷ false ∷ false ∷ false ∷ [];
   some = false;
@@ -110,11 +110,11 @@ abbrev pub is_on : Option ℕ → Bool
 is_on o = nat_lt 0 (unwrap_or o 0)
 
 -- the modifiers of the native event; a flag that was not given is off, and a counter mask that was not given is 0
-abbrev pub mods_given : Given → Mods
+abbrev pub mods_given : Attributes → Mods
 mods_given g = record { user = is_on g.user; kernel = is_on g.kernel; edge = is_on g.edge; invert = is_on g.invert; cmask = unwrap_or g.cmask 0 }
 
 -- the flags of the umasks that were named
-abbrev pub flags_given : List MaskText → Given → List Bool
+abbrev pub flags_given : List MaskText → Attributes → List Bool
 flags_given masks g = take (length masks) g.named
 
 -- the native event of a found event and of what its attributes give
@@ -123,10 +123,10 @@ native_chosen f mods None = Err name_fault.Umask
 native_chosen f mods (Some flags) = Ok (Names.native_of f flags mods)
 
 -- the native of the event with what all attributes give
-abbrev pub native_given : Names.Found → Given → Result Native NameFault
+abbrev pub native_given : Names.Found → Attributes → Result Native NameFault
 native_given f g = native_chosen f (mods_given g) (Names.chosen f.event.masks (flags_given f.event.masks g))
 
 -- that native, or the fault of an attribute
-abbrev pub native_next : Names.Found → Result Given NameFault → Result Native NameFault
+abbrev pub native_next : Names.Found → Result Attributes NameFault → Result Native NameFault
 native_next f (Ok g) = native_given f g
 native_next f (Err fault) = Err fault

@@ -38,7 +38,7 @@ event_from comp component name row (e ∷ rest) =
     if str_eq_ignore_ascii_case e.name name then Some (record { comp = comp; row = row; component = component; event = e })
     else event_from comp component name (row + 1) rest
 
--- the event in a component, where that agrees with the prefixes
+-- the event in a component, if that agrees with the prefixes
 abbrev pub choice : Split → ℕ → ComponentText → Option Found
 choice s comp c = if agrees s.comp c.name && agrees s.pmu c.pmu then event_from comp c s.event 0 c.events else None
 
@@ -99,16 +99,16 @@ meaning_of masks name =
     (option_map modifier (modifier_of (str_to_ascii_lowercase name)))
 
 -- what an attribute says: what it names, and with which value
-pub record Said : Type 0 where
+pub record SaidAttribute : Type 0 where
   pub meaning : Option Meaning
   pub value : Option Text
 
 -- what an attribute of an event says
-abbrev pub said_of : List MaskText → Attribute → Said
+abbrev pub said_of : List MaskText → Attribute → SaidAttribute
 said_of masks a = record { meaning = meaning_of masks a.name; value = a.value }
 
 -- it is of this meaning
-abbrev pub means : Meaning → Said → Bool
+abbrev pub means : Meaning → SaidAttribute → Bool
 means what s = option_map_or (same_meaning what) s.meaning false
 
 -- a umask is named
@@ -117,7 +117,7 @@ is_mask (mask row) = true
 is_mask (modifier m) = false
 
 -- the attribute names a umask
-abbrev pub names_mask : Said → Bool
+abbrev pub names_mask : SaidAttribute → Bool
 names_mask s = option_map_or is_mask s.meaning false
 
 -- the umask of a row cannot be combined
@@ -130,10 +130,10 @@ is_alone masks (mask row) = row_alone masks row
 is_alone masks (modifier m) = false
 
 -- the attribute names a umask that excludes all others
-abbrev pub names_alone : List MaskText → Said → Bool
+abbrev pub names_alone : List MaskText → SaidAttribute → Bool
 names_alone masks s = option_map_or (is_alone masks) s.meaning false
 
--- the value of a flag: `0`, `n` and `f`, or `1`, `y` and `t`, in either case, and 1 where none is given
+-- the value of a flag: `0`, `n` and `f`, or `1`, `y` and `t`, in either case, and 1 if none is given
 unfoldable pub flag_value : Option Text → Option ℕ
 flag_value None = Some 1
 flag_value (Some v) =
@@ -147,7 +147,7 @@ unfoldable pub cmask_value : Option Text → Option ℕ
 cmask_value None = None
 cmask_value (Some v) = if starts_with nat_eq v (codes "0x") then hex_in 1 2 (drop 2 v) else decimal_in 0 255 v
 
--- the value of an attribute that names this, or nothing where it is out of its form
+-- the value of an attribute that names this, or nothing if it is out of its form
 abbrev pub value_of : Meaning → Option Text → Option ℕ
 value_of (mask row) None = Some 1
 value_of (mask row) (Some v) = None
@@ -160,11 +160,11 @@ value_of (modifier cmask) v = cmask_value v
 -- ---- the faults of attributes
 
 -- it names a umask, as one before it does, and one of those named so far stands alone
-abbrev pub clashes : List MaskText → List Said → Said → Bool
+abbrev pub clashes : List MaskText → List SaidAttribute → SaidAttribute → Bool
 clashes masks above s = names_mask s && (list_any names_mask above && list_any (names_alone masks) (above ++ s ∷ []))
 
 -- why an attribute that names this is refused after those above, if it is
-abbrev pub meaning_fault : List MaskText → List Said → Said → Meaning → Option NameFault
+abbrev pub meaning_fault : List MaskText → List SaidAttribute → SaidAttribute → Meaning → Option NameFault
 meaning_fault masks above s what =
     if list_any (means what) above then Some name_fault.AttrSet
     else if is_none (value_of what s.value) then Some name_fault.AttrVal
@@ -172,18 +172,18 @@ meaning_fault masks above s what =
     else None
 
 -- the first check that fails of an attribute in view of those before it
-abbrev pub said_fault : List MaskText → List Said → Said → Option NameFault
+abbrev pub said_fault : List MaskText → List SaidAttribute → SaidAttribute → Option NameFault
 said_fault masks above s = option_map_or (meaning_fault masks above s) s.meaning (Some name_fault.Attr)
 
 -- the fault of the first attribute below `above` that has one in view of those before it
-unfoldable pub fault_from : List MaskText → List Said → List Said → Option NameFault
+unfoldable pub fault_from : List MaskText → List SaidAttribute → List SaidAttribute → Option NameFault
 fault_from masks above [] = None
 fault_from masks above (s ∷ rest) = option_or (said_fault masks above s) (fault_from masks (above ++ s ∷ []) rest)
 
 -- ---- the native of faultless attributes
 
 -- for each umask from a row on, whether an attribute names it
-unfoldable pub named_from : List Said → ℕ → List MaskText → List Bool
+unfoldable pub named_from : List SaidAttribute → ℕ → List MaskText → List Bool
 named_from said row [] = []
 named_from said row (m ∷ rest) = list_any (means (mask row)) said ∷ named_from said (row + 1) rest
 
@@ -195,7 +195,7 @@ has_true flags = list_any (λ b. b) flags
 abbrev pub choices : List MaskText → List Bool
 choices masks = map (λ m. m.preset_choice) masks
 
--- the umasks that are named, else the default one; None where the event has umasks and there is neither
+-- the umasks that are named, else the default one; None if the event has umasks and there is neither
 abbrev pub chosen : List MaskText → List Bool → Option (List Bool)
 chosen [] named = Some []
 chosen (m ∷ rest) named =
@@ -209,16 +209,16 @@ values_of [] masks = 0
 values_of (b ∷ flags) [] = 0
 values_of (b ∷ flags) (m ∷ masks) = bit_or (if b then m.bits else 0) (values_of flags masks)
 
--- the value that the attributes give a modifier, and 0 where they do not name it
-unfoldable pub set_to : List Said → Modifier → ℕ
+-- the value that the attributes give a modifier, and 0 if they do not name it
+unfoldable pub set_to : List SaidAttribute → Modifier → ℕ
 set_to said m = option_map_or (λ s. unwrap_or (value_of (modifier m) s.value) 0) (find (means (modifier m)) said) 0
 
 -- the modifier has a value above 0
-abbrev pub is_set : List Said → Modifier → Bool
+abbrev pub is_set : List SaidAttribute → Modifier → Bool
 is_set said m = nat_lt 0 (set_to said m)
 
 -- the modifiers that the attributes ask for: modes, edge, inversion and the counter mask
-abbrev pub mods_of : List Said → Mods
+abbrev pub mods_of : List SaidAttribute → Mods
 mods_of said = record { user = is_set said user; kernel = is_set said kernel; edge = is_set said edge; invert = is_set said invert; cmask = set_to said cmask }
 
 -- the programmable counters as bits
@@ -241,21 +241,21 @@ native_of f flags mods = record {
   allowed = allowed_with mods f.component.counters f.event.allowed;
 }
 
--- the native, or the first fault; without a umask where one is needed it is UMASK
+-- the native, or the first fault; without a umask if one is needed it is UMASK
 abbrev pub native_or : Found → Mods → Option NameFault → Option (List Bool) → Result Native NameFault
 native_or f mods (Some fault) flags = Err fault
 native_or f mods None None = Err name_fault.Umask
 native_or f mods None (Some flags) = Ok (native_of f flags mods)
 
 -- what an event with these attributes names
-abbrev pub named_event : Found → List Said → Result Native NameFault
+abbrev pub named_event : Found → List SaidAttribute → Result Native NameFault
 named_event f said = native_or f (mods_of said) (fault_from f.event.masks [] said) (chosen f.event.masks (named_from said 0 f.event.masks))
 
 -- what each attribute of an event says
-abbrev pub saids_of : List MaskText → List Text → List Said
+abbrev pub saids_of : List MaskText → List Text → List SaidAttribute
 saids_of masks attributes = map (λ a. said_of masks (attribute_of a)) attributes
 
--- what the text names, where its event was found or not
+-- what the text names, if its event was found or not
 abbrev pub named_found : Split → Option Found → Result Native NameFault
 named_found s None = Err name_fault.NotFound
 named_found s (Some f) = named_event f (saids_of f.event.masks s.attributes)
@@ -276,13 +276,13 @@ word_of name_fault.AttrVal = codes "ATTR_VAL"
 word_of name_fault.AttrSet = codes "ATTR_SET"
 
 -- PAPI's code for a fault: PAPI_add_named_event(3)
-abbrev pub code_of : NameFault → Code
-code_of name_fault.NotFound = code.Enoevnt
-code_of name_fault.Umask = code.Eattr
-code_of name_fault.FeatComb = code.Ecombo
-code_of name_fault.Attr = code.Eattr
-code_of name_fault.AttrVal = code.Eattr
-code_of name_fault.AttrSet = code.Eattr
+abbrev pub fault_code : NameFault → Code
+fault_code name_fault.NotFound = code.Enoevnt
+fault_code name_fault.Umask = code.Eattr
+fault_code name_fault.FeatComb = code.Ecombo
+fault_code name_fault.Attr = code.Eattr
+fault_code name_fault.AttrVal = code.Eattr
+fault_code name_fault.AttrSet = code.Eattr
 
 -- ---- what fits a shape
 

@@ -10,7 +10,7 @@ cut_at mark (b ∷ rest) =
     if starts_with nat_eq (b ∷ rest) mark then Some ([], drop (length mark) (b ∷ rest))
     else option_map (λ p. (b ∷ p.0, p.1)) (cut_at mark rest)
 
--- what stands before the mark, where the text has it, and the rest
+-- what stands before the mark, if the text has it, and the rest
 abbrev pub prefix_of : Text → Text → Option Text × Text
 prefix_of mark text = go (cut_at mark text)
   where
@@ -38,12 +38,12 @@ split_after comp p = split_at comp p.0 (slice_split (λ b. b == 58) p.1)
 unfoldable pub split : Text → Split
 split text = split_after (prefix_of (codes ":::") text).0 (prefix_of (codes "::") (prefix_of (codes ":::") text).1)
 
--- an attribute: a name, and a value where a `=` stands
+-- an attribute: a name, and a value if a `=` stands
 pub record Attribute : Type 0 where
   pub name : Text
   pub value : Option Text
 
--- an attribute with a name, and a value where `=` stands
+-- an attribute with a name, and a value if `=` stands
 abbrev pub attribute : Text → Option Text → Attribute
 attribute name value = record { name = name; value = value }
 

@@ -35,9 +35,9 @@ pub enum Meaning {
 /// What the attributes so far have given.
 ///
 /// `named` has the umask rows that are named, `some` says that there is one, and `alone` that one of them cannot be
-/// combined. A modifier has its value where it was named.
+/// combined. A modifier has its value if it was named.
 #[derive(Clone, Copy)]
-pub struct Given {
+pub struct Attributes {
     pub named: [bool; MOST_UMASKS],
     pub some: bool,
     pub alone: bool,
@@ -95,7 +95,7 @@ fn meaning_of(masks: &[UmaskRow], name: &[u8]) -> Option<Meaning>
     }
 }
 
-// The value of a flag: 0 for `0`, `n` and `f`, 1 for `1`, `y`, `t` and where none is given.
+// The value of a flag: 0 for `0`, `n` and `f`, 1 for `1`, `y`, `t` and if none is given.
 #[tactic(auto, unfolding(crate::specs::Names::flag_value))]
 fn flag_value(value: Option<&[u8]>) -> Option<u8>
     ensures { result ≡ Names.flag_value (text_of value.entry) }
@@ -150,12 +150,12 @@ fn value_of(m: Modifier, value: Option<&[u8]>) -> Option<u8>
     }
 }
 
-impl Given {
+impl Attributes {
     /// Nothing yet.
-    pub fn nothing() -> Given
+    pub fn nothing() -> Attributes
         ensures { result ≡ Judged.nothing }
     {
-        Given {
+        Attributes {
             named: [false; MOST_UMASKS],
             some: false,
             alone: false,
@@ -179,7 +179,7 @@ impl Given {
         }
     }
 
-    fn with_value(self, m: Modifier, value: u8) -> Given
+    fn with_value(self, m: Modifier, value: u8) -> Attributes
         ensures { result ≡ Judged.with_value self (modifier_text m) value }
     {
         let mut given = self;
@@ -193,7 +193,7 @@ impl Given {
         given
     }
 
-    fn with_modifier(self, m: Modifier, value: Option<&[u8]>) -> Result<Given, NameFault>
+    fn with_modifier(self, m: Modifier, value: Option<&[u8]>) -> Result<Attributes, NameFault>
         ensures { result ≡ Judged.modifier_given self (modifier_text m) (text_of value.entry) }
     {
         if self.value(m).is_some() {
@@ -210,7 +210,7 @@ impl Given {
         masks: &[UmaskRow],
         row: usize,
         value: Option<&[u8]>,
-    ) -> Result<Given, NameFault>
+    ) -> Result<Attributes, NameFault>
         requires few { length masks.now ≤ MOST_UMASKS }
         requires there { row < length masks.now }
         ensures { result ≡ Judged.mask_given (map mask_text masks.now) self row
@@ -234,7 +234,7 @@ impl Given {
     }
 
     // What is given with one attribute more, or that attribute's first fault.
-    fn with(self, masks: &[UmaskRow], attribute: &[u8]) -> Result<Given, NameFault>
+    fn with(self, masks: &[UmaskRow], attribute: &[u8]) -> Result<Attributes, NameFault>
         requires { length masks.now ≤ MOST_UMASKS }
         ensures { result ≡ Judged.said_given (map mask_text masks.now) self
             (Names.said_of (map mask_text masks.now) (Split.attribute_of attribute.now)) }
@@ -260,12 +260,12 @@ fn name_and_value(attribute: &[u8]) -> (&[u8], Option<&[u8]>)
 }
 
 /// What all attributes give, or the fault of the first that has one in view of those before it.
-pub fn given_by(masks: &[UmaskRow], attributes: Option<&[u8]>) -> Result<Given, NameFault>
+pub fn given_by(masks: &[UmaskRow], attributes: Option<&[u8]>) -> Result<Attributes, NameFault>
     requires { length masks.now ≤ MOST_UMASKS }
     ensures { result ≡ Judged.all_given (map mask_text masks.now) Judged.nothing
         (Names.saids_of (map mask_text masks.now) (between_colons (text_of attributes.entry))) }
 {
-    let mut given = Given::nothing();
+    let mut given = Attributes::nothing();
     let mut rest = attributes;
     while let Some(text) = rest {
         let (attribute, more) = first_part(text);

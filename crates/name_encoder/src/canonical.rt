@@ -20,7 +20,7 @@ fn push_if(name: &mut String, on: bool, text: &str) -> Result<(), AllocError>
     Ok(())
 }
 
-// A umask after a colon, where its bit is set.
+// A umask after a colon, if its bit is set.
 fn push_mask(name: &mut String, on: bool, mask: &str) -> Result<(), AllocError>
     ensures { OnOk result (string_bytes name.new
         ≡ string_bytes name.old ++ (if on then 58 ∷ mask.now else [])) }
@@ -45,7 +45,7 @@ fn push_masks(name: &mut String, bits: u16, masks: &[UmaskRow]) -> Result<(), Al
     Ok(())
 }
 
-// The counter mask, where it is not 0.
+// The counter mask, if it is not 0.
 fn push_cmask(alloc: Global, name: &mut String, cmask: u8) -> Result<(), AllocError>
     ensures { OnOk result (string_bytes name.new
         ≡ string_bytes name.old ++ Canonical.text_if (nat_lt 0 cmask)
@@ -83,7 +83,7 @@ fn event_name(alloc: Global, pmu: &str, event: &EventRow, n: &Native) -> Result<
     Ok(name)
 }
 
-// The canonical name, which is empty where the native is outside the tables.
+// The canonical name, which is empty if the native is outside the tables.
 #[tactic(auto, unfolding(crate::specs::Canonical::canonical))]
 fn canonical_name(alloc: Global, t: &Tables, n: &Native) -> Result<String, AllocError>
     ensures name { IfOk result (λ s. string_bytes s ≡ Canonical.canonical t.now n.now) }
@@ -104,7 +104,7 @@ fn canonical_name(alloc: Global, t: &Tables, n: &Native) -> Result<String, Alloc
 /// The canonical name of a native event: `pmu::EVENT` as the tables spell them, its umasks in table order, and its
 /// modifiers. Of a native that is outside the tables it is empty.
 ///
-/// Where some text names the native, its canonical name names it too.
+/// If some text names the native, its canonical name names it too.
 pub fn write_name(alloc: Global, t: &Tables, n: &Native) -> Result<String, AllocError>
     ensures name { IfOk result (λ s. string_bytes s ≡ Canonical.canonical t.now n.now) }
     ensures back { IfOk result

@@ -14,7 +14,7 @@ fn flag_bit(on: bool) -> u64
 
 /// The encoding of a native event, in the layout of the event select register of Intel's manual, volume 3B.
 ///
-/// USR and OS are both set where the event asks for neither.
+/// USR and OS are both set if the event asks for neither.
 #[tactic(auto, unfolding(crate::specs::Canonical::code64))]
 pub fn code64(n: &Native) -> u64
     ensures { result ≡ Canonical.code64 n.now }

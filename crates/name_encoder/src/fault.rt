@@ -45,7 +45,7 @@ pub fn cause_word(f: NameFault) -> &'static str
 
 /// The code with which a call answers a fault: PAPI_event_name_to_code(3).
 pub fn cause_code(f: NameFault) -> Code
-    ensures { result ≡ Names.code_of f }
+    ensures { result ≡ Names.fault_code f }
 {
     match f {
         NameFault::NotFound => Code::Enoevnt,

@@ -39,7 +39,7 @@ fn is_meant(parts: &Parts<'_>, component: &Component) -> bool
     agrees(parts.comp, component.name.as_str()) && agrees(parts.pmu, component.pmu.as_str())
 }
 
-// The event of this name in the component in this place, where that is there and agrees with the prefixes.
+// The event of this name in the component in this place, if that is there and agrees with the prefixes.
 fn found_at<'t>(
     tables: &'t Tables,
     comp: u32,

@@ -8,7 +8,7 @@ ghost use Rattle.name_encoder.specs.Judged as Judged;
 ghost use Rattle.name_encoder.specs.Names as Names;
 ghost use Rattle.name_encoder.specs.Views.{found_text};
 
-use crate::attribute::Given;
+use crate::attribute::Attributes;
 use crate::fault::NameFault;
 use crate::found::Found;
 use event_tables::{Counter, MOST_UMASKS, UmaskRow};
@@ -32,7 +32,7 @@ fn has_true(flags: &[bool]) -> bool
     flags.iter().any(|&flag| flag)
 }
 
-// The umasks that are named, else the default one, and `None` where the event has umasks and there is neither.
+// The umasks that are named, else the default one, and `None` if the event has umasks and there is neither.
 fn chosen(masks: &[UmaskRow], named: [bool; MOST_UMASKS]) -> Option<[bool; MOST_UMASKS]>
     requires { length masks.now ≤ MOST_UMASKS }
     ensures { option_map (λ (flags : List Bool). take (length masks.now) flags) result
@@ -103,7 +103,7 @@ fn is_on(value: Option<u8>) -> bool
     value.unwrap_or(0) > 0
 }
 
-fn mods_of(given: &Given) -> Mods
+fn mods_of(given: &Attributes) -> Mods
     ensures { result ≡ Judged.mods_given given.now }
 {
     Mods {
@@ -128,7 +128,7 @@ fn allowed_with(mods: &Mods, counters: &[Counter], allowed: u32) -> u32
 }
 
 /// The native event of a found event and of what its attributes give.
-pub fn native_of(f: &Found<'_>, given: &Given) -> Result<Native, NameFault>
+pub fn native_of(f: &Found<'_>, given: &Attributes) -> Result<Native, NameFault>
     requires few_counters { vec_len f.now.component.now.counters ≤ MOST_COUNTERS }
     requires few_masks { vec_len f.now.event.now.masks ≤ MOST_UMASKS }
     ensures { result ≡ Judged.native_given (found_text f.now) given.now }

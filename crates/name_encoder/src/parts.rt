@@ -27,7 +27,7 @@ pub fn cut_at<'t>(text: &'t [u8], mark: &[u8]) -> Option<(&'t [u8], &'t [u8])>
     None
 }
 
-// What stands before the mark, where the text has it, and the rest.
+// What stands before the mark, if the text has it, and the rest.
 fn prefix_of<'t>(text: &'t [u8], mark: &[u8]) -> (Option<&'t [u8]>, &'t [u8])
     ensures { (text_of result.0, result.1.now) ≡ Split.prefix_of mark.now text.now }
 {

@@ -3,7 +3,7 @@ use Rattle.std.proofs.Common.{◌≡◌, ℕ, zero, suc, ◌+◌, ◌<◌, List,
 use Rattle.std.specs.Prelude.{◌==◌}
 use Rattle.std.specs.Int.{bit_at}
 use Rattle.std.proofs.lemmas.Bool.{cond-true, cond-false, eq-eqb, ne_eqb, cases_eq}
-use Rattle.overflow_dispatch.specs.Passing.{passed_from, AreCounters}
+use Rattle.overflow_dispatch.specs.Passing.{carried_from, AreCounters}
 
 pub drop_at : {X : Type 0} (xs : List X) (i : ℕ) (x : X) → slice_get xs i ≡ Some x → drop i xs ≡ x ∷ drop (suc i) xs
 drop_at [] i x e = cc
@@ -11,29 +11,29 @@ drop_at (y ∷ xs) zero x e = let same : y ≡ x = cc in ap (λ z. z ∷ xs) sam
 drop_at (y ∷ xs) (suc i) x e = drop_at xs i x e
 
 pub passed-none : (carry : ℕ) (counters : List (Option ℕ)) (i : ℕ) (done all : List ℕ) → slice_get counters i ≡ Some None
-    → done ++ passed_from i carry (drop i counters) ≡ all → done ++ passed_from (i + 1) carry (drop (i + 1) counters) ≡ all
+    → done ++ carried_from i carry (drop i counters) ≡ all → done ++ carried_from (i + 1) carry (drop (i + 1) counters) ≡ all
 passed-none carry counters i done all e h =
-    let g : done ++ passed_from (i + 1) carry (drop (suc i) counters) ≡ all = sym (ap (λ xs. done ++ passed_from i carry xs) (drop_at counters i None e)) ∙ h in
-    let P : ℕ → Type 0 = λ k. done ++ passed_from (i + 1) carry (drop k counters) ≡ all in
+    let g : done ++ carried_from (i + 1) carry (drop (suc i) counters) ≡ all = sym (ap (λ xs. done ++ carried_from i carry xs) (drop_at counters i None e)) ∙ h in
+    let P : ℕ → Type 0 = λ k. done ++ carried_from (i + 1) carry (drop k counters) ≡ all in
     let e1 : suc i ≡ i + 1 = omega arith in
     subst P e1 g
 
 pub passed-not : (carry : ℕ) (counters : List (Option ℕ)) (i c : ℕ) (done all : List ℕ) → slice_get counters i ≡ Some (Some c) → (bit_at carry c ≡ 1 → ⊥)
-    → done ++ passed_from i carry (drop i counters) ≡ all → done ++ passed_from (i + 1) carry (drop (i + 1) counters) ≡ all
+    → done ++ carried_from i carry (drop i counters) ≡ all → done ++ carried_from (i + 1) carry (drop (i + 1) counters) ≡ all
 passed-not carry counters i c done all e isnt h =
-    let f = cond-false (bit_at carry c == 1) (i ∷ passed_from (i + 1) carry (drop (suc i) counters)) (passed_from (i + 1) carry (drop (suc i) counters)) (ne_eqb (bit_at carry c) 1 isnt) in
-    let g : done ++ passed_from (i + 1) carry (drop (suc i) counters) ≡ all = ap (λ xs. done ++ xs) (sym f) ∙ sym (ap (λ xs. done ++ passed_from i carry xs) (drop_at counters i (Some c) e)) ∙ h in
-    let P : ℕ → Type 0 = λ k. done ++ passed_from (i + 1) carry (drop k counters) ≡ all in
+    let f = cond-false (bit_at carry c == 1) (i ∷ carried_from (i + 1) carry (drop (suc i) counters)) (carried_from (i + 1) carry (drop (suc i) counters)) (ne_eqb (bit_at carry c) 1 isnt) in
+    let g : done ++ carried_from (i + 1) carry (drop (suc i) counters) ≡ all = ap (λ xs. done ++ xs) (sym f) ∙ sym (ap (λ xs. done ++ carried_from i carry xs) (drop_at counters i (Some c) e)) ∙ h in
+    let P : ℕ → Type 0 = λ k. done ++ carried_from (i + 1) carry (drop k counters) ≡ all in
     let e1 : suc i ≡ i + 1 = omega arith in
     subst P e1 g
 
 pub passed-yes : (carry : ℕ) (counters : List (Option ℕ)) (i c : ℕ) (done all : List ℕ) → slice_get counters i ≡ Some (Some c) → bit_at carry c ≡ 1
-    → done ++ passed_from i carry (drop i counters) ≡ all → (done ++ i ∷ []) ++ passed_from (i + 1) carry (drop (i + 1) counters) ≡ all
+    → done ++ carried_from i carry (drop i counters) ≡ all → (done ++ i ∷ []) ++ carried_from (i + 1) carry (drop (i + 1) counters) ≡ all
 passed-yes carry counters i c done all e is h =
-    let f = cond-true (bit_at carry c == 1) (i ∷ passed_from (i + 1) carry (drop (suc i) counters)) (passed_from (i + 1) carry (drop (suc i) counters)) (eq-eqb (bit_at carry c) 1 is) in
-    let g : done ++ (i ∷ passed_from (i + 1) carry (drop (suc i) counters)) ≡ all = ap (λ xs. done ++ xs) (sym f)
-    ∙ sym (ap (λ xs. done ++ passed_from i carry xs) (drop_at counters i (Some c) e)) ∙ h in
-    let P : ℕ → Type 0 = λ k. (done ++ i ∷ []) ++ passed_from (i + 1) carry (drop k counters) ≡ all in
+    let f = cond-true (bit_at carry c == 1) (i ∷ carried_from (i + 1) carry (drop (suc i) counters)) (carried_from (i + 1) carry (drop (suc i) counters)) (eq-eqb (bit_at carry c) 1 is) in
+    let g : done ++ (i ∷ carried_from (i + 1) carry (drop (suc i) counters)) ≡ all = ap (λ xs. done ++ xs) (sym f)
+    ∙ sym (ap (λ xs. done ++ carried_from i carry xs) (drop_at counters i (Some c) e)) ∙ h in
+    let P : ℕ → Type 0 = λ k. (done ++ i ∷ []) ++ carried_from (i + 1) carry (drop k counters) ≡ all in
     let e1 : suc i ≡ i + 1 = omega arith in
     subst P e1 (rw append_assoc g)
 

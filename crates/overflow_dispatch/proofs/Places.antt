@@ -67,7 +67,7 @@ none_above bits index small h k above = elim (cases_lt k 32) [
   | inr past ↦ bit_at_above bits 32 k small past
 ]
 
--- the loop that looks for a place, so many places before this index
+-- the loop that looks for a place, n places before this index
 pub record Looking (bits wanted place index : ℕ) : Type 0 where
   pub before : place ≤ wanted
   pub rest : slice_get (places_from bits index (32 - index)) (wanted - place) ≡ slice_get (places_from bits 0 32) wanted

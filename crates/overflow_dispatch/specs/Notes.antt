@@ -30,13 +30,13 @@ pub record EachGrown (before after : List (List Note)) : Type 0 where
   pub same_length : length after ≡ length before
   pub grown : (t : ℕ) → t < length before → Grown (slice_index_or before t []) (slice_index_or after t [])
 
--- the notes of several lists after so many of each, list by list
+-- the notes of several lists after the first of each, as many as its number says, list by list
 abbrev pub told_since : List ℕ → List (List Note) → List Note
 told_since [] lists = []
 told_since (k ∷ ks) [] = []
 told_since (k ∷ ks) (notes ∷ lists) = drop k notes ++ told_since ks lists
 
--- Where each list has the notes of its place appended, these are what was told since the lists had their lengths before.
+-- If each list has the notes of its place appended, these are what was told since the lists had their lengths before.
 abbrev pub AddedIsTold : Type 0
 AddedIsTold = (before given after : List (List Note)) → length given ≡ length before → EachAdded before given after
     → told_since (map (λ notes. length notes) before) after ≡ flat_map (λ notes. notes) given

@@ -19,7 +19,7 @@ pub trait Handler: Drop {
 
     ghost notes: { Self → List Note };
 
-    /// Takes one note, at the end of the list. An `Err` comes where memory is refused, and leaves the list.
+    /// Takes one note, at the end of the list. An `Err` comes if memory is refused, and leaves the list.
     fn on_overflow(&mut self, note: Note) -> Result<(), AllocError>
         ensures ok { OnOk result (notes self.new ≡ notes self.old ++ note ∷ []) }
         ensures err { OnErr result (notes self.new ≡ notes self.old) };
@@ -28,7 +28,7 @@ pub trait Handler: Drop {
     fn noted(&self) -> u64
         ensures { result ≡ length (notes self.now) };
 
-    /// The note at this place from 0, if there are so many.
+    /// The note at this place from 0, if there is one.
     fn note_at(&self, i: u64) -> Option<Note>
         ensures { result ≡ slice_get (notes self.now) i };
 }

@@ -43,7 +43,7 @@ impl Passed {
         self.len
     }
 
-    /// The index at this place from 0, if there are so many.
+    /// The index at this place from 0, if there is one.
     #[inline(always)]
     pub fn get(&self, i: u32) -> Option<u32>
         ensures { result ≡ slice_get self.now i }

@@ -13,7 +13,7 @@ fn count_of(handler: &Box<dyn Handler + Send>) -> u64
     handler.noted()
 }
 
-// The note of the handler at this place from 0, if there are so many.
+// The note of the handler at this place from 0, if there is one.
 fn note_of(handler: &Box<dyn Handler + Send>, i: u64) -> Option<Note>
     ensures { result ≡ slice_get (notes handler.now) i }
 {
@@ -51,7 +51,7 @@ fn add_from(
     Ok(())
 }
 
-/// The notes that the handlers have taken after so many each, handler by handler.
+/// The notes that each handler has taken after its number of `counts`, handler by handler.
 pub fn notes_since(
     alloc: Global,
     handlers: &Vec<Box<dyn Handler + Send>>,
@@ -68,7 +68,7 @@ pub fn notes_since(
     Ok(all)
 }
 
-/// What was told since is what was given, where each handler has the notes of its place appended.
+/// What was told since is what was given, if each handler has the notes of its place appended.
 pub fn notes_laws()
     ensures { AddedIsTold }
 {}

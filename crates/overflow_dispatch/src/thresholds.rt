@@ -1,7 +1,7 @@
 //! The armed events of a set (PAPI_overflow(3)).
 ghost use Rattle.std.specs.Prelude.{◌≡◌, ◌<◌, slice_set, replicate, None, Some};
 ghost use Rattle.papi_base.specs.declared.limits.TheConstants.{MOST_COUNTERS, MOST_SET_EVENTS};
-ghost use Rattle.overflow_dispatch.specs.Passing.{passed_from};
+ghost use Rattle.overflow_dispatch.specs.Passing.{carried_from};
 
 use crate::passed::Passed;
 use papi_base::MOST_SET_EVENTS;
@@ -47,7 +47,7 @@ impl Thresholds {
     /// The indexes of the armed events whose counters are among the carries, in increasing order.
     #[cold]
     pub fn passed(&self, carry: u32) -> Passed
-        ensures { result ≡ passed_from 0 carry self.now }
+        ensures { result ≡ carried_from 0 carry self.now }
     {
         let mut passed = Passed::new();
         for index in 0..MOST_SET_EVENTS as u32 {

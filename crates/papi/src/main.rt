@@ -36,7 +36,7 @@ fn words(rt: &HostRuntime) -> Result<Vec<String>, AllocError> {
     Ok(words)
 }
 
-// The status where memory is refused before the work.
+// The status if memory is refused before the work.
 const NO_MEMORY: u8 = 4;
 
 // The number of the status with which the words are carried out.

@@ -7,7 +7,7 @@ use Rattle.papi_base.specs.declared.adapter.WriteSink.{WriteSink}
 abbrev pub reader_faults : {R : Type 0} → ReadSource R → ℕ
 reader_faults s = s.faults
 
--- the bytes that its reader still gives, where they are known
+-- the bytes that its reader still gives, if they are known
 abbrev pub reader_left : {R : Type 0} → (R → Option (List ℕ)) → ReadSource R → Option (List ℕ)
 reader_left remaining s = remaining s.reader
 
@@ -15,6 +15,6 @@ reader_left remaining s = remaining s.reader
 abbrev pub writer_faults : {W : Type 0} → WriteSink W → ℕ
 writer_faults s = s.faults
 
--- the bytes that its writer has taken, where they are known
+-- the bytes that its writer has taken, if they are known
 abbrev pub writer_taken : {W : Type 0} → (W → Option (List ℕ)) → WriteSink W → Option (List ℕ)
 writer_taken contents s = contents s.writer

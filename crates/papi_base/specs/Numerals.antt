@@ -22,7 +22,7 @@ is_numeral t = list_all is_digit t && not (is_empty t)
 unfoldable pub is_decimal : List ℕ → Bool
 is_decimal t = is_numeral t && ((length t == 1) || not (slice_index t 0 == 48))
 
--- the number that a text writes in decimal without leading zeros, where it is in a range
+-- the number that a text writes in decimal without leading zeros, if it is in a range
 unfoldable pub decimal_in : ℕ → ℕ → List ℕ → Option ℕ
 decimal_in low high t = if is_decimal t && (nat_le low (digits_value 10 t) && nat_le (digits_value 10 t) high) then Some (digits_value 10 t) else None
 
@@ -30,7 +30,7 @@ decimal_in low high t = if is_decimal t && (nat_le low (digits_value 10 t) && na
 abbrev pub is_hex_digit : ℕ → Bool
 is_hex_digit b = nat_lt (digit_value b) 16
 
--- the number of a text of hexadecimal digits, at least and at most so many
+-- the number of a text of hexadecimal digits, from `few` to `many` of them
 unfoldable pub hex_in : ℕ → ℕ → List ℕ → Option ℕ
 hex_in few many t = if list_all is_hex_digit t && (nat_le few (length t) && nat_le (length t) many) then Some (digits_value 16 t) else None
 

@@ -6,7 +6,7 @@ use Rattle.papi_base.specs.declared.outside.OpenFail.{OpenFail}
 use Rattle.papi_base.specs.declared.outside.OpenFail.TheVariants.{Absent, Failed, Memory}
 use Rattle.papi_base.specs.declared.sure.SureSource.{SureSource}
 
--- a source of this tape, or `Absent` where there is none, or memory ran out
+-- a source of this tape, or `Absent` if there is none, or memory ran out
 abbrev pub IsSureSourceOf : Result SureSource OpenFail → Option Tape → Type 0
 IsSureSourceOf (Ok source) tape = tape ≡ Some (sure_tape source)
 IsSureSourceOf (Err Memory) tape = Unit {0}

@@ -13,7 +13,7 @@ abbrev pub differ : Bool → Bool → Bool
 differ true b = not b
 differ false b = b
 
--- the occurrence's mode is in the native's privilege mask, which is the domain where the native has none
+-- the occurrence's mode is in the native's privilege mask, which is the domain if the native has none
 abbrev pub in_mode : Native → Domain → Occ → Bool
 in_mode n d o = if (n.mods.user || n.mods.kernel) then (if o.kernel then n.mods.kernel else n.mods.user) else (if o.kernel then share d.0 2 else share d.0 1)
 
@@ -30,6 +30,6 @@ abbrev pub held : Native → Domain → Option Occ → Bool
 held n d None = false
 held n d (Some before) = holds n d before
 
--- what the occurrence adds, where `before` came just before it
+-- what the occurrence adds, if `before` came just before it
 abbrev pub weight_of : Native → Domain → Option Occ → Occ → ℕ
 weight_of n d before o = if holds n d o then (if n.mods.edge then (if held n d before then 0 else 1) else (if (n.mods.cmask == 0) then o.amount else 1)) else 0

@@ -7,8 +7,8 @@ use Rattle.papi_base.specs.declared.whole.WholeFault.{WholeFault}
 use Rattle.papi_base.specs.declared.whole.WholeFault.TheVariants.{TooLarge, Failed, Memory}
 
 -- The answer to reading this tape whole. Memory may run out at any tape.
-abbrev pub IsWhole : Result (Vec ℕ Global) WholeFault → ℕ → Tape → Type 0
-IsWhole (Ok bytes) limit tape = (bytes.items ≡ tape.bytes) × (tape.ending ≡ End) × (length tape.bytes ≤ limit)
-IsWhole (Err TooLarge) limit tape = limit < length tape.bytes
-IsWhole (Err Failed) limit tape = (length tape.bytes ≤ limit) × (tape.ending ≡ Fault)
-IsWhole (Err Memory) limit tape = Unit {0}
+abbrev pub AnswersWhole : Result (Vec ℕ Global) WholeFault → ℕ → Tape → Type 0
+AnswersWhole (Ok bytes) limit tape = (bytes.items ≡ tape.bytes) × (tape.ending ≡ End) × (length tape.bytes ≤ limit)
+AnswersWhole (Err TooLarge) limit tape = limit < length tape.bytes
+AnswersWhole (Err Failed) limit tape = (length tape.bytes ≤ limit) × (tape.ending ≡ Fault)
+AnswersWhole (Err Memory) limit tape = Unit {0}

@@ -53,7 +53,7 @@ impl Counts {
         self.count
     }
 
-    /// The item at a place, and none where there is no such place.
+    /// The item at a place, and none if there is no such place.
     pub fn get(&self, i: u32) -> Option<u64>
         ensures item { result ≡ slice_get self.now i }
     {

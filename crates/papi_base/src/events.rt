@@ -44,7 +44,7 @@ impl Events {
         self.count
     }
 
-    /// The item at a place, and none where there is no such place.
+    /// The item at a place, and none if there is no such place.
     pub fn get(&self, i: u32) -> Option<EventRef>
         ensures item { result ≡ slice_get self.now i }
     {

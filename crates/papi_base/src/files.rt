@@ -2,7 +2,7 @@
 ghost use Rattle.std.specs.Prelude.{◌≡◌, ◌<◌, ◌≤◌, ◌+◌, ◌-◌, ◌==◌, ℕ, List, [], length, map, filter, not, find, Some, IfOk, IsOk, IsErr, option_copied, All};
 ghost use Rattle.std.specs.Str.{bytes_eq};
 ghost use Rattle.std.specs.List.{list_any};
-ghost use Rattle.papi_base.specs.Outside.{coming, tape_of, Held, Tape};
+ghost use Rattle.papi_base.specs.Outside.{renumbered, tape_of, Held, Tape};
 ghost use Rattle.papi_base.specs.Memory.{IsSourceOf, source_faults};
 ghost use Rattle.papi_base.specs.Entries.{entries_of};
 
@@ -70,7 +70,7 @@ fn lower(numbers: &mut [u64])
 
 // Drops the number 1, and takes one from every other.
 fn count_down(failing: &mut Vec<u64>)
-    ensures { failing.new.items ≡ coming failing.old.items }
+    ensures { failing.new.items ≡ renumbered failing.old.items }
 {
     drop_ones(failing);
     lower(failing);

@@ -38,3 +38,9 @@ pub const LARGEST_AMOUNT: u8 = 255;
 
 /// The last stamp that an occurrence can have.
 pub const LAST_STAMP: u32 = 4_294_967_294;
+
+/// The code of the first native event that is mentioned: PAPI_NATIVE_MASK of papi.h.
+pub const FIRST_NATIVE_CODE: u32 = 0x40000000;
+
+/// The code of the first user event. PAPI_event_name_to_code(3) gives codes of events that a user adds above those of the presets.
+pub const FIRST_USER_EVENT_CODE: u32 = 0xC0000000;

@@ -129,7 +129,7 @@ impl Sink for MemSink {
         ensures memory { IsErrOf result WriteFail.Memory
             → sink_faults self.new ≡ sink_faults self.old }
         ensures falls_never { sink_faults self.old ≤ sink_faults self.new }
-        // It fails exactly where no room is left for a piece that is not empty.
+        // It fails exactly if no room is left for a piece that is not empty.
         ensures full { IsErrOf result WriteFail.Failed
             ↔ ((0 < length piece.now) × (sink_room self.old ≡ 0)) }
         ensures room { IfOk result (λ n. sink_room self.new + n ≡ sink_room self.old) }

@@ -1,6 +1,6 @@
 //! Native events, and what a call names an event by.
 
-/// The modifiers of a native event's name: `u`, `k`, `e`, `i`, and `c`, which is 0 where it is absent. Source: libpfm4(3).
+/// The modifiers of a native event's name: `u`, `k`, `e`, `i`, and `c`, which is 0 if it is absent. Source: libpfm4(3).
 #[derive(Clone, Copy, Debug, PartialEq, Eq, Hash)]
 pub struct Mods {
     pub user: bool,

@@ -60,7 +60,7 @@ impl Natives {
         self.count
     }
 
-    /// The item at a place, and none where there is no such place.
+    /// The item at a place, and none if there is no such place.
     pub fn get(&self, i: u32) -> Option<Native>
         ensures item { result ≡ slice_get self.now i }
     {

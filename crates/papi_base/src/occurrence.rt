@@ -19,7 +19,7 @@ pub struct Occ {
     pub stamp: u64,
 }
 
-/// Why a stream is refused at a line: too long, past the stream's limit, other than so many fields, a field out of its
+/// Why a stream is refused at a line: too long, past the stream's limit, another number of fields, a field out of its
 /// form, or a stamp that does not rise.
 #[derive(Clone, Copy, Debug, PartialEq, Eq)]
 pub enum LineCause {
@@ -30,7 +30,7 @@ pub enum LineCause {
     Stamp,
 }
 
-/// Whether the occurrence's mode is in the native event's privilege mask, which is the domain where it has none.
+/// Whether the occurrence's mode is in the native event's privilege mask, which is the domain if it has none.
 #[inline(always)]
 fn is_in_mode(n: &Native, d: Domain, o: &Occ) -> bool
     ensures { result ≡ in_mode n.now d o.now }
@@ -72,7 +72,7 @@ fn held_at(n: &Native, d: Domain, before: Option<&Occ>) -> bool
     }
 }
 
-/// What the occurrence adds to the native event's count, where `before` is the one that came just before it.
+/// What the occurrence adds to the native event's count, if `before` is the one that came just before it.
 #[inline(always)]
 pub fn weight(n: &Native, d: Domain, before: Option<&Occ>, o: &Occ) -> u8
     ensures weight { result ≡ weight_of n.now d (option_copied before.entry) o.now }

@@ -1,7 +1,7 @@
 //! What the program asks of its outside: sources that give bytes, sinks that take them, and files by name.
 ghost use Rattle.std.specs.Prelude.{◌≡◌, ◌<◌, ◌≤◌, ◌-◌, ℕ, List, length, take, IfOk, IfErr, IfSome, OnOk, OnErr, IsErr, IsErrOf, Option};
 ghost use Rattle.std.specs.Option.{option_map};
-ghost use Rattle.papi_base.specs.Outside.{Tape, Gives, Rose, next_count, tape_after, appended, Held, lent_after, opened, IsOpened};
+ghost use Rattle.papi_base.specs.Outside.{Tape, Gives, Rose, next_count, tape_after, appended, Held, lent_after, opened, AnswersOpening};
 
 use thiserror::Error;
 
@@ -38,7 +38,7 @@ pub trait Source: Drop {
     /// How often it has failed.
     ghost faults: { Self → ℕ };
 
-    /// The bytes that it still gives and how it ends then, where it tells.
+    /// The bytes that it still gives and how it ends then, if it tells.
     ghost tape: { Self → Option Tape };
 
     /// Fills the first places of `buf` and gives their number. For a buffer that is not empty, `Ok(0)` is the end.
@@ -60,7 +60,7 @@ pub trait Sink {
     /// How often it has failed.
     ghost faults: { Self → ℕ };
 
-    /// The bytes that it has taken, where it tells.
+    /// The bytes that it has taken, if it tells.
     ghost taken: { Self → Option (List ℕ) };
 
     /// Takes the first bytes of `piece` and gives their number, which is at least 1 for a piece that is not empty.
@@ -109,13 +109,13 @@ pub trait Files {
     /// How many of its sources are out: opened, and not closed yet.
     ghost lent: { Self → ℕ };
 
-    /// The files and the openings that fail, where it tells.
+    /// The files and the openings that fail, if it tells.
     ghost held: { Self → Option Held };
 
     /// Opens the file of this name as a source without faults.
     fn open_source(&mut self, name: &str) -> Result<Self::S, OpenFail>
         ensures answer { IfSome (held self.old)
-            (λ held. IsOpened Self.S.tape result held name.now) }
+            (λ held. AnswersOpening Self.S.tape result held name.now) }
         ensures held { held self.new ≡ option_map opened (held self.old) }
         ensures fresh { IfOk result (λ source. Self.S.faults source ≡ 0) }
         ensures lent { lent self.new ≡ lent_after result (lent self.old) }

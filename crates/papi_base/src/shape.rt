@@ -151,7 +151,7 @@ impl Shape {
         &self.comp[i as usize]
     }
 
-    /// How many counters a component has, and 0 where there is no such component.
+    /// How many counters a component has, and 0 if there is no such component.
     pub fn counters_of(&self, i: u32) -> u32
         ensures counters { result ≡ length (unwrap_or (slice_get self.now i) []) }
     {

@@ -1,7 +1,7 @@
 //! Reading a source to its end, and writing bytes to their end.
 ghost use Rattle.std.specs.Prelude.{◌≡◌, ◌<◌, ◌≤◌, ℕ, List, length, take, IfOk, IfSome, OnOk, OnErr, IsErrOf, IfErr};
 ghost use Rattle.papi_base.specs.Outside.{Rose, appended, next_count};
-ghost use Rattle.papi_base.specs.Whole.{IsWhole};
+ghost use Rattle.papi_base.specs.Whole.{AnswersWhole};
 ghost use Rattle.papi_base.specs.declared.whole.WholeFault.TheVariants.{Memory};
 
 use crate::{Sink, Source, WriteFail};
@@ -33,14 +33,14 @@ impl From<AllocError> for WholeFault {
     }
 }
 
-/// All the bytes that the source still gives, where these are at most `limit`. It reads no further than one piece past that.
+/// All the bytes that the source still gives, if these are at most `limit`. It reads no further than one piece past that.
 pub fn read_whole<S: Source>(
     alloc: Global,
     source: &mut S,
     limit: usize,
 ) -> Result<Vec<u8>, WholeFault>
-    // Where the tape is told, the answer is the tape's, or memory ran out.
-    ensures whole { IfSome (S.tape source.old) (λ tape. IsWhole result limit tape) }
+    // If the tape is told, the answer is the tape's, or memory ran out.
+    ensures whole { IfSome (S.tape source.old) (λ tape. AnswersWhole result limit tape) }
     // Told or not:
     ensures small { IfOk result (λ bytes. length bytes.items ≤ limit) }
     ensures failed { IsErrOf result WholeFault.Failed

@@ -28,7 +28,7 @@ abbrev pub info_asked : ℕ → Option InfoPart → LibraryView → Result (List
 info_asked code (Some p) l = map_ok (info_of l.catalog p) (event_coded l.catalog l.mentioned code)
 info_asked code None l = Err Einval
 
--- a text, or PAPI_ENOEVNT where there is no such row
+-- a text, or PAPI_ENOEVNT if there is no such row
 abbrev pub where_listed : Option (List ℕ) → Result (List ℕ) Code
 where_listed (Some text) = Ok text
 where_listed None = Err Enoevnt

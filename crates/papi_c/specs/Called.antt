@@ -16,19 +16,19 @@ use Rattle.papi_calls.specs.Calls as Calls
 use Rattle.papi_calls.specs.Calls.{Made}
 use Rattle.papi_calls.specs.Codes.{code_in_row, coded}
 use Rattle.papi_calls.specs.Libraries.{LibraryView}
-use Rattle.papi_c.specs.Numbers.{IsAnswered}
+use Rattle.papi_c.specs.Numbers.{AnswersNumber}
 use Rattle.papi_c.specs.Placed.{IsRefused}
 
 -- the call is made as the model's step has it, and its number is that of the step's code
-pub record Answered (old new : LibraryView) (made : Call) (number : ℤ) : Type 0 where
+pub record MadeWithCode (old new : LibraryView) (made : Call) (number : ℤ) : Type 0 where
   pub answer : Reply
   pub step : Made old new made answer
   pub code : number ≡ number_of answer.code
 
--- the same through a handle, where a shut one stays as it is: PAPI_ENOINIT
+-- the same through a handle, and a shut one stays as it is: PAPI_ENOINIT
 abbrev pub Called : Option LibraryView → Option LibraryView → (LibraryView → Call) → ℤ → Type 0
 Called None None made number = number ≡ negsuc 15
-Called (Some old) (Some new) made number = Answered old new (made old) number
+Called (Some old) (Some new) made number = MadeWithCode old new (made old) number
 Called old new made number = ⊥
 
 -- the name is not a text, PAPI_EINVAL, or memory is refused, PAPI_ENOMEM
@@ -47,7 +47,7 @@ CalledByCode event old new made number = Called old new (λ l. made (coded l.cat
 pub record GaveNumber (old new : LibraryView) (made : Call) (shown : ℕ → Body) (number : ℤ) (before after : ℕ) : Type 0 where
   pub answer : Result ℕ Code
   pub step : Made old new made (reply_of shown answer)
-  pub given : IsAnswered answer number before after
+  pub given : AnswersNumber answer number before after
 
 -- the same through a handle
 abbrev pub GivesNumber : Option LibraryView → Option LibraryView → Call → (ℕ → Body) → ℤ → ℕ → ℕ → Type 0
@@ -59,8 +59,8 @@ GivesNumber old new made shown number before after = ⊥
 abbrev pub AreGiven : List ℤ → List ℤ → List ℤ → Type 0
 AreGiven values before after = after ≡ take (length before) values ++ drop (length values) before
 
--- the call is made as the model's step has it: the number is that of its code, and its values are given, which are none where it is refused
-pub record Gave (old new : LibraryView) (made : Call) (n : ℤ) (count : ℕ) (before after : List ℤ) : Type 0 where
+-- the call is made as the model's step has it: the number is that of its code, and its values are given, which are none if it is refused
+pub record GaveValues (old new : LibraryView) (made : Call) (n : ℤ) (count : ℕ) (before after : List ℤ) : Type 0 where
   pub code : Code
   pub values : List ℤ
   pub step : Made old new made (values_reply code values)
@@ -69,17 +69,17 @@ pub record Gave (old new : LibraryView) (made : Call) (n : ℤ) (count : ℕ) (b
   pub counted : count ≡ length values
   pub given : AreGiven values before after
 
--- the same through a handle, where a shut one gives nothing
-abbrev pub Gives : Option LibraryView → Option LibraryView → Call → ℤ → ℕ → ℕ → List ℤ → List ℤ → Type 0
-Gives None None made number counted count before after = IsRefused (negsuc 15) number counted count before after
-Gives (Some old) (Some new) made number counted count before after = Gave old new made number count before after
-Gives old new made number counted count before after = ⊥
+-- the same through a handle, and a shut one gives nothing
+abbrev pub GivesValues : Option LibraryView → Option LibraryView → Call → ℤ → ℕ → ℕ → List ℤ → List ℤ → Type 0
+GivesValues None None made number counted count before after = IsRefused (negsuc 15) number counted count before after
+GivesValues (Some old) (Some new) made number counted count before after = GaveValues old new made number count before after
+GivesValues old new made number counted count before after = ⊥
 
 -- the code of an event is asked as the model has it, and is given, or the reply's code refuses it
 pub record Coded (old new : LibraryView) (made : Asked) (number : ℤ) (before after : ℕ) : Type 0 where
   pub answer : Result ℕ Code
   pub does : Calls.Answered old new made (reply_of (λ n. body.EventCode n) answer)
-  pub given : IsAnswered answer number before after
+  pub given : AnswersNumber answer number before after
 
 -- the same through a handle
 abbrev pub Codes : Option LibraryView → Option LibraryView → (LibraryView → Asked) → ℤ → ℕ → ℕ → Type 0

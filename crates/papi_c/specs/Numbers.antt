@@ -8,14 +8,14 @@ use Rattle.papi_calls.specs.Rows.{component_of, of_event, row_of}
 use Rattle.papi_c.specs.declared.codes.TheConstants.{MOST_ANSWERED}
 
 -- the number is given, PAPI_OK, or it is refused by a code, and nothing is written
-abbrev pub IsAnswered : Result ℕ Code → ℤ → ℕ → ℕ → Type 0
-IsAnswered (Ok found) number before after = (number ≡ pos 0) × (after ≡ found)
-IsAnswered (Err code) number before after = (number ≡ number_of code) × (after ≡ before)
+abbrev pub AnswersNumber : Result ℕ Code → ℤ → ℕ → ℕ → Type 0
+AnswersNumber (Ok found) number before after = (number ≡ pos 0) × (after ≡ found)
+AnswersNumber (Err code) number before after = (number ≡ number_of code) × (after ≡ before)
 
--- the same through a handle, where a shut one answers PAPI_ENOINIT
+-- the same through a handle, and a shut one answers PAPI_ENOINIT
 abbrev pub Answers : Option LibraryView → (LibraryView → Result ℕ Code) → ℤ → ℕ → ℕ → Type 0
 Answers None asked number before after = (number ≡ negsuc 15) × (after ≡ before)
-Answers (Some l) asked number before after = IsAnswered (asked l) number before after
+Answers (Some l) asked number before after = AnswersNumber (asked l) number before after
 
 -- the component of the event of a code
 abbrev pub component_coded : ℕ → LibraryView → Result ℕ Code
@@ -25,15 +25,15 @@ component_coded code l = of_event (component_of l.catalog.book) (event_coded l.c
 abbrev pub row_coded : ℕ → LibraryView → Result ℕ Code
 row_coded code l = of_event row_of (event_coded l.catalog l.mentioned code)
 
--- a number as the answer has room for it, and PAPI_ENOCMP where there is no such component
-abbrev pub IsCounted : Option ℕ → ℤ → Type 0
-IsCounted (Some count) number = number ≡ pos (min count MOST_ANSWERED)
-IsCounted None number = number ≡ negsuc 16
+-- a number as the answer has room for it, and PAPI_ENOCMP if there is no such component
+abbrev pub AnswersCount : Option ℕ → ℤ → Type 0
+AnswersCount (Some count) number = number ≡ pos (min count MOST_ANSWERED)
+AnswersCount None number = number ≡ negsuc 16
 
 -- the same through a handle
-abbrev pub Counts : Option LibraryView → (LibraryView → Option ℕ) → ℤ → Type 0
-Counts None asked number = number ≡ negsuc 15
-Counts (Some l) asked number = IsCounted (asked l) number
+abbrev pub TellsCount : Option LibraryView → (LibraryView → Option ℕ) → ℤ → Type 0
+TellsCount None asked number = number ≡ negsuc 15
+TellsCount (Some l) asked number = AnswersCount (asked l) number
 
 -- how many counters a component has
 abbrev pub counter_count : ℕ → LibraryView → Option ℕ

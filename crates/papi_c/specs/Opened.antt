@@ -8,7 +8,7 @@ use Rattle.papi_calls.specs.Libraries.{IsOpened, LibraryView}
 use Rattle.user_events.specs.Events.{ExtendedView}
 use Rattle.user_events.specs.Rows.{extended_fault, extended_in}
 
--- the presets and user events for a cpu, and none where there is no text of them
+-- the presets and user events for a cpu, and none if there is no text of them
 abbrev pub table_of : List ℕ → List ℕ → Option ExtendedView
 table_of presets cpu = if length presets == 0 then None else Some (extended_in cpu presets)
 

@@ -11,7 +11,7 @@ use Rattle.session_model.specs.declared.call.Call.TheVariants as call
 use Rattle.session_model.specs.declared.reply.Body.TheVariants as body
 use Rattle.thread_core.specs.Following.{reply_of}
 
--- The items stand at the first places and what is past them stays: PAPI_OK. Where there are not so many places, nothing is written: PAPI_EINVAL.
+-- The items stand at the first places and what is past them stays: PAPI_OK. If there are fewer places, nothing is written: PAPI_EINVAL.
 -- Both say how many items there are.
 pub record ArePlaced {X : Type 0} (items : List X) (number : ℤ) (count : ℕ) (before after : List X) : Type 0 where
   pub counted : count ≡ length items
@@ -25,15 +25,15 @@ pub record IsRefused {X : Type 0} (why answer : ℤ) (counted count : ℕ) (befo
   pub kept : after ≡ before
 
 -- the items are given, or it is refused by a code
-abbrev pub IsAnswered : {X : Type 0} → Result (List X) Code → ℤ → ℕ → ℕ → List X → List X → Type 0
-IsAnswered (Ok items) number counted count before after = ArePlaced items number count before after
-IsAnswered (Err code) number counted count before after = IsRefused (number_of code) number counted count before after
+abbrev pub AnswersItems : {X : Type 0} → Result (List X) Code → ℤ → ℕ → ℕ → List X → List X → Type 0
+AnswersItems (Ok items) number counted count before after = ArePlaced items number count before after
+AnswersItems (Err code) number counted count before after = IsRefused (number_of code) number counted count before after
 
--- A text is asked of a library, and given: PAPI_ENOINIT of a shut handle, and PAPI_ENOMEM where memory is refused.
+-- A text is asked of a library, and given: PAPI_ENOINIT of a shut handle, and PAPI_ENOMEM if memory is refused.
 abbrev pub Spells : Option LibraryView → (LibraryView → Result (List ℕ) Code) → ℤ → ℕ → ℕ → List ℕ → List ℕ → Type 0
 Spells None asked number counted count before after = IsRefused (negsuc 15) number counted count before after
 Spells (Some l) asked number counted count before after =
-    IsAnswered (asked l) number counted count before after ⊎ IsRefused (negsuc 1) number counted count before after
+    AnswersItems (asked l) number counted count before after ⊎ IsRefused (negsuc 1) number counted count before after
 
 -- the codes of some events, and 0 for a native event that was not mentioned
 abbrev pub codes_of : LibraryView → List EventRef → List ℕ
@@ -43,7 +43,7 @@ codes_of l events = map (λ e. unwrap_or (event_code l.catalog l.mentioned e) 0)
 pub record Listed (l : LibraryView) (set : ℕ) (number : ℤ) (counted count : ℕ) (before after : List ℕ) : Type 0 where
   pub events : Result (List EventRef) Code
   pub step : Made l l (call.ListEvents set) (reply_of (λ es. body.Events es) events)
-  pub given : IsAnswered (map_ok (codes_of l) events) number counted count before after
+  pub given : AnswersItems (map_ok (codes_of l) events) number counted count before after
 
 -- the same through a handle
 abbrev pub Lists : Option LibraryView → ℕ → ℤ → ℕ → ℕ → List ℕ → List ℕ → Type 0

@@ -16,11 +16,11 @@ use Rattle.thread_session.specs.Follows.{FollowsAs, run_reply}
 abbrev pub passing_of : Note → Passing
 passing_of note = record { set = note.set; index = note.index; address = note.pc }
 
--- PAPI_EBUF where the run stopped early, else the code of its end
+-- PAPI_EBUF if the run stopped early, else the code of its end
 abbrev pub run_number : Bool → Ended → ℤ
 run_number full ended = if full then negsuc 19 else number_of (code_of ended)
 
--- The run does and tells what the model's run of n occurrences does, or where it stopped early what the model's run of those does that were
+-- The run does and tells what the model's run of n occurrences does, or if it stopped early what the model's run of those does that were
 -- consumed, and the fault says how it ended. Its notes stand at the first places, each of them, and what is past them stays. It stops early
 -- only before an occurrence that might have needed more room than was left.
 pub record Went (old new : LibraryView) (n : ℕ) (answer : ℤ) (consumed told : ℕ) (why : StreamFault) (before after : List Passing) : Type 0 where
@@ -40,7 +40,7 @@ pub record Went (old new : LibraryView) (n : ℕ) (answer : ℤ) (consumed told 
   pub mentioned : new.mentioned ≡ old.mentioned
 
 -- nothing happens, since memory is refused
-pub record IsHeld (old new : LibraryView) (answer : ℤ) (before after : List Passing) : Type 0 where
+pub record IsRefusedRun (old new : LibraryView) (answer : ℤ) (before after : List Passing) : Type 0 where
   pub same : new ≡ old
   pub number : answer ≡ negsuc 1
   pub kept : after ≡ before
@@ -53,5 +53,5 @@ IsUnrun number = (number ≡ negsuc 15) ⊎ (number ≡ negsuc 1)
 abbrev pub Runs : Option LibraryView → Option LibraryView → ℕ → ℤ → ℕ → ℕ → StreamFault → List Passing → List Passing → Type 0
 Runs None None n number consumed told fault before after = (number ≡ negsuc 15) × (after ≡ before)
 Runs (Some old) (Some new) n number consumed told fault before after =
-    Went old new n number consumed told fault before after ⊎ IsHeld old new number before after
+    Went old new n number consumed told fault before after ⊎ IsRefusedRun old new number before after
 Runs old new n number consumed told fault before after = ⊥

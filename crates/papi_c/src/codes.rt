@@ -1,7 +1,7 @@
 //! Events by their codes, and the counters of the unit.
 ghost use Rattle.std.specs.Prelude.{◌≡◌};
 ghost use Rattle.papi_c.specs.Called.{CodesName, IsCodeInRow};
-ghost use Rattle.papi_c.specs.Numbers.{Answers, Counts, IsAnswered, IsCounted, component_coded, counter_count, native_count, row_coded};
+ghost use Rattle.papi_c.specs.Numbers.{Answers, AnswersCount, AnswersNumber, TellsCount, component_coded, counter_count, native_count, row_coded};
 ghost use Rattle.papi_c.specs.Placed.{ArePlaced, Listed, Lists, codes_of};
 
 use crate::handle::{EINVAL, ENOINIT, ENOMEM, Handle};
@@ -12,7 +12,7 @@ use std::alloc::Global;
 // The largest number that a call answers.
 const MOST_ANSWERED: usize = 0x7fff_ffff;
 
-/// PAPI_event_name_to_code(3). `code` is written where the answer is PAPI_OK. PAPI_EINVAL where the name is not UTF-8, and
+/// PAPI_event_name_to_code(3). `code` is written if the answer is PAPI_OK. PAPI_EINVAL if the name is not UTF-8, and
 /// PAPI_ENOMEM; nothing is changed then.
 #[unsafe(no_mangle)]
 pub extern "C" fn kistalub_name_to_code(
@@ -41,7 +41,7 @@ pub extern "C" fn kistalub_name_to_code(
     }
 }
 
-// The codes of events, where there is room for all.
+// The codes of events, if there is room for all.
 fn list(library: &Library, events: &Events, out: &mut [u32], count: &mut u64) -> i32
     ensures { ArePlaced (codes_of library.now events.now) result count.new out.old out.new }
 {
@@ -66,7 +66,7 @@ fn list_set(library: &Library, set: u32, out: &mut [u32], count: &mut u64) -> i3
     }
 }
 
-/// PAPI_list_events(3). The codes go into `out`, and `count` has their number. PAPI_EINVAL where there is no room for all, and nothing is
+/// PAPI_list_events(3). The codes go into `out`, and `count` has their number. PAPI_EINVAL if there is no room for all, and nothing is
 /// written then but their number.
 #[unsafe(no_mangle)]
 pub extern "C" fn kistalub_list_events(
@@ -114,7 +114,7 @@ pub extern "C" fn kistalub_code_in_row(
 
 // A number that is answered, or the code that refuses it.
 fn give(answer: Result<u32, Code>, number: &mut u32) -> i32
-    ensures { IsAnswered answer result number.old number.new }
+    ensures { AnswersNumber answer result number.old number.new }
 {
     match answer {
         Ok(found) => {
@@ -125,7 +125,7 @@ fn give(answer: Result<u32, Code>, number: &mut u32) -> i32
     }
 }
 
-/// PAPI_get_event_component(3). PAPI_ENOEVNT where it is the code of no event that is available.
+/// PAPI_get_event_component(3). PAPI_ENOEVNT if it is the code of no event that is available.
 #[unsafe(no_mangle)]
 pub extern "C" fn kistalub_component_of(
     alloc: Global,
@@ -144,7 +144,7 @@ pub extern "C" fn kistalub_component_of(
     give(answer, comp)
 }
 
-/// The row in its component of the native event of a code. PAPI_ENOEVNT where it is the code of no native event.
+/// The row in its component of the native event of a code. PAPI_ENOEVNT if it is the code of no native event.
 #[unsafe(no_mangle)]
 pub extern "C" fn kistalub_row_of(alloc: Global, h: &mut Handle, code: u32, row: &mut u32) -> i32
     ensures answers { Answers h.old.library (row_coded code) result row.old row.new }
@@ -170,7 +170,7 @@ fn counters_of(library: &Library, comp: u32) -> Option<usize>
 
 // A number as an answer, as far as one has room for it.
 fn counted(count: Option<usize>) -> i32
-    ensures { IsCounted count result }
+    ensures { AnswersCount count result }
 {
     match count {
         Some(count) => count.min(MOST_ANSWERED) as i32,
@@ -178,10 +178,10 @@ fn counted(count: Option<usize>) -> i32
     }
 }
 
-/// PAPI_num_cmp_hwctrs(3), and PAPI_ENOCMP where there is no such component: PAPI_num_components(3) is the first of these.
+/// PAPI_num_cmp_hwctrs(3), and PAPI_ENOCMP if there is no such component: PAPI_num_components(3) is the first of these.
 #[unsafe(no_mangle)]
 pub extern "C" fn kistalub_counters(alloc: Global, h: &mut Handle, comp: u32) -> i32
-    ensures counts { Counts h.old.library (counter_count comp) result }
+    ensures counts { TellsCount h.old.library (counter_count comp) result }
     ensures kept { h.new.library ≡ h.old.library }
 {
     let Some(library) = h.take(alloc) else {
@@ -202,10 +202,10 @@ fn natives_of(library: &Library, comp: u32) -> Option<usize>
     }
 }
 
-/// How many native events a component has: `num_native_events` of PAPI_get_component_info(3). PAPI_ENOCMP where there is no such component.
+/// How many native events a component has: `num_native_events` of PAPI_get_component_info(3). PAPI_ENOCMP if there is no such component.
 #[unsafe(no_mangle)]
 pub extern "C" fn kistalub_natives(alloc: Global, h: &mut Handle, comp: u32) -> i32
-    ensures counts { Counts h.old.library (native_count comp) result }
+    ensures counts { TellsCount h.old.library (native_count comp) result }
     ensures kept { h.new.library ≡ h.old.library }
 {
     let Some(library) = h.take(alloc) else {

@@ -1,7 +1,7 @@
 //! What is wrong with a file, as papi_run says it.
 ghost use Rattle.std.specs.Prelude.{◌≡◌};
 ghost use Rattle.papi_c.specs.Faults as Faults;
-ghost use Rattle.papi_c.specs.Faults.{Tells, unit_told};
+ghost use Rattle.papi_c.specs.Faults.{TellsFault, unit_told};
 ghost use Rattle.papi_c.specs.Placed.{ArePlaced};
 
 use crate::handle::{EINVAL, ENOMEM};
@@ -13,7 +13,7 @@ use session_model::Ended;
 use std::alloc::Global;
 use user_events::read_extended;
 
-/// What ended a stream, as C sees it: a line from 1 and the number of its cause. Both are 0 where nothing has ended it.
+/// What ended a stream, as C sees it: a line from 1 and the number of its cause. Both are 0 if nothing has ended it.
 #[repr(C)]
 #[derive(Clone, Copy, Drop)]
 pub struct StreamFault {
@@ -30,7 +30,7 @@ fn tell(number: u64, text: &str, row: &mut u64, out: &mut [u8], length: &mut u64
     spell(text, out, length)
 }
 
-/// The first faulty row of a unit file, from 1, and the words of its cause; row 0 and an empty text where none is. PAPI_EINVAL where there
+/// The first faulty row of a unit file, from 1, and the words of its cause; row 0 and an empty text if none is. PAPI_EINVAL if there
 /// is no room for the words, and nothing is written then but the row and their length. PAPI_ENOMEM.
 #[unsafe(no_mangle)]
 pub extern "C" fn kistalub_unit_fault(
@@ -40,7 +40,7 @@ pub extern "C" fn kistalub_unit_fault(
     out: &mut [u8],
     length: &mut u64,
 ) -> i32
-    ensures tells { Tells (unit_told unit.now) row.old row.new result length.old length.new
+    ensures tells { TellsFault (unit_told unit.now) row.old row.new result length.old length.new
         out.old out.new }
 {
     match read_unit(alloc, unit) {
@@ -50,7 +50,7 @@ pub extern "C" fn kistalub_unit_fault(
     }
 }
 
-/// The same of a preset file, as it is read for a cpu. PAPI_EINVAL also where the cpu is not UTF-8.
+/// The same of a preset file, as it is read for a cpu. PAPI_EINVAL also if the cpu is not UTF-8.
 #[unsafe(no_mangle)]
 pub extern "C" fn kistalub_presets_fault(
     alloc: Global,
@@ -86,7 +86,7 @@ fn cause_number(cause: LineCause) -> u32
     }
 }
 
-/// What ended a stream, where a run ended so.
+/// What ended a stream, if a run ended so.
 pub(crate) fn fault_of(ended: Ended) -> StreamFault
     ensures { result ≡ Faults.fault_of ended }
 {
@@ -100,7 +100,7 @@ pub(crate) fn fault_of(ended: Ended) -> StreamFault
     }
 }
 
-// The words of a cause by its number; none where none has it.
+// The words of a cause by its number; none if none has it.
 fn words_of(number: u32) -> &'static str
     ensures { result.now ≡ Faults.cause_words number }
 {
@@ -115,7 +115,7 @@ fn words_of(number: u32) -> &'static str
     }
 }
 
-/// The words of the cause of a stream's fault by its number, as papi_run says them, and an empty text where no cause has the number.
+/// The words of the cause of a stream's fault by its number, as papi_run says them, and an empty text if no cause has the number.
 #[unsafe(no_mangle)]
 pub extern "C" fn kistalub_cause(number: u32, out: &mut [u8], length: &mut u64) -> i32
     ensures { ArePlaced (Faults.cause_words number) result length.new out.old out.new }

@@ -19,7 +19,7 @@ pub(crate) const EINVAL: i32 = -1;
 /// The handle has no library.
 pub(crate) const ENOINIT: i32 = -16;
 
-/// What C holds of a library: null where none is open.
+/// What C holds of a library: null if none is open.
 #[repr(C)]
 pub struct Handle {
     at: *mut u8,

@@ -7,7 +7,7 @@ use crate::refusals::refusal_code;
 use papi_base::code_number;
 use std::alloc::Global;
 
-/// PAPI_add_named_event(3). PAPI_EINVAL where the name is not UTF-8, and PAPI_ENOMEM; nothing is changed then.
+/// PAPI_add_named_event(3). PAPI_EINVAL if the name is not UTF-8, and PAPI_ENOMEM; nothing is changed then.
 #[unsafe(no_mangle)]
 pub extern "C" fn kistalub_add_named(alloc: Global, h: &mut Handle, set: u32, name: &[u8]) -> i32
     ensures { CalledByName name.now h.old.library h.new.library (λ e. call.Add set e) result }
@@ -27,7 +27,7 @@ pub extern "C" fn kistalub_add_named(alloc: Global, h: &mut Handle, set: u32, na
     }
 }
 
-/// PAPI_remove_named_event(3). PAPI_EINVAL where the name is not UTF-8, and PAPI_ENOMEM; nothing is changed then.
+/// PAPI_remove_named_event(3). PAPI_EINVAL if the name is not UTF-8, and PAPI_ENOMEM; nothing is changed then.
 #[unsafe(no_mangle)]
 pub extern "C" fn kistalub_remove_named(alloc: Global, h: &mut Handle, set: u32, name: &[u8]) -> i32
     ensures { CalledByName name.now h.old.library h.new.library (λ e. call.Remove set e) result }
@@ -46,7 +46,7 @@ pub extern "C" fn kistalub_remove_named(alloc: Global, h: &mut Handle, set: u32,
     }
 }
 
-/// PAPI_overflow(3) of an event by its name, where a threshold of 0 clears it. PAPI_EINVAL where the name is not UTF-8, and PAPI_ENOMEM;
+/// PAPI_overflow(3) of an event by its name, and a threshold of 0 clears it. PAPI_EINVAL if the name is not UTF-8, and PAPI_ENOMEM;
 /// nothing is changed then.
 #[unsafe(no_mangle)]
 pub extern "C" fn kistalub_overflow_named(

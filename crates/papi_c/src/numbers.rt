@@ -91,7 +91,7 @@ pub extern "C" fn kistalub_set_domain(alloc: Global, h: &mut Handle, set: u32, b
     code_number(code)
 }
 
-/// PAPI_set_multiplex(3), by slices of so many ticks.
+/// PAPI_set_multiplex(3), by slices of n ticks.
 #[unsafe(no_mangle)]
 pub extern "C" fn kistalub_set_multiplex(alloc: Global, h: &mut Handle, set: u32, slice: u32) -> i32
     ensures { Called h.old.library h.new.library (λ l. call.SetMultiplex set slice) result }
@@ -130,7 +130,7 @@ pub extern "C" fn kistalub_reset(alloc: Global, h: &mut Handle, set: u32) -> i32
     code_number(code)
 }
 
-/// PAPI_create_eventset(3). `set` is written where the code is PAPI_OK.
+/// PAPI_create_eventset(3). `set` is written if the code is PAPI_OK.
 #[unsafe(no_mangle)]
 pub extern "C" fn kistalub_create(alloc: Global, h: &mut Handle, set: &mut u32) -> i32
     ensures { GivesNumber h.old.library h.new.library call.Create (λ n. body.SetNumber n) result
@@ -150,7 +150,7 @@ pub extern "C" fn kistalub_create(alloc: Global, h: &mut Handle, set: &mut u32) 
     }
 }
 
-/// PAPI_state(3). `bits` is written where the code is PAPI_OK.
+/// PAPI_state(3). `bits` is written if the code is PAPI_OK.
 #[unsafe(no_mangle)]
 pub extern "C" fn kistalub_state(alloc: Global, h: &mut Handle, set: u32, bits: &mut u32) -> i32
     ensures { GivesNumber h.old.library h.new.library (call.State set) (λ b. body.State b) result
@@ -199,7 +199,7 @@ pub extern "C" fn kistalub_remove(alloc: Global, h: &mut Handle, set: u32, event
     code_number(code)
 }
 
-/// PAPI_overflow(3), where a threshold of 0 clears it.
+/// PAPI_overflow(3), and a threshold of 0 clears it.
 #[unsafe(no_mangle)]
 pub extern "C" fn kistalub_overflow(
     alloc: Global,

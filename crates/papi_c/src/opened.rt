@@ -8,7 +8,7 @@ use crate::opening::{OpenFault, open};
 use std::alloc::Global;
 
 /// Opens the library of a thread over a unit, presets for a cpu or none, and a stream; one that was open in the handle is
-/// closed. PAPI_EINVAL where a file is faulty or the cpu is not UTF-8, PAPI_ENOMEM; the handle is then as it was.
+/// closed. PAPI_EINVAL if a file is faulty or the cpu is not UTF-8, PAPI_ENOMEM; the handle is then as it was.
 #[unsafe(no_mangle)]
 pub extern "C" fn kistalub_open(
     alloc: Global,

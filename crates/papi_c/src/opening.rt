@@ -31,7 +31,7 @@ fn tables_of(alloc: Global, unit: &[u8]) -> Result<Tables, OpenFault>
     }
 }
 
-// The presets and user events for a cpu, and none where there is no text of them.
+// The presets and user events for a cpu, and none if there is no text of them.
 fn presets_of(alloc: Global, presets: &[u8], cpu: &str) -> Result<Option<Extended>, OpenFault>
     ensures faultless { OnOk result (extended_fault cpu.now presets.now ≡ None) }
     ensures presets { IfOk result (λ t. t ≡ table_of presets.now cpu.now) }

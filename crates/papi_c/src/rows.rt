@@ -42,7 +42,7 @@ fn component_text(
 }
 
 /// A part of what the unit's file says of a component, from 0: 0 its name, 1 the name of its pmu, 2 the name of the counter in this place
-/// from 0. PAPI_ENOEVNT where there is no such component or counter, and PAPI_EINVAL where no part has the number.
+/// from 0. PAPI_ENOEVNT if there is no such component or counter, and PAPI_EINVAL if no part has the number.
 #[unsafe(no_mangle)]
 pub extern "C" fn kistalub_component(
     alloc: Global,
@@ -101,7 +101,7 @@ fn native_text(
 
 /// A part of what the unit's file says of the native event in a row of a component, both from 0, in the order of papi_native_avail: 0 its
 /// name `PMU::EVENT`, 1 its description, and of its umask in this place from 0, 2 the name `PMU::EVENT:UMASK` and 3 the description.
-/// PAPI_ENOEVNT where there is no such row or umask, and PAPI_EINVAL where no part has the number.
+/// PAPI_ENOEVNT if there is no such row or umask, and PAPI_EINVAL if no part has the number.
 #[unsafe(no_mangle)]
 pub extern "C" fn kistalub_native(
     alloc: Global,

@@ -1,6 +1,6 @@
 //! Runs.
 ghost use Rattle.std.specs.Prelude.{◌≡◌, ◌⊎◌, ◌≤◌, drop, length, map, take};
-ghost use Rattle.papi_c.specs.Runs.{IsHeld, IsUnrun, Runs, Went, passing_of, run_number};
+ghost use Rattle.papi_c.specs.Runs.{IsRefusedRun, IsUnrun, Runs, Went, passing_of, run_number};
 ghost use Rattle.session_model.specs.Step.{code_of};
 
 use crate::faults::{StreamFault, fault_of};
@@ -71,7 +71,7 @@ fn run(
     fault: &mut StreamFault,
 ) -> i32
     ensures went { Went library.old library.new n result consumed.new told.new fault.new out.old
-        out.new ⊎ IsHeld library.old library.new result out.old out.new }
+        out.new ⊎ IsRefusedRun library.old library.new result out.old out.new }
     ensures untold { IsUnrun result
         → (consumed.new ≡ consumed.old) × (told.new ≡ told.old) × (fault.new ≡ fault.old) }
 {
@@ -92,8 +92,8 @@ fn run(
     number_of(filled)
 }
 
-/// Consumes up to `n` occurrences, and says how many. The thresholds that were passed go into `out`, and `told` has their number. Where
-/// fewer than 32 have room it stops before the next occurrence: PAPI_EBUF, and a further call goes on. PAPI_ESYS once where the stream is
+/// Consumes up to `n` occurrences, and says how many. The thresholds that were passed go into `out`, and `told` has their number. If
+/// fewer than 32 have room it stops before the next occurrence: PAPI_EBUF, and a further call goes on. PAPI_ESYS once if the stream is
 /// faulty, and `fault` then says where and why; after that the stream has ended. PAPI_ENOMEM; nothing happens then.
 #[unsafe(no_mangle)]
 pub extern "C" fn kistalub_run(

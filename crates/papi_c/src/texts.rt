@@ -2,7 +2,7 @@
 ghost use Rattle.std.specs.Prelude.{◌≡◌, IfOk, OnErr, negsuc, string_bytes};
 ghost use Rattle.component_table.specs.EventNames.{event_name};
 ghost use Rattle.papi_c.specs.Asked.{info_asked, part_numbered};
-ghost use Rattle.papi_c.specs.Placed.{ArePlaced, IsAnswered, IsRefused, Spells};
+ghost use Rattle.papi_c.specs.Placed.{AnswersItems, ArePlaced, IsRefused, Spells};
 ghost use Rattle.papi_calls.specs.Codes.{event_coded, map_ok};
 
 use crate::handle::{EINVAL, ENOINIT, ENOMEM, Handle};
@@ -10,7 +10,7 @@ use papi_base::{Code, code_number};
 use papi_calls::{InfoPart, Library};
 use std::alloc::{AllocError, Global};
 
-// The bytes of a text, where there is room for all.
+// The bytes of a text, if there is room for all.
 pub(crate) fn spell(text: &str, out: &mut [u8], length: &mut u64) -> i32
     ensures { ArePlaced text.now result length.new out.old out.new }
 {
@@ -32,7 +32,7 @@ pub(crate) fn give(
     length: &mut u64,
 ) -> i32
     ensures given { IfOk answer
-        (λ text. IsAnswered (map_ok string_bytes text) result length.old length.new out.old
+        (λ text. AnswersItems (map_ok string_bytes text) result length.old length.new out.old
         out.new) }
     ensures refused { OnErr answer
         (IsRefused (negsuc 1) result length.old length.new out.old out.new) }
@@ -44,7 +44,7 @@ pub(crate) fn give(
     }
 }
 
-/// PAPI_event_code_to_name(3). The name goes into `out`, and `length` has its length. PAPI_EINVAL where there is no room for it, and
+/// PAPI_event_code_to_name(3). The name goes into `out`, and `length` has its length. PAPI_EINVAL if there is no room for it, and
 /// nothing is written then but its length, here and below. PAPI_ENOMEM.
 #[unsafe(no_mangle)]
 pub extern "C" fn kistalub_code_to_name(
@@ -97,7 +97,7 @@ fn info_text(
 }
 
 /// A part of what PAPI_get_event_info(3) tells of the event of a code: 0 the name, 1 the description, 2 the derived type, 3 the formula, 4
-/// the native event in this place from 0. The text is empty where there is no such part, and PAPI_EINVAL where none has the number.
+/// the native event in this place from 0. The text is empty if there is no such part, and PAPI_EINVAL if none has the number.
 #[unsafe(no_mangle)]
 pub extern "C" fn kistalub_info(
     alloc: Global,

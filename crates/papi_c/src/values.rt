@@ -1,6 +1,6 @@
 //! The calls that give values.
 ghost use Rattle.std.specs.Prelude.{◌≡◌, length};
-ghost use Rattle.papi_c.specs.Called.{AreGiven, Gave, Gives};
+ghost use Rattle.papi_c.specs.Called.{AreGiven, GaveValues, GivesValues};
 ghost use Rattle.session_model.specs.declared.call.Call.TheVariants as call;
 
 use crate::handle::{ENOINIT, Handle};
@@ -22,7 +22,8 @@ fn give(values: &Values, out: &mut [i64], count: &mut u32)
 
 // Reads a set of a library.
 fn read(library: &Library, set: u32, out: &mut [i64], count: &mut u32) -> i32
-    ensures gave { Gave library.now library.now (call.Read set) result count.new out.old out.new }
+    ensures gave { GaveValues library.now library.now (call.Read set) result count.new out.old
+        out.new }
 {
     let mut values = Values::new();
     let code = library.read(set, &mut values);
@@ -39,8 +40,8 @@ pub extern "C" fn kistalub_read(
     out: &mut [i64],
     count: &mut u32,
 ) -> i32
-    ensures gives { Gives h.old.library h.new.library (call.Read set) result count.old count.new
-        out.old out.new }
+    ensures gives { GivesValues h.old.library h.new.library (call.Read set) result count.old
+        count.new out.old out.new }
 {
     let Some(library) = h.take(alloc) else {
         return ENOINIT;
@@ -59,8 +60,8 @@ pub extern "C" fn kistalub_stop(
     out: &mut [i64],
     count: &mut u32,
 ) -> i32
-    ensures gives { Gives h.old.library h.new.library (call.Stop set) result count.old count.new
-        out.old out.new }
+    ensures gives { GivesValues h.old.library h.new.library (call.Stop set) result count.old
+        count.new out.old out.new }
 {
     let Some(mut library) = h.take(alloc) else {
         return ENOINIT;
@@ -81,8 +82,8 @@ pub extern "C" fn kistalub_accum(
     out: &mut [i64],
     count: &mut u32,
 ) -> i32
-    ensures gives { Gives h.old.library h.new.library (call.Accum set) result count.old count.new
-        out.old out.new }
+    ensures gives { GivesValues h.old.library h.new.library (call.Accum set) result count.old
+        count.new out.old out.new }
 {
     let Some(mut library) = h.take(alloc) else {
         return ENOINIT;

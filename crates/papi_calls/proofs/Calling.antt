@@ -32,7 +32,7 @@ module _ (catalog : CatalogView) (mentioned : List Native) (book : Book) where
       fit = whole.fit;
     }
 
-    -- where it mentions nothing new
+    -- if it mentions nothing new
     pub made : (before : LibraryView) → record { catalog = catalog; mentioned = mentioned; session = old } ≡ before → joined_by mentioned (mentions_of_call call) ≡ mentioned
         → Made before (record { catalog = catalog; mentioned = mentioned; session = new }) call given
     made before view known =

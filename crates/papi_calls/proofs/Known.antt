@@ -35,7 +35,7 @@ known_armed mentioned set (Ok (event.Native n)) threshold is = joined mentioned 
 known_armed mentioned set (Ok (event.Preset row)) threshold is = refl
 known_armed mentioned set (Err code) threshold is = refl
 
--- what is mentioned where a threshold is set is what its event's name mentions
+-- what is mentioned if a threshold is set is what its event's name mentions
 pub armed_mentions : (set : ℕ) (e : Result EventRef Code) (threshold : ℕ) → mentions_of_call (call.Overflow set e threshold) ≡ mentions_of (CodeOf e)
 armed_mentions set (Ok (event.Native n)) threshold = refl
 armed_mentions set (Ok (event.Preset row)) threshold = refl
@@ -60,7 +60,7 @@ has_at P ns k n all e = subst P (get_is ns k n e) (all k n (slice_get_within ns 
 pub named_has : (P : Native → Type 0) (mentioned : List Native) (code : ℕ) (n : Native) → All P mentioned → native_named mentioned code ≡ Some n → P n
 named_has P mentioned code n all e = has_at P mentioned (code - 0x40000000) n all (named_at (nat_le 0x40000000 code) mentioned (code - 0x40000000) n e)
 
--- where the code is looked for among all that were mentioned
+-- if the code is looked for among all that were mentioned
 pub named_of_all : (codes mentioned : List Native) (count code : ℕ) (n : Native) → codes ≡ mentioned → count ≡ length codes → Some n ≡ native_named (take count codes) code → native_named mentioned code ≡ Some n
 named_of_all codes mentioned count code n same all e =
     ap (λ (ns : List Native). native_named ns code) (sym same ∙ sym (take-length codes) ∙ ap (λ k. take k codes) (sym all)) ∙ sym e

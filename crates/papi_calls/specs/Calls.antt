@@ -16,7 +16,7 @@ pub record Made (old new : LibraryView) (made : Call) (answer : Reply) : Type 0 
   pub catalog : new.catalog ≡ old.catalog
   pub mentioned : new.mentioned ≡ joined_by old.mentioned (mentions_of_call made)
 
--- The reply is the model's answer, where the native event of the question is mentioned; nothing else changes.
+-- The reply is the model's answer, if the native event of the question is mentioned; nothing else changes.
 pub record Answered (old new : LibraryView) (made : Asked) (given : Reply) : Type 0 where
   pub reply : (accounts : List Account) → given ≡ answer (setting_of old.catalog) accounts new.mentioned made
   pub mentioned : new.mentioned ≡ joined_by old.mentioned (mentions_of made)

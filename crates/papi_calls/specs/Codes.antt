@@ -27,7 +27,7 @@ event_at None None = Err Enoevnt
 abbrev pub event_coded : CatalogView → List Native → ℕ → Result EventRef Code
 event_coded catalog mentioned code = event_at (position (λ x. x == code) (row_codes catalog)) (native_named mentioned code)
 
--- the code of an event: that of its row, and a native event has one where it was mentioned
+-- the code of an event: that of its row, and a native event has one if it was mentioned
 abbrev pub event_code : CatalogView → List Native → EventRef → Option ℕ
 event_code catalog mentioned (event.Preset row) = Some (unwrap_or (slice_get (row_codes catalog) row) 0)
 event_code catalog mentioned (event.Native n) = code_in mentioned n
@@ -36,7 +36,7 @@ event_code catalog mentioned (event.Native n) = code_in mentioned n
 abbrev pub code_in_row : CatalogView → ℕ → Option ℕ
 code_in_row catalog row = if nat_lt row (row_count catalog) then Some (code_of_row row) else None
 
--- the event in a row only where it is available
+-- the event in a row only if it is available
 abbrev pub where_held : Book → Result EventRef Code → Result EventRef Code
 where_held book (Ok (event.Preset row)) = preset_looked_up book (Some row)
 where_held book (Ok (event.Native n)) = Ok (event.Native n)

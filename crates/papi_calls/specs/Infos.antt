@@ -65,7 +65,7 @@ derived_part tables (part.Native place) d = native_in tables d.natives place
 derived_part tables part.Name d = []
 derived_part tables part.Description d = []
 
--- a part of what is told of an event, which is empty where there is none
+-- a part of what is told of an event, which is empty if there is none
 abbrev pub info_of : CatalogView → InfoPart → EventRef → Text
 info_of catalog part.Name e = event_name catalog e
 info_of catalog part.Description e = description catalog e

@@ -43,11 +43,11 @@ native_part (native.MaskDescription place) c e = option_map (λ m. m.text) (slic
 abbrev pub native_text : List ComponentText → NativePart → ℕ → ℕ → Option Text
 native_text tables part comp row = option_and_then (λ c. option_and_then (native_part part c) (slice_get c.events row)) (slice_get tables comp)
 
--- the component of the first of these native events, which are all of one where an event derives from them
+-- the component of the first of these native events, which are all of one if an event derives from them
 abbrev pub first_component : List Native → Result ℕ Code
 first_component natives = option_map_or (λ n. Ok n.comp) (slice_get natives 0) (Err Enoevnt)
 
--- the component of an event, where it is available: PAPI_get_event_component(3)
+-- the component of an event, if it is available: PAPI_get_event_component(3)
 abbrev pub component_of : Book → EventRef → Result ℕ Code
 component_of book (event.Native n) = Ok n.comp
 component_of book (event.Preset row) = option_map_or (λ d. first_component d.natives) (entry book row) (Err Enoevnt)

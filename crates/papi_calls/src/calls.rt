@@ -19,7 +19,7 @@ impl Library {
         self.session.register(self.catalog.book())
     }
 
-    /// Takes the registration back: PAPI_unregister_thread(3). EISRUN where some set runs, EINVAL where the thread is not
+    /// Takes the registration back: PAPI_unregister_thread(3). EISRUN if some set runs, EINVAL if the thread is not
     /// registered.
     pub fn unregister(&mut self) -> Code
         ensures made { Made self.old self.new call.Unregister (plain result) }
@@ -27,7 +27,7 @@ impl Library {
         self.session.unregister(self.catalog.book())
     }
 
-    /// A new set under the least free number: PAPI_create_eventset(3). ECOUNT where there are 64 sets.
+    /// A new set under the least free number: PAPI_create_eventset(3). ECOUNT if there are 64 sets.
     pub fn create(&mut self) -> Result<u32, Code>
         ensures made { Made self.old self.new call.Create
             (reply_of (λ n. body.SetNumber n) result) }
@@ -35,7 +35,7 @@ impl Library {
         self.session.create(self.catalog.book())
     }
 
-    /// Takes a set away: PAPI_destroy_eventset(3). ENOEVST where there is no such set, EISRUN where it runs, EINVAL where it has
+    /// Takes a set away: PAPI_destroy_eventset(3). ENOEVST if there is no such set, EISRUN if it runs, EINVAL if it has
     /// events.
     pub fn destroy(&mut self, set: u32) -> Code
         ensures made { Made self.old self.new (call.Destroy set) (plain result) }
@@ -43,7 +43,7 @@ impl Library {
         self.session.destroy(self.catalog.book(), set)
     }
 
-    /// Takes everything but the domain from a set: PAPI_cleanup_eventset(3). ENOEVST where there is no such set, EISRUN where it
+    /// Takes everything but the domain from a set: PAPI_cleanup_eventset(3). ENOEVST if there is no such set, EISRUN if it
     /// runs.
     pub fn cleanup(&mut self, set: u32) -> Code
         ensures made { Made self.old self.new (call.Cleanup set) (plain result) }
@@ -51,8 +51,8 @@ impl Library {
         self.session.cleanup(self.catalog.book(), set)
     }
 
-    /// Fixes the component of a set: PAPI_assign_eventset_component(3). ENOEVST, ENOCMP where there is no such component, EISRUN,
-    /// EINVAL where the set has another one.
+    /// Fixes the component of a set: PAPI_assign_eventset_component(3). ENOEVST, ENOCMP if there is no such component, EISRUN,
+    /// EINVAL if the set has another one.
     pub fn assign_component(&mut self, set: u32, comp: u32) -> Code
         ensures made { Made self.old self.new (call.AssignComponent set comp) (plain result) }
     {
@@ -60,7 +60,7 @@ impl Library {
             .assign_component(self.catalog.book(), set, comp)
     }
 
-    /// Sets the domain of a set, user 1 and kernel 2, and zeroes its counts: PAPI_set_domain(3). ENOEVST, EISRUN, EINVAL where the
+    /// Sets the domain of a set, user 1 and kernel 2, and zeroes its counts: PAPI_set_domain(3). ENOEVST, EISRUN, EINVAL if the
     /// bits are not a domain.
     pub fn set_domain(&mut self, set: u32, bits: u32) -> Code
         ensures made { Made self.old self.new (call.SetDomain set bits) (plain result) }
@@ -68,15 +68,15 @@ impl Library {
         self.session.set_domain(self.catalog.book(), set, bits)
     }
 
-    /// Multiplexes a set by slices of this many ticks, and zeroes its counts: PAPI_set_multiplex(3). ENOEVST, EISRUN, EINVAL where
-    /// the slice is out of range, ECOMBO where a threshold is set.
+    /// Multiplexes a set by slices of this many ticks, and zeroes its counts: PAPI_set_multiplex(3). ENOEVST, EISRUN, EINVAL if
+    /// the slice is out of range, ECOMBO if a threshold is set.
     pub fn set_multiplex(&mut self, set: u32, slice: u32) -> Code
         ensures made { Made self.old self.new (call.SetMultiplex set slice) (plain result) }
     {
         self.session.set_multiplex(self.catalog.book(), set, slice)
     }
 
-    /// Starts a set: PAPI_start(3). ENOEVST, EISRUN where it runs or another one does on its component, EINVAL where it has no
+    /// Starts a set: PAPI_start(3). ENOEVST, EISRUN if it runs or another one does on its component, EINVAL if it has no
     /// events.
     pub fn start(&mut self, set: u32) -> Code
         ensures made { Made self.old self.new (call.Start set) (plain result) }
@@ -132,7 +132,7 @@ impl Library {
         self.session.list_events(self.catalog.book(), set)
     }
 
-    /// The native events of a set, and the counter of each, as they are when the set starts. ENOEVST, ECOMBO where it is
+    /// The native events of a set, and the counter of each, as they are when the set starts. ENOEVST, ECOMBO if it is
     /// multiplexed.
     pub fn assign(&self, set: u32) -> Result<Assigned, Code>
         ensures made { Made self.now self.now (call.Assign set)
@@ -141,8 +141,8 @@ impl Library {
         self.session.assign(self.catalog.book(), set)
     }
 
-    /// The register of a counter of a set that runs. ENOEVST, ENOTRUN, EINVAL where no native event of the set is on the counter,
-    /// ECOMBO where it is multiplexed.
+    /// The register of a counter of a set that runs. ENOEVST, ENOTRUN, EINVAL if no native event of the set is on the counter,
+    /// ECOMBO if it is multiplexed.
     pub fn raw(&self, set: u32, c: u32) -> Result<u64, Code>
         ensures made { Made self.now self.now (call.Raw set c)
             (reply_of (λ value. body.Register value) result) }

@@ -21,7 +21,7 @@ use std::alloc::{AllocError, Global};
 
 impl Library {
     /// The code of the event that a text names: PAPI_event_name_to_code(3). A native event is mentioned, and has the code of its
-    /// first mention. ENOEVNT, EATTR and ECOMBO where the text names none.
+    /// first mention. ENOEVNT, EATTR and ECOMBO if the text names none.
     ///
     /// An `Err` comes as of a call by name; nothing is changed then.
     pub fn code_of(&mut self, name: &str) -> Result<Result<u32, Code>, AllocError>
@@ -90,7 +90,7 @@ impl Library {
         }
     }
 
-    // The event of a code, where it can be added.
+    // The event of a code, if it can be added.
     fn coded(&self, code: u32) -> Named
         ensures known { IfOk result (IsKnown self.now.mentioned) }
         ensures coded { result ≡ coded self.now.catalog self.now.mentioned code }
@@ -123,7 +123,7 @@ impl Library {
         self.session.remove(self.catalog.book(), set, &e)
     }
 
-    /// Sets the threshold of the event of a code, where 0 clears it, and zeroes the set's counts: PAPI_overflow(3). The refusals are
+    /// Sets the threshold of the event of a code, which 0 clears, and zeroes the set's counts: PAPI_overflow(3). The refusals are
     /// those of the session.
     pub fn overflow_coded(&mut self, set: u32, code: u32, threshold: u64) -> Code
         ensures made { Made self.old self.new

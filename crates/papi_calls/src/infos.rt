@@ -144,7 +144,7 @@ fn info(
 }
 
 impl Library {
-    /// A part of what PAPI_get_event_info(3) tells of the event of a code; an empty text where there is no such part. ENOEVNT where it is
+    /// A part of what PAPI_get_event_info(3) tells of the event of a code; an empty text if there is no such part. ENOEVNT if it is
     /// the code of no event. The outer `Err` is that memory ran out.
     pub fn info(
         &self,

@@ -20,7 +20,7 @@ use session_model::Named;
 use std::alloc::AllocError;
 
 impl Library {
-    // Mentions a native event, and gives its code. Where there are as many as there are codes, nothing changes.
+    // Mentions a native event, and gives its code. If there are as many as there are codes, nothing changes.
     pub(crate) fn mention(&mut self, native: Native) -> Result<u32, AllocError>
         requires fits { Fits (shape_of self.old.catalog.tables) native }
         ensures code { IfOk result (λ code. code ≡ native_code self.new.mentioned native) }
@@ -36,7 +36,7 @@ impl Library {
         self.codes.mention(native)
     }
 
-    // The event that a text names, which is mentioned. Where it can't be, nothing changes.
+    // The event that a text names, which is mentioned. If it can't be, nothing changes.
     fn name(&mut self, text: &str) -> Result<Named, AllocError>
         ensures named { IfOk result (λ e. e ≡ looked_up self.old.catalog text.now) }
         ensures good { IfOk result (IsNamed self.old.catalog.book self.old.session.core.shape) }
@@ -55,7 +55,7 @@ impl Library {
 
     /// Adds the event of a name to a set, and zeroes its counts: PAPI_add_named_event(3). The refusals are those of the session.
     ///
-    /// An `Err` comes where memory is refused, and where as many native events as there are codes were mentioned. Nothing is changed
+    /// An `Err` comes if memory is refused, and if as many native events as there are codes were mentioned. Nothing is changed
     /// then, here and below.
     pub fn add_named(&mut self, set: u32, name: &str) -> Result<Result<(), Refusal>, AllocError>
         ensures made { IfOk result
@@ -78,7 +78,7 @@ impl Library {
         Ok(self.session.remove(self.catalog.book(), set, &e))
     }
 
-    /// Sets the threshold of the event of a name, where 0 clears it, and zeroes the set's counts: PAPI_overflow(3). The refusals are
+    /// Sets the threshold of the event of a name, which 0 clears, and zeroes the set's counts: PAPI_overflow(3). The refusals are
     /// those of the session.
     pub fn overflow_named(
         &mut self,

@@ -121,7 +121,7 @@ fn row_of(event: &EventRef) -> Result<u32, Code>
 }
 
 impl Library {
-    /// A part of what the rows of a component say, and `None` where there is no such component or counter.
+    /// A part of what the rows of a component say, and `None` if there is no such component or counter.
     pub fn component_text(
         &self,
         alloc: Global,
@@ -135,7 +135,7 @@ impl Library {
         component_part(alloc, self.catalog.tables(), comp, part)
     }
 
-    /// A part of what the rows of the native event in a row of a component say, and `None` where there is no such row or umask.
+    /// A part of what the rows of the native event in a row of a component say, and `None` if there is no such row or umask.
     pub fn native_text(
         &self,
         alloc: Global,
@@ -157,7 +157,7 @@ impl Library {
         }
     }
 
-    /// The component of the event of a code: PAPI_get_event_component(3). ENOEVNT where it is the code of no event that is available.
+    /// The component of the event of a code: PAPI_get_event_component(3). ENOEVNT if it is the code of no event that is available.
     pub fn component_of(&self, code: u32) -> Result<u32, Code>
         ensures component { result
             ≡ of_event (Rows.component_of self.now.catalog.book)
@@ -166,7 +166,7 @@ impl Library {
         component_of(self.catalog.book(), &self.event_of(code)?)
     }
 
-    /// The row in its component of the native event of a code. ENOEVNT where it is the code of no native event.
+    /// The row in its component of the native event of a code. ENOEVNT if it is the code of no native event.
     pub fn row_of(&self, code: u32) -> Result<u32, Code>
         ensures row { result ≡ of_event Rows.row_of
             (event_coded self.now.catalog self.now.mentioned code) }

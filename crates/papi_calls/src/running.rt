@@ -26,7 +26,7 @@ impl Library {
         self.session.run(self.catalog.book(), n, h)
     }
 
-    /// Consumes up to `n` occurrences, and writes a note of each passing of a threshold into the place. Where fewer than 32 notes have
+    /// Consumes up to `n` occurrences, and writes a note of each passing of a threshold into the place. If fewer than 32 notes have
     /// room it stops before the next occurrence, and says that it is full: no note is lost, and a further run goes on. It takes no memory.
     pub fn run_into(&mut self, n: u32, out: &mut [Note]) -> Filled
         ensures follows { FollowsAs self.old.catalog.book self.old.session self.new.session

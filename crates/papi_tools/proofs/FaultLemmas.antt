@@ -6,7 +6,7 @@ use Rattle.std.proofs.lemmas.List.FromFn.{get_or-map-range_with_len, length-map-
 use Rattle.session_model.specs.declared.reply.Ended.{Ended}
 use Rattle.session_model.specs.declared.reply.Ended.TheVariants.{Going, Bad, Fault}
 use Rattle.session_model.specs.World.{first_met, met_in, met_mark}
-use Rattle.thread_session.specs.Faults.{IsFault, IsFaultBody}
+use Rattle.thread_session.specs.Faults.{IsFaultBody, IsFaultReply}
 use Rattle.session_model.specs.declared.reply.Body.{Body}
 use Rattle.session_model.specs.declared.reply.Body.TheVariants as body
 use Rattle.session_model.specs.World.{met_by}
@@ -17,9 +17,9 @@ use Rattle.papi_tools.specs.declared.status.Outcome.TheVariants.{Whole, No, Refu
 
 -- some reply says that the source failed
 abbrev pub SomeFault : List ReplyLine → Type 0
-SomeFault lines = Any (λ l. IsFault l.reply) lines
+SomeFault lines = Any (λ l. IsFaultReply l.reply) lines
 
-here : (l : ReplyLine) (ls : List ReplyLine) → IsFault l.reply → SomeFault (l ∷ ls)
+here : (l : ReplyLine) (ls : List ReplyLine) → IsFaultReply l.reply → SomeFault (l ∷ ls)
 here l ls h = (0, l, omega arith, refl, h)
 
 there : (l : ReplyLine) (ls : List ReplyLine) → SomeFault ls → SomeFault (l ∷ ls)
@@ -87,6 +87,6 @@ no_by_tests false false e = cc
 pub never_no : (marks : List (Option Ended)) → outcome_at marks ≡ No → ⊥
 never_no marks e = no_by_tests (list_any is_fault marks) (list_any is_bad marks) e
 
--- the runs' marks end a call by a fault only where a reply says so
+-- the runs' marks end a call by a fault only if a reply says so
 pub fault_replied : (lines : List ReplyLine) → outcome_at (marks_in lines) ≡ ReadFault → SomeFault lines
 fault_replied lines e = fault_among lines (by_tests (list_any is_fault (marks_in lines)) (list_any is_bad (marks_in lines)) e)

@@ -2,7 +2,7 @@
 use Rattle.std.proofs.Common.{◌≡◌, ℕ, true, false, List, [], Option, Some, None, IfSome, IsSome, Result, Ok, Err, refl, sym, ap, ◌∙◌, subst}
 use Rattle.std.specs.Option.{option_map}
 use Rattle.papi_base.specs.Outside as Outside
-use Rattle.papi_base.specs.Outside.{IsOpened, Tape, Held, fails_next, tape_of}
+use Rattle.papi_base.specs.Outside.{AnswersOpening, Tape, Held, fails_next, tape_of}
 use Rattle.papi_base.specs.declared.outside.OpenFail.{OpenFail}
 use Rattle.papi_base.specs.declared.outside.OpenFail.TheVariants as open_fail
 use Rattle.papi_tools.specs.Answers.{Answers}
@@ -38,14 +38,14 @@ fails_there None name is = (First Failing (ByName (record { tapes = []; refused 
 fails_there (Some held) name is = (ByName held, refl, rw is refl)
 
 pub opens_none : {S : Type 0} (tape : S → Option Tape) (answer : Result S OpenFail) (before : Option Held) (name copy : List ℕ) → answer ≡ Err open_fail.Absent → copy ≡ name →
-    IfSome before (λ h. IsOpened tape answer h name) → ForSome before (λ openings. tape_under openings name ≡ Err (NoSuchFile copy))
+    IfSome before (λ h. AnswersOpening tape answer h name) → ForSome before (λ openings. tape_under openings name ≡ Err (NoSuchFile copy))
 opens_none {S} tape answer before name copy e same h =
-    rw same (none_there before name (subst (λ (r : Result S OpenFail). IfSome before (λ x. IsOpened tape r x name)) e h))
+    rw same (none_there before name (subst (λ (r : Result S OpenFail). IfSome before (λ x. AnswersOpening tape r x name)) e h))
 
 pub opening_fails : {S : Type 0} (tape : S → Option Tape) (answer : Result S OpenFail) (before : Option Held) (name copy : List ℕ) → answer ≡ Err open_fail.Failed → copy ≡ name →
-    IfSome before (λ h. IsOpened tape answer h name) → ForSome before (λ openings. tape_under openings name ≡ Err (CannotRead copy))
+    IfSome before (λ h. AnswersOpening tape answer h name) → ForSome before (λ openings. tape_under openings name ≡ Err (CannotRead copy))
 opening_fails {S} tape answer before name copy e same h =
-    rw same (fails_there before name (subst (λ (r : Result S OpenFail). IfSome before (λ x. IsOpened tape r x name)) e h))
+    rw same (fails_there before name (subst (λ (r : Result S OpenFail). IfSome before (λ x. AnswersOpening tape r x name)) e h))
 
 -- ---- one step after the other
 

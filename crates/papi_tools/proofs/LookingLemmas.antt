@@ -13,7 +13,7 @@ use Rattle.papi_tools.proofs.StreamLemmas.{by_either}
 rose_then : (m n k : ℕ) → Rose m n → m ≤ n → n ≤ k → Rose m k
 rose_then m n k h a b = by_either {A = Rose m n} {B = Rose n k} m n k (inl h) (λ x. x) (λ x. x) a b
 
--- what ended the call did so also where more is looked at
+-- what ended the call did so also if more is looked at
 caused_then : (refusal : Refusal) (before mid after : FilesSeen) → HasFileCause before mid refusal → before.misses ≤ mid.misses → before.faults ≤ mid.faults → mid.misses ≤ after.misses → mid.faults ≤ after.faults
     → HasFileCause before after refusal
 caused_then BadWords before mid after h a b c d = h

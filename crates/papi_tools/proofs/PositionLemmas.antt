@@ -17,10 +17,10 @@ use Rattle.region_report.specs.CallLines.{asked, numbered}
 use Rattle.region_report.specs.Spans.{spans_from}
 use Rattle.script_lines.specs.declared.script.ScriptLine.{ScriptLine}
 use Rattle.script_runner.specs.Resolving.{asked_of, line_of, lines_of, reply_lines_of, setting_of}
-use Rattle.session_model.specs.World.{Setting, Told, World, opening_world, told, turn_of, world_after_line}
+use Rattle.session_model.specs.World.{LineTold, Setting, World, opening_world, told, turn_of, world_after_line}
 use Rattle.session_model.specs.declared.call.Call.TheVariants as call
 use Rattle.session_model.specs.declared.line.Asked.TheVariants as line
-use Rattle.papi_tools.specs.RegionCounts.{Counted, calls_of, events_named, named_by, readings_in, values_in}
+use Rattle.papi_tools.specs.RegionCounts.{GivenRegions, calls_of, events_named, named_by, readings_in, values_in}
 use Rattle.papi_tools.specs.Running.{ran_replies}
 
 -- ---- the events
@@ -30,7 +30,7 @@ unfolding with_texts
 ends_refused catalog r [] = refl
 ends_refused catalog r (text ∷ texts) = ends_refused catalog r texts
 
-one_text : (catalog : CatalogView) (given : Choosing.Given) (text : List ℕ) (texts : List (List ℕ)) → with_texts catalog given (text ∷ texts) ≡ with_texts catalog (with_text catalog given text) texts
+one_text : (catalog : CatalogView) (given : Choosing.GivenSet) (text : List ℕ) (texts : List (List ℕ)) → with_texts catalog given (text ∷ texts) ≡ with_texts catalog (with_text catalog given text) texts
 unfolding with_texts
 one_text catalog given text texts = refl
 
@@ -75,11 +75,11 @@ looks_up catalog s texts t = record { create = refl; add = t.named; start = refl
 
 -- ---- what was read
 
-one_reply : (l : ScriptLine) (ls : List ScriptLine) (x : Told) (xs : List Told) → readings_in (reply_lines_of (l ∷ ls) (x ∷ xs)) ≡ values_in x.reply.body ++ readings_in (reply_lines_of ls xs)
+one_reply : (l : ScriptLine) (ls : List ScriptLine) (x : LineTold) (xs : List LineTold) → readings_in (reply_lines_of (l ∷ ls) (x ∷ xs)) ≡ values_in x.reply.body ++ readings_in (reply_lines_of ls xs)
 unfolding reply_lines_of
 one_reply l ls x xs = refl
 
-no_reply : (xs : List Told) → readings_in (reply_lines_of [] xs) ≡ []
+no_reply : (xs : List LineTold) → readings_in (reply_lines_of [] xs) ≡ []
 unfolding reply_lines_of
 no_reply xs = refl
 
@@ -91,7 +91,7 @@ same_readings at catalog w (l ∷ ls) =
     ∙ ap (λ rs. values_in (turn_of at w here).reply.body ++ rs) (same_readings at catalog (world_after_line at w here) ls)
 
 -- the readings of a run are those of the script with the events
-readings_of_run : ScriptIsLookedUp → (texts : List (List ℕ)) (given : Counted) (events : List EventRef) → LooksUp (asked_of given.catalog) texts events →
+readings_of_run : ScriptIsLookedUp → (texts : List (List ℕ)) (given : GivenRegions) (events : List EventRef) → LooksUp (asked_of given.catalog) texts events →
     readings_in (ran_replies (calls_of texts given)) ≡ readings_told (told (setting_of given.catalog) (opening_world given.streams) (script_of given.lines events))
 unfolding ran_replies lines_of
 readings_of_run law texts given events looks =
@@ -99,7 +99,7 @@ readings_of_run law texts given events looks =
     ∙ ap (λ ls. readings_told (told (setting_of given.catalog) (opening_world given.streams) ls)) (law (asked_of given.catalog) given.lines texts events looks)
 
 -- what was read shows what regions count by positions
-pub by_position : ScriptIsLookedUp → SpansByPosition → (texts : List (List ℕ)) (given : Counted) → All (λ l. l.thread < 64) given.lines → AreBegun given.lines → 1 ≤ length texts →
+pub by_position : ScriptIsLookedUp → SpansByPosition → (texts : List (List ℕ)) (given : GivenRegions) → All (λ l. l.thread < 64) given.lines → AreBegun given.lines → 1 ≤ length texts →
     is_ok (given_set given.catalog texts) ≡ true → AllFit (readings_in (ran_replies (calls_of texts given))) →
     spans_from (readings_in (ran_replies (calls_of texts given))) 0 given.lines ≡ region_spans given.catalog.book given.streams (events_named given.catalog texts) given.lines
 by_position script_law span_law texts given threads begun some taken fit =

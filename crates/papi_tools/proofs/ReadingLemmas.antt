@@ -4,7 +4,7 @@ use Rattle.std.proofs.lemmas.Bool.{le-ltb, lt-ltb}
 use Rattle.std.proofs.lemmas.List.{length-replicate}
 use Rattle.papi_base.specs.Outside.{Tape, Held}
 use Rattle.papi_base.specs.declared.outside.Ending.TheVariants.{End, Fault}
-use Rattle.papi_base.specs.Whole.{IsWhole}
+use Rattle.papi_base.specs.Whole.{AnswersWhole}
 use Rattle.papi_base.specs.declared.whole.WholeFault.{WholeFault}
 use Rattle.papi_base.specs.declared.whole.WholeFault.TheVariants as whole
 use Rattle.papi_tools.specs.Answers.{Answers}
@@ -46,14 +46,14 @@ faulty None limit name copy same is = let t : Tape = record { bytes = []; ending
 faulty (Some t) limit name copy same is = (t, refl, rw same (fails limit name t is.1 is.0))
 
 pub large_tape : (told : Option Tape) (limit : ℕ) (name copy : List ℕ) (answer : Result (Vec ℕ Global) WholeFault) → copy ≡ name → answer ≡ Err whole.TooLarge →
-    IfSome told (λ t. IsWhole answer limit t) → CanAnswer told limit name (Err (stop.Refused (TooLarge copy)))
+    IfSome told (λ t. AnswersWhole answer limit t) → CanAnswer told limit name (Err (stop.Refused (TooLarge copy)))
 large_tape told limit name copy answer same e h =
-    large told limit name copy same (subst (λ (r : Result (Vec ℕ Global) WholeFault). IfSome told (λ t. IsWhole r limit t)) e h)
+    large told limit name copy same (subst (λ (r : Result (Vec ℕ Global) WholeFault). IfSome told (λ t. AnswersWhole r limit t)) e h)
 
 pub faulty_tape : (told : Option Tape) (limit : ℕ) (name copy : List ℕ) (answer : Result (Vec ℕ Global) WholeFault) → copy ≡ name → answer ≡ Err whole.Failed →
-    IfSome told (λ t. IsWhole answer limit t) → CanAnswer told limit name (Err (stop.Refused (CannotRead copy)))
+    IfSome told (λ t. AnswersWhole answer limit t) → CanAnswer told limit name (Err (stop.Refused (CannotRead copy)))
 faulty_tape told limit name copy answer same e h =
-    faulty told limit name copy same (subst (λ (r : Result (Vec ℕ Global) WholeFault). IfSome told (λ t. IsWhole r limit t)) e h)
+    faulty told limit name copy same (subst (λ (r : Result (Vec ℕ Global) WholeFault). IfSome told (λ t. AnswersWhole r limit t)) e h)
 
 -- a file that is open is read whole
 pub read_on : {S : Type 0} (told : S → Option Tape) (source : S) (limit : ℕ) (name : List ℕ) (answer : Result (List ℕ) Stop) (before mid after : Option Held) →

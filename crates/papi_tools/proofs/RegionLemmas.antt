@@ -25,8 +25,8 @@ use Rattle.stream_reader.specs.Reader.{ReaderView}
 use Rattle.tool_words.specs.EventList as Words
 use Rattle.papi_tools.specs.Answers.{Answers, IsExpected}
 use Rattle.papi_tools.specs.Marks.{marked_said}
-use Rattle.papi_tools.specs.RegionCounts.{CanBeCounted, Counted, calls_of, counted_said, readings_in, regions_said, said_with, values_in}
-use Rattle.papi_tools.specs.Running.{CanBeGiven, Given, ran_replies}
+use Rattle.papi_tools.specs.RegionCounts.{CanBeCounted, GivenRegions, calls_of, counted_said, readings_in, regions_said, said_with, values_in}
+use Rattle.papi_tools.specs.Running.{CanBeGivenRun, GivenRun, ran_replies}
 use Rattle.papi_tools.specs.Texts.{text_said}
 use Rattle.papi_tools.specs.declared.refusal.Stop.{Stop}
 use Rattle.papi_tools.specs.declared.refusal.Stop.TheVariants as stop
@@ -45,7 +45,7 @@ reading_more lines i line now next small is step so_far =
     ∙ sym (ap readings_in (take_more lines i line small ∙ ap (λ l. take i lines ++ l ∷ []) (sym is)) ∙ flat_map-append (λ (l : ReplyLine). values_in l.reply.body) (take i lines) (line ∷ []))
 
 -- the calls that the region script asks for are what is given to the run
-pub are_calls : (catalog : CatalogView) (lines : List RegionLine) (script : List ScriptLine) (readers : List ReaderView) (events : List (List ℕ)) (given : Given) → CanBeGiven catalog script readers given →
+pub are_calls : (catalog : CatalogView) (lines : List RegionLine) (script : List ScriptLine) (readers : List ReaderView) (events : List (List ℕ)) (given : GivenRun) → CanBeGivenRun catalog script readers given →
     script ≡ numbered 1 (asked lines events) → given ≡ calls_of events (record { catalog = catalog; lines = lines; streams = given.streams })
 are_calls catalog lines script readers events given is e =
     ap₂ (λ k ls. record { catalog = k; script = ls; streams = given.streams }) (sym is.catalog_is) (sym is.script_is ∙ e)
@@ -56,31 +56,31 @@ script_is lines texts events calls e h = let s : numbered 1 (asked lines texts) 
 
 -- ---- the events
 
-refused_by : (catalog : CatalogView) (events : List (List ℕ)) (given : Counted) (which : Candidates) (g : Choosing.Given) → is_ok g ≡ false → catalog ≡ given.catalog →
+refused_by : (catalog : CatalogView) (events : List (List ℕ)) (given : GivenRegions) (which : Candidates) (g : Choosing.GivenSet) → is_ok g ≡ false → catalog ≡ given.catalog →
     said_with events given g ≡ text_said false (text_of catalog which g)
 refused_by catalog events given which (Ok s) e same = absurd cc
 refused_by catalog events given which (Err r) e same = ap (λ k. text_said false (refused_text k r)) (sym same)
 
 -- the first event that is refused
-pub refused_said : (catalog : CatalogView) (events : List (List ℕ)) (given : Counted) (which : Candidates) (taken : Bool) (said : Said) (text : List ℕ) → catalog ≡ given.catalog →
+pub refused_said : (catalog : CatalogView) (events : List (List ℕ)) (given : GivenRegions) (which : Candidates) (taken : Bool) (said : Said) (text : List ℕ) → catalog ≡ given.catalog →
     taken ≡ all_taken catalog events → taken ≡ false → text ≡ chooser_text catalog which events → said ≡ text_said false text → Answers (Ok said) (Ok (regions_said events given))
 unfolding regions_said
 refused_said catalog events given which taken said text same is refused t e =
     ap Ok (ap (λ k. said_with events given (given_set k events)) (sym same) ∙ refused_by catalog events given which (given_set catalog events) (sym is ∙ refused) same ∙ sym (e ∙ ap (text_said false) t))
 
-taken_by : (events : List (List ℕ)) (given : Counted) (g : Choosing.Given) → is_ok g ≡ true → said_with events given g ≡ counted_said events given
+taken_by : (events : List (List ℕ)) (given : GivenRegions) (g : Choosing.GivenSet) → is_ok g ≡ true → said_with events given g ≡ counted_said events given
 taken_by events given (Ok s) e = refl
 taken_by events given (Err r) e = absurd cc
 
-all_named : (catalog : CatalogView) (events : List (List ℕ)) (given : Counted) (taken : Bool) → catalog ≡ given.catalog → taken ≡ all_taken catalog events → taken ≡ true → is_ok (given_set given.catalog events) ≡ true
+all_named : (catalog : CatalogView) (events : List (List ℕ)) (given : GivenRegions) (taken : Bool) → catalog ≡ given.catalog → taken ≡ all_taken catalog events → taken ≡ true → is_ok (given_set given.catalog events) ≡ true
 all_named catalog events given taken same is named = ap (λ k. all_taken k events) (sym same) ∙ sym is ∙ named
 
-counted_by : (events : List (List ℕ)) (given : Counted) → is_ok (given_set given.catalog events) ≡ true → regions_said events given ≡ counted_said events given
+counted_by : (events : List (List ℕ)) (given : GivenRegions) → is_ok (given_set given.catalog events) ≡ true → regions_said events given ≡ counted_said events given
 unfolding regions_said
 counted_by events given named = taken_by events given (given_set given.catalog events) named
 
--- the report, where all are taken
-pub counted_told : ScriptIsLookedUp → SpansByPosition → (catalog : CatalogView) (lines : List RegionLine) (events : List (List ℕ)) (given : Counted) (taken : Bool) (replies : List ReplyLine) (marks : List (Option Ended))
+-- the report, if all are taken
+pub counted_told : ScriptIsLookedUp → SpansByPosition → (catalog : CatalogView) (lines : List RegionLine) (events : List (List ℕ)) (given : GivenRegions) (taken : Bool) (replies : List ReplyLine) (marks : List (Option Ended))
     (answer : Result Said Stop) → catalog ≡ given.catalog → lines ≡ given.lines → IsRegions lines → AreBegun lines → 1 ≤ length events → taken ≡ all_taken catalog events → taken ≡ true →
     replies ≡ ran_replies (calls_of events given) → marks ≡ marks_in replies → IfOk answer (λ _. AllFit (readings_in replies)) →
     Answers answer (Ok (marked_said marks (report_text (length events) (spans_from (readings_in replies) 0 lines)))) → Answers answer (Ok (regions_said events given))
@@ -95,13 +95,13 @@ counted_told script_law span_law catalog lines events given taken replies marks 
 counted_told script_law span_law catalog lines events given taken replies marks (Err (stop.Refused refusal)) catalog_is lines_are kept begun some t named r m fit h = absurd cc
 counted_told script_law span_law catalog lines events given taken replies marks (Err stop.Memory) catalog_is lines_are kept begun some t named r m fit h = tt
 
--- ---- where nothing is run
+-- ---- if nothing is run
 
 pub nothing_counted : (catalog : CatalogView) (lines : List RegionLine) (readers : List ReaderView) (events : List (List ℕ)) (answer : Result Said Stop) → length readers ≡ 64 →
-    ((given : Counted) → catalog ≡ given.catalog → Answers answer (Ok (regions_said events given))) → (given : Counted) × CanBeCounted catalog lines readers given × Answers answer (Ok (regions_said events given))
+    ((given : GivenRegions) → catalog ≡ given.catalog → Answers answer (Ok (regions_said events given))) → (given : GivenRegions) × CanBeCounted catalog lines readers given × Answers answer (Ok (regions_said events given))
 nothing_counted catalog lines readers events answer long said =
     let (streams, can) = some-streams readers long in
-    let given : Counted = record { catalog = catalog; lines = lines; streams = streams } in
+    let given : GivenRegions = record { catalog = catalog; lines = lines; streams = streams } in
     (given, record { catalog_is = refl; lines_are = refl; can_come = can }, said given refl)
 
 -- the script of calls is not refused, so memory ran out
@@ -110,5 +110,5 @@ out_of_memory (stop.Refused refusal) x y h = absurd cc
 out_of_memory stop.Memory x y h = tt
 
 -- what can be counted is made of the catalog, the lines and the streams
-pub counted_is : (catalog : CatalogView) (lines : List RegionLine) (readers : List ReaderView) (given : Counted) → CanBeCounted catalog lines readers given → record { catalog = catalog; lines = lines; streams = given.streams } ≡ given
+pub counted_is : (catalog : CatalogView) (lines : List RegionLine) (readers : List ReaderView) (given : GivenRegions) → CanBeCounted catalog lines readers given → record { catalog = catalog; lines = lines; streams = given.streams } ≡ given
 counted_is catalog lines readers given is = ap₂ (λ k ls. record { catalog = k; lines = ls; streams = given.streams }) is.catalog_is is.lines_are

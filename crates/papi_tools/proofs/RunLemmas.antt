@@ -9,24 +9,24 @@ use Rattle.overflow_dispatch.specs.declared.handler.Note.{Note}
 use Rattle.overflow_dispatch.specs.Notes.{EachAdded, EachBegun, told_since}
 use Rattle.overflow_dispatch.proofs.SinceLemmas.{added_is_told}
 use Rattle.papi_base.specs.Outside.{Rose}
-use Rattle.session_model.specs.World.{Told, notes_of_thread}
+use Rattle.session_model.specs.World.{LineTold, notes_of_thread}
 use Rattle.session_model.specs.declared.reply.Ended.{Ended}
 use Rattle.stream_reader.specs.Reader.{ReaderView, SourceView}
-use Rattle.thread_session.specs.Faults.{FaultsKept, FaultsRose, IsFault, fault_count}
+use Rattle.thread_session.specs.Faults.{FaultsKept, FaultsRose, IsFaultReply, fault_count}
 use Rattle.component_table.specs.Catalogs.{CatalogView, shape_of}
 use Rattle.script_lines.specs.declared.script.ScriptLine.{ScriptLine}
 use Rattle.plan_runner.specs.declared.plan.PlanLine.{PlanLine}
 use Rattle.plan_runner.specs.declared.result.ReplyLine.{ReplyLine}
 use Rattle.plan_runner.specs.Marks.{marks_in}
 use Rattle.plan_runner.specs.Plans.{IsPlanOf}
-use Rattle.plan_runner.specs.Runs.{AllKept, IsPlannedFrom, Tells, reply_lines}
+use Rattle.plan_runner.specs.Runs.{AllKept, IsPlannedAndTold, IsPlannedFrom, reply_lines}
 use Rattle.plan_runner.proofs.Worlds.{some-streams}
 use Rattle.script_runner.specs.Resolving.{lines_of, reply_lines_of, setting_of}
 use Rattle.papi_tools.specs.Answers.{Answers}
 use Rattle.papi_tools.specs.Causes.{MetCause}
 use Rattle.papi_tools.specs.Marks.{marked_said, outcome_at}
 use Rattle.papi_tools.specs.Run.{ran_verdict, run_said, shown_notes}
-use Rattle.papi_tools.specs.Running.{CanBeGiven, Given, IsGiven, note_counts, ran_notes, ran_replies, told_in}
+use Rattle.papi_tools.specs.Running.{CanBeGivenRun, GivenRun, IsGivenRun, note_counts, ran_notes, ran_replies, told_in}
 use Rattle.papi_tools.specs.Seen.{FilesSeen}
 use Rattle.papi_tools.specs.Streams.{SomeFailed, sources_in}
 use Rattle.papi_tools.specs.Verdict.{AnswersSaid, TellsBy}
@@ -42,9 +42,9 @@ use Rattle.papi_tools.proofs.TellingLemmas.{added_begun}
 -- ---- the run of a script
 
 -- the readers tell what is given
-pub tells : (catalog : CatalogView) (script : List ScriptLine) (given : Given) (book : Book) (shape : Widths) (plan : List PlanLine) (readers : List ReaderView) →
-    IsGiven catalog script readers given → book ≡ catalog.book → shape ≡ shape_of catalog.tables → IsPlanOf (setting_of catalog) (lines_of catalog script) plan →
-    Tells (setting_of given.catalog) (lines_of given.catalog given.script) given.streams book shape plan readers
+pub tells : (catalog : CatalogView) (script : List ScriptLine) (given : GivenRun) (book : Book) (shape : Widths) (plan : List PlanLine) (readers : List ReaderView) →
+    IsGivenRun catalog script readers given → book ≡ catalog.book → shape ≡ shape_of catalog.tables → IsPlanOf (setting_of catalog) (lines_of catalog script) plan →
+    IsPlannedAndTold (setting_of given.catalog) (lines_of given.catalog given.script) given.streams book shape plan readers
 tells catalog script given book shape plan readers is b w p = record {
   same_book = ap (λ (k : CatalogView). k.book) (sym is.catalog_is) ∙ sym b;
   same_shape = ap (λ (k : CatalogView). shape_of k.tables) (sym is.catalog_is) ∙ sym w;
@@ -58,14 +58,14 @@ pub planned_from : (catalog : CatalogView) (script : List ScriptLine) (book : Bo
 planned_from catalog script book shape plan b w p = record { same_book = sym b; same_shape = sym w; looked_up = p }
 
 -- nothing was run
-pub nothing_ran : (catalog : CatalogView) (script : List ScriptLine) (readers : List ReaderView) → length readers ≡ 64 → (given : Given) × CanBeGiven catalog script readers given
+pub nothing_ran : (catalog : CatalogView) (script : List ScriptLine) (readers : List ReaderView) → length readers ≡ 64 → (given : GivenRun) × CanBeGivenRun catalog script readers given
 nothing_ran catalog script readers long =
     let some = some-streams readers long in
     (record { catalog = catalog; script = script; streams = some.0 }, record { catalog_is = refl; script_is = refl; can_come = some.1 })
 
 -- the replies beside the plan's lines are those beside the script's
-pub replied : (given : Given) (script : List ScriptLine) (plan : List PlanLine) (lines : List ReplyLine) → script ≡ given.script → lines ≡ reply_lines plan (told_in given) →
-    ((told : List Told) → reply_lines plan told ≡ reply_lines_of script told) → lines ≡ ran_replies given
+pub replied : (given : GivenRun) (script : List ScriptLine) (plan : List PlanLine) (lines : List ReplyLine) → script ≡ given.script → lines ≡ reply_lines plan (told_in given) →
+    ((told : List LineTold) → reply_lines plan told ≡ reply_lines_of script told) → lines ≡ ran_replies given
 unfolding ran_replies
 replied given script plan lines s e heads = e ∙ heads (told_in given) ∙ ap (λ ls. reply_lines_of ls (told_in given)) s
 
@@ -98,11 +98,11 @@ failed_at (r ∷ rs) (suc t) n e h =
     let (k, x, small, is, p) = failed_at rs t n e h in
     (suc k, x, omega arith, is, p)
 
--- a reply of a fault comes where some source has failed
+-- a reply of a fault comes if some source has failed
 pub faulty : (before : List (Option ℕ)) (readers : List ReaderView) (lines : List ReplyLine) →
-    All (λ l. IsFault l.reply → FaultsRose (slice_index_or before l.thread None) (slice_index_or (map fault_count readers) l.thread None)) lines → SomeFault lines → SomeFailed readers
+    All (λ l. IsFaultReply l.reply → FaultsRose (slice_index_or before l.thread None) (slice_index_or (map fault_count readers) l.thread None)) lines → SomeFault lines → SomeFailed readers
 faulty before readers lines each (k, l, small, is, h) =
-    let here : IsFault l.reply → FaultsRose (slice_index_or before l.thread None) (slice_index_or (map fault_count readers) l.thread None) = rw is at (each k l small) in
+    let here : IsFaultReply l.reply → FaultsRose (slice_index_or before l.thread None) (slice_index_or (map fault_count readers) l.thread None) = rw is at (each k l small) in
     let (n, e, above) = rose_some (slice_index_or before l.thread None) (slice_index_or (map fault_count readers) l.thread None) (here h) in
     failed_at readers l.thread n e above
 
@@ -127,7 +127,7 @@ sources_kept (b ∷ bs) (a ∷ as') h =
 -- ---- what is said of it
 
 -- there is a list of notes for each of the 64 threads, as there are handlers
-pub as_many : {X : Type 0} (told : X → List Note) (handlers : Vec X Global) (given : Given) → vec_len handlers ≡ 64 → length (ran_notes given) ≡ length (map told handlers.items)
+pub as_many : {X : Type 0} (told : X → List Note) (handlers : Vec X Global) (given : GivenRun) → vec_len handlers ≡ 64 → length (ran_notes given) ≡ length (map told handlers.items)
 unfolding ran_notes
 as_many told handlers given h =
     let all : length handlers.items ≡ 64 = omega (arith, h) in
@@ -138,7 +138,7 @@ since : (wanted : Bool) (counts : List ℕ) (before given after : List (List Not
 since false counts before given after e same h = refl
 since true counts before given after e same h = ap (λ ks. told_since ks after) e ∙ added_is_told before given after same h
 
-said_is : {X : Type 0} (told : X → List Note) (handlers : Vec X Global) (after : List (List Note)) (given : Given) (wanted : Bool) (lines : List ReplyLine) (marks : List (Option Ended)) (counts : List ℕ) (said : Said) →
+said_is : {X : Type 0} (told : X → List Note) (handlers : Vec X Global) (after : List (List Note)) (given : GivenRun) (wanted : Bool) (lines : List ReplyLine) (marks : List (Option Ended)) (counts : List ℕ) (said : Said) →
     vec_len handlers ≡ 64 → lines ≡ ran_replies given → marks ≡ marks_in lines → counts ≡ note_counts (map told handlers.items) → EachAdded (map told handlers.items) (ran_notes given) after →
     said ≡ run_said given.catalog lines marks (if wanted then told_since counts after else []) → (ran_verdict wanted given).said ≡ said
 unfolding ran_verdict
@@ -149,7 +149,7 @@ said_is told handlers after given wanted lines marks counts said n l m c h e =
     ∙ ap (λ ls. run_said given.catalog ls (marks_in ls) (shown_notes wanted (ran_notes given))) l)
 
 -- what is said of a run is what the definition says
-pub said_told : {X : Type 0} (told : X → List Note) (handlers : Vec X Global) (after : List (List Note)) (given : Given) (catalog : CatalogView) (wanted : Bool) (lines : List ReplyLine) (marks : List (Option Ended)) (counts : List ℕ) (answer : Result Said Stop) →
+pub said_told : {X : Type 0} (told : X → List Note) (handlers : Vec X Global) (after : List (List Note)) (given : GivenRun) (catalog : CatalogView) (wanted : Bool) (lines : List ReplyLine) (marks : List (Option Ended)) (counts : List ℕ) (answer : Result Said Stop) →
     vec_len handlers ≡ 64 → catalog ≡ given.catalog → lines ≡ ran_replies given → marks ≡ marks_in lines → counts ≡ note_counts (map told handlers.items) → EachAdded (map told handlers.items) (ran_notes given) after →
     Answers answer (Ok (run_said catalog lines marks (if wanted then told_since counts after else []))) → AnswersSaid answer (Ok (ran_verdict wanted given))
 said_told told handlers after given catalog wanted lines marks counts (Ok said) n k l m c h e =
@@ -160,13 +160,13 @@ said_told told handlers after given catalog wanted lines marks counts (Err (stop
 said_told told handlers after given catalog wanted lines marks counts (Err stop.Memory) n k l m c h e = tt
 
 -- all notes are told, whatever is said
-pub added_tells : (wanted : Bool) (given : Given) (before after : List (List Note)) (answer : Result Said Stop) → EachAdded before (ran_notes given) after → TellsBy answer (ran_verdict wanted given).notes before after
+pub added_tells : (wanted : Bool) (given : GivenRun) (before after : List (List Note)) (answer : Result Said Stop) → EachAdded before (ran_notes given) after → TellsBy answer (ran_verdict wanted given).notes before after
 unfolding ran_verdict
 added_tells wanted given before after (Ok said) h = h
 added_tells wanted given before after (Err (stop.Refused refusal)) h = h
 added_tells wanted given before after (Err stop.Memory) h = added_begun before (ran_notes given) after h
 
-pub begun_tells : (wanted : Bool) (given : Given) (before after : List (List Note)) → EachBegun before (ran_notes given) after → TellsBy (Err stop.Memory) (ran_verdict wanted given).notes before after
+pub begun_tells : (wanted : Bool) (given : GivenRun) (before after : List (List Note)) → EachBegun before (ran_notes given) after → TellsBy (Err stop.Memory) (ran_verdict wanted given).notes before after
 unfolding ran_verdict
 begun_tells wanted given before after h = h
 
@@ -205,5 +205,5 @@ met_later before between after (Ok said) small big h = met_at said.outcome befor
 met_later before between after (Err s) small big h = tt
 
 -- what can be given is made of the catalog, the script and the streams
-pub given_is : (catalog : CatalogView) (script : List ScriptLine) (readers : List ReaderView) (given : Given) → CanBeGiven catalog script readers given → record { catalog = catalog; script = script; streams = given.streams } ≡ given
+pub given_is : (catalog : CatalogView) (script : List ScriptLine) (readers : List ReaderView) (given : GivenRun) → CanBeGivenRun catalog script readers given → record { catalog = catalog; script = script; streams = given.streams } ≡ given
 given_is catalog script readers given is = ap₂ (λ k ls. record { catalog = k; script = ls; streams = given.streams }) is.catalog_is is.script_is

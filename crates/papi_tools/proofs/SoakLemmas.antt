@@ -14,7 +14,7 @@ use Rattle.plan_runner.specs.declared.result.ReplyLine.{ReplyLine}
 use Rattle.soak_input.specs.declared.summary.ThreadTotal.{ThreadTotal}
 use Rattle.tool_words.specs.declared.soak.SoakWords.{SoakWords}
 use Rattle.papi_tools.specs.Answers.{Answers, AnswersBy}
-use Rattle.papi_tools.specs.Running.{Given, IsGiven, note_counts, ran_notes, ran_replies}
+use Rattle.papi_tools.specs.Running.{GivenRun, IsGivenRun, note_counts, ran_notes, ran_replies}
 use Rattle.papi_tools.specs.Soaking.{soak_given, soak_tape, soak_tapes, soak_verdict, soaked, stop_values, summary_said, thread_total, thread_totals, total_between, totals_between}
 use Rattle.papi_tools.specs.Steps.{Verdict, and_then}
 use Rattle.papi_tools.specs.Streams.{empty_stream, stream_of, streams_of}
@@ -61,7 +61,7 @@ same_map : {X : Type 0} (f g : ℕ → X) (a n : ℕ) → ((k : ℕ) → k < a +
 same_map f g a zero h = refl
 same_map f g a (suc n) h = ap₂ (λ x xs. x ∷ xs) (h a (omega arith)) (same_map f g (a + 1) n (λ k small. h k (omega arith)))
 
--- so many notes more
+-- n notes more
 told_more : (before given after : List (List Note)) (t : ℕ) → EachAdded before given after → t < length before →
     slice_index (note_counts after) t - slice_index (note_counts before) t ≡ length (slice_index_or given t [])
 told_more before given after t h small =
@@ -76,7 +76,7 @@ totals_told lines before given after h all =
 
 -- ---- what is said and told
 
-said_is : {X : Type 0} (told : X → List Note) (handlers later : List X) (given : Given) (lines : List ReplyLine) (counts : List ℕ) (said : Said) → length handlers ≡ 64 → lines ≡ ran_replies given →
+said_is : {X : Type 0} (told : X → List Note) (handlers later : List X) (given : GivenRun) (lines : List ReplyLine) (counts : List ℕ) (said : Said) → length handlers ≡ 64 → lines ≡ ran_replies given →
     counts ≡ note_counts (map told handlers) → EachAdded (map told handlers) (ran_notes given) (map told later) →
     said ≡ summary_said (totals_between lines counts (map (λ x. length (told x)) later)) (length lines) → (soaked given).said ≡ said
 unfolding soaked
@@ -89,7 +89,7 @@ said_is told handlers later given lines counts said all l c h e =
     ∙ ap (λ ls. summary_said (thread_totals ls (ran_notes given)) (length ls)) l)
 
 -- what is said of a run is what the definition says
-pub said_told : {X : Type 0} (told : X → List Note) (handlers : Vec X Global) (later : List X) (given : Given) (lines : List ReplyLine) (counts : List ℕ) (answer : Result Said Stop) → vec_len handlers ≡ 64 →
+pub said_told : {X : Type 0} (told : X → List Note) (handlers : Vec X Global) (later : List X) (given : GivenRun) (lines : List ReplyLine) (counts : List ℕ) (answer : Result Said Stop) → vec_len handlers ≡ 64 →
     lines ≡ ran_replies given → counts ≡ note_counts (map told handlers.items) → EachAdded (map told handlers.items) (ran_notes given) (map told later) →
     Answers answer (Ok (summary_said (totals_between lines counts (map (λ x. length (told x)) later)) (length lines))) → AnswersSaid answer (Ok (soaked given))
 said_told told handlers later given lines counts (Ok said) n l c h e =
@@ -100,45 +100,45 @@ said_told told handlers later given lines counts (Err (stop.Refused refusal)) n 
 said_told told handlers later given lines counts (Err stop.Memory) n l c h e = tt
 
 -- all notes are told, whatever is said
-pub added_tells : (given : Given) (before after : List (List Note)) (answer : Result Said Stop) → EachAdded before (ran_notes given) after → TellsBy answer (soaked given).notes before after
+pub added_tells : (given : GivenRun) (before after : List (List Note)) (answer : Result Said Stop) → EachAdded before (ran_notes given) after → TellsBy answer (soaked given).notes before after
 unfolding soaked
 added_tells given before after (Ok said) h = h
 added_tells given before after (Err (stop.Refused refusal)) h = h
 added_tells given before after (Err stop.Memory) h = added_begun before (ran_notes given) after h
 
-pub begun_tells : (given : Given) (before after : List (List Note)) → EachBegun before (ran_notes given) after → TellsBy (Err stop.Memory) (soaked given).notes before after
+pub begun_tells : (given : GivenRun) (before after : List (List Note)) → EachBegun before (ran_notes given) after → TellsBy (Err stop.Memory) (soaked given).notes before after
 unfolding soaked
 begun_tells given before after h = h
 
 -- ---- the whole of it
 
-said_by : (expected : Result Given Refusal) (catalog : CatalogView) (script : List ScriptLine) (readers : List ReaderView) (answer : Result Said Stop) → IsOkAnd expected (IsGiven catalog script readers) →
-    ((given : Given) → IsGiven catalog script readers given → AnswersSaid answer (Ok (soaked given))) → AnswersSaid answer (and_then expected (λ given. Ok (soaked given)))
+said_by : (expected : Result GivenRun Refusal) (catalog : CatalogView) (script : List ScriptLine) (readers : List ReaderView) (answer : Result Said Stop) → IsOkAnd expected (IsGivenRun catalog script readers) →
+    ((given : GivenRun) → IsGivenRun catalog script readers given → AnswersSaid answer (Ok (soaked given))) → AnswersSaid answer (and_then expected (λ given. Ok (soaked given)))
 said_by (Ok given) catalog script readers answer is each = each given is
 said_by (Err refusal) catalog script readers answer is each = absurd is
 
 pub run_told : (words : SoakWords) (rounds : ℕ) (catalog : CatalogView) (script : List ScriptLine) (readers : List ReaderView) (answer : Result Said Stop) → rounds ≡ words.rounds →
-    IsOkAnd (soak_given rounds) (IsGiven catalog script readers) → ((given : Given) → IsGiven catalog script readers given → AnswersSaid answer (Ok (soaked given))) → AnswersSaid answer (soak_verdict words)
+    IsOkAnd (soak_given rounds) (IsGivenRun catalog script readers) → ((given : GivenRun) → IsGivenRun catalog script readers given → AnswersSaid answer (Ok (soaked given))) → AnswersSaid answer (soak_verdict words)
 unfolding soak_verdict
 run_told words rounds catalog script readers answer same is each = rw (← same) (said_by (soak_given rounds) catalog script readers answer is each)
 
-tells_by : (expected : Result Given Refusal) (catalog : CatalogView) (script : List ScriptLine) (readers : List ReaderView) (before after : List (List Note)) (answer : Result Said Stop) →
-    IsOkAnd expected (IsGiven catalog script readers) → ((given : Given) → IsGiven catalog script readers given → TellsBy answer (soaked given).notes before after) →
+tells_by : (expected : Result GivenRun Refusal) (catalog : CatalogView) (script : List ScriptLine) (readers : List ReaderView) (before after : List (List Note)) (answer : Result Said Stop) →
+    IsOkAnd expected (IsGivenRun catalog script readers) → ((given : GivenRun) → IsGivenRun catalog script readers given → TellsBy answer (soaked given).notes before after) →
     TellsBy answer (notes_in (and_then expected (λ given. Ok (soaked given)))) before after
 tells_by (Ok given) catalog script readers before after answer is each = each given is
 tells_by (Err refusal) catalog script readers before after answer is each = absurd is
 
 pub run_tells : (words : SoakWords) (rounds : ℕ) (catalog : CatalogView) (script : List ScriptLine) (readers : List ReaderView) (before after : List (List Note)) (answer : Result Said Stop) →
-    rounds ≡ words.rounds → IsOkAnd (soak_given rounds) (IsGiven catalog script readers) → ((given : Given) → IsGiven catalog script readers given → TellsBy answer (soaked given).notes before after) →
+    rounds ≡ words.rounds → IsOkAnd (soak_given rounds) (IsGivenRun catalog script readers) → ((given : GivenRun) → IsGivenRun catalog script readers given → TellsBy answer (soaked given).notes before after) →
     TellsBy answer (notes_in (soak_verdict words)) before after
 unfolding soak_verdict
 run_tells words rounds catalog script readers before after answer same is each = rw (← same) (tells_by (soak_given rounds) catalog script readers before after answer is each)
 
 -- an answer that is not a value
-abbrev pub IsRefusedBy : Stop → Result Given Refusal → Type 0
+abbrev pub IsRefusedBy : Stop → Result GivenRun Refusal → Type 0
 IsRefusedBy s expected = AnswersBy {A = Unit {0}} (λ x e. Unit {0}) (Err s) expected
 
-refused_by : (expected : Result Given Refusal) (s : Stop) → IsRefusedBy s expected → AnswersSaid (Err s) (and_then expected (λ given. Ok (soaked given)))
+refused_by : (expected : Result GivenRun Refusal) (s : Stop) → IsRefusedBy s expected → AnswersSaid (Err s) (and_then expected (λ given. Ok (soaked given)))
 refused_by expected (stop.Refused refusal) h = let e : expected ≡ Err refusal = h in rw e refl
 refused_by expected stop.Memory h = tt
 

@@ -18,7 +18,7 @@ map-replicate : {X Y : Type 0} (f : X → Y) (n : ℕ) (x : X) → map f (replic
 map-replicate f zero x = refl
 map-replicate f (suc n) x = ap (λ ys. f x ∷ ys) (map-replicate f n x)
 
--- where the readers tell the streams of the tapes, and then empty ones, they tell the streams of all threads
+-- if the readers tell the streams of the tapes, and then empty ones, they tell the streams of all threads
 pub all_streams : (tapes : List Tape) (named coming : List (Option Coming)) (n : ℕ) → named ≡ map (λ t. Some (stream_of t)) tapes → n ≡ length named →
     coming ≡ named ++ replicate (64 - n) (Some empty_stream) → coming ≡ map (λ s. Some s) (streams_of tapes)
 unfolding streams_of

@@ -3,7 +3,7 @@ use Rattle.std.proofs.Common.{◌≡◌, List, [], ◌++◌, append-nil, length,
 use Rattle.std.proofs.lemmas.List.{take_all}
 use Rattle.overflow_dispatch.specs.declared.handler.Note.{Note}
 use Rattle.overflow_dispatch.specs.Notes.{EachAdded, EachBegun, EachGrown}
-use Rattle.papi_tools.specs.Saying.{Tells}
+use Rattle.papi_tools.specs.Saying.{TellsNotes}
 use Rattle.papi_tools.specs.Steps.{Verdict}
 use Rattle.papi_tools.specs.Verdict.{ended, notes_in}
 use Rattle.papi_tools.specs.declared.refusal.Refusal.{Refusal}
@@ -22,7 +22,7 @@ added_begun before given after h = record {
 }
 
 -- all notes are told, whatever was written
-pub all_told : (s : Status) (before given after : List (List Note)) → EachAdded before given after → Tells s given before after
+pub all_told : (s : Status) (before given after : List (List Note)) → EachAdded before given after → TellsNotes s given before after
 all_told Whole before given after h = h
 all_told No before given after h = h
 all_told Refused before given after h = h

@@ -6,7 +6,7 @@ use Rattle.overflow_dispatch.specs.Notes.{EachGrown}
 use Rattle.tool_words.specs.Form.{form}
 use Rattle.papi_tools.specs.Causes.{IsCaused, SaysNo}
 use Rattle.papi_tools.specs.Openings.{ForSome, Openings}
-use Rattle.papi_tools.specs.Saying.{HasSinkCause, IsJudged, Says, SaysAll, Tells}
+use Rattle.papi_tools.specs.Saying.{HasSinkCause, IsJudged, Says, SaysAll, TellsNotes}
 use Rattle.papi_tools.specs.Seen.{FilesSeen, SinkSeen}
 use Rattle.papi_tools.specs.Verdict.{verdict}
 use Rattle.papi_tools.specs.declared.status.Status.{Status}
@@ -23,17 +23,17 @@ pub record CarriesOutOver (openings : Openings) (words : List (List ℕ)) (s : S
   pub sinks : HasSinkCause s out.faults out'.faults err.faults err'.faults
   pub rises : (out.faults < out'.faults) ⊎ (err.faults < err'.faults) → s ≡ status.WriteFault
   pub complete : ¬ (Rose files.faults files'.faults) → ¬ (Rose out.faults out'.faults) → ¬ (Rose err.faults err'.faults) → IsJudged s
-  -- where no sink failed, all of it is said, or memory ran out
+  -- if no sink failed, all of it is said, or memory ran out
   pub whole : ¬ (Rose out.faults out'.faults) → ¬ (Rose err.faults err'.faults) → SaysAll s (verdict words openings).said out.taken out'.taken err.taken err'.taken
   -- every source that was opened is closed
   pub returned : files'.lent ≡ files.lent
 
 -- Such a call told the handlers the notes of the verdict, and each list of notes has grown at its end.
 pub record TellsOver (openings : Openings) (words : List (List ℕ)) (s : Status) (before after : List (List Note)) : Type 0 where
-  pub tells : Tells s (verdict words openings).notes before after
+  pub tells : TellsNotes s (verdict words openings).notes before after
   pub grown : EachGrown before after
 
--- A call with these words ended with this status: so for some openings that can be those of the files, which are those that the files tell, where they tell.
+-- A call with these words ended with this status: so for some openings that can be those of the files, which are those that the files tell, if they tell.
 abbrev pub CarriesOut : List (List ℕ) → Status → FilesSeen → FilesSeen → SinkSeen → SinkSeen → SinkSeen → SinkSeen → Type 0
 CarriesOut words s files files' out out' err err' = ForSome files.held (λ openings. CarriesOutOver openings words s files files' out out' err err')
 

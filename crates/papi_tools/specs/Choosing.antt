@@ -24,7 +24,7 @@ candidates_of kind.Preset = candidates.Preset
 abbrev pub choice_said : CatalogView → EventKind → List (List ℕ) → Said
 choice_said catalog which events = text_said (all_taken catalog events) (chooser_text catalog (candidates_of which) events)
 
--- the unit, then the presets where they are asked for
+-- the unit, then the presets if they are asked for
 unfoldable pub chooser_verdict : Openings → ChooserWords → Result Said Refusal
 chooser_verdict openings words =
     and_then (catalog_under openings words.unit words.presets) (λ catalog. Ok (choice_said catalog words.kind words.events))

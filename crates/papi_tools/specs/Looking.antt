@@ -24,7 +24,7 @@ abbrev pub out_with : {A E : Type 0} → (A → ℕ) → Result A E → ℕ
 out_with out (Ok value) = out value
 out_with out (Err e) = 0
 
--- A step with this answer looked at files: a refusal has its cause, no count of misses or faults fell, and so many sources more are out.
+-- A step with this answer looked at files: a refusal has its cause, no count of misses or faults fell, and n sources more are out.
 pub record Looked {A : Type 0} (answer : Result A Stop) (out : ℕ) (before after : FilesSeen) : Type 0 where
   pub cause : StopsByFile answer before after
   pub misses_stay : before.misses ≤ after.misses

@@ -10,7 +10,7 @@ use Rattle.papi_tools.specs.declared.limits.TheConstants.{TABLE_BYTES}
 use Rattle.papi_tools.specs.declared.refusal.Refusal.{Refusal}
 use Rattle.papi_tools.specs.declared.refusal.Refusal.TheVariants.{MapRow}
 
--- the ranges of a map of this name, where it has no fault
+-- the ranges of a map of this name, if it has no fault
 abbrev pub ranges_unless : List ℕ → Option (ℕ × MapCause) → List RangeText → Result (List RangeText) Refusal
 ranges_unless name None ranges = Ok ranges
 ranges_unless name (Some fault) ranges = Err (MapRow name fault.0 fault.1)

@@ -13,7 +13,7 @@ use Rattle.papi_tools.specs.UnitFile.{unit_under}
 use Rattle.papi_tools.specs.declared.refusal.Refusal.{Refusal}
 use Rattle.papi_tools.specs.declared.said.Said.{Said}
 
--- the list of the events that the words choose; or the event of a name, where one is asked for: a name of no event is a no
+-- the list of the events that the words choose; or the event of a name, if one is asked for: a name of no event is a no
 abbrev pub natives_said : List ComponentText → NativeAvailWords → Option (List ℕ) → Said
 natives_said tables words None = text_said true (native_list tables words.included words.excluded words.umasks)
 natives_said tables words (Some name) = text_said (is_ok (names tables name)) (native_event tables name)

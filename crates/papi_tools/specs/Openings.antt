@@ -35,11 +35,11 @@ tape_under (First Absent later) name = Err (NoSuchFile name)
 tape_under (First Failing later) name = Err (CannotRead name)
 tape_under (First (Open tape) later) name = Ok tape
 
--- These can be the coming openings of files: by what the files hold, where they tell it.
+-- These can be the coming openings of files: by what the files hold, if they tell it.
 abbrev pub CanOpen : Option Held → Openings → Type 0
 CanOpen held openings = IfSome held (λ h. openings ≡ ByName h)
 
--- a tape that can be that of a source: the one that it tells, where it tells
+-- a tape that can be that of a source: the one that it tells, if it tells
 abbrev pub CanGive : Option Tape → Tape → Type 0
 CanGive told tape = IfSome told (λ t. t ≡ tape)
 

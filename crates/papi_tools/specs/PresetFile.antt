@@ -11,7 +11,7 @@ use Rattle.papi_tools.specs.declared.limits.TheConstants.{TABLE_BYTES}
 use Rattle.papi_tools.specs.declared.refusal.Refusal.{Refusal}
 use Rattle.papi_tools.specs.declared.refusal.Refusal.TheVariants.{PresetRow}
 
--- the presets and user events of a file of this name, where it has no fault
+-- the presets and user events of a file of this name, if it has no fault
 abbrev pub presets_unless : List ℕ → Option (ℕ × PresetCause) → ExtendedView → Result ExtendedView Refusal
 presets_unless name None presets = Ok presets
 presets_unless name (Some fault) presets = Err (PresetRow name fault.0 fault.1)
@@ -28,7 +28,7 @@ presets_under openings words = and_then (file_bytes TABLE_BYTES openings words.f
 abbrev pub some_presets : ExtendedView → Result (Option ExtendedView) Refusal
 some_presets presets = Ok (Some presets)
 
--- the same where presets need not be asked for
+-- the same if presets need not be asked for
 abbrev pub presets_asked : Openings → Option PresetWords → Result (Option ExtendedView) Refusal
 presets_asked openings None = Ok None
 presets_asked openings (Some words) = and_then (presets_under openings words) some_presets

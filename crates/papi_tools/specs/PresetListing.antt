@@ -11,7 +11,7 @@ use Rattle.papi_tools.specs.Texts.{text_said}
 use Rattle.papi_tools.specs.declared.refusal.Refusal.{Refusal}
 use Rattle.papi_tools.specs.declared.said.Said.{Said}
 
--- the list of the presets and user events, all of them or the available ones alone; or the event of a name, where one is asked for: a
+-- the list of the presets and user events, all of them or the available ones alone; or the event of a name, if one is asked for: a
 -- name that none of them has is a no
 abbrev pub presets_said : CatalogView → Bool → Option (List ℕ) → Said
 presets_said catalog available None = text_said true (preset_list catalog available)

@@ -11,7 +11,7 @@ use Rattle.papi_tools.specs.declared.limits.TheConstants.{SCRIPT_BYTES}
 use Rattle.papi_tools.specs.declared.refusal.Refusal.{Refusal}
 use Rattle.papi_tools.specs.declared.refusal.Refusal.TheVariants as refusal
 
--- the lines of a region script of this name, where it has no fault
+-- the lines of a region script of this name, if it has no fault
 abbrev pub regions_unless : List ℕ → Result (List RegionLine) (Refused RegionCause) → Result (List RegionLine) Refusal
 regions_unless name (Ok lines) = Ok lines
 regions_unless name (Err refused) = Err (refusal.RegionLine name refused.line refused.cause)

@@ -28,12 +28,12 @@ Says s said out out' err err' = (s ≡ status_of said.outcome) × WroteAll said 
 abbrev pub SaysAll : Status → Said → Option (List ℕ) → Option (List ℕ) → Option (List ℕ) → Option (List ℕ) → Type 0
 SaysAll s said out out' err err' = ((s ≡ status_of said.outcome) × WroteAll said out out' err err') ⊎ (s ≡ status.Memory)
 
--- A call with this status has told each handler the notes of its thread, where memory ran out, a prefix of them.
-abbrev pub Tells : Status → List (List Note) → List (List Note) → List (List Note) → Type 0
-Tells status.Memory given before after = EachBegun before given after
-Tells s given before after = EachAdded before given after
+-- A call with this status has told each handler the notes of its thread, if memory ran out, a prefix of them.
+abbrev pub TellsNotes : Status → List (List Note) → List (List Note) → List (List Note) → Type 0
+TellsNotes status.Memory given before after = EachBegun before given after
+TellsNotes s given before after = EachAdded before given after
 
--- Status 5 only where one of the sinks failed, once: after a failed write nothing more is handed to it. The counts stay where the status is another one.
+-- Status 5 only if one of the sinks failed, once: after a failed write nothing more is handed to it. The counts stay if the status is another one.
 abbrev pub HasSinkCause : Status → ℕ → ℕ → ℕ → ℕ → Type 0
 HasSinkCause status.WriteFault out out' err err' = ((out' ≡ next_count out) × (err' ≡ err)) ⊎ ((out' ≡ out) × (err' ≡ next_count err))
 HasSinkCause s out out' err err' = (out' ≡ out) × (err' ≡ err)

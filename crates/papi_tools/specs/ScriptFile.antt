@@ -11,7 +11,7 @@ use Rattle.papi_tools.specs.declared.limits.TheConstants.{SCRIPT_BYTES}
 use Rattle.papi_tools.specs.declared.refusal.Refusal.{Refusal}
 use Rattle.papi_tools.specs.declared.refusal.Refusal.TheVariants.{Line}
 
--- the script of this name, where it has no fault
+-- the script of this name, if it has no fault
 abbrev pub script_unless : List ℕ → Result (List ScriptLine) (Refused ScriptCause) → Result (List ScriptLine) Refusal
 script_unless name (Ok script) = Ok script
 script_unless name (Err refused) = Err (Line name refused.line refused.cause)

@@ -2,7 +2,7 @@
 use Rattle.std.specs.Prelude.{ℕ, List, Option}
 use Rattle.papi_base.specs.Outside.{Held}
 
--- the files and the openings that fail, where they are told, and the counts of misses, of faults and of sources that are out
+-- the files and the openings that fail, if they are told, and the counts of misses, of faults and of sources that are out
 pub record FilesSeen : Type 0 where
   pub held : Option Held
   pub misses : ℕ
@@ -13,7 +13,7 @@ pub record FilesSeen : Type 0 where
 abbrev pub files_seen : {F : Type 0} → (F → Option Held) → (F → ℕ) → (F → ℕ) → (F → ℕ) → F → FilesSeen
 files_seen held misses faults lent files = record { held = held files; misses = misses files; faults = faults files; lent = lent files }
 
--- the bytes that a sink has taken, where it tells, and its count of faults
+-- the bytes that a sink has taken, if it tells, and its count of faults
 pub record SinkSeen : Type 0 where
   pub taken : Option (List ℕ)
   pub faults : ℕ

@@ -20,7 +20,7 @@ use Rattle.soak_input.specs.Unit.{unit_text}
 use Rattle.soak_input.specs.declared.limits.TheConstants.{SOAK_THREADS}
 use Rattle.soak_input.specs.declared.summary.ThreadTotal.{ThreadTotal}
 use Rattle.tool_words.specs.declared.soak.SoakWords.{SoakWords}
-use Rattle.papi_tools.specs.Running.{Given, ran_notes, ran_replies}
+use Rattle.papi_tools.specs.Running.{GivenRun, ran_notes, ran_replies}
 use Rattle.papi_tools.specs.ScriptFile.{script_unless}
 use Rattle.papi_tools.specs.Steps.{Verdict, and_then}
 use Rattle.papi_tools.specs.Streams.{streams_of}
@@ -40,7 +40,7 @@ abbrev pub soak_tapes : ℕ → List Tape
 soak_tapes rounds = map (soak_tape rounds) (range_with_len 0 SOAK_THREADS)
 
 -- the unit without presets, the script and the streams, each checked as one of a file is
-unfoldable pub soak_given : ℕ → Result Given Refusal
+unfoldable pub soak_given : ℕ → Result GivenRun Refusal
 soak_given rounds =
     and_then (unit_of (codes "lab.unit") unit_text) (λ tables.
     and_then (script_unless (codes "soak.script") (script_of (script_text rounds))) (λ script.
@@ -48,7 +48,7 @@ soak_given rounds =
 
 -- ---- what is said of it
 
--- the values that a reply has, and none where it has other results
+-- the values that a reply has, and none if it has other results
 abbrev pub values_of : Body → List ℤ
 values_of (Values values) = values
 values_of _ = []
@@ -62,7 +62,7 @@ is_stop _ = false
 abbrev pub stops : ℕ → ReplyLine → Bool
 stops thread line = (line.thread == thread) && is_stop line.word
 
--- the values of a reply line, where there is one
+-- the values of a reply line, if there is one
 abbrev pub values_at : Option ReplyLine → List ℤ
 values_at None = []
 values_at (Some line) = values_of line.reply.body
@@ -79,12 +79,12 @@ thread_total lines notes thread = record { values = stop_values lines thread; no
 abbrev pub thread_totals : List ReplyLine → List (List Note) → List ThreadTotal
 thread_totals lines notes = map (thread_total lines notes) (range_with_len 0 SOAK_THREADS)
 
--- the summary of these totals and of so many replies
+-- the summary of these totals and of n replies
 abbrev pub summary_said : List ThreadTotal → ℕ → Said
 summary_said totals replies = text_said true (summary_text totals replies)
 
 -- what a soak comes to
-unfoldable pub soaked : Given → Verdict
+unfoldable pub soaked : GivenRun → Verdict
 soaked given = record { said = summary_said (thread_totals (ran_replies given) (ran_notes given)) (length (ran_replies given)); notes = ran_notes given }
 
 -- what is given, and then the run

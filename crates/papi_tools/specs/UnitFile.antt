@@ -10,7 +10,7 @@ use Rattle.papi_tools.specs.declared.limits.TheConstants.{TABLE_BYTES}
 use Rattle.papi_tools.specs.declared.refusal.Refusal.{Refusal}
 use Rattle.papi_tools.specs.declared.refusal.Refusal.TheVariants.{Row}
 
--- the tables of a unit file of this name, where it has no fault
+-- the tables of a unit file of this name, if it has no fault
 abbrev pub tables_unless : List ℕ → Option (ℕ × RowCause) → List ComponentText → Result (List ComponentText) Refusal
 tables_unless name None tables = Ok tables
 tables_unless name (Some fault) tables = Err (Row name fault.0 fault.1)

@@ -36,7 +36,7 @@ command_verdict openings (Soak words) = soak_verdict words
 command_verdict openings (Profil words) = profil_verdict openings words
 command_verdict openings (Regions words) = quiet (regions_verdict openings words)
 
--- what the words come to, where they are a command
+-- what the words come to, if they are a command
 abbrev pub verdict_for : Openings → Option Command → Result Verdict Refusal
 verdict_for openings None = Err BadWords
 verdict_for openings (Some command) = command_verdict openings command
@@ -73,7 +73,7 @@ IsSettled (Ok answer) said = said ≡ answer
 IsSettled (Err (stop.Refused refusal)) said = said ≡ refused_said refusal
 IsSettled (Err stop.Memory) said = ⊥
 
--- With this answer a tool has told each handler the notes of its thread; where memory ran out, a prefix of them.
+-- With this answer a tool has told each handler the notes of its thread; if memory ran out, a prefix of them.
 abbrev pub TellsBy : Result Said Stop → List (List Note) → List (List Note) → List (List Note) → Type 0
 TellsBy (Ok said) given before after = EachAdded before given after
 TellsBy (Err (stop.Refused refusal)) given before after = EachAdded before given after
@@ -84,7 +84,7 @@ pub record ComesTo (answer : Result Said Stop) (expected : Result Verdict Refusa
   pub said : AnswersSaid answer expected
   pub told : TellsBy answer (notes_in expected) before after
 
--- What is to be said is what the call comes to, and its notes are told; where memory ran out, a prefix of them.
+-- What is to be said is what the call comes to, and its notes are told; if memory ran out, a prefix of them.
 pub record IsSettledAs {E : Type 0} (result : Result Said E) (verdict : Verdict) (before after : List (List Note)) : Type 0 where
   pub said : IfOk result (λ said. said ≡ verdict.said)
   pub told : OnOk result (EachAdded before verdict.notes after)

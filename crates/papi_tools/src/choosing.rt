@@ -40,7 +40,7 @@ fn said_of(
     Ok(Said::text(alloc, choice.all_taken, choice.text))
 }
 
-/// `papi_event_chooser`: reads the unit, and the presets where they are asked for, and lists the events that can be added to
+/// `papi_event_chooser`: reads the unit, and the presets if they are asked for, and lists the events that can be added to
 /// the given ones, or says which of these is refused, and how.
 pub fn choose_events<F: Files>(
     alloc: Global,

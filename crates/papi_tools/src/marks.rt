@@ -48,7 +48,7 @@ fn cause_text(cause: LineCause) -> &'static str
     }
 }
 
-// The line of a thread's mark, where it has one.
+// The line of a thread's mark, if it has one.
 fn line_of(alloc: Global, t: usize, mark: Option<Ended>) -> Result<String, AllocError>
     ensures { IfOk result (λ line. string_bytes line ≡ mark_line t mark) }
 {

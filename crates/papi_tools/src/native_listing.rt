@@ -16,7 +16,7 @@ use papi_base::{Bytes, Files, Text};
 use std::alloc::{AllocError, Global};
 use tool_words::NativeAvailWords;
 
-// The text, where it is there.
+// The text, if it is there.
 fn str_of(text: &Option<Text>) -> Option<&str>
     ensures { option_map (λ s. s.now) result ≡ text.now }
 {

@@ -1,7 +1,7 @@
 //! What a tool writes on standard output.
 ghost use Rattle.std.specs.Prelude.{◌≡◌, ◌≤◌, ◌++◌, ℕ, length, take, OnOk, OnErr, IsErrOf};
 ghost use Rattle.papi_base.specs.Outside.{Rose, appended, next_count};
-ghost use Rattle.script_runner.specs.Replies.{notes_text, reply_text};
+ghost use Rattle.script_runner.specs.Replies.{notes_text, replies_text};
 
 use component_table::Catalog;
 use overflow_dispatch::Note;
@@ -43,11 +43,11 @@ fn write_both<K: Sink>(
 ) -> Result<(), WriteFail>
     ensures ok { OnOk result
         (K.taken out.new ≡ appended (K.taken out.old)
-        (reply_text catalog.now lines.now ++ notes_text shown.now)) }
+        (replies_text catalog.now lines.now ++ notes_text shown.now)) }
     ensures part { OnErr result
-        ((k : ℕ) × (k ≤ length (reply_text catalog.now lines.now ++ notes_text shown.now))
+        ((k : ℕ) × (k ≤ length (replies_text catalog.now lines.now ++ notes_text shown.now))
         × (K.taken out.new ≡ appended (K.taken out.old)
-        (take k (reply_text catalog.now lines.now ++ notes_text shown.now)))) }
+        (take k (replies_text catalog.now lines.now ++ notes_text shown.now)))) }
     ensures failed { IsErrOf result WriteFail.Failed → Rose (K.faults out.old) (K.faults out.new) }
     ensures once { IsErrOf result WriteFail.Failed
         → K.faults out.new ≡ next_count (K.faults out.old) }
@@ -72,7 +72,7 @@ impl Output {
 
     /// The replies of a run, and the notes that are shown after them.
     pub fn replies(lines: Vec<ReplyLine>, catalog: Catalog, shown: Vec<Note>) -> Output
-        ensures { result ≡ reply_text catalog lines.items ++ notes_text shown.items }
+        ensures { result ≡ replies_text catalog lines.items ++ notes_text shown.items }
     {
         Output {
             content: Content::Replies(lines, catalog, shown),

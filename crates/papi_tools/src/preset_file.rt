@@ -64,7 +64,7 @@ pub fn read_preset_file<F: Files>(
     presets_in(alloc, words, bytes.as_slice())
 }
 
-/// Reads the presets and user events where they are asked for, or says why not.
+/// Reads the presets and user events if they are asked for, or says why not.
 pub fn read_presets_asked<F: Files>(
     alloc: Global,
     files: &mut F,

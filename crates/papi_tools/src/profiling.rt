@@ -8,7 +8,7 @@ ghost use Rattle.papi_tools.specs.Answers.{Answers};
 ghost use Rattle.papi_tools.specs.Causes.{MetCause};
 ghost use Rattle.papi_tools.specs.Looking.{Looked, StopsByFile, out_with};
 ghost use Rattle.papi_tools.specs.Openings.{Ends, ForSome};
-ghost use Rattle.papi_tools.specs.Profiling.{CanBeProfiled, Profiled, counted_in, is_counted, profil_verdict, profile_said, profiled_under, profiled_verdict};
+ghost use Rattle.papi_tools.specs.Profiling.{CanBeProfiled, GivenProfile, counted_in, is_counted, profil_verdict, profile_said, profiled_under, profiled_verdict};
 ghost use Rattle.papi_tools.specs.Seen.{FilesSeen, files_seen};
 ghost use Rattle.papi_tools.specs.Streams.{sources_in};
 ghost use Rattle.papi_tools.specs.Verdict.{ComesTo};
@@ -16,8 +16,8 @@ ghost use Rattle.papi_tools.specs.declared.status.Outcome.TheVariants as outcome
 
 use crate::map_file::read_map_file;
 use crate::marks::{lines_of, outcome_of};
-use crate::running::{Ran, run_script};
 use crate::script_file::read_script_file;
+use crate::script_run::{RanScript, run_script};
 use crate::streams::{close_readers, open_readers};
 use crate::tables::read_catalog;
 use crate::{Output, Said, Stop};
@@ -44,7 +44,7 @@ fn count_of(handler: &Box<dyn Handler + Send>) -> u64
     handler.noted()
 }
 
-// The note of the handler at this place from 0, if there are so many.
+// The note of the handler at this place from 0, if there is one.
 fn note_of(handler: &Box<dyn Handler + Send>, i: u64) -> Option<Note>
     ensures { result ≡ slice_get (notes handler.now) i }
 {
@@ -58,7 +58,7 @@ fn is_counted(note: &Note, set: u32, index: u32) -> bool
     note.set == set && note.index == index
 }
 
-// Counts a note, where it is of the event.
+// Counts a note, if it is of the event.
 fn add_note(hist: &mut Hist, note: &Note, set: u32, index: u32)
     requires { hist.old.total < 2 ^ 63 }
     ensures map { hist.new.map ≡ hist.old.map }
@@ -71,7 +71,7 @@ fn add_note(hist: &mut Hist, note: &Note, set: u32, index: u32)
     }
 }
 
-// Counts the notes of an event that the handler has after so many.
+// Counts the notes of an event that the handler has after its first n.
 fn add_notes(
     hist: &mut Hist,
     handler: &Box<dyn Handler + Send>,
@@ -96,7 +96,7 @@ fn add_notes(
     Ok(())
 }
 
-// The histogram of the asked event, out of the notes that the handler of the asked thread has after so many.
+// The histogram of the asked event, out of the notes that the handler of the asked thread has after its first n.
 fn hist_of(
     alloc: Global,
     ranges: Map,
@@ -128,7 +128,7 @@ fn hist_of(
 fn said_of(
     alloc: Global,
     ranges: Map,
-    ran: &Ran,
+    ran: &RanScript,
     words: &ProfilWords,
     handlers: &Vec<Box<dyn Handler + Send>>,
 ) -> Result<Said, Stop>
@@ -200,7 +200,7 @@ fn carry_out<R: Threads + Sync, F: Files>(
     requires fresh { All IsFresh input.readers.items }
     requires handlers { vec_len handlers.old ≡ THREADS }
     ensures len { vec_len handlers.new ≡ THREADS }
-    ensures ran { (given : Profiled)
+    ensures ran { (given : GivenProfile)
         × CanBeProfiled input.map input.catalog input.script input.readers.items given
         × ComesTo result (Ok (profiled_verdict words.now given))
         (map (λ b. notes b) handlers.old.items) (map (λ b. notes b) handlers.new.items) }

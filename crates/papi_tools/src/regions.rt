@@ -13,14 +13,14 @@ ghost use Rattle.papi_tools.specs.Causes.{MetCause};
 ghost use Rattle.papi_tools.specs.Looking.{Looked, StopsByFile, out_with};
 ghost use Rattle.papi_tools.specs.Marks.{marked_said};
 ghost use Rattle.papi_tools.specs.Openings.{Ends, ForSome};
-ghost use Rattle.papi_tools.specs.RegionCounts.{CanBeCounted, Counted, counted_under, readings_in, regions_said, regions_verdict};
+ghost use Rattle.papi_tools.specs.RegionCounts.{CanBeCounted, GivenRegions, counted_under, readings_in, regions_said, regions_verdict};
 ghost use Rattle.papi_tools.specs.Seen.{FilesSeen, files_seen};
 ghost use Rattle.papi_tools.specs.Streams.{SomeFailed, sources_in};
 
 use crate::marks::{lines_of, outcome_of};
 use crate::region_file::read_region_file;
-use crate::running::{Ran, run_script};
 use crate::script_file::script_in;
+use crate::script_run::{RanScript, run_script};
 use crate::streams::{close_readers, open_readers};
 use crate::tables::read_catalog;
 use crate::{Output, Said, Stop};
@@ -41,7 +41,7 @@ use tool_words::RegionsWords;
 
 // ---- what was read
 
-// Appends the values that a reply shows, where it shows some.
+// Appends the values that a reply shows, if it shows some.
 fn push_reading(readings: &mut Vec<Reading>, line: &ReplyLine) -> Result<(), AllocError>
     ensures { OnOk result (reading_values readings.new.items ≡ reading_values readings.old.items
         ++ readings_in (line.now ∷ [])) }
@@ -67,7 +67,7 @@ fn readings_of(alloc: Global, lines: &[ReplyLine]) -> Result<Vec<Reading>, Alloc
 }
 
 // What is said of a run.
-fn said_of(alloc: Global, regions: &Regions, events: &[Text], ran: &Ran) -> Result<Said, Stop>
+fn said_of(alloc: Global, regions: &Regions, events: &[Text], ran: &RanScript) -> Result<Said, Stop>
     requires { length events.now ≤ MOST_SET_EVENTS }
     ensures said { Answers result (Ok (marked_said ran.now.marks
         (report_text (length events.now)
@@ -99,7 +99,7 @@ fn calls_of(alloc: Global, regions: &Regions, events: &[Text]) -> Result<Script,
     script_in(alloc, "regions", text.as_bytes())
 }
 
-// Runs the script of calls over the readers, where a set takes the events, and says what came of it.
+// Runs the script of calls over the readers, if a set takes the events, and says what came of it.
 fn count<R: Threads + Sync, S: Source + Send>(
     rt: &R,
     alloc: Global,
@@ -111,7 +111,7 @@ fn count<R: Threads + Sync, S: Source + Send>(
     requires readers { vec_len readers.old ≡ THREADS }
     requires fresh { All IsFresh readers.old.items }
     requires begun { AreBegun regions.now }
-    ensures counted { (given : Counted)
+    ensures counted { (given : GivenRegions)
         × CanBeCounted catalog.now regions.now readers.old.items given
         × Answers result (Ok (regions_said words.now.events given)) }
     ensures met { (before after : FilesSeen)
@@ -197,7 +197,7 @@ fn carry_out<R: Threads + Sync, F: Files>(
     requires readers { vec_len input.readers ≡ THREADS }
     requires fresh { All IsFresh input.readers.items }
     requires begun { AreBegun input.regions }
-    ensures counted { (given : Counted)
+    ensures counted { (given : GivenRegions)
         × CanBeCounted input.catalog input.regions input.readers.items given
         × Answers result (Ok (regions_said words.now.events given)) }
     ensures met { IfOk result (λ said. MetCause said.outcome
@@ -219,7 +219,7 @@ fn carry_out<R: Threads + Sync, F: Files>(
 }
 
 /// `papi_regions`: reads the unit, the presets and the region script, opens the streams, counts the events in a set of each thread that
-/// has lines, and reports what each region counted. Where a set does not take the events, the first that is refused is said, and no
+/// has lines, and reports what each region counted. If a set does not take the events, the first that is refused is said, and no
 /// stream is read. No handler is told anything.
 pub fn count_regions<R: Threads + Sync, F: Files>(
     rt: &R,

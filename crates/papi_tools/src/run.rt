@@ -7,15 +7,15 @@ ghost use Rattle.papi_tools.specs.Causes.{MetCause};
 ghost use Rattle.papi_tools.specs.Looking.{Looked, StopsByFile, out_with};
 ghost use Rattle.papi_tools.specs.Openings.{Ends, ForSome};
 ghost use Rattle.papi_tools.specs.Run.{given_under, ran_verdict, run_said, run_verdict};
-ghost use Rattle.papi_tools.specs.Running.{CanBeGiven, Given};
+ghost use Rattle.papi_tools.specs.Running.{CanBeGivenRun, GivenRun};
 ghost use Rattle.papi_tools.specs.Seen.{FilesSeen, files_seen};
 ghost use Rattle.papi_tools.specs.Streams.{sources_in};
 ghost use Rattle.papi_tools.specs.Verdict.{ComesTo};
 ghost use Rattle.papi_tools.specs.declared.status.Outcome.TheVariants as outcome;
 
 use crate::marks::{lines_of, outcome_of};
-use crate::running::{Ran, run_script};
 use crate::script_file::read_script_file;
+use crate::script_run::{RanScript, run_script};
 use crate::streams::{close_readers, open_readers};
 use crate::tables::read_catalog;
 use crate::{Output, Said, Stop};
@@ -29,7 +29,7 @@ use std::thread::Threads;
 use stream_reader::StreamReader;
 use tool_words::RunWords;
 
-// The notes that the handlers have after so many each, where they are wanted.
+// The notes that each handler has after its number of `noted`, if they are wanted.
 fn shown_notes(
     alloc: Global,
     wanted: bool,
@@ -48,11 +48,11 @@ fn shown_notes(
     }
 }
 
-// What is said of a run. The notes of the run are shown where they are wanted.
+// What is said of a run. The notes of the run are shown if they are wanted.
 fn said_of(
     alloc: Global,
     catalog: Catalog,
-    ran: Ran,
+    ran: RanScript,
     wanted: bool,
     handlers: &Vec<Box<dyn Handler + Send>>,
 ) -> Result<Said, Stop>
@@ -87,7 +87,7 @@ fn open_input<F: Files>(
     words: &RunWords,
 ) -> Result<RunInput<F::S>, Stop>
     ensures found { Ends (λ input given.
-        CanBeGiven input.catalog input.script input.readers.items given) result
+        CanBeGivenRun input.catalog input.script input.readers.items given) result
         (λ openings. given_under openings words.now) (F.held files.old) }
     ensures len { IfOk result (λ input. vec_len input.readers ≡ THREADS) }
     ensures fresh { IfOk result (λ input. All IsFresh input.readers.items) }
@@ -118,7 +118,8 @@ fn carry_out<R: Threads + Sync, F: Files>(
     requires fresh { All IsFresh input.readers.items }
     requires handlers { vec_len handlers.old ≡ THREADS }
     ensures len { vec_len handlers.new ≡ THREADS }
-    ensures ran { (given : Given) × CanBeGiven input.catalog input.script input.readers.items given
+    ensures ran { (given : GivenRun)
+        × CanBeGivenRun input.catalog input.script input.readers.items given
         × ComesTo result (Ok (ran_verdict words.now.notes given))
         (map (λ b. notes b) handlers.old.items) (map (λ b. notes b) handlers.new.items) }
     ensures grown { EachGrown (map (λ b. notes b) handlers.old.items)
@@ -155,7 +156,7 @@ fn carry_out<R: Threads + Sync, F: Files>(
 
 /// `papi_run`: reads the unit, the presets and the script, opens the streams, and carries out the script, each thread's calls on a
 /// session of its own. The handlers, one a thread, are told the thresholds that were passed, and these notes follow the
-/// replies where the words ask for them.
+/// replies if the words ask for them.
 pub fn run<R: Threads + Sync, F: Files>(
     rt: &R,
     alloc: Global,

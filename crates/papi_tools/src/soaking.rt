@@ -8,7 +8,7 @@ ghost use Rattle.thread_session.specs.SessionView.{IsFresh};
 ghost use Rattle.papi_tools.specs.Answers.{Answers, AnswersBy};
 ghost use Rattle.papi_tools.specs.Causes.{IsTextual};
 ghost use Rattle.papi_tools.specs.Looking.{StopsByFile};
-ghost use Rattle.papi_tools.specs.Running.{Given, IsGiven};
+ghost use Rattle.papi_tools.specs.Running.{GivenRun, IsGivenRun};
 ghost use Rattle.papi_tools.specs.ScriptFile.{script_unless};
 ghost use Rattle.papi_tools.specs.Seen.{FilesSeen};
 ghost use Rattle.papi_tools.specs.Soaking.{soak_given, soak_tapes, soak_verdict, soaked, summary_said, totals_between};
@@ -17,8 +17,8 @@ ghost use Rattle.papi_tools.specs.UnitFile.{unit_of};
 ghost use Rattle.papi_tools.specs.Verdict.{AnswersSaid, TellsBy, notes_in};
 ghost use Rattle.papi_tools.specs.declared.status.Outcome.TheVariants as outcome;
 
-use crate::running::{Ran, run_script};
 use crate::script_file::script_in;
+use crate::script_run::{RanScript, run_script};
 use crate::soak_totals::totals_between;
 use crate::streams::add_empty;
 use crate::unit_file::unit_in;
@@ -79,7 +79,7 @@ fn soak_readers(alloc: Global, rounds: u32) -> Result<Vec<StreamReader<SoakSourc
 #[tactic(auto, unfolding(crate::specs::Soaking::soak_given))]
 fn make_run(alloc: Global, rounds: u32) -> Result<SoakRun, Stop>
     ensures told { AnswersBy
-        (λ run given. IsOkAnd given (IsGiven run.catalog run.script run.readers.items)) result
+        (λ run given. IsOkAnd given (IsGivenRun run.catalog run.script run.readers.items)) result
         (soak_given rounds) }
     ensures len { IfOk result (λ run. vec_len run.readers ≡ THREADS) }
     ensures fresh { IfOk result (λ run. All IsFresh run.readers.items) }
@@ -97,7 +97,11 @@ fn make_run(alloc: Global, rounds: u32) -> Result<SoakRun, Stop>
 }
 
 // What is said of a run: its summary, with the notes since it began.
-fn said_of(alloc: Global, ran: &Ran, handlers: &Vec<Box<dyn Handler + Send>>) -> Result<Said, Stop>
+fn said_of(
+    alloc: Global,
+    ran: &RanScript,
+    handlers: &Vec<Box<dyn Handler + Send>>,
+) -> Result<Said, Stop>
     requires handlers { vec_len handlers.now ≡ THREADS }
     requires noted { vec_len ran.now.noted ≡ THREADS }
     ensures said { Answers result (Ok (summary_said
@@ -130,9 +134,9 @@ fn carry_out<R: Threads + Sync>(
     requires fresh { All IsFresh run.readers.items }
     requires handlers { vec_len handlers.old ≡ THREADS }
     ensures len { vec_len handlers.new ≡ THREADS }
-    ensures told { (given : Given) → IsGiven run.catalog run.script run.readers.items given
+    ensures told { (given : GivenRun) → IsGivenRun run.catalog run.script run.readers.items given
         → AnswersSaid result (Ok (soaked given)) }
-    ensures tells { (given : Given) → IsGiven run.catalog run.script run.readers.items given
+    ensures tells { (given : GivenRun) → IsGivenRun run.catalog run.script run.readers.items given
         → TellsBy result (soaked given).notes (map (λ b. notes b) handlers.old.items)
         (map (λ b. notes b) handlers.new.items) }
     ensures grown { EachGrown (map (λ b. notes b) handlers.old.items)

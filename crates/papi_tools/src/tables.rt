@@ -1,4 +1,4 @@
-//! The tables of a tool: the unit, and then the presets and user events where they are asked for.
+//! The tables of a tool: the unit, and then the presets and user events if they are asked for.
 ghost use Rattle.std.specs.Prelude.{Some};
 ghost use Rattle.papi_tools.specs.Looking.{Looked};
 ghost use Rattle.papi_tools.specs.Openings.{Is, Leads};
@@ -13,7 +13,7 @@ use papi_base::{Files, Text};
 use std::alloc::Global;
 use tool_words::PresetWords;
 
-/// Reads the unit of this name, and then the presets where they are asked for, or says why not.
+/// Reads the unit of this name, and then the presets if they are asked for, or says why not.
 pub fn read_catalog<F: Files>(
     alloc: Global,
     files: &mut F,

@@ -29,7 +29,7 @@ pub fn count_busy<B, T: Task<B>>(tasks: &[T]) -> usize
     count
 }
 
-/// The least number of the first tasks among which so many ask for work.
+/// The least number of the first tasks among which n ask for work.
 fn first_with<B, T: Task<B>>(tasks: &[T], wanted: usize) -> usize
     requires enough { wanted ≤ busy T.load tasks.now }
     ensures within { result ≤ length tasks.now }

@@ -36,7 +36,7 @@ or_first (Some x) second = Some x
 abbrev pub first_with : List ℕ → List (List ℕ) → Option (List ℕ)
 first_with front xss = find all_distinct (map (λ later. front ++ later) xss)
 
--- the first such choice where the next place has one of these counters
+-- the first such choice if the next place has one of these counters
 abbrev pub first_among : List ℕ → List ℕ → List ℕ → Option (List ℕ)
 first_among front masks cs = first_with front (flat_map (λ c. map (λ later. c ∷ later) (choices masks)) cs)
 

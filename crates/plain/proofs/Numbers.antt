@@ -15,7 +15,7 @@ use Rattle.papi_base.specs.Numerals.{decimal_in, hex_in, is_decimal, is_digit, i
 abbrev pub top : ℕ
 top = 2 ^ 64 - 1
 
--- one digit more, where a number past a limit is kept at it
+-- one digit more, if a number past a limit is kept at it
 pub one_more : (v base d m : ℕ) → 1 ≤ base → min (min (min v m * base) m + d) m ≡ min (v * base + d) m
 one_more v base d m some = elim (cases_lt m v) [
   | inl past ↦ (

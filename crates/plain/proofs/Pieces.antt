@@ -15,7 +15,7 @@ use Rattle.stream_reader.specs.declared.line.Judgement.{Judgement}
 use Rattle.stream_reader.specs.declared.line.Judgement.TheVariants as judgement
 use Rattle.stream_reader.specs.declared.line.LineStart.{LineStart}
 use Rattle.stream_reader.specs.Judged.{judged, line_text, text_judged}
-use Rattle.stream_reader.specs.Lines.{Line, is_last, lines_of}
+use Rattle.stream_reader.specs.Lines.{Line, is_last_line, lines_of}
 use Rattle.stream_reader.specs.Occurs.{after, is_bad, joined, occurs_from}
 use Rattle.plain.specs.Tapes.{occurrence_of}
 
@@ -31,7 +31,7 @@ before os more = record more { rest = os ++ more.rest }
 abbrev pub line_of : List ℕ → Bool → Line
 line_of piece ended = record { bytes = piece; ended = ended }
 
-some_bytes : (piece : List ℕ) → 0 < length piece → is_last End piece ≡ true
+some_bytes : (piece : List ℕ) → 0 < length piece → is_last_line End piece ≡ true
 some_bytes [] some = absurd (omega arith)
 some_bytes (b ∷ piece) some = refl
 
@@ -139,7 +139,7 @@ said_at_empty start pieces i piece last is none =
     ap (said_from start) (drop_more pieces i [] (omega arith) ∙ ap (λ p. p ∷ drop (i + 1) pieces) (sym is) ∙ ap (λ ps. piece ∷ ps) (drop_all (i + 1) pieces (omega arith)))
     ∙ no_line start piece none ∙ said_none start
 
--- a piece that was read at a place of a vector of so many
+-- a piece that was read at a place of a vector of n
 pub line_is : (items : List (Bor (List ℕ))) (i : ℕ) (x : Bor (List ℕ)) (n : ℕ) → i < length items → x ≡ get_or items i x → n ≡ length items → (nat_lt (i + 1) n ≡ false → 0 < length x.now)
     → IsLineAt (map (λ y. y.now) items) i x.now (nat_lt (i + 1) n)
 line_is items i x n within is size some = record {

@@ -12,7 +12,7 @@ use Rattle.session_model.specs.Counts.{along, weighed}
 use Rattle.session_model.specs.Estimates.{estimated_in, total}
 use Rattle.plain.specs.declared.counting.Turn.{Turn}
 use Rattle.plain.specs.declared.counting.Window.{Window}
-use Rattle.plain.specs.Windows.{IsOver, turns_in}
+use Rattle.plain.specs.Windows.{IsStoppedOver, turns_in}
 use Rattle.plain.proofs.Sums.{along_at}
 
 -- an occurrence weighs something in the group's turns alone
@@ -30,12 +30,12 @@ in_turn_at t group n d past i w o runs e is weighs = along_at (weight_in_turn t 
 abbrev pub turns_at : Turn → ℕ → Turns
 turns_at turn start = record { slice = turn.slice; count = turn.groups; start = start }
 
-total_is : (past : List Occ) (s : Kept) (window : Window) → IsOver s window → total past s ≡ clock past window.to - clock past window.from
+total_is : (past : List Occ) (s : Kept) (window : Window) → IsStoppedOver s window → total past s ≡ clock past window.to - clock past window.from
 total_is past s window is =
     ap₂ (λ a b. clock past a - clock past b) (ap (λ b. if b then length past else s.to) is.stopped ∙ is.ends) is.begins
 
 -- what is computed of a start, a total, a count and an active time is the estimate
-pub estimate_is : (past : List Occ) (window : Window) (turn : Turn) (n : Native) (start whole count act : ℕ) (s : Kept) → IsOver s window
+pub estimate_is : (past : List Occ) (window : Window) (turn : Turn) (n : Native) (start whole count act : ℕ) (s : Kept) → IsStoppedOver s window
     → start ≡ clock past window.from → whole ≡ clock past window.to - start
     → count ≡ weighed (weight_in_turn (turns_at turn start) turn.group n window.domain) past s
     → act ≡ active (turns_at turn start) turn.group whole

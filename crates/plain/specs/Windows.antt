@@ -7,7 +7,7 @@ use Rattle.plain.specs.declared.counting.Turn.{Turn}
 use Rattle.plain.specs.declared.counting.Window.{Window}
 
 -- the set was stopped, and counted over the window in its domain
-pub record IsOver (s : Kept) (window : Window) : Type 0 where
+pub record IsStoppedOver (s : Kept) (window : Window) : Type 0 where
   pub stopped : s.running ≡ false
   pub begins : s.from ≡ window.from
   pub ends : s.to ≡ window.to

@@ -30,7 +30,7 @@ fn is_deficient(allowed: &[u32], members: u32) -> bool
     counters_of(allowed, members).count_ones() < members.count_ones()
 }
 
-// How many places the shortest prefix without an assignment has; 0 where all have one.
+// How many places the shortest prefix without an assignment has; 0 if all have one.
 fn shortest_prefix(allowed: &[u32]) -> usize
     requires { length allowed.now < MOST_SET_NATIVES }
     ensures shortest { result ≡ BlameOf.shortest_prefix allowed.now }

@@ -7,7 +7,7 @@ ghost use Rattle.session_model.specs.Account.{Kept, clock};
 ghost use Rattle.session_model.specs.Counts.{along, weighed};
 ghost use Rattle.session_model.specs.Counts as Counts;
 ghost use Rattle.session_model.specs.Estimates.{estimated_in};
-ghost use Rattle.plain.specs.Windows.{IsOver, turns_in};
+ghost use Rattle.plain.specs.Windows.{IsStoppedOver, turns_in};
 
 use crate::weighing::plain_weight;
 use papi_base::{Domain, Native, Occ};
@@ -40,7 +40,7 @@ fn weight_at(past: &[Occ], i: usize, n: &Native, domain: Domain) -> u8
 pub fn count(past: &[Occ], window: Window, n: &Native) -> u64
     requires few { length past.now < 2 ^ 32 }
     requires within { window.to ≤ length past.now }
-    ensures counted { (s : Kept) → IsOver s window → result ≡ Counts.count past.now s n.now }
+    ensures counted { (s : Kept) → IsStoppedOver s window → result ≡ Counts.count past.now s n.now }
 {
     let mut count = 0;
     for i in window.from..window.to {
@@ -49,7 +49,7 @@ pub fn count(past: &[Occ], window: Window, n: &Native) -> u64
     count
 }
 
-// The time after so many occurrences.
+// The time after n occurrences.
 fn clock(past: &[Occ], k: usize) -> u128
     requires within { k ≤ length past.now }
     ensures clock { result ≡ clock past.now k }
@@ -78,13 +78,13 @@ impl Turn {
     }
 }
 
-// How much of a native event was counted over a window while its group ran, where tick 0 is at `start`.
+// How much of a native event was counted over a window while its group ran, with tick 0 at `start`.
 fn count_in_turn(past: &[Occ], window: Window, turn: &Turn, start: u128, n: &Native) -> u64
     requires few { length past.now < 2 ^ 32 }
     requires within { window.to ≤ length past.now }
     requires slice { 0 < turn.now.slice }
     requires groups { 0 < turn.now.groups }
-    ensures counted { (s : Kept) → IsOver s window →
+    ensures counted { (s : Kept) → IsStoppedOver s window →
         let turns : Turns.Turns = record {
           slice = turn.now.slice;
           count = turn.now.groups;
@@ -128,7 +128,7 @@ pub fn estimate(past: &[Occ], window: Window, turn: &Turn, n: &Native) -> u128
     requires within { window.to ≤ length past.now }
     requires slice { 0 < turn.now.slice }
     requires groups { 0 < turn.now.groups }
-    ensures { (s : Kept) → IsOver s window
+    ensures { (s : Kept) → IsStoppedOver s window
         → result ≡ estimated_in past.now s (turns_in past.now window turn.now) turn.now.group
         n.now }
 {

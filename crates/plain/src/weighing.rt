@@ -49,7 +49,7 @@ fn holds(n: &Native, d: Domain, o: &Occ) -> bool
     }
 }
 
-/// What the occurrence adds to the native event's count, where `before` came just before it: with `edge` 1 where the condition begins to
+/// What the occurrence adds to the native event's count, if `before` came just before it: with `edge` 1 if the condition begins to
 /// hold; else 1 with a counter mask, and the amount without one.
 pub fn plain_weight(n: &Native, d: Domain, before: Option<&Occ>, o: &Occ) -> u8
     ensures { result ≡ weight_of n.now d (option_copied before.entry) o.now }

@@ -11,9 +11,9 @@ use Rattle.session_model.specs.declared.call.Call.TheVariants.{Register}
 use Rattle.plan_runner.specs.declared.plan.Planned.{Planned}
 use Rattle.plan_runner.specs.declared.plan.Planned.TheVariants as planned
 use Rattle.plan_runner.specs.declared.plan.PlanLine.{PlanLine}
-use Rattle.plan_runner.specs.Plans.{calls_in, calls_on, planned_at}
+use Rattle.plan_runner.specs.Plans.{calls_in, planned_at, planned_calls}
 
--- a line, where some line is asked for
+-- a line, if some line is asked for
 abbrev pub some_line : PlanLine
 some_line = record { number = 0; thread = 0; word = name.Register; planned = planned.Call Register }
 
@@ -39,16 +39,16 @@ deal-one F xs i w c inside e t =
 
 pub planned-append : (t : ℕ) (xs ys : List PlanLine) → planned_at t (xs ++ ys) ≡ planned_at t xs ++ planned_at t ys
 planned-append t [] ys = refl
-planned-append t (l ∷ ls) ys = ap (λ cs. calls_on t l ++ cs) (planned-append t ls ys) ∙ sym (append_assoc (calls_on t l) (planned_at t ls) (planned_at t ys))
+planned-append t (l ∷ ls) ys = ap (λ cs. planned_calls t l ++ cs) (planned-append t ls ys) ∙ sym (append_assoc (planned_calls t l) (planned_at t ls) (planned_at t ys))
 
 -- one line more
-pub planned-more : (t : ℕ) (ls : List PlanLine) (k : ℕ) (l : PlanLine) → k < length ls → get_or ls k l ≡ l → planned_at t (take (k + 1) ls) ≡ planned_at t (take k ls) ++ calls_on t l
+pub planned-more : (t : ℕ) (ls : List PlanLine) (k : ℕ) (l : PlanLine) → k < length ls → get_or ls k l ≡ l → planned_at t (take (k + 1) ls) ≡ planned_at t (take k ls) ++ planned_calls t l
 planned-more t ls k l h e =
     ap (planned_at t) (take_more ls k l h ∙ ap (λ z. take k ls ++ z ∷ []) e)
-    ∙ (planned-append t (take k ls) (l ∷ []) ∙ ap (λ cs. planned_at t (take k ls) ++ cs) (append-nil (calls_on t l)))
+    ∙ (planned-append t (take k ls) (l ∷ []) ∙ ap (λ cs. planned_at t (take k ls) ++ cs) (append-nil (planned_calls t l)))
 
 -- each thread makes at most as many calls as there are lines
-on-line : (t : ℕ) (l : PlanLine) → length (calls_on t l) ≤ 1
+on-line : (t : ℕ) (l : PlanLine) → length (planned_calls t l) ≤ 1
 on-line t l = go (l.thread == t) l.planned where
   go : (b : Bool) (p : Planned) → length (if b then calls_in p else []) ≤ 1
   go true (planned.Call c) = omega arith
@@ -59,10 +59,10 @@ on-line t l = go (l.thread == t) l.planned where
 
 pub planned-few : (t : ℕ) (ls : List PlanLine) → length (planned_at t ls) ≤ length ls
 planned-few t [] = omega arith
-planned-few t (l ∷ ls) = let h = planned-few t ls in omega (arith, h, on-line t l, length-append (calls_on t l) (planned_at t ls))
+planned-few t (l ∷ ls) = let h = planned-few t ls in omega (arith, h, on-line t l, length-append (planned_calls t l) (planned_at t ls))
 
 -- the calls of a line that makes one
-pub one-call : (t : ℕ) (l : PlanLine) (c : Call) → l.planned ≡ planned.Call c → (if l.thread == t then c ∷ [] else []) ≡ calls_on t l
+pub one-call : (t : ℕ) (l : PlanLine) (c : Call) → l.planned ≡ planned.Call c → (if l.thread == t then c ∷ [] else []) ≡ planned_calls t l
 one-call t l c e = ap (λ p. if l.thread == t then calls_in p else []) (sym e)
 
 -- one item more, which is there
@@ -76,17 +76,17 @@ pub count-more : (counts : List ℕ) (plan : List PlanLine) (k : ℕ) (l : PlanL
     → ((t : ℕ) → t < 64 → get_or counts t 0 ≡ length (planned_at t (take k plan)))
     → (t : ℕ) → t < 64 → get_or (set counts l.thread m) t 0 ≡ length (planned_at t (take (k + 1) plan))
 count-more counts plan k l n m below here inside e sum old t h =
-    let more : length (planned_at t (take (k + 1) plan)) ≡ length (planned_at t (take k plan)) + length (calls_on t l) =
-    ap length (planned-more t plan k l below here) ∙ length-append (planned_at t (take k plan)) (calls_on t l) in
+    let more : length (planned_at t (take (k + 1) plan)) ≡ length (planned_at t (take k plan)) + length (planned_calls t l) =
+    ap length (planned-more t plan k l below here) ∙ length-append (planned_at t (take k plan)) (planned_calls t l) in
     elim (cases_eq l.thread t) [
       | inl is ↦
-          let mine : calls_on t l ≡ calls_in l.planned = grind (arith, nat_tests, is) in
+          let mine : planned_calls t l ≡ calls_in l.planned = grind (arith, nat_tests, is) in
           let was : get_or counts l.thread 0 ≡ get_or counts t 0 = ap (λ i. get_or counts i 0) is in
           let now : get_or (set counts l.thread m) t 0 ≡ m = ap (λ i. get_or (set counts l.thread m) i 0) (sym is) ∙ get_or-set_same counts l.thread m 0 inside in
           omega (arith, now, sum, e, was, old t h, more, ap length mine)
       | inr not ↦
           let apart : t ≢ l.thread = λ q. not (sym q) in
-          let none : calls_on t l ≡ [] = grind (arith, nat_tests, not) in
+          let none : planned_calls t l ≡ [] = grind (arith, nat_tests, not) in
           omega (arith, get_or-set_other counts l.thread t m 0 apart, old t h, more, ap length none)
     ]
 

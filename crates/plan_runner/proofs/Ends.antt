@@ -2,7 +2,7 @@
 use Rattle.std.proofs.Common.{◌≡◌, ℕ, ◌+◌, ◌<◌, ◌≤◌, List, [], ◌∷◌, ◌++◌, length, map, take, drop, get_or, sym, ◌∙◌, ap, ap₂, arith, length-append}
 use Rattle.std.proofs.lemmas.List.{get_or_push, get_or-map, get_or-take, take_at, take-take, length-take-le, drop_more}
 
--- where the first m have the last one cut off
+-- if the first m have the last one cut off
 pub front-cut : {X : Type 0} (xs ys zs : List X) (x : X) (m n : ℕ) → ys ≡ take m xs → ys ≡ zs ++ x ∷ [] → m ≡ n + 1 → m ≤ length xs → zs ≡ take n xs
 front-cut xs ys zs x m n e f p h =
     let len : length zs ≡ n = omega (arith, length-append zs (x ∷ []), ap length f, ap length e, length-take-le m xs h) in

@@ -7,14 +7,14 @@ use Rattle.event_sets.specs.AtRest.{Widths}
 use Rattle.session_model.specs.declared.call.Call.{Call}
 use Rattle.stream_reader.specs.Reader.{ReaderView}
 use Rattle.thread_core.specs.CoreView.{CoreView, opening_core}
-use Rattle.thread_registry.specs.JobView.{unopened}
-use Rattle.thread_registry.specs.Seen.{Seen, seen_of}
+use Rattle.thread_registry.specs.OpenedJobs.{unopened}
+use Rattle.thread_registry.specs.JobView.{JobView, seen_of}
 use Rattle.plan_runner.specs.declared.works.Work.{Work}
 use Rattle.plan_runner.specs.Jobs.{before, befores_from}
 use Rattle.plan_runner.specs.Works.{AreWorks, IsWork, core_for}
 use Rattle.plan_runner.proofs.Lists.{map-push}
 
-pub before-at : (k : ℕ) (shape : Widths) (rs : List ReaderView) (nss : List (List Note)) (css : List (List Call)) (t : ℕ) (d : Seen) (r : ReaderView) → t < length rs → length nss ≡ length rs → length css ≡ length rs
+pub before-at : (k : ℕ) (shape : Widths) (rs : List ReaderView) (nss : List (List Note)) (css : List (List Call)) (t : ℕ) (d : JobView) (r : ReaderView) → t < length rs → length nss ≡ length rs → length css ≡ length rs
     → get_or (befores_from k shape rs nss css) t d ≡ before shape (k + t) (get_or rs t r) (get_or nss t []) (get_or css t [])
 before-at k shape [] nss css t d r h e f = absurd (omega (arith, h))
 before-at k shape (x ∷ rs) [] css t d r h e f = absurd (omega (arith, e))
@@ -50,12 +50,12 @@ before-drop shape rs nss css n m r ns cs h e f is a b c =
     drop_more xs n x (omega (arith, h, befores-length 0 shape rs nss css e f)) ∙ ap₂ (λ u k. u ∷ drop k xs) there (sym is)
 
 -- no job is made yet
-pub none-yet : {J : Type 0} (F : J → Seen) (js : List J) (xs : List Seen) (n : ℕ) → length js ≡ 0 → length xs ≤ n → map F js ≡ reverse (drop n xs)
+pub none-yet : {J : Type 0} (F : J → JobView) (js : List J) (xs : List JobView) (n : ℕ) → length js ≡ 0 → length xs ≤ n → map F js ≡ reverse (drop n xs)
 none-yet F [] xs n e h = sym (ap reverse (drop_all n xs h))
 none-yet F (j ∷ js) xs n e h = absurd (omega (arith, e))
 
 -- one thread's job more
-pub jobs-more : {J : Type 0} (F : J → Seen) (js js' : List J) (j : J) (xs : List Seen) (x : Seen) (m n : ℕ)
+pub jobs-more : {J : Type 0} (F : J → JobView) (js js' : List J) (j : J) (xs : List JobView) (x : JobView) (m n : ℕ)
     → map F js ≡ reverse (drop m xs) → js' ≡ js ++ j ∷ [] → F j ≡ x → drop n xs ≡ x ∷ drop m xs → map F js' ≡ reverse (drop n xs)
 jobs-more F js js' j xs x m n e p is d =
     map-push F js js' j p

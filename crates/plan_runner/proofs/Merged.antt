@@ -10,7 +10,7 @@ use Rattle.plan_runner.specs.declared.plan.Planned.{Planned}
 use Rattle.plan_runner.specs.declared.plan.Planned.TheVariants as planned
 use Rattle.plan_runner.specs.declared.plan.PlanLine.{PlanLine}
 use Rattle.plan_runner.specs.declared.result.ReplyLine.{ReplyLine}
-use Rattle.plan_runner.specs.Plans.{calls_in, calls_on, planned_at}
+use Rattle.plan_runner.specs.Plans.{calls_in, planned_at, planned_calls}
 use Rattle.plan_runner.specs.Merges.{reply_by, rest_by, flags_by, lines_by}
 
 -- the list at i is turned round
@@ -62,12 +62,12 @@ pub counts-more : {V : Type 0} (f : V → List Reply) (xs : List V) (v w : V) (p
     → (t : ℕ) → t < 64 → length (get_or (map f (set xs l.thread w)) t []) ≡ length (planned_at t (drop (k + 1) plan))
 counts-more f xs v w plan k l below here inside own s old t h =
     let left : drop k plan ≡ l ∷ drop (k + 1) plan = drop_more plan k l below ∙ ap (λ z. z ∷ drop (k + 1) plan) here in
-    let before : length (get_or (map f xs) t []) ≡ length (calls_on t l) + length (planned_at t (drop (k + 1) plan)) =
-    old t h ∙ (ap (λ ls. length (planned_at t ls)) left ∙ length-append (calls_on t l) (planned_at t (drop (k + 1) plan))) in
+    let before : length (get_or (map f xs) t []) ≡ length (planned_calls t l) + length (planned_at t (drop (k + 1) plan)) =
+    old t h ∙ (ap (λ ls. length (planned_at t ls)) left ∙ length-append (planned_calls t l) (planned_at t (drop (k + 1) plan))) in
     let room : l.thread < length (map f xs) = omega (arith, inside, length-map xs f) in
     elim (cases_eq l.thread t) [
       | inl is ↦
-          let mine : calls_on t l ≡ calls_in l.planned = grind (arith, nat_tests, is) in
+          let mine : planned_calls t l ≡ calls_in l.planned = grind (arith, nat_tests, is) in
           let now : get_or (map f (set xs l.thread w)) t [] ≡ rest_by (f v) l.planned =
           ap (λ z. get_or z t []) (map-set f xs l.thread w)
           ∙ (ap (λ i. get_or (set (map f xs) l.thread (f w)) i []) (sym is)
@@ -76,7 +76,7 @@ counts-more f xs v w plan k l below here inside own s old t h =
           omega (arith, ap length now, rest-length (f v) l.planned, was, before, ap length mine)
       | inr not ↦
           let apart : t ≢ l.thread = λ q. not (sym q) in
-          let none : calls_on t l ≡ [] = grind (arith, nat_tests, not) in
+          let none : planned_calls t l ≡ [] = grind (arith, nat_tests, not) in
           let now : get_or (map f (set xs l.thread w)) t [] ≡ get_or (map f xs) t [] =
           ap (λ z. get_or z t []) (map-set f xs l.thread w) ∙ get_or-set_other (map f xs) l.thread t (f w) [] apart in
           omega (arith, ap length now, before, ap length none)

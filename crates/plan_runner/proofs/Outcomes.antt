@@ -7,7 +7,7 @@ use Rattle.parallel_tasks.specs.Each.{Each}
 use Rattle.postfix_rules.specs.Presets.{Book}
 use Rattle.session_model.specs.declared.reply.Reply.{Reply}
 use Rattle.stream_reader.specs.Reader.{ReaderView}
-use Rattle.thread_registry.specs.Seen.{Ran, Seen}
+use Rattle.thread_registry.specs.JobView.{JobView, WorkedOrIdle}
 use Rattle.plan_runner.specs.Jobs.{Left}
 
 pub map-reverse : {A B : Type 0} (f : A → B) (xs : List A) → map f (reverse xs) ≡ reverse (map f xs)
@@ -55,18 +55,18 @@ each-reverse R xs ys e =
     }
 
 -- each job can be worked
-pub ready-by : {J : Type 0} (f : J → Seen) (P : Seen → Type 0) (js : List J) (xs : List Seen) → map f js ≡ reverse xs → All P xs → (k : ℕ) (d : J) → k < length js → P (f (get_or js k d))
+pub ready-by : {J : Type 0} (f : J → JobView) (P : JobView → Type 0) (js : List J) (xs : List JobView) → map f js ≡ reverse xs → All P xs → (k : ℕ) (d : J) → k < length js → P (f (get_or js k d))
 ready-by f P js xs e all k d h =
     let turned = subst (All P) (sym e) (all-reverse P xs all) in
     subst P (get_or-map f js k d (f d) h) (turned k (f d) (omega (arith, h, length-map js f)))
 
 -- what is seen of the jobs
-view-of : {J X : Type 0} (f : J → Seen) (g : Seen → X) (js : List J) (gs : List X) → gs ≡ reverse (map (λ j. g (f j)) js) → gs ≡ map g (reverse (map f js))
+view-of : {J X : Type 0} (f : J → JobView) (g : JobView → X) (js : List J) (gs : List X) → gs ≡ reverse (map (λ j. g (f j)) js) → gs ≡ map g (reverse (map f js))
 view-of f g js gs e = e ∙ sym (map-reverse g (map f js) ∙ ap reverse (map-both f g js))
 
 -- jobs were made, worked and taken apart
-pub left-of : {J : Type 0} (f : J → Seen) (book : Book) (refused : Bool) (xs : List Seen) (js js' : List J) (notes : List (List Note)) (readers : List ReaderView) (replies : List (List Reply))
-    → map f js ≡ reverse xs → Each (λ x y. Ran book (f x) (f y)) js js'
+pub left-of : {J : Type 0} (f : J → JobView) (book : Book) (refused : Bool) (xs : List JobView) (js js' : List J) (notes : List (List Note)) (readers : List ReaderView) (replies : List (List Reply))
+    → map f js ≡ reverse xs → Each (λ x y. WorkedOrIdle book (f x) (f y)) js js'
     → notes ≡ reverse (map (λ j. (f j).notes) js') → readers ≡ reverse (map (λ j. (f j).session.reader) js') → replies ≡ reverse (map (λ j. (f j).replies) js')
     → (refused ≡ false → All (λ j. (f j).starved ≡ false) js')
     → Left book refused xs notes readers replies
@@ -75,9 +75,9 @@ left-of f book refused xs js js' notes readers replies e w n r s d =
     let done = reverse (map f js') in
     record {
       afters = done;
-      ran = subst (λ v. Each (Ran book) v done) back (each-reverse (Ran book) (map f js) (map f js') (each-map f (Ran book) js js' w));
-      told = view-of f (λ (y : Seen). y.notes) js' notes n;
-      back = view-of f (λ (y : Seen). y.session.reader) js' readers r;
-      replied = view-of f (λ (y : Seen). y.replies) js' replies s;
-      whole = λ z. all-reverse (λ (y : Seen). y.starved ≡ false) (map f js') (All-map (λ (y : Seen). y.starved ≡ false) f js' (d z));
+      ran = subst (λ v. Each (WorkedOrIdle book) v done) back (each-reverse (WorkedOrIdle book) (map f js) (map f js') (each-map f (WorkedOrIdle book) js js' w));
+      told = view-of f (λ (y : JobView). y.notes) js' notes n;
+      back = view-of f (λ (y : JobView). y.session.reader) js' readers r;
+      replied = view-of f (λ (y : JobView). y.replies) js' replies s;
+      whole = λ z. all-reverse (λ (y : JobView). y.starved ≡ false) (map f js') (All-map (λ (y : JobView). y.starved ≡ false) f js' (d z));
     }

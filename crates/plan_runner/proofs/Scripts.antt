@@ -9,22 +9,22 @@ use Rattle.session_model.specs.declared.line.Asked.{Asked}
 use Rattle.session_model.specs.declared.line.Asked.TheVariants as asked
 use Rattle.session_model.specs.declared.line.Line.{Line}
 use Rattle.session_model.specs.declared.reply.Reply.{Reply}
-use Rattle.session_model.specs.World.{Setting, Told, call_of, calls_at, mentioned_after, name_by}
+use Rattle.session_model.specs.World.{LineTold, Setting, calls_asked, calls_at, mentioned_after, name_by}
 use Rattle.postfix_rules.specs.NativeCodes.{native_named}
 use Rattle.session_laws.specs.Worlds.{Ahead, ahead_after, merged, merged_reply, next_reply}
-use Rattle.thread_session.specs.Faults.{FaultsRose, IsFault}
+use Rattle.thread_session.specs.Faults.{FaultsRose, IsFaultReply}
 use Rattle.plan_runner.specs.declared.plan.Planned.{Planned}
 use Rattle.plan_runner.specs.declared.plan.Planned.TheVariants as planned
 use Rattle.plan_runner.specs.declared.plan.PlanLine.{PlanLine}
 use Rattle.plan_runner.specs.declared.result.ReplyLine.{ReplyLine}
-use Rattle.plan_runner.specs.Plans.{Ask, ask_of, asks_from, calls_in, event_by, looked_up, planned_at}
+use Rattle.plan_runner.specs.Plans.{Ask, ask_of, asks_from, calls_in, event_by, planned_at, planned_by}
 use Rattle.plan_runner.specs.Merges.{ahead_then, lines_by, reply_by, rest_by}
 use Rattle.plan_runner.specs.Runs.{AreInOrder, reply_lines}
 use Rattle.plan_runner.proofs.Lists.{all-none, all-cons}
 
 -- ---- the same calls
 
-calls-same : (at : Setting) (m : List Native) (a : Asked) → calls_in (looked_up at m a) ≡ call_of a
+calls-same : (at : Setting) (m : List Native) (a : Asked) → calls_in (planned_by at m a) ≡ calls_asked a
 calls-same at m (asked.Call c) = refl
 calls-same at m (asked.CodeOf (Ok (event.Native n))) = refl
 calls-same at m (asked.CodeOf (Ok (event.Preset row))) = refl
@@ -45,7 +45,7 @@ planned-script at m [] (p ∷ ps) e t = absurd (omega (arith, ap length e))
 planned-script at m (l ∷ ls) [] e t = absurd (omega (arith, ap length e))
 planned-script at m (l ∷ ls) (p ∷ ps) e t =
     let now = mentioned_after m l in
-    let one : ask_of p ≡ record { thread = l.thread; planned = looked_up at now l.asked } = firsts _ _ _ _ e in
+    let one : ask_of p ≡ record { thread = l.thread; planned = planned_by at now l.asked } = firsts _ _ _ _ e in
     ap₂ ◌++◌
     (ap (λ (k : Ask). if k.thread == t then calls_in k.planned else []) one ∙ ap (λ cs. if l.thread == t then cs else []) (calls-same at now l.asked))
     (planned-script at now ls ps (others _ _ _ _ e) t)
@@ -54,7 +54,7 @@ pub script-threads : (at : Setting) (m : List Native) (ls : List Line) (plan : L
 script-threads at m [] plan e all = all-none (λ l. l.thread < 64)
 script-threads at m (l ∷ ls) [] e all = absurd (omega (arith, ap length e))
 script-threads at m (l ∷ ls) (p ∷ ps) e all =
-    let one : ask_of p ≡ record { thread = l.thread; planned = looked_up at (mentioned_after m l) l.asked } = firsts _ _ _ _ e in
+    let one : ask_of p ≡ record { thread = l.thread; planned = planned_by at (mentioned_after m l) l.asked } = firsts _ _ _ _ e in
     all-cons (λ k. k.thread < 64) l ls (subst (λ (k : Ask). k.thread < 64) one (all 0 p (omega arith)))
     (script-threads at (mentioned_after m l) ls ps (others _ _ _ _ e) (All-tail (λ (k : PlanLine). k.thread < 64) p ps all))
 
@@ -65,7 +65,7 @@ named-same flags replies (Some row) native = refl
 named-same flags replies None (Some n) = refl
 named-same flags replies None None = refl
 
-reply-same : (at : Setting) (m : List Native) (x : Ahead) (t : ℕ) (a : Asked) → reply_by x.flags (get_or x.replies t []) (looked_up at m a) ≡ merged_reply at m x t a
+reply-same : (at : Setting) (m : List Native) (x : Ahead) (t : ℕ) (a : Asked) → reply_by x.flags (get_or x.replies t []) (planned_by at m a) ≡ merged_reply at m x t a
 reply-same at m x t (asked.Call c) = refl
 reply-same at m x t (asked.CodeOf (Ok (event.Native n))) = refl
 reply-same at m x t (asked.CodeOf (Ok (event.Preset row))) = refl
@@ -76,7 +76,7 @@ reply-same at m x t asked.Threads = refl
 unchanged : (x : Ahead) (t : ℕ) → record { flags = x.flags; replies = slice_set x.replies t (get_or x.replies t []) } ≡ x
 unchanged x t = ap {A = List (List Reply)} {B = Ahead} (λ rs. record { flags = x.flags; replies = rs }) (set-get_or x.replies t [])
 
-ahead-same : (at : Setting) (m : List Native) (x : Ahead) (t : ℕ) (a : Asked) → ahead_then x t (looked_up at m a) ≡ ahead_after x t a
+ahead-same : (at : Setting) (m : List Native) (x : Ahead) (t : ℕ) (a : Asked) → ahead_then x t (planned_by at m a) ≡ ahead_after x t a
 ahead-same at m x t (asked.Call c) = refl
 ahead-same at m x t (asked.CodeOf (Ok (event.Native n))) = unchanged x t
 ahead-same at m x t (asked.CodeOf (Ok (event.Preset row))) = unchanged x t
@@ -90,7 +90,7 @@ merged-same at m [] (p ∷ ps) x e = absurd (omega (arith, ap length e))
 merged-same at m (l ∷ ls) [] x e = absurd (omega (arith, ap length e))
 merged-same at m (l ∷ ls) (p ∷ ps) x e =
     let now = mentioned_after m l in
-    let one : ask_of p ≡ record { thread = l.thread; planned = looked_up at now l.asked } = firsts _ _ _ _ e in
+    let one : ask_of p ≡ record { thread = l.thread; planned = planned_by at now l.asked } = firsts _ _ _ _ e in
     ap₂ ◌∷◌
     (ap (λ (k : Ask). reply_by x.flags (get_or x.replies k.thread []) k.planned) one ∙ reply-same at now x l.thread l.asked)
     (ap (λ (k : Ask). map (λ (z : ReplyLine). z.reply) (lines_by (ahead_then x k.thread k.planned) ps)) one
@@ -99,7 +99,7 @@ merged-same at m (l ∷ ls) (p ∷ ps) x e =
 
 -- ---- beside the lines
 
-pub lines-told : (plan : List PlanLine) (x : Ahead) (told : List Told) → map (λ l. l.reply) (lines_by x plan) ≡ map (λ y. y.reply) told → lines_by x plan ≡ reply_lines plan told
+pub lines-told : (plan : List PlanLine) (x : Ahead) (told : List LineTold) → map (λ l. l.reply) (lines_by x plan) ≡ map (λ y. y.reply) told → lines_by x plan ≡ reply_lines plan told
 lines-told [] x told e = refl
 lines-told (l ∷ ls) x [] e = absurd (omega (arith, ap length e))
 lines-told (l ∷ ls) x (y ∷ ys) e =
@@ -129,11 +129,11 @@ set-all q (x ∷ xs) zero ys (suc t) h old = old
 set-all q (x ∷ xs) (suc i) ys zero h old = old
 set-all q (x ∷ xs) (suc i) ys (suc t) h old = set-all q xs i ys t (λ e. h (ap suc e)) old
 
-next-speaks : (b a : Option ℕ) (rs : List Reply) → All (λ r. IsFault r → FaultsRose b a) rs → IsFault (next_reply rs) → FaultsRose b a
+next-speaks : (b a : Option ℕ) (rs : List Reply) → All (λ r. IsFaultReply r → FaultsRose b a) rs → IsFaultReply (next_reply rs) → FaultsRose b a
 next-speaks b a [] all f = absurd f
 next-speaks b a (r ∷ rs) all f = all 0 r (omega arith) f
 
-reply-speaks : (b a : Option ℕ) (flags : List Bool) (rs : List Reply) (p : Planned) → All (λ r. IsFault r → FaultsRose b a) rs → IsFault (reply_by flags rs p) → FaultsRose b a
+reply-speaks : (b a : Option ℕ) (flags : List Bool) (rs : List Reply) (p : Planned) → All (λ r. IsFaultReply r → FaultsRose b a) rs → IsFaultReply (reply_by flags rs p) → FaultsRose b a
 reply-speaks b a flags rs (planned.Call c) all f = next-speaks b a rs all f
 reply-speaks b a flags rs (planned.Code (Ok n)) all f = absurd f
 reply-speaks b a flags rs (planned.Code (Err c)) all f = absurd f
@@ -141,24 +141,24 @@ reply-speaks b a flags rs (planned.Name (Some e)) all f = absurd f
 reply-speaks b a flags rs (planned.Name None) all f = absurd f
 reply-speaks b a flags rs planned.Threads all f = absurd f
 
-rest-speaks : (b a : Option ℕ) (rs : List Reply) (p : Planned) → All (λ r. IsFault r → FaultsRose b a) rs → All (λ r. IsFault r → FaultsRose b a) (rest_by rs p)
-rest-speaks b a rs (planned.Call c) all = All-drop (λ r. IsFault r → FaultsRose b a) 1 rs all
+rest-speaks : (b a : Option ℕ) (rs : List Reply) (p : Planned) → All (λ r. IsFaultReply r → FaultsRose b a) rs → All (λ r. IsFaultReply r → FaultsRose b a) (rest_by rs p)
+rest-speaks b a rs (planned.Call c) all = All-drop (λ r. IsFaultReply r → FaultsRose b a) 1 rs all
 rest-speaks b a rs (planned.Code c) all = all
 rest-speaks b a rs (planned.Name e) all = all
 rest-speaks b a rs planned.Threads all = all
 
 pub lines-speak : (before after : List (Option ℕ)) (plan : List PlanLine) (x : Ahead)
-    → ((t : ℕ) → All (λ r. IsFault r → FaultsRose (get_or before t None) (get_or after t None)) (get_or x.replies t []))
-    → All (λ l. IsFault l.reply → FaultsRose (get_or before l.thread None) (get_or after l.thread None)) (lines_by x plan)
-lines-speak before after [] x h = all-none (λ (l : ReplyLine). IsFault l.reply → FaultsRose (get_or before l.thread None) (get_or after l.thread None))
+    → ((t : ℕ) → All (λ r. IsFaultReply r → FaultsRose (get_or before t None) (get_or after t None)) (get_or x.replies t []))
+    → All (λ l. IsFaultReply l.reply → FaultsRose (get_or before l.thread None) (get_or after l.thread None)) (lines_by x plan)
+lines-speak before after [] x h = all-none (λ (l : ReplyLine). IsFaultReply l.reply → FaultsRose (get_or before l.thread None) (get_or after l.thread None))
 lines-speak before after (l ∷ ls) x h =
-    all-cons (λ (k : ReplyLine). IsFault k.reply → FaultsRose (get_or before k.thread None) (get_or after k.thread None)) _ _
+    all-cons (λ (k : ReplyLine). IsFaultReply k.reply → FaultsRose (get_or before k.thread None) (get_or after k.thread None)) _ _
     (reply-speaks (get_or before l.thread None) (get_or after l.thread None) x.flags (get_or x.replies l.thread []) l.planned (h l.thread))
     (lines-speak before after ls (ahead_then x l.thread l.planned)
     (λ t.
-    set-all (λ rs. All (λ r. IsFault r → FaultsRose (get_or before t None) (get_or after t None)) rs) x.replies l.thread (rest_by (get_or x.replies l.thread []) l.planned) t
+    set-all (λ rs. All (λ r. IsFaultReply r → FaultsRose (get_or before t None) (get_or after t None)) rs) x.replies l.thread (rest_by (get_or x.replies l.thread []) l.planned) t
     (λ e.
-    subst (λ i. All (λ r. IsFault r → FaultsRose (get_or before i None) (get_or after i None)) (rest_by (get_or x.replies l.thread []) l.planned)) (sym e)
+    subst (λ i. All (λ r. IsFaultReply r → FaultsRose (get_or before i None) (get_or after i None)) (rest_by (get_or x.replies l.thread []) l.planned)) (sym e)
     (rest-speaks (get_or before l.thread None) (get_or after l.thread None) (get_or x.replies l.thread []) l.planned (h l.thread)))
     (h t)))
 

@@ -21,18 +21,18 @@ use Rattle.papi_base.specs.Outside.{Tape}
 use Rattle.papi_base.specs.declared.outside.Ending.TheVariants.{End}
 use Rattle.stream_reader.specs.Reader.{ReaderView, comes, coming, tape_of}
 use Rattle.thread_core.proofs.Opening.{opening_agrees, opening_stands}
-use Rattle.thread_session.specs.Faults.{FaultsRose, IsFault, fault_count}
+use Rattle.thread_session.specs.Faults.{FaultsRose, IsFaultReply, fault_count}
 use Rattle.thread_session.specs.Prospects.{CanCome}
 use Rattle.thread_session.specs.Stands.{Stands}
 use Rattle.thread_session.proofs.Failing.{kept_same}
 use Rattle.thread_session.proofs.Growing.{grown_same}
-use Rattle.thread_registry.specs.Seen.{Seen, Worked, Finished, FinishedTo, Cut, CanWork, Ran}
+use Rattle.thread_registry.specs.JobView.{JobView, Worked, Finished, FinishedTo, CutShort, CanWork, WorkedOrIdle}
 use Rattle.plan_runner.specs.declared.plan.Planned.{Planned}
 use Rattle.plan_runner.specs.declared.plan.Planned.TheVariants as planned
 use Rattle.plan_runner.specs.declared.plan.PlanLine.{PlanLine}
 use Rattle.plan_runner.specs.declared.works.Work.{Work}
 use Rattle.plan_runner.specs.Jobs.{Left, before, befores_from}
-use Rattle.plan_runner.specs.Plans.{calls_in, calls_on, planned_at, IsGoodFor, AreGood, AreThreads}
+use Rattle.plan_runner.specs.Plans.{calls_in, planned_calls, planned_at, IsGoodFor, AreGood, AreThreads}
 use Rattle.plan_runner.specs.Served.{AreServed, Served}
 use Rattle.plan_runner.specs.Works.{AreDealt, AreWorks, calls_of}
 use Rattle.plan_runner.proofs.Lists.{all-cons, all-none}
@@ -58,7 +58,7 @@ good-if book shape false cs all = all-none (IsGood book shape)
 good-calls : (book : Book) (shape : Widths) (t : ℕ) (plan : List PlanLine) → All (λ l. IsGoodFor book shape l.planned) plan → All (IsGood book shape) (planned_at t plan)
 good-calls book shape t [] all = all-none (IsGood book shape)
 good-calls book shape t (l ∷ ls) all =
-    All-append (IsGood book shape) (calls_on t l) (planned_at t ls)
+    All-append (IsGood book shape) (planned_calls t l) (planned_at t ls)
     (good-if book shape (l.thread == t) (calls_in l.planned) (good-in book shape l.planned (all 0 l (omega arith))))
     (good-calls book shape t ls (All-tail (λ (k : PlanLine). IsGoodFor book shape k.planned) l ls all))
 
@@ -73,7 +73,7 @@ no-calls [] t e = refl
 no-calls (v ∷ works) zero e = absurd (cc)
 no-calls (v ∷ works) (suc t) e = no-calls works t e
 
--- where some thread has calls, a core was made, so that the shape is one
+-- if some thread has calls, a core was made, so that the shape is one
 shaped-where : (shape : Widths) (works : List Work) → AreWorks shape works → (t : ℕ) → 0 < length (get_or (map calls_of works) t []) → IsShape shape
 shaped-where shape works all t some = go (slice_get works t) refl where
   go : (o : Option Work) → slice_get works t ≡ o → IsShape shape
@@ -81,7 +81,7 @@ shaped-where shape works all t some = go (slice_get works t) refl where
   go (Some w) e = (all.each t w e).shaped (omega (arith, some, ap length (found-calls works t w e)))
 
 -- a job can be worked if it has calls
-abbrev Can : Book → Seen → Type 0
+abbrev Can : Book → JobView → Type 0
 Can book x = 0 < length x.calls → CanWork book x.session x.calls
 
 can-before : (book : Book) (shape : Widths) (t : ℕ) (r : ReaderView) (ns : List Note) (cs : List Call) → BookFits shape book
@@ -112,23 +112,23 @@ can-work book shape plan readers notes works len dealt all fits good =
 
 -- ---- what one thread got
 
-begun-by : (book : Book) (a : Account) (x y : Seen) (b : Bool) → MatchBool b (Cut book a x y) (Finished book a x y) → Begun x.notes (notes_to book x.session.core.shape a x.calls) y.notes
+begun-by : (book : Book) (a : Account) (x y : JobView) (b : Bool) → MatchBool b (CutShort book a x y) (Finished book a x y) → Begun x.notes (notes_to book x.session.core.shape a x.calls) y.notes
 begun-by book a x y true h = h.notes
 begun-by book a x y false h =
     let ns = notes_to book x.session.core.shape a x.calls in
     (length ns, omega arith, h.notes ∙ ap (λ v. x.notes ++ v) (sym (take_all (length ns) ns (omega arith))))
 
-done-by : (book : Book) (a : Account) (x y : Seen) (b : Bool) → b ≡ false → MatchBool b (Cut book a x y) (Finished book a x y) → Finished book a x y
+done-by : (book : Book) (a : Account) (x y : JobView) (b : Bool) → b ≡ false → MatchBool b (CutShort book a x y) (Finished book a x y) → Finished book a x y
 done-by book a x y true e h = absurd (cc)
 done-by book a x y false e h = h
 
-begun-to-by : (book : Book) (a : Account) (x y : Seen) (left : Coming) (b : Bool) → MatchBool b (Cut book a x y) (FinishedTo book a x y left) → Begun x.notes (notes_to book x.session.core.shape a x.calls) y.notes
+begun-to-by : (book : Book) (a : Account) (x y : JobView) (left : Coming) (b : Bool) → MatchBool b (CutShort book a x y) (FinishedTo book a x y left) → Begun x.notes (notes_to book x.session.core.shape a x.calls) y.notes
 begun-to-by book a x y left true h = h.notes
 begun-to-by book a x y left false h =
     let ns = notes_to book x.session.core.shape a x.calls in
     (length ns, omega arith, h.notes ∙ ap (λ v. x.notes ++ v) (sym (take_all (length ns) ns (omega arith))))
 
-done-to-by : (book : Book) (a : Account) (x y : Seen) (left : Coming) (b : Bool) → b ≡ false → MatchBool b (Cut book a x y) (FinishedTo book a x y left) → FinishedTo book a x y left
+done-to-by : (book : Book) (a : Account) (x y : JobView) (left : Coming) (b : Bool) → b ≡ false → MatchBool b (CutShort book a x y) (FinishedTo book a x y left) → FinishedTo book a x y left
 done-to-by book a x y left true e h = absurd (cc)
 done-to-by book a x y left false e h = h
 
@@ -140,7 +140,7 @@ some_coming reader = go (tape_of reader) refl where
   go (Some t) e = (comes reader t.ending t.bytes, record { tape = t; told = rw e refl; says = refl })
 
 -- a thread with calls
-served-job : (book : Book) (shape : Widths) (refused : Bool) (t : ℕ) (reader : ReaderView) (c : Call) (cs : List Call) (notes : List Note) (y : Seen) → IsShape shape
+served-job : (book : Book) (shape : Widths) (refused : Bool) (t : ℕ) (reader : ReaderView) (c : Call) (cs : List Call) (notes : List Note) (y : JobView) → IsShape shape
     → Worked book (before shape t reader notes (c ∷ cs)) y → (refused ≡ false → y.starved ≡ false) → Served book shape refused t reader y.session.reader (c ∷ cs) notes y.notes y.replies
 served-job book shape refused t reader c cs notes y shaped w whole =
     let x = before shape t reader notes (c ∷ cs) in
@@ -150,7 +150,7 @@ served-job book shape refused t reader c cs notes y shaped w whole =
     record {
       idle = λ none. absurd (omega (arith, ap length none));
       kept = w.faults;
-      faulty = subst (All (λ r. IsFault r → FaultsRose (fault_count reader) (fault_count y.session.reader))) (sym made) w.replied.1.faulty;
+      faulty = subst (All (λ r. IsFaultReply r → FaultsRose (fault_count reader) (fault_count y.session.reader))) (sym made) w.replied.1.faulty;
       grown = w.grown;
       counted = λ z. ap length made ∙ w.replied.1.counted (whole z);
       begun = λ stream e. begun-by book (opening t stream.rest stream.mark) x y y.starved (w.outcome (opening t stream.rest stream.mark) (stands stream e));
@@ -162,7 +162,7 @@ served-job book shape refused t reader c cs notes y shaped w whole =
           let left = some_coming y.session.reader in
           let to = w.towards left.0 left.1 in
           let a = opening t to.expected.rest to.expected.mark in
-          let outcome : MatchBool y.starved (Cut book a x y) (FinishedTo book a x y left.0) = to.outcome a (opening_stands book t shape to.expected.rest to.expected.mark shaped) refl in (
+          let outcome : MatchBool y.starved (CutShort book a x y) (FinishedTo book a x y left.0) = to.outcome a (opening_stands book t shape to.expected.rest to.expected.mark shaped) refl in (
             to.expected,
             to.can_come,
             record {
@@ -178,7 +178,7 @@ served-idle book shape refused t reader notes =
     record {
       idle = λ none. (refl, refl);
       kept = kept_same reader;
-      faulty = all-none (λ (r : Reply). IsFault r → FaultsRose (fault_count reader) (fault_count reader));
+      faulty = all-none (λ (r : Reply). IsFaultReply r → FaultsRose (fault_count reader) (fault_count reader));
       grown = grown_same notes;
       counted = λ z. refl;
       begun = λ stream e. (0, omega arith, sym (append-nil notes));
@@ -188,11 +188,11 @@ served-idle book shape refused t reader notes =
           (c.0, c.1, record { begun = (0, omega arith, sym (append-nil notes)); done = λ z. (sym (append-nil notes), refl) });
     }
 
-served-one : (book : Book) (shape : Widths) (refused : Bool) (t : ℕ) (reader : ReaderView) (calls : List Call) (notes : List Note) (y : Seen)
-    → (0 < length calls → IsShape shape) → Ran book (before shape t reader notes calls) y → (refused ≡ false → y.starved ≡ false)
+served-one : (book : Book) (shape : Widths) (refused : Bool) (t : ℕ) (reader : ReaderView) (calls : List Call) (notes : List Note) (y : JobView)
+    → (0 < length calls → IsShape shape) → WorkedOrIdle book (before shape t reader notes calls) y → (refused ≡ false → y.starved ≡ false)
     → Served book shape refused t reader y.session.reader calls notes y.notes y.replies
 served-one book shape refused t reader [] notes y shaped ran whole =
-    subst (λ (z : Seen). Served book shape refused t reader z.session.reader [] notes z.notes z.replies) (sym ran) (served-idle book shape refused t reader notes)
+    subst (λ (z : JobView). Served book shape refused t reader z.session.reader [] notes z.notes z.replies) (sym ran) (served-idle book shape refused t reader notes)
 served-one book shape refused t reader (c ∷ cs) notes y shaped ran whole = served-job book shape refused t reader c cs notes y (shaped (omega arith)) ran whole
 
 -- each thread got so
@@ -207,9 +207,9 @@ are-served book shape refused plan readers readers_then before_all after replies
     let xs = befores_from 0 shape readers before_all css in
     let long : length left.afters ≡ 64 = left.ran.len ∙ (befores-length 0 shape readers before_all css ns_long cs_long ∙ rl) in
     record {
-      readers_len = ap length left.back ∙ (length-map left.afters (λ (y : Seen). y.session.reader) ∙ long);
-      notes_len = ap length left.told ∙ (length-map left.afters (λ (y : Seen). y.notes) ∙ long);
-      replies_len = ap length left.replied ∙ (length-map left.afters (λ (y : Seen). y.replies) ∙ long);
+      readers_len = ap length left.back ∙ (length-map left.afters (λ (y : JobView). y.session.reader) ∙ long);
+      notes_len = ap length left.told ∙ (length-map left.afters (λ (y : JobView). y.notes) ∙ long);
+      replies_len = ap length left.replied ∙ (length-map left.afters (λ (y : JobView). y.replies) ∙ long);
       each =
           λ t r few.
           let calls = get_or css t [] in
@@ -219,11 +219,11 @@ are-served book shape refused plan readers readers_then before_all after replies
           let is : get_or xs t x ≡ x =
           before-at 0 shape readers before_all css t x r (omega (arith, few, rl)) ns_long cs_long
           ∙ ap (λ n. before shape n (get_or readers t r) (get_or before_all t []) calls) (let q : 0 + t ≡ t = omega arith in q) in
-          let ran : Ran book x y = subst (λ (v : Seen). Ran book v y) is (left.ran.at t x (omega (arith, few, long, left.ran.len))) in
+          let ran : WorkedOrIdle book x y = subst (λ (v : JobView). WorkedOrIdle book v y) is (left.ran.at t x (omega (arith, few, long, left.ran.len))) in
           let got = served-one book shape refused t (get_or readers t r) calls (get_or before_all t []) y (shaped-where shape works all t) ran (λ z. left.whole z t x there) in
-          let n : get_or after t [] ≡ y.notes = ap (λ l. get_or l t []) left.told ∙ get_or-map (λ (v : Seen). v.notes) left.afters t x [] there in
-          let q : get_or replies t [] ≡ y.replies = ap (λ l. get_or l t []) left.replied ∙ get_or-map (λ (v : Seen). v.replies) left.afters t x [] there in
-          let b : get_or readers_then t r ≡ y.session.reader = ap (λ l. get_or l t r) left.back ∙ get_or-map (λ (v : Seen). v.session.reader) left.afters t x r there in
+          let n : get_or after t [] ≡ y.notes = ap (λ l. get_or l t []) left.told ∙ get_or-map (λ (v : JobView). v.notes) left.afters t x [] there in
+          let q : get_or replies t [] ≡ y.replies = ap (λ l. get_or l t []) left.replied ∙ get_or-map (λ (v : JobView). v.replies) left.afters t x [] there in
+          let b : get_or readers_then t r ≡ y.session.reader = ap (λ l. get_or l t r) left.back ∙ get_or-map (λ (v : JobView). v.session.reader) left.afters t x r there in
           let reader = get_or readers t r in
           let told = get_or before_all t [] in
           let g0 = subst (λ v. Served book shape refused t reader y.session.reader v told y.notes y.replies) (dealt t few) got in

@@ -20,7 +20,7 @@ use Rattle.session_laws.specs.Worlds.{Ahead, IsAhead}
 use Rattle.session_laws.proofs.ByThread.{opens_by_thread, notes_by_thread}
 use Rattle.session_laws.proofs.Merging.{merges_to_world}
 use Rattle.stream_reader.specs.Reader.{ReaderView, coming}
-use Rattle.thread_session.specs.Faults.{FaultsKept, FaultsRose, IsFault, fault_count}
+use Rattle.thread_session.specs.Faults.{FaultsKept, FaultsRose, IsFaultReply, fault_count}
 use Rattle.thread_session.specs.Prospects.{CanCome}
 use Rattle.thread_session.proofs.Failing.{kept_same}
 use Rattle.thread_session.proofs.Growing.{grown_same}
@@ -28,7 +28,7 @@ use Rattle.plan_runner.specs.declared.plan.PlanLine.{PlanLine}
 use Rattle.plan_runner.specs.declared.result.ReplyLine.{ReplyLine}
 use Rattle.plan_runner.specs.Plans.{AreThreads, planned_at}
 use Rattle.plan_runner.specs.Merges.{lines_by}
-use Rattle.plan_runner.specs.Runs.{AllKept, CanEachCome, IdleStay, IsPlannedFrom, Tells, reply_lines, world_told}
+use Rattle.plan_runner.specs.Runs.{AllKept, CanEachCome, IdleStay, IsPlannedAndTold, IsPlannedFrom, reply_lines, world_told}
 use Rattle.plan_runner.specs.Runs as runs
 use Rattle.plan_runner.specs.Served.{AreServed, ServedAs}
 use Rattle.plan_runner.proofs.Lists.{all-none}
@@ -55,12 +55,12 @@ notes-at at script streams t h =
     get_or-map-range_with_len (λ k. notes_of_thread k (world_told at script streams)) 0 64 t t [] h (omega arith)
     ∙ notes_by_thread at (opening_world streams) script t (opening_at streams t) (opens_by_thread streams t h)
 
--- each thread got what it gets where these streams are to come
+-- each thread got what it gets if these streams are to come
 abbrev AllServedAs : Book → Widths → Bool → List PlanLine → List (List Note) → List (List Note) → List (List Reply) → List Coming → Type 0
 AllServedAs book shape refused plan before after replies streams =
     (t : ℕ) → t < 64 → ServedAs book shape refused t (planned_at t plan) (get_or before t []) (get_or after t []) (get_or replies t []) (get_or streams t no_stream)
 
--- so it is where the readers tell them
+-- so it is if the readers tell them
 told-as : (streams : List Coming) (book : Book) (shape : Widths) (plan : List PlanLine) (readers readers_then : List ReaderView) (before after : List (List Note)) (refused : Bool) (replies : List (List Reply))
     → length readers ≡ 64 → AreServed book shape refused plan readers readers_then before after replies
     → map (λ r. coming r) readers ≡ map (λ s. Some s) streams → AllServedAs book shape refused plan before after replies streams
@@ -71,7 +71,7 @@ told-as streams book shape plan readers readers_then before after refused replie
     let is = coming-at readers streams told t r no_stream (omega (arith, few, rl)) in
     record { begun = got.begun (get_or streams t no_stream) is; done = λ z. got.done z (get_or streams t no_stream) is })
 
-planned-from : (at : Setting) (script : List Line) (streams : List Coming) (book : Book) (shape : Widths) (plan : List PlanLine) (readers : List ReaderView) → Tells at script streams book shape plan readers → IsPlannedFrom at script book shape plan
+planned-from : (at : Setting) (script : List Line) (streams : List Coming) (book : Book) (shape : Widths) (plan : List PlanLine) (readers : List ReaderView) → IsPlannedAndTold at script streams book shape plan readers → IsPlannedFrom at script book shape plan
 planned-from at script streams book shape plan readers tells = record { same_book = tells.same_book; same_shape = tells.same_shape; looked_up = tells.looked_up }
 
 -- the notes of a thread in the world are those of its calls in the plan
@@ -108,14 +108,14 @@ added-as at script streams book shape plan before after refused replies e n got 
 
 pub begun-all : (at : Setting) (script : List Line) (streams : List Coming) (book : Book) (shape : Widths) (plan : List PlanLine) (readers readers_then : List ReaderView) (before after : List (List Note)) (refused : Bool) (replies : List (List Reply))
     → length readers ≡ 64 → length before ≡ 64 → AreServed book shape refused plan readers readers_then before after replies
-    → Tells at script streams book shape plan readers → EachBegun before (runs.notes_by_thread (world_told at script streams)) after
+    → IsPlannedAndTold at script streams book shape plan readers → EachBegun before (runs.notes_by_thread (world_told at script streams)) after
 begun-all at script streams book shape plan readers readers_then before after refused replies rl e got_all tells =
     begun-as at script streams book shape plan before after refused replies e got_all.notes_len
     (told-as streams book shape plan readers readers_then before after refused replies rl got_all tells.streams_told) (planned-from at script streams book shape plan readers tells)
 
 pub added-all : (at : Setting) (script : List Line) (streams : List Coming) (book : Book) (shape : Widths) (plan : List PlanLine) (readers readers_then : List ReaderView) (before after : List (List Note)) (refused : Bool) (replies : List (List Reply))
     → length readers ≡ 64 → length before ≡ 64 → AreServed book shape refused plan readers readers_then before after replies → refused ≡ false
-    → Tells at script streams book shape plan readers → EachAdded before (runs.notes_by_thread (world_told at script streams)) after
+    → IsPlannedAndTold at script streams book shape plan readers → EachAdded before (runs.notes_by_thread (world_told at script streams)) after
 added-all at script streams book shape plan readers readers_then before after refused replies rl e got_all whole tells =
     added-as at script streams book shape plan before after refused replies e got_all.notes_len
     (told-as streams book shape plan readers readers_then before after refused replies rl got_all tells.streams_told) whole (planned-from at script streams book shape plan readers tells)
@@ -161,12 +161,12 @@ lines-as at script streams book shape plan before after refused replies n got wh
 
 pub lines-all : (at : Setting) (script : List Line) (streams : List Coming) (book : Book) (shape : Widths) (plan : List PlanLine) (readers readers_then : List ReaderView) (before after : List (List Note)) (refused : Bool) (replies : List (List Reply))
     → length readers ≡ 64 → length before ≡ 64 → AreServed book shape refused plan readers readers_then before after replies → refused ≡ false → AreThreads plan
-    → Tells at script streams book shape plan readers → lines_by (record { flags = replicate 64 false; replies = replies }) plan ≡ reply_lines plan (world_told at script streams)
+    → IsPlannedAndTold at script streams book shape plan readers → lines_by (record { flags = replicate 64 false; replies = replies }) plan ≡ reply_lines plan (world_told at script streams)
 lines-all at script streams book shape plan readers readers_then before after refused replies rl e got_all whole few tells =
     lines-as at script streams book shape plan before after refused replies got_all.replies_len
     (told-as streams book shape plan readers readers_then before after refused replies rl got_all tells.streams_told) whole few (planned-from at script streams book shape plan readers tells)
 
--- ---- where nothing is told
+-- ---- if nothing is told
 
 -- what stands at a place that is there
 get_or-any : {X : Type 0} (xs : List X) (k : ℕ) (d e : X) → k < length xs → get_or xs k d ≡ get_or xs k e
@@ -285,23 +285,23 @@ kept-all book shape plan readers readers_then before after refused replies rl go
           ];
     })
 
--- where a reply says that a source failed, its count rose
+-- if a reply says that a source failed, its count rose
 pub faulty-all : (book : Book) (shape : Widths) (plan : List PlanLine) (readers readers_then : List ReaderView) (before after : List (List Note)) (refused : Bool) (replies : List (List Reply))
     → length readers ≡ 64 → AreServed book shape refused plan readers readers_then before after replies → (lines : List ReplyLine) → lines ≡ lines_by (record { flags = replicate 64 false; replies = replies }) plan
-    → All (λ l. IsFault l.reply → FaultsRose (get_or (counts readers) l.thread None) (get_or (counts readers_then) l.thread None)) lines
+    → All (λ l. IsFaultReply l.reply → FaultsRose (get_or (counts readers) l.thread None) (get_or (counts readers_then) l.thread None)) lines
 faulty-all book shape plan readers readers_then before after refused replies rl got lines e =
     with_some readers (omega (arith, rl))
     (λ r.
-    subst (All (λ (l : ReplyLine). IsFault l.reply → FaultsRose (get_or (counts readers) l.thread None) (get_or (counts readers_then) l.thread None))) (sym e)
+    subst (All (λ (l : ReplyLine). IsFaultReply l.reply → FaultsRose (get_or (counts readers) l.thread None) (get_or (counts readers_then) l.thread None))) (sym e)
     (lines-speak (counts readers) (counts readers_then) plan (record { flags = replicate 64 false; replies = replies })
     (λ t.
     elim (cases_lt t 64) [
       | inl h ↦
-          subst (λ v. All (λ z. IsFault z → FaultsRose v (get_or (counts readers_then) t None)) (get_or replies t [])) (sym (count-at readers t r (omega (arith, h, rl))))
-          (subst (λ v. All (λ z. IsFault z → FaultsRose (fault_count (get_or readers t r)) v) (get_or replies t [])) (sym (count-at readers_then t r (omega (arith, h, got.readers_len)))) (got.each t r h).faulty)
+          subst (λ v. All (λ z. IsFaultReply z → FaultsRose v (get_or (counts readers_then) t None)) (get_or replies t [])) (sym (count-at readers t r (omega (arith, h, rl))))
+          (subst (λ v. All (λ z. IsFaultReply z → FaultsRose (fault_count (get_or readers t r)) v) (get_or replies t [])) (sym (count-at readers_then t r (omega (arith, h, got.readers_len)))) (got.each t r h).faulty)
       | inr h ↦
-          subst (All (λ z. IsFault z → FaultsRose (get_or (counts readers) t None) (get_or (counts readers_then) t None))) (sym (get_or_past replies t [] (omega (arith, h, got.replies_len))))
-          (all-none (λ z. IsFault z → FaultsRose (get_or (counts readers) t None) (get_or (counts readers_then) t None)))
+          subst (All (λ z. IsFaultReply z → FaultsRose (get_or (counts readers) t None) (get_or (counts readers_then) t None))) (sym (get_or_past replies t [] (omega (arith, h, got.replies_len))))
+          (all-none (λ z. IsFaultReply z → FaultsRose (get_or (counts readers) t None) (get_or (counts readers_then) t None)))
     ])))
 
 -- nothing was done

@@ -6,7 +6,7 @@ use Rattle.session_model.specs.World.{met_mark}
 use Rattle.plan_runner.specs.declared.result.ReplyLine.{ReplyLine}
 use Rattle.papi_base.specs.declared.limits.TheConstants.{THREADS}
 
--- the mark that a run of a thread met, where one did
+-- the mark that a run of a thread met, if one did
 unfoldable pub mark_at : List ReplyLine → ℕ → Option Ended
 mark_at lines t = met_mark (map (λ l. l.reply) (filter (λ l. l.thread == t) lines))
 

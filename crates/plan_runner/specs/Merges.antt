@@ -10,7 +10,7 @@ use Rattle.plan_runner.specs.declared.plan.Planned.TheVariants as planned
 use Rattle.plan_runner.specs.declared.plan.PlanLine.{PlanLine}
 use Rattle.plan_runner.specs.declared.result.ReplyLine.{ReplyLine}
 
--- the reply to a line, where its thread has these further replies and these threads are registered
+-- the reply to a line, if its thread has these further replies and these threads are registered
 abbrev pub reply_by : List Bool → List Reply → Planned → Reply
 reply_by flags replies (planned.Call c) = next_reply replies
 reply_by flags replies (planned.Code (Ok n)) = done (body.EventCode n)

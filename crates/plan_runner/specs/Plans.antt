@@ -27,14 +27,14 @@ event_by (Some row) native = Some (event.Preset row)
 event_by None (Some n) = Some (event.Native n)
 event_by None None = None
 
--- what a line asks for, looked up where these natives are mentioned
-abbrev pub looked_up : Setting → List Native → Asked → Planned
-looked_up at mentioned (asked.Call c) = planned.Call c
-looked_up at mentioned (asked.CodeOf (Ok (event.Native n))) = planned.Code (Ok (native_code mentioned n))
-looked_up at mentioned (asked.CodeOf (Ok (event.Preset row))) = planned.Code (Ok (unwrap_or (slice_get at.codes row) 0))
-looked_up at mentioned (asked.CodeOf (Err c)) = planned.Code (Err c)
-looked_up at mentioned (asked.NameOf c) = planned.Name (event_by (position (λ x. x == c) at.codes) (native_named mentioned c))
-looked_up at mentioned asked.Threads = planned.Threads
+-- what a line asks for, looked up if these natives are mentioned
+abbrev pub planned_by : Setting → List Native → Asked → Planned
+planned_by at mentioned (asked.Call c) = planned.Call c
+planned_by at mentioned (asked.CodeOf (Ok (event.Native n))) = planned.Code (Ok (native_code mentioned n))
+planned_by at mentioned (asked.CodeOf (Ok (event.Preset row))) = planned.Code (Ok (unwrap_or (slice_get at.codes row) 0))
+planned_by at mentioned (asked.CodeOf (Err c)) = planned.Code (Err c)
+planned_by at mentioned (asked.NameOf c) = planned.Name (event_by (position (λ x. x == c) at.codes) (native_named mentioned c))
+planned_by at mentioned asked.Threads = planned.Threads
 
 -- a thread and what it asks for
 pub record Ask : Type 0 where
@@ -45,11 +45,11 @@ pub record Ask : Type 0 where
 abbrev pub ask_of : PlanLine → Ask
 ask_of l = record { thread = l.thread; planned = l.planned }
 
--- what the lines of a script ask for, one after another, where these natives were mentioned before
+-- what the lines of a script ask for, one after another, if these natives were mentioned before
 abbrev pub asks_from : Setting → List Native → List Line → List Ask
 asks_from at mentioned [] = []
 asks_from at mentioned (l ∷ ls) =
-    record { thread = l.thread; planned = looked_up at (mentioned_after mentioned l) l.asked }
+    record { thread = l.thread; planned = planned_by at (mentioned_after mentioned l) l.asked }
     ∷ asks_from at (mentioned_after mentioned l) ls
 
 -- the plan is that of the script's lines
@@ -64,13 +64,13 @@ calls_in (planned.Name e) = []
 calls_in planned.Threads = []
 
 -- the thread's calls in a line
-abbrev pub calls_on : ℕ → PlanLine → List Call
-calls_on t l = if l.thread == t then calls_in l.planned else []
+abbrev pub planned_calls : ℕ → PlanLine → List Call
+planned_calls t l = if l.thread == t then calls_in l.planned else []
 
 -- a thread's calls, in order
 abbrev pub planned_at : ℕ → List PlanLine → List Call
 planned_at t [] = []
-planned_at t (l ∷ ls) = calls_on t l ++ planned_at t ls
+planned_at t (l ∷ ls) = planned_calls t l ++ planned_at t ls
 
 -- a call's event is one that the book holds and that fits the shape, or was refused by a code of names
 abbrev pub IsGoodFor : Book → Widths → Planned → Type 0

@@ -6,7 +6,7 @@ use Rattle.papi_base.specs.Streams.{Coming}
 use Rattle.postfix_rules.specs.Presets.{Book}
 use Rattle.event_sets.specs.AtRest.{Widths}
 use Rattle.session_model.specs.declared.line.Line.{Line}
-use Rattle.session_model.specs.World.{Setting, Told, told, opening_world, notes_of_thread}
+use Rattle.session_model.specs.World.{Setting, LineTold, told, opening_world, notes_of_thread}
 use Rattle.stream_reader.specs.Reader.{ReaderView, coming}
 use Rattle.thread_session.specs.Faults.{FaultsKept}
 use Rattle.thread_session.specs.Prospects.{CanCome}
@@ -16,7 +16,7 @@ use Rattle.plan_runner.specs.Plans.{IsPlanOf, planned_at}
 use Rattle.papi_base.specs.declared.limits.TheConstants.{THREADS}
 
 -- The plan is run with this book and shape on these readers: it is that of the script's lines in the setting, and the readers tell the streams, one a thread.
-pub record Tells (at : Setting) (script : List Line) (streams : List Coming) (book : Book) (shape : Widths) (plan : List PlanLine)
+pub record IsPlannedAndTold (at : Setting) (script : List Line) (streams : List Coming) (book : Book) (shape : Widths) (plan : List PlanLine)
     (readers : List ReaderView) : Type 0 where
   pub same_book : at.book ≡ book
   pub same_shape : at.shape ≡ shape
@@ -29,21 +29,21 @@ pub record IsPlannedFrom (at : Setting) (script : List Line) (book : Book) (shap
   pub same_shape : at.shape ≡ shape
   pub looked_up : IsPlanOf at script plan
 
--- These can come of the readers, one of each: what a reader tells, where it tells.
+-- These can come of the readers, one of each: what a reader tells, if it tells.
 pub record CanEachCome (readers : List ReaderView) (streams : List Coming) : Type 0 where
   pub same_length : length streams ≡ length readers
   pub each : (t : ℕ) (r : ReaderView) (s : Coming) → t < length readers → CanCome (slice_index_or readers t r) (slice_index_or streams t s)
 
--- what is told of the script's lines where the threads have these streams
-abbrev pub world_told : Setting → List Line → List Coming → List Told
+-- what is told of the script's lines if the threads have these streams
+abbrev pub world_told : Setting → List Line → List Coming → List LineTold
 world_told at script streams = told at (opening_world streams) script
 
 -- the notes of each thread
-abbrev pub notes_by_thread : List Told → List (List Note)
+abbrev pub notes_by_thread : List LineTold → List (List Note)
 notes_by_thread xs = map (λ t. notes_of_thread t xs) (range_with_len 0 THREADS)
 
 -- the replies beside the lines of the plan
-abbrev pub reply_lines : List PlanLine → List Told → List ReplyLine
+abbrev pub reply_lines : List PlanLine → List LineTold → List ReplyLine
 reply_lines [] xs = []
 reply_lines (l ∷ ls) [] = []
 reply_lines (l ∷ ls) (x ∷ xs) = record { line = l.number; thread = l.thread; word = l.word; reply = x.reply } ∷ reply_lines ls xs

@@ -10,13 +10,13 @@ use Rattle.session_model.specs.declared.reply.Reply.{Reply}
 use Rattle.session_model.specs.Account.{opening}
 use Rattle.session_model.specs.Step.{notes_to, replies_to}
 use Rattle.stream_reader.specs.Reader.{ReaderView, coming}
-use Rattle.thread_session.specs.Faults.{FaultsKept, FaultsRose, IsFault, fault_count}
+use Rattle.thread_session.specs.Faults.{FaultsKept, FaultsRose, IsFaultReply, fault_count}
 use Rattle.thread_session.specs.Prospects.{CanCome}
 use Rattle.plan_runner.specs.declared.plan.PlanLine.{PlanLine}
 use Rattle.plan_runner.specs.Plans.{planned_at}
 use Rattle.papi_base.specs.declared.limits.TheConstants.{THREADS}
 
--- Where this was to come, the thread's handler was told the notes of the calls, or where memory was refused some of the first; and these are the replies.
+-- If this was to come, the thread's handler was told the notes of the calls, or if memory was refused some of the first; and these are the replies.
 pub record ServedAs (book : Book) (shape : Widths) (refused : Bool) (t : ℕ) (calls : List Call) (before after : List Note) (replies : List Reply)
     (stream : Coming) : Type 0 where
   pub begun : Begun before (notes_to book shape (opening t stream.rest stream.mark) calls) after
@@ -30,7 +30,7 @@ pub record Served (book : Book) (shape : Widths) (refused : Bool) (t : ℕ) (rea
     (before after : List Note) (replies : List Reply) : Type 0 where
   pub idle : calls ≡ [] → (reader_then ≡ reader) × (after ≡ before)
   pub kept : FaultsKept (fault_count reader) (fault_count reader_then)
-  pub faulty : All (λ r. IsFault r → FaultsRose (fault_count reader) (fault_count reader_then)) replies
+  pub faulty : All (λ r. IsFaultReply r → FaultsRose (fault_count reader) (fault_count reader_then)) replies
   pub grown : Grown before after
   pub counted : refused ≡ false → length replies ≡ length calls
   pub begun : (stream : Coming) → coming reader ≡ Some stream → Begun before (notes_to book shape (opening t stream.rest stream.mark) calls) after

@@ -1,6 +1,6 @@
 //! The calls of each thread.
 ghost use Rattle.std.specs.Prelude.{◌≡◌, ◌<◌, ◌++◌, ℕ, [], IfOk, OnOk, length, map, vec_len, slice_index_or};
-ghost use Rattle.plan_runner.specs.Plans.{AreThreads, calls_in, calls_on, planned_at};
+ghost use Rattle.plan_runner.specs.Plans.{AreThreads, calls_in, planned_at, planned_calls};
 
 use crate::plan::{PlanLine, Planned};
 use papi_base::THREADS;
@@ -30,7 +30,7 @@ fn count_calls(plan: &[PlanLine]) -> [usize; THREADS as usize]
     counts
 }
 
-/// A list without calls for each thread, with the memory for so many calls.
+/// A list without calls for each thread, with the memory for n calls.
 fn empty_lists(
     alloc: Global,
     counts: &[usize; THREADS as usize],
@@ -52,7 +52,7 @@ fn deal_line(lists: &mut Vec<Vec<Call>>, line: &PlanLine) -> Result<(), AllocErr
     requires thread { line.now.thread < vec_len lists.old }
     ensures len { vec_len lists.new ≡ vec_len lists.old }
     ensures each { (t : ℕ) → OnOk result (slice_index_or (map (λ c. c.items) lists.new.items) t []
-        ≡ slice_index_or (map (λ c. c.items) lists.old.items) t [] ++ calls_on t line.now) }
+        ≡ slice_index_or (map (λ c. c.items) lists.old.items) t [] ++ planned_calls t line.now) }
 {
     if let Planned::Call(call) = line.planned {
         let list = &mut lists[line.thread as usize];

@@ -1,7 +1,7 @@
 //! The jobs of the threads.
 ghost use Rattle.std.specs.Prelude.{◌≡◌, ◌<◌, ◌≤◌, All, length, map, vec_len, vec_capacity};
 ghost use Rattle.event_sets.specs.AtRest.{Widths};
-ghost use Rattle.thread_registry.specs.Seen.{CanWork};
+ghost use Rattle.thread_registry.specs.JobView.{CanWork};
 ghost use Rattle.thread_session.specs.SessionView.{IsFresh};
 ghost use Rattle.plan_runner.specs.Jobs.{Left, befores_of};
 ghost use Rattle.plan_runner.specs.Works.{AreWorks};

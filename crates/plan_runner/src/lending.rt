@@ -1,7 +1,7 @@
 //! Handlers and readers are lent to the jobs of their threads, and come back to their places.
 ghost use Rattle.std.specs.Prelude.{false, ℕ, ◌≡◌, ◌≤◌, All, map, reverse, vec_len, vec_capacity};
 ghost use Rattle.event_sets.specs.AtRest.{Widths};
-ghost use Rattle.thread_registry.specs.JobView.{IsOpened, seen, session_of};
+ghost use Rattle.thread_registry.specs.OpenedJobs.{IsOpenedForCalls, seen, session_of};
 ghost use Rattle.thread_session.specs.SessionView.{IsFresh};
 ghost use Rattle.plan_runner.specs.Jobs.{before, befores_of};
 ghost use Rattle.plan_runner.specs.Works.{AreWorks, IsWork, calls_of};
@@ -19,7 +19,7 @@ use thread_session::Session;
 fn lend<S: Source>(work: Work, handler: Box<dyn Handler + Send>, reader: StreamReader<S>) -> Job<S>
     requires work { (shape : Widths) × ((t : ℕ) × IsWork shape t work) }
     requires fresh { IsFresh reader }
-    ensures opened { IsOpened result.session result.calls.items }
+    ensures opened { IsOpenedForCalls result.session result.calls.items }
     ensures job { (shape : Widths) (t : ℕ) → IsWork shape t work
         → seen (notes result.handler) result
         ≡ before shape t reader (notes handler) (calls_of work) }
@@ -60,7 +60,7 @@ pub fn take_out<S: Source>(
     ensures capacity { vec_capacity handlers.new ≡ vec_capacity handlers.old }
     ensures reader_capacity { vec_capacity readers.new ≡ vec_capacity readers.old }
     ensures len { vec_len jobs.new ≡ vec_len handlers.old }
-    ensures opened { All (λ j. IsOpened j.session j.calls.items) jobs.new.items }
+    ensures opened { All (λ j. IsOpenedForCalls j.session j.calls.items) jobs.new.items }
     ensures jobs { (shape : Widths) → AreWorks shape works.old.items
         → map (λ j. seen (notes j.handler) j) jobs.new.items ≡ reverse (befores_of shape
         readers.old.items (map (λ b. notes b) handlers.old.items) works.old.items) }

@@ -7,7 +7,7 @@ use crate::result::ReplyLine;
 use papi_base::THREADS;
 use session_model::{Body, Ended, Reply};
 
-/// The mark that a reply carries, where it is that of a run that met one.
+/// The mark that a reply carries, if it is that of a run that met one.
 fn met(reply: &Reply) -> Option<Ended>
     ensures { result ≡ met_in reply.now.body }
 {
@@ -20,7 +20,7 @@ fn met(reply: &Reply) -> Option<Ended>
     }
 }
 
-/// The mark that the runs of each thread met, where they met one.
+/// The mark that the runs of each thread met, if they met one.
 pub fn marks_of(lines: &[ReplyLine]) -> [Option<Ended>; THREADS as usize]
     requires threads { All (λ l. l.thread < THREADS) lines.now }
     ensures marks { result ≡ marks_in lines.now }

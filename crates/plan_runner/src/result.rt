@@ -11,7 +11,7 @@ pub struct ReplyLine {
     pub reply: Reply,
 }
 
-/// The replies in the order of the script, and the mark that the runs of each thread met, where they met one.
+/// The replies in the order of the script, and the mark that the runs of each thread met, if they met one.
 #[derive(Drop)]
 pub struct RunResult {
     pub lines: Vec<ReplyLine>,

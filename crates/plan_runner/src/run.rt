@@ -9,11 +9,11 @@ ghost use Rattle.session_model.specs.declared.line.Line.{Line};
 ghost use Rattle.session_model.specs.World.{Setting};
 ghost use Rattle.session_model.specs.declared.reply.Reply.{Reply};
 ghost use Rattle.thread_session.specs.SessionView.{IsFresh};
-ghost use Rattle.thread_session.specs.Faults.{FaultsRose, IsFault, fault_count};
+ghost use Rattle.thread_session.specs.Faults.{FaultsRose, IsFaultReply, fault_count};
 ghost use Rattle.plan_runner.specs.Marks.{marks_in};
 ghost use Rattle.plan_runner.specs.Merges.{lines_by};
 ghost use Rattle.plan_runner.specs.Plans.{AreGood, AreThreads};
-ghost use Rattle.plan_runner.specs.Runs.{AllKept, AreInOrder, CanEachCome, IdleStay, IsPlannedFrom, Tells, notes_by_thread, reply_lines, world_told};
+ghost use Rattle.plan_runner.specs.Runs.{AllKept, AreInOrder, CanEachCome, IdleStay, IsPlannedAndTold, IsPlannedFrom, notes_by_thread, reply_lines, world_told};
 ghost use Rattle.plan_runner.specs.Served.{AreServed};
 ghost use Rattle.plan_runner.specs.Works.{AreDealt, AreWorks};
 
@@ -164,15 +164,15 @@ pub fn run_plan<R: Threads + Sync, S: Source + Send>(
     ensures len { vec_len handlers.new ≡ THREADS }
     ensures readers_len { vec_len readers.new ≡ THREADS }
     ensures replies { (at : Setting) (script : List Line) (streams : List Coming)
-        → Tells at script streams book.now shape.now plan readers.old.items
+        → IsPlannedAndTold at script streams book.now shape.now plan readers.old.items
         → IfOk result (λ run. run.lines.items ≡ reply_lines plan (world_told at script streams)) }
     ensures notes { (at : Setting) (script : List Line) (streams : List Coming)
-        → Tells at script streams book.now shape.now plan readers.old.items
+        → IsPlannedAndTold at script streams book.now shape.now plan readers.old.items
         → OnOk result (EachAdded (map (λ b. notes b) handlers.old.items)
         (notes_by_thread (world_told at script streams))
         (map (λ b. notes b) handlers.new.items)) }
     ensures begun { (at : Setting) (script : List Line) (streams : List Coming)
-        → Tells at script streams book.now shape.now plan readers.old.items
+        → IsPlannedAndTold at script streams book.now shape.now plan readers.old.items
         → EachBegun (map (λ b. notes b) handlers.old.items)
         (notes_by_thread (world_told at script streams)) (map (λ b. notes b) handlers.new.items) }
 
@@ -192,7 +192,7 @@ pub fn run_plan<R: Threads + Sync, S: Source + Send>(
     ensures marks { IfOk result (λ run. run.marks ≡ marks_in run.lines.items) }
     ensures readers { AllKept (map (λ r. fault_count r) readers.old.items)
         (map (λ r. fault_count r) readers.new.items) }
-    ensures faulty { IfOk result (λ run. All (λ l. IsFault l.reply
+    ensures faulty { IfOk result (λ run. All (λ l. IsFaultReply l.reply
         → FaultsRose (slice_index_or (map (λ r. fault_count r) readers.old.items) l.thread None)
         (slice_index_or (map (λ r. fault_count r) readers.new.items) l.thread None))
         run.lines.items) }

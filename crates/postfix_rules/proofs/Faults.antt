@@ -75,7 +75,7 @@ abbrev pub Says : ℕ → List Part → Option (ℕ × FormulaCause) → Type 0
 Says natives parts (Some f) = IsFault natives parts f.0 f.1
 Says natives parts None = ((j : ℕ) → j ≤ length parts → ClearAt natives parts j) × ((t : Tree) × (parts ≡ map Some (spelling t)))
 
--- a place is clear where its one pile has no cause
+-- a place is clear if its one pile has no cause
 clear-at : (natives : ℕ) (parts : List Part) (j : ℕ) (pile : List Tree) → Pile (take j parts) pile → place_cause natives (length pile) (slice_get parts j) ≡ None → ClearAt natives parts j
 clear-at natives parts j pile p e trees q few =
     let same = pile-one (take j parts) pile trees p q in
@@ -152,7 +152,7 @@ walk natives parts above (t ∷ rest) pile is p few clear = go (token_cause nati
         ]) in
         rw (← n, ← a.1) more
 
--- the first fault that heights find is the fault of the definition, and where they find none the parts spell a tree and no place is at fault
+-- the first fault that heights find is the fault of the definition, and if they find none the parts spell a tree and no place is at fault
 pub faults-found : (natives : ℕ) (parts : List Part) → Says natives parts (fault_from natives 0 0 parts)
 unfolding pile_text
 faults-found natives parts = walk natives parts [] parts [] refl refl (omega arith) (λ j lt. absurd (omega arith))

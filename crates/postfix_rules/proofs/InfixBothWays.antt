@@ -12,11 +12,11 @@ use Rattle.postfix_rules.specs.declared.token.Token.{Token}
 use Rattle.postfix_rules.specs.declared.token.Token.TheVariants as token
 use Rattle.postfix_rules.specs.Faults.{FormulaView}
 use Rattle.postfix_rules.specs.Infix.{Written, Number, Native, Two, Inside, need, wording}
-use Rattle.postfix_rules.specs.InfixFaults.{HasCause, IsEndFault, IsInfixFault, WritesTree, begins_factor, cause_at, must_begin, open_after, open_at_end}
+use Rattle.postfix_rules.specs.InfixFaults.{HasCauseAt, IsEndFault, IsInfixFault, WritesTree, begins_factor, cause_at, must_begin, open_after, open_at_end}
 use Rattle.postfix_rules.specs.InfixLaws.{FirstInfixFaults, FromOneInfix, SameTree}
 use Rattle.postfix_rules.specs.InfixReading.{infix_of}
 use Rattle.postfix_rules.specs.InfixTokens.{InfixPart, infix_parts}
-use Rattle.postfix_rules.specs.Reading.{Refused}
+use Rattle.postfix_rules.specs.Reading.{RefusedFormula}
 use Rattle.postfix_rules.specs.Trees.{Tree, spelling}
 use Rattle.postfix_rules.proofs.InfixAlone.{one_tree}
 use Rattle.postfix_rules.proofs.InfixSound.{Says, text-says}
@@ -92,7 +92,7 @@ index-within (y ∷ xs) (suc k) x e = let lt = index-within xs k x e in omega ar
 tree-or-fault : (natives : ℕ) (parts : List InfixPart) (tree : Tree) (k : ℕ) (why : FormulaCause) → WritesTree natives parts tree → IsInfixFault natives parts k why → ⊥
 tree-or-fault natives parts tree k why writes fault = go (slice_get parts k) refl fault.here
   where
-    go : (o : Option InfixPart) → slice_get parts k ≡ o → HasCause natives parts k why o → ⊥
+    go : (o : Option InfixPart) → slice_get parts k ≡ o → HasCauseAt natives parts k why o → ⊥
     go None e has = end-sound natives parts tree why writes has.1
     go (Some part) e has =
         let clear : cause_at natives parts k part ≡ None = writes.clear k part (index-within parts k part e) e in
@@ -128,7 +128,7 @@ one-end parts a b (inr (inr h)) (inr (inr g)) = h.0 ∙ sym g.0
 one-cause : (natives : ℕ) (parts : List InfixPart) (k : ℕ) (a b : FormulaCause) → IsInfixFault natives parts k a → IsInfixFault natives parts k b → a ≡ b
 one-cause natives parts k a b f g = go (slice_get parts k) f.here g.here
   where
-    go : (o : Option InfixPart) → HasCause natives parts k a o → HasCause natives parts k b o → a ≡ b
+    go : (o : Option InfixPart) → HasCauseAt natives parts k a o → HasCauseAt natives parts k b o → a ≡ b
     go None h i = one-end parts a b (end-causes parts a h.1) (end-causes parts b i.1)
     go (Some part) h i = let same : Some a ≡ Some b = sym h ∙ i in cc same
 
@@ -136,11 +136,11 @@ one-cause natives parts k a b f g = go (slice_get parts k) f.here g.here
 none-before : (natives : ℕ) (parts : List InfixPart) (j k : ℕ) (a b : FormulaCause) → j < k → IsInfixFault natives parts j a → IsInfixFault natives parts k b → ⊥
 none-before natives parts j k a b lt f g = go (slice_get parts j) refl f.here
   where
-    past : (o : Option InfixPart) → slice_get parts k ≡ o → HasCause natives parts k b o → length parts < k → ⊥
+    past : (o : Option InfixPart) → slice_get parts k ≡ o → HasCauseAt natives parts k b o → length parts < k → ⊥
     past None e h end = omega (arith, h.0)
     past (Some part) e h end = omega (arith, index-within parts k part e)
 
-    go : (o : Option InfixPart) → slice_get parts j ≡ o → HasCause natives parts j a o → ⊥
+    go : (o : Option InfixPart) → slice_get parts j ≡ o → HasCauseAt natives parts j a o → ⊥
     go None e h = past (slice_get parts k) refl g.here (omega (arith, h.0))
     go (Some part) e h = let clear : cause_at natives parts j part ≡ None = g.first j part lt e in cc (clear, h)
 
@@ -159,17 +159,17 @@ one-fault natives parts j k a b f g = elim (cases_order j k) [
 
 -- ---- the laws
 
-abbrev formula : List Token → ℕ → Result FormulaView Refused
+abbrev formula : List Token → ℕ → Result FormulaView RefusedFormula
 formula tokens natives = Ok (record { tokens = tokens; natives = natives })
 
-abbrev refusal : ℕ → FormulaCause → Result FormulaView Refused
+abbrev refusal : ℕ → FormulaCause → Result FormulaView RefusedFormula
 refusal place why = Err (record { place = place; cause = why })
 
 pub same_tree : SameTree
 same_tree natives text f = (λ e. subst (Says natives (infix_parts text)) e (text-says natives text), λ h. back h (infix_of natives text) (text-says natives text))
   where
     back : ((tree : Tree) × WritesTree natives (infix_parts text) tree × (f.tokens ≡ spelling tree) × (f.natives ≡ natives))
-        → (r : Result FormulaView Refused) → Says natives (infix_parts text) r → r ≡ Ok f
+        → (r : Result FormulaView RefusedFormula) → Says natives (infix_parts text) r → r ≡ Ok f
     back h (Ok g) s =
         let same : s.0 ≡ h.0 = one_tree (infix_parts text) s.0 h.0 s.1.writes h.1.writes in
         let tokens : g.tokens ≡ f.tokens = s.2 ∙ ap spelling same ∙ sym h.2 in
@@ -185,7 +185,7 @@ first_infix_faults natives text k why = (
   λ h. back h (infix_of natives text) (text-says natives text),
 )
   where
-    back : IsInfixFault natives (infix_parts text) k why → (r : Result FormulaView Refused) → Says natives (infix_parts text) r → r ≡ refusal (k + 1) why
+    back : IsInfixFault natives (infix_parts text) k why → (r : Result FormulaView RefusedFormula) → Says natives (infix_parts text) r → r ≡ refusal (k + 1) why
     back h (Ok g) s = absurd (tree-or-fault natives (infix_parts text) s.0 k why s.1 h)
     back h (Err r) s =
         let same = one-fault natives (infix_parts text) s.0 k r.cause why s.2 h in

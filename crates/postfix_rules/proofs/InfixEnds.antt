@@ -10,7 +10,7 @@ use Rattle.postfix_rules.specs.declared.infix_token.InfixToken.{InfixToken}
 use Rattle.postfix_rules.specs.declared.token.Token.{Token}
 use Rattle.postfix_rules.specs.Faults.{IsFormula, end_cause, fault_from, height_after, token_cause}
 use Rattle.postfix_rules.specs.InfixFaults.{infix_cause}
-use Rattle.postfix_rules.specs.InfixReading.{OrderView, ended_tokens, infix_end, infix_ended, infix_of, moved, moved_by, order_begun, order_cause, refused_at}
+use Rattle.postfix_rules.specs.InfixReading.{OrderView, ended_tokens, infix_end, infix_ended, infix_of, moved_by, order_begun, order_cause, order_moved, refused_at}
 use Rattle.postfix_rules.specs.InfixTokens.{InfixPart, infix_parts}
 use Rattle.table_rows.specs.Texts.{Text}
 use Rattle.postfix_rules.proofs.Spelled.{few-after}
@@ -69,7 +69,7 @@ ended-fault natives i height o e = rw e refl
 pub checked-end : (natives : ℕ) (tokens : List Token) (i height : ℕ) → length tokens ≤ i → Checked natives tokens i height → fault_from natives 0 0 (map Some tokens) ≡ fault_from natives i height []
 checked-end natives tokens i height le c = c.same ∙ ap (λ (ts : List Token). fault_from natives i height (map Some ts)) (drop_all i tokens le)
 
--- the tokens are a formula exactly where there is no fault at the end
+-- the tokens are a formula exactly if there is no fault at the end
 pub formula-iff : (natives : ℕ) (tokens : List Token) (i height : ℕ) (b : Bool) → is_some (end_cause height) ≡ not b → length tokens ≤ i
     → Checked natives tokens i height → IsTrue b ↔ IsFormula natives tokens
 formula-iff natives tokens i height b h le c = go (end_cause height) b refl h
@@ -134,7 +134,7 @@ unfolding infix_of
 reads-none natives text = record { same = refl; within = omega arith }
 
 pub reads-more : (natives : ℕ) (text rest after : Text) (place : ℕ) (order : OrderView) (part : InfixPart) (t : InfixToken) → infix_parts rest ≡ part ∷ infix_parts after → part ≡ Some t
-    → order_cause natives order part ≡ None → length after < length rest → Reads natives text rest place order → Reads natives text after (place + 1) (moved order t)
+    → order_cause natives order part ≡ None → length after < length rest → Reads natives text rest place order → Reads natives text after (place + 1) (order_moved order t)
 reads-more natives text rest after place order part t is token none lt r = record {
   same = r.same ∙ ap (infix_ended natives place order) is ∙ part-taken natives place order part (infix_parts after) none
       ∙ ap (λ (p : InfixPart). infix_ended natives (place + 1) (moved_by order p) (infix_parts after)) token;

@@ -11,10 +11,10 @@ use Rattle.postfix_rules.specs.declared.fault.FormulaFault.TheVariants.{At, Memo
 use Rattle.postfix_rules.specs.declared.infix_token.InfixToken.{InfixToken}
 use Rattle.postfix_rules.specs.Faults.{FormulaView, IsFormula}
 use Rattle.postfix_rules.specs.Infix.{IsInfix, Written, need, tree_of}
-use Rattle.postfix_rules.specs.InfixFaults.{AreClear, HasCause, IsInfixFault, ReadsInfix, WritesTree, begins_factor, cause_at, infix_cause, must_begin, open_after, open_at_end}
-use Rattle.postfix_rules.specs.InfixReading.{Gives, OrderView, ended_tokens, infix_ended, infix_of, moved, operator_tokens, order_begun, order_cause, refused_at}
+use Rattle.postfix_rules.specs.InfixFaults.{AreClear, HasCauseAt, IsInfixFault, ReadsInfix, WritesTree, begins_factor, cause_at, infix_cause, must_begin, open_after, open_at_end}
+use Rattle.postfix_rules.specs.InfixReading.{AnswersInfix, OrderView, ended_tokens, infix_ended, infix_of, operator_tokens, order_begun, order_cause, order_moved, refused_at}
 use Rattle.postfix_rules.specs.InfixTokens.{InfixPart, infix_parts}
-use Rattle.postfix_rules.specs.Reading.{Refused}
+use Rattle.postfix_rules.specs.Reading.{RefusedFormula}
 use Rattle.postfix_rules.specs.Trees.{Tree, spelling}
 use Rattle.table_rows.specs.Texts.{Text}
 use Rattle.postfix_rules.proofs.InfixEnds.{end-deep, end-formula, end-missing, end-open, part-refused, part-taken}
@@ -34,10 +34,10 @@ follows-none : (natives : ℕ) → Follows natives [] order_begun (wants [] None
 follows-none natives = record { words = refl; shows = refl; must = refl; depth = refl; fine = (tt, tt, tt) }
 
 follows-more : (natives : ℕ) (before : List InfixPart) (order : OrderView) (s : State) (t : InfixToken) → order_cause natives order (Some t) ≡ None → Follows natives before order s
-    → Follows natives (before ++ Some t ∷ []) (moved order t) (stepped s t)
+    → Follows natives (before ++ Some t ∷ []) (order_moved order t) (stepped s t)
 follows-more natives before order s t e f =
     let m = moves natives s t f.fine (ap (λ (o : OrderView). order_cause natives o (Some t)) (sym f.shows) ∙ e) in
-    let shows : moved order t ≡ order_of (stepped s t) = ap (λ (o : OrderView). moved o t) f.shows ∙ m.order in
+    let shows : order_moved order t ≡ order_of (stepped s t) = ap (λ (o : OrderView). order_moved o t) f.shows ∙ m.order in
     record {
       words = ap (map Some) m.words ∙ map-append Some (state_words s) (t ∷ []) ∙ ap (λ (ps : List InfixPart). ps ++ Some t ∷ []) f.words;
       shows = shows;
@@ -86,19 +86,19 @@ clear-more natives before rest part none clear =
 
 -- ---- what is read
 
-abbrev pub Says : ℕ → List InfixPart → Result FormulaView Refused → Type 0
+abbrev pub Says : ℕ → List InfixPart → Result FormulaView RefusedFormula → Type 0
 Says natives parts (Ok f) = (tree : Tree) × WritesTree natives parts tree × (f.tokens ≡ spelling tree) × (f.natives ≡ natives)
 Says natives parts (Err r) = (k : ℕ) × (r.place ≡ k + 1) × IsInfixFault natives parts k r.cause
 
-fault-end : (natives : ℕ) (before : List InfixPart) (why : FormulaCause) → HasCause natives before (length before) why None
+fault-end : (natives : ℕ) (before : List InfixPart) (why : FormulaCause) → HasCauseAt natives before (length before) why None
     → AreClear natives before (length before) → IsInfixFault natives before (length before) why
-fault-end natives before why h clear = record { here = subst (HasCause natives before (length before) why) (sym (get-end before)) h; first = clear }
+fault-end natives before why h clear = record { here = subst (HasCauseAt natives before (length before) why) (sym (get-end before)) h; first = clear }
 
-refuses : (natives place : ℕ) (before : List InfixPart) (why : FormulaCause) → place ≡ length before → HasCause natives before (length before) why None → AreClear natives before (length before)
+refuses : (natives place : ℕ) (before : List InfixPart) (why : FormulaCause) → place ≡ length before → HasCauseAt natives before (length before) why None → AreClear natives before (length before)
     → Says natives before (refused_at place why)
 refuses natives place before why n h clear = (length before, ap (λ (k : ℕ). k + 1) n, fault-end natives before why h clear)
 
--- the tokens at the end, where no parenthesis is open
+-- the tokens at the end, if no parenthesis is open
 end-tokens : (s : Option Held) (w : Written) → ended_tokens (order_of (done [] s w)) ≡ spelling (tree_of (joined s w))
 end-tokens s w = append_assoc (held_tokens s) (spelling (tree_of w)) (operator_tokens (by s)) ∙ joined-tokens s w
 
@@ -138,8 +138,8 @@ refused-here : (natives place : ℕ) (before rest : List InfixPart) (part : Infi
     → cause_at natives (before ++ part ∷ rest) (length before) part ≡ Some why → AreClear natives (before ++ part ∷ rest) (length before)
     → Says natives (before ++ part ∷ rest) (infix_ended natives place order (part ∷ rest))
 refused-here natives place before rest part order why n e at clear =
-    let has : HasCause natives (before ++ part ∷ rest) (length before) why (slice_get (before ++ part ∷ rest) (length before)) =
-    subst (HasCause natives (before ++ part ∷ rest) (length before) why) (sym (get-front before part rest)) at in
+    let has : HasCauseAt natives (before ++ part ∷ rest) (length before) why (slice_get (before ++ part ∷ rest) (length before)) =
+    subst (HasCauseAt natives (before ++ part ∷ rest) (length before) why) (sym (get-front before part rest)) at in
     subst (Says natives (before ++ part ∷ rest)) (sym (part-refused natives place order part rest why e)) (length before, ap (λ (k : ℕ). k + 1) n, record { here = has; first = clear })
 
 says : (natives place : ℕ) (before rest : List InfixPart) (order : OrderView) (s : State) → place ≡ length before → Follows natives before order s → AreClear natives (before ++ rest) (length before)
@@ -156,15 +156,15 @@ says natives place before (None ∷ rest) order s n f clear =
     refused-here natives place before rest None order cause.UnknownToken n (unknown-part natives order.must (length order.outer)) at clear
 says natives place before (Some t ∷ rest) order s n f clear =
     go (order_cause natives order (Some t)) refl
-    (λ e. says natives (place + 1) (before ++ Some t ∷ []) rest (moved order t) (stepped s t) (omega (arith, n, length-append before (Some t ∷ []))) (follows-more natives before order s t e f)
+    (λ e. says natives (place + 1) (before ++ Some t ∷ []) rest (order_moved order t) (stepped s t) (omega (arith, n, length-append before (Some t ∷ []))) (follows-more natives before order s t e f)
     (clear-more natives before rest (Some t) (here natives before rest (Some t) order f.must f.depth ∙ e) clear))
   where
     go : (o : Option FormulaCause) → order_cause natives order (Some t) ≡ o
-        → (order_cause natives order (Some t) ≡ None → Says natives ((before ++ Some t ∷ []) ++ rest) (infix_ended natives (place + 1) (moved order t) rest))
+        → (order_cause natives order (Some t) ≡ None → Says natives ((before ++ Some t ∷ []) ++ rest) (infix_ended natives (place + 1) (order_moved order t) rest))
         → Says natives (before ++ Some t ∷ rest) (infix_ended natives place order (Some t ∷ rest))
     go None e more =
         subst (Says natives (before ++ Some t ∷ rest)) (sym (part-taken natives place order (Some t) rest e))
-        (subst (λ (ps : List InfixPart). Says natives ps (infix_ended natives (place + 1) (moved order t) rest)) (append_assoc before (Some t ∷ []) rest) (more e))
+        (subst (λ (ps : List InfixPart). Says natives ps (infix_ended natives (place + 1) (order_moved order t) rest)) (append_assoc before (Some t ∷ []) rest) (more e))
     go (Some why) e more = refused-here natives place before rest (Some t) order why n e (here natives before rest (Some t) order f.must f.depth ∙ e) clear
 
 -- ---- the answer to a text
@@ -173,11 +173,11 @@ pub text-says : (natives : ℕ) (text : Text) → Says natives (infix_parts text
 unfolding infix_of
 text-says natives text = says natives 0 [] (infix_parts text) order_begun (wants [] None None) refl (follows-none natives) (λ j part lt at. absurd (omega arith))
 
-pub answer-infix : (natives : ℕ) (text : Text) (r : Result FormulaView FormulaFault) → Gives r (infix_of natives text) → ReadsInfix r natives text
+pub answer-infix : (natives : ℕ) (text : Text) (r : Result FormulaView FormulaFault) → AnswersInfix r (infix_of natives text) → ReadsInfix r natives text
 answer-infix natives text (Ok f) e = subst (Says natives (infix_parts text)) e (text-says natives text)
 answer-infix natives text (Err (At place why)) e = subst (Says natives (infix_parts text)) e (text-says natives text)
 answer-infix natives text (Err Memory) e = tt
 
-pub answer-natives : (natives : ℕ) (text : Text) (r : Result FormulaView FormulaFault) → Gives r (infix_of natives text) → IfOk r (λ f. f.natives ≡ natives)
+pub answer-natives : (natives : ℕ) (text : Text) (r : Result FormulaView FormulaFault) → AnswersInfix r (infix_of natives text) → IfOk r (λ f. f.natives ≡ natives)
 answer-natives natives text (Ok f) e = let s = subst (Says natives (infix_parts text)) e (text-says natives text) in s.3
 answer-natives natives text (Err fault) e = tt

@@ -12,7 +12,7 @@ use Rattle.postfix_rules.specs.declared.token.Token.{Token}
 use Rattle.postfix_rules.specs.declared.token.Token.TheVariants as token
 use Rattle.postfix_rules.specs.Infix.{Written, Number, Native, Inside, tree_of, wording}
 use Rattle.postfix_rules.specs.InfixFaults.{begins_factor, infix_cause, open_after, place_of_operand}
-use Rattle.postfix_rules.specs.InfixReading.{OrderView, moved, operator_tokens, order_cause}
+use Rattle.postfix_rules.specs.InfixReading.{OrderView, operator_tokens, order_cause, order_moved}
 use Rattle.postfix_rules.specs.Trees.{spelling}
 use Rattle.postfix_rules.proofs.InfixStates.{Frame, Held, IsFine, State, by, done, frame, held, held_tokens, held_words, joined, joined-sum, joined-term}
 use Rattle.postfix_rules.proofs.InfixStates.{joined-tokens, joined-words, order_of, outer_tokens, outer_words, state_words, stepped, waits, wants}
@@ -91,7 +91,7 @@ order-with outer here must tokens = record { tokens = tokens; outer = outer; her
 -- the state after one token more, and how it shows
 pub record Moves (natives : ℕ) (s : State) (t : InfixToken) : Type 0 where
   pub words : state_words (stepped s t) ≡ state_words s ++ (t ∷ [])
-  pub order : moved (order_of s) t ≡ order_of (stepped s t)
+  pub order : order_moved (order_of s) t ≡ order_of (stepped s t)
   pub fine : IsFine natives (stepped s t)
   pub must : begins_factor (Some t) ≡ (order_of (stepped s t)).must
   pub depth : open_after (length (order_of s).outer) (Some t) ≡ length (order_of (stepped s t)).outer
@@ -136,7 +136,7 @@ wrong : {A : Type 0} → false ≡ true → A
 wrong e = cc e
 
 pub moves : (natives : ℕ) (s : State) (t : InfixToken) → IsFine natives s → order_cause natives (order_of s) (Some t) ≡ None → Moves natives s t
-unfolding moved spelling
+unfolding order_moved spelling
 moves natives (wants outer s p) (sign.Token (token.Constant n)) h e =
     let small = small-number natives n true (length (waits outer)) e in
     let term = joined-term natives p (Number n) h.2 tt small.0 in record {

@@ -43,7 +43,7 @@ parts-cut_rest text n h =
     let rest : take (length text - (n + 1)) (drop (n + 1) text) ≡ drop (n + 1) text = take_all _ _ (omega (arith, length-drop (n + 1) text)) in
     parts-cut text n h ∙ ap (λ (t : Text). part_of (trimmed (take n text)) ∷ parts_of t) (sym rest)
 
--- where there is no bar, there is one piece
+-- if there is no bar, there is one piece
 one_piece : (text : Text) → nat_lt (position_or_len is_bar text) (length text) ≡ false → slice_split is_bar text ≡ text ∷ []
 one_piece [] h = refl
 one_piece (b ∷ text) h = go (is_bar b) refl (λ rest. one_piece text rest) h

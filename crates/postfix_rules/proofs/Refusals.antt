@@ -9,22 +9,22 @@ use Rattle.postfix_rules.specs.Trees.{spelling}
 use Rattle.postfix_rules.specs.Faults.{FormulaView, IsFault, IsFormula, Part, fault_from}
 use Rattle.postfix_rules.specs.Tokens.{parts_of}
 use Rattle.table_rows.specs.Texts.{Text}
-use Rattle.postfix_rules.specs.Reading.{FirstFaults, FromOne, IsTextFault, IsTreeText, ReadsFormula, Refused, SameTokens, formula_of, tokens_among, unless_fault}
+use Rattle.postfix_rules.specs.Reading.{FirstFaults, FromOne, IsTextFault, IsTreeText, ReadsFormula, RefusedFormula, SameTokens, formula_of, tokens_among, unless_fault}
 use Rattle.postfix_rules.proofs.Spelled.{formulas_spell}
 use Rattle.postfix_rules.proofs.Faults.{Says, among-some, faults-found, found-faults}
 
-err-one : (a b : Refused) → ◌≡◌ {A = Result FormulaView Refused} (Err a) (Err b) → a ≡ b
+err-one : (a b : RefusedFormula) → ◌≡◌ {A = Result FormulaView RefusedFormula} (Err a) (Err b) → a ≡ b
 err-one a b e = cc e
 
-ok-one : (a b : FormulaView) → ◌≡◌ {A = Result FormulaView Refused} (Ok a) (Ok b) → a ≡ b
+ok-one : (a b : FormulaView) → ◌≡◌ {A = Result FormulaView RefusedFormula} (Ok a) (Ok b) → a ≡ b
 ok-one a b e = cc e
 
-refused-fault : (natives : ℕ) (parts : List Part) (o : Option (ℕ × FormulaCause)) (refused : Refused) → unless_fault natives parts o ≡ Err refused
+refused-fault : (natives : ℕ) (parts : List Part) (o : Option (ℕ × FormulaCause)) (refused : RefusedFormula) → unless_fault natives parts o ≡ Err refused
     → (fault : ℕ × FormulaCause) × (o ≡ Some fault) × (refused.place ≡ fault.0 + 1) × (refused.cause ≡ fault.1)
 refused-fault natives parts None refused e = cc e
 refused-fault natives parts (Some fault) refused e =
     let same = err-one (record { place = fault.0 + 1; cause = fault.1 }) refused e in
-    (fault, refl, ap (λ (r : Refused). r.place) (sym same), ap (λ (r : Refused). r.cause) (sym same))
+    (fault, refl, ap (λ (r : RefusedFormula). r.place) (sym same), ap (λ (r : RefusedFormula). r.cause) (sym same))
 
 fault-of : (natives : ℕ) (parts : List Part) (fault : ℕ × FormulaCause) → fault_from natives 0 0 parts ≡ Some fault → IsFault natives parts fault.0 fault.1
 fault-of natives parts fault e = subst (Says natives parts) e (faults-found natives parts)
@@ -62,7 +62,7 @@ read-none natives parts None f e =
     let same = ok-one (record { tokens = tokens_among parts; natives = natives }) f e in
     (refl, ap (λ (v : FormulaView). v.tokens) (sym same), ap (λ (v : FormulaView). v.natives) (sym same))
 
-abbrev made : List Token → ℕ → Result FormulaView Refused
+abbrev made : List Token → ℕ → Result FormulaView RefusedFormula
 made tokens natives = Ok (record { tokens = tokens; natives = natives })
 
 pub reads-tokens : (natives : ℕ) (text : Text) (f : FormulaView) → parts_of text ≡ map Some f.tokens → f.natives ≡ natives → IsFormula natives f.tokens → formula_of natives text ≡ Ok f

@@ -11,7 +11,7 @@ use Rattle.postfix_rules.specs.Reading.{formula_of, unless_fault}
 use Rattle.postfix_rules.proofs.Refusals.{reads-tokens}
 use Rattle.postfix_rules.proofs.Spelled.{few-after}
 
--- The tokens are the parts before the rest, they have no fault, and leave so many operands.
+-- The tokens are the parts before the rest, they have no fault, and leave n operands.
 pub record SoFar (natives : ℕ) (text rest : Text) (tokens : List Token) (height : ℕ) : Type 0 where
   pub parts : parts_of text ≡ map Some tokens ++ parts_of rest
   pub faults : fault_from natives 0 0 (parts_of text) ≡ fault_from natives (length tokens) height (parts_of rest)

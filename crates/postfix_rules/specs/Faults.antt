@@ -9,7 +9,7 @@ use Rattle.postfix_rules.specs.declared.fault.FormulaCause.{FormulaCause}
 use Rattle.postfix_rules.specs.declared.fault.FormulaCause.TheVariants as cause
 use Rattle.postfix_rules.specs.Trees.{Tree, pile_text}
 
--- a part of a formula's text: a token, or none where it is not one
+-- a part of a formula's text: a token, or none if it is not one
 abbrev pub Part : Type 0
 Part = Option Token
 
@@ -21,7 +21,7 @@ Pile parts trees = parts ≡ map Some (pile_text trees)
 abbrev pub operand_cause : ℕ → Option FormulaCause
 operand_cause height = if nat_le MOST_OPERANDS height then Some cause.TooDeep else None
 
--- the cause of a part after a pile of so many trees, in a formula over so many natives
+-- the cause of a part after a pile of k trees, in a formula over n natives
 unfoldable pub token_cause : ℕ → ℕ → Part → Option FormulaCause
 token_cause natives height None = Some cause.UnknownToken
 token_cause natives height (Some (token.Constant n)) = if nat_lt n (2 ^ 63) then operand_cause height else Some cause.ConstantTooLarge
@@ -54,13 +54,13 @@ height_after height (Some (token.Constant n)) = height + 1
 height_after height (Some (token.Native i)) = height + 1
 height_after height (Some (token.Operator o)) = height - 1
 
--- the first fault of the parts after a pile of so many trees, of which the first is the part at this place from 0
+-- the first fault of the parts after a pile of n trees, of which the first is the part at this place from 0
 unfoldable pub fault_from : ℕ → ℕ → ℕ → List Part → Option (ℕ × FormulaCause)
 fault_from natives place height [] = option_map_or (λ why. Some (place, why)) (end_cause height) None
 fault_from natives place height (part ∷ rest) =
     option_map_or (λ why. Some (place, why)) (token_cause natives height part) (fault_from natives (place + 1) (height_after height part) rest)
 
--- the tokens are a formula over so many natives
+-- the tokens are a formula over n natives
 abbrev pub IsFormula : ℕ → List Token → Type 0
 IsFormula natives tokens = fault_from natives 0 0 (map Some tokens) ≡ None
 

@@ -13,7 +13,7 @@ use Rattle.postfix_rules.specs.Presets.{Book, entry}
 abbrev pub Widths : Type 0
 Widths = List (List ℕ)
 
--- the widths of a component's counters, and none where there is no component
+-- the widths of a component's counters, and none if there is no component
 abbrev pub widths_at : Widths → Option ℕ → List ℕ
 widths_at shape None = []
 widths_at shape (Some comp) = unwrap_or (slice_get shape comp) []

@@ -1,7 +1,7 @@
 -- The first fault of a formula in infix order, with 16 open parentheses, a stack of 16 places and constants of 63 bits.
 use Rattle.std.specs.Prelude.{◌≡◌, ◌≤◌, ◌<◌, ◌+◌, ◌-◌, ◌^◌, ◌==◌, ℕ, Bool, true, false, List, take, fold, length, slice_get}
 use Rattle.std.specs.Prelude.{Option, Some, None, if◌then◌else◌, nat_le, nat_lt, Result, Ok, Err}
-use Rattle.postfix_rules.specs.declared.limits.TheConstants.{MOST_OPEN, MOST_OPERANDS}
+use Rattle.postfix_rules.specs.declared.limits.TheConstants.{MOST_OPEN_PARENTHESES, MOST_OPERANDS}
 use Rattle.postfix_rules.specs.declared.fault.FormulaCause.{FormulaCause}
 use Rattle.postfix_rules.specs.declared.fault.FormulaCause.TheVariants as cause
 use Rattle.postfix_rules.specs.declared.fault.FormulaFault.{FormulaFault}
@@ -44,13 +44,13 @@ place_of_operand must = if must then None else Some cause.OperandsLeft
 
 -- so does `(`, inside at most 15 others
 abbrev pub open_cause : Bool → ℕ → Option FormulaCause
-open_cause must depth = if must then (if nat_le MOST_OPEN depth then Some cause.TooDeep else None) else Some cause.OperandsLeft
+open_cause must depth = if must then (if nat_le MOST_OPEN_PARENTHESES depth then Some cause.TooDeep else None) else Some cause.OperandsLeft
 
 -- `)` stands after an operand, and closes a `(`
 abbrev pub close_cause : Bool → ℕ → Option FormulaCause
 close_cause must depth = if must then Some cause.OperandMissing else if depth == 0 then Some cause.Unbalanced else None
 
--- the cause of a part, where a factor must begin or may not, with so many open parentheses before it
+-- the cause of a part, if a factor must begin or may not, with n open parentheses before it
 unfoldable pub infix_cause : ℕ → Bool → ℕ → InfixPart → Option FormulaCause
 infix_cause natives must depth None = Some cause.UnknownToken
 infix_cause natives must depth (Some (sign.Token (token.Constant n))) = if nat_lt n (2 ^ 63) then place_of_operand must else Some cause.ConstantTooLarge
@@ -74,9 +74,9 @@ IsEndFault parts cause.NativeRange = ⊥
 IsEndFault parts cause.OperandsLeft = ⊥
 
 -- the place is at fault: its part has the cause, or it is one past the last part, and the end is at fault
-abbrev pub HasCause : ℕ → List InfixPart → ℕ → FormulaCause → Option InfixPart → Type 0
-HasCause natives parts k why None = (k ≡ length parts) × IsEndFault parts why
-HasCause natives parts k why (Some part) = cause_at natives parts k part ≡ Some why
+abbrev pub HasCauseAt : ℕ → List InfixPart → ℕ → FormulaCause → Option InfixPart → Type 0
+HasCauseAt natives parts k why None = (k ≡ length parts) × IsEndFault parts why
+HasCauseAt natives parts k why (Some part) = cause_at natives parts k part ≡ Some why
 
 -- no part before the place has a cause
 abbrev pub AreClear : ℕ → List InfixPart → ℕ → Type 0
@@ -84,7 +84,7 @@ AreClear natives parts k = (j : ℕ) (part : InfixPart) → j < k → slice_get 
 
 -- the place k from 0 is the first that is at fault
 pub record IsInfixFault (natives : ℕ) (parts : List InfixPart) (k : ℕ) (why : FormulaCause) : Type 0 where
-  pub here : HasCause natives parts k why (slice_get parts k)
+  pub here : HasCauseAt natives parts k why (slice_get parts k)
   pub first : AreClear natives parts k
 
 -- the parts write a tree, no part has a cause, and the tree needs few places

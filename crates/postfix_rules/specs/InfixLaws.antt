@@ -5,11 +5,11 @@ use Rattle.postfix_rules.specs.Faults.{FormulaView}
 use Rattle.postfix_rules.specs.InfixFaults.{IsInfixFault, WritesTree}
 use Rattle.postfix_rules.specs.InfixReading.{infix_of}
 use Rattle.postfix_rules.specs.InfixTokens.{infix_parts}
-use Rattle.postfix_rules.specs.Reading.{Refused}
+use Rattle.postfix_rules.specs.Reading.{RefusedFormula}
 use Rattle.postfix_rules.specs.Trees.{Tree, spelling}
 use Rattle.table_rows.specs.Texts.{Text}
 
--- a text reads as a formula exactly where it writes a tree by the grammar, without a fault, and the formula's tokens spell that tree
+-- a text reads as a formula exactly if it writes a tree by the grammar, without a fault, and the formula's tokens spell that tree
 abbrev pub SameTree : Type 0
 SameTree =
     (natives : ℕ) (text : Text) (f : FormulaView)
@@ -24,4 +24,4 @@ FirstInfixFaults =
 
 -- the place of a fault in a text in infix order counts from 1
 abbrev pub FromOneInfix : Type 0
-FromOneInfix = (natives : ℕ) (text : Text) (refused : Refused) → infix_of natives text ≡ Err refused → 0 < refused.place
+FromOneInfix = (natives : ℕ) (text : Text) (refused : RefusedFormula) → infix_of natives text ≡ Err refused → 0 < refused.place

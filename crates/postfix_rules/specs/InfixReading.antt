@@ -17,7 +17,7 @@ use Rattle.postfix_rules.specs.declared.infix_token.InfixToken.TheVariants as si
 use Rattle.postfix_rules.specs.Faults.{FormulaView, fault_from}
 use Rattle.postfix_rules.specs.InfixFaults.{infix_cause}
 use Rattle.postfix_rules.specs.InfixTokens.{InfixPart, infix_parts}
-use Rattle.postfix_rules.specs.Reading.{Refused}
+use Rattle.postfix_rules.specs.Reading.{RefusedFormula}
 use Rattle.table_rows.specs.Texts.{Text}
 
 -- The tokens so far, and the operators that wait for what is on their right: those of each open parenthesis, the innermost
@@ -79,8 +79,8 @@ operator_moved order op.Times = product_moved order op.Times
 operator_moved order op.Over = product_moved order op.Over
 
 -- a parenthesis opens: what waits, waits around it
-abbrev pub opened : OrderView → OrderView
-opened order = record { tokens = order.tokens; outer = order.here ∷ order.outer; here = none_waits; must = true }
+abbrev pub order_opened : OrderView → OrderView
+order_opened order = record { tokens = order.tokens; outer = order.here ∷ order.outer; here = none_waits; must = true }
 
 -- what is inside parentheses has ended, and is a factor of what is around them
 abbrev pub closed : OrderView → List Waiting → OrderView
@@ -89,17 +89,17 @@ closed order (around ∷ outer) =
     factor_ended (record { tokens = order.tokens ++ operator_tokens order.here.sum; outer = outer; here = around; must = order.must })
 
 -- the order with one token more
-unfoldable pub moved : OrderView → InfixToken → OrderView
-moved order (sign.Token (token.Constant n)) = operand_moved order (token.Constant n)
-moved order (sign.Token (token.Native i)) = operand_moved order (token.Native i)
-moved order (sign.Token (token.Operator o)) = operator_moved order o
-moved order sign.Open = opened order
-moved order sign.Close = closed order order.outer
+unfoldable pub order_moved : OrderView → InfixToken → OrderView
+order_moved order (sign.Token (token.Constant n)) = operand_moved order (token.Constant n)
+order_moved order (sign.Token (token.Native i)) = operand_moved order (token.Native i)
+order_moved order (sign.Token (token.Operator o)) = operator_moved order o
+order_moved order sign.Open = order_opened order
+order_moved order sign.Close = closed order order.outer
 
 -- the order with one part more; a part that is not a token changes nothing
 abbrev pub moved_by : OrderView → InfixPart → OrderView
 moved_by order None = order
-moved_by order (Some t) = moved order t
+moved_by order (Some t) = order_moved order t
 
 -- the tokens are a formula: their value finds room on the stack
 abbrev pub formula_cause : ℕ → List Token → Option FormulaCause
@@ -117,7 +117,7 @@ infix_end natives order =
     else formula_cause natives (ended_tokens order)
 
 -- a refusal at a place, which counts from 1
-abbrev pub refused_at : ℕ → FormulaCause → Result FormulaView Refused
+abbrev pub refused_at : ℕ → FormulaCause → Result FormulaView RefusedFormula
 refused_at place why = Err (record { place = place + 1; cause = why })
 
 -- why a part is refused in this order, if it is
@@ -125,17 +125,17 @@ abbrev pub order_cause : ℕ → OrderView → InfixPart → Option FormulaCause
 order_cause natives order part = infix_cause natives order.must (length order.outer) part
 
 -- the formula of further parts after such an order, or the first fault, of which the first is the part at this place from 0
-unfoldable pub infix_ended : ℕ → ℕ → OrderView → List InfixPart → Result FormulaView Refused
+unfoldable pub infix_ended : ℕ → ℕ → OrderView → List InfixPart → Result FormulaView RefusedFormula
 infix_ended natives place order [] = option_map_or (refused_at place) (infix_end natives order) (Ok (record { tokens = ended_tokens order; natives = natives }))
 infix_ended natives place order (part ∷ rest) =
     option_map_or (refused_at place) (order_cause natives order part) (infix_ended natives (place + 1) (moved_by order part) rest)
 
--- the formula of a text in infix order over so many natives, or the text's first fault
-unfoldable pub infix_of : ℕ → Text → Result FormulaView Refused
+-- the formula of a text in infix order over n natives, or the text's first fault
+unfoldable pub infix_of : ℕ → Text → Result FormulaView RefusedFormula
 infix_of natives text = infix_ended natives 0 order_begun (infix_parts text)
 
--- The answer where this is the formula or the first fault. Memory may run out at any text.
-abbrev pub Gives : Result Formula FormulaFault → Result FormulaView Refused → Type 0
-Gives (Ok formula) read = read ≡ Ok formula
-Gives (Err (At place cause)) read = read ≡ Err (record { place = place; cause = cause })
-Gives (Err Memory) read = Unit {0}
+-- The answer if this is the formula or the first fault. Memory may run out at any text.
+abbrev pub AnswersInfix : Result Formula FormulaFault → Result FormulaView RefusedFormula → Type 0
+AnswersInfix (Ok formula) read = read ≡ Ok formula
+AnswersInfix (Err (At place cause)) read = read ≡ Err (record { place = place; cause = cause })
+AnswersInfix (Err Memory) read = Unit {0}

@@ -10,7 +10,7 @@ use Rattle.postfix_rules.specs.declared.token.Token.TheVariants as token
 use Rattle.postfix_rules.specs.declared.infix_token.InfixToken.{InfixToken}
 use Rattle.postfix_rules.specs.declared.infix_token.InfixToken.TheVariants as sign
 
--- a part of a text in infix order: a token, or none where it is not one
+-- a part of a text in infix order: a token, or none if it is not one
 abbrev pub InfixPart : Type 0
 InfixPart = Option InfixToken
 

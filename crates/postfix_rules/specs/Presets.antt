@@ -9,7 +9,7 @@ use Rattle.postfix_rules.specs.declared.rule.Rule.TheVariants as rule
 use Rattle.postfix_rules.specs.Rules.{DerivedView, rule_value}
 use Rattle.postfix_rules.specs.Sameness.{joined_by}
 
--- a book of presets: under each row what it derives, where it is available
+-- a book of presets: under each row what it derives, if it is available
 abbrev pub Book : Type 0
 Book = List (Option DerivedView)
 
@@ -35,7 +35,7 @@ lead book e = slice_get (natives_of_event book e) 0
 abbrev pub component_of_event : Book → EventRef → Option ℕ
 component_of_event book e = option_map (λ n. n.comp) (lead book e)
 
--- the value of an event, where each native's count is given
+-- the value of an event, if each native's count is given
 abbrev pub event_value : Book → (Native → ℕ) → EventRef → ℤ
 event_value book count e = rule_value (rule_of_event book e) (map (λ n. pos (count n)) (natives_of_event book e))
 

@@ -11,8 +11,8 @@ use Rattle.postfix_rules.specs.Trees.{Tree, spelling}
 use Rattle.postfix_rules.specs.Tokens.{formula_text, is_formula_byte, parts_of}
 use Rattle.table_rows.specs.Texts.{Text}
 
--- the first fault of a text, by its place from 1, which is one past the last token where it is the text's end
-pub record Refused : Type 0 where
+-- the first fault of a text, by its place from 1, which is one past the last token if it is the text's end
+pub record RefusedFormula : Type 0 where
   pub place : ℕ
   pub cause : FormulaCause
 
@@ -23,12 +23,12 @@ tokens_among (None ∷ rest) = tokens_among rest
 tokens_among (Some t ∷ rest) = t ∷ tokens_among rest
 
 -- the formula of parts that have no fault, or their fault
-abbrev pub unless_fault : ℕ → List Part → Option (ℕ × FormulaCause) → Result FormulaView Refused
+abbrev pub unless_fault : ℕ → List Part → Option (ℕ × FormulaCause) → Result FormulaView RefusedFormula
 unless_fault natives parts None = Ok (record { tokens = tokens_among parts; natives = natives })
 unless_fault natives parts (Some fault) = Err (record { place = fault.0 + 1; cause = fault.1 })
 
--- the formula of a text over so many natives, or the text's first fault
-unfoldable pub formula_of : ℕ → Text → Result FormulaView Refused
+-- the formula of a text over n natives, or the text's first fault
+unfoldable pub formula_of : ℕ → Text → Result FormulaView RefusedFormula
 formula_of natives text = unless_fault natives (parts_of text) (fault_from natives 0 0 (parts_of text))
 
 -- The answer to a text. Memory may run out at any text.
@@ -56,9 +56,9 @@ FirstFaults =
 
 -- the place of a fault in a text counts from 1
 abbrev pub FromOne : Type 0
-FromOne = (natives : ℕ) (text : Text) (refused : Refused) → formula_of natives text ≡ Err refused → 0 < refused.place
+FromOne = (natives : ℕ) (text : Text) (refused : RefusedFormula) → formula_of natives text ≡ Err refused → 0 < refused.place
 
--- a text reads as a formula exactly where its parts are the formula's tokens
+-- a text reads as a formula exactly if its parts are the formula's tokens
 abbrev pub SameTokens : Type 0
 SameTokens =
     (natives : ℕ) (text : Text) (f : FormulaView)

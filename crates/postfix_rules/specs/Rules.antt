@@ -18,19 +18,19 @@ rule_value rule.Sum counts = wrapped (signed_sum counts)
 rule_value rule.Sub counts = first_less_others counts
 rule_value (rule.Postfix f) counts = formula_value counts f.tokens
 
--- the rule can be given so many counts: a formula is over so many natives
-abbrev pub Counts : Rule → ℕ → Type 0
-Counts rule.Plain n = ⊤
-Counts rule.Sum n = ⊤
-Counts rule.Sub n = ⊤
-Counts (rule.Postfix f) n = f.natives ≡ n
+-- the rule can be given n counts: a formula is over n natives
+abbrev pub TakesCounts : Rule → ℕ → Type 0
+TakesCounts rule.Plain n = ⊤
+TakesCounts rule.Sum n = ⊤
+TakesCounts rule.Sub n = ⊤
+TakesCounts (rule.Postfix f) n = f.natives ≡ n
 
--- the rule can be over so many natives: a plain rule is over one
-abbrev pub IsOver : Rule → ℕ → Type 0
-IsOver rule.Plain n = n ≡ 1
-IsOver rule.Sum n = ⊤
-IsOver rule.Sub n = ⊤
-IsOver (rule.Postfix f) n = f.natives ≡ n
+-- the rule can be over n natives: a plain rule is over one
+abbrev pub CanBeOver : Rule → ℕ → Type 0
+CanBeOver rule.Plain n = n ≡ 1
+CanBeOver rule.Sum n = ⊤
+CanBeOver rule.Sub n = ⊤
+CanBeOver (rule.Postfix f) n = f.natives ≡ n
 
 -- all natives are of one component
 abbrev pub OfOneComponent : List Native → Type 0
@@ -41,10 +41,10 @@ pub record DerivedView : Type 0 where
   pub natives : List Native
   pub rule : Rule
 
--- from 1 to MOST_NATIVES natives of one component, of which a plain rule has one, and a formula so many as it is over
+-- from 1 to MOST_NATIVES natives of one component, of which a plain rule has one, and a formula as many as it is over
 pub record IsDerived (d : DerivedView) : Type 0 where
   pub some : 0 < length d.natives
   pub few : length d.natives ≤ MOST_NATIVES
   pub one_component : (comp : ℕ) × All (λ n. n.comp ≡ comp) d.natives
   pub plain : d.rule ≡ rule.Plain → length d.natives ≡ 1
-  pub fits : Counts d.rule (length d.natives)
+  pub fits : TakesCounts d.rule (length d.natives)

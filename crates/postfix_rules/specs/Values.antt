@@ -22,7 +22,7 @@ applied op.Minus x y = wrapped (x -ℤ y)
 applied op.Times x y = wrapped (x *ℤ y)
 applied op.Over x y = divided x y
 
--- the value of a tree, where the counts of its natives are given
+-- the value of a tree, if the counts of its natives are given
 unfoldable pub tree_value : List ℤ → Tree → ℤ
 tree_value counts (Constant n) = pos n
 tree_value counts (Count i) = slice_index_or counts i (pos 0)

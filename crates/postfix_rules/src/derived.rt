@@ -1,6 +1,6 @@
 //! Derived events.
 ghost use Rattle.std.specs.Prelude.{◌≡◌, ◌<◌, ◌↔◌, IsTrue, length};
-ghost use Rattle.postfix_rules.specs.Rules.{IsDerived, IsOver, OfOneComponent};
+ghost use Rattle.postfix_rules.specs.Rules.{CanBeOver, IsDerived, OfOneComponent};
 
 use crate::Rule;
 use papi_base::Natives;
@@ -10,7 +10,7 @@ use std::marker::Model;
 pub const MOST_NATIVES: u32 = 8;
 
 /// An event that is derived from 1 to [`MOST_NATIVES`] native events of one component by a rule. A plain rule has
-/// one native event, and a formula is over so many as there are. Source: papi_events.csv.
+/// one native event, and a formula is over as many as there are. Source: papi_events.csv.
 #[derive(Drop)]
 pub struct Derived {
     natives: Natives,
@@ -41,9 +41,9 @@ fn are_of_one_component(natives: &Natives) -> bool
     true
 }
 
-// Whether the rule can be over so many native events.
+// Whether the rule can be over n native events.
 fn is_over(rule: &Rule, natives: u32) -> bool
-    ensures { IsTrue result ↔ IsOver rule.now natives }
+    ensures { IsTrue result ↔ CanBeOver rule.now natives }
 {
     match rule {
         Rule::Plain => natives == 1,

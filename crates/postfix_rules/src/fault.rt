@@ -25,7 +25,7 @@ pub enum FormulaCause {
     /// that needs a larger stack.
     #[error("too deep")]
     TooDeep,
-    /// In postfix order the end, where several operands are left, in infix order an operand or `(` after an operand.
+    /// In postfix order the end, if several operands are left, in infix order an operand or `(` after an operand.
     #[error("operands left")]
     OperandsLeft,
     /// In infix order a `)` that closes nothing, or the end inside an open `(`.

@@ -3,7 +3,7 @@ use crate::Token;
 use std::alloc::{AllocError, Global};
 use std::marker::Model;
 
-/// A formula in postfix order over so many native events: its tokens spell one tree. Source: papi_events.csv.
+/// A formula in postfix order over n native events: its tokens spell one tree. Source: papi_events.csv.
 #[derive(Drop)]
 pub struct Formula {
     tokens: Vec<Token>,

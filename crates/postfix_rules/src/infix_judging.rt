@@ -4,7 +4,7 @@ ghost use Rattle.postfix_rules.specs.InfixFaults as InfixFaults;
 ghost use Rattle.postfix_rules.specs.InfixJudged.{JudgesPart, ReadsPart};
 ghost use Rattle.postfix_rules.specs.InfixTokens.{InfixPart};
 
-use crate::limits::MOST_OPEN;
+use crate::limits::MOST_OPEN_PARENTHESES;
 use crate::{FormulaCause, InfixToken, Token};
 
 fn operand_cause(must: bool) -> Option<FormulaCause>
@@ -17,20 +17,20 @@ fn operand_cause(must: bool) -> Option<FormulaCause>
     }
 }
 
-// The cause of `(` inside so many others.
+// The cause of `(` inside n others.
 fn open_cause(must: bool, open: usize) -> Option<FormulaCause>
     ensures { result ≡ InfixFaults.open_cause must «open» }
 {
     if !must {
         Some(FormulaCause::OperandsLeft)
-    } else if open >= MOST_OPEN {
+    } else if open >= MOST_OPEN_PARENTHESES {
         Some(FormulaCause::TooDeep)
     } else {
         None
     }
 }
 
-// The cause of `)` inside so many open parentheses.
+// The cause of `)` inside n open parentheses.
 fn close_cause(must: bool, open: usize) -> Option<FormulaCause>
     ensures { result ≡ InfixFaults.close_cause must «open» }
 {
@@ -43,7 +43,7 @@ fn close_cause(must: bool, open: usize) -> Option<FormulaCause>
     }
 }
 
-// The cause of a token, where a factor must begin or may not, inside so many open parentheses.
+// The cause of a token, if a factor must begin or may not, inside n open parentheses.
 #[tactic(auto, unfolding(crate::specs::InfixFaults::infix_cause))]
 fn token_cause(natives: u32, must: bool, open: usize, token: InfixToken) -> Option<FormulaCause>
     ensures { result ≡ InfixFaults.infix_cause natives must «open» (Some token) }
@@ -62,7 +62,7 @@ fn token_cause(natives: u32, must: bool, open: usize, token: InfixToken) -> Opti
     }
 }
 
-/// The token that a part is, where it may stand, or its cause.
+/// The token that a part is, if it may stand, or its cause.
 pub(crate) fn judge_part(
     natives: u32,
     must: bool,

@@ -86,7 +86,7 @@ fn first_part(text: &[u8]) -> (Result<InfixToken, FormulaCause>, &[u8])
     (sign_of(sign), after)
 }
 
-/// The first part of a text and the text after it, and `None` where the text has no part.
+/// The first part of a text and the text after it, and `None` if the text has no part.
 pub(crate) fn next_part(text: &[u8]) -> Option<(Result<InfixToken, FormulaCause>, &[u8])>
     ensures begins { Begins (infix_parts text.now) result }
     ensures shorter { IfSome result (λ p. length p.1.now < length text.now) }

@@ -2,7 +2,7 @@
 ghost use Rattle.std.specs.Prelude.{◌≡◌, ◌<◌, ◌≤◌, ◌^◌, [], IfOk, IsTrue, ◌↔◌};
 ghost use Rattle.postfix_rules.specs.Faults.{IsFormula};
 ghost use Rattle.postfix_rules.specs.InfixFaults.{ReadsInfix};
-ghost use Rattle.postfix_rules.specs.InfixReading.{Gives, infix_ended, infix_of};
+ghost use Rattle.postfix_rules.specs.InfixReading.{AnswersInfix, infix_ended, infix_of};
 
 use crate::infix_judging::judge_part;
 use crate::infix_part::next_part;
@@ -12,7 +12,7 @@ use crate::reading::fault_after;
 use crate::{Formula, FormulaCause, FormulaFault, Token};
 use std::alloc::Global;
 
-// Whether the tokens are a formula over so many native events.
+// Whether the tokens are a formula over n native events.
 fn is_formula(natives: u32, tokens: &[Token]) -> bool
     ensures { IsTrue result ↔ IsFormula natives tokens.now }
 {
@@ -27,10 +27,10 @@ fn is_formula(natives: u32, tokens: &[Token]) -> bool
     end_cause(height).is_none()
 }
 
-// The formula at the end of a text of so many tokens, or the fault there.
+// The formula at the end of a text of n tokens, or the fault there.
 fn end_formula(order: PostfixOrder, natives: u32, tokens: usize) -> Result<Formula, FormulaFault>
     requires { tokens < 2 ^ 63 }
-    ensures { Gives result (infix_ended natives tokens order []) }
+    ensures { AnswersInfix result (infix_ended natives tokens order []) }
 {
     if order.must_begin() {
         return Err(fault_after(tokens, FormulaCause::OperandMissing));
@@ -48,7 +48,7 @@ fn end_formula(order: PostfixOrder, natives: u32, tokens: usize) -> Result<Formu
 
 // The formula of a text, or its first fault.
 fn formula_in(alloc: Global, text: &str, natives: u32) -> Result<Formula, FormulaFault>
-    ensures { Gives result (infix_of natives text.now) }
+    ensures { AnswersInfix result (infix_of natives text.now) }
 {
     let mut order = PostfixOrder::new(alloc);
     let mut tokens = 0;
@@ -64,13 +64,13 @@ fn formula_in(alloc: Global, text: &str, natives: u32) -> Result<Formula, Formul
     end_formula(order, natives, tokens)
 }
 
-/// The formula that a text in infix order writes over so many native events, or the text's first fault.
+/// The formula that a text in infix order writes over n native events, or the text's first fault.
 ///
 /// A token is a constant in decimal, `N` and the number of a native event, one of `+ - * /`, or a parenthesis, with spaces
 /// and tabs between them. `*` and `/` bind more tightly than `+` and `-`, and operators of one rank group to the left.
 /// Parentheses lie at most 16 deep. Source: papi_events.csv; the stack has 16 places, and a constant is at most 2^63 - 1.
 pub fn read_infix(alloc: Global, text: &str, natives: u32) -> Result<Formula, FormulaFault>
-    ensures read { Gives result (infix_of natives text.now) }
+    ensures read { AnswersInfix result (infix_of natives text.now) }
     ensures natives { IfOk result (λ f. f.natives ≡ natives) }
     ensures tree { ReadsInfix result natives text.now }
 {

@@ -94,7 +94,7 @@ fn operand_cause(height: usize) -> Option<FormulaCause>
     }
 }
 
-/// The cause of a token after so many operands.
+/// The cause of a token after n operands.
 #[tactic(auto, unfolding(crate::specs::Faults::token_cause))]
 pub(crate) fn token_cause(natives: u32, height: usize, token: Token) -> Option<FormulaCause>
     ensures { result ≡ Faults.token_cause natives height (Some token) }
@@ -109,7 +109,7 @@ pub(crate) fn token_cause(natives: u32, height: usize, token: Token) -> Option<F
     }
 }
 
-/// The token that a piece is after so many operands of a formula over so many native events, or its cause.
+/// The token that a piece is after k operands of a formula over n native events, or its cause.
 pub(crate) fn judge(natives: u32, height: usize, piece: &[u8]) -> Result<Token, FormulaCause>
     ensures { JudgesToken result natives height (Tokens.part_of piece.now) }
 {
@@ -132,7 +132,7 @@ pub(crate) fn height_after(height: usize, token: Token) -> usize
     }
 }
 
-/// The cause at the end of the text, after so many operands.
+/// The cause at the end of the text, after n operands.
 #[tactic(auto, unfolding(crate::specs::Faults::end_cause))]
 pub(crate) fn end_cause(height: usize) -> Option<FormulaCause>
     ensures { result ≡ Faults.end_cause height }

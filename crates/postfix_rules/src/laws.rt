@@ -24,7 +24,7 @@ pub fn formula_laws()
     ensures valued { TreesValued }
 {}
 
-/// A text is a formula exactly where its parts are the formula's tokens, and is refused exactly at its first fault, which
+/// A text is a formula exactly if its parts are the formula's tokens, and is refused exactly at its first fault, which
 /// is the least place where the parts before it are a pile of at most 16 trees and the part there has a cause.
 pub fn reading_laws()
     ensures tokens { SameTokens }
@@ -38,7 +38,7 @@ pub fn writing_laws()
     ensures bytes { WrittenBytes }
 {}
 
-/// Tokens in infix order write one tree at most. A text reads as a formula exactly where it writes a tree by the grammar,
+/// Tokens in infix order write one tree at most. A text reads as a formula exactly if it writes a tree by the grammar,
 /// which the formula's tokens spell, and is refused exactly at its first fault.
 pub fn infix_laws()
     ensures one { OneTree }

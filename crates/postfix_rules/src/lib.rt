@@ -1,7 +1,6 @@
 //! Formulas in postfix order, derived events, and the values that rules give of counts.
 #![tactic(auto)]
 
-pub mod book;
 pub mod derived;
 pub mod fault;
 pub mod formula;
@@ -14,19 +13,20 @@ pub mod laws;
 pub mod limits;
 mod piece;
 mod postfix_order;
+pub mod preset_book;
 pub mod reading;
 pub mod rule;
 pub mod stack;
 pub mod token;
 pub mod writing;
 
-pub use book::PresetBook;
 pub use derived::{Derived, MOST_NATIVES, is_derived};
 pub use fault::{FormulaCause, FormulaFault};
 pub use formula::Formula;
 pub use infix_reading::read_infix;
 pub use infix_token::InfixToken;
-pub use limits::{MOST_OPEN, MOST_OPERANDS};
+pub use limits::{MOST_OPEN_PARENTHESES, MOST_OPERANDS};
+pub use preset_book::PresetBook;
 pub use reading::read_postfix;
 pub use rule::{Rule, value_of};
 pub use stack::{apply, eval};

@@ -4,4 +4,4 @@
 pub const MOST_OPERANDS: usize = 16;
 
 /// How many parentheses are open at one place at most.
-pub const MOST_OPEN: usize = 16;
+pub const MOST_OPEN_PARENTHESES: usize = 16;

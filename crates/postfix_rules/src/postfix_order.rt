@@ -31,7 +31,7 @@ impl Model for PostfixOrder {
 
 impl PostfixOrder {
     ghost use Rattle.std.specs.Prelude.{◌≡◌, IfOk, OnOk, length};
-    ghost use Rattle.postfix_rules.specs.InfixReading.{ended_tokens, factor_ended, moved, opened, operand_moved, operator_moved};
+    ghost use Rattle.postfix_rules.specs.InfixReading.{ended_tokens, factor_ended, operand_moved, operator_moved, order_moved, order_opened};
     ghost use Rattle.postfix_rules.specs.InfixReading.{order_begun, product_moved, put_out, sum_moved};
     ghost use Rattle.postfix_rules.specs.InfixReading as InfixReading;
 
@@ -128,7 +128,7 @@ impl PostfixOrder {
     }
 
     fn open_parenthesis(&mut self) -> Result<(), AllocError>
-        ensures { OnOk result (self.new ≡ opened self.old) }
+        ensures { OnOk result (self.new ≡ order_opened self.old) }
     {
         self.outer.push(self.here)?;
         self.here = Waiting {
@@ -151,9 +151,9 @@ impl PostfixOrder {
     }
 
     /// Takes one token more.
-    #[tactic(auto, unfolding(crate::specs::InfixReading::moved))]
+    #[tactic(auto, unfolding(crate::specs::InfixReading::order_moved))]
     pub fn take(&mut self, token: InfixToken) -> Result<(), AllocError>
-        ensures { OnOk result (self.new ≡ moved self.old token) }
+        ensures { OnOk result (self.new ≡ order_moved self.old token) }
     {
         match token {
             InfixToken::Token(Token::Operator(operator)) => self.take_operator(operator),
@@ -163,7 +163,7 @@ impl PostfixOrder {
         }
     }
 
-    /// The tokens in postfix order, where the sum that waits has ended.
+    /// The tokens in postfix order, if the sum that waits has ended.
     pub fn into_tokens(mut self) -> Result<Vec<Token>, AllocError>
         ensures { IfOk result (λ tokens. tokens.items ≡ ended_tokens self) }
     {

@@ -8,7 +8,7 @@ use crate::piece::next_piece;
 use crate::{Formula, FormulaCause, FormulaFault};
 use std::alloc::Global;
 
-/// The fault of the token after so many others.
+/// The fault of the token after n others.
 pub(crate) fn fault_after(tokens: usize, cause: FormulaCause) -> FormulaFault
     requires { tokens < 2 ^ 63 }
     ensures { result ≡ At (tokens + 1) cause }
@@ -43,7 +43,7 @@ fn formula_in(alloc: Global, text: &str, natives: u32) -> Result<Formula, Formul
     }
 }
 
-/// The formula that a text writes over so many native events, or the text's first fault.
+/// The formula that a text writes over n native events, or the text's first fault.
 ///
 /// Tokens are ended by `|`, the last one perhaps by nothing, with spaces and tabs round them: a constant in decimal, `N`
 /// and the number of a native event, or one of `+ - * /`. Source: papi_events.csv; the stack has 16 places, and a

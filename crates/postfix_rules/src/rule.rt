@@ -1,7 +1,7 @@
 //! Rules of derived events.
 ghost use Rattle.std.specs.Prelude.{◌≡◌, ◌<◌, length, drop};
 ghost use Rattle.std.specs.Int.{w64};
-ghost use Rattle.postfix_rules.specs.Rules.{Counts, rule_value};
+ghost use Rattle.postfix_rules.specs.Rules.{TakesCounts, rule_value};
 ghost use Rattle.postfix_rules.specs.Values.{signed_sum, wrapped};
 
 use crate::Formula;
@@ -31,7 +31,7 @@ fn sum_of(counts: &[i64]) -> i64
 /// The value that a rule gives of the counts of its native events, in signed 64 bits that wrap.
 pub fn value_of(r: &Rule, counts: &[i64]) -> i64
     requires some { 0 < length counts.now }
-    requires fits { Counts r.now (length counts.now) }
+    requires fits { TakesCounts r.now (length counts.now) }
     ensures value { result ≡ rule_value r.now counts.now }
 {
     match r {

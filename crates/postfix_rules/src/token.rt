@@ -1,6 +1,6 @@
 //! The tokens of formulas.
 
-/// An operator of a formula. `/` truncates toward zero, and gives 0 where the divisor is 0.
+/// An operator of a formula. `/` truncates toward zero, and gives 0 if the divisor is 0.
 #[derive(Clone, Copy, Debug, PartialEq, Eq)]
 pub enum Operator {
     Plus,

@@ -62,8 +62,8 @@ written-lines t g h =
 -- ---- the rows are read, and have no cause
 
 -- a row of the table's symbols that has an entry
-abbrev pub IsTaken : Judging → Derivation → Type 0
-IsTaken judge r = (is_some (row_of r.symbol) ≡ true) × ((e : Entry) × (judge r ≡ Ok e))
+abbrev pub HasEntry : Judging → Derivation → Type 0
+HasEntry judge r = (is_some (row_of r.symbol) ≡ true) × ((e : Entry) × (judge r ≡ Ok e))
 
 abbrev pub Stands : Text → List Line → Type 0
 Stands name above = (group above ≡ name ∷ []) × (has_cpu above ≡ true)
@@ -74,17 +74,17 @@ stands-more name above w r s = (names-more above (gives w r) ∙ s.0, has_cpu-mo
 pub all-held : (name : Text) (above : List Line) → Stands name above → holds name above ≡ true
 all-held name above s = rw (s.0, same-text name) refl
 
-pub no-cause : (judge : Judging) (name : Text) (above : List Line) (r : Derivation) → Stands name above → IsTaken judge r → line_cause judge name above (gives preset r) ≡ None
+pub no-cause : (judge : Judging) (name : Text) (above : List Line) (r : Derivation) → Stands name above → HasEntry judge r → line_cause judge name above (gives preset r) ≡ None
 no-cause judge name above r s t = rw (s.1, all-held name above s, t.0, t.1.1) refl
 
-pub all-read : (judge : Judging) (name : Text) (above : List Line) (rs es : List Derivation) → Stands name above → AllByRecursion (IsTaken judge) rs → read_from (preset_read name) above (both rs es) ≡ rs
+pub all-read : (judge : Judging) (name : Text) (above : List Line) (rs es : List Derivation) → Stands name above → AllByRecursion (HasEntry judge) rs → read_from (preset_read name) above (both rs es) ≡ rs
 unfolding read_from
 all-read judge name above [] [] s h = refl
 all-read judge name above [] (r ∷ es) s h = all-read judge name (above ++ gives event r ∷ []) [] es (stands-more name above event r s) tt
 all-read judge name above (r ∷ rs) es s h =
     rw (all-held name above s, h.0.0) (ap (λ (t : List Derivation). r ∷ t) (all-read judge name (above ++ gives preset r ∷ []) rs es (stands-more name above preset r s) h.1))
 
-no-fault : (name : Text) (above : List Line) (rows : List Derivation) → Stands name above → AllByRecursion (IsTaken judged) rows → first_fault (line_cause judged name) above (both rows []) ≡ None
+no-fault : (name : Text) (above : List Line) (rows : List Derivation) → Stands name above → AllByRecursion (HasEntry judged) rows → first_fault (line_cause judged name) above (both rows []) ≡ None
 unfolding first_fault
 no-fault name above [] s h = refl
 no-fault name above (r ∷ rows) s h = rw (no-cause judged name above r s h.0) (no-fault name (above ++ gives preset r ∷ []) rows (stands-more name above preset r s) h.1)
@@ -101,7 +101,7 @@ pub symbols-in : AllByRecursion InTable symbols
 unfolding symbols preset_rows row_of
 symbols-in = all-test (λ s. is_some (row_of s)) symbols refl
 
-all-taken : (judge : Judging) → GivesBack judge → (ss : List Text) (es : List Entry) → AllByRecursion InTable ss → AllByRecursion IsEntry es → AllByRecursion (IsTaken judge) (rows_back ss es)
+all-taken : (judge : Judging) → GivesBack judge → (ss : List Text) (es : List Entry) → AllByRecursion InTable ss → AllByRecursion IsEntry es → AllByRecursion (HasEntry judge) (rows_back ss es)
 unfolding rows_back
 all-taken judge b [] es t h = tt
 all-taken judge b (s ∷ ss) [] t h = tt
@@ -109,7 +109,7 @@ all-taken judge b (s ∷ ss) (entry.Missing ∷ es) t h = all-taken judge b ss e
 all-taken judge b (s ∷ ss) (entry.Uncomputed ∷ es) t h = ((t.0, (entry.Uncomputed, b.rest s)), all-taken judge b ss es t.1 h.1)
 all-taken judge b (s ∷ ss) (entry.Def d ∷ es) t h = ((t.0, (entry.Def d, b.def s d h.0)), all-taken judge b ss es t.1 h.1)
 
-pub table-taken : (judge : Judging) → GivesBack judge → (es : List Entry) → AllByRecursion IsEntry es → AllByRecursion (IsTaken judge) (rows_back symbols es)
+pub table-taken : (judge : Judging) → GivesBack judge → (es : List Entry) → AllByRecursion IsEntry es → AllByRecursion (HasEntry judge) (rows_back symbols es)
 table-taken judge b es h = all-taken judge b symbols es symbols-in h
 
 -- ---- each symbol's entry
@@ -164,7 +164,7 @@ first-stands name = (refl, refl)
 pub written-back : (judge : InfixJudging) → GivesBack (judged_by judge)
 written-back judge = record { rest = rest-judged judge; def = def-judged judge }
 
-fault-back : (name : Text) (rows : List Derivation) → AllByRecursion (IsTaken judged) rows → first_fault (line_cause judged name) [] (cpu name ∷ both rows []) ≡ None
+fault-back : (name : Text) (rows : List Derivation) → AllByRecursion (HasEntry judged) rows → first_fault (line_cause judged name) [] (cpu name ∷ both rows []) ≡ None
 unfolding first_fault
 fault-back name rows h = no-fault name (cpu name ∷ []) rows (first-stands name) h
 

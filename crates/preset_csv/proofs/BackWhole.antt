@@ -1,4 +1,4 @@
--- A written table reads back also where the cpu's name can stand in no field: then no row is written, and none is read.
+-- A written table reads back also if the cpu's name can stand in no field: then no row is written, and none is read.
 use Rattle.std.proofs.Common.{◌≡◌, ◌∙◌, ◌+◌, ◌∷◌, ◌++◌, ℕ, suc, Bool, true, false, List, [], Option, Some, None, length, map, refl, sym, ap, ap₂, subst, arith, codes}
 use Rattle.std.specs.Prelude.{⊤, ◌==◌, if◌then◌else◌}
 use Rattle.std.specs.List.{AllByRecursion}
@@ -115,7 +115,7 @@ first-row xs =
 
 -- ---- a cpu whose name can stand in no field
 
--- no row below a CPU row has a cause, where the group above it does not hold the cpu
+-- no row below a CPU row has a cause, if the group above it does not hold the cpu
 abbrev pub Spares : Text → (List Line → Line → Option PresetCause) → Type 0
 Spares name cause = (above : List Line) (line : Line) → has_cpu above ≡ true → holds name above ≡ false → cause above line ≡ None
 
@@ -170,7 +170,7 @@ bad-text : (t : TableView) → is_field t.cpu ≡ false → first_fault (line_ca
 unfolding table_text rows_text
 bad-text t e = bad-faultless t.cpu (line_cause judged t.cpu) (spares judged t.cpu) line_of says (λ n. refl) (t.cpu ++ (10 ∷ rows_text (rows_of_entries symbols t.rows))) e
 
--- where no row is read, the table has no entry
+-- if no row is read, the table has no entry
 pub no-entries : (judge : Judging) (t : TableView) (lines : List Line) → IsTable t → is_field t.cpu ≡ false → AllByRecursion IsLine lines → presets judge t.cpu lines ≡ t.rows
 no-entries judge t lines h e l = missing-same _ _ (no-presets judge t.cpu lines e l) (h.named e) (length-presets judge t.cpu lines ∙ sym h.all)
 

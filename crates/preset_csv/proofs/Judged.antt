@@ -6,9 +6,9 @@ use Rattle.std.proofs.lemmas.Bool.{eqb-true}
 use Rattle.table_rows.specs.Texts.{Text, is_empty, is_printable}
 use Rattle.postfix_rules.specs.declared.derived.TheConstants.{MOST_NATIVES}
 use Rattle.postfix_rules.specs.Faults.{FormulaView, IsFormula}
-use Rattle.postfix_rules.specs.Reading.{Refused, formula_of}
+use Rattle.postfix_rules.specs.Reading.{RefusedFormula, formula_of}
 use Rattle.postfix_rules.proofs.Refusals.{same_tokens}
-use Rattle.preset_csv.specs.Defs.{Agrees, IsDef, IsNativeText}
+use Rattle.preset_csv.specs.Defs.{FitsKind, IsDef, IsNativeText}
 use Rattle.preset_csv.specs.Entries.{InfixJudging, formula_entry, has_rate, judged_as, judged_by, kept_entry, kept_natives, typed_entry}
 use Rattle.preset_csv.specs.Lines.{Derivation}
 use Rattle.preset_csv.specs.Tables.{IsEntry}
@@ -22,8 +22,8 @@ use Rattle.preset_csv.specs.declared.kind.DerivedType.{DerivedType}
 use Rattle.preset_csv.specs.declared.kind.DerivedType.TheVariants as derived
 use Rattle.preset_csv.proofs.NativesKept.{IsNative, kept-is, texts-kept}
 
--- a formula that was read for so many natives agrees with them
-pub read-agrees : (natives : List Text) (text : Text) (f : FormulaView) → formula_of (length natives) text ≡ Ok f → Agrees kind.Postfix (Some f) natives
+-- a formula that was read for n natives agrees with them
+pub read-agrees : (natives : List Text) (text : Text) (f : FormulaView) → formula_of (length natives) text ≡ Ok f → FitsKind kind.Postfix (Some f) natives
 read-agrees natives text f e =
     let t = (same_tokens (length natives) text f).0 e in
     (t.1, subst (λ (n : ℕ). IsFormula n f.tokens) (sym t.1) t.2)
@@ -34,7 +34,7 @@ pub record Ready (natives : List Text) : Type 0 where
   pub some : 1 ≤ length natives
   pub few : length natives ≤ MOST_NATIVES
 
-pub def-kept : (natives : List Text) (k : Kind) (f : Option FormulaView) → Ready natives → Agrees k f natives → IsDef (record { kind = k; formula = f; natives = natives })
+pub def-kept : (natives : List Text) (k : Kind) (f : Option FormulaView) → Ready natives → FitsKind k f natives → IsDef (record { kind = k; formula = f; natives = natives })
 def-kept natives k f ready agrees = record { each = ready.each; some = ready.some; few = ready.few; agrees = agrees }
 
 abbrev pub Keeps : Result Entry PresetCause → Type 0
@@ -44,7 +44,7 @@ Keeps (Err why) = ⊤
 formula-kept : (natives : List Text) (text : Text) → Ready natives → Keeps (formula_entry natives (formula_of (length natives) text))
 formula-kept natives text ready = go (formula_of (length natives) text) refl
   where
-    go : (o : Result FormulaView Refused) → formula_of (length natives) text ≡ o → Keeps (formula_entry natives o)
+    go : (o : Result FormulaView RefusedFormula) → formula_of (length natives) text ≡ o → Keeps (formula_entry natives o)
     go (Ok f) e = def-kept natives kind.Postfix (Some f) ready (read-agrees natives text f e)
     go (Err refused) e = tt
 

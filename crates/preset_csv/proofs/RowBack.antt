@@ -10,7 +10,7 @@ use Rattle.postfix_rules.specs.Faults.{FormulaView}
 use Rattle.postfix_rules.specs.Reading.{formula_of}
 use Rattle.postfix_rules.specs.Tokens.{formula_text}
 use Rattle.postfix_rules.proofs.Written.{written_read}
-use Rattle.preset_csv.specs.Defs.{Agrees, DefView, IsDef, IsNativeText}
+use Rattle.preset_csv.specs.Defs.{DefView, FitsKind, IsDef, IsNativeText}
 use Rattle.preset_csv.specs.Entries.{InfixJudging, judged_by}
 use Rattle.preset_csv.specs.Kinds.{kind_text, type_of}
 use Rattle.preset_csv.specs.Lines.{Derivation, cpu, derivation, derivation_of, line_of, gives, natives_in, preset}
@@ -50,11 +50,11 @@ rest_fields s = codes "PRESET" ∷ s ∷ codes "DERIVED_CMPD" ∷ []
 small : (f : FormulaView) (natives : List Text) → length natives ≤ MOST_NATIVES → f.natives ≡ length natives → f.natives < 2 ^ 32
 small f natives few is = omega (arith, few, is)
 
-pub text-good : (f : FormulaView) (natives : List Text) → length natives ≤ MOST_NATIVES → Agrees kind.Postfix (Some f) natives → IsGood (formula_text f.tokens)
+pub text-good : (f : FormulaView) (natives : List Text) → length natives ≤ MOST_NATIVES → FitsKind kind.Postfix (Some f) natives → IsGood (formula_text f.tokens)
 text-good f natives few agrees = ink-good (formula_text f.tokens) (formula-ink f (small f natives few agrees.0) agrees.1)
 
 pub formula-good : (k : Kind) (f : Option FormulaView) (natives : List Text) → AllByRecursion IsNativeText natives → length natives ≤ MOST_NATIVES
-    → Agrees k f natives → AllByRecursion IsGood (formula_fields f ++ natives)
+    → FitsKind k f natives → AllByRecursion IsGood (formula_fields f ++ natives)
 formula-good k None natives each few agrees = natives-good natives each
 formula-good kind.NotDerived (Some f) natives each few agrees = absurd agrees
 formula-good kind.Add (Some f) natives each few agrees = absurd agrees
@@ -109,7 +109,7 @@ type-back kind.Postfix = refl
 pub natives-read : (natives : List Text) → AllByRecursion IsNativeText natives → natives_in (map trimmed natives) ≡ natives
 natives-read natives each = ap natives_in (trims natives (natives-good natives each)) ∙ natives-back natives each
 
-typed-row : (s : Text) (k : Kind) (f : Option FormulaView) (natives : List Text) → IsGood s → AllByRecursion IsNativeText natives → length natives ≤ MOST_NATIVES → Agrees k f natives
+typed-row : (s : Text) (k : Kind) (f : Option FormulaView) (natives : List Text) → IsGood s → AllByRecursion IsNativeText natives → length natives ≤ MOST_NATIVES → FitsKind k f natives
     → derivation (row_fields s k f natives) (Some (kind_type k)) ≡ def_row s k f natives
 typed-row s kind.NotDerived None natives g each few agrees = rw (second-good (codes "PRESET") s (codes "NOT_DERIVED" ∷ natives) g, natives-read natives each) refl
 typed-row s kind.NotDerived (Some f) natives g each few agrees = absurd agrees
@@ -148,7 +148,7 @@ filled (t ∷ rest) h = refl
 eight : (natives : List Text) → length natives ≤ MOST_NATIVES → nat_lt MOST_NATIVES (length natives) ≡ false
 eight natives h = le-ltb MOST_NATIVES (length natives) h
 
-judged-plain : (judge : InfixJudging) (s : Text) (k : Kind) (natives : List Text) → AllByRecursion IsNativeText natives → 1 ≤ length natives → length natives ≤ MOST_NATIVES → Agrees k None natives
+judged-plain : (judge : InfixJudging) (s : Text) (k : Kind) (natives : List Text) → AllByRecursion IsNativeText natives → 1 ≤ length natives → length natives ≤ MOST_NATIVES → FitsKind k None natives
     → judged_by judge (def_row s k None natives) ≡ Ok (entry.Def (record { kind = k; formula = None; natives = natives }))
 unfolding judged_by
 judged-plain judge s kind.NotDerived natives each some few agrees = rw (natives-printed natives each, eight natives few, filled natives some, eq-eqb (length natives) 1 agrees) refl
@@ -156,7 +156,7 @@ judged-plain judge s kind.Add natives each some few agrees = rw (natives-printed
 judged-plain judge s kind.Sub natives each some few agrees = rw (natives-printed natives each, eight natives few, filled natives some) refl
 judged-plain judge s kind.Postfix natives each some few agrees = absurd agrees
 
-judged-postfix : (judge : InfixJudging) (s : Text) (f : FormulaView) (natives : List Text) → AllByRecursion IsNativeText natives → 1 ≤ length natives → length natives ≤ MOST_NATIVES → Agrees kind.Postfix (Some f) natives
+judged-postfix : (judge : InfixJudging) (s : Text) (f : FormulaView) (natives : List Text) → AllByRecursion IsNativeText natives → 1 ≤ length natives → length natives ≤ MOST_NATIVES → FitsKind kind.Postfix (Some f) natives
     → judged_by judge (def_row s kind.Postfix (Some f) natives) ≡ Ok (entry.Def (record { kind = kind.Postfix; formula = Some f; natives = natives }))
 unfolding judged_by
 judged-postfix judge s f natives each some few agrees =
@@ -168,7 +168,7 @@ judged-postfix judge s f natives each some few agrees =
 pub def-judged : (judge : InfixJudging) (s : Text) (d : DefView) → IsDef d → judged_by judge (def_row s d.kind d.formula d.natives) ≡ Ok (entry.Def d)
 def-judged judge s d h = go d.kind d.formula d.natives h.each h.some h.few h.agrees
   where
-    go : (k : Kind) (f : Option FormulaView) (natives : List Text) → AllByRecursion IsNativeText natives → 1 ≤ length natives → length natives ≤ MOST_NATIVES → Agrees k f natives
+    go : (k : Kind) (f : Option FormulaView) (natives : List Text) → AllByRecursion IsNativeText natives → 1 ≤ length natives → length natives ≤ MOST_NATIVES → FitsKind k f natives
         → judged_by judge (def_row s k f natives) ≡ Ok (entry.Def (record { kind = k; formula = f; natives = natives }))
     go k None natives each some few agrees = judged-plain judge s k natives each some few agrees
     go kind.NotDerived (Some f) natives each some few agrees = absurd agrees

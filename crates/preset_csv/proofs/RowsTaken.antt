@@ -3,13 +3,13 @@ use Rattle.std.proofs.Common.{◌≡◌, ◌∙◌, ◌∷◌, ◌++◌, ℕ, Li
 use Rattle.std.specs.Prelude.{Result}
 use Rattle.table_rows.specs.Tables.{RefusesRow, TakesRow}
 use Rattle.table_rows.specs.Texts.{Text, text_at}
-use Rattle.table_rows.specs.declared.fault.Refusal.{Refusal}
-use Rattle.table_rows.specs.declared.fault.Refusal.TheVariants as refusal
+use Rattle.table_rows.specs.declared.fault.RowRefusal.{RowRefusal}
+use Rattle.table_rows.specs.declared.fault.RowRefusal.TheVariants as refusal
 use Rattle.table_rows.proofs.TablesRead.{takes-as}
 use Rattle.preset_table.specs.Table.{preset_rows, row_of}
 use Rattle.preset_csv.specs.Lines.{Line, derivation_of}
 use Rattle.preset_csv.specs.Presets.{Judging, entry_of, group, has_cpu, line_cause, presets, read_from}
-use Rattle.preset_csv.specs.Reading.{IsTaken}
+use Rattle.preset_csv.specs.Reading.{GivePresets}
 use Rattle.preset_csv.specs.Steps.{IsMore, Judges, cause_more, entries_more, entries_with, group_at, group_more, is_closed, read_cause}
 use Rattle.preset_csv.specs.Tables.{symbols}
 use Rattle.preset_csv.specs.declared.entry.Entry.{Entry}
@@ -35,7 +35,7 @@ pub unknown-taken : (judge : Judging) (fields : List Text) (holds : Bool) (old :
 unknown-taken judge fields true old h at = let s : row_of (derivation_of fields).symbol ≡ None = ap row_of (symbol-there fields) ∙ at in (rw s refl, rw s refl)
 unknown-taken judge fields false old h at = cc h
 
-pub not-taken : (judge : Judging) (fields : List Text) (holds : Bool) (row : ℕ) (f : Refusal PresetCause) → holds ≡ true → row_of (text_at fields 1) ≡ Some row
+pub not-taken : (judge : Judging) (fields : List Text) (holds : Bool) (row : ℕ) (f : RowRefusal PresetCause) → holds ≡ true → row_of (text_at fields 1) ≡ Some row
     → Judges (judge (derivation_of fields)) (Err f) → RefusesRow (read_cause judge holds (derivation_of fields)) f
 not-taken judge fields true row (refusal.Cause why) h at j = let s = symbol-row fields row at in rw (s, j) refl
 not-taken judge fields true row refusal.Memory h at j = tt
@@ -44,20 +44,20 @@ not-taken judge fields false row f h at j = cc h
 -- ---- the rows of a file
 
 pub none-taken : (judge : Judging) (name : Text) (g : Group) (entries : List Entry) → g ≡ record { begun = false; closed = false; holds = false }
-    → entries ≡ replicate 26 entry.Missing → IsTaken judge name [] g entries
+    → entries ≡ replicate 26 entry.Missing → GivePresets judge name [] g entries
 unfolding has_cpu is_closed group presets symbols preset_rows read_from entry_of
 none-taken judge name g entries begins are = record { group = begins; entries_are = are }
 
-pub more-taken : (judge : Judging) (name : Text) (above : List Line) (line : Line) (g h : Group) (old new : List Entry) → IsTaken judge name above g old → IsMore judge name line g old h new
-    → IsTaken judge name (above ++ line ∷ []) h new
+pub more-taken : (judge : Judging) (name : Text) (above : List Line) (line : Line) (g h : Group) (old new : List Entry) → GivePresets judge name above g old → IsMore judge name line g old h new
+    → GivePresets judge name (above ++ line ∷ []) h new
 more-taken judge name above line g h old new t more = record {
   group = more.0 ∙ ap (λ (g : Group). group_more name g line) t.group ∙ sym (group-one-more name above line);
   entries_are = more.1 ∙ ap (λ (g : Group). entries_more judge g old line) t.group ∙ ap (λ (es : List Entry). entries_more judge (group_at name above) es line) t.entries_are
       ∙ sym (entries-one-more judge name above line);
 }
 
-pub row-taken : (judge : Judging) (name : Text) (above : List Line) (line : Line) (g h : Group) (old new : List Entry) (result : Result Unit (Refusal PresetCause)) → IsTaken judge name above g old
-    → TakesRow (cause_more judge g line) (IsMore judge name line g old h new) result → TakesRow (line_cause judge name above line) (IsTaken judge name (above ++ line ∷ []) h new) result
+pub row-taken : (judge : Judging) (name : Text) (above : List Line) (line : Line) (g h : Group) (old new : List Entry) (result : Result Unit (RowRefusal PresetCause)) → GivePresets judge name above g old
+    → TakesRow (cause_more judge g line) (IsMore judge name line g old h new) result → TakesRow (line_cause judge name above line) (GivePresets judge name (above ++ line ∷ []) h new) result
 row-taken judge name above line g h old new result t takes =
-    takes-as (cause_more judge g line) (line_cause judge name above line) (IsMore judge name line g old h new) (IsTaken judge name (above ++ line ∷ []) h new) result
+    takes-as (cause_more judge g line) (line_cause judge name above line) (IsMore judge name line g old h new) (GivePresets judge name (above ++ line ∷ []) h new) result
     (ap (λ (g : Group). cause_more judge g line) t.group ∙ sym (cause-one-more judge name above line)) (λ none more. more-taken judge name above line g h old new t more) takes

@@ -141,7 +141,7 @@ not-in-group name (cpu n ∷ rest) e h = go (cuts_off rest) (not-in-group name r
     go true k = k
     go false k = rw (other-name name n e h.0) k
 
--- a row that is read only where the group above it holds the cpu
+-- a row that is read only if the group above it holds the cpu
 pub none-read : (adds : List Line → Line → List Derivation) (name : Text) → ((above : List Line) (line : Line) → holds name above ≡ false → adds above line ≡ []) → (above lines : List Line)
     → is_field name ≡ false → AllByRecursion IsLine above → AllByRecursion IsLine lines → read_from adds above lines ≡ []
 unfolding read_from

@@ -26,20 +26,20 @@ pub record IsNativeText (t : Text) : Type 0 where
   pub whole : trimmed t ≡ t
   pub goes_on : ends_natives t ≡ false
 
--- a formula stands exactly where the kind is `Postfix`, read with this number of natives; what is not derived has one native
-abbrev pub Agrees : Kind → Option FormulaView → List Text → Type 0
-Agrees kind.NotDerived None natives = length natives ≡ 1
-Agrees kind.NotDerived (Some f) natives = ⊥
-Agrees kind.Add None natives = Unit {0}
-Agrees kind.Add (Some f) natives = ⊥
-Agrees kind.Sub None natives = Unit {0}
-Agrees kind.Sub (Some f) natives = ⊥
-Agrees kind.Postfix None natives = ⊥
-Agrees kind.Postfix (Some f) natives = (f.natives ≡ length natives) × IsFormula f.natives f.tokens
+-- a formula stands exactly if the kind is `Postfix`, read with this number of natives; what is not derived has one native
+abbrev pub FitsKind : Kind → Option FormulaView → List Text → Type 0
+FitsKind kind.NotDerived None natives = length natives ≡ 1
+FitsKind kind.NotDerived (Some f) natives = ⊥
+FitsKind kind.Add None natives = Unit {0}
+FitsKind kind.Add (Some f) natives = ⊥
+FitsKind kind.Sub None natives = Unit {0}
+FitsKind kind.Sub (Some f) natives = ⊥
+FitsKind kind.Postfix None natives = ⊥
+FitsKind kind.Postfix (Some f) natives = (f.natives ≡ length natives) × IsFormula f.natives f.tokens
 
 -- from 1 to MOST_NATIVES natives, which agree with the kind and the formula
 pub record IsDef (d : DefView) : Type 0 where
   pub each : AllByRecursion IsNativeText d.natives
   pub some : 1 ≤ length d.natives
   pub few : length d.natives ≤ MOST_NATIVES
-  pub agrees : Agrees d.kind d.formula d.natives
+  pub agrees : FitsKind d.kind d.formula d.natives

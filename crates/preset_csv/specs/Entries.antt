@@ -5,7 +5,7 @@ use Rattle.std.specs.Str.{bytes_eq}
 use Rattle.table_rows.specs.Texts.{Text, is_empty, is_printable, trimmed}
 use Rattle.postfix_rules.specs.declared.derived.TheConstants.{MOST_NATIVES}
 use Rattle.postfix_rules.specs.Faults.{FormulaView}
-use Rattle.postfix_rules.specs.Reading.{Refused, formula_of}
+use Rattle.postfix_rules.specs.Reading.{RefusedFormula, formula_of}
 use Rattle.preset_csv.specs.Lines.{Derivation}
 use Rattle.preset_csv.specs.declared.entry.Entry.{Entry}
 use Rattle.preset_csv.specs.declared.entry.Entry.TheVariants as entry
@@ -25,7 +25,7 @@ abbrev pub def_entry : Kind → Option FormulaView → List Text → Entry
 def_entry k formula natives = entry.Def (record { kind = k; formula = formula; natives = natives })
 
 -- the entry of a row with this formula, or why the row is refused
-abbrev pub formula_entry : List Text → Result FormulaView Refused → Result Entry PresetCause
+abbrev pub formula_entry : List Text → Result FormulaView RefusedFormula → Result Entry PresetCause
 formula_entry natives (Ok formula) = Ok (def_entry kind.Postfix (Some formula) natives)
 formula_entry natives (Err refused) = Err (cause.BadFormula refused.cause)
 
@@ -48,7 +48,7 @@ typed_entry judge derived.Ps formula natives = Ok entry.Uncomputed
 typed_entry judge derived.AddPs formula natives = Ok entry.Uncomputed
 typed_entry judge derived.Cmpd formula natives = Ok entry.Uncomputed
 
--- the natives of a row, where each is printable and there are not too many; a field that is refused takes precedence over the limit
+-- the natives of a row, if each is printable and there are not too many; a field that is refused takes precedence over the limit
 abbrev pub kept_natives : List Text → Result (List Text) PresetCause
 kept_natives natives =
     if not (list_all is_printable natives) then Err cause.BadField

@@ -49,7 +49,7 @@ holds name above = list_any (λ n. bytes_eq name n) (group above)
 abbrev pub is_read : Text → List Line → Derivation → Bool
 is_read name above r = holds name above && is_some (row_of r.symbol)
 
--- a row, where it is read
+-- a row, if it is read
 abbrev pub rows_if : Bool → Derivation → List Derivation
 rows_if read r = if read then r ∷ [] else []
 
@@ -60,7 +60,7 @@ preset_read name above (cpu n) = []
 preset_read name above (gives preset r) = rows_if (is_read name above r) r
 preset_read name above (gives event r) = []
 
--- the rows that are read of some rows below `above`, where one row adds these
+-- the rows that are read of some rows below `above`, if one row adds these
 unfoldable pub read_from : (List Line → Line → List Derivation) → List Line → List Line → List Derivation
 read_from adds above [] = []
 read_from adds above (line ∷ rest) = adds above line ++ read_from adds (above ++ line ∷ []) rest
@@ -95,7 +95,7 @@ abbrev pub judged_cause : Result Entry PresetCause → Option PresetCause
 judged_cause (Ok e) = None
 judged_cause (Err why) = Some why
 
--- why a row is refused, where it is read
+-- why a row is refused, if it is read
 abbrev pub cause_if : Bool → Result Entry PresetCause → Option PresetCause
 cause_if read judgement = if read then judged_cause judgement else None
 
@@ -118,7 +118,7 @@ preset_fault name bytes = first_fault (line_cause judged name) [] (lines_of byte
 unfoldable pub presets_in : Text → List ℕ → TableView
 presets_in name bytes = record { cpu = name; rows = presets judged name (lines_of bytes) }
 
--- the presets where no row is faulty, or the first fault, or that memory ran out
+-- the presets if no row is faulty, or the first fault, or that memory ran out
 abbrev pub ReadsPresets : Result PresetTable (RowFault PresetCause) → List ℕ → Text → Type 0
 ReadsPresets result bytes name = ReadsTable (preset_fault name bytes) (λ table. table ≡ presets_in name bytes) result
 

@@ -15,8 +15,8 @@ use Rattle.preset_csv.specs.declared.entry.Entry.{Entry}
 use Rattle.preset_csv.specs.declared.fault.PresetCause.{PresetCause}
 use Rattle.preset_csv.specs.declared.fault.PresetCause.TheVariants as cause
 use Rattle.preset_csv.specs.declared.group.Group.{Group}
-use Rattle.table_rows.specs.declared.fault.Refusal.{Refusal}
-use Rattle.table_rows.specs.declared.fault.Refusal.TheVariants as refusal
+use Rattle.table_rows.specs.declared.fault.RowRefusal.{RowRefusal}
+use Rattle.table_rows.specs.declared.fault.RowRefusal.TheVariants as refusal
 use Rattle.preset_csv.specs.declared.row.Row.{Row}
 use Rattle.preset_csv.specs.declared.row.Row.TheVariants as row
 
@@ -43,7 +43,7 @@ placed entries None judgement = entries
 placed entries (Some row) (Ok e) = set entries row e
 placed entries (Some row) (Err why) = entries
 
--- the entries with what one row more derives, where its group holds the cpu
+-- the entries with what one row more derives, if its group holds the cpu
 abbrev pub entries_with : Judging → Bool → List Entry → Derivation → List Entry
 entries_with judge holds entries r = if holds then placed entries (row_of r.symbol) (judge r) else entries
 
@@ -54,7 +54,7 @@ entries_more judge g entries (cpu n) = entries
 entries_more judge g entries (gives preset r) = entries_with judge g.holds entries r
 entries_more judge g entries (gives event r) = entries
 
--- the cause of what one row more derives, where its group holds the cpu
+-- the cause of what one row more derives, if its group holds the cpu
 abbrev pub read_cause : Judging → Bool → Derivation → Option PresetCause
 read_cause judge holds r = cause_if (holds && is_some (row_of r.symbol)) (judge r)
 
@@ -77,19 +77,19 @@ IsPlainRow (row.Preset r) = IsReadRow (fields_of r.now)
 IsPlainRow (row.Event r) = IsReadRow (fields_of r.now)
 
 -- why a row with a broken formula is refused
-abbrev pub formula_refusal : FormulaFault → Refusal PresetCause
+abbrev pub formula_refusal : FormulaFault → RowRefusal PresetCause
 formula_refusal (formula.At place why) = refusal.Cause (cause.BadFormula why)
 formula_refusal formula.Memory = refusal.Memory
 
 -- the row is refused for the cause of what it says
-abbrev pub IsRefusal : {A : Type 0} → Result A PresetCause → Refusal PresetCause → Type 0
-IsRefusal judgement (refusal.Cause why) = judgement ≡ Err why
-IsRefusal judgement refusal.Memory = Unit {0}
+abbrev pub RefusesForCause : {A : Type 0} → Result A PresetCause → RowRefusal PresetCause → Type 0
+RefusesForCause judgement (refusal.Cause why) = judgement ≡ Err why
+RefusesForCause judgement refusal.Memory = Unit {0}
 
 -- an entry is given, or refused for its cause
-abbrev pub Judges : Result Entry PresetCause → Result Entry (Refusal PresetCause) → Type 0
+abbrev pub Judges : Result Entry PresetCause → Result Entry (RowRefusal PresetCause) → Type 0
 Judges judgement (Ok e) = judgement ≡ Ok e
-Judges judgement (Err refused) = IsRefusal judgement refused
+Judges judgement (Err refused) = RefusesForCause judgement refused
 
 -- fields, each after a comma
 abbrev pub after_commas : List Text → Text

@@ -16,7 +16,7 @@ abbrev pub formula_fields : Option FormulaView → List Text
 formula_fields None = []
 formula_fields (Some f) = formula_text f.tokens ∷ []
 
--- the type, the formula where there is one, and the natives
+-- the type, the formula if there is one, and the natives
 abbrev pub def_fields : DefView → List Text
 def_fields d = kind_text d.kind ∷ (formula_fields d.formula ++ d.natives)
 

@@ -5,7 +5,7 @@ use postfix_rules::Formula;
 use std::marker::Model;
 
 /// A preset that is computed of its native events by its kind: 1 to [`MOST_NATIVES`](postfix_rules::MOST_NATIVES) natives,
-/// one where the preset is not derived, and a formula over so many exactly where its kind is `Postfix`. Source: papi_events.csv.
+/// one if the preset is not derived, and a formula over as many exactly if its kind is `Postfix`. Source: papi_events.csv.
 #[derive(Drop)]
 pub struct Def {
     kind: Kind,
@@ -57,7 +57,7 @@ impl Def {
         self.kind
     }
 
-    /// The formula, where the kind is `Postfix`.
+    /// The formula, if the kind is `Postfix`.
     pub fn formula(&self) -> Option<&Formula>
         ensures formula { option_copied result ≡ self.now.formula }
         ensures kept { IsDef self.now }
@@ -73,7 +73,7 @@ impl Def {
         self.natives.as_slice()
     }
 
-    /// The formula, where the kind is `Postfix`, taken out.
+    /// The formula, if the kind is `Postfix`, taken out.
     pub fn into_formula(self) -> Option<Formula>
         ensures formula { result ≡ self.formula }
         ensures kept { IsDef self }

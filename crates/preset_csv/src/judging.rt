@@ -19,7 +19,7 @@ use crate::kind::{DerivedType, Kind, has_formula, type_of};
 use crate::natives::row_natives;
 use postfix_rules::{FormulaFault, read_postfix};
 use std::alloc::Global;
-use table_rows::{ByteRecord, Refusal, printable_text, text_at, trimmed};
+use table_rows::{ByteRecord, RowRefusal, printable_text, text_at, trimmed};
 
 // Whether a token of a formula is `#`.
 #[tactic(auto, unfolding(crate::specs::Entries::has_rate))]
@@ -32,12 +32,12 @@ fn has_rate(formula: &[u8]) -> bool
 }
 
 /// Why a row with a broken formula is refused.
-pub fn formula_refusal(fault: FormulaFault) -> Refusal<PresetCause>
+pub fn formula_refusal(fault: FormulaFault) -> RowRefusal<PresetCause>
     ensures { result ≡ Steps.formula_refusal fault }
 {
     match fault {
-        FormulaFault::At { place: _, cause } => Refusal::Cause(PresetCause::BadFormula(cause)),
-        FormulaFault::Memory => Refusal::Memory,
+        FormulaFault::At { place: _, cause } => RowRefusal::Cause(PresetCause::BadFormula(cause)),
+        FormulaFault::Memory => RowRefusal::Memory,
     }
 }
 
@@ -46,7 +46,7 @@ fn postfix_entry(
     alloc: Global,
     formula: &str,
     natives: Vec<String>,
-) -> Result<Entry, Refusal<PresetCause>>
+) -> Result<Entry, RowRefusal<PresetCause>>
     requires each { AllByRecursion IsNativeText (map string_bytes natives.items) }
     requires some { 1 ≤ length natives.items }
     requires few { length natives.items ≤ MOST_NATIVES }
@@ -68,7 +68,7 @@ fn typed_entry<J: RowJudge>(
     derived_type: DerivedType,
     formula: &str,
     natives: Vec<String>,
-) -> Result<Entry, Refusal<PresetCause>>
+) -> Result<Entry, RowRefusal<PresetCause>>
     requires each { AllByRecursion IsNativeText (map string_bytes natives.items) }
     requires some { 1 ≤ length natives.items }
     requires few { length natives.items ≤ MOST_NATIVES }
@@ -97,7 +97,7 @@ fn kept_entry<J: RowJudge>(
     derived_type: DerivedType,
     formula: &str,
     natives: Vec<String>,
-) -> Result<Entry, Refusal<PresetCause>>
+) -> Result<Entry, RowRefusal<PresetCause>>
     requires each { AllByRecursion IsNativeText (map string_bytes natives.items) }
     requires few { length natives.items ≤ MOST_NATIVES }
     ensures { Judges (Entries.kept_entry J.infix_judged derived_type formula.now
@@ -119,7 +119,7 @@ pub trait RowJudge {
         alloc: Global,
         formula: &str,
         natives: Vec<String>,
-    ) -> Result<Entry, Refusal<PresetCause>>
+    ) -> Result<Entry, RowRefusal<PresetCause>>
         requires each { AllByRecursion IsNativeText (map string_bytes natives.items) }
         requires some { 1 ≤ length natives.items }
         requires few { length natives.items ≤ MOST_NATIVES }
@@ -136,7 +136,7 @@ impl RowJudge for PresetJudge {
         _alloc: Global,
         _formula: &str,
         _natives: Vec<String>,
-    ) -> Result<Entry, Refusal<PresetCause>> {
+    ) -> Result<Entry, RowRefusal<PresetCause>> {
         Ok(Entry::Uncomputed)
     }
 }
@@ -144,12 +144,12 @@ impl RowJudge for PresetJudge {
 /// The entry that a row gives by its derived type, its formula and its natives, whatever its first two fields say, or its
 /// first cause.
 #[tactic(auto, unfolding(crate::specs::Entries::judged_by, crate::specs::Lines::derivation_of))]
-pub fn judge<J: RowJudge>(alloc: Global, row: &ByteRecord) -> Result<Entry, Refusal<PresetCause>>
+pub fn judge<J: RowJudge>(alloc: Global, row: &ByteRecord) -> Result<Entry, RowRefusal<PresetCause>>
     requires { IsReadRow (fields_of row.now) }
     ensures { Judges (Entries.judged_by J.infix_judged (derivation_of (fields_of row.now))) result }
 {
     let Some(derived_type) = type_of(text_at(row, 2)) else {
-        return Err(Refusal::Cause(PresetCause::BadField));
+        return Err(RowRefusal::Cause(PresetCause::BadField));
     };
     let (formula, first): (&[u8], usize) = if has_formula(derived_type) {
         (text_at(row, 3), 4)
@@ -157,7 +157,7 @@ pub fn judge<J: RowJudge>(alloc: Global, row: &ByteRecord) -> Result<Entry, Refu
         (&[], 3)
     };
     let Some(formula) = printable_text(formula) else {
-        return Err(Refusal::Cause(PresetCause::BadField));
+        return Err(RowRefusal::Cause(PresetCause::BadField));
     };
     let natives = row_natives(alloc, row, first)?;
     kept_entry::<J>(alloc, derived_type, formula, natives)

@@ -38,7 +38,7 @@ pub fn kind_text(kind: Kind) -> &'static str
     }
 }
 
-/// The derived type of this name, compared exactly, and `None` where no type has it.
+/// The derived type of this name, compared exactly, and `None` if no type has it.
 #[tactic(auto, unfolding(crate::specs::Kinds::type_of))]
 pub fn type_of(name: &[u8]) -> Option<DerivedType>
     ensures { result ≡ Kinds.type_of name.now }

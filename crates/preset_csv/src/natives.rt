@@ -6,14 +6,14 @@ ghost use Rattle.postfix_rules.specs.declared.derived.TheConstants.{MOST_NATIVES
 ghost use Rattle.preset_csv.specs.Defs as Defs;
 ghost use Rattle.preset_csv.specs.Entries.{kept_natives};
 ghost use Rattle.preset_csv.specs.Lines.{natives_from};
-ghost use Rattle.preset_csv.specs.Steps.{IsRefusal};
+ghost use Rattle.preset_csv.specs.Steps.{RefusesForCause};
 ghost use Rattle.preset_csv.specs.declared.fault.PresetCause.TheVariants as cause;
-ghost use Rattle.table_rows.specs.declared.fault.Refusal.TheVariants as refusal;
+ghost use Rattle.table_rows.specs.declared.fault.RowRefusal.TheVariants as refusal;
 
 use crate::fault::PresetCause;
 use postfix_rules::MOST_NATIVES;
 use std::alloc::{AllocError, Global};
-use table_rows::{ByteRecord, Refusal, printable_text, text_at};
+use table_rows::{ByteRecord, RowRefusal, printable_text, text_at};
 
 // Whether a field ends the natives: it is empty, or begins a note or a description.
 fn ends_natives(field: &[u8]) -> bool
@@ -37,31 +37,32 @@ fn keep(alloc: Global, natives: &mut Vec<String>, text: &str) -> Result<(), Allo
     Ok(())
 }
 
-// The natives of which so many were counted, where there are not too many.
-fn within_limit(natives: Vec<String>, count: usize) -> Result<Vec<String>, Refusal<PresetCause>>
+// The natives, of which n were counted, if these are not too many.
+fn within_limit(natives: Vec<String>, count: usize) -> Result<Vec<String>, RowRefusal<PresetCause>>
     ensures within { IfOk result (λ v. (v ≡ natives) × (count ≤ MOST_NATIVES)) }
     ensures over { IfErr result
         (λ refused. (refused ≡ refusal.Cause cause.OverLimit) × (MOST_NATIVES < count)) }
 {
     if count > MOST_NATIVES as usize {
-        Err(Refusal::Cause(PresetCause::OverLimit))
+        Err(RowRefusal::Cause(PresetCause::OverLimit))
     } else {
         Ok(natives)
     }
 }
 
 /// The natives of a row from a field on, or why the row is refused: a native that is not printable takes precedence over more
-/// than [`MOST_NATIVES`]. No more than so many are ever held.
+/// than [`MOST_NATIVES`]. No more than these are ever held.
 pub fn row_natives(
     alloc: Global,
     row: &ByteRecord,
     first: usize,
-) -> Result<Vec<String>, Refusal<PresetCause>>
+) -> Result<Vec<String>, RowRefusal<PresetCause>>
     ensures natives { IfOk result
         (λ v. kept_natives (natives_from (fields_of row.now) first)
         ≡ Ok (map string_bytes v.items)) }
     ensures refused { IfErr result
-        (λ refused. IsRefusal (kept_natives (natives_from (fields_of row.now) first)) refused) }
+        (λ refused.
+        RefusesForCause (kept_natives (natives_from (fields_of row.now) first)) refused) }
 {
     let mut natives = Vec::new(alloc);
     let mut count = 0;
@@ -71,7 +72,7 @@ pub fn row_natives(
             return within_limit(natives, count);
         }
         let Some(text) = printable_text(field) else {
-            return Err(Refusal::Cause(PresetCause::BadField));
+            return Err(RowRefusal::Cause(PresetCause::BadField));
         };
         keep(alloc, &mut natives, text)?;
         count += 1;

@@ -8,7 +8,7 @@ ghost use Rattle.preset_table.specs.declared.TheConstants.{PRESETS};
 ghost use Rattle.preset_csv.specs.Entries.{judged, judged_by};
 ghost use Rattle.preset_csv.specs.Lines.{Line, derivation_of, line_of, row_line};
 ghost use Rattle.preset_csv.specs.Presets.{ReadsPresets, line_cause};
-ghost use Rattle.preset_csv.specs.Reading.{IsTaken};
+ghost use Rattle.preset_csv.specs.Reading.{GivePresets};
 ghost use Rattle.preset_csv.specs.Steps.{IsMore, IsPlainRow, cause_more, entries_with, read_cause};
 ghost use Rattle.preset_csv.specs.declared.entry.Entry.TheVariants as entry;
 
@@ -21,7 +21,7 @@ use crate::symbol::symbol_row;
 use crate::table::PresetTable;
 use preset_table::PRESETS;
 use std::alloc::{AllocError, Global};
-use table_rows::{ByteRecord, Refusal, TableKind, read_table, text_at};
+use table_rows::{ByteRecord, RowRefusal, TableKind, read_table, text_at};
 
 /// A missing entry for each row of the preset table.
 pub fn all_missing(alloc: Global) -> Result<Vec<Entry>, AllocError>
@@ -42,13 +42,13 @@ fn put(entries: &mut Vec<Entry>, row: u32, entry: Entry)
     entries[row as usize] = entry;
 }
 
-/// Takes what a PRESET row derives, where its group holds the asked cpu.
+/// Takes what a PRESET row derives, if its group holds the asked cpu.
 pub fn take_preset<J: RowJudge>(
     alloc: Global,
     row: &ByteRecord,
     holds: bool,
     entries: &mut Vec<Entry>,
-) -> Result<(), Refusal<PresetCause>>
+) -> Result<(), RowRefusal<PresetCause>>
     requires plain { IsReadRow (fields_of row.now) }
     requires all { length entries.old.items ≡ PRESETS }
     ensures { TakesRow
@@ -78,7 +78,7 @@ pub fn take_line<J: RowJudge>(
     cpu: &str,
     row: Row<'_>,
     taken: &mut Taken,
-) -> Result<(), Refusal<PresetCause>>
+) -> Result<(), RowRefusal<PresetCause>>
     requires plain { IsPlainRow row }
     requires all { length taken.old.entries.items ≡ PRESETS }
     ensures { TakesRow (cause_more (judged_by J.infix_judged) taken.old.group (row_line row.entry))
@@ -93,7 +93,7 @@ pub fn take_line<J: RowJudge>(
         }
         Row::Preset(row) => {
             if !taken.group.begun {
-                return Err(Refusal::Cause(PresetCause::NoCpu));
+                return Err(RowRefusal::Cause(PresetCause::NoCpu));
             }
             taken.group = taken.group.with_preset();
             take_preset::<J>(alloc, row, taken.group.holds, &mut taken.entries)
@@ -103,7 +103,7 @@ pub fn take_line<J: RowJudge>(
                 taken.group = taken.group.with_preset();
                 Ok(())
             } else {
-                Err(Refusal::Cause(PresetCause::NoCpu))
+                Err(RowRefusal::Cause(PresetCause::NoCpu))
             }
         }
     }
@@ -126,7 +126,7 @@ impl<'c> TableKind for PresetRows<'c> {
 
     ghost cause = { λ p above line. line_cause judged p.cpu.now above line };
 
-    ghost gives = { λ p lines taken. IsTaken judged p.cpu.now lines taken.group taken.entries.items };
+    ghost gives = { λ p lines taken. GivePresets judged p.cpu.now lines taken.group taken.entries.items };
 
     fn no_rows(&self, alloc: Global) -> Result<Taken, AllocError> {
         Ok(Taken {
@@ -140,7 +140,7 @@ impl<'c> TableKind for PresetRows<'c> {
         alloc: Global,
         taken: &mut Taken,
         row: &ByteRecord,
-    ) -> Result<(), Refusal<PresetCause>> {
+    ) -> Result<(), RowRefusal<PresetCause>> {
         take_line::<PresetJudge>(alloc, self.cpu, row_of(row), taken)
     }
 }

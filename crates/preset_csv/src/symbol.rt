@@ -7,7 +7,7 @@ ghost use Rattle.preset_table.specs.Table.{row_of};
 use preset_table::preset_row;
 use table_rows::printable_text;
 
-/// The row of a symbol, compared exactly, which is below [`PRESETS`](preset_table::PRESETS), and `None` where the bytes are not a symbol of
+/// The row of a symbol, compared exactly, which is below [`PRESETS`](preset_table::PRESETS), and `None` if the bytes are not a symbol of
 /// the preset table.
 pub fn symbol_row(symbol: &[u8]) -> Option<u32>
     ensures row { result ≡ row_of symbol.now }

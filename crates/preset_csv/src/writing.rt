@@ -34,7 +34,7 @@ fn put_natives(text: &mut Vec<u8>, natives: &[String]) -> Result<(), AllocError>
     Ok(())
 }
 
-// A formula, where there is one, after a comma.
+// A formula, if there is one, after a comma.
 fn put_formula(
     alloc: Global,
     text: &mut Vec<u8>,
@@ -52,7 +52,7 @@ fn put_formula(
     }
 }
 
-/// Appends the type, the formula where there is one, and the natives, each after a comma.
+/// Appends the type, the formula if there is one, and the natives, each after a comma.
 pub fn put_def(alloc: Global, text: &mut Vec<u8>, def: &Def) -> Result<(), AllocError>
     ensures { OnOk result (text.new.items ≡ text.old.items ++ after_commas (def_fields def.now)) }
 {

@@ -124,7 +124,7 @@ pub fn preset_text(row: u32) -> &'static str
     }
 }
 
-/// The row of a symbol, compared exactly, which is below [`PRESETS`], and `None` where the text is not a symbol of the table.
+/// The row of a symbol, compared exactly, which is below [`PRESETS`], and `None` if the text is not a symbol of the table.
 pub fn preset_row(symbol: &str) -> Option<u32>
     ensures row { result ≡ Table.row_of symbol.now }
     ensures within { IfSome result (λ row. row < PRESETS) }

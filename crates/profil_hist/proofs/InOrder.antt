@@ -14,9 +14,9 @@ use Rattle.std.specs.List.{list_any}
 use Rattle.std.specs.List.Sorted.{IsPartitionPoint, IsPermutation}
 use Rattle.profil_hist.specs.Views.{range_text}
 use Rattle.profil_hist.specs.declared.range.MapRange.{MapRange}
-use Rattle.profil_hist.specs.Places.{IsOrder, IsPlaced, IsRangeOf, Places}
+use Rattle.profil_hist.specs.Places.{ArePlacesOf, IsOrder, IsPlaced, IsRangeOf}
 use Rattle.profil_hist.specs.Ranges.{IsMap, IsRange, RangeText, end_of, in_bucket, in_range}
-use Rattle.profil_hist.specs.declared.placing.Placed.{Placed}
+use Rattle.profil_hist.specs.declared.placing.RangeStart.{RangeStart}
 use Rattle.profil_hist.proofs.Noted.{all-found, and-true, false-unless, inside, true-not-false, two-apart, within}
 
 -- ---- the bucket of an address
@@ -50,49 +50,49 @@ pub none-of-all : (ranges : List RangeText) (pc : ℕ) → ((k : ℕ) (r : Range
 none-of-all [] pc h = refl
 none-of-all (x ∷ rest) pc h = rw (h zero x refl, none-of-all rest pc (λ k r e. h (suc k) r e)) refl
 
-start-of : (ranges : List RangeText) (p : Placed) (k : ℕ) (r : RangeText) → IsPlaced ranges p → p.range ≡ k → slice_get ranges k ≡ Some r → r.start ≡ p.start
+start-of : (ranges : List RangeText) (p : RangeStart) (k : ℕ) (r : RangeText) → IsPlaced ranges p → p.range ≡ k → slice_get ranges k ≡ Some r → r.start ≡ p.start
 start-of ranges p k r is same at =
     let there : slice_get ranges p.range ≡ Some r = ap (slice_get ranges) same ∙ at in
     let both : Some r.start ≡ Some p.start = sym (ap (option_map (λ (x : RangeText). x.start)) there) ∙ is in
     cc both
 
 -- the range that holds an address is among those that start at it or below it
-record Below (r : RangeText) (places : List Placed) (below : ℕ) : Type 0 where
+record Below (r : RangeText) (places : List RangeStart) (below : ℕ) : Type 0 where
   place : ℕ
   under : place < below
-  start : (d : Placed) → (get_or places place d).start ≡ r.start
+  start : (d : RangeStart) → (get_or places place d).start ≡ r.start
 
-range-below : (ranges : List RangeText) (places : List Placed) (pc below : ℕ) (d : Placed) → IsOrder ranges places
-    → IsPartitionPoint (λ (p : Placed). p.start ≤ pc) (λ (p : Placed). pc < p.start) places below
+range-below : (ranges : List RangeText) (places : List RangeStart) (pc below : ℕ) (d : RangeStart) → IsOrder ranges places
+    → IsPartitionPoint (λ (p : RangeStart). p.start ≤ pc) (λ (p : RangeStart). pc < p.start) places below
     → (k : ℕ) (r : RangeText) → slice_get ranges k ≡ Some r → in_range r pc ≡ true → Below r places below
 range-below ranges places pc below d order point k r at holds =
-    let found = any-at (λ (p : Placed). p.range == k) places (order.all.each k (slice_get_within ranges k r at)) in
-    let start : (e : Placed) → (get_or places found.0 e).start ≡ r.start =
+    let found = any-at (λ (p : RangeStart). p.range == k) places (order.all.each k (slice_get_within ranges k r at)) in
+    let start : (e : RangeStart) → (get_or places found.0 e).start ≡ r.start =
     λ e. sym (start-of ranges (get_or places found.0 e) k r (order.all.right found.0 e found.1) (eqb-true _ k (found.2 e)) at) in
     let low = (inside r.start (end_of r) pc holds).lower in
     go (nat_lt found.0 below) found.0 refl found.1 start low
   where
-    go : (b : Bool) (j : ℕ) → b ≡ nat_lt j below → j < length places → ((e : Placed) → (get_or places j e).start ≡ r.start) → r.start ≤ pc → Below r places below
+    go : (b : Bool) (j : ℕ) → b ≡ nat_lt j below → j < length places → ((e : RangeStart) → (get_or places j e).start ≡ r.start) → r.start ≤ pc → Below r places below
     go true j t lt start low = record { place = j; under = ltb-true j below (sym t); start = start }
     go false j t lt start low =
         let past = ltb-false j below (sym t) in
         let above = point.1 j d past lt in
         absurd (omega (arith, above, start d, low))
 
--- none holds it where none starts at it or below it
-pub none-below : (ranges : List RangeText) (places : List Placed) (pc : ℕ) (d : Placed) → IsOrder ranges places
-    → IsPartitionPoint (λ (p : Placed). p.start ≤ pc) (λ (p : Placed). pc < p.start) places 0 → list_any (λ (r : RangeText). in_range r pc) ranges ≡ false
+-- none holds it if none starts at it or below it
+pub none-below : (ranges : List RangeText) (places : List RangeStart) (pc : ℕ) (d : RangeStart) → IsOrder ranges places
+    → IsPartitionPoint (λ (p : RangeStart). p.start ≤ pc) (λ (p : RangeStart). pc < p.start) places 0 → list_any (λ (r : RangeText). in_range r pc) ranges ≡ false
 none-below ranges places pc d order point =
     none-of-all ranges pc
     (λ k r at. false-unless (in_range r pc) (λ h. let b = range-below ranges places pc 0 d order point k r at h in absurd (omega (arith, b.under))))
 
--- and where the last of those does not
-pub none-last : (ranges : List RangeText) (places : List Placed) (pc below m : ℕ) (q : RangeText) (d : Placed) → IsMap ranges → IsOrder ranges places
-    → IsPartitionPoint (λ (p : Placed). p.start ≤ pc) (λ (p : Placed). pc < p.start) places below → below ≤ length places → 0 < below
+-- and if the last of those does not
+pub none-last : (ranges : List RangeText) (places : List RangeStart) (pc below m : ℕ) (q : RangeText) (d : RangeStart) → IsMap ranges → IsOrder ranges places
+    → IsPartitionPoint (λ (p : RangeStart). p.start ≤ pc) (λ (p : RangeStart). pc < p.start) places below → below ≤ length places → 0 < below
     → (get_or places (below - 1) d).range ≡ m → slice_get ranges m ≡ Some q → in_range q pc ≡ false
     → list_any (λ (r : RangeText). in_range r pc) ranges ≡ false
 none-last ranges places pc below m q d kept order point bound some is at not_in =
-    let last : Placed = get_or places (below - 1) d in
+    let last : RangeStart = get_or places (below - 1) d in
     let placed = order.all.right (below - 1) d (omega arith) in
     let start : q.start ≡ last.start = start-of ranges last m q placed is at in
     let low : last.start ≤ pc = point.0 (below - 1) d (omega arith) (omega arith) in
@@ -125,7 +125,7 @@ mapped-within f items i v e = go (slice_get (map range_text items) i) refl e
     go None at e = cc e
     go (Some r) at e = let lt = slice_get_within (map range_text items) i r at in omega (arith, lt, length-map items range_text)
 
-pub placed-within : (items : List MapRange) (p : Placed) → IsPlaced (map range_text items) p → p.range < length items
+pub placed-within : (items : List MapRange) (p : RangeStart) → IsPlaced (map range_text items) p → p.range < length items
 placed-within items p is = mapped-within (λ (r : RangeText). r.start) items p.range p.start is
 
 pub range-within : (items : List MapRange) (i pc : ℕ) → IsRangeOf (map range_text items) pc (Some i) → i < length items
@@ -133,21 +133,21 @@ range-within items i pc is = mapped-within (λ (r : RangeText). in_range r pc) i
 
 -- ---- the ranges in order
 
-pub places-more : (ranges : List RangeText) (n : ℕ) (places : List Placed) (new : Placed) → Places ranges n places → IsPlaced ranges new → new.range ≡ n → Places ranges (n + 1) (places ++ new ∷ [])
+pub places-more : (ranges : List RangeText) (n : ℕ) (places : List RangeStart) (new : RangeStart) → ArePlacesOf ranges n places → IsPlaced ranges new → new.range ≡ n → ArePlacesOf ranges (n + 1) (places ++ new ∷ [])
 places-more ranges n places new h is at = record { right = All-push (IsPlaced ranges) places new h.right is; each = λ k lt. one k (nat_lt k n) refl lt }
   where
-    one : (k : ℕ) (b : Bool) → nat_lt k n ≡ b → k < n + 1 → list_any (λ (p : Placed). p.range == k) (places ++ new ∷ []) ≡ true
+    one : (k : ℕ) (b : Bool) → nat_lt k n ≡ b → k < n + 1 → list_any (λ (p : RangeStart). p.range == k) (places ++ new ∷ []) ≡ true
     one k true t lt =
-        list_any-append (λ (p : Placed). p.range == k) places (new ∷ []) ∙ ap (λ (b : Bool). b || list_any (λ (p : Placed). p.range == k) (new ∷ [])) (h.each k (ltb-true k n t))
+        list_any-append (λ (p : RangeStart). p.range == k) places (new ∷ []) ∙ ap (λ (b : Bool). b || list_any (λ (p : RangeStart). p.range == k) (new ∷ [])) (h.each k (ltb-true k n t))
     one k false t lt =
         let low = ltb-false k n t in
         let same : new.range ≡ k = omega (arith, at, low, lt) in
-        list_any-append (λ (p : Placed). p.range == k) places (new ∷ [])
-        ∙ ap (λ (b : Bool). list_any (λ (p : Placed). p.range == k) places || (b || false)) (eq-eqb new.range k same)
-        ∙ or-true (list_any (λ (p : Placed). p.range == k) places)
+        list_any-append (λ (p : RangeStart). p.range == k) places (new ∷ [])
+        ∙ ap (λ (b : Bool). list_any (λ (p : RangeStart). p.range == k) places || (b || false)) (eq-eqb new.range k same)
+        ∙ or-true (list_any (λ (p : RangeStart). p.range == k) places)
 
-pub places-moved : (ranges : List RangeText) (n : ℕ) (xs ys : List Placed) → IsPermutation xs ys → Places ranges n xs → Places ranges n ys
+pub places-moved : (ranges : List RangeText) (n : ℕ) (xs ys : List RangeStart) → IsPermutation xs ys → ArePlacesOf ranges n xs → ArePlacesOf ranges n ys
 places-moved ranges n xs ys moved h = record {
   right = All-permutation (IsPlaced ranges) xs ys moved h.right;
-  each = λ k lt. sym (list_any-IsPermutation (λ (p : Placed). p.range == k) xs ys moved) ∙ h.each k lt;
+  each = λ k lt. sym (list_any-IsPermutation (λ (p : RangeStart). p.range == k) xs ys moved) ∙ h.each k lt;
 }

@@ -264,12 +264,12 @@ pub noted-rows : (rows : List RowText) (p : Place) (row : RowText) → slice_get
 noted-rows rows p row e = ap (λ (o : Option RowText). option_map_or (λ (x : RowText). set rows p.range (with_hit p.bucket x)) o rows) e
 
 -- the counts of the rows with one more
-record Counted (ranges : List RangeText) (rows : List RowText) (pcs : List ℕ) : Type 0 where
+record RowsCounted (ranges : List RangeText) (rows : List RowText) (pcs : List ℕ) : Type 0 where
   buckets : (k i : ℕ) → option_and_then (λ (row : RowText). slice_get row.buckets i) (slice_get rows k) ≡ bucket_count ranges k i pcs
   hits : (k : ℕ) → option_map (λ (row : RowText). row.hits) (slice_get rows k) ≡ range_count ranges k pcs
 
 noted-counted : (ranges : List RangeText) (rows : List RowText) (pc : ℕ) (p : Place) (r : RangeText) (row : RowText) (pcs : List ℕ) → NoTwo overlaps ranges
-    → Spot ranges rows pc p r row → Counted ranges rows pcs → Counted ranges (set rows p.range (with_hit p.bucket row)) (pcs ++ pc ∷ [])
+    → Spot ranges rows pc p r row → RowsCounted ranges rows pcs → RowsCounted ranges (set rows p.range (with_hit p.bucket row)) (pcs ++ pc ∷ [])
 noted-counted ranges rows pc p r row pcs apart s is = record { buckets = λ k i. bucket k i (k == p.range) refl; hits = λ k. hit k (k == p.range) refl }
   where
     in_r : in_range r pc ≡ true
@@ -323,10 +323,10 @@ pub noted-counts : (h : HistText) (pc : ℕ) (p : Place) (pcs : List ℕ) → Is
 noted-counts h pc p pcs kept place is =
     let s = spot h.map h.rows pc p kept.shape place in
     let spotted : Spot h.map h.rows pc p s.0 s.1 = s.2 in
-    let old : Counted h.map h.rows pcs = record { buckets = is.buckets; hits = is.hits } in
+    let old : RowsCounted h.map h.rows pcs = record { buckets = is.buckets; hits = is.hits } in
     let new = noted-counted h.map h.rows pc p s.0 s.1 pcs kept.kept.apart spotted old in
     let rows = noted-rows h.rows p s.1 spotted.at_row in
-    let now : Counted h.map (with_note p h.rows) (pcs ++ pc ∷ []) = subst (λ (x : List RowText). Counted h.map x (pcs ++ pc ∷ [])) (sym rows) new in
+    let now : RowsCounted h.map (with_note p h.rows) (pcs ++ pc ∷ []) = subst (λ (x : List RowText). RowsCounted h.map x (pcs ++ pc ∷ [])) (sym rows) new in
     let in_r = bucket-inside s.0 p.bucket pc spotted.below spotted.holds in
     let at : in_range (get_or h.map p.range s.0) pc ≡ true = rw (get_or_from_slice_get h.map p.range s.0 s.0 spotted.at_range) in_r in
     let some : list_any (λ (r : RangeText). in_range r pc) h.map ≡ true = list_any_at (λ (r : RangeText). in_range r pc) h.map p.range s.0 (slice_get_within h.map p.range s.0 spotted.at_range) at in

@@ -3,11 +3,11 @@ use Rattle.std.proofs.Common.{◌≡◌, ◌∙◌, ◌∷◌, ◌++◌, List, [
 use Rattle.std.specs.Prelude.{Result}
 use Rattle.table_rows.specs.Tables.{TakesRow}
 use Rattle.table_rows.proofs.TablesRead.{takes-as}
-use Rattle.table_rows.specs.declared.fault.Refusal.{Refusal}
+use Rattle.table_rows.specs.declared.fault.RowRefusal.{RowRefusal}
 use Rattle.profil_hist.specs.Lines.{IsLine, Line, bad, range, skipped}
 use Rattle.profil_hist.specs.Maps.{cause_in, ranges_in, row_cause}
 use Rattle.profil_hist.specs.Ranges.{IsMap, RangeText}
-use Rattle.profil_hist.specs.Steps.{IsRead, with_line}
+use Rattle.profil_hist.specs.Steps.{GiveRanges, with_line}
 use Rattle.profil_hist.specs.declared.fault.MapCause.{MapCause}
 use Rattle.profil_hist.proofs.Keeping.{kept}
 
@@ -22,13 +22,13 @@ one-more (range r ∷ rest) skipped = ap (λ (rs : List RangeText). r ∷ rs) (o
 one-more (range r ∷ rest) bad = ap (λ (rs : List RangeText). r ∷ rs) (one-more rest bad)
 one-more (range r ∷ rest) (range s) = ap (λ (rs : List RangeText). r ∷ rs) (one-more rest (range s))
 
-pub none-read : IsRead [] []
+pub none-read : GiveRanges [] []
 unfolding ranges_in
 none-read = (refl, record { few = omega arith; few_buckets = omega arith; each = tt; distinct = tt; apart = tt })
 
-pub row-taken : (above : List Line) (line : Line) (old new : List RangeText) (result : Result Unit (Refusal MapCause)) → IsLine line → IsRead above old
-    → TakesRow (cause_in old line) (new ≡ with_line old line) result → TakesRow (row_cause above line) (IsRead (above ++ line ∷ []) new) result
+pub row-taken : (above : List Line) (line : Line) (old new : List RangeText) (result : Result Unit (RowRefusal MapCause)) → IsLine line → GiveRanges above old
+    → TakesRow (cause_in old line) (new ≡ with_line old line) result → TakesRow (row_cause above line) (GiveRanges (above ++ line ∷ []) new) result
 row-taken above line old new result good read takes =
-    takes-as (cause_in old line) (row_cause above line) (new ≡ with_line old line) (IsRead (above ++ line ∷ []) new) result (ap (λ (rs : List RangeText). cause_in rs line) read.0)
+    takes-as (cause_in old line) (row_cause above line) (new ≡ with_line old line) (GiveRanges (above ++ line ∷ []) new) result (ap (λ (rs : List RangeText). cause_in rs line) read.0)
     (λ none is. (is ∙ ap (λ (rs : List RangeText). with_line rs line) read.0 ∙ sym (one-more above line), subst IsMap (sym is) (kept old line good none read.1)))
     takes

@@ -18,7 +18,7 @@ counts_text c = record { hits = c.hits; buckets = c.buckets.items }
 abbrev pub rows_text : List RangeCounts → List RowText
 rows_text rows = map counts_text rows
 
--- a range of so many buckets that was never met
+-- a range of n buckets that was never met
 abbrev pub no_hits : ℕ → RowText
 no_hits buckets = record { hits = 0; buckets = replicate buckets 0 }
 
@@ -26,7 +26,7 @@ no_hits buckets = record { hits = 0; buckets = replicate buckets 0 }
 abbrev pub no_counts : List RangeText → List RowText
 no_counts ranges = map (λ r. no_hits r.buckets) ranges
 
--- how often a bucket was met, where there is such a bucket
+-- how often a bucket was met, if there is such a bucket
 abbrev pub bucket_in : List RowText → ℕ → ℕ → Option ℕ
 bucket_in rows k i = option_and_then (λ row. slice_get row.buckets i) (slice_get rows k)
 

@@ -8,11 +8,11 @@ use Rattle.profil_hist.specs.Ranges.{IsMap, RangeText, in_bucket, in_range}
 
 -- ---- the histogram of a list of program counters
 
--- how many program counters are in a bucket of a range, where there is such a bucket: PAPI_profil(3)
+-- how many program counters are in a bucket of a range, if there is such a bucket: PAPI_profil(3)
 abbrev pub bucket_count : List RangeText → ℕ → ℕ → List ℕ → Option ℕ
 bucket_count ranges k i pcs = option_and_then (λ r. if nat_lt i r.buckets then Some (count_by (in_bucket r i) pcs) else None) (slice_get ranges k)
 
--- how many program counters are in a range, where there is such a range
+-- how many program counters are in a range, if there is such a range
 abbrev pub range_count : List RangeText → ℕ → List ℕ → Option ℕ
 range_count ranges k pcs = option_map (λ r. count_by (in_range r) pcs) (slice_get ranges k)
 

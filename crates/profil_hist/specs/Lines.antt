@@ -4,7 +4,7 @@ use Rattle.std.specs.List.{starts_with}
 use Rattle.std.specs.Str.{bytes_eq}
 use Rattle.table_rows.specs.Texts.{Text, decimal_in, hex_in, is_name, is_skipped, text_at}
 use Rattle.profil_hist.specs.Ranges.{RangeText, IsRange}
-use Rattle.profil_hist.specs.declared.limits.TheConstants.{MOST_BUCKETS, MOST_WIDTH}
+use Rattle.profil_hist.specs.declared.limits.TheConstants.{MOST_BUCKETS, MOST_BUCKET_ADDRESSES}
 use Rattle.profil_hist.specs.declared.row.Row.{Row}
 use Rattle.profil_hist.specs.declared.row.Row.TheVariants as row
 
@@ -28,7 +28,7 @@ range_of name start width buckets = record { name = name; start = start; width =
 
 -- a RANGE row with these fields
 abbrev pub range_line : Text → Text → Text → Text → Line
-range_line name start width buckets = go (address_in start) (decimal_in 1 MOST_WIDTH width) (decimal_in 1 MOST_BUCKETS buckets)
+range_line name start width buckets = go (address_in start) (decimal_in 1 MOST_BUCKET_ADDRESSES width) (decimal_in 1 MOST_BUCKETS buckets)
   where
     go : Option ℕ → Option ℕ → Option ℕ → Line
     go None w b = bad

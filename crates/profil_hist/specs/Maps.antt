@@ -53,7 +53,7 @@ map_fault bytes = first_fault row_cause [] (lines_of bytes)
 unfoldable pub map_ranges : List ℕ → List RangeText
 map_ranges bytes = ranges_in (lines_of bytes)
 
--- the ranges where no row is faulty, or the first fault, or out of memory
+-- the ranges if no row is faulty, or the first fault, or out of memory
 abbrev pub ReadsMap : Result Map (RowFault MapCause) → List ℕ → Type 0
 ReadsMap result bytes = ReadsTable (map_fault bytes) (λ ranges. ranges ≡ map_ranges bytes) result
 

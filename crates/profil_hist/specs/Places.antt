@@ -4,20 +4,20 @@ use Rattle.std.specs.List.{All, list_any}
 use Rattle.std.specs.List.Sorted.{IsNonDecreasingBy}
 use Rattle.profil_hist.specs.Ranges.{RangeText, in_bucket, in_range}
 use Rattle.profil_hist.specs.declared.placing.Place.{Place}
-use Rattle.profil_hist.specs.declared.placing.Placed.{Placed}
+use Rattle.profil_hist.specs.declared.placing.RangeStart.{RangeStart}
 
 -- a placed range stands with its own first address
-abbrev pub IsPlaced : List RangeText → Placed → Type 0
+abbrev pub IsPlaced : List RangeText → RangeStart → Type 0
 IsPlaced ranges p = option_map (λ r. r.start) (slice_get ranges p.range) ≡ Some p.start
 
--- so many ranges of a map, from the first on
-pub record Places (ranges : List RangeText) (count : ℕ) (places : List Placed) : Type 0 where
+-- n ranges of a map, from the first on
+pub record ArePlacesOf (ranges : List RangeText) (count : ℕ) (places : List RangeStart) : Type 0 where
   pub right : All (IsPlaced ranges) places
   pub each : (k : ℕ) → k < count → list_any (λ p. p.range == k) places ≡ true
 
 -- all ranges of a map, in the order of their addresses
-pub record IsOrder (ranges : List RangeText) (places : List Placed) : Type 0 where
-  pub all : Places ranges (length ranges) places
+pub record IsOrder (ranges : List RangeText) (places : List RangeStart) : Type 0 where
+  pub all : ArePlacesOf ranges (length ranges) places
   pub rising : IsNonDecreasingBy (λ p. p.start) places
 
 -- the range that holds an address, or that none does

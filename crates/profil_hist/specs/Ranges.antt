@@ -3,7 +3,7 @@ use Rattle.std.specs.Prelude.{⊤, ◌&&◌, ◌+◌, ◌*◌, ◌^◌, ◌≡�
 use Rattle.std.specs.List.{AllByRecursion}
 use Rattle.std.specs.Str.{bytes_eq}
 use Rattle.table_rows.specs.Texts.{Text, is_name}
-use Rattle.profil_hist.specs.declared.limits.TheConstants.{MOST_BUCKETS, MOST_RANGES, MOST_WIDTH}
+use Rattle.profil_hist.specs.declared.limits.TheConstants.{MOST_BUCKETS, MOST_BUCKET_ADDRESSES, MOST_RANGES}
 
 -- buckets of `width` addresses each, from `start` on
 pub record RangeText : Type 0 where
@@ -43,7 +43,7 @@ NoTwo together (x ∷ xs) = AllByRecursion (λ y. together x y ≡ false) xs × 
 pub record IsRange (r : RangeText) : Type 0 where
   pub named : is_name r.name ≡ true
   pub some_width : 1 ≤ r.width
-  pub few_addresses : r.width ≤ MOST_WIDTH
+  pub few_addresses : r.width ≤ MOST_BUCKET_ADDRESSES
   pub some_buckets : 1 ≤ r.buckets
   pub few_buckets : r.buckets ≤ MOST_BUCKETS
   pub ends : end_of r ≤ 2 ^ 64

@@ -11,5 +11,5 @@ with_line above bad = above
 with_line above (range r) = above ++ r ∷ []
 
 -- the ranges of these rows, which keep what a map keeps
-abbrev pub IsRead : List Line → List RangeText → Type 0
-IsRead lines ranges = (ranges ≡ ranges_in lines) × IsMap ranges
+abbrev pub GiveRanges : List Line → List RangeText → Type 0
+GiveRanges lines ranges = (ranges ≡ ranges_in lines) × IsMap ranges

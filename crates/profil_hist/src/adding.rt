@@ -5,7 +5,7 @@ ghost use Rattle.table_rows.specs.Tables.{TakesRow};
 ghost use Rattle.profil_hist.specs.Lines.{Line, line_of, row_line};
 ghost use Rattle.profil_hist.specs.Maps.{cause_in, row_cause};
 ghost use Rattle.profil_hist.specs.Ranges.{IsMap};
-ghost use Rattle.profil_hist.specs.Steps.{IsRead, with_line};
+ghost use Rattle.profil_hist.specs.Steps.{GiveRanges, with_line};
 ghost use Rattle.profil_hist.specs.Views.{range_text};
 
 use crate::cause::range_cause;
@@ -13,7 +13,7 @@ use crate::fault::MapCause;
 use crate::range::MapRange;
 use crate::row::{Row, row_of};
 use std::alloc::{AllocError, Global};
-use table_rows::{ByteRecord, Refusal, TableKind};
+use table_rows::{ByteRecord, RowRefusal, TableKind};
 
 /// The rows of a map.
 pub struct MapRows;
@@ -29,7 +29,7 @@ impl TableKind for MapRows {
 
     ghost cause = { λ _ above line. row_cause above line };
 
-    ghost gives = { λ _ lines ranges. IsRead lines (map range_text ranges.items) };
+    ghost gives = { λ _ lines ranges. GiveRanges lines (map range_text ranges.items) };
 
     fn no_rows(&self, alloc: Global) -> Result<Vec<MapRange>, AllocError> {
         Ok(Vec::new(alloc))
@@ -40,13 +40,17 @@ impl TableKind for MapRows {
         alloc: Global,
         ranges: &mut Vec<MapRange>,
         row: &ByteRecord,
-    ) -> Result<(), Refusal<MapCause>> {
+    ) -> Result<(), RowRefusal<MapCause>> {
         add_row(alloc, ranges, row_of(row))
     }
 }
 
 // Adds a row below the others.
-fn add_row(alloc: Global, ranges: &mut Vec<MapRange>, row: Row<'_>) -> Result<(), Refusal<MapCause>>
+fn add_row(
+    alloc: Global,
+    ranges: &mut Vec<MapRange>,
+    row: Row<'_>,
+) -> Result<(), RowRefusal<MapCause>>
     requires kept { IsMap (map range_text ranges.old.items) }
     ensures { TakesRow (cause_in (map range_text ranges.old.items) (row_line row.entry))
         (map range_text ranges.new.items
@@ -54,7 +58,7 @@ fn add_row(alloc: Global, ranges: &mut Vec<MapRange>, row: Row<'_>) -> Result<()
 {
     match row {
         Row::Skipped => Ok(()),
-        Row::Bad => Err(Refusal::Cause(MapCause::BadRow)),
+        Row::Bad => Err(RowRefusal::Cause(MapCause::BadRow)),
         Row::Range {
             name,
             start,
@@ -69,7 +73,7 @@ fn add_row(alloc: Global, ranges: &mut Vec<MapRange>, row: Row<'_>) -> Result<()
                 buckets,
             };
             if let Some(cause) = range_cause(ranges.as_slice(), &range) {
-                return Err(Refusal::Cause(cause));
+                return Err(RowRefusal::Cause(cause));
             }
             ranges.push(range)?;
             Ok(())

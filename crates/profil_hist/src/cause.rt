@@ -33,7 +33,7 @@ fn has_overlap(above: &[MapRange], range: &MapRange) -> bool
     above.iter().any(|r| r.overlaps(range))
 }
 
-/// The first cause of a range, and `None` where it has none.
+/// The first cause of a range, and `None` if it has none.
 pub fn range_cause(above: &[MapRange], range: &MapRange) -> Option<MapCause>
     requires kept { IsMap (map range_text above.now) }
     ensures { result ≡ Maps.range_cause (map range_text above.now) (range_text range.now) }

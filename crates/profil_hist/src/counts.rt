@@ -58,7 +58,7 @@ pub fn add_at(rows: &mut Vec<RangeCounts>, place: Place)
     rows[place.range].add(place.bucket);
 }
 
-/// How often a bucket was met, and `None` where there is no such bucket.
+/// How often a bucket was met, and `None` if there is no such bucket.
 pub fn bucket_in(rows: &[RangeCounts], range: u32, i: u32) -> Option<u64>
     ensures { result ≡ Counts.bucket_in (map counts_text rows.now) range i }
 {

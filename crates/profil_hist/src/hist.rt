@@ -7,7 +7,7 @@ ghost use Rattle.profil_hist.specs.Histograms.{IsHistogram};
 
 use crate::counts::{RangeCounts, add_at, bucket_in};
 use crate::map::Map;
-use crate::placing::Placed;
+use crate::placing::RangeStart;
 use std::alloc::{AllocError, Global};
 use std::marker::Model;
 
@@ -17,7 +17,7 @@ use std::marker::Model;
 #[derive(Drop)]
 pub struct Hist {
     map: Map,
-    order: Vec<Placed>,
+    order: Vec<RangeStart>,
     rows: Vec<RangeCounts>,
     outside: u64,
     total: u64,
@@ -75,7 +75,7 @@ impl Hist {
         }
     }
 
-    /// How often a bucket of a range was met, each by its place from 0, and `None` where there is no such bucket.
+    /// How often a bucket of a range was met, each by its place from 0, and `None` if there is no such bucket.
     pub fn bucket(&self, range: u32, i: u32) -> Option<u64>
         ensures count { result ≡ Histograms.bucket_at self.now range i }
         ensures there { is_some result ≡ Histograms.has_bucket self.now.map range i }
@@ -83,7 +83,7 @@ impl Hist {
         bucket_in(self.rows.as_slice(), range, i)
     }
 
-    /// How often a range was met, by its place from 0, and `None` where there is no such range.
+    /// How often a range was met, by its place from 0, and `None` if there is no such range.
     pub fn hits(&self, range: u32) -> Option<u64>
         ensures count { result ≡ Histograms.hits_at self.now range }
         ensures there { is_some result ≡ Histograms.has_range self.now.map range }

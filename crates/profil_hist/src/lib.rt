@@ -16,7 +16,7 @@ mod row;
 
 pub use crate::fault::{MapCause, MapFault, cause_text};
 pub use crate::hist::Hist;
-pub use crate::limits::{MOST_BUCKETS, MOST_RANGES, MOST_WIDTH};
+pub use crate::limits::{MOST_BUCKET_ADDRESSES, MOST_BUCKETS, MOST_RANGES};
 pub use crate::map::Map;
 pub use crate::profile::profile_text;
 pub use crate::range::MapRange;

@@ -7,4 +7,4 @@ pub const MOST_RANGES: usize = 1024;
 pub const MOST_BUCKETS: u32 = 65_536;
 
 /// The addresses of a bucket.
-pub const MOST_WIDTH: u32 = 1_048_576;
+pub const MOST_BUCKET_ADDRESSES: u32 = 1_048_576;

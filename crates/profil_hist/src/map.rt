@@ -7,7 +7,7 @@ ghost use Rattle.profil_hist.specs.Ranges.{IsMap};
 ghost use Rattle.profil_hist.specs.Views.{range_text};
 
 use crate::counts::{RangeCounts, zeros_of};
-use crate::placing::{Place, Placed, order_of, place_in};
+use crate::placing::{Place, RangeStart, order_of, place_in};
 use crate::range::MapRange;
 use std::alloc::{AllocError, Global};
 use std::marker::Model;
@@ -51,7 +51,7 @@ impl Map {
         self.ranges.len() as u32
     }
 
-    /// The range in a place from 0, and `None` where there is none.
+    /// The range in a place from 0, and `None` if there is none.
     pub fn range(&self, i: u32) -> Option<&MapRange>
         ensures { option_map (λ r. range_text r.now) result ≡ slice_get self.now i }
     {
@@ -59,7 +59,7 @@ impl Map {
     }
 
     /// The ranges in the order of their addresses.
-    pub(crate) fn order(&self, alloc: Global) -> Result<Vec<Placed>, AllocError>
+    pub(crate) fn order(&self, alloc: Global) -> Result<Vec<RangeStart>, AllocError>
         ensures { IfOk result (λ places. IsOrder self.now places.items) }
     {
         order_of(alloc, self.ranges.as_slice())
@@ -73,8 +73,8 @@ impl Map {
         zeros_of(alloc, self.ranges.as_slice())
     }
 
-    /// The range and the bucket that hold an address, and `None` where it is in no range.
-    pub(crate) fn place_of(&self, order: &[Placed], pc: u64) -> Option<Place>
+    /// The range and the bucket that hold an address, and `None` if it is in no range.
+    pub(crate) fn place_of(&self, order: &[RangeStart], pc: u64) -> Option<Place>
         requires { IsOrder self.now order.now }
         ensures { IsPlaceOf self.now pc result }
     {

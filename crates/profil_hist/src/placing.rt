@@ -2,7 +2,7 @@
 
 ghost use Rattle.std.specs.Prelude.{◌≡◌, ◌<◌, ◌≤◌, ◌&&◌, true, map, length, nat_lt, IfOk};
 ghost use Rattle.std.specs.List.Sorted.{IsNonDecreasingBy, IsPartitionPoint};
-ghost use Rattle.profil_hist.specs.Places.{IsOrder, IsPlaceOf, IsRangeOf, Places};
+ghost use Rattle.profil_hist.specs.Places.{ArePlacesOf, IsOrder, IsPlaceOf, IsRangeOf};
 ghost use Rattle.profil_hist.specs.Ranges.{IsMap, in_bucket, in_range};
 ghost use Rattle.profil_hist.specs.Views.{range_text};
 
@@ -11,7 +11,7 @@ use std::alloc::{AllocError, Global};
 
 /// A range of a map, by its place in the file, with its first address.
 #[derive(Clone, Copy, Drop)]
-pub struct Placed {
+pub struct RangeStart {
     pub start: u64,
     pub range: usize,
 }
@@ -24,20 +24,20 @@ pub struct Place {
 }
 
 // The ranges in the order of the file.
-fn in_file_order(alloc: Global, ranges: &[MapRange]) -> Result<Vec<Placed>, AllocError>
+fn in_file_order(alloc: Global, ranges: &[MapRange]) -> Result<Vec<RangeStart>, AllocError>
     ensures { IfOk result (λ places.
-        Places (map range_text ranges.now) (length ranges.now) places.items) }
+        ArePlacesOf (map range_text ranges.now) (length ranges.now) places.items) }
 {
     let mut places = Vec::new(alloc);
     for range in 0..ranges.len() {
         let start = ranges[range].start;
-        places.push(Placed { start, range })?;
+        places.push(RangeStart { start, range })?;
     }
     Ok(places)
 }
 
 /// The ranges in the order of their addresses.
-pub fn order_of(alloc: Global, ranges: &[MapRange]) -> Result<Vec<Placed>, AllocError>
+pub fn order_of(alloc: Global, ranges: &[MapRange]) -> Result<Vec<RangeStart>, AllocError>
     ensures { IfOk result (λ places. IsOrder (map range_text ranges.now) places.items) }
 {
     let mut places = in_file_order(alloc, ranges)?;
@@ -46,7 +46,7 @@ pub fn order_of(alloc: Global, ranges: &[MapRange]) -> Result<Vec<Placed>, Alloc
 }
 
 // How many ranges start at an address or below it.
-fn count_below(order: &[Placed], pc: u64) -> usize
+fn count_below(order: &[RangeStart], pc: u64) -> usize
     requires { IsNonDecreasingBy (λ p. p.start) order.now }
     ensures point { IsPartitionPoint (λ p. p.start ≤ pc) (λ p. pc < p.start) order.now result }
     ensures bound { result ≤ length order.now }
@@ -55,7 +55,7 @@ fn count_below(order: &[Placed], pc: u64) -> usize
 }
 
 // The range that holds an address.
-fn range_of(ranges: &[MapRange], order: &[Placed], pc: u64) -> Option<usize>
+fn range_of(ranges: &[MapRange], order: &[RangeStart], pc: u64) -> Option<usize>
     requires kept { IsMap (map range_text ranges.now) }
     requires ordered { IsOrder (map range_text ranges.now) order.now }
     ensures { IsRangeOf (map range_text ranges.now) pc result }
@@ -82,8 +82,8 @@ fn bucket_of(range: &MapRange, pc: u64) -> usize
     ((pc - range.start) / range.width as u64) as usize
 }
 
-/// The range and the bucket that hold an address, and `None` where it is in no range.
-pub fn place_in(ranges: &[MapRange], order: &[Placed], pc: u64) -> Option<Place>
+/// The range and the bucket that hold an address, and `None` if it is in no range.
+pub fn place_in(ranges: &[MapRange], order: &[RangeStart], pc: u64) -> Option<Place>
     requires kept { IsMap (map range_text ranges.now) }
     requires ordered { IsOrder (map range_text ranges.now) order.now }
     ensures { IsPlaceOf (map range_text ranges.now) pc result }

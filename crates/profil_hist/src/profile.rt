@@ -12,7 +12,7 @@ use crate::range::MapRange;
 use std::alloc::{AllocError, Global};
 use std::fmt::Write;
 
-// Appends the line of a bucket, where it was met.
+// Appends the line of a bucket, if it was met.
 fn push_bucket(text: &mut String, range: &MapRange, i: u32, count: u64) -> Result<(), AllocError>
     requires kept { IsRange (range_text range.now) }
     requires there { i < range.now.buckets }

@@ -5,9 +5,9 @@ ghost use Rattle.csv.specs.Records.{fields_of};
 ghost use Rattle.profil_hist.specs.Lines as Lines;
 ghost use Rattle.profil_hist.specs.Lines.{line_of, row_line};
 ghost use Rattle.table_rows.specs.Texts as Texts;
-ghost use Rattle.profil_hist.specs.declared.limits.TheConstants.{MOST_BUCKETS, MOST_WIDTH};
+ghost use Rattle.profil_hist.specs.declared.limits.TheConstants.{MOST_BUCKETS, MOST_BUCKET_ADDRESSES};
 
-use crate::limits::{MOST_BUCKETS, MOST_WIDTH};
+use crate::limits::{MOST_BUCKET_ADDRESSES, MOST_BUCKETS};
 use table_rows::{ByteRecord, decimal_in, hex_in, is_skipped, name_text, text_at};
 
 /// A row by its kind.
@@ -36,9 +36,9 @@ fn address_in(text: &[u8]) -> Option<u64>
 }
 
 fn width_in(text: &[u8]) -> Option<u32>
-    ensures { result ≡ Texts.decimal_in 1 MOST_WIDTH text.now }
+    ensures { result ≡ Texts.decimal_in 1 MOST_BUCKET_ADDRESSES text.now }
 {
-    match decimal_in(1, MOST_WIDTH as u64, text) {
+    match decimal_in(1, MOST_BUCKET_ADDRESSES as u64, text) {
         Some(n) => Some(n as u32),
         None => None,
     }
@@ -53,7 +53,7 @@ fn buckets_in(text: &[u8]) -> Option<u32>
     }
 }
 
-// Whether a range that starts here and has so many addresses, one or more, ends at 2^64 or below.
+// Whether a range that starts here and has n addresses, one or more, ends at 2^64 or below.
 fn fits(start: u64, width: u32, buckets: u32) -> bool
     ensures { result ≡ Lines.fits start width buckets }
 {

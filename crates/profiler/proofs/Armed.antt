@@ -52,7 +52,7 @@ pub among_replies : (book : Book) (k l : CoreView) (made rest : List Call) (give
 among_replies book k l made rest given r m there a h = subst (λ (rs : List Reply). Contains rs r) (sym (replies_to_append book k.shape a made rest))
     (Contains-append_left (replies_to book k.shape a made) (replies_to book k.shape (account_after book k.shape a made) rest) r (subst (λ (rs : List Reply). Contains rs r) (sym (m.replies a h)) there))
 
--- where each reply has PAPI_OK
+-- if each reply has PAPI_OK
 pub all_done : (replies given : List Reply) → replies ≡ given → AllByRecursion (λ (r : Reply). r.code ≡ code.Ok) given → All (λ (r : Reply). r.code ≡ code.Ok) replies
 all_done replies given e h = subst (All (λ (r : Reply). r.code ≡ code.Ok)) (sym e) (All-from_recursion (λ (r : Reply). r.code ≡ code.Ok) given h)
 

@@ -103,7 +103,7 @@ one_more core core_then to_come to_come_then book a stream entry entry_then o se
               ∙ sym (ap (λ (xs : List ℕ). passings_at xs pc) its ∙ passings_at_append pc (passings book a s.os) (replicate (length passed) o.pc));
         }
 
--- where the stream stops, nothing is left and this is its mark
+-- if the stream stops, nothing is left and this is its mark
 pub at_end : (core : CoreView) (to_come to_come_then : Option Coming) (book : Book) (a : Account) (stream : Coming) (entry : ℕ → Option ℕ) (m : Mark)
     → NextGives to_come (at_mark m) to_come_then → SoFar core to_come book a stream entry
     → ((pc : ℕ) → unwrap_or (entry pc) 0 ≡ passings_at (passings book a stream.rest) pc) × (stream.mark ≡ m)
@@ -131,14 +131,14 @@ in_step_then core core_then reader later o t l s n = record {
   last = ap (option_map (λ (x : Occ). x.stamp)) l ∙ sym n.last;
 }
 
--- how often an address is among so many of one
+-- how often an address is among n of one
 pub passings_at_replicate : (n pc other : ℕ) → passings_at (replicate n pc) other ≡ (if pc == other then n else 0)
 passings_at_replicate zero pc other = grind arith
 passings_at_replicate (suc n) pc other = passings_at_append other (pc ∷ []) (replicate n pc) ∙ grind (arith, passings_at_replicate n pc other)
 
 module _ (m : BTreeMap ℕ ℕ) (es : List (ℕ × ℕ)) (k more : ℕ)
     (up : (q : ℕ) → lookup (is_at (nat_cmp q)) es ≡ (if is_at (nat_cmp k) q then Some (unwrap_or (get nat_cmp m k) 0 + more) else get nat_cmp m q)) where
-  -- the entries after so many more at an address
+  -- the entries after n more at an address
   pub raised : (pc : ℕ) → unwrap_or (lookup (is_at (nat_cmp pc)) es) 0 ≡ unwrap_or (get nat_cmp m pc) 0 + passings_at (replicate more k) pc
   raised pc = grind (arith, up pc, passings_at_replicate more k pc)
 

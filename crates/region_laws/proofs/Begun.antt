@@ -113,7 +113,7 @@ other_depth t n l apart = let other : (l.thread == t) ≡ false = grind (arith, 
 
 -- ---- the open regions
 
--- a region is open that a line of the thread began, and so many are open in it
+-- a region is open that a line of the thread began, and n are open in it
 abbrev IsOpen : List RegionLine → ℕ → ℕ → Open → Type 0
 IsOpen before t n o = (b : RegionLine) × reading_line before o.begun b × (is_begin b.call ≡ true) × (b.thread ≡ t) × (name_of b.call ≡ o.name)
     × (between : List RegionLine) × (before ≡ before_reading before o.begun ++ b ∷ between) × (depth_after t 0 between ≡ Some n)
@@ -122,7 +122,7 @@ IsOpen before t n o = (b : RegionLine) × reading_line before o.begun b × (is_b
 abbrev AreOpen : List RegionLine → ℕ → List Open → Type 0
 AreOpen before t os = (k : ℕ) (o : Open) → slice_get os k ≡ Some o → IsOpen before t (length os - suc k) o
 
--- after a line that leaves so many open in it
+-- after a line that leaves n open in it
 open_grown : (before : List RegionLine) (l : RegionLine) (t n m : ℕ) (o : Open) → depth_after_line t n l ≡ Some m → IsOpen before t n o → IsOpen (before ++ l ∷ []) t m o
 open_grown before l t n m o d h =
     let b : RegionLine = h.0 in
@@ -159,7 +159,7 @@ record Stand (before : List RegionLine) (count : ℕ) (opens : List (List Open))
 abbrev After : List RegionLine → ℕ → List (List Open) → RegionLine → Type 0
 After before count opens l = Stand (before ++ l ∷ []) (after_reading count l) (after_line opens l)
 
--- the open regions after a line, where these are then open in its thread
+-- the open regions after a line, if these are then open in its thread
 kept_after : (before : List RegionLine) (l : RegionLine) (opens : List (List Open)) (os : List Open) → ((t : ℕ) → AreOpen before t (open_of opens t))
     → AreOpen (before ++ l ∷ []) l.thread os → (t : ℕ) → AreOpen (before ++ l ∷ []) t (open_of (slice_set opens l.thread os) t)
 kept_after before l opens os kept new = put (AreOpen (before ++ l ∷ [])) opens l.thread os new (λ u k o e. cc)

@@ -7,7 +7,7 @@ use Rattle.script_lines.specs.Arguments.{one_number}
 use Rattle.script_lines.specs.Answers.{and_then}
 use Rattle.script_lines.specs.Lines.{thread_in}
 use Rattle.script_lines.specs.Words.{words_of}
-use Rattle.region_report.specs.Lines.{Open, begin_call, begun_name, begun_of, by_script, call_of, innermost, innermost_call, innermost_name}
+use Rattle.region_report.specs.Lines.{Open, begin_call, begun_name, begun_of, by_script, innermost, innermost_call, innermost_name, region_call}
 use Rattle.region_report.specs.Lines.{line_of_thread, line_of_words, line_with, one_name, open_of, region_line, run_call}
 use Rattle.region_report.specs.declared.fault.RegionCause.{RegionCause}
 use Rattle.region_report.specs.declared.fault.RegionCause.TheVariants.{OverLimit, UnknownCall, WrongRegion}
@@ -84,7 +84,7 @@ runs readings words called e =
     let read = both_read (by_script (one_number words)) (λ count. Ok (call.Run count, readings)) called e in
     (read.0, readings, (let same : called ≡ (call.Run read.0, readings) = cc read.2 in same))
 
-pub called_is : (readings : ℕ) (opens : List Open) (word : Text) (words : List Text) (called : RegionCall × ℕ) → call_of readings opens word words ≡ Ok called → Called readings opens called
+pub called_is : (readings : ℕ) (opens : List Open) (word : Text) (words : List Text) (called : RegionCall × ℕ) → region_call readings opens word words ≡ Ok called → Called readings opens called
 called_is readings opens word words called e =
     go (one_of (bytes_eq word (codes "begin")) (bytes_eq word (codes "read")) (bytes_eq word (codes "end")) (bytes_eq word (codes "run"))
     (begin_call readings opens words) (innermost_call (λ name. call.Read name) opens words) (innermost_call (λ name. call.End name) opens words)
@@ -106,8 +106,8 @@ IsCalled number readings opens line =
 of_thread : (number readings : ℕ) (opens : List (List Open)) (t : ℕ) (words : List Text) (line : RegionLine) → line_of_thread number readings opens t words ≡ Ok line
     → IsCalled number readings opens line
 of_thread number readings opens t [] line e = cc
-of_thread number readings opens t (word ∷ words) line e = go (call_of readings (open_of opens t) word words) refl e where
-  go : (read : Result (RegionCall × ℕ) RegionCause) → call_of readings (open_of opens t) word words ≡ read → and_then read (λ called. Ok (line_with number t called)) ≡ Ok line
+of_thread number readings opens t (word ∷ words) line e = go (region_call readings (open_of opens t) word words) refl e where
+  go : (read : Result (RegionCall × ℕ) RegionCause) → region_call readings (open_of opens t) word words ≡ read → and_then read (λ called. Ok (line_with number t called)) ≡ Ok line
       → IsCalled number readings opens line
   go (Ok called) q h = (t, called, (let same : line ≡ line_with number t called = cc in same), called_is readings (open_of opens t) word words called q)
   go (Err cause) q h = cc

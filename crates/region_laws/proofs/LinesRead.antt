@@ -26,8 +26,8 @@ use Rattle.session_model.specs.Values.{values_of}
 use Rattle.session_model.specs.World.{Setting, World, account_at, opening_world, told, world_after, world_after_line}
 use Rattle.session_laws.proofs.ByThread.{account_by_thread, opens_by_thread}
 use Rattle.session_laws.proofs.Places.{set_other, set_same}
-use Rattle.region_laws.specs.Positions.{asked_in, position, tape_of}
-use Rattle.region_laws.specs.Readings.{ReadsByPosition, TakesAll, call_line, call_of, opening_script, readings_after, readings_told, reading_at, values_in}
+use Rattle.region_laws.specs.Positions.{asked_in, position, stream_of}
+use Rattle.region_laws.specs.Readings.{ReadsByPosition, TakesAll, call_line, call_on_set, opening_script, readings_after, readings_told, reading_at, values_in}
 use Rattle.region_laws.proofs.Counted.{shown}
 use Rattle.region_laws.proofs.Opened.{counting, counting_set, opened, opening_among, with_events}
 use Rattle.region_laws.proofs.Told.{quiet_openings, told_append}
@@ -35,16 +35,16 @@ use Rattle.region_laws.proofs.Told.{quiet_openings, told_append}
 -- ---- one line of a thread
 
 line_values : (book : Book) (shape : Widths) (t : ℕ) (s : AtRest) (q : ℕ) (tape : List Occ) (mark : Mark) (c : RegionCall)
-    → values_in (step book shape (counting t s q tape mark) (call_of c)).reply.body ≡ (if reads_call c then values_of book (take q tape) (counting_set s) ∷ [] else [])
+    → values_in (step book shape (counting t s q tape mark) (call_on_set c)).reply.body ≡ (if reads_call c then values_of book (take q tape) (counting_set s) ∷ [] else [])
 line_values book shape t s q tape mark (region.Begin name) = refl
 line_values book shape t s q tape mark (region.Read name) = refl
 line_values book shape t s q tape mark (region.End name) = refl
 line_values book shape t s q tape mark (region.Run count) = refl
 
--- the account after a call of a thread that has asked for so many occurrences
+-- the account after a call of a thread that has asked for n occurrences
 abbrev Moved : Book → Widths → ℕ → AtRest → ℕ → List Occ → Mark → RegionCall → Type 0
 Moved book shape t s asked tape mark c = (after : Mark)
-    × ((step book shape (counting t s (min asked (length tape)) tape mark) (call_of c)).account
+    × ((step book shape (counting t s (min asked (length tape)) tape mark) (call_on_set c)).account
     ≡ counting t s (min (asked + count_of c) (length tape)) tape after)
 
 unmoved : (t : ℕ) (s : AtRest) (asked : ℕ) (tape : List Occ) (mark : Mark)
@@ -86,7 +86,7 @@ or_true false = refl
 -- each thread that has lines counts the events, and stands at its position
 record Stands (book : Book) (streams : List Coming) (events : List EventRef) (lines before : List RegionLine) (accounts : List Account) : Type 0 where
   at : (t : ℕ) → t < THREADS → has_lines lines t ≡ true
-      → (mark : Mark) × (slice_get accounts t ≡ Some (counting t (with_events book new_set events) (position (tape_of streams t) t before) (tape_of streams t) mark))
+      → (mark : Mark) × (slice_get accounts t ≡ Some (counting t (with_events book new_set events) (position (stream_of streams t) t before) (stream_of streams t) mark))
 
 found : (accounts : List Account) (t : ℕ) (a : Account) → slice_get accounts t ≡ Some a → account_at accounts t ≡ a
 found accounts t a e = ap (λ o. unwrap_or o (opening t [] Dry)) e
@@ -102,24 +102,24 @@ asked_other u before l e =
 -- the account of a thread counts the events and stands at the position after these lines
 abbrev StandsAt : Book → List Coming → List EventRef → List RegionLine → List Account → ℕ → Type 0
 StandsAt book streams events before accounts t = (mark : Mark)
-    × (slice_get accounts t ≡ Some (counting t (with_events book new_set events) (position (tape_of streams t) t before) (tape_of streams t) mark))
+    × (slice_get accounts t ≡ Some (counting t (with_events book new_set events) (position (stream_of streams t) t before) (stream_of streams t) mark))
 
 -- the accounts after a line of a thread
 abbrev after_line : Setting → List Account → RegionLine → List Account
-after_line at accounts l = slice_set accounts l.thread (step at.book at.shape (account_at accounts l.thread) (call_of l.call)).account
+after_line at accounts l = slice_set accounts l.thread (step at.book at.shape (account_at accounts l.thread) (call_on_set l.call)).account
 
 own_line : (at : Setting) (streams : List Coming) (events : List EventRef) (before : List RegionLine) (accounts : List Account) (l : RegionLine)
     → StandsAt at.book streams events before accounts l.thread → StandsAt at.book streams events (before ++ l ∷ []) (after_line at accounts l) l.thread
 own_line at streams events before accounts l stands =
     let t : ℕ = l.thread in
-    let tape : List Occ = tape_of streams t in
+    let tape : List Occ = stream_of streams t in
     let s : AtRest = with_events at.book new_set events in
     let old : Account = counting t s (position tape t before) tape stands.0 in
     let moved = line_account at.book at.shape t s (asked_in t before) tape stands.0 l.call in
     let same : (t == t) ≡ true = grind (arith, nat_tests) in (
       moved.0,
-      set_same accounts t old (step at.book at.shape (account_at accounts t) (call_of l.call)).account stands.1
-          ∙ ap (λ a. Some (step at.book at.shape a (call_of l.call)).account) (found accounts t old stands.1)
+      set_same accounts t old (step at.book at.shape (account_at accounts t) (call_on_set l.call)).account stands.1
+          ∙ ap (λ a. Some (step at.book at.shape a (call_on_set l.call)).account) (found accounts t old stands.1)
           ∙ ap (λ a. Some a) moved.1
           ∙ ap (λ k. Some (counting t s (min k (length tape)) tape moved.0)) (sym (asked_own t before l same)),
     )
@@ -127,11 +127,11 @@ own_line at streams events before accounts l stands =
 other_line : (at : Setting) (streams : List Coming) (events : List EventRef) (before : List RegionLine) (accounts : List Account) (l : RegionLine) (u : ℕ)
     → (l.thread == u) ≡ false → StandsAt at.book streams events before accounts u → StandsAt at.book streams events (before ++ l ∷ []) (after_line at accounts l) u
 other_line at streams events before accounts l u q stands =
-    let tape : List Occ = tape_of streams u in
+    let tape : List Occ = stream_of streams u in
     let s : AtRest = with_events at.book new_set events in
     let apart : u ≢ l.thread = λ same. grind (arith, nat_tests, q, same) in (
       stands.0,
-      set_other accounts l.thread u (counting u s (position tape u before) tape stands.0) (step at.book at.shape (account_at accounts l.thread) (call_of l.call)).account
+      set_other accounts l.thread u (counting u s (position tape u before) tape stands.0) (step at.book at.shape (account_at accounts l.thread) (call_on_set l.call)).account
           stands.1 apart
           ∙ ap (λ k. Some (counting u s (min k (length tape)) tape stands.0)) (sym (asked_other u before l q)),
     )
@@ -152,13 +152,13 @@ stands_on at streams events lines before accounts l stands =
 -- what a line reads
 line_told : (at : Setting) (streams : List Coming) (events : List EventRef) (before : List RegionLine) (accounts : List Account) (l : RegionLine)
     → StandsAt at.book streams events before accounts l.thread
-    → values_in (step at.book at.shape (account_at accounts l.thread) (call_of l.call)).reply.body ≡ reading_at at.book streams events before l
+    → values_in (step at.book at.shape (account_at accounts l.thread) (call_on_set l.call)).reply.body ≡ reading_at at.book streams events before l
 line_told at streams events before accounts l stands =
     let t : ℕ = l.thread in
-    let tape : List Occ = tape_of streams t in
+    let tape : List Occ = stream_of streams t in
     let s : AtRest = with_events at.book new_set events in
     let q : ℕ = position tape t before in
-    ap (λ a. values_in (step at.book at.shape a (call_of l.call)).reply.body) (found accounts t (counting t s q tape stands.0) stands.1)
+    ap (λ a. values_in (step at.book at.shape a (call_on_set l.call)).reply.body) (found accounts t (counting t s q tape stands.0) stands.1)
     ∙ line_values at.book at.shape t s q tape stands.0 l.call
     ∙ ap (λ vs. if reads_call l.call then vs ∷ [] else []) (shown at.book tape q events)
 

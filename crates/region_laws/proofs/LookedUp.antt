@@ -18,13 +18,13 @@ use Rattle.session_model.specs.declared.call.Call.TheVariants as call
 use Rattle.session_model.specs.declared.line.Asked.{Asked}
 use Rattle.session_model.specs.declared.line.Asked.TheVariants as asked
 use Rattle.session_model.specs.declared.line.Line.{Line}
-use Rattle.region_laws.specs.Readings.{call_line, call_of, line_of, opening_calls, opening_lines}
+use Rattle.region_laws.specs.Readings.{call_line, call_on_set, line_of, opening_calls, opening_lines}
 use Rattle.region_laws.specs.Scripts.{LooksUp, ScriptIsLookedUp, line_by}
 
-abbrev asked_line : (ScriptCall → Asked) → calls.Asked → Line
+abbrev asked_line : (ScriptCall → Asked) → calls.ThreadCall → Line
 asked_line ask a = record { thread = a.thread; asked = ask a.call }
 
-unnumbered : (ask : ScriptCall → Asked) (number : ℕ) (xs : List calls.Asked) → map (line_by ask) (calls.numbered number xs) ≡ map (asked_line ask) xs
+unnumbered : (ask : ScriptCall → Asked) (number : ℕ) (xs : List calls.ThreadCall) → map (line_by ask) (calls.numbered number xs) ≡ map (asked_line ask) xs
 unnumbered ask number [] = refl
 unnumbered ask number (x ∷ xs) = ap (λ ls. asked_line ask x ∷ ls) (unnumbered ask (number + 1) xs)
 
@@ -68,7 +68,7 @@ openings ask lines texts events h (t ∷ ts) =
     map-append (asked_line ask) (calls.asked_first lines texts t) (flat_map (calls.asked_first lines texts) ts)
     ∙ ap₂ (λ xs ys. xs ++ ys) (thread_opening ask texts events h t (has_lines lines t)) (openings ask lines texts events h ts)
 
-one_call : (ask : ScriptCall → Asked) (texts : List Text) (events : List EventRef) → LooksUp ask texts events → (c : RegionCall) → ask (calls.call_for c) ≡ asked.Call (call_of c)
+one_call : (ask : ScriptCall → Asked) (texts : List Text) (events : List EventRef) → LooksUp ask texts events → (c : RegionCall) → ask (calls.call_for c) ≡ asked.Call (call_on_set c)
 one_call ask texts events h (region.Begin name) = h.read
 one_call ask texts events h (region.Read name) = h.read
 one_call ask texts events h (region.End name) = h.read

@@ -24,7 +24,7 @@ use Rattle.session_model.specs.Account.{Account, Kept, opening}
 use Rattle.session_model.specs.Faces.{component_runs, faces_of, runs_on}
 use Rattle.session_model.specs.Refusals.{conflict_row, first_of, has_events, row}
 use Rattle.session_model.specs.Step.{account_after, account_refusal, performed, step, unless}
-use Rattle.session_model.specs.World.{call_of, calls_at}
+use Rattle.session_model.specs.World.{calls_asked, calls_at}
 use Rattle.region_laws.specs.Readings.{TakesAll, line_of, opening_calls, opening_lines}
 
 -- ---- which calls of the openings are a thread's
@@ -32,8 +32,8 @@ use Rattle.region_laws.specs.Readings.{TakesAll, line_of, opening_calls, opening
 pub calls_append : (t : ℕ) (xs ys : List Line) → calls_at t (xs ++ ys) ≡ calls_at t xs ++ calls_at t ys
 calls_append t [] ys = refl
 calls_append t (x ∷ xs) ys =
-    ap (λ cs. (if x.thread == t then call_of x.asked else []) ++ cs) (calls_append t xs ys)
-    ∙ sym (append_assoc (if x.thread == t then call_of x.asked else []) (calls_at t xs) (calls_at t ys))
+    ap (λ cs. (if x.thread == t then calls_asked x.asked else []) ++ cs) (calls_append t xs ys)
+    ∙ sym (append_assoc (if x.thread == t then calls_asked x.asked else []) (calls_at t xs) (calls_at t ys))
 
 own_calls : (t : ℕ) (b : Bool) → b ≡ true → (cs : List Call) (c : Call) → (if b then c ∷ [] else []) ++ cs ≡ c ∷ cs
 own_calls t true e cs c = refl
@@ -107,7 +107,7 @@ holding t s rest mark = record { thread = t; registered = false; sets = Some (ke
 abbrev pub counting_set : AtRest → Kept
 counting_set s = record { set = s; running = true; from = 0; to = 0; values = replicate (length s.events) (pos 0) }
 
--- the account of a thread that has only such a set and has consumed so many of these occurrences
+-- the account of a thread that has only such a set and has consumed n of these occurrences
 abbrev pub counting : ℕ → AtRest → ℕ → List Occ → Mark → Account
 counting t s q tape mark =
     record { thread = t; registered = false; sets = Some (counting_set s) ∷ replicate 63 None; past = take q tape; rest = drop q tape; mark = mark }

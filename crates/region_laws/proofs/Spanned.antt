@@ -11,7 +11,7 @@ use Rattle.region_report.specs.Lines.{is_reading}
 use Rattle.region_report.specs.Spans.{difference, span, spans_from}
 use Rattle.region_report.specs.declared.regions.RegionLine.{RegionLine}
 use Rattle.region_laws.specs.Nesting.{AreBegun, IsBegun, before_reading}
-use Rattle.region_laws.specs.Positions.{asked_in, position, tape_of}
+use Rattle.region_laws.specs.Positions.{asked_in, position, stream_of}
 use Rattle.region_laws.specs.Readings.{reading_after, readings_after}
 use Rattle.region_laws.specs.Spans.{AllFit, SpansByPosition, region_span, spans_after}
 use Rattle.region_laws.proofs.Differences.{values_difference}
@@ -32,7 +32,7 @@ span_at book streams events before ys l fit reads begun =
     let lines : List RegionLine = before ++ l ∷ ys in
     let all : List (List ℤ) = readings_after book streams events [] lines in
     let t : ℕ = l.thread in
-    let tape : List Occ = tape_of streams t in
+    let tape : List Occ = stream_of streams t in
     let earlier : List RegionLine = before_reading lines l.begun in
     let now : slice_index_or all (readings before) [] ≡ reading_after book streams events t before =
     reading_of_number book streams events lines [] (readings before) l (own_number before l ys reads)

@@ -13,7 +13,7 @@ use Rattle.session_model.specs.declared.call.Call.{Call}
 use Rattle.session_model.specs.declared.call.Call.TheVariants as call
 use Rattle.session_model.specs.declared.line.Line.{Line}
 use Rattle.session_model.specs.Account.{Account}
-use Rattle.session_model.specs.Step.{Outcome, account_refusal, performed, step, unless}
+use Rattle.session_model.specs.Step.{StepOutcome, account_refusal, performed, step, unless}
 use Rattle.session_model.specs.World.{Setting, World, account_at, told, turn_of, world_after, world_after_line}
 use Rattle.region_laws.specs.Readings.{line_of, opening_calls, opening_lines, readings_told, values_in}
 
@@ -36,7 +36,7 @@ abbrev AreQuiet : List Call → Type 0
 AreQuiet [] = ⊤
 AreQuiet (c ∷ cs) = IsQuiet c × AreQuiet cs
 
-quiet_unless : (o : Option Refusal) (a : Account) (made : Outcome) → values_in made.reply.body ≡ [] → values_in (unless o a made).reply.body ≡ []
+quiet_unless : (o : Option Refusal) (a : Account) (made : StepOutcome) → values_in made.reply.body ≡ [] → values_in (unless o a made).reply.body ≡ []
 quiet_unless None a made e = e
 quiet_unless (Some (Plain c)) a made e = refl
 quiet_unless (Some (Conflict clash)) a made e = refl

@@ -1,4 +1,4 @@
--- Counts over a region script stay below 2^63: a script has so many lines, a line asks for so many occurrences, and an amount has 8 bits.
+-- Counts over a region script stay below 2^63: the lines of a script and the occurrences that a line asks for have limits, and an amount has 8 bits.
 use Rattle.std.specs.Prelude.{ℕ, ◌≡◌, ◌≤◌, pos, List, ◌++◌, All}
 use Rattle.papi_base.specs.declared.native.EventRef.TheVariants as event
 use Rattle.papi_base.specs.declared.native.Native.{Native}

@@ -20,7 +20,7 @@ before_reading (line ∷ lines) (suc i) = line ∷ before_reading lines (if is_r
 
 -- ---- nesting
 
--- how many regions are open after a call, where so many were before it; no region ends where none is open
+-- how many regions are open after a call, if n were before it; no region ends if none is open
 abbrev pub depth_with : ℕ → RegionCall → Option ℕ
 depth_with n (call.Begin name) = Some (suc n)
 depth_with n (call.Read name) = Some n

@@ -15,8 +15,8 @@ use Rattle.region_report.specs.declared.regions.RegionLine.{RegionLine}
 use Rattle.session_model.specs.Counts.{along}
 
 -- the occurrences of a thread's stream up to its end, however it ends; a thread without a stream has none
-abbrev pub tape_of : List Coming → ℕ → List Occ
-tape_of streams thread = (slice_index_or streams thread (record { rest = []; mark = Dry })).rest
+abbrev pub stream_of : List Coming → ℕ → List Occ
+stream_of streams thread = (slice_index_or streams thread (record { rest = []; mark = Dry })).rest
 
 -- ---- positions
 
@@ -31,7 +31,7 @@ position tape thread before = min (asked_in thread before) (length tape)
 
 -- ---- counts
 
--- what each occurrence adds to a native event, where all are counted from the first one on
+-- what each occurrence adds to a native event, if all are counted from the first one on
 abbrev pub weights : List Occ → Native → List ℕ
 weights tape native = along (weight_of native new_set.domain) None tape
 

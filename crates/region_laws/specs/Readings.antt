@@ -12,7 +12,7 @@ use Rattle.region_report.specs.Lines.{is_reading}
 use Rattle.region_report.specs.declared.regions.RegionCall.{RegionCall}
 use Rattle.region_report.specs.declared.regions.RegionCall.TheVariants as region
 use Rattle.region_report.specs.declared.regions.RegionLine.{RegionLine}
-use Rattle.session_model.specs.World.{Setting, Told, opening_world, told}
+use Rattle.session_model.specs.World.{LineTold, Setting, opening_world, told}
 use Rattle.session_model.specs.declared.call.Call.{Call}
 use Rattle.session_model.specs.declared.call.Call.TheVariants as call
 use Rattle.session_model.specs.declared.line.Asked.TheVariants as asked
@@ -20,7 +20,7 @@ use Rattle.session_model.specs.declared.line.Line.{Line}
 use Rattle.session_model.specs.declared.reply.Body.{Body}
 use Rattle.session_model.specs.declared.reply.Body.TheVariants as body
 use Rattle.session_model.specs.declared.reply.Reply.{Reply}
-use Rattle.region_laws.specs.Positions.{position, tape_of, value_at}
+use Rattle.region_laws.specs.Positions.{position, stream_of, value_at}
 
 -- ---- the script of calls
 
@@ -37,15 +37,15 @@ abbrev pub opening_lines : List RegionLine → List EventRef → ℕ → List Li
 opening_lines lines events thread = if has_lines lines thread then map (line_of thread) (opening_calls events) else []
 
 -- a line that begins, reads or ends a region reads the set
-abbrev pub call_of : RegionCall → Call
-call_of (region.Begin name) = call.Read 0
-call_of (region.Read name) = call.Read 0
-call_of (region.End name) = call.Read 0
-call_of (region.Run count) = call.Run count
+abbrev pub call_on_set : RegionCall → Call
+call_on_set (region.Begin name) = call.Read 0
+call_on_set (region.Read name) = call.Read 0
+call_on_set (region.End name) = call.Read 0
+call_on_set (region.Run count) = call.Run count
 
 -- the line of calls that a line of a region script becomes
 abbrev pub call_line : RegionLine → Line
-call_line line = line_of line.thread (call_of line.call)
+call_line line = line_of line.thread (call_on_set line.call)
 
 -- the lines by which all threads that have lines begin to count, from thread 0 on
 abbrev pub opening_script : List RegionLine → List EventRef → List Line
@@ -67,7 +67,7 @@ abbrev pub readings_in : List Reply → List (List ℤ)
 readings_in replies = flat_map (λ r. values_in r.body) replies
 
 -- the readings that a whole script gave, in its order
-abbrev pub readings_told : List Told → List (List ℤ)
+abbrev pub readings_told : List LineTold → List (List ℤ)
 readings_told xs = readings_in (map (λ x. x.reply) xs)
 
 -- ---- the same by positions
@@ -75,13 +75,13 @@ readings_told xs = readings_in (map (λ x. x.reply) xs)
 -- the values of the events from the first occurrence up to the position of a thread after some lines
 abbrev pub reading_after : Book → List Coming → List EventRef → ℕ → List RegionLine → List ℤ
 reading_after book streams events thread before =
-    map (value_at book (tape_of streams thread) (position (tape_of streams thread) thread before)) events
+    map (value_at book (stream_of streams thread) (position (stream_of streams thread) thread before)) events
 
--- the reading of one line by positions, as a list of one, or of none where it is a `run`
+-- the reading of one line by positions, as a list of one, or of none if it is a `run`
 abbrev pub reading_at : Book → List Coming → List EventRef → List RegionLine → RegionLine → List (List ℤ)
 reading_at book streams events before line = if is_reading line then reading_after book streams events line.thread before ∷ [] else []
 
--- one for each line that reads the counters, where other lines stand before these
+-- one for each line that reads the counters, if other lines stand before these
 abbrev pub readings_after : Book → List Coming → List EventRef → List RegionLine → List RegionLine → List (List ℤ)
 readings_after book streams events before [] = []
 readings_after book streams events before (line ∷ lines) =
@@ -94,7 +94,7 @@ abbrev pub TakesAll : Book → AtRest → List EventRef → Type 0
 TakesAll book s [] = ⊤
 TakesAll book s (e ∷ events) = (add_refusal book e s ≡ None) × TakesAll book (with_event book e s) events
 
--- Where a new set takes the events, each reading of the script shows the values of the events from the first occurrence of its thread up
+-- If a new set takes the events, each reading of the script shows the values of the events from the first occurrence of its thread up
 -- to the position of its line.
 abbrev pub ReadsByPosition : Type 0
 ReadsByPosition = (at : Setting) (streams : List Coming) (lines : List RegionLine) (events : List EventRef)

@@ -75,6 +75,6 @@ two_streams = streams ++ record { rest = occ 0x3c 2 0 ∷ []; mark = Dry } ∷ [
 abbrev pub two_threads : List RegionLine
 two_threads = lines ++ line_of 1 12 (Begin (codes "a")) 7 ∷ line_of 1 13 (Run 5) 8 ∷ line_of 1 14 (End (codes "a")) 7 ∷ []
 
--- a derived event falls below 0 where more cycles than instructions are counted; a second thread has lines of its own
+-- a derived event falls below 0 if more cycles than instructions are counted; a second thread has lines of its own
 abbrev pub DerivedRows : Type 0
 DerivedRows = report_text 1 (region_spans spare two_streams (event.Preset 0 ∷ []) two_threads) ≡ codes "5 0 inner -10\n0 outer 1 -4\n0 inner 2 -7\n1 a 1 -2\n"

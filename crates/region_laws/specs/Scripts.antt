@@ -20,7 +20,7 @@ use Rattle.session_model.specs.declared.line.Line.{Line}
 use Rattle.region_laws.specs.Readings.{TakesAll, readings_told, script_of}
 use Rattle.region_laws.specs.Spans.{AllFit, region_spans}
 
--- a line of a script, where this is what its call asks for
+-- a line of a script, if this is what its call asks for
 abbrev pub line_by : (ScriptCall → Asked) → ScriptLine → Line
 line_by ask l = record { thread = l.thread; asked = ask l.call }
 
@@ -37,7 +37,7 @@ abbrev pub ScriptIsLookedUp : Type 0
 ScriptIsLookedUp = (ask : ScriptCall → Asked) (lines : List RegionLine) (texts : List Text) (events : List EventRef) → LooksUp ask texts events
     → map (line_by ask) (calls.numbered 1 (calls.asked lines texts)) ≡ script_of lines events
 
--- The differences of what is read by the calls of a region script are what its regions count by positions, where a new set takes the
+-- The differences of what is read by the calls of a region script are what its regions count by positions, if a new set takes the
 -- events and the readings are of signed 64 bits.
 abbrev pub CountsByPosition : Type 0
 CountsByPosition = (at : Setting) (ask : ScriptCall → Asked) (streams : List Coming) (bytes : List ℕ) (lines : List RegionLine) (texts : List Text)

@@ -13,10 +13,10 @@ use Rattle.region_report.specs.Spans.{Span, spans_from}
 use Rattle.region_report.specs.declared.regions.RegionLine.{RegionLine}
 use Rattle.session_model.specs.World.{Setting, opening_world, told}
 use Rattle.region_laws.specs.Nesting.{AreBegun, before_reading}
-use Rattle.region_laws.specs.Positions.{position, tape_of, value_between}
+use Rattle.region_laws.specs.Positions.{position, stream_of, value_between}
 use Rattle.region_laws.specs.Readings.{TakesAll, readings_told, script_of}
 
--- What a line shows of its region, where these lines stand before it: the value of each event from the position of the region's begin to
+-- What a line shows of its region, if these lines stand before it: the value of each event from the position of the region's begin to
 -- the position of the line.
 abbrev pub region_values : Book → List Occ → List EventRef → List RegionLine → List RegionLine → RegionLine → List ℤ
 region_values book tape events lines before line =
@@ -25,9 +25,9 @@ region_values book tape events lines before line =
 -- a line with what it shows of its region: the line of the report is written from it
 abbrev pub region_span : Book → List Coming → List EventRef → List RegionLine → List RegionLine → RegionLine → Span
 region_span book streams events lines before line =
-    record { line = line; values = region_values book (tape_of streams line.thread) events lines before line }
+    record { line = line; values = region_values book (stream_of streams line.thread) events lines before line }
 
--- the span of one line, as a list of one, or of none where it is a `run`
+-- the span of one line, as a list of one, or of none if it is a `run`
 abbrev pub spans_at : Book → List Coming → List EventRef → List RegionLine → List RegionLine → RegionLine → List Span
 spans_at book streams events lines before line =
     if is_reading line then region_span book streams events lines before line ∷ [] else []
@@ -48,7 +48,7 @@ region_spans book streams events lines = spans_after book streams events lines [
 abbrev pub AllFit : List (List ℤ) → Type 0
 AllFit readings = All (λ values. All (FitsSigned w64) values) readings
 
--- Where a new set takes the events and the readings of the script are of signed 64 bits, the differences of the readings are the values
+-- If a new set takes the events and the readings of the script are of signed 64 bits, the differences of the readings are the values
 -- between the positions.
 abbrev pub SpansByPosition : Type 0
 SpansByPosition = (at : Setting) (streams : List Coming) (lines : List RegionLine) (events : List EventRef)

@@ -65,7 +65,7 @@ not_reading readings i line lines e = rw e refl
 at_item : (lines : List RegionLine) (k : ℕ) (line : RegionLine) → k < length lines → line ≡ get_or lines k line → drop k lines ≡ line ∷ drop (k + 1) lines
 at_item lines k line small is = drop_more lines k line small ∙ ap (λ l. l ∷ drop (k + 1) lines) (sym is)
 
--- the span of one line more, where it reads the counters
+-- the span of one line more, if it reads the counters
 pub span_on : (readings : List (List ℤ)) (lines : List RegionLine) (k n m : ℕ) (line : RegionLine) (now next all : List Span) → k < length lines → line ≡ get_or lines k line → n ≡ length now → m ≡ length next →
     next ≡ now ++ spans_at readings n line → now ++ spans_from readings n (drop k lines) ≡ all → next ++ spans_from readings m (drop (k + 1) lines) ≡ all
 span_on readings lines k n m line now next all small is long long' step so_far = go (is_reading line) refl

@@ -20,7 +20,7 @@ use Rattle.script_lines.specs.Words.{words_of}
 use Rattle.script_lines.proofs.Reading.{no_more, said}
 use Rattle.script_lines.proofs.Splits.{is_plain, no-words, word-ends}
 use Rattle.region_report.specs.Calls.{call_text}
-use Rattle.region_report.specs.CallLines.{Asked, is_event, is_event_character, numbered}
+use Rattle.region_report.specs.CallLines.{ThreadCall, is_event, is_event_character, numbered}
 
 pub and_parts : (a b : Bool) → (a && b) ≡ true → (a ≡ true) × (b ≡ true)
 and_parts true true e = (refl, refl)
@@ -75,13 +75,13 @@ written P create add start read run (script.Raw set counter) h = absurd h
 written P create add start read run (script.Code event) h = absurd h
 written P create add start read run (script.Name code) h = absurd h
 
-abbrev pub AreWritten : List Asked → Type 0
+abbrev pub AreWritten : List ThreadCall → Type 0
 AreWritten as' = AllByRecursion (λ a. (a.thread < 64) × IsWritten a.call) as'
 
-abbrev pub line_for : Asked → Text
+abbrev pub line_for : ThreadCall → Text
 line_for a = decimal a.thread ++ (codes " " ++ words_for a.call)
 
-abbrev pub text_for : Asked → Text
+abbrev pub text_for : ThreadCall → Text
 text_for a = call_text a.thread (words_for a.call)
 
 -- ---- words
@@ -156,7 +156,7 @@ first_of_numeral (b ∷ t) rest h some =
     let other : (b == 35) ≡ false = grind (arith, tests, h.0) in
     rw (filled, other) refl
 
-not_skipped : (a : Asked) → a.thread < 64 → is_skipped (line_for a) ≡ false
+not_skipped : (a : ThreadCall) → a.thread < 64 → is_skipped (line_for a) ≡ false
 not_skipped a small = first_of_numeral (decimal a.thread) (codes " " ++ words_for a.call) (decimal-digits a.thread (omega (arith, small))) (decimal_nonempty a.thread (omega (arith, small)))
 
 -- the words after the thread
@@ -214,18 +214,18 @@ by_words : (number thread : ℕ) (words : List Text) (c : ScriptCall) → Gives 
 by_words number thread [] c h e = absurd h
 by_words number thread (word ∷ arguments) c h e = rw (e, h) refl
 
-line_words : (a : Asked) → a.thread < 64 → IsWritten a.call → words_of (line_for a) ≡ decimal a.thread ∷ later_words a.call
+line_words : (a : ThreadCall) → a.thread < 64 → IsWritten a.call → words_of (line_for a) ≡ decimal a.thread ∷ later_words a.call
 line_words a small h =
     word_then (decimal a.thread) (words_for a.call) (decimal_nonempty a.thread (omega (arith, small))) (numeral_word a.thread (omega (arith, small)))
     ∙ ap (λ ws. decimal a.thread ∷ ws) (words_later a.call h)
 
-line_read : (number above : ℕ) (a : Asked) → above < 100000 → a.thread < 64 → IsWritten a.call → call_line number above (line_for a) ≡ Ok (line_with number a.thread a.call)
+line_read : (number above : ℕ) (a : ThreadCall) → above < 100000 → a.thread < 64 → IsWritten a.call → call_line number above (line_for a) ≡ Ok (line_with number a.thread a.call)
 unfolding call_line
 line_read number above a few small h =
     let room : nat_le 100000 above ≡ false = grind (arith, tests, few) in
     rw (room, line_words a small h) (by_words number a.thread (later_words a.call) a.call (call_read number a.thread a.call h) (thread_read a.thread small))
 
-pub lines_read : (number above : ℕ) (as' : List Asked) → AreWritten as' → above + length as' ≤ 100000 → lines_from scripts number above (map line_for as') ≡ Ok (numbered number as')
+pub lines_read : (number above : ℕ) (as' : List ThreadCall) → AreWritten as' → above + length as' ≤ 100000 → lines_from scripts number above (map line_for as') ≡ Ok (numbered number as')
 lines_read number above [] h few = no_more scripts number above
 lines_read number above (a ∷ as') h few =
     said scripts number above (line_for a) (map line_for as') (not_skipped a h.0.0)

@@ -19,7 +19,7 @@ use Rattle.script_lines.specs.ByLine.{lines_from}
 use Rattle.script_lines.specs.Scripts.{script_of, scripts}
 use Rattle.script_lines.proofs.LineCuts.{lines-cut}
 use Rattle.region_report.specs.Calls.{call_text, has_lines, line_text, opening, script_text, thread_opening, words_of_call}
-use Rattle.region_report.specs.CallLines.{AreEvents, Asked, IsRead, asked, asked_at, asked_first, asks, call_for, is_event}
+use Rattle.region_report.specs.CallLines.{AreEvents, ReadsAsCalls, ThreadCall, asked, asked_at, asked_first, asks, call_for, is_event}
 use Rattle.region_report.specs.CallLines.{is_event_character, opening_calls}
 use Rattle.region_report.specs.Kept.{IsRegions, count_of}
 use Rattle.region_report.specs.declared.regions.RegionCall.{RegionCall}
@@ -62,7 +62,7 @@ inside_words = written (λ c. AreInside (words_for c)) (known (codes "create") r
   run : (count : ℕ) → count < 2 ^ 32 → AreInside (codes "run " ++ decimal count)
   run count h = inside-append (codes "run ") (decimal count) (known (codes "run ") refl) (inside_digits (decimal count) (decimal-digits count (omega (arith, h))))
 
-inside_line : (a : Asked) → a.thread < 64 → IsWritten a.call → AreInside (line_for a)
+inside_line : (a : ThreadCall) → a.thread < 64 → IsWritten a.call → AreInside (line_for a)
 inside_line a small h =
     inside-append (decimal a.thread) (codes " " ++ words_for a.call) (inside_digits (decimal a.thread) (decimal-digits a.thread (omega (arith, small))))
     (inside-append (codes " ") (words_for a.call) (known (codes " ") refl) (inside_words a.call h))
@@ -101,13 +101,13 @@ line_cut l rest h =
     lines-cut (l ++ 10 ∷ rest) (length l) (at_newline l rest h)
     ∙ ap₂ (λ t (u : Text). t ∷ lines u) (ap strip_carriage_return (front_of l (10 ∷ rest)) ∙ return_kept l h) (back_of l rest 10)
 
-text_line : (a : Asked) (rest : Text) → text_for a ++ rest ≡ line_for a ++ 10 ∷ rest
+text_line : (a : ThreadCall) (rest : Text) → text_for a ++ rest ≡ line_for a ++ 10 ∷ rest
 text_line a rest =
     append_assoc (decimal a.thread) (codes " " ++ (words_for a.call ++ codes "\n")) rest
     ∙ ap (λ (t : Text). decimal a.thread ++ (32 ∷ t)) (append_assoc (words_for a.call) (codes "\n") rest)
     ∙ sym (append_assoc (decimal a.thread) (codes " " ++ words_for a.call) (10 ∷ rest))
 
-lines_of_text : (as' : List Asked) → AreWritten as' → lines (flat_map text_for as') ≡ map line_for as'
+lines_of_text : (as' : List ThreadCall) → AreWritten as' → lines (flat_map text_for as') ≡ map line_for as'
 lines_of_text [] h = refl
 lines_of_text (a ∷ as') h =
     ap lines (text_line a (flat_map text_for as')) ∙ line_cut (line_for a) (flat_map text_for as') (inside_line a h.0.0 h.0.1)
@@ -153,7 +153,7 @@ script_text_is ls events =
 
 -- ---- what is asked
 
-written-append : (xs ys : List Asked) → AreWritten xs → AreWritten ys → AreWritten (xs ++ ys)
+written-append : (xs ys : List ThreadCall) → AreWritten xs → AreWritten ys → AreWritten (xs ++ ys)
 written-append [] ys h k = k
 written-append (x ∷ xs) ys h k = (h.0, written-append xs ys h.1 k)
 
@@ -212,7 +212,7 @@ asked_few ls events r e =
     omega (arith, length-append (flat_map (asked_first ls events) (range_with_len 0 64)) (map asked_at ls), all_few ls events 0 64 e.few, length-map ls asked_at, r.few)
 
 -- the script is read as its calls
-pub is_read : (ls : List RegionLine) (events : List Text) → IsRegions ls → IsRead ls events
+pub is_read : (ls : List RegionLine) (events : List Text) → IsRegions ls → ReadsAsCalls ls events
 unfolding script_of
 is_read ls events r e =
     ap (λ (t : Text). lines_from scripts 1 0 (lines t)) (script_text_is ls events) ∙ ap (lines_from scripts 1 0) (lines_of_text (asked ls events) (asked_written ls events r e))

@@ -130,7 +130,7 @@ ends_here thread s name b e = go (s.line.thread == thread) (is_end s.line.call) 
     go true q h = ap (λ c. c && bytes_eq (name_of s.line.call) name) h
     go false q h = ap (λ c. c && bytes_eq (name_of s.line.call) name) h
 
--- where no instance of these regions ends
+-- if no instance of these regions ends
 same_totals : (events thread : ℕ) (spans : List Span) (s : Span) (names : List Text) → list_any (λ name. ends thread name s) names ≡ false →
     map (total_of events thread (spans ++ s ∷ [])) names ≡ map (total_of events thread spans) names
 same_totals events thread spans s [] h = refl

@@ -33,12 +33,12 @@ pub record AreEvents (events : List Text) : Type 0 where
 -- ---- the calls
 
 -- a call of a thread
-pub record Asked : Type 0 where
+pub record ThreadCall : Type 0 where
   pub thread : ℕ
   pub call : ScriptCall
 
 -- a thread asks for a call
-abbrev pub asks : ℕ → ScriptCall → Asked
+abbrev pub asks : ℕ → ScriptCall → ThreadCall
 asks thread call = record { thread = thread; call = call }
 
 -- a set of the events, which counts from then on
@@ -53,22 +53,22 @@ call_for (call.End name) = script.Read 0
 call_for (call.Run count) = script.Run count
 
 -- what a line of a region script asks for, by the same thread
-abbrev pub asked_at : RegionLine → Asked
+abbrev pub asked_at : RegionLine → ThreadCall
 asked_at line = asks line.thread (call_for line.call)
 
--- what a thread that has lines asks for before the first of them, and nothing where it has none
-abbrev pub asked_first : List RegionLine → List Text → ℕ → List Asked
+-- what a thread that has lines asks for before the first of them, and nothing if it has none
+abbrev pub asked_first : List RegionLine → List Text → ℕ → List ThreadCall
 asked_first lines events thread = if has_lines lines thread then map (asks thread) (opening_calls events) else []
 
 -- a set for each thread that has lines, and then a call for each line
-unfoldable pub asked : List RegionLine → List Text → List Asked
+unfoldable pub asked : List RegionLine → List Text → List ThreadCall
 asked lines events = flat_map (asked_first lines events) (range_with_len 0 THREADS) ++ map asked_at lines
 
 -- each on a line of its own, of which the first has this number
-abbrev pub numbered : ℕ → List Asked → List ScriptLine
+abbrev pub numbered : ℕ → List ThreadCall → List ScriptLine
 numbered number [] = []
 numbered number (a ∷ more) = record { line = number; thread = a.thread; call = a.call } ∷ numbered (number + 1) more
 
 -- The script of calls that a region script stands for has no fault, and these are its calls.
-abbrev pub IsRead : List RegionLine → List Text → Type 0
-IsRead lines events = AreEvents events → script_of (script_text lines events) ≡ Ok (numbered 1 (asked lines events))
+abbrev pub ReadsAsCalls : List RegionLine → List Text → Type 0
+ReadsAsCalls lines events = AreEvents events → script_of (script_text lines events) ≡ Ok (numbered 1 (asked lines events))

@@ -34,7 +34,7 @@ line_text line = call_text line.thread (words_of_call line.call)
 abbrev pub has_lines : List RegionLine → ℕ → Bool
 has_lines lines thread = list_any (λ l. l.thread == thread) lines
 
--- the lines by which a thread begins to count, where it has lines
+-- the lines by which a thread begins to count, if it has lines
 abbrev pub thread_opening : List RegionLine → List Text → ℕ → Text
 thread_opening lines events thread = if has_lines lines thread then opening events thread else []
 

@@ -14,7 +14,7 @@ use Rattle.region_report.specs.declared.fault.RegionCause.TheVariants.{BadArgume
 use Rattle.region_report.specs.declared.regions.RegionCall.{RegionCall}
 use Rattle.region_report.specs.declared.regions.RegionCall.TheVariants as call
 use Rattle.region_report.specs.declared.regions.RegionLine.{RegionLine}
-use Rattle.region_report.specs.declared.regions.TheConstants.{MOST_LINES, MOST_OPEN}
+use Rattle.region_report.specs.declared.regions.TheConstants.{MOST_LINES, MOST_OPEN_REGIONS}
 
 -- ---- the regions that are open
 
@@ -76,7 +76,7 @@ begun_of (Some opens) name = if bytes_eq opens.name name then Ok opens.begun els
 
 -- the name that begins a region of a thread that has not too many regions open
 abbrev pub begun_name : List Open → List Text → Result Text RegionCause
-begun_name opens arguments = if nat_le MOST_OPEN (length opens) then Err OverLimit else one_name arguments
+begun_name opens arguments = if nat_le MOST_OPEN_REGIONS (length opens) then Err OverLimit else one_name arguments
 
 -- the name that the innermost open region must have, and the reading at which that began
 abbrev pub innermost_name : Option Open → List Text → Result (Text × ℕ) RegionCause
@@ -84,7 +84,7 @@ innermost_name opens arguments = and_then (one_name arguments) (λ name. and_the
 
 -- ---- the calls of a thread with these open regions, each with the reading at which its region begins or began
 
--- `begin NAME`: PAPI_hl_region_begin(3), where its thread has not too many regions open
+-- `begin NAME`: PAPI_hl_region_begin(3), if its thread has not too many regions open
 abbrev pub begin_call : ℕ → List Open → List Text → Result (RegionCall × ℕ) RegionCause
 begin_call readings opens arguments = and_then (begun_name opens arguments) (λ name. Ok (call.Begin name, readings))
 
@@ -92,13 +92,13 @@ begin_call readings opens arguments = and_then (begun_name opens arguments) (λ 
 abbrev pub innermost_call : (Text → RegionCall) → List Open → List Text → Result (RegionCall × ℕ) RegionCause
 innermost_call make opens arguments = and_then (innermost_name (innermost opens) arguments) (λ named. Ok (make named.0, named.1))
 
--- `run COUNT`: the thread runs on by so many occurrences, as in a script of calls
+-- `run COUNT`: the thread runs on by n occurrences, as in a script of calls
 abbrev pub run_call : ℕ → List Text → Result (RegionCall × ℕ) RegionCause
 run_call readings arguments = and_then (by_script (one_number arguments)) (λ count. Ok (call.Run count, readings))
 
 -- the call of a line by the word after its thread
-abbrev pub call_of : ℕ → List Open → Text → List Text → Result (RegionCall × ℕ) RegionCause
-call_of readings opens word arguments =
+abbrev pub region_call : ℕ → List Open → Text → List Text → Result (RegionCall × ℕ) RegionCause
+region_call readings opens word arguments =
     if bytes_eq word (codes "begin") then begin_call readings opens arguments
     else if bytes_eq word (codes "read") then innermost_call (λ name. call.Read name) opens arguments
     else if bytes_eq word (codes "end") then innermost_call (λ name. call.End name) opens arguments
@@ -115,7 +115,7 @@ line_with number thread called = record { line = number; thread = thread; call =
 abbrev pub line_of_thread : ℕ → ℕ → List (List Open) → ℕ → List Text → Result RegionLine RegionCause
 line_of_thread number readings opens thread [] = Err UnknownCall
 line_of_thread number readings opens thread (word ∷ arguments) =
-    and_then (call_of readings (open_of opens thread) word arguments) (λ called. Ok (line_with number thread called))
+    and_then (region_call readings (open_of opens thread) word arguments) (λ called. Ok (line_with number thread called))
 
 -- a line by its words, of which the first is its thread
 abbrev pub line_of_words : ℕ → ℕ → List (List Open) → List Text → Result RegionLine RegionCause
@@ -123,7 +123,7 @@ line_of_words number readings opens [] = Err BadThread
 line_of_words number readings opens (thread ∷ words) =
     and_then (by_script (thread_in thread)) (λ thread. line_of_thread number readings opens thread words)
 
--- the line of a number, after so many lines and readings, where these regions are open
+-- the line of a number, after n lines and m readings, with these regions open
 unfoldable pub region_line : ℕ → ℕ → ℕ → List (List Open) → Text → Result RegionLine RegionCause
 region_line number above readings opens line =
     if nat_le MOST_LINES above then Err OverLimit else line_of_words number readings opens (words_of line)

@@ -51,11 +51,11 @@ read_text s =
 
 -- ---- the regions of a thread
 
--- a name after others, where it is not one of them
+-- a name after others, if it is not one of them
 abbrev pub with_name : List Text → Text → List Text
 with_name names name = if list_any (λ n. bytes_eq n name) names then names else names ++ name ∷ []
 
--- the names of a thread after one line more, which adds a name where it begins a region of the thread
+-- the names of a thread after one line more, which adds a name if it begins a region of the thread
 abbrev pub with_begin : ℕ → List Text → Span → List Text
 with_begin thread names s = if (s.line.thread == thread) && is_begin s.line.call then with_name names (name_of s.line.call) else names
 
@@ -67,7 +67,7 @@ names_of thread spans = fold (with_begin thread) [] spans
 abbrev pub ends : ℕ → Text → Span → Bool
 ends thread name s = (s.line.thread == thread) && (is_end s.line.call && bytes_eq (name_of s.line.call) name)
 
--- the sum after one line more, which adds its values where it ends an instance of this region
+-- the sum after one line more, which adds its values if it ends an instance of this region
 abbrev pub with_end : ℕ → Text → List ℤ → Span → List ℤ
 with_end thread name sum s = if ends thread name s then pairwise (int_wrapping_add w64) sum s.values else sum
 

@@ -37,7 +37,7 @@ region_scripts = record {
 }
 
 -- the call lines of a region script, or its first line that has a fault, with the first cause that it has
-unfoldable pub regions_of : List ℕ → Result (List RegionLine) (Refused RegionCause)
+unfoldable pub regions_of : List ℕ → Result (List RegionLine) (RefusedRegionLine RegionCause)
 regions_of bytes = lines_from region_scripts 1 (above_line 0 0 none_open) (lines bytes)
 
 -- The answer to these bytes. Memory may run out at any script.

@@ -29,7 +29,7 @@ values_at readings i = slice_index_or readings i []
 abbrev pub span : List (List ℤ) → ℕ → RegionLine → Span
 span readings i line = record { line = line; values = difference (values_at readings i) (values_at readings line.begun) }
 
--- the span of a line, where it reads the counters
+-- the span of a line, if it reads the counters
 abbrev pub spans_at : List (List ℤ) → ℕ → RegionLine → List Span
 spans_at readings i line = if is_reading line then span readings i line ∷ [] else []
 

@@ -23,7 +23,7 @@ ends_one thread s = (s.line.thread == thread) && is_end s.line.call
 abbrev pub place_of : List Text → ℕ → Span → Option ℕ
 place_of names thread s = if ends_one thread s then position (bytes_eq (name_of s.line.call)) names else None
 
--- the totals with one instance more of the region at a place, where there is one
+-- the totals with one instance more of the region at a place, if there is one
 abbrev pub changed : ℕ → List ℤ → List RegionTotal → List RegionTotal
 changed place values [] = []
 changed zero values (t ∷ ts) = with_instance values t ∷ ts

@@ -1,11 +1,11 @@
 //! Why a region script is refused.
 
 ghost use Rattle.std.specs.Prelude.{◌≡◌};
-ghost use Rattle.table_rows.specs.declared.fault.Refusal.TheVariants as refusal;
+ghost use Rattle.table_rows.specs.declared.fault.RowRefusal.TheVariants as refusal;
 ghost use Rattle.region_report.specs.Causes.{cause_of, text_of};
 
 use script_lines::{LineFault, ScriptCause};
-use table_rows::Refusal;
+use table_rows::RowRefusal;
 use thiserror::Error;
 
 /// What is wrong with a line of a region script; of several causes the first in this order counts.
@@ -53,10 +53,10 @@ pub fn cause_text(cause: RegionCause) -> &'static str
 }
 
 // The refusal of a line for the cause that a line of a script of calls would have.
-pub(crate) fn refusal_of(cause: ScriptCause) -> Refusal<RegionCause>
+pub(crate) fn refusal_of(cause: ScriptCause) -> RowRefusal<RegionCause>
     ensures { result ≡ refusal.Cause (cause_of cause) }
 {
-    Refusal::Cause(match cause {
+    RowRefusal::Cause(match cause {
         ScriptCause::OverLimit => RegionCause::OverLimit,
         ScriptCause::BadThread => RegionCause::BadThread,
         ScriptCause::UnknownCall => RegionCause::UnknownCall,

@@ -12,6 +12,6 @@ mod spans;
 mod totals;
 
 pub use fault::{RegionCause, RegionFault, cause_text};
-pub use regions::{MOST_LINES, MOST_OPEN, RegionCall, RegionLine, Regions, read_regions};
+pub use regions::{MOST_LINES, MOST_OPEN_REGIONS, RegionCall, RegionLine, Regions, read_regions};
 pub use reports::{Reading, report};
 pub use script::script_of;

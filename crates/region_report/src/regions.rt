@@ -18,7 +18,7 @@ use std::marker::Model;
 pub const MOST_LINES: usize = 90_000;
 
 /// How many regions of a thread are open at most.
-pub const MOST_OPEN: usize = 32;
+pub const MOST_OPEN_REGIONS: usize = 32;
 
 /// A call of a line of a region script.
 #[derive(Debug, Drop)]
@@ -29,7 +29,7 @@ pub enum RegionCall {
     Read { name: Text },
     /// Ends the innermost open region.
     End { name: Text },
-    /// Consumes so many occurrences.
+    /// Consumes n occurrences.
     Run { count: u32 },
 }
 
@@ -96,7 +96,7 @@ impl Regions {
 /// The region script of some bytes, or its first line that has a fault, with the first cause that it has.
 ///
 /// Lines are those of a script of calls: they end in a newline, the last one need not; a carriage return before a newline is dropped.
-/// Empty lines and lines that begin with `#` are passed over, and numbered. Where a region is open at the end, the fault is at the line
+/// Empty lines and lines that begin with `#` are passed over, and numbered. If a region is open at the end, the fault is at the line
 /// after the last.
 pub fn read_regions(alloc: Global, bytes: &[u8]) -> Result<Regions, RegionFault>
     ensures { ReadsRegions result bytes.now }

@@ -43,7 +43,7 @@ pub(crate) fn push_values(text: &mut String, values: &Values) -> Result<(), Allo
     Ok(())
 }
 
-// Appends the line of a `read`, where this is one.
+// Appends the line of a `read`, if this is one.
 fn push_read(text: &mut String, span: &LineSpan<'_>) -> Result<(), AllocError>
     ensures { OnOk result (string_bytes text.new
         ≡ string_bytes text.old ++ read_text (span_text span.now)) }
@@ -103,7 +103,7 @@ fn text_of(alloc: Global, events: u32, spans: &[LineSpan<'_>]) -> Result<String,
     Ok(text)
 }
 
-/// The report of a region script with so many events, out of the readings at the lines that begin, read and end regions, one for each in
+/// The report of a region script with n events, out of the readings at the lines that begin, read and end regions, one for each in
 /// their order: for each `read` a line with what its open instance counted so far, and then for each region a line with how many
 /// instances it has and what they counted in all. An instance counts the difference of the readings at its end and at its begin, wrapped
 /// to signed 64 bits.

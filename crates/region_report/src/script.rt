@@ -48,7 +48,7 @@ fn has_lines(lines: &[RegionLine], thread: u32) -> bool
     lines.iter().any(|l| l.thread == thread)
 }
 
-// Appends the opening of a thread, where it has lines.
+// Appends the opening of a thread, if it has lines.
 fn push_thread(
     text: &mut String,
     lines: &[RegionLine],
@@ -111,7 +111,7 @@ fn calls_text(alloc: Global, lines: &[RegionLine], events: &[Text]) -> Result<St
 }
 
 /// The script of calls that a region script stands for: each thread that has lines makes a set of the events and starts it, each line that
-/// begins, reads or ends a region reads it, and the other lines run. Where each event is a word and a set can have as many, `read_script`
+/// begins, reads or ends a region reads it, and the other lines run. If each event is a word and a set can have as many, `read_script`
 /// reads the script as these calls.
 pub fn script_of(alloc: Global, regions: &Regions, events: &[Text]) -> Result<String, AllocError>
     ensures text { IfOk result

@@ -60,7 +60,7 @@ fn values_since(readings: &[Reading], i: usize, line: &RegionLine) -> Values
     difference(&values_at(readings, i), &values_at(readings, line.begun))
 }
 
-// One line more, where it reads the counters.
+// One line more, if it reads the counters.
 fn push_span<'a>(
     spans: &mut Vec<LineSpan<'a>>,
     readings: &[Reading],

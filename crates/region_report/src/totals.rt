@@ -29,7 +29,7 @@ pub(crate) struct RegionTotal {
 
 // ---- the names
 
-// A name after others, where it is not one of them.
+// A name after others, if it is not one of them.
 fn add_name<'a>(names: &mut IndexSet<&'a str>, name: &'a str) -> Result<(), AllocError>
     ensures { OnOk result (map (λ n. n.now) names.new.keys
         ≡ with_name (map (λ n. n.now) names.old.keys) name.now) }
@@ -119,7 +119,7 @@ fn add_instance(total: &mut RegionTotal, values: &Values)
     total.values = sums_of(&total.values, values);
 }
 
-// One instance more of the region at a place, where there is one.
+// One instance more of the region at a place, if there is one.
 fn add_at(totals: &mut Vec<RegionTotal>, place: Option<usize>, values: &Values)
     requires few { All (λ t. t.instances < 2 ^ 63) totals.old.items }
     requires within { IfSome place (λ i. i < vec_len totals.old) }

@@ -30,7 +30,7 @@ fn hex_digit(number: u32) -> &'static str
     }
 }
 
-// Appends the last so many hexadecimal digits of a number.
+// Appends the last n hexadecimal digits of a number.
 fn push_last_hex(text: &mut String, digits: u32, number: u32) -> Result<(), AllocError>
     ensures { OnOk result (string_bytes text.new
         ≡ string_bytes text.old ++ Hexadecimal.last_hex digits number) }
@@ -42,7 +42,7 @@ fn push_last_hex(text: &mut String, digits: u32, number: u32) -> Result<(), Allo
     text.push_str(hex_digit(number % 16))
 }
 
-/// Appends a space, `0x` and the last so many hexadecimal digits of a number.
+/// Appends a space, `0x` and the last n hexadecimal digits of a number.
 pub(crate) fn push_hex(text: &mut String, digits: u32, number: u32) -> Result<(), AllocError>
     ensures { OnOk result (string_bytes text.new
         ≡ string_bytes text.old ++ 32 ∷ Hexadecimal.hex_text digits number) }

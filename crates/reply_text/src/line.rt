@@ -31,7 +31,7 @@ fn push_code(text: &mut String, code: Code) -> Result<(), AllocError>
 
 /// Appends the name of a reply's code and its results, each after a space.
 ///
-/// Where memory is refused, it is open how much of it is appended.
+/// If memory is refused, it is open how much of it is appended.
 pub fn push_reply(text: &mut String, catalog: &Catalog, reply: &Reply) -> Result<(), AllocError>
     ensures text { OnOk result
         (string_bytes text.new ≡ string_bytes text.old ++ reply_text catalog.now reply.now) }
@@ -44,7 +44,7 @@ pub fn push_reply(text: &mut String, catalog: &Catalog, reply: &Reply) -> Result
 /// Appends the line of a reply: the number of the script's line, the thread, the word of the call, the code's name and the
 /// results, with single spaces between them, and a newline.
 ///
-/// Where memory is refused, it is open how much of the line is appended.
+/// If memory is refused, it is open how much of the line is appended.
 pub fn push_reply_line(
     text: &mut String,
     catalog: &Catalog,

@@ -37,7 +37,7 @@ pub(crate) fn push_native(
     write!(text, " {name}")
 }
 
-/// The name of a counter of a component, and an empty text where there is none.
+/// The name of a counter of a component, and an empty text if there is none.
 pub(crate) fn counter_name(catalog: &Catalog, comp: u32, counter: u32) -> &str
     ensures { result.now ≡ Replies.counter_text catalog.now comp counter }
 {

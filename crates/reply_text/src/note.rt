@@ -11,7 +11,7 @@ use std::fmt::Write;
 /// Appends the line of a passed threshold: `note`, the thread, the number of the set, the event's index in it and the program
 /// counter in hexadecimal, with single spaces between them, and a newline.
 ///
-/// Where memory is refused, it is open how much of the line is appended.
+/// If memory is refused, it is open how much of the line is appended.
 pub fn push_note_line(text: &mut String, note: &Note) -> Result<(), AllocError>
     ensures text { OnOk result
         (string_bytes text.new ≡ string_bytes text.old ++ note_text note.now) }

@@ -95,7 +95,7 @@ fn push_counters(
     Ok(())
 }
 
-// The component of native events, and 0 where there are none.
+// The component of native events, and 0 if there are none.
 fn component_of(natives: &Natives) -> u32
     ensures { result ≡ Replies.component_of natives.now }
 {

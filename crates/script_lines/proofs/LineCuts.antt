@@ -36,7 +36,7 @@ lines-cut_rest bytes n h =
     let rest : take (length bytes - (n + 1)) (drop (n + 1) bytes) ≡ drop (n + 1) bytes = take_all _ _ (omega (arith, length-drop (n + 1) bytes)) in
     lines-cut bytes n h ∙ ap (λ (ls : List ℕ). strip_carriage_return (take n bytes) ∷ lines ls) (sym rest)
 
--- where there is no newline, there is one part
+-- if there is no newline, there is one part
 one_part : (bytes : List ℕ) → nat_lt (position_or_len is_newline bytes) (length bytes) ≡ false → slice_split is_newline bytes ≡ bytes ∷ []
 one_part [] h = refl
 one_part (b ∷ bytes) h = go (is_newline b) refl (λ rest. one_part bytes rest) h

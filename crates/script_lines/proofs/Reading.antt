@@ -3,8 +3,8 @@ use Rattle.std.proofs.Common.{◌≡◌, ◌∙◌, ◌<◌, ◌≤◌, ◌+◌,
 use Rattle.std.specs.Prelude.{Result, Ok, Err}
 use Rattle.std.specs.Str.Lines.{lines}
 use Rattle.table_rows.specs.Texts.{Text}
-use Rattle.table_rows.specs.declared.fault.Refusal.{Refusal}
-use Rattle.table_rows.specs.declared.fault.Refusal.TheVariants.{Cause, Memory}
+use Rattle.table_rows.specs.declared.fault.RowRefusal.{RowRefusal}
+use Rattle.table_rows.specs.declared.fault.RowRefusal.TheVariants.{Cause, Memory}
 use Rattle.script_lines.specs.Answers.{Answers}
 use Rattle.script_lines.specs.ByLine.{Format, ReadsLines, Refused, lines_from, onto, put_before}
 use Rattle.script_lines.specs.Causes.{fault_at}
@@ -69,8 +69,8 @@ reads-line {S} {L} {C} {format} {first} {above} {above'} {bytes} {rest} {rest'} 
   small = omega (arith, r.small);
 })
 
--- The answer where a line is refused.
-pub reads-fault : {S L C : Type 0} {format : Format S L C} {first above : S} {bytes rest line : List ℕ} {number : ℕ} {read : List L} (rest' : List ℕ) (refusal : Refusal C)
+-- The answer if a line is refused.
+pub reads-fault : {S L C : Type 0} {format : Format S L C} {first above : S} {bytes rest line : List ℕ} {number : ℕ} {read : List L} (rest' : List ℕ) (refusal : RowRefusal C)
     → lines rest ≡ line ∷ lines rest' → is_skipped line ≡ false → Answers (Err refusal) (format.line_of (number + 1) above line) → Reads format first bytes rest number above read
     → ReadsLines (Err (fault_at (number + 1) refusal)) (whole format first bytes)
 reads-fault {S} {L} {C} {format} {first} {above} {bytes} {rest} {line} {number} {read} rest' (Cause cause) cut s is r = next format first above bytes rest rest' line number read (Err cause) cut s is r

@@ -1,10 +1,10 @@
 -- The answer to a line, and to parts of it.
 use Rattle.std.specs.Prelude.{◌≡◌, Result, Ok, Err}
-use Rattle.table_rows.specs.declared.fault.Refusal.{Refusal}
-use Rattle.table_rows.specs.declared.fault.Refusal.TheVariants.{Cause, Memory}
+use Rattle.table_rows.specs.declared.fault.RowRefusal.{RowRefusal}
+use Rattle.table_rows.specs.declared.fault.RowRefusal.TheVariants.{Cause, Memory}
 
--- The answer where this is read, or refused for its cause. Memory may run out at any line.
-abbrev pub Answers : {A C : Type 0} → Result A (Refusal C) → Result A C → Type 0
+-- The answer if this is read, or refused for its cause. Memory may run out at any line.
+abbrev pub Answers : {A C : Type 0} → Result A (RowRefusal C) → Result A C → Type 0
 Answers (Ok value) read = read ≡ Ok value
 Answers (Err (Cause cause)) read = read ≡ Err cause
 Answers (Err Memory) read = Unit {0}

@@ -60,7 +60,7 @@ call_rows =
     ∷ row name.Name (Code (λ code. call.Name code))
     ∷ []
 
--- the form of the call that a word names, where it names one
+-- the form of the call that a word names, if it names one
 abbrev pub form_of : Text → List CallRow → Option Form
 form_of word [] = None
 form_of word (row ∷ rows) = if bytes_eq (word_of row.name) word then Some row.form else form_of word rows

@@ -1,7 +1,7 @@
 -- The causes of a refused line in words: this project's own texts, docs/FORMATS.md.
 use Rattle.std.specs.Prelude.{ℕ, List, codes}
-use Rattle.table_rows.specs.declared.fault.Refusal.{Refusal}
-use Rattle.table_rows.specs.declared.fault.Refusal.TheVariants as refusal
+use Rattle.table_rows.specs.declared.fault.RowRefusal.{RowRefusal}
+use Rattle.table_rows.specs.declared.fault.RowRefusal.TheVariants as refusal
 use Rattle.script_lines.specs.declared.fault.LineFault.{LineFault}
 use Rattle.script_lines.specs.declared.fault.LineFault.TheVariants as fault
 use Rattle.script_lines.specs.declared.fault.ScriptCause.{ScriptCause}
@@ -15,7 +15,7 @@ text_of cause.UnknownCall = codes "unknown call"
 text_of cause.BadArguments = codes "wrong arguments"
 text_of cause.BadNumber = codes "bad number"
 
--- the fault of a text where the line of this number is refused
-abbrev pub fault_at : {C : Type 0} → ℕ → Refusal C → LineFault C
+-- the fault of a text if the line of this number is refused
+abbrev pub fault_at : {C : Type 0} → ℕ → RowRefusal C → LineFault C
 fault_at number (refusal.Cause cause) = fault.Line number cause
 fault_at number refusal.Memory = fault.Memory

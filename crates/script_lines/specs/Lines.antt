@@ -2,7 +2,7 @@
 use Rattle.std.specs.Prelude.{◌<◌, ◌-◌, ◌||◌, ◌==◌, ℕ, Bool, List, [], ◌∷◌, length, Result, Err, if◌then◌else◌, nat_le, slice_index, IfOk}
 use Rattle.papi_base.specs.declared.limits.TheConstants.{THREADS}
 use Rattle.table_rows.specs.Texts.{Text, decimal_in}
-use Rattle.table_rows.specs.declared.fault.Refusal.{Refusal}
+use Rattle.table_rows.specs.declared.fault.RowRefusal.{RowRefusal}
 use Rattle.script_lines.specs.declared.call.ScriptCall.{ScriptCall}
 use Rattle.script_lines.specs.declared.fault.ScriptCause.{ScriptCause}
 use Rattle.script_lines.specs.declared.fault.ScriptCause.TheVariants.{BadThread, OverLimit, UnknownCall}
@@ -35,10 +35,10 @@ abbrev pub line_of_words : ℕ → List Text → Result ScriptLine ScriptCause
 line_of_words number [] = Err BadThread
 line_of_words number (thread ∷ words) = and_then (thread_in thread) (λ thread. line_of_call number thread words)
 
--- the call line of a number, after so many call lines
+-- the call line of a number, after n call lines
 unfoldable pub call_line : ℕ → ℕ → Text → Result ScriptLine ScriptCause
 call_line number above line = if nat_le MOST_CALLS above then Err OverLimit else line_of_words number (words_of line)
 
 -- a line was read after fewer than the most, and its thread is one that there is
-abbrev pub IsAllowed : ℕ → Result ScriptLine (Refusal ScriptCause) → Type 0
+abbrev pub IsAllowed : ℕ → Result ScriptLine (RowRefusal ScriptCause) → Type 0
 IsAllowed above read = IfOk read (λ line. (above < MOST_CALLS) × (line.thread < THREADS))

@@ -13,7 +13,7 @@ abbrev pub scripts : Format ℕ ScriptLine ScriptCause
 scripts = record { line_of = call_line; after = λ above line. above + 1; at_end = λ number above. Ok [] }
 
 -- the call lines of a script, or its first line that is not a call line, with the first cause that it has
-unfoldable pub script_of : List ℕ → Result (List ScriptLine) (Refused ScriptCause)
+unfoldable pub script_of : List ℕ → Result (List ScriptLine) (RefusedCallLine ScriptCause)
 script_of bytes = lines_from scripts 1 0 (lines bytes)
 
 -- The answer to these bytes. Memory may run out at any script.

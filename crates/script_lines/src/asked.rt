@@ -12,7 +12,7 @@ use crate::call::ScriptCall;
 use crate::fault::ScriptCause;
 use papi_base::{CallName, Text, call_word};
 use std::alloc::Global;
-use table_rows::Refusal;
+use table_rows::RowRefusal;
 
 // The names of all calls, in the order of the table of calls.
 const NAMES: [CallName; 24] = [
@@ -132,7 +132,7 @@ fn call_with(
     alloc: Global,
     name: CallName,
     arguments: &[&[u8]],
-) -> Result<ScriptCall, Refusal<ScriptCause>>
+) -> Result<ScriptCall, RowRefusal<ScriptCause>>
     ensures { Answers result (Calls.call_of (word_of name) (map (λ w. w.now) arguments.now)) }
 {
     match name {
@@ -187,11 +187,11 @@ pub(crate) fn call_of(
     alloc: Global,
     word: &[u8],
     arguments: &[&[u8]],
-) -> Result<ScriptCall, Refusal<ScriptCause>>
+) -> Result<ScriptCall, RowRefusal<ScriptCause>>
     ensures { Answers result (Calls.call_of word.now (map (λ w. w.now) arguments.now)) }
 {
     match name_in(word) {
         Some(name) => call_with(alloc, name, arguments),
-        None => Err(Refusal::Cause(ScriptCause::UnknownCall)),
+        None => Err(RowRefusal::Cause(ScriptCause::UnknownCall)),
     }
 }

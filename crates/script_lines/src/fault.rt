@@ -1,14 +1,14 @@
 //! Why a script is refused.
 
 ghost use Rattle.std.specs.Prelude.{◌≡◌};
-ghost use Rattle.table_rows.specs.declared.fault.Refusal.TheVariants as refusal;
+ghost use Rattle.table_rows.specs.declared.fault.RowRefusal.TheVariants as refusal;
 ghost use Rattle.script_lines.specs.Causes as Causes;
 ghost use Rattle.script_lines.specs.declared.fault.LineFault.TheVariants as fault;
 
 use std::alloc::{AllocError, AllocFailed};
 use std::error::Error;
 use std::fmt;
-use table_rows::Refusal;
+use table_rows::RowRefusal;
 use thiserror::Error;
 
 /// What is wrong with a line of a script; of several causes the first in this order counts.
@@ -52,13 +52,13 @@ impl<C: fmt::Display + Copy> fmt::Display for LineFault<C> {
 
 impl<C: fmt::Display + fmt::Debug + Copy> Error for LineFault<C> {}
 
-/// The fault of a text where the line of this number is refused.
-pub fn fault_at<C: Copy>(line: u64, refusal: Refusal<C>) -> LineFault<C>
+/// The fault of a text if the line of this number is refused.
+pub fn fault_at<C: Copy>(line: u64, refusal: RowRefusal<C>) -> LineFault<C>
     ensures { result ≡ Causes.fault_at line refusal }
 {
     match refusal {
-        Refusal::Cause(cause) => LineFault::Line { line, cause },
-        Refusal::Memory => LineFault::Memory,
+        RowRefusal::Cause(cause) => LineFault::Line { line, cause },
+        RowRefusal::Memory => LineFault::Memory,
     }
 }
 
@@ -75,11 +75,11 @@ pub fn cause_text(cause: ScriptCause) -> &'static str
     }
 }
 
-impl From<ScriptCause> for Refusal<ScriptCause> {
+impl From<ScriptCause> for RowRefusal<ScriptCause> {
     ghost from_gives = { λ cause why. why ≡ refusal.Cause cause };
 
-    fn from(cause: ScriptCause) -> Refusal<ScriptCause> {
-        Refusal::Cause(cause)
+    fn from(cause: ScriptCause) -> RowRefusal<ScriptCause> {
+        RowRefusal::Cause(cause)
     }
 }
 

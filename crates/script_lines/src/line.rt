@@ -12,7 +12,7 @@ use crate::script::{MOST_CALLS, ScriptLine};
 use crate::words::split_words;
 use papi_base::THREADS;
 use std::alloc::Global;
-use table_rows::{Refusal, decimal_in};
+use table_rows::{RowRefusal, decimal_in};
 
 // A line without the carriage return at its end.
 fn without_return(line: &[u8]) -> &[u8]
@@ -68,12 +68,12 @@ fn line_of_call(
     number: u64,
     thread: u32,
     words: &[&[u8]],
-) -> Result<ScriptLine, Refusal<ScriptCause>>
+) -> Result<ScriptLine, RowRefusal<ScriptCause>>
     ensures line { Answers result (Lines.line_of_call number thread (map (λ w. w.now) words.now)) }
     ensures same { IfOk result (λ line. line.thread ≡ thread) }
 {
     let [word, arguments @ ..] = words else {
-        return Err(Refusal::Cause(ScriptCause::UnknownCall));
+        return Err(RowRefusal::Cause(ScriptCause::UnknownCall));
     };
     let call = call_of(alloc, *word, arguments)?;
     Ok(ScriptLine {
@@ -88,18 +88,18 @@ fn line_of_words(
     alloc: Global,
     number: u64,
     words: &[&[u8]],
-) -> Result<ScriptLine, Refusal<ScriptCause>>
+) -> Result<ScriptLine, RowRefusal<ScriptCause>>
     ensures line { Answers result (Lines.line_of_words number (map (λ w. w.now) words.now)) }
     ensures thread { IfOk result (λ line. line.thread < THREADS) }
 {
     let [thread, words @ ..] = words else {
-        return Err(Refusal::Cause(ScriptCause::BadThread));
+        return Err(RowRefusal::Cause(ScriptCause::BadThread));
     };
     line_of_call(alloc, number, thread_in(*thread)?, words)
 }
 
 // The call line of a number.
-fn line_in(alloc: Global, number: u64, line: &[u8]) -> Result<ScriptLine, Refusal<ScriptCause>>
+fn line_in(alloc: Global, number: u64, line: &[u8]) -> Result<ScriptLine, RowRefusal<ScriptCause>>
     ensures line { Answers result (Lines.line_of_words number (words_of line.now)) }
     ensures thread { IfOk result (λ line. line.thread < THREADS) }
 {
@@ -107,19 +107,19 @@ fn line_in(alloc: Global, number: u64, line: &[u8]) -> Result<ScriptLine, Refusa
     line_of_words(alloc, number, words.as_slice())
 }
 
-// The call line of this number, after so many call lines.
+// The call line of this number, after n call lines.
 #[tactic(auto, unfolding(crate::specs::Lines::call_line))]
 pub(crate) fn call_line(
     alloc: Global,
     number: u64,
     above: usize,
     line: &[u8],
-) -> Result<ScriptLine, Refusal<ScriptCause>>
+) -> Result<ScriptLine, RowRefusal<ScriptCause>>
     ensures call { Answers result (Lines.call_line number above line.now) }
     ensures few { Lines.IsAllowed above result }
 {
     if above >= MOST_CALLS {
-        return Err(Refusal::Cause(ScriptCause::OverLimit));
+        return Err(RowRefusal::Cause(ScriptCause::OverLimit));
     }
     line_in(alloc, number, line)
 }

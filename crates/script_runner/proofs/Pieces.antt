@@ -66,7 +66,7 @@ item-written f before taken taken' xs i x gathered gathered' h e w m =
     subst (λ t. IsWrittenSoFar before taken' t gathered') (sym (text-next f xs i x h e))
     (written-more before taken taken' (flat_map f (take i xs) ++ f x) (gathered ++ f x) gathered' (gathered-more before taken (flat_map f (take i xs)) (f x) gathered w) m)
 
--- a prefix, where an item's text was not gathered, or where a piece with it was not written
+-- a prefix, if an item's text was not gathered, or if a piece with it was not written
 pub item-part : {X : Type 0} (f : X → List ℕ) (before taken taken' : Option (List ℕ)) (xs : List X) (i : ℕ) (x : X) (gathered : List ℕ) → i < length xs → x ≡ get_or xs i x
     → IsWrittenSoFar before taken (flat_map f (take i xs)) gathered → IsPartWritten taken taken' (gathered ++ f x) → IsPartWritten before taken' (flat_map f xs)
 item-part f before taken taken' xs i x gathered h e w part =
@@ -77,7 +77,7 @@ item-part f before taken taken' xs i x gathered h e w part =
 pub none-part : (taken : Option (List ℕ)) (text : List ℕ) → IsPartWritten taken taken text
 none-part taken text = (0, omega arith, nothing-more taken)
 
--- a prefix, where all texts were gathered
+-- a prefix, if all texts were gathered
 pub last-part : {X : Type 0} (f : X → List ℕ) (before taken taken' : Option (List ℕ)) (xs : List X) (i : ℕ) (gathered : List ℕ) → length xs ≤ i
     → IsWrittenSoFar before taken (flat_map f (take i xs)) gathered → IsPartWritten taken taken' gathered → IsPartWritten before taken' (flat_map f xs)
 last-part f before taken taken' xs i gathered h w part = subst (λ ys. IsPartWritten before taken' (flat_map f ys)) (take_all i xs h) (part-whole before taken taken' (flat_map f (take i xs)) gathered w part)

@@ -13,18 +13,18 @@ use Rattle.papi_base.specs.declared.native.Native.{Native}
 use Rattle.plan_runner.specs.declared.plan.PlanLine.{PlanLine}
 use Rattle.plan_runner.specs.declared.plan.Planned.{Planned}
 use Rattle.plan_runner.specs.declared.result.ReplyLine.{ReplyLine}
-use Rattle.plan_runner.specs.Plans.{Ask, IsGoodFor, IsPlanOf, ask_of, asks_from, looked_up}
+use Rattle.plan_runner.specs.Plans.{Ask, IsGoodFor, IsPlanOf, ask_of, asks_from, planned_by}
 use Rattle.plan_runner.specs.Runs.{reply_lines}
 use Rattle.postfix_rules.specs.Sameness.{among, joined_by}
 use Rattle.script_lines.specs.Names.{name_of}
 use Rattle.script_lines.specs.declared.script.ScriptLine.{ScriptLine}
-use Rattle.script_runner.specs.Resolving.{IsBegun, IsGoodAsk, asked_of, line_of, lines_of, mentioned_in, reply_lines_of, setting_of}
+use Rattle.script_runner.specs.Resolving.{AreFirstOf, IsGoodAsk, asked_of, line_of, lines_of, mentioned_in, reply_lines_of, setting_of}
 use Rattle.session_model.specs.declared.call.Call.{Call}
 use Rattle.session_model.specs.declared.call.Call.TheVariants as call
 use Rattle.session_model.specs.declared.line.Asked.{Asked}
 use Rattle.session_model.specs.declared.line.Asked.TheVariants as asked
 use Rattle.session_model.specs.declared.line.Line.{Line}
-use Rattle.session_model.specs.World.{Setting, Told, mentioned_after, mentions_of, mentions_of_call}
+use Rattle.session_model.specs.World.{LineTold, Setting, mentioned_after, mentions_of, mentions_of_call}
 
 -- ---- native events that join others
 
@@ -40,11 +40,11 @@ joined-few : (seen more : List Native) → length (joined_by seen more) ≤ leng
 joined-few seen [] = omega arith
 joined-few seen (n ∷ more) = omega (arith, joined-few (if among n seen then seen else seen ++ n ∷ []) more, next-few (among n seen) n seen)
 
-next-begun : (b : Bool) (n : Native) (seen all : List Native) → IsBegun all (if b then seen else seen ++ n ∷ []) → IsBegun all seen
+next-begun : (b : Bool) (n : Native) (seen all : List Native) → AreFirstOf all (if b then seen else seen ++ n ∷ []) → AreFirstOf all seen
 next-begun true n seen all h = h
 next-begun false n seen all (others, e) = (n ∷ others, e ∙ append_assoc seen (n ∷ []) others)
 
-joined-begun : (seen more : List Native) → IsBegun (joined_by seen more) seen
+joined-begun : (seen more : List Native) → AreFirstOf (joined_by seen more) seen
 joined-begun seen [] = ([], sym (append-nil seen))
 joined-begun seen (n ∷ more) = let next = if among n seen then seen else seen ++ n ∷ [] in next-begun (among n seen) n seen (joined_by next more) (joined-begun next more)
 
@@ -70,17 +70,17 @@ mentioned-more catalog done l =
     ap (λ ks. joined_by [] (flat_map f ks)) (map-append (line_of catalog) done (l ∷ [])) ∙ ap (joined_by []) (flat_map-append f lines (line_of catalog l ∷ []) ∙ ap (λ ns. flat_map f lines ++ ns) (append-nil one))
     ∙ joined-append [] (flat_map f lines) one
 
-mentioned-begun : (first others : List Line) → IsBegun (mentioned_in (first ++ others)) (mentioned_in first)
+mentioned-begun : (first others : List Line) → AreFirstOf (mentioned_in (first ++ others)) (mentioned_in first)
 mentioned-begun first others =
     let f : Line → List Native = λ k. mentions_of k.asked in
-    subst (λ all. IsBegun all (mentioned_in first)) (sym (ap (joined_by []) (flat_map-append f first others) ∙ joined-append [] (flat_map f first) (flat_map f others)))
+    subst (λ all. AreFirstOf all (mentioned_in first)) (sym (ap (joined_by []) (flat_map-append f first others) ∙ joined-append [] (flat_map f first) (flat_map f others)))
     (joined-begun (mentioned_in first) (flat_map f others))
 
 -- the first lines mention some of the first
-pub begun-at : (catalog : CatalogView) (ls : List ScriptLine) (i : ℕ) → IsBegun (mentioned_in (lines_of catalog ls)) (mentioned_in (map (line_of catalog) (take i ls)))
+pub begun-at : (catalog : CatalogView) (ls : List ScriptLine) (i : ℕ) → AreFirstOf (mentioned_in (lines_of catalog ls)) (mentioned_in (map (line_of catalog) (take i ls)))
 unfolding lines_of
 begun-at catalog ls i =
-    subst (λ ks. IsBegun (mentioned_in ks) (mentioned_in (map (line_of catalog) (take i ls))))
+    subst (λ ks. AreFirstOf (mentioned_in ks) (mentioned_in (map (line_of catalog) (take i ls))))
     (sym (map-append (line_of catalog) (take i ls) (drop i ls)) ∙ ap (map (line_of catalog)) (take-append-drop i ls))
     (mentioned-begun (map (line_of catalog) (take i ls)) (map (line_of catalog) (drop i ls)))
 
@@ -88,15 +88,15 @@ begun-at catalog ls i =
 
 asks-append : (at : Setting) (mentioned : List Native) (ls : List Line) (l : Line)
     → asks_from at mentioned (ls ++ l ∷ [])
-    ≡ asks_from at mentioned ls ++ record { thread = l.thread; planned = looked_up at (mentioned_after (joined_by mentioned (flat_map (λ k. mentions_of k.asked) ls)) l) l.asked } ∷ []
+    ≡ asks_from at mentioned ls ++ record { thread = l.thread; planned = planned_by at (mentioned_after (joined_by mentioned (flat_map (λ k. mentions_of k.asked) ls)) l) l.asked } ∷ []
 asks-append at mentioned [] l = refl
 asks-append at mentioned (k ∷ ls) l =
     let next = mentioned_after mentioned k in
-    ap (λ (asks : List Ask). record { thread = k.thread; planned = looked_up at next k.asked } ∷ asks) (asks-append at next ls l
-    ∙ ap (λ (ns : List Native). asks_from at next ls ++ record { thread = l.thread; planned = looked_up at (mentioned_after ns l) l.asked } ∷ [])
+    ap (λ (asks : List Ask). record { thread = k.thread; planned = planned_by at next k.asked } ∷ asks) (asks-append at next ls l
+    ∙ ap (λ (ns : List Native). asks_from at next ls ++ record { thread = l.thread; planned = planned_by at (mentioned_after ns l) l.asked } ∷ [])
     (sym (joined-append mentioned (mentions_of k.asked) (flat_map (λ k. mentions_of k.asked) ls))))
 
-good-planned : (catalog : CatalogView) (at : Setting) (mentioned : List Native) (a : Asked) → IsGoodAsk catalog a → IsGoodFor catalog.book (shape_of catalog.tables) (looked_up at mentioned a)
+good-planned : (catalog : CatalogView) (at : Setting) (mentioned : List Native) (a : Asked) → IsGoodAsk catalog a → IsGoodFor catalog.book (shape_of catalog.tables) (planned_by at mentioned a)
 good-planned catalog at mentioned (asked.Call c) good = good
 good-planned catalog at mentioned (asked.CodeOf (Ok (event.Native n))) good = tt
 good-planned catalog at mentioned (asked.CodeOf (Ok (event.Preset row))) good = tt
@@ -134,14 +134,14 @@ pub planned-none : (catalog : CatalogView) → IsPlanned catalog [] [] []
 planned-none catalog = record { asks = refl; heads = refl; good = All-nil (IsGoodLine catalog); threads = All-nil (λ p. p.thread < THREADS); mentioned = refl; few = omega arith }
 
 pub planned-more : (catalog : CatalogView) (done : List ScriptLine) (l : ScriptLine) (plan : List PlanLine) (word : CallName) (asked : Asked) (planned : Planned) (codes codes' : List Native)
-    → l.thread < THREADS → word ≡ name_of l.call → asked ≡ asked_of catalog l.call → IsGoodAsk catalog asked → codes' ≡ joined_by codes (mentions_of asked) → planned ≡ looked_up (setting_of catalog) codes' asked
+    → l.thread < THREADS → word ≡ name_of l.call → asked ≡ asked_of catalog l.call → IsGoodAsk catalog asked → codes' ≡ joined_by codes (mentions_of asked) → planned ≡ planned_by (setting_of catalog) codes' asked
     → IsPlanned catalog done plan codes → IsPlanned catalog (done ++ l ∷ []) (plan ++ record { number = l.line; thread = l.thread; word = word; planned = planned } ∷ []) codes'
 planned-more catalog done l plan word asked planned codes codes' thread named is good joined looked so_far =
     let at = setting_of catalog in
     let p : PlanLine = record { number = l.line; thread = l.thread; word = word; planned = planned } in
     let lines = map (line_of catalog) done in
     let joined' : codes' ≡ joined_by (mentioned_in lines) (mentions_of (asked_of catalog l.call)) = joined ∙ ap₂ (λ ns a. joined_by ns (mentions_of a)) so_far.mentioned is in
-    let looked' : planned ≡ looked_up at (joined_by (mentioned_in lines) (mentions_of (asked_of catalog l.call))) (asked_of catalog l.call) = looked ∙ ap₂ (looked_up at) joined' is in record {
+    let looked' : planned ≡ planned_by at (joined_by (mentioned_in lines) (mentions_of (asked_of catalog l.call))) (asked_of catalog l.call) = looked ∙ ap₂ (planned_by at) joined' is in record {
       asks = map-append ask_of plan (p ∷ []) ∙ ap₂ (λ (asks : List Ask) (q : Planned). asks ++ record { thread = l.thread; planned = q } ∷ []) so_far.asks looked'
           ∙ sym (asks-append at [] lines (line_of catalog l)) ∙ ap (asks_from at []) (sym (map-append (line_of catalog) done (l ∷ [])));
       heads = map-append head_planned plan (p ∷ []) ∙ ap₂ (λ (hs : List Head) (w : CallName). hs ++ record { line = l.line; thread = l.thread; word = w } ∷ []) so_far.heads named ∙ sym (map-append head_of done (l ∷ []));
@@ -161,20 +161,20 @@ thread-at items script i l h e same all = subst (λ k. k.thread < THREADS) (sym 
 
 pub planned-next : (catalog : CatalogView) (items script : List ScriptLine) (i : ℕ) (l : ScriptLine) (plan plan' : List PlanLine) (word : CallName) (asked : Asked) (planned : Planned) (codes codes' : List Native)
     → i < length items → l ≡ get_or items i l → items ≡ script → All (λ k. k.thread < THREADS) script
-    → word ≡ name_of l.call → asked ≡ asked_of catalog l.call → IsGoodAsk catalog asked → codes' ≡ joined_by codes (mentions_of asked) → planned ≡ looked_up (setting_of catalog) codes' asked
+    → word ≡ name_of l.call → asked ≡ asked_of catalog l.call → IsGoodAsk catalog asked → codes' ≡ joined_by codes (mentions_of asked) → planned ≡ planned_by (setting_of catalog) codes' asked
     → plan' ≡ plan ++ record { number = l.line; thread = l.thread; word = word; planned = planned } ∷ []
     → IsPlanned catalog (take i items) plan codes → IsPlanned catalog (take (i + 1) items) plan' codes'
 planned-next catalog items script i l plan plan' word asked planned codes codes' h e same all named is good joined looked pushed so_far =
     subst (λ done. IsPlanned catalog done plan' codes') (sym (next-done items i l h e)) (subst (λ p. IsPlanned catalog (take i items ++ l ∷ []) p codes') (sym pushed)
     (planned-more catalog (take i items) l plan word asked planned codes codes' (thread-at items script i l h e same all) named is good joined looked so_far))
 
--- some of the first mentions have codes, where a line's own mention has none yet, and where it has one
-pub begun-before : (catalog : CatalogView) (items script : List ScriptLine) (i : ℕ) (codes : List Native) → items ≡ script → codes ≡ mentioned_in (map (line_of catalog) (take i items)) → IsBegun (mentioned_in (lines_of catalog script)) codes
+-- some of the first mentions have codes, if a line's own mention has none yet, and if it has one
+pub begun-before : (catalog : CatalogView) (items script : List ScriptLine) (i : ℕ) (codes : List Native) → items ≡ script → codes ≡ mentioned_in (map (line_of catalog) (take i items)) → AreFirstOf (mentioned_in (lines_of catalog script)) codes
 begun-before catalog items script i codes same is =
-    subst (λ ls. IsBegun (mentioned_in (lines_of catalog ls)) codes) same (subst (IsBegun (mentioned_in (lines_of catalog items))) (sym is) (begun-at catalog items i))
+    subst (λ ls. AreFirstOf (mentioned_in (lines_of catalog ls)) codes) same (subst (AreFirstOf (mentioned_in (lines_of catalog items))) (sym is) (begun-at catalog items i))
 
 pub begun-after : (catalog : CatalogView) (items script : List ScriptLine) (i : ℕ) (l : ScriptLine) (asked : Asked) (codes codes' : List Native) → i < length items → l ≡ get_or items i l → items ≡ script
-    → asked ≡ asked_of catalog l.call → codes' ≡ joined_by codes (mentions_of asked) → codes ≡ mentioned_in (map (line_of catalog) (take i items)) → IsBegun (mentioned_in (lines_of catalog script)) codes'
+    → asked ≡ asked_of catalog l.call → codes' ≡ joined_by codes (mentions_of asked) → codes ≡ mentioned_in (map (line_of catalog) (take i items)) → AreFirstOf (mentioned_in (lines_of catalog script)) codes'
 begun-after catalog items script i l asked codes codes' h e same is joined so_far =
     begun-before catalog items script (i + 1) codes' same (joined ∙ ap₂ (λ ns a. joined_by ns (mentions_of a)) so_far is ∙ sym (mentioned-more catalog (take i items) l) ∙ ap (λ done. mentioned_in (map (line_of catalog) done)) (sym (next-done items i l h e)))
 
@@ -195,7 +195,7 @@ first-same x y xs ys e = cc
 rest-same : {X : Type 0} (x y : X) (xs ys : List X) → x ∷ xs ≡ y ∷ ys → xs ≡ ys
 rest-same x y xs ys e = cc
 
-heads-each : (ls : List ScriptLine) (plan : List PlanLine) → map head_planned plan ≡ map head_of ls → (told : List Told) → reply_lines plan told ≡ reply_lines_of ls told
+heads-each : (ls : List ScriptLine) (plan : List PlanLine) → map head_planned plan ≡ map head_of ls → (told : List LineTold) → reply_lines plan told ≡ reply_lines_of ls told
 unfolding reply_lines_of
 heads-each [] [] e told = refl
 heads-each [] (p ∷ ps) e told = absurd (omega (arith, ap length e))
@@ -204,12 +204,12 @@ heads-each (l ∷ ls) (p ∷ ps) e [] = refl
 heads-each (l ∷ ls) (p ∷ ps) e (x ∷ xs) =
     ap₂ (λ (h : Head) (rest : List ReplyLine). record { line = h.line; thread = h.thread; word = h.word; reply = x.reply } ∷ rest) (first-same _ _ _ _ e) (heads-each ls ps (rest-same _ _ _ _ e) xs)
 
-pub plan-heads : (catalog : CatalogView) (ls : List ScriptLine) (plan : List PlanLine) (codes : List Native) → IsPlanned catalog ls plan codes → (told : List Told) → reply_lines plan told ≡ reply_lines_of ls told
+pub plan-heads : (catalog : CatalogView) (ls : List ScriptLine) (plan : List PlanLine) (codes : List Native) → IsPlanned catalog ls plan codes → (told : List LineTold) → reply_lines plan told ≡ reply_lines_of ls told
 plan-heads catalog ls plan codes whole = heads-each ls plan whole.heads
 
 pub plan-codes : (catalog : CatalogView) (ls : List ScriptLine) (plan : List PlanLine) (codes : List Native) → IsPlanned catalog ls plan codes → codes ≡ mentioned_in (lines_of catalog ls)
 unfolding lines_of
 plan-codes catalog ls plan codes whole = whole.mentioned
 
-pub all-begun : (natives codes : List Native) → codes ≡ natives → IsBegun natives codes
+pub all-begun : (natives codes : List Native) → codes ≡ natives → AreFirstOf natives codes
 all-begun natives codes e = ([], sym e ∙ sym (append-nil codes))

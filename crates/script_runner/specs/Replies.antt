@@ -12,8 +12,8 @@ abbrev pub reply_line_text : CatalogView → ReplyLine → List ℕ
 reply_line_text catalog l = Texts.line_text catalog l.line l.thread l.word l.reply
 
 -- a line for each reply, in order
-unfoldable pub reply_text : CatalogView → List ReplyLine → List ℕ
-reply_text catalog lines = flat_map (reply_line_text catalog) lines
+unfoldable pub replies_text : CatalogView → List ReplyLine → List ℕ
+replies_text catalog lines = flat_map (reply_line_text catalog) lines
 
 -- a line for each note, in order
 unfoldable pub notes_text : List Note → List ℕ

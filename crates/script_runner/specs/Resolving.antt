@@ -15,7 +15,7 @@ use Rattle.script_lines.specs.declared.call.ScriptCall.{ScriptCall}
 use Rattle.script_lines.specs.declared.call.ScriptCall.TheVariants as script
 use Rattle.script_lines.specs.declared.script.ScriptLine.{ScriptLine}
 use Rattle.session_model.specs.Conditions.{IsGood}
-use Rattle.session_model.specs.World.{Setting, Told, mentions_of}
+use Rattle.session_model.specs.World.{LineTold, Setting, mentions_of}
 use Rattle.session_model.specs.declared.call.Call.TheVariants as call
 use Rattle.session_model.specs.declared.line.Asked.{Asked}
 use Rattle.session_model.specs.declared.line.Asked.TheVariants as asked
@@ -67,7 +67,7 @@ IsGoodAsk catalog (asked.CodeOf e) = ⊤
 IsGoodAsk catalog (asked.NameOf c) = ⊤
 IsGoodAsk catalog asked.Threads = ⊤
 
--- the native event that a text names, where it names one: no preset and no user event is mentioned
+-- the native event that a text names, if it names one: no preset and no user event is mentioned
 abbrev pub mentions_by : Result EventRef Code → List Native
 mentions_by (Ok (event.Native n)) = n ∷ []
 mentions_by (Ok (event.Preset row)) = []
@@ -78,11 +78,11 @@ abbrev pub mentioned_in : List Line → List Native
 mentioned_in lines = joined_by [] (flat_map (λ l. mentions_of l.asked) lines)
 
 -- some of the first of them, or all
-abbrev pub IsBegun : List Native → List Native → Type 0
-IsBegun natives begun = (others : List Native) × (natives ≡ begun ++ others)
+abbrev pub AreFirstOf : List Native → List Native → Type 0
+AreFirstOf natives begun = (others : List Native) × (natives ≡ begun ++ others)
 
 -- the replies beside the lines of the script
-unfoldable pub reply_lines_of : List ScriptLine → List Told → List ReplyLine
+unfoldable pub reply_lines_of : List ScriptLine → List LineTold → List ReplyLine
 reply_lines_of [] told = []
 reply_lines_of (l ∷ ls) [] = []
 reply_lines_of (l ∷ ls) (x ∷ xs) = record { line = l.line; thread = l.thread; word = name_of l.call; reply = x.reply } ∷ reply_lines_of ls xs

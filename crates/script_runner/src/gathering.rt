@@ -9,7 +9,7 @@ use papi_base::{Sink, WriteFail, write_whole};
 // So many bytes or more are written at once.
 const PIECE: usize = 65_536;
 
-/// Writes what is gathered where it is a piece or more, and else waits for more text. After an error a prefix of it is written.
+/// Writes what is gathered if it is a piece or more, and else waits for more text. After an error a prefix of it is written.
 pub(crate) fn write_piece<K: Sink>(gathered: &mut String, out: &mut K) -> Result<(), WriteFail>
     ensures ok { OnOk result
         (IsWrittenSoFar (K.taken out.old) (K.taken out.new) (string_bytes gathered.old)

@@ -1,9 +1,9 @@
-//! What a line of a plan asks for, where the native events up to this line are mentioned.
+//! What a line of a plan asks for, if the native events up to this line are mentioned.
 
 ghost use Rattle.std.specs.Prelude.{◌≡◌, ◌==◌, ◌<◌, IfOk, OnErr, OnOk, length, position};
 ghost use Rattle.component_table.specs.Codes.{row_codes};
 ghost use Rattle.component_table.specs.declared.native_codes.TheConstants.{MOST_MENTIONED};
-ghost use Rattle.plan_runner.specs.Plans.{event_by, looked_up};
+ghost use Rattle.plan_runner.specs.Plans.{event_by, planned_by};
 ghost use Rattle.postfix_rules.specs.Sameness.{joined_by};
 ghost use Rattle.script_runner.specs.Resolving.{mentions_by, setting_of};
 ghost use Rattle.session_model.specs.World.{mentions_of, mentions_of_call};
@@ -27,7 +27,7 @@ fn event_of_code(catalog: &Catalog, code: u32, codes: &NativeCodes) -> Option<Ev
     Some(EventRef::Native(native))
 }
 
-// Mentions the native event that a text names, where it names one.
+// Mentions the native event that a text names, if it names one.
 fn mention_named(named: Named, codes: &mut NativeCodes) -> Result<(), AllocError>
     requires few { length codes.old < MOST_MENTIONED }
     ensures ok { OnOk result (codes.new ≡ joined_by codes.old (mentions_by named)) }
@@ -53,7 +53,7 @@ fn mention_in(call: &Call, codes: &mut NativeCodes) -> Result<(), AllocError>
     }
 }
 
-/// What a line asks for, looked up where its own mention is the last one.
+/// What a line asks for, looked up if its own mention is the last one.
 pub(crate) fn planned_of(
     catalog: &Catalog,
     asked: Asked,
@@ -61,7 +61,7 @@ pub(crate) fn planned_of(
 ) -> Result<Planned, AllocError>
     requires few { length codes.old < MOST_MENTIONED }
     ensures planned { IfOk result
-        (λ planned. planned ≡ looked_up (setting_of catalog.now) codes.new asked) }
+        (λ planned. planned ≡ planned_by (setting_of catalog.now) codes.new asked) }
     ensures mentioned { OnOk result (codes.new ≡ joined_by codes.old (mentions_of asked)) }
     ensures unchanged { OnErr result (codes.new ≡ codes.old) }
 {

@@ -4,8 +4,8 @@ ghost use Rattle.std.specs.Prelude.{◌≡◌, [], IfOk, List, OnOk};
 ghost use Rattle.component_table.specs.Catalogs.{shape_of};
 ghost use Rattle.plan_runner.specs.Plans.{AreGood, IsPlanOf};
 ghost use Rattle.plan_runner.specs.Runs.{reply_lines};
-ghost use Rattle.script_runner.specs.Resolving.{IsBegun, lines_of, mentioned_in, reply_lines_of, setting_of};
-ghost use Rattle.session_model.specs.World.{Told};
+ghost use Rattle.script_runner.specs.Resolving.{AreFirstOf, lines_of, mentioned_in, reply_lines_of, setting_of};
+ghost use Rattle.session_model.specs.World.{LineTold};
 
 use crate::asking::asked_of;
 use crate::planning::planned_of;
@@ -16,7 +16,7 @@ use std::alloc::{AllocError, Global};
 
 /// The plan of a script: its texts and codes are looked up in the order of the lines, each once.
 ///
-/// The native events that lines mention go to `codes`, which has none yet. Where memory runs out, a prefix of them did.
+/// The native events that lines mention go to `codes`, which has none yet. If memory runs out, a prefix of them did.
 pub fn resolve(
     alloc: Global,
     script: &Script,
@@ -28,11 +28,11 @@ pub fn resolve(
     ensures plan { IfOk result
         (λ plan. IsPlanOf (setting_of catalog.now) (lines_of catalog.now script.now) plan) }
     ensures heads { IfOk result
-        (λ plan. (told : List Told) → reply_lines plan told ≡ reply_lines_of script.now told) }
+        (λ plan. (told : List LineTold) → reply_lines plan told ≡ reply_lines_of script.now told) }
     ensures good { IfOk result
         (λ plan. AreGood catalog.now.book (shape_of catalog.now.tables) plan) }
     ensures codes { OnOk result (codes.new ≡ mentioned_in (lines_of catalog.now script.now)) }
-    ensures begun { IsBegun (mentioned_in (lines_of catalog.now script.now)) codes.new }
+    ensures begun { AreFirstOf (mentioned_in (lines_of catalog.now script.now)) codes.new }
 {
     let mut lines = Vec::new(alloc);
     for line in script.lines() {

@@ -4,7 +4,7 @@ ghost use Rattle.std.specs.Prelude.{◌≡◌, ◌≤◌, ◌++◌, OnOk, OnErr,
 ghost use Rattle.papi_base.specs.Outside.{Rose, appended, next_count};
 ghost use Rattle.reply_text.specs.Notes.{note_text};
 ghost use Rattle.script_runner.specs.Pieces.{IsPartWritten};
-ghost use Rattle.script_runner.specs.Replies.{notes_text, reply_line_text, reply_text};
+ghost use Rattle.script_runner.specs.Replies.{notes_text, replies_text, reply_line_text};
 
 use crate::gathering::write_piece;
 use component_table::Catalog;
@@ -15,7 +15,7 @@ use reply_text::{push_note_line, push_reply_line};
 use std::alloc::Global;
 
 // Appends the text of a reply.
-fn push_reply(text: &mut String, catalog: &Catalog, line: &ReplyLine) -> Result<(), WriteFail>
+fn gather_reply(text: &mut String, catalog: &Catalog, line: &ReplyLine) -> Result<(), WriteFail>
     ensures text { OnOk result
         (string_bytes text.new ≡ string_bytes text.old ++ reply_line_text catalog.now line.now) }
     ensures not_failed { IsErrOf result WriteFail.Failed → ⊥ }
@@ -35,7 +35,7 @@ fn push_reply(text: &mut String, catalog: &Catalog, line: &ReplyLine) -> Result<
 
 /// Writes the replies in order, each as a line: the number of the script's line, the thread, the call, the code and the results.
 /// After an error a prefix of this text is written.
-#[tactic(auto, unfolding(crate::specs::Replies::reply_text))]
+#[tactic(auto, unfolding(crate::specs::Replies::replies_text))]
 pub fn write_replies<K: Sink>(
     alloc: Global,
     lines: &[ReplyLine],
@@ -43,9 +43,9 @@ pub fn write_replies<K: Sink>(
     out: &mut K,
 ) -> Result<(), WriteFail>
     ensures ok { OnOk result
-        (K.taken out.new ≡ appended (K.taken out.old) (reply_text catalog.now lines.now)) }
+        (K.taken out.new ≡ appended (K.taken out.old) (replies_text catalog.now lines.now)) }
     ensures part { OnErr result
-        (IsPartWritten (K.taken out.old) (K.taken out.new) (reply_text catalog.now lines.now)) }
+        (IsPartWritten (K.taken out.old) (K.taken out.new) (replies_text catalog.now lines.now)) }
     ensures failed { IsErrOf result WriteFail.Failed → Rose (K.faults out.old) (K.faults out.new) }
     ensures once { IsErrOf result WriteFail.Failed
         → K.faults out.new ≡ next_count (K.faults out.old) }
@@ -55,14 +55,14 @@ pub fn write_replies<K: Sink>(
 {
     let mut gathered = String::new(alloc);
     for line in lines {
-        push_reply(&mut gathered, catalog, line)?;
+        gather_reply(&mut gathered, catalog, line)?;
         write_piece(&mut gathered, out)?;
     }
     write_whole(out, gathered.as_bytes())
 }
 
 // Appends the text of a note.
-fn push_note(text: &mut String, note: &Note) -> Result<(), WriteFail>
+fn gather_note(text: &mut String, note: &Note) -> Result<(), WriteFail>
     ensures text { OnOk result
         (string_bytes text.new ≡ string_bytes text.old ++ note_text note.now) }
     ensures not_failed { IsErrOf result WriteFail.Failed → ⊥ }
@@ -86,7 +86,7 @@ pub fn write_notes<K: Sink>(alloc: Global, notes: &[Note], out: &mut K) -> Resul
 {
     let mut gathered = String::new(alloc);
     for note in notes {
-        push_note(&mut gathered, note)?;
+        gather_note(&mut gathered, note)?;
         write_piece(&mut gathered, out)?;
     }
     write_whole(out, gathered.as_bytes())

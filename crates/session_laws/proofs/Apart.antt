@@ -103,7 +103,7 @@ started_apart f sets k same alone apart = record { each = each } where
     other : (runs_on (Some component) y ≡ true → ⊥) → count_by (runs_on (Some component)) (slice_set (faces_of sets) k y) ≤ 1
     other not = let still = apart.each component in omega (arith, still, count_set-le (runs_on (Some component)) (faces_of sets) k y (λ e. absurd (not e)))
 
-    -- what it runs on, where its component is this
+    -- what it runs on, if its component is this
     runs_by : (c : Option ℕ) → s.set.component ≡ c → runs_on (Some component) y ≡ ((f s).running && option_map_or (λ z. z == component) c false)
     runs_by c is = ap (λ o. (f s).running && option_map_or (λ z. z == component) o false) (same s ∙ is)
 

@@ -13,13 +13,13 @@ use Rattle.event_sets.specs.AtRest.{Widths}
 use Rattle.papi_base.specs.Streams.{Coming, Dry}
 use Rattle.session_model.specs.Account.{Account, opening}
 use Rattle.session_model.specs.Step.{step, account_after, replies_to, notes_to}
-use Rattle.session_model.specs.World.{Setting, account_at, turn, mentioned_after, world_after_line, call_of, is_call, calls_at, opening_accounts}
+use Rattle.session_model.specs.World.{Setting, account_at, turn, mentioned_after, world_after_line, calls_asked, is_call, calls_at, opening_accounts}
 use Rattle.session_laws.specs.Worlds.{AccountByThread, NotesByThread, OpensByThread, RepliesByThread}
 use Rattle.session_laws.proofs.Places.{set_same, set_other}
 
 -- the calls of a line that are the thread's
 abbrev own : ℕ → ℕ → Asked → List Call
-own s t a = if s == t then call_of a else []
+own s t a = if s == t then calls_asked a else []
 
 account-append : (book : Book) (shape : Widths) (a : Account) (xs ys : List Call) → account_after book shape a (xs ++ ys) ≡ account_after book shape (account_after book shape a xs) ys
 account-append book shape a [] ys = refl

@@ -19,7 +19,7 @@ use Rattle.multiplex.proofs.Ticks.{count-cons, range-append}
 use Rattle.multiplex.proofs.Estimates.{estimate_whole}
 use Rattle.session_laws.specs.Turning.{CountsPerTick, OneGroupCounts}
 
--- a weight is at most 255 where the amount is
+-- a weight is at most 255 if the amount is
 weight_small : (h e b c : Bool) (x : ℕ) → x ≤ 255 → (if h then (if e then (if b then 0 else 1) else (if c then x else 1)) else 0) ≤ 255
 weight_small true true true c x k = omega arith
 weight_small true true false c x k = omega arith

@@ -1,4 +1,4 @@
--- Whatever is kept of each set: where it follows the set, the sets after a call and the reply follow the account.
+-- Whatever is kept of each set: if it follows the set, the sets after a call and the reply follow the account.
 use Rattle.std.proofs.Common.{◌≡◌, ℕ, List, [], ◌∷◌, ℤ, map, refl, ap, ap₂, ◌∙◌, Option, Some, None, slice_set}
 use Rattle.std.specs.Option.{option_map, option_map_or}
 use Rattle.papi_base.specs.declared.occurrence.Occ.{Occ}

@@ -28,14 +28,14 @@ use Rattle.session_model.specs.Account.{Account, opening}
 use Rattle.session_model.specs.Faces.{faces_of, is_running}
 use Rattle.session_model.specs.Refusals.{first_of, row}
 use Rattle.session_model.specs.Replies.{done}
-use Rattle.session_model.specs.Step.{Outcome, account_refusal, performed, replies_to, step, unless}
+use Rattle.session_model.specs.Step.{StepOutcome, account_refusal, performed, replies_to, step, unless}
 use Rattle.session_model.specs.World.{Setting, account_at, answer, calls_at, listed_from, mentioned_after, turn, world_after_line}
 use Rattle.session_laws.specs.Worlds.{Ahead, IsAhead, MergesToWorld, RegisteredFollows, ahead_after, bits_from, merged_reply, next_reply, registered_after}
 use Rattle.session_laws.proofs.Sets.{map_put}
 
 -- ---- a thread's registration
 
-keeps : (o : Option Refusal) (a : Account) (made : Outcome) → made.account.registered ≡ a.registered → (unless o a made).account.registered ≡ a.registered
+keeps : (o : Option Refusal) (a : Account) (made : StepOutcome) → made.account.registered ≡ a.registered → (unless o a made).account.registered ≡ a.registered
 keeps None a made e = e
 keeps (Some r) a made e = refl
 
@@ -138,16 +138,16 @@ call_goes at accounts m t c ls q few h =
     let flag : slice_index_or q.flags t false ≡ a.registered = ap (λ fs. slice_index_or fs t false) h.registered ∙ flag_at accounts t a false one.1 in
     let now : step at.book at.shape (account_at accounts t) c ≡ made = ap (λ b. step at.book at.shape b c) is in
     let registers : registered_after c (next_reply (slice_index_or q.replies t [])).code (slice_index_or q.flags t false) ≡ (step at.book at.shape (account_at accounts t) c).account.registered =
-    ap₂ (λ r f. registered_after c r.code f) first flag ∙ (sym (registered_follows at.book at.shape a c) ∙ ap (λ (o : Outcome). o.account.registered) (sym now)) in
+    ap₂ (λ r f. registered_after c r.code f) first flag ∙ (sym (registered_follows at.book at.shape a c) ∙ ap (λ (o : StepOutcome). o.account.registered) (sym now)) in
     record {
-      replied = first ∙ ap (λ (o : Outcome). o.reply) (sym now);
+      replied = first ∙ ap (λ (o : StepOutcome). o.reply) (sym now);
       ahead = record {
         registered = ap₂ (λ fs f. slice_set fs t f) h.registered registers ∙ map_put (λ b. b.registered) accounts t (step at.book at.shape (account_at accounts t) c).account;
         same_length = length-set q.replies t _ ∙ (h.same_length ∙ sym (length-set accounts t _));
         replies_each = λ s b e. elim (cases_eq t s) [
           | inl same ↦
               let there : slice_get (slice_set accounts t (step at.book at.shape (account_at accounts t) c).account) t ≡ Some b = ap (slice_get (slice_set accounts t (step at.book at.shape (account_at accounts t) c).account)) same ∙ e in
-              let b_is : made.account ≡ b = ap (λ (o : Outcome). o.account) (sym now) ∙ get_put_same accounts t _ b few there in
+              let b_is : made.account ≡ b = ap (λ (o : StepOutcome). o.account) (sym now) ∙ get_put_same accounts t _ b few there in
               let room : t < length q.replies = omega (arith, few, h.same_length) in
               subst (λ k. slice_index_or (slice_set q.replies t (drop 1 (slice_index_or q.replies t []))) k [] ≡ replies_to at.book at.shape b (calls_at k ls)) same
               (get_or-set_same q.replies t _ [] room ∙ (others ∙ ap (λ x. replies_to at.book at.shape x (calls_at t ls)) b_is))

@@ -21,7 +21,7 @@ passed : (b : Bool) (r : Refusal) (rest : Option Refusal) → (if b then Some r 
 passed true r rest e = cc
 passed false r rest e = (refl, e)
 
--- where a call is not refused, no row of its table comes
+-- if a call is not refused, no row of its table comes
 pub row_fails : (rs : List (Bool × Refusal)) (i : ℕ) → first_of rs ≡ None → option_map_or (λ r. r.0) (slice_get rs i) false ≡ false
 row_fails [] i e = refl
 row_fails (r ∷ rs) zero e = (passed r.0 r.1 (first_of rs) e).0
@@ -71,7 +71,7 @@ change_each P f sets k h given = All-set (λ place. ForSome place P) sets k (opt
   one None q = λ x e. cc
   one (Some s) q = of_one P (f s) (given s q (each_at P sets k s h q))
 
--- what a call leaves of the set that it changes has the property where the set had it
+-- what a call leaves of the set that it changes has the property if the set had it
 abbrev pub Keeps : (Kept → Type 0) → Book → List Occ → Call → List (Option Kept) → Type 0
 Keeps P book past call sets = (k : ℕ) (s : Kept) → changed_by call ≡ Some k → at sets k ≡ Some s → P s → P (kept_after book past call s)
 
@@ -143,7 +143,7 @@ pub test_fails : (book : Book) (shape : Widths) (a : Account) (c : Call) (i k : 
     → option_map_or (λ r. r.0) (slice_get (rows book shape a.registered (faces_of a.sets) c) i) false ≡ has test (faces_of a.sets) k → test s.set ≡ false
 test_fails book shape a c i k test s q there same = sym (same ∙ has_at test a.sets k s there) ∙ row_fails (rows book shape a.registered (faces_of a.sets) c) i q
 
--- a row that comes where the set runs
+-- a row that comes if the set runs
 pub is_stopped : (book : Book) (shape : Widths) (a : Account) (c : Call) (i k : ℕ) (s : Kept) → account_refusal book shape a c ≡ None → at a.sets k ≡ Some s
     → option_map_or (λ r. r.0) (slice_get (rows book shape a.registered (faces_of a.sets) c) i) false ≡ runs (faces_of a.sets) k → s.running ≡ false
 is_stopped book shape a c i k s q there same = sym (same ∙ runs_at a.sets k s there) ∙ row_fails (rows book shape a.registered (faces_of a.sets) c) i q

@@ -32,7 +32,7 @@ abbrev pub WithinStays : Type 0
 WithinStays = (book : Book) (shape : Widths) (a : Account) (call : Call) → AllWithin (length a.past) a.sets
     → AllWithin (length (step book shape a call).account.past) (step book shape a call).account.sets
 
--- the stamps of the past rise where those of all occurrences did, and those of all occurrences go on to do so
+-- the stamps of the past rise if those of all occurrences did, and those of all occurrences go on to do so
 abbrev pub RiseStays : Type 0
 RiseStays = (book : Book) (shape : Widths) (a : Account) (call : Call) → Rises 0 (a.past ++ a.rest)
     → Rises 0 (step book shape a call).account.past × Rises 0 ((step book shape a call).account.past ++ (step book shape a call).account.rest)

@@ -58,7 +58,7 @@ abbrev pub bits_from : ℕ → List Bool → ℕ
 bits_from bit [] = 0
 bits_from bit (on ∷ flags) = (if on then bit else 0) + bits_from (2 * bit) flags
 
--- what a line that is not a session's call replies, where these natives are mentioned and these threads are registered
+-- what a line that is not a session's call replies, if these natives are mentioned and these threads are registered
 abbrev pub answer_by : Setting → List Native → List Bool → Asked → Reply
 answer_by at mentioned flags asked.Threads = done (body.Threads (bits_from 1 flags))
 answer_by at mentioned flags (asked.CodeOf e) = answer at [] mentioned (asked.CodeOf e)
@@ -85,7 +85,7 @@ ahead_after x t (asked.CodeOf e) = x
 ahead_after x t (asked.NameOf c) = x
 ahead_after x t asked.Threads = x
 
--- the reply to a line: the next one of its thread where it is a session's call, and else what the registered threads and mentions answer
+-- the reply to a line: the next one of its thread if it is a session's call, and else what the registered threads and mentions answer
 abbrev pub merged_reply : Setting → List Native → Ahead → ℕ → Asked → Reply
 merged_reply at mentioned x t (asked.Call c) = next_reply (slice_index_or x.replies t [])
 merged_reply at mentioned x t (asked.CodeOf e) = answer_by at mentioned x.flags (asked.CodeOf e)

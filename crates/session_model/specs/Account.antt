@@ -41,7 +41,7 @@ time_after (Some o) = o.stamp + 1
 abbrev pub clock : List Occ → ℕ → ℕ
 clock past k = time_after (last_after None (take k past))
 
--- the end of a set's window, where so many occurrences were consumed
+-- the end of a set's window, after n occurrences were consumed
 abbrev pub end : ℕ → Kept → ℕ
 end now s = if s.running then now else s.to
 

@@ -52,7 +52,7 @@ changed_by (call.Accum k) = Some k
 changed_by (call.Reset k) = Some k
 changed_by call = None
 
--- the item under a number changed, where there is a number
+-- the item under a number changed, if there is a number
 abbrev pub changed_at : {X : Type 0} → (X → X) → Option ℕ → List (Option X) → List (Option X)
 changed_at f None sets = sets
 changed_at f (Some k) sets = change f sets k

@@ -5,7 +5,7 @@ use Rattle.papi_base.specs.declared.native.Native.{Native}
 use Rattle.papi_base.specs.Weight.{weight_of}
 use Rattle.session_model.specs.Account.{Kept}
 
--- what each occurrence weighs, where `before` came just before the first
+-- what each occurrence weighs, if `before` came just before the first
 abbrev pub along : (Option Occ → Occ → ℕ) → Option Occ → List Occ → List ℕ
 along weigh before [] = []
 along weigh before (o ∷ os) = weigh before o ∷ along weigh (Some o) os

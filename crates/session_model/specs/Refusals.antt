@@ -17,7 +17,7 @@ use Rattle.event_sets.specs.AtRest.{Widths, AtRest, set_natives, has_event, cann
 use Rattle.event_sets.specs.AtRest.{cannot_arm, is_bad_threshold, shares_native, is_bad_domain, is_bad_slice, is_other, widths_at}
 use Rattle.session_model.specs.Faces.{Face, at, is_absent, has, runs, is_running, component_runs}
 
--- a refusal by a code alone, where it comes
+-- a refusal by a code alone, if it comes
 abbrev pub row : Bool → Code → Bool × Refusal
 row comes code = (comes, Plain code)
 
@@ -25,12 +25,12 @@ row comes code = (comes, Plain code)
 abbrev pub clash_at : Book → EventRef → List (Option Face) → ℕ → Option Clash
 clash_at book e faces k = option_and_then (λ f. clash_with book e f.set) (at faces k)
 
--- PAPI_ECNFLCT with the clash that is to blame, where one is found
+-- PAPI_ECNFLCT with the clash that is to blame, if one is found
 abbrev pub conflict_of : Option Clash → Refusal
 conflict_of None = Plain Ecnflct
 conflict_of (Some clash) = Conflict clash
 
--- the refusal by a clash, where there is one
+-- the refusal by a clash, if there is one
 abbrev pub conflict_row : Option Clash → Bool × Refusal
 conflict_row clash = (is_some clash, conflict_of clash)
 
@@ -55,7 +55,7 @@ leaves_free_by (Some slice) book c s = false
 abbrev pub leaves_free : Book → ℕ → AtRest → Bool
 leaves_free book c s = leaves_free_by s.slice book c s
 
--- the refusals of a call in their order: where each comes, and what it is
+-- the refusals of a call in their order: whether each comes, and what it is
 abbrev pub rows : Book → Widths → Bool → List (Option Face) → Call → List (Bool × Refusal)
 rows book shape registered faces call.Register = []
 rows book shape registered faces call.Unregister =
@@ -157,6 +157,6 @@ abbrev pub first_of : List (Bool × Refusal) → Option Refusal
 first_of [] = None
 first_of (r ∷ rest) = if r.0 then Some r.1 else first_of rest
 
--- how a call is refused, where it is: by the first row that comes
+-- how a call is refused, if it is: by the first row that comes
 abbrev pub refusal_of : Book → Widths → Bool → List (Option Face) → Call → Option Refusal
 refusal_of book shape registered faces call = first_of (rows book shape registered faces call)

@@ -21,7 +21,7 @@ use Rattle.session_model.specs.Changes.{new_kept, kept_after, sets_after}
 use Rattle.session_model.specs.Replies.{refused, reply_over, sight_of_kept}
 
 -- what a call gives
-pub record Outcome : Type 0 where
+pub record StepOutcome : Type 0 where
   pub account : Account
   pub reply : Reply
   pub notes : List Note
@@ -50,8 +50,8 @@ advanced short k a = record a { past = a.past ++ take k a.rest; rest = drop k a.
 abbrev pub coming_notes : Book → ℕ → Account → List Note
 coming_notes book k a = notes_over book a.thread a.sets a.past (take k a.rest)
 
--- a run that takes the next k occurrences; it is short where it asked for more
-abbrev pub ran : Book → Bool → ℕ → Account → Outcome
+-- a run that takes the next k occurrences; it is short if it asked for more
+abbrev pub ran : Book → Bool → ℕ → Account → StepOutcome
 ran book short k a = record {
   account = advanced short k a;
   reply = ran_reply k (coming_notes book k a) (if short then ended_at a.mark else ended.Going);
@@ -59,7 +59,7 @@ ran book short k a = record {
 }
 
 -- a call that is not refused
-abbrev pub performed : Book → Widths → Account → Call → Outcome
+abbrev pub performed : Book → Widths → Account → Call → StepOutcome
 performed book shape a (call.Run n) = ran book (nat_lt (length a.rest) n) (min n (length a.rest)) a
 performed book shape a call.Register = record {
   account = record a { registered = true };
@@ -78,16 +78,16 @@ performed book shape a call = record {
 }
 
 -- a refused call changes nothing
-abbrev pub unless : Option Refusal → Account → Outcome → Outcome
+abbrev pub unless : Option Refusal → Account → StepOutcome → StepOutcome
 unless (Some r) a outcome = record { account = a; reply = refused r; notes = [] }
 unless None a outcome = outcome
 
--- how the call is refused in this account, where it is
+-- how the call is refused in this account, if it is
 abbrev pub account_refusal : Book → Widths → Account → Call → Option Refusal
 account_refusal book shape a call = refusal_of book shape a.registered (faces_of a.sets) call
 
 -- What one call does: a refused call changes nothing and replies with its refusal, any other one is performed.
-abbrev pub step : Book → Widths → Account → Call → Outcome
+abbrev pub step : Book → Widths → Account → Call → StepOutcome
 step book shape a call = unless (account_refusal book shape a call) a (performed book shape a call)
 
 -- what is left after some calls, their replies, and their notes

@@ -35,7 +35,7 @@ abbrev pub notes_of_place : Book → ℕ → List Occ → Occ → ℕ → Option
 notes_of_place book thread past o number None = []
 notes_of_place book thread past o number (Some s) = map (note thread number o) (passed_in s.running book past s o)
 
--- the notes of all sets at the occurrence that comes after `past`, where the list begins at this number
+-- the notes of all sets at the occurrence that comes after `past`, if the list begins at this number
 abbrev pub notes_at : Book → ℕ → List Occ → Occ → ℕ → List (Option Kept) → List Note
 notes_at book thread past o number [] = []
 notes_at book thread past o number (place ∷ places) = notes_of_place book thread past o number place ++ notes_at book thread past o (number + 1) places

@@ -8,7 +8,7 @@ use Rattle.session_model.specs.Account.{Kept}
 use Rattle.session_model.specs.Counts.{count}
 use Rattle.session_model.specs.Estimates.{estimated}
 
--- a native's count, or its estimate where the set is multiplexed
+-- a native's count, or its estimate if the set is multiplexed
 abbrev pub measured : Option ℕ → Book → List Occ → Kept → Native → ℕ
 measured None book past s n = count past s n
 measured (Some slice) book past s n = estimated book past s slice n

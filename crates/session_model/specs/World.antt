@@ -24,7 +24,7 @@ use Rattle.papi_base.specs.Streams.{Coming, Dry}
 use Rattle.papi_base.specs.declared.limits.TheConstants.{THREADS}
 use Rattle.session_model.specs.Account.{Account, opening}
 use Rattle.session_model.specs.Replies.{plain, done}
-use Rattle.session_model.specs.Step.{Outcome, step}
+use Rattle.session_model.specs.Step.{StepOutcome, step}
 
 -- what all threads share: the book of presets and user events, the codes of its rows, and the counters
 pub record Setting : Type 0 where
@@ -37,7 +37,7 @@ pub record World : Type 0 where
   pub accounts : List Account
   pub mentioned : List Native
 
--- the accounts of so many threads from this number on; a thread without a stream has an empty one
+-- the accounts of n threads from this number on; a thread without a stream has an empty one
 abbrev pub opening_accounts : ℕ → ℕ → List Coming → List Account
 opening_accounts zero t streams = []
 opening_accounts (suc n) t [] = opening t [] Dry ∷ opening_accounts n (t + 1) []
@@ -72,12 +72,12 @@ name_by (Some row) native = done (body.EventName (event.Preset row))
 name_by None (Some n) = done (body.EventName (event.Native n))
 name_by None None = plain code.Enoevnt
 
--- the registered threads as bits, where the list begins at this bit: PAPI_list_threads(3)
+-- the registered threads as bits, if the list begins at this bit: PAPI_list_threads(3)
 abbrev pub listed_from : ℕ → List Account → ℕ
 listed_from bit [] = 0
 listed_from bit (a ∷ accounts) = (if a.registered then bit else 0) + listed_from (2 * bit) accounts
 
--- what a line that is not a session's call replies, where these natives are mentioned
+-- what a line that is not a session's call replies, if these natives are mentioned
 abbrev pub answer : Setting → List Account → List Native → Asked → Reply
 answer at accounts mentioned (asked.CodeOf (Ok (event.Native n))) = done (body.EventCode (native_code mentioned n))
 answer at accounts mentioned (asked.CodeOf (Ok (event.Preset row))) = done (body.EventCode (unwrap_or (slice_get at.codes row) 0))
@@ -87,7 +87,7 @@ answer at accounts mentioned asked.Threads = done (body.Threads (listed_from 1 a
 answer at accounts mentioned (asked.Call c) = plain code.Ok
 
 -- what is told of one line
-pub record Told : Type 0 where
+pub record LineTold : Type 0 where
   pub line : Line
   pub reply : Reply
   pub notes : List Note
@@ -99,10 +99,10 @@ pub record Turn : Type 0 where
   pub notes : List Note
 
 -- the thread's account after its call, and what the call gives
-abbrev pub turn_by : List Account → ℕ → Outcome → Turn
+abbrev pub turn_by : List Account → ℕ → StepOutcome → Turn
 turn_by accounts t outcome = record { accounts = slice_set accounts t outcome.account; reply = outcome.reply; notes = outcome.notes }
 
--- what a line of a thread does, where these natives are mentioned
+-- what a line of a thread does, if these natives are mentioned
 abbrev pub turn : Setting → List Account → List Native → ℕ → Asked → Turn
 turn at accounts mentioned t (asked.Call c) = turn_by accounts t (step at.book at.shape (account_at accounts t) c)
 turn at accounts mentioned t a = record { accounts = accounts; reply = answer at accounts mentioned a; notes = [] }
@@ -120,7 +120,7 @@ abbrev pub world_after_line : Setting → World → Line → World
 world_after_line at w l = record { accounts = (turn_of at w l).accounts; mentioned = mentioned_after w.mentioned l }
 
 -- what is told of each line, in the script's order
-abbrev pub told : Setting → World → List Line → List Told
+abbrev pub told : Setting → World → List Line → List LineTold
 told at w [] = []
 told at w (l ∷ ls) = record { line = l; reply = (turn_of at w l).reply; notes = (turn_of at w l).notes } ∷ told at (world_after_line at w l) ls
 
@@ -141,24 +141,24 @@ abbrev pub calls_on : ℕ → Line → Bool
 calls_on t l = (l.thread == t) && is_call l.asked
 
 -- the call that a line asks for, as a list of one or none
-abbrev pub call_of : Asked → List Call
-call_of (asked.Call c) = c ∷ []
-call_of (asked.CodeOf e) = []
-call_of (asked.NameOf c) = []
-call_of asked.Threads = []
+abbrev pub calls_asked : Asked → List Call
+calls_asked (asked.Call c) = c ∷ []
+calls_asked (asked.CodeOf e) = []
+calls_asked (asked.NameOf c) = []
+calls_asked asked.Threads = []
 
 -- a thread's calls, in order
 abbrev pub calls_at : ℕ → List Line → List Call
 calls_at t [] = []
-calls_at t (l ∷ ls) = (if l.thread == t then call_of l.asked else []) ++ calls_at t ls
+calls_at t (l ∷ ls) = (if l.thread == t then calls_asked l.asked else []) ++ calls_at t ls
 
 -- the replies to a thread's calls, in order
-abbrev pub replies_at : ℕ → List Told → List Reply
+abbrev pub replies_at : ℕ → List LineTold → List Reply
 replies_at t [] = []
 replies_at t (x ∷ xs) = (if calls_on t x.line then x.reply ∷ [] else []) ++ replies_at t xs
 
 -- the notes of a thread, in order
-abbrev pub notes_of_thread : ℕ → List Told → List Note
+abbrev pub notes_of_thread : ℕ → List LineTold → List Note
 notes_of_thread t [] = []
 notes_of_thread t (x ∷ xs) = (if x.line.thread == t then x.notes else []) ++ notes_of_thread t xs
 
@@ -168,7 +168,7 @@ met_by ended.Going = None
 met_by (ended.Bad line cause) = Some (ended.Bad line cause)
 met_by ended.Fault = Some ended.Fault
 
--- the mark that a reply shows, where it is one of a run that met one
+-- the mark that a reply shows, if it is one of a run that met one
 abbrev pub met_in : Body → Option Ended
 met_in (body.Ran r) = met_by r.ended
 met_in b = None

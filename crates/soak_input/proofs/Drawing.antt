@@ -37,7 +37,7 @@ six_in_pairs start first second third n a b c =
 
 -- ---- a source
 
--- the next line is drawn where the last one was given
+-- the next line is drawn if the last one was given
 pub line_drawn : (line line' : Text) (given left number number' : ℕ) (o : Occurrence) → length line ≡ given → 0 < left → o ≡ occurrence_after number → number' ≡ fifth number → line' ≡ line_text o →
     left_text line' 0 (left - 1) number' ≡ left_text line given left number
 unfolding occurrences_after
@@ -95,7 +95,7 @@ filled_gives all buf rest n small is end =
       none = λ none. ap Ok (nothing_in buf rest n small (sym is ∙ none));
     }
 
--- where no line and no occurrence is left, nothing is
+-- if no line and no occurrence is left, nothing is
 pub ended_text : (line : Text) (given left number : ℕ) → given ≡ length line → left ≡ 0 → left_text line given left number ≡ []
 unfolding occurrences_after
 ended_text line given left number whole none = rw none (ap (λ (t : Text). t ++ []) (drop_all given line (omega (arith, whole))))

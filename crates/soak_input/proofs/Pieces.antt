@@ -17,7 +17,7 @@ both start middle after x y first second = second ∙ ap (λ (t : Text). t ++ y)
 pub three : (start a b after u v w : Text) → start ≡ [] → a ≡ start ++ u → b ≡ a ++ v → after ≡ b ++ w → after ≡ u ++ (v ++ w)
 three start a b after u v w none p q r = both start a after u (v ++ w) p (both a b after v w q r) ∙ ap (λ (t : Text). t ++ (u ++ (v ++ w))) none
 
--- six pieces, of which the last is appended where memory is there
+-- six pieces, of which the last is appended if memory is there
 pub six : {T E : Type 0} (answer : Result T E) (start a b c d e f u v w x y z : Text) → a ≡ start ++ u → b ≡ a ++ v → c ≡ b ++ w → d ≡ c ++ x → e ≡ d ++ y → OnOk answer (f ≡ e ++ z) →
     OnOk answer (f ≡ start ++ (u ++ (v ++ (w ++ (x ++ (y ++ z))))))
 six (Ok value) start a b c d e f u v w x y z p q r s t last =

@@ -37,11 +37,11 @@ occurrence_after x = record {
   program_counter = counter_of (draw_at (fifth x));
 }
 
--- so many occurrences after a number
+-- n occurrences after a number
 unfoldable pub occurrences_after : ℕ → ℕ → List Occurrence
 occurrences_after zero x = []
 occurrences_after (suc count) x = occurrence_after x ∷ occurrences_after count (fifth x)
 
--- what occurs in a thread of a soak of so many rounds
+-- what occurs in a thread of a soak of n rounds
 abbrev pub occurrences_of : ℕ → ℕ → List Occurrence
 occurrences_of rounds thread = occurrences_after (100 * rounds) (64 * rounds + thread)

@@ -30,7 +30,7 @@ stop_line thread = call_line (codes "stop 0") thread
 unfoldable pub by_thread : (ℕ → Text) → Text
 by_thread lines = flat_map lines (range_with_len 0 SOAK_THREADS)
 
--- the lines of so many rounds
+-- the lines of n rounds
 unfoldable pub rounds_lines : ℕ → Text
 rounds_lines rounds = flat_map (λ round. by_thread round_lines) (range_with_len 0 rounds)
 

@@ -5,7 +5,7 @@ use Rattle.papi_base.specs.declared.outside.Ending.TheVariants.{End}
 use Rattle.soak_input.specs.Occurrences.{occurrences_after}
 use Rattle.soak_input.specs.Streams.{Text, lines_text}
 
--- what is left of a line, and the lines of so many occurrences after a number
+-- what is left of a line, and the lines of n occurrences after a number
 abbrev pub left_text : Text → ℕ → ℕ → ℕ → Text
 left_text line given left number = drop given line ++ lines_text (occurrences_after left number)
 

@@ -32,6 +32,6 @@ line_text o =
 abbrev pub lines_text : List Occurrence → Text
 lines_text occurrences = flat_map line_text occurrences
 
--- the stream of a thread of a soak of so many rounds
+-- the stream of a thread of a soak of n rounds
 unfoldable pub stream_text : ℕ → ℕ → Text
 stream_text rounds thread = lines_text (occurrences_of rounds thread)

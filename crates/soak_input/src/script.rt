@@ -62,7 +62,7 @@ fn push_stops(text: &mut String) -> Result<(), AllocError>
     Ok(())
 }
 
-/// The script of a soak of so many rounds: each of the four threads opens an event set and starts it, runs and reads it in each
+/// The script of a soak of n rounds: each of the four threads opens an event set and starts it, runs and reads it in each
 /// round, and stops it.
 pub fn script_text(alloc: Global, rounds: u32) -> Result<String, AllocError>
     ensures { IfOk result (λ text. string_bytes text ≡ script_text rounds) }

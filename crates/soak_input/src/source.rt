@@ -21,7 +21,7 @@ pub struct SoakSource {
 impl SoakSource {
     ghost use Rattle.soak_input.specs.SourceView.{text_left};
 
-    /// The stream of a thread of a soak of so many rounds, from its beginning.
+    /// The stream of a thread of a soak of n rounds, from its beginning.
     #[tactic(auto, unfolding(crate::specs::Streams::stream_text))]
     pub fn new(rounds: u32, thread: u32) -> SoakSource
         ensures { text_left result ≡ stream_text rounds thread }
@@ -34,7 +34,7 @@ impl SoakSource {
         }
     }
 
-    // Draws the next line, where the last one was given.
+    // Draws the next line, if the last one was given.
     fn draw_line(&mut self)
         requires given { array_vec_len self.old.line ≡ self.old.given }
         requires left { 0 < self.old.left }

@@ -62,7 +62,7 @@ is-decimal b h = go (is_digit b) refl h
         record { low = low; high = high; value = rw p ((digit b low high).value) }
     go false p q = absurd (omega arith)
 
--- each of three digits is one, where the number of all is small
+-- each of three digits is one, if the number of all is small
 small-1 : (x y z : ℕ) → x * 100 + y * 10 + z ≤ 255 → x ≤ 255
 small-1 x y z h = omega arith
 

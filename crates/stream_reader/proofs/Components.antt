@@ -3,7 +3,7 @@ use Rattle.std.proofs.Common.{◌≡◌, ◌∙◌, ◌+◌, ◌-◌, ◌*◌, �
 use Rattle.std.specs.Char.{digit_value}
 use Rattle.std.proofs.lemmas.Bool.{le-leb}
 use Rattle.papi_base.specs.Numerals.{decimal_in, is_decimal, is_numeral}
-use Rattle.stream_reader.specs.CommonLines.{IsComponent}
+use Rattle.stream_reader.specs.CommonLines.{BeginsWithComponent}
 use Rattle.stream_reader.proofs.DecimalBytes.{digit, not-zero, take-one, take-two}
 
 decimal-1 : (a : ℕ) → 48 ≤ a → a ≤ 57 → decimal_in 0 15 (a ∷ []) ≡ Some (a - 48)
@@ -21,7 +21,7 @@ decimal-2 a b one low high =
     let v = (0 + digit_value a) * 10 + digit_value b in
     rw (x.test, y.test, not-zero a (omega arith), le-leb 0 v (omega arith), le-leb v 15 (omega (arith, x.value, y.value))) (ap Some (omega (arith, x.value, y.value)))
 
-pub component-1 : (t : List ℕ) (n : ℕ) → 1 ≤ length t → 48 ≤ get_or t 0 0 → get_or t 0 0 ≤ 57 → n ≡ get_or t 0 0 - 48 → IsComponent t (record { value = n; size = 1 })
+pub component-1 : (t : List ℕ) (n : ℕ) → 1 ≤ length t → 48 ≤ get_or t 0 0 → get_or t 0 0 ≤ 57 → n ≡ get_or t 0 0 - 48 → BeginsWithComponent t (record { value = n; size = 1 })
 component-1 t n long low high e =
     let x = digit (get_or t 0 0) low high in
     record {
@@ -33,7 +33,7 @@ component-1 t n long low high e =
       inner = rw (take-one t long) (record { each = rw (x.inner) refl });
     }
 
-pub component-2 : (t : List ℕ) (n : ℕ) → 2 ≤ length t → get_or t 0 0 ≡ 49 → 48 ≤ get_or t 1 0 → get_or t 1 0 ≤ 53 → n ≡ 10 + (get_or t 1 0 - 48) → IsComponent t (record { value = n; size = 2 })
+pub component-2 : (t : List ℕ) (n : ℕ) → 2 ≤ length t → get_or t 0 0 ≡ 49 → 48 ≤ get_or t 1 0 → get_or t 1 0 ≤ 53 → n ≡ 10 + (get_or t 1 0 - 48) → BeginsWithComponent t (record { value = n; size = 2 })
 component-2 t n long one low high e =
     let x = digit (get_or t 0 0) (omega arith) (omega arith) in
     let y = digit (get_or t 1 0) low (omega arith) in

@@ -124,7 +124,7 @@ digit-no-space b h e = cc (subst (λ x. is_hex_digit x ≡ true) e h)
 abbrev pub Stops : List ℕ → ℕ → ℕ → Type 0
 Stops t many i = (is_hex_digit (get_or t i 0) ≡ false) ⊎ (min (length t) many ≤ i)
 
--- where neither a space nor the end follows
+-- if neither a space nor the end follows
 pub hex-stops : (few many v i : ℕ) (t : List ℕ) → hex_on 0 t ≡ hex_on v (drop i t) → length (first_field t) ≡ i + length (first_field (drop i t)) → Stops t many i
     → i < length t → get_or t i 0 ≢ 32 → hex_in few many (first_field t) ≡ None
 hex-stops few many v i t rest long stops h other = go (is_hex_digit (get_or t i 0)) refl

@@ -11,7 +11,7 @@ use Rattle.stream_reader.proofs.Rests.{fields_after, fields-first}
 abbrev Text : Type 0
 Text = List ℕ
 
--- the next field, where there is one
+-- the next field, if there is one
 abbrev next : {X : Type 0} → List Text → (Text → List Text → Option X) → Option X
 next [] k = None
 next (f ∷ rest) k = k f rest

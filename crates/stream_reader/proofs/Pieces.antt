@@ -7,7 +7,7 @@ use Rattle.std.proofs.lemmas.Bool.{lt-ltb}
 use Rattle.papi_base.specs.declared.outside.Ending.{Ending}
 use Rattle.papi_base.specs.declared.outside.Ending.TheVariants as ending
 use Rattle.papi_base.specs.declared.occurrence.LineCause.TheVariants as cause
-use Rattle.stream_reader.specs.Lines.{Line, is_last, lines_of, tape_lines}
+use Rattle.stream_reader.specs.Lines.{Line, is_last_line, lines_of, tape_lines}
 use Rattle.papi_base.specs.Streams.{Bad}
 use Rattle.stream_reader.specs.declared.line.LineStart.{LineStart}
 use Rattle.stream_reader.specs.Judged.{judged}
@@ -62,11 +62,11 @@ unfolding occurs_from
 occurs-line e start x rest h = rw (line-first e x rest h) refl
 
 -- the bytes after the last newline
-pub occurs-end : (e : Ending) (start : LineStart) (x : List ℕ) → OneLine x → is_last e x ≡ false → occurs_on e start x ≡ record { rest = []; mark = end_mark e }
+pub occurs-end : (e : Ending) (start : LineStart) (x : List ℕ) → OneLine x → is_last_line e x ≡ false → occurs_on e start x ≡ record { rest = []; mark = end_mark e }
 unfolding tape_lines lines_of occurs_from
 occurs-end e start x h none = rw (split-end x h, none) refl
 
-pub occurs-last : (e : Ending) (start : LineStart) (x : List ℕ) → OneLine x → is_last e x ≡ true
+pub occurs-last : (e : Ending) (start : LineStart) (x : List ℕ) → OneLine x → is_last_line e x ≡ true
     → occurs_on e start x ≡ joined start.number (judged start (last_line x)) (record { rest = []; mark = end_mark e })
 unfolding tape_lines lines_of occurs_from
 occurs-last e start x h some = rw (split-end x h, some) refl
@@ -76,7 +76,7 @@ split-more : (x rest first : List ℕ) (more : List (List ℕ)) → OneLine x �
 split-more [] rest first more h e = e
 split-more (b ∷ x) rest first more h e = rw (h.0, split-more x rest first more h.1 e) refl
 
-long-last : (e : Ending) (y : List ℕ) → nat_lt 128 (length y) ≡ true → is_last e y ≡ true
+long-last : (e : Ending) (y : List ℕ) → nat_lt 128 (length y) ≡ true → is_last_line e y ≡ true
 long-last ending.End [] l = cc l
 long-last ending.End (b ∷ y) l = refl
 long-last ending.Fault y l = l
@@ -94,6 +94,6 @@ occurs-long e start x rest h long =
     rw (split-more x rest p.first p.rest h p.are) (long-lines e start (x ++ p.first) p.rest l)
 
 -- no newline: at most the last line
-pub no-line : (e : Ending) (x : List ℕ) → OneLine x → tape_lines e x ≡ (if is_last e x then last_line x ∷ [] else [])
+pub no-line : (e : Ending) (x : List ℕ) → OneLine x → tape_lines e x ≡ (if is_last_line e x then last_line x ∷ [] else [])
 unfolding tape_lines lines_of
 no-line e x h = rw (split-end x h) refl

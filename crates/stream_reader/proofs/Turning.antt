@@ -15,7 +15,7 @@ use Rattle.stream_reader.specs.declared.line.Judgement.{Judgement}
 use Rattle.stream_reader.specs.declared.line.Judgement.TheVariants as judgement
 use Rattle.stream_reader.specs.declared.next.Next.{Next}
 use Rattle.stream_reader.specs.declared.next.Next.TheVariants as next
-use Rattle.stream_reader.specs.Lines.{IsOneLine, Line, is_last, tape_lines}
+use Rattle.stream_reader.specs.Lines.{IsOneLine, Line, is_last_line, tape_lines}
 use Rattle.stream_reader.specs.Judged.{judged}
 use Rattle.stream_reader.specs.Occurs.{after, joined, occurs_on}
 use Rattle.stream_reader.specs.Reader.{Closes, GoesOn, ReaderView, Takes, answers_from, before_rest, comes, follows, has_answer, nothing, tape_of}
@@ -126,7 +126,7 @@ end-takes v on none told = record {
     says : comes v ending.End [] ≡ nothing
     says = comes-open v ending.End [] on ∙ ap (λ bs. occurs_on ending.End v.start (bs ++ [])) (empty v.held none) ∙ occurs-end ending.End v.start [] tt refl
 
-some-last : (t : List ℕ) → 0 < length t → is_last ending.End t ≡ true
+some-last : (t : List ℕ) → 0 < length t → is_last_line ending.End t ≡ true
 some-last [] h = absurd (omega arith)
 some-last (b ∷ t) h = refl
 
@@ -208,7 +208,7 @@ answer-line v n on one is none has = go (judged v.start (line_at v n true)) refl
 
 pub no-answer : (v : ReaderView) → v.over ≡ false → IsOneLine v.held → has_answer v ≡ true → ⊥
 unfolding has_answer answers_from
-no-answer v on one has = go (is_last ending.End v.held) (rw (on, no-line ending.End v.held one.each) at has)
+no-answer v on one has = go (is_last_line ending.End v.held) (rw (on, no-line ending.End v.held one.each) at has)
   where
     go : (b : Bool) → answers_from v.start (if b then last_line v.held ∷ [] else []) ≡ true → ⊥
     go true h = cc h

@@ -14,7 +14,7 @@ use Rattle.stream_reader.specs.declared.line.LineStart.{LineStart}
 use Rattle.stream_reader.specs.Digits.{IsHexadecimal, piece}
 use Rattle.stream_reader.specs.Fields.{occurrence_on}
 use Rattle.stream_reader.specs.Judged.{without_return}
-use Rattle.stream_reader.specs.CommonLines.{BeginsWith, EndsAt, HasHeadSpaces, IsAmount, IsComponent, IsFront, IsHead, IsStamp, is_inner, is_plain, occ_with}
+use Rattle.stream_reader.specs.CommonLines.{BeginsWith, BeginsWithComponent, EndsAt, HasHeadSpaces, IsAmount, IsFront, IsHead, IsStamp, is_inner, is_plain, occ_with}
 use Rattle.stream_reader.proofs.LineHeads.{inner-hex}
 use Rattle.stream_reader.proofs.LineFields.{AreInner, fields-plain, line, line-is, plain-one, plain-whole, return-one, return-whole}
 use Rattle.stream_reader.proofs.Stamps.{IsEnding, ending-1, ending-2}
@@ -66,7 +66,7 @@ with-ending c amt hex s x1 x2 x4 x5 x7 =
     append_assoc c (32 ∷ x1 ∷ x2 ∷ 32 ∷ x4 ∷ x5 ∷ 32 ∷ x7 ∷ 32 ∷ (amt ++ 32 ∷ hex)) s
     ∙ ap (λ x. c ++ 32 ∷ x1 ∷ x2 ∷ 32 ∷ x4 ∷ x5 ∷ 32 ∷ x7 ∷ 32 ∷ x) (append_assoc amt (32 ∷ hex) s)
 
-pub front : (t : List ℕ) (comp : Field) (h : Head) (amount pc : Field) → comp.size + 30 ≤ length t → IsComponent t comp → IsHead (drop comp.size t) h → IsAmount (drop comp.size t) amount
+pub front : (t : List ℕ) (comp : Field) (h : Head) (amount pc : Field) → comp.size + 30 ≤ length t → BeginsWithComponent t comp → IsHead (drop comp.size t) h → IsAmount (drop comp.size t) amount
     → IsHexadecimal t (comp.size + (9 + amount.size + 1)) pc → 0 < pc.size
     → IsFront t (record {
       comp = comp.value;

@@ -33,7 +33,7 @@ pub record IsInner (t : List ℕ) : Type 0 where
   pub each : list_all is_inner t ≡ true
 
 -- a text begins with a component
-pub record IsComponent (t : List ℕ) (comp : Field) : Type 0 where
+pub record BeginsWithComponent (t : List ℕ) (comp : Field) : Type 0 where
   pub some : 1 ≤ comp.size
   pub few : comp.size ≤ 2
   pub most : comp.value ≤ MOST_COMPONENTS - 1
@@ -67,7 +67,7 @@ pub record IsAmount (t : List ℕ) (amount : Field) : Type 0 where
   pub inner : IsInner (piece HEAD amount.size t)
   pub space : slice_index t (HEAD + amount.size) ≡ 32
 
--- a number with this value and so many digits, from the least one to LARGEST_AMOUNT
+-- a number with this value and n digits, from the least one to LARGEST_AMOUNT
 pub record IsAmountOf (n digits least : ℕ) (amount : Field) : Type 0 where
   pub value : amount.value ≡ n
   pub size : amount.size ≡ digits

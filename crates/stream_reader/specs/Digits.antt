@@ -28,7 +28,7 @@ unfoldable pub number_after : ℕ → List ℕ → ℕ
 number_after n [] = n
 number_after n (x ∷ xs) = number_after (n * 16 + x) xs
 
--- so many bytes from a place on
+-- n bytes from a place on
 abbrev pub piece : ℕ → ℕ → List ℕ → List ℕ
 piece place size t = take size (drop place t)
 

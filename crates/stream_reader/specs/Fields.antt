@@ -13,7 +13,7 @@ unfoldable pub first_field : List ℕ → List ℕ
 first_field [] = []
 first_field (b ∷ t) = if b == 32 then [] else b ∷ first_field t
 
--- the text after the space that ends this field, where there is one
+-- the text after the space that ends this field, if there is one
 unfoldable pub after_field : List ℕ → Option (List ℕ)
 after_field [] = None
 after_field (b ∷ t) = if b == 32 then Some t else after_field t

@@ -43,7 +43,7 @@ FindsNewline text (Some n) = (n < length text) × IsOneLine (take n text) × (te
 abbrev pub line_at : ReaderView → ℕ → Bool → Line
 line_at v size ended = record { bytes = take size v.held; ended = ended }
 
--- what a line of this number gives to a caller: its cause or its occurrence, and nothing where it is skipped or gives the version
+-- what a line of this number gives to a caller: its cause or its occurrence, and nothing if it is skipped or gives the version
 abbrev pub answer_of : ℕ → Judgement → Option Next
 answer_of number (judgement.Bad c) = Some (next.Bad number c)
 answer_of number (judgement.Occurs o) = Some (next.Occ o)
@@ -59,7 +59,7 @@ line_taken v size ended j = record v { start = after v.start (line_at v size end
 abbrev pub left_of : ReaderView → ℕ
 left_of v = ((LARGEST_STREAM + 2) - v.start.passed) + ((LARGEST_STREAM + 2 + READER_BYTES) - (v.start.passed + length v.held))
 
--- The tape, where it is told, has ended so.
+-- The tape, if it is told, has ended so.
 abbrev pub HasEnded : Ending → Option Tape → Type 0
 HasEnded e tape = IfSome tape (λ (t : Tape). (t.bytes ≡ []) × (t.ending ≡ e))
 

@@ -28,16 +28,16 @@ abbrev pub is_skipped : List ℕ → Bool
 is_skipped [] = true
 is_skipped (b ∷ rest) = b == 35
 
--- whether an occurrence fell in kernel mode: `k` where it did, `u` where it fell in user mode
+-- whether an occurrence fell in kernel mode: `k` if it did, `u` if it fell in user mode
 unfoldable pub mode_of : List ℕ → Option Bool
 mode_of t = if bytes_eq t (codes "u") then Some false else if bytes_eq t (codes "k") then Some true else None
 
--- what goes on from a value, where there is one
+-- what goes on from a value, if there is one
 abbrev pub given : {X Y : Type 0} → Option X → (X → Option Y) → Option Y
 given None next = None
 given (Some x) next = next x
 
--- a field by its place from 0, empty where the line has fewer
+-- a field by its place from 0, empty if the line has fewer
 abbrev pub field : List (List ℕ) → ℕ → List ℕ
 field fields i = unwrap_or (slice_get fields i) []
 

@@ -11,15 +11,15 @@ pub record Line : Type 0 where
   pub bytes : List ℕ
   pub ended : Bool
 
--- the bytes after the last newline are a line: where the tape ends well any of them, where it fails more than those of the longest line
-abbrev pub is_last : Ending → List ℕ → Bool
-is_last ending.End last = not (is_empty last)
-is_last ending.Fault last = nat_lt LONGEST_LINE (length last)
+-- the bytes after the last newline are a line: if the tape ends well any of them, if it fails more than those of the longest line
+abbrev pub is_last_line : Ending → List ℕ → Bool
+is_last_line ending.End last = not (is_empty last)
+is_last_line ending.Fault last = nat_lt LONGEST_LINE (length last)
 
 -- the pieces between newlines as lines: all but the last are ended by a newline
 unfoldable pub lines_of : Ending → List (List ℕ) → List Line
 lines_of e [] = []
-lines_of e (last ∷ []) = if is_last e last then record { bytes = last; ended = false } ∷ [] else []
+lines_of e (last ∷ []) = if is_last_line e last then record { bytes = last; ended = false } ∷ [] else []
 lines_of e (first ∷ second ∷ rest) = record { bytes = first; ended = true } ∷ lines_of e (second ∷ rest)
 
 -- a tape is cut at each newline

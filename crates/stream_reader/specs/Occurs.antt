@@ -19,7 +19,7 @@ is_bad judgement.Skipped = false
 is_bad judgement.Version = false
 is_bad (judgement.Occurs o) = false
 
--- what a run meets after the last occurrence, where no line is bad: the end, or the fault of the source
+-- what a run meets after the last occurrence, if no line is bad: the end, or the fault of the source
 abbrev pub end_mark : Ending → Mark
 end_mark ending.End = Dry
 end_mark ending.Fault = Fault

@@ -17,7 +17,7 @@ use Rattle.stream_reader.specs.Lines.{Line, tape_lines}
 use Rattle.stream_reader.specs.Judged.{is_above, judged}
 use Rattle.stream_reader.specs.Occurs.{after, first_start, occurs_on}
 
--- what a source shows: its tape, where it tells it, and how often it has failed
+-- what a source shows: its tape, if it tells it, and how often it has failed
 pub record SourceView : Type 0 where
   pub tape : Option Tape
   pub faults : ℕ
@@ -32,11 +32,11 @@ pub record ReaderView : Type 0 where
   pub asked : Bool
   pub source : Option SourceView
 
--- what the source still gives, where there is one and it tells
+-- what the source still gives, if there is one and it tells
 abbrev pub tape_of : ReaderView → Option Tape
 tape_of v = option_and_then (λ (s : SourceView). s.tape) v.source
 
--- how often its source has failed so far, 0 where it has no source
+-- how often its source has failed so far, 0 if it has no source
 abbrev pub faults_of : ReaderView → ℕ
 faults_of v = option_map_or (λ (s : SourceView). s.faults) v.source 0
 
@@ -56,13 +56,13 @@ nothing = record { rest = []; mark = Dry }
 unfoldable pub comes : ReaderView → Ending → List ℕ → Coming
 comes v e more = if v.over then nothing else occurs_on e v.start (v.held ++ more)
 
--- what is to come, where that is told
+-- what is to come, if that is told
 unfoldable pub coming : ReaderView → Option Coming
 coming v = if v.over then Some nothing else option_map (λ (t : Tape). comes v t.ending t.bytes) (tape_of v)
 
 -- ---- told: the next occurrence, or the mark
 
--- how a reader answers where a stream has no further occurrence
+-- how a reader answers if a stream has no further occurrence
 abbrev pub at_mark : Mark → Next
 at_mark Dry = next.End
 at_mark (Bad n c) = next.Bad n c
@@ -85,7 +85,7 @@ NextGives (Some c) answer new = (answer ≡ gives_of c.rest c.mark) × (new ≡ 
 
 -- ---- told or not
 
--- what was to come, where this was answered and that comes later
+-- what was to come, if this was answered and that comes later
 abbrev pub follows : Next → Coming → Coming
 follows (next.Occ o) later = record { rest = o ∷ later.rest; mark = later.mark }
 follows next.End later = later
@@ -154,7 +154,7 @@ Gave start (Some next.ReadFault) later = GaveNothing start later
 Gave start None later = GaveNothing start later
 
 -- how many occurrences are given at most, and how many bytes are taken and neither given nor skipped
-pub record IsWithin (v : ReaderView) : Type 0 where
+pub record IsWithinLimits (v : ReaderView) : Type 0 where
   pub few : v.start.given ≤ MOST_OCCURRENCES
   pub room : length v.held ≤ READER_BYTES
 

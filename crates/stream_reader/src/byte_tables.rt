@@ -1,4 +1,4 @@
-//! What a byte is in a field, looked up in a table: a branch on the kind of byte would often be guessed wrongly. Where a byte is none of
+//! What a byte is in a field, looked up in a table: a branch on the kind of byte would often be guessed wrongly. If a byte is none of
 //! the kind, the table has 256, so that a number that is made of such values is above 255 if one of its bytes is none.
 ghost use Rattle.std.specs.Prelude.{◌≡◌, ◌≤◌};
 ghost use Rattle.stream_reader.specs.ByteTables.{decimal_or_256, digit_or_256, mode_or_256};

@@ -2,7 +2,7 @@
 //! or not. Every other line, good or bad, is left to `line`.
 ghost use Rattle.std.specs.Prelude.{◌≡◌, ◌<◌, ◌≤◌, ◌+◌, ◌*◌, true, false, length, IfSome};
 ghost use Rattle.stream_reader.specs.ByteTables.{digit_or_256};
-ghost use Rattle.stream_reader.specs.CommonLines.{HasHeadSpaces, IsComponent, IsHead, IsAmount, IsAmountOf, IsFront, IsDigits, IsStamp, BeginsWith, EndsAt, occ_with};
+ghost use Rattle.stream_reader.specs.CommonLines.{HasHeadSpaces, BeginsWithComponent, IsHead, IsAmount, IsAmountOf, IsFront, IsDigits, IsStamp, BeginsWith, EndsAt, occ_with};
 
 use crate::byte_tables::{decimal_or_256, digit_or_256, mode_or_256};
 use crate::digit_vector::hexadecimal_at;
@@ -53,11 +53,11 @@ const LONGEST_NUMBERED: usize = 2 + LONGEST_REST;
 // The bytes of the longest line of version 2, which has a space and the stamp more.
 const LONGEST_STAMPED: usize = LONGEST_NUMBERED + 1 + LONGEST_STAMP;
 
-// The component, where it has one digit.
+// The component, if it has one digit.
 #[inline(always)]
 fn one_digit(text: &[u8]) -> Option<Field>
     requires { LONGEST_REST ≤ length text.now }
-    ensures { IfSome result (λ comp. IsComponent text.now comp) }
+    ensures { IfSome result (λ comp. BeginsWithComponent text.now comp) }
 {
     let digit = text[0].wrapping_sub(b'0');
     if digit > 9 {
@@ -69,11 +69,11 @@ fn one_digit(text: &[u8]) -> Option<Field>
     })
 }
 
-// The component, where it has two digits.
+// The component, if it has two digits.
 #[inline(always)]
 fn two_digits(text: &[u8]) -> Option<Field>
     requires { LONGEST_REST ≤ length text.now }
-    ensures { IfSome result (λ comp. IsComponent text.now comp) }
+    ensures { IfSome result (λ comp. BeginsWithComponent text.now comp) }
 {
     let digit = text[1].wrapping_sub(b'0');
     if text[0] != b'1' || digit > 5 {
@@ -138,7 +138,7 @@ fn amount_of(value: u32, size: usize, least: u32) -> Option<Field>
     })
 }
 
-// The amount after the head, where a space ends it.
+// The amount after the head, if a space ends it.
 #[inline(always)]
 fn read_amount(text: &[u8]) -> Option<Field>
     requires { LONGEST_REST ≤ length text.now }
@@ -159,10 +159,10 @@ fn read_amount(text: &[u8]) -> Option<Field>
     amount_of(first * 100 + second * 10 + third, 3, 100)
 }
 
-// The fields before the stamp, where this is the component.
+// The fields before the stamp, if this is the component.
 #[inline(always)]
 fn front_after(text: &[u8], comp: Field) -> Option<Front>
-    requires component { IsComponent text.now comp }
+    requires component { BeginsWithComponent text.now comp }
     requires long { comp.size + LONGEST_REST ≤ length text.now }
     ensures { IfSome result (λ front. IsFront text.now front) }
 {
@@ -253,7 +253,7 @@ fn occ_with(front: Front, stamp: u64) -> Occ
     }
 }
 
-// The length of the line whose fields end at this place, where a newline comes then, or a carriage return and a newline.
+// The length of the line whose fields end at this place, if a newline comes then, or a carriage return and a newline.
 #[inline(always)]
 fn line_size(text: &[u8], place: usize) -> Option<usize>
     requires { place + 1 < length text.now }
@@ -268,7 +268,7 @@ fn line_size(text: &[u8], place: usize) -> Option<usize>
     None
 }
 
-// The line in version 1, where the stamp is the number of occurrences before.
+// The line in version 1, if the stamp is the number of occurrences before.
 #[inline(always)]
 fn numbered_line(start: &LineStart, text: &[u8]) -> Option<CommonLine>
     requires { start.now.stamped ≡ false }
@@ -303,7 +303,7 @@ fn stamped_line(start: &LineStart, text: &[u8]) -> Option<CommonLine>
     })
 }
 
-/// The line that a text begins with, where it has the common form and the text is long enough for any such line of the version.
+/// The line that a text begins with, if it has the common form and the text is long enough for any such line of the version.
 #[inline(always)]
 pub(crate) fn common_line(start: &LineStart, text: &[u8]) -> Option<CommonLine>
     ensures { IfSome result (λ line. BeginsWith start.now text.now line) }

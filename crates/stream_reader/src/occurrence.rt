@@ -23,7 +23,7 @@ pub(crate) struct Event {
     pub umask: u8,
 }
 
-// The stamp, where this is what comes after the program counter's space, if there is one.
+// The stamp, if this is what comes after the program counter's space, if there is one.
 #[inline(always)]
 fn stamp_after(start: &LineStart, rest: Option<&[u8]>) -> Option<u64>
     ensures { result ≡ stamp_after start.now.stamped start.now.given
@@ -60,7 +60,7 @@ fn read_tail(start: &LineStart, text: &[u8]) -> Option<Tail>
     })
 }
 
-// The occurrence of an event, where this is the text after it.
+// The occurrence of an event, if this is the text after it.
 #[tactic(auto, unfolding(crate::specs::Fields::event_occurrence_on))]
 #[inline(always)]
 fn event_occurrence(start: &LineStart, event: Event, text: &[u8]) -> Option<Occ>
@@ -80,7 +80,7 @@ fn event_occurrence(start: &LineStart, event: Event, text: &[u8]) -> Option<Occ>
     })
 }
 
-/// The occurrence that a line writes, or `None` where its fields are not as many as they should be, or one is out of its form.
+/// The occurrence that a line writes, or `None` if its fields are not as many as they should be, or one is out of its form.
 #[tactic(auto, unfolding(crate::specs::Fields::occurrence_on))]
 #[inline(always)]
 pub(crate) fn occurrence(start: &LineStart, line: &[u8]) -> Option<Occ>

@@ -16,7 +16,7 @@ use std::marker::Model;
 
 /// Gives the occurrences of a source one by one, with no memory but its own.
 ///
-/// It reads only where it holds no whole line.
+/// It reads only if it holds no whole line.
 #[derive(Drop)]
 pub struct StreamReader<S: Source> {
     source: Option<S>,
@@ -115,7 +115,7 @@ impl<S: Source> StreamReader<S> {
     ghost use Rattle.stream_reader.specs.Lines.{IsOneLine};
     ghost use Rattle.stream_reader.specs.Judged.{judged};
     ghost use Rattle.stream_reader.specs.Occurs.{occurs_of};
-    ghost use Rattle.stream_reader.specs.Reader.{ReaderView, Gave, IsWithin, NextGives, Takes, coming, faults_of, has_answer, is_last};
+    ghost use Rattle.stream_reader.specs.Reader.{ReaderView, Gave, IsWithinLimits, NextGives, Takes, coming, faults_of, has_answer, is_last};
     ghost use Rattle.stream_reader.specs.Reader.{new_view, nothing, tape_of};
     ghost use Rattle.stream_reader.specs.CommonLines.{HoldsLine};
     ghost use Rattle.stream_reader.specs.Inside.{FindsNewline, Passes, Refills, answer_of, left_of, line_at, line_taken};
@@ -184,7 +184,7 @@ impl<S: Source> StreamReader<S> {
             ≡ line_taken self.old size ended (judged self.old.start (line_at self.old size ended)) }
         ensures counts { Gave self.old.start result self.new.start }
         ensures nearer { IfNone result (left_of self.new < left_of self.old) }
-        ensures within { IsWithin self.new }
+        ensures within { IsWithinLimits self.new }
     {
         let number = self.start.number;
         if judgement.is_bad() {
@@ -208,13 +208,13 @@ impl<S: Source> StreamReader<S> {
             ≡ line_taken self.old size ended (judged self.old.start (line_at self.old size ended)) }
         ensures counts { Gave self.old.start result self.new.start }
         ensures nearer { IfNone result (left_of self.new < left_of self.old) }
-        ensures within { IsWithin self.new }
+        ensures within { IsWithinLimits self.new }
     {
         let judgement = self.judge_front(size, ended);
         self.take_judged(size, ended, &judgement)
     }
 
-    // The next line, where it is whole and of the common form.
+    // The next line, if it is whole and of the common form.
     #[inline(always)]
     fn common_line(&self) -> Option<CommonLine>
         ensures { IfSome result (λ line. HoldsLine self.now line) }
@@ -235,7 +235,7 @@ impl<S: Source> StreamReader<S> {
         requires { length self.old.held ≤ LONGEST_LINE }
         ensures refills { Refills self.old result self.new }
         ensures kept { is_some self.new.source ≡ is_some self.old.source }
-        ensures within { IsWithin self.new }
+        ensures within { IsWithinLimits self.new }
         ensures faults { faults_of self.old ≤ faults_of self.new }
         ensures failed { OnErr result (Rose (faults_of self.old) (faults_of self.new)) }
         ensures nearer { IfOk result (λ n. 0 < n → left_of self.new < left_of self.old) }
@@ -259,7 +259,7 @@ impl<S: Source> StreamReader<S> {
         self.to - self.from
     }
 
-    // The length of the next line, where it is whole.
+    // The length of the next line, if it is whole.
     #[inline(always)]
     fn line_len(&self) -> Option<usize>
         ensures { FindsNewline self.now.held result }
@@ -270,12 +270,12 @@ impl<S: Source> StreamReader<S> {
     // Gives nothing from now on.
     fn give_up(&mut self)
         ensures over { self.new ≡ record self.old { over = true } }
-        ensures within { IsWithin self.new }
+        ensures within { IsWithinLimits self.new }
     {
         self.over = true;
     }
 
-    // The last line, where the source has ended.
+    // The last line, if the source has ended.
     fn take_last(&mut self) -> Next
         requires over { self.old.over ≡ false }
         requires line { IsOneLine self.old.held }
@@ -286,7 +286,7 @@ impl<S: Source> StreamReader<S> {
         ensures over { self.new.over ≡ true }
         ensures source { self.new.source ≡ self.old.source }
         ensures asked { self.new.asked ≡ self.old.asked }
-        ensures within { IsWithin self.new }
+        ensures within { IsWithinLimits self.new }
         ensures sound { result ≡ Next.ReadFault → ⊥ }
     {
         let size = self.held_len();
@@ -299,7 +299,7 @@ impl<S: Source> StreamReader<S> {
         answer.unwrap_or(Next::End)
     }
 
-    // The next piece, or what stands where the source ended or failed.
+    // The next piece, or what stands if the source ended or failed.
     fn take_piece(&mut self) -> Option<Next>
         requires over { self.old.over ≡ false }
         requires short { length self.old.held ≤ LONGEST_LINE }
@@ -311,7 +311,7 @@ impl<S: Source> StreamReader<S> {
         ensures last { IfSome result (λ _. self.new.over ≡ true) }
         ensures asked { self.new.asked ≡ self.old.asked }
         ensures kept { is_some self.new.source ≡ is_some self.old.source }
-        ensures within { IsWithin self.new }
+        ensures within { IsWithinLimits self.new }
         ensures faults { faults_of self.old ≤ faults_of self.new }
         ensures failed { result ≡ Some Next.ReadFault
             → Rose (faults_of self.old) (faults_of self.new) }
@@ -327,7 +327,7 @@ impl<S: Source> StreamReader<S> {
         }
     }
 
-    // One turn: the next line where it is whole, else the next piece.
+    // One turn: the next line if it is whole, else the next piece.
     fn turn(&mut self) -> Option<Next>
         requires { self.old.over ≡ false }
         ensures takes { IfSome result (λ next. Takes self.old next self.new) }
@@ -337,7 +337,7 @@ impl<S: Source> StreamReader<S> {
         ensures last { IfSome result (λ next. is_last next ≡ true → self.new.over ≡ true) }
         ensures asked { self.new.asked ≡ self.old.asked }
         ensures kept { is_some self.new.source ≡ is_some self.old.source }
-        ensures within { IsWithin self.new }
+        ensures within { IsWithinLimits self.new }
         ensures faults { faults_of self.old ≤ faults_of self.new }
         ensures failed { result ≡ Some Next.ReadFault
             → Rose (faults_of self.old) (faults_of self.new) }
@@ -369,14 +369,14 @@ impl<S: Source> StreamReader<S> {
         // Told or not, the answer is what the bytes held and those taken in this call say.
         ensures takes { Takes self.old result self.new }
         ensures counts { Gave self.old.start (Some result) self.new.start }
-        ensures within { IsWithin self.new }
+        ensures within { IsWithinLimits self.new }
 
         // It answers `End` for ever after `End`, a bad line or a fault.
         ensures over { is_last result ≡ true → self.new.over ≡ true }
         ensures ended { self.old.over ≡ true → (result ≡ Next.End)
             × (self.new ≡ record self.old { asked = true }) }
 
-        // It takes nothing where a whole line is at hand that is not skipped.
+        // It takes nothing if a whole line is at hand that is not skipped.
         ensures at_hand { has_answer self.old ≡ true → self.new.source ≡ self.old.source }
         ensures kept { is_some self.new.source ≡ is_some self.old.source }
         ensures faults { faults_of self.old ≤ faults_of self.new }

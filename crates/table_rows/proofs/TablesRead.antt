@@ -2,8 +2,8 @@
 use Rattle.std.proofs.Common.{◌≡◌, ◌∙◌, ◌+◌, ◌∷◌, ◌++◌, ℕ, List, [], Option, None, length, refl, sym, subst, arith, append_assoc, append-nil, length-append}
 use Rattle.std.specs.Prelude.{Result, Ok, Err}
 use Rattle.table_rows.specs.Tables.{RefusesRow, RefusesTable, TakesRow, fault_at, first_fault}
-use Rattle.table_rows.specs.declared.fault.Refusal.{Refusal}
-use Rattle.table_rows.specs.declared.fault.Refusal.TheVariants as refusal
+use Rattle.table_rows.specs.declared.fault.RowRefusal.{RowRefusal}
+use Rattle.table_rows.specs.declared.fault.RowRefusal.TheVariants as refusal
 
 -- what a loop over rows keeps, with as many rows taken and these left
 pub record Taken {L R C : Type 0} (cause : List L → L → Option C) (Gives : List L → R → Type 0) (lines : List L) (place : ℕ) (left : List L) (read : R) : Type 0 where
@@ -32,14 +32,14 @@ pub all-taken : {L R C : Type 0} (cause : List L → L → Option C) (Gives : Li
 unfolding first_fault
 all-taken cause Gives lines place read t = (t.fault, subst (λ above. Gives above read) (sym (append-nil t.above) ∙ t.whole) t.given)
 
-pub refused : {L R C : Type 0} (cause : List L → L → Option C) (Gives : List L → R → Type 0) (lines : List L) (place : ℕ) (line : L) (left : List L) (old : R) (why : Refusal C)
+pub refused : {L R C : Type 0} (cause : List L → L → Option C) (Gives : List L → R → Type 0) (lines : List L) (place : ℕ) (line : L) (left : List L) (old : R) (why : RowRefusal C)
     → (t : Taken cause Gives lines place (line ∷ left) old) → RefusesRow (cause t.above line) why → RefusesTable (first_fault cause [] lines) (fault_at place why)
 unfolding first_fault
 refused cause Gives lines place line left old (refusal.Cause why) t is = t.fault ∙ rw (is, t.count) refl
 refused cause Gives lines place line left old refusal.Memory t is = tt
 
 -- what one row gives, said otherwise
-pub takes-as : {C : Type 0} (cause same : Option C) (Given Gives : Type 0) (result : Result Unit (Refusal C)) → cause ≡ same → (cause ≡ None → Given → Gives)
+pub takes-as : {C : Type 0} (cause same : Option C) (Given Gives : Type 0) (result : Result Unit (RowRefusal C)) → cause ≡ same → (cause ≡ None → Given → Gives)
     → TakesRow cause Given result → TakesRow same Gives result
 takes-as cause same Given Gives (Ok u) is gives takes = (sym is ∙ takes.0, gives takes.0 takes.1)
 takes-as cause same Given Gives (Err (refusal.Cause why)) is gives takes = sym is ∙ takes

@@ -1,8 +1,8 @@
 -- What reading a table row by row gives: what its rows give, or its first faulty row.
 use Rattle.std.specs.Prelude.{⊤, ◌≡◌, ◌+◌, ℕ, List, [], ◌∷◌, ◌++◌, length, Option, Some, None, Result, Ok, Err}
 use Rattle.std.specs.Option.{option_map_or}
-use Rattle.table_rows.specs.declared.fault.Refusal.{Refusal}
-use Rattle.table_rows.specs.declared.fault.Refusal.TheVariants as refusal
+use Rattle.table_rows.specs.declared.fault.RowRefusal.{RowRefusal}
+use Rattle.table_rows.specs.declared.fault.RowRefusal.TheVariants as refusal
 use Rattle.table_rows.specs.declared.fault.RowFault.{RowFault}
 use Rattle.table_rows.specs.declared.fault.RowFault.TheVariants as fault
 
@@ -13,12 +13,12 @@ first_fault cause above (line ∷ rest) =
     option_map_or (λ why. Some (length above + 1, why)) (cause above line) (first_fault cause (above ++ line ∷ []) rest)
 
 -- a row is refused for its cause, or out of memory
-abbrev pub RefusesRow : {C : Type 0} → Option C → Refusal C → Type 0
+abbrev pub RefusesRow : {C : Type 0} → Option C → RowRefusal C → Type 0
 RefusesRow cause (refusal.Cause why) = cause ≡ Some why
 RefusesRow cause refusal.Memory = ⊤
 
 -- a row without a cause is taken
-abbrev pub TakesRow : {C : Type 0} → Option C → Type 0 → Result Unit (Refusal C) → Type 0
+abbrev pub TakesRow : {C : Type 0} → Option C → Type 0 → Result Unit (RowRefusal C) → Type 0
 TakesRow cause Given (Ok u) = (cause ≡ None) × Given
 TakesRow cause Given (Err refused) = RefusesRow cause refused
 
@@ -33,6 +33,6 @@ ReadsTable first Gives (Ok read) = (first ≡ None) × Gives read
 ReadsTable first Gives (Err refused) = RefusesTable first refused
 
 -- the fault of a refused row, whose place is from 0
-abbrev pub fault_at : {C : Type 0} → ℕ → Refusal C → RowFault C
+abbrev pub fault_at : {C : Type 0} → ℕ → RowRefusal C → RowFault C
 fault_at place (refusal.Cause why) = fault.Row (place + 1) why
 fault_at place refusal.Memory = fault.Memory

@@ -2,7 +2,7 @@
 
 ghost use Rattle.std.specs.Prelude.{◌≡◌, ◌<◌, ◌-◌, ◌^◌};
 ghost use Rattle.table_rows.specs.Tables as Tables;
-ghost use Rattle.table_rows.specs.declared.fault.Refusal.TheVariants as refusal;
+ghost use Rattle.table_rows.specs.declared.fault.RowRefusal.TheVariants as refusal;
 ghost use Rattle.table_rows.specs.declared.fault.RowFault.TheVariants as fault;
 
 use std::alloc::{AllocError, AllocFailed};
@@ -11,24 +11,24 @@ use std::fmt;
 
 /// Why a row is not taken: its first cause, or out of memory.
 #[derive(Clone, Copy)]
-pub enum Refusal<C> {
+pub enum RowRefusal<C> {
     Cause(C),
     Memory,
 }
 
-impl<C> From<AllocError> for Refusal<C> {
+impl<C> From<AllocError> for RowRefusal<C> {
     ghost from_gives = { λ _ e. e ≡ refusal.Memory };
 
-    fn from(_e: AllocError) -> Refusal<C> {
-        Refusal::Memory
+    fn from(_e: AllocError) -> RowRefusal<C> {
+        RowRefusal::Memory
     }
 }
 
-impl<C, T: Drop> From<AllocFailed<T>> for Refusal<C> {
+impl<C, T: Drop> From<AllocFailed<T>> for RowRefusal<C> {
     ghost from_gives = { λ _ e. e ≡ refusal.Memory };
 
-    fn from(_e: AllocFailed<T>) -> Refusal<C> {
-        Refusal::Memory
+    fn from(_e: AllocFailed<T>) -> RowRefusal<C> {
+        RowRefusal::Memory
     }
 }
 
@@ -58,18 +58,18 @@ impl<C> From<AllocError> for RowFault<C> {
     }
 }
 
-impl<C: Copy> Refusal<C> {
+impl<C: Copy> RowRefusal<C> {
     /// The fault of a refused row, whose place is from 0.
     pub(crate) fn at(self, place: usize) -> RowFault<C>
         requires { place < 2 ^ 64 - 1 }
         ensures { result ≡ Tables.fault_at place self }
     {
         match self {
-            Refusal::Cause(cause) => RowFault::Row {
+            RowRefusal::Cause(cause) => RowFault::Row {
                 row: place as u64 + 1,
                 cause,
             },
-            Refusal::Memory => RowFault::Memory,
+            RowRefusal::Memory => RowFault::Memory,
         }
     }
 }

@@ -47,7 +47,7 @@ pub fn trimmed(bytes: &[u8]) -> &[u8]
     without_back(without_front(bytes))
 }
 
-/// The field at a place from 0, trimmed, and nothing where the row has none.
+/// The field at a place from 0, trimmed, and nothing if the row has none.
 #[tactic(auto, unfolding(crate::specs::Texts::text_at))]
 pub fn text_at(row: &ByteRecord, i: usize) -> &[u8]
     ensures { result.now ≡ Texts.text_at (fields_of row.now) i }

@@ -12,7 +12,7 @@ mod row_reader;
 mod table;
 mod word;
 
-pub use crate::fault::{Refusal, RowFault};
+pub use crate::fault::{RowFault, RowRefusal};
 pub use crate::field::{is_blank, is_skipped, text_at, trimmed};
 pub use crate::limits::LONGEST_NAME;
 pub use crate::number::{decimal_in, hex_in, is_decimal, is_numeral, numeral_value};

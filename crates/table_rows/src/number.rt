@@ -45,7 +45,7 @@ pub fn is_decimal(bytes: &[u8]) -> bool
     are_digits(bytes) && bytes.len() > 0 && (bytes.len() == 1 || bytes[0] != b'0')
 }
 
-/// The value of decimal digits, and `None` where it needs more than 64 bits.
+/// The value of decimal digits, and `None` if it needs more than 64 bits.
 pub fn numeral_value(digits: &[u8]) -> Option<u64>
     requires { Numerals.is_numeral digits.now ≡ true }
     ensures { result ≡ (if nat_lt (digits_value 10 digits.now) (2 ^ 64)
@@ -57,7 +57,7 @@ pub fn numeral_value(digits: &[u8]) -> Option<u64>
     }
 }
 
-/// The decimal number without leading zeros that bytes are, where it is in the range, and else `None`.
+/// The decimal number without leading zeros that bytes are, if it is in the range, and else `None`.
 #[tactic(auto, unfolding(papi_base::specs::Numerals::decimal_in))]
 pub fn decimal_in(low: u64, high: u64, bytes: &[u8]) -> Option<u64>
     ensures { result ≡ Numerals.decimal_in low high bytes.now }

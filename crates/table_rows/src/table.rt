@@ -6,7 +6,7 @@ ghost use Rattle.table_rows.specs.Rows.{IsReadRow, rows_of};
 ghost use Rattle.table_rows.specs.Tables.{ReadsTable, TakesRow, first_fault};
 ghost use Rattle.table_rows.specs.Texts.{Text};
 
-use crate::fault::{Refusal, RowFault};
+use crate::fault::{RowFault, RowRefusal};
 use crate::row_reader::RowReader;
 use csv::ByteRecord;
 use std::alloc::{AllocError, Global};
@@ -40,7 +40,7 @@ pub trait TableKind {
         alloc: Global,
         read: &mut Self::Read,
         row: &ByteRecord,
-    ) -> Result<(), Refusal<Self::Cause>>
+    ) -> Result<(), RowRefusal<Self::Cause>>
         requires plain { IsReadRow (fields_of row.now) }
         requires given { (above : List Line) × gives self.now above read.old }
         ensures { (above : List Line) → gives self.now above read.old

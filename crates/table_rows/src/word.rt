@@ -39,7 +39,7 @@ pub fn is_printable(bytes: &[u8]) -> bool
     bytes.iter().all(|&b| is_printable_byte(b))
 }
 
-/// The text of bytes that are a name, and `None` where they are not.
+/// The text of bytes that are a name, and `None` if they are not.
 pub fn name_text(bytes: &[u8]) -> Option<&str>
     ensures { option_map (λ s. s.now) result
         ≡ (if Texts.is_name bytes.now then Some bytes.now else None) }
@@ -53,7 +53,7 @@ pub fn name_text(bytes: &[u8]) -> Option<&str>
     }
 }
 
-/// The text of bytes that are printable ASCII, and `None` where some byte is not.
+/// The text of bytes that are printable ASCII, and `None` if some byte is not.
 pub fn printable_text(bytes: &[u8]) -> Option<&str>
     ensures { option_map (λ s. s.now) result
         ≡ (if Texts.is_printable bytes.now then Some bytes.now else None) }

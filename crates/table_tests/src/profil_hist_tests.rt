@@ -1,4 +1,4 @@
-//! Maps of so many ranges as a map may have, and one more.
+//! Maps of as many ranges as a map may have, and of one more.
 
 use profil_hist::{MapCause, MapFault, read_map};
 use std::fmt::Write;

@@ -1,4 +1,4 @@
-//! Preset files of so many user events as a processor may have, and one more.
+//! Preset files of as many user events as a processor may have, and of one more.
 
 use preset_csv::{PresetCause, PresetFault};
 use std::fmt::Write;

@@ -1,11 +1,11 @@
--- A core where a set that does not run is changed: its settings, its events, and whether it is there.
+-- A core in which a set that does not run is changed: its settings, its events, and whether it is there.
 use Rattle.thread_core.proofs.Words.{Option, Occ, ℕ, List, Kept, ◌≡◌, false, weighed, ◌-◌, arith, refl, total, length, ◌∙◌, sym, ap, clock, Book, Native}
 use Rattle.thread_core.proofs.Words.{measured, None, weight_of, Some, Turns, estimated_in, ap₂, estimate, active, weight_in_turn, map, replicate, [], ◌∷◌}
 use Rattle.thread_core.proofs.Words.{set_natives, Widths, slot_of, Slot, kept_after, Err, map_same, CoreView, Account, at, slot_faces, Bool, Face, Code}
 use Rattle.thread_core.proofs.Words.{code_before, refusal_of, Plain, is_absent, Enoevst, nat_le, runs, Ok, AtRest, option_map, here, not, Einval, Ecombo}
 use Rattle.thread_core.proofs.Words.{is_multiplexed, EventRef, if◌then◌else◌, is_some, AgreesWith, ◌<◌, is_on_sets, true, IsFor, IsGood, sets_after}
 use Rattle.thread_core.proofs.Words.{new_kept, change, reply_over, sight_of_kept, plain, Follows, Result, slice_set, subst, rest_code, Refusal, IsNamed, added}
-use Rattle.thread_core.proofs.Words.{refused, list_all, free, slice_get, ◌+◌, suc, done, map_put, slot_after, call_of, change_refusal, lacks_component, Enocmp}
+use Rattle.thread_core.proofs.Words.{refused, list_all, free, slice_get, ◌+◌, suc, done, map_put, slot_after, changing_call, change_refusal, lacks_component, Enocmp}
 use Rattle.thread_core.proofs.Words.{Eisrun, Ecount, has_event, is_other, is_bad_domain, is_bad_slice, is_armed, cannot_arm, is_bad_threshold, shares_native}
 use Rattle.thread_core.proofs.Words.{cannot_take, is_full, clash_with, conflict_of, Conflict, ⊤, OnOk, IfErr, OnErr, changed_reply, new_slot, free_map}
 use Rattle.thread_core.proofs.Words.{slot_with_event, slot_with, counting_by, set-same, at-some, face_of}
@@ -62,11 +62,11 @@ measured_same book past s comp (Some slice) n = refl
 
 -- what a change leaves of a stopped set, which does not run after it
 slot_is : (book : Book) (shape : Widths) (past : List Occ) (k : ℕ) (m : Change) (s : Kept) → s.running ≡ false
-    → (slot_after book shape m (slot_of book shape past s) ≡ slot_of book shape past (kept_after book past (call_of k m) s))
-    × ((kept_after book past (call_of k m) s).running ≡ false)
+    → (slot_after book shape m (slot_of book shape past s) ≡ slot_of book shape past (kept_after book past (changing_call k m) s))
+    × ((kept_after book past (changing_call k m) s).running ≡ false)
 slot_is book shape past k (made.Remove (Err x)) s stopped = (refl, stopped)
 slot_is book shape past k (made.Overflow (Err x) t) s stopped = (refl, stopped)
-slot_is book shape past k (made.Component comp) s stopped =
+slot_is book shape past k (made.AssignComponent comp) s stopped =
     let t : Kept = record s { set = record (s.set) { component = Some comp } } in
     let counts = map_same (measured s.set.slice book past s) (measured s.set.slice book past t) (measured_same book past s comp s.set.slice) in (
       ap (λ (b : Bool). slot_with book shape t (counting_by book past s b s.set.slice)) stopped
@@ -74,25 +74,25 @@ slot_is book shape past k (made.Component comp) s stopped =
       stopped,
     )
 slot_is book shape past k m s stopped =
-    let t : Kept = kept_after book past (call_of k m) s in
+    let t : Kept = kept_after book past (changing_call k m) s in
     (put_stopped book shape past t _ stopped (counted_none book past t stopped refl), stopped)
 
 -- ---- refusals
 
--- where a code comes before the set is asked, the table says so
+-- if a code comes before the set is asked, the table says so
 pub before_refuses : (book : Book) (shape : Widths) (registered : Bool) (faces : List (Option Face)) (k : ℕ) (m : Change) (c : Code)
-    → code_before shape faces k m ≡ Some c → refusal_of book shape registered faces (call_of k m) ≡ Some (Plain c)
-before_refuses book shape registered faces k (made.Component comp) c h = check_comes ((is_absent faces k, Enoevst) ∷ (nat_le (length shape) comp, Enocmp) ∷ (runs faces k, Eisrun) ∷ []) _ c h
+    → code_before shape faces k m ≡ Some c → refusal_of book shape registered faces (changing_call k m) ≡ Some (Plain c)
+before_refuses book shape registered faces k (made.AssignComponent comp) c h = check_comes ((is_absent faces k, Enoevst) ∷ (nat_le (length shape) comp, Enocmp) ∷ (runs faces k, Eisrun) ∷ []) _ c h
 before_refuses book shape registered faces k (made.Remove (Ok e)) c h = check_comes ((is_absent faces k, Enoevst) ∷ (runs faces k, Eisrun) ∷ []) _ c h
 before_refuses book shape registered faces k (made.Overflow (Ok e) t) c h = check_comes ((is_absent faces k, Enoevst) ∷ (runs faces k, Eisrun) ∷ []) _ c h
 before_refuses book shape registered faces k m c h = check_comes ((is_absent faces k, Enoevst) ∷ (runs faces k, Eisrun) ∷ []) _ c h
 
 -- what the table says of a set that does not run
-change_rows : (book : Book) (shape : Widths) (registered : Bool) (faces : List (Option Face)) (k : ℕ) (m : Change) (r : AtRest) → at faces k ≡ Some (record { set = r; running = false }) → refusal_of book shape registered faces (call_of k m) ≡ option_map Plain (change_refusal book shape m r)
+change_rows : (book : Book) (shape : Widths) (registered : Bool) (faces : List (Option Face)) (k : ℕ) (m : Change) (r : AtRest) → at faces k ≡ Some (record { set = r; running = false }) → refusal_of book shape registered faces (changing_call k m) ≡ option_map Plain (change_refusal book shape m r)
 change_rows book shape registered faces k (made.Remove (Ok e)) r here = rw here (sym (codes_refuse ((not (has_event e r), Einval) ∷ [])))
-change_rows book shape registered faces k (made.Component comp) r here = rw here (sym (codes_refuse ((nat_le (length shape) comp, Enocmp) ∷ (is_other r.component (Some comp), Einval) ∷ [])))
-change_rows book shape registered faces k (made.Domain bits) r here = rw here (sym (codes_refuse ((is_bad_domain bits, Einval) ∷ [])))
-change_rows book shape registered faces k (made.Multiplex slice) r here = rw here (sym (codes_refuse ((is_bad_slice slice, Einval) ∷ (is_armed r, Ecombo) ∷ [])))
+change_rows book shape registered faces k (made.AssignComponent comp) r here = rw here (sym (codes_refuse ((nat_le (length shape) comp, Enocmp) ∷ (is_other r.component (Some comp), Einval) ∷ [])))
+change_rows book shape registered faces k (made.SetDomain bits) r here = rw here (sym (codes_refuse ((is_bad_domain bits, Einval) ∷ [])))
+change_rows book shape registered faces k (made.SetMultiplex slice) r here = rw here (sym (codes_refuse ((is_bad_slice slice, Einval) ∷ (is_armed r, Ecombo) ∷ [])))
 change_rows book shape registered faces k (made.Overflow (Ok e) t) r here = rw here (sym (codes_refuse ((cannot_arm book e r, Einval) ∷ (is_bad_threshold shape t r, Einval) ∷ (shares_native book e t r, Einval) ∷ (is_multiplexed r, Ecombo) ∷ [])))
 change_rows book shape registered faces k m r here = rw here refl
 
@@ -104,7 +104,7 @@ add_rows book shape registered faces k e r here = rw here (ap (λ c. if cannot_t
 
 -- ---- changes
 
--- where no code comes, the set is there and does not run
+-- if no code comes, the set is there and does not run
 pub change_there : (shape : Widths) (slots : List (Option Slot)) (k : ℕ) (m : Change) → code_before shape (slot_faces slots) k m ≡ None → Has slots k
 change_there shape slots k m none = has_slot slots k (check_fails
     ((is_absent (slot_faces slots) k, Enoevst) ∷ (lacks_component shape m, Enocmp) ∷ (runs (slot_faces slots) k, Eisrun) ∷ []) 0 none)
@@ -119,10 +119,10 @@ face_rests : (book : Book) (core : CoreView) (a : Account) (k : ℕ) (slot : Slo
 face_rests book core a k slot u still =
     u.at_face ∙ ap₂ (λ (r : AtRest) (b : Bool). Some (record { set = r; running = b })) (ap (λ (x : Slot). x.set.rest) u.is) (runs_as u ∙ still)
 
--- what the table says, where the core's set is asked
+-- what the table says, if the core's set is asked
 says : (book : Book) (core : CoreView) (k : ℕ) (m : Change) (r : Option Code) (slot : Slot) → AgreesWith book core
     → code_before core.shape (slot_faces core.slots) k m ≡ None → at core.slots k ≡ Some slot → change_refusal book core.shape m slot.set.rest ≡ r
-    → refusal_of book core.shape core.registered (slot_faces core.slots) (call_of k m) ≡ option_map Plain r
+    → refusal_of book core.shape core.registered (slot_faces core.slots) (changing_call k m) ≡ option_map Plain r
 says book core k m r slot agrees none here asks =
     let u = under book core agrees.account k slot agrees.stands here in
     change_rows book core.shape core.registered (slot_faces core.slots) k m slot.set.rest
@@ -130,21 +130,21 @@ says book core k m r slot agrees none here asks =
 
 -- the call changes the set alone, and replies a code alone
 record IsAlone (book : Book) (shape : Widths) (a : Account) (k : ℕ) (m : Change) : Type 0 where
-  pub on_sets : is_on_sets (call_of k m) ≡ true
-  pub good : IsFor book shape m → IsGood book shape (call_of k m)
-  pub sets : sets_after new_kept (kept_after book a.past) (call_of k m) a.sets ≡ change (kept_after book a.past (call_of k m)) a.sets k
-  pub reply : reply_over book (sight_of_kept book shape a.past) a.sets (call_of k m) ≡ plain code.Ok
+  pub on_sets : is_on_sets (changing_call k m) ≡ true
+  pub good : IsFor book shape m → IsGood book shape (changing_call k m)
+  pub sets : sets_after new_kept (kept_after book a.past) (changing_call k m) a.sets ≡ change (kept_after book a.past (changing_call k m)) a.sets k
+  pub reply : reply_over book (sight_of_kept book shape a.past) a.sets (changing_call k m) ≡ plain code.Ok
 
 alone : (book : Book) (shape : Widths) (a : Account) (k : ℕ) (m : Change) → IsAlone book shape a k m
 alone book shape a k made.Cleanup = record { on_sets = refl; good = λ h. h; sets = refl; reply = refl }
 alone book shape a k m = record { on_sets = refl; good = λ h. h; sets = refl; reply = refl }
 
--- what is answered where the set was asked
+-- what is answered if the set was asked
 abbrev pub code_after : Result ⊤ Code → Code
 code_after (Ok u) = code.Ok
 code_after (Err c) = c
 
--- the core where a set says no
+-- the core if a set says no
 same_slot : (slots : List (Option Slot)) (k : ℕ) (slot new : Slot) → at slots k ≡ Some slot → new ≡ slot → slice_set slots k (Some new) ≡ slots
 same_slot slots k slot new there same = ap (λ (x : Slot). slice_set slots k (Some x)) same ∙ set-same slots k (Some slot) (at-some slots k slot there)
 
@@ -154,18 +154,18 @@ pub change_follows : (book : Book) (core : CoreView) (k : ℕ) (m : Change) (res
     → OnOk result (change_refusal book core.shape m slot.set.rest ≡ None)
     → IfErr result (λ c. change_refusal book core.shape m slot.set.rest ≡ Some c)
     → OnErr result (new ≡ slot)
-    → Follows book core (with_both core core.units (slice_set core.slots k (Some new))) (call_of k m) (plain (code_after result))
+    → Follows book core (with_both core core.units (slice_set core.slots k (Some new))) (changing_call k m) (plain (code_after result))
 change_follows book core k m (Err c) slot new agrees named none here changed taken refuses same =
-    subst (λ (xs : List (Option Slot)). Follows book core (with_both core core.units xs) (call_of k m) (plain c))
+    subst (λ (xs : List (Option Slot)). Follows book core (with_both core core.units xs) (changing_call k m) (plain c))
     (sym (same_slot core.slots k slot new here same))
-    (refused_follows book core (call_of k m) (Plain c) (plain c) agrees (says book core k m (Some c) slot agrees none here refuses) refl)
+    (refused_follows book core (changing_call k m) (Plain c) (plain c) agrees (says book core k m (Some c) slot agrees none here refuses) refl)
 change_follows book core k m (Ok u) slot new agrees named none here changed taken refuses same =
     let one = alone book core.shape agrees.account k m in
-    let g : Goes book core (call_of k m) = record { agrees = agrees; allowed = says book core k m None slot agrees none here taken } in
-    put_follows book core core.units slot new (call_of k m) (plain code.Ok) k g (one.good named) one.on_sets (λ a. (alone book core.shape a k m).sets) here
+    let g : Goes book core (changing_call k m) = record { agrees = agrees; allowed = says book core k m None slot agrees none here taken } in
+    put_follows book core core.units slot new (changing_call k m) (plain code.Ok) k g (one.good named) one.on_sets (λ a. (alone book core.shape a k m).sets) here
     (λ a h u.
     let rests = runs_as u ∙ change_rests core k m none in
-    let t = kept_after book a.past (call_of k m) u.set in
+    let t = kept_after book a.past (changing_call k m) u.set in
     let is = slot_is book core.shape a.past k m u.set rests in
     record {
       slot = changed ∙ ap (slot_after book core.shape m) (sym u.is) ∙ is.0;
@@ -232,7 +232,7 @@ slot_view {book} {core} k {slot} agrees here =
 
 -- ---- a new set, and one that is taken away
 
--- where not all places are taken there is a free one
+-- if not all places are taken there is a free one
 free_inside : {X : Type 0} (xs : List (Option X)) → list_all (λ x. is_some x) xs ≡ false → (free xs < length xs) × (slice_get xs (free xs) ≡ Some None)
 free_inside [] h = cc
 free_inside (None ∷ xs) h = (omega arith, refl)

@@ -2,7 +2,7 @@
 use Rattle.thread_core.proofs.Words.{Bool, List, map, ◌≡◌, [], refl, ◌∷◌, ap, Option, list_all, is_some, option_map, None, Some, ◌&&◌, Code, Plain, first_code}
 use Rattle.thread_core.proofs.Words.{first_of, row, true, false, ℕ, option_map_or, slice_get, zero, suc, Refusal, if◌then◌else◌, ℤ, Enoevst, Enotrun}
 use Rattle.thread_core.proofs.Words.{values_reply, plain, subst, Book, CoreView, Account, CoreStands, slot_faces, faces_of, ◌∙◌, Call, refusal_of}
-use Rattle.thread_core.proofs.Words.{account_refusal, ap₂, Reply, AgreesWith, refused, Follows, sym, Outcome, step, unless, performed, Widths, is_on_sets}
+use Rattle.thread_core.proofs.Words.{account_refusal, ap₂, Reply, AgreesWith, refused, Follows, sym, StepOutcome, step, unless, performed, Widths, is_on_sets}
 use Rattle.thread_core.proofs.Words.{sets_after, new_kept, kept_after, reply_over, sight_of_kept, UnitView, Slot, Kept, slots_of, units_of, AreApart, IsGood}
 use Rattle.thread_core.proofs.Words.{length, AllWithin, AreFit, time_after, IsRefusedWith, within_stays, apart_stays, fit_stays}
 use Rattle.papi_base.specs.declared.code.Code.TheVariants as code
@@ -12,7 +12,7 @@ use Rattle.session_laws.proofs.Counted.{places_stay}
 use Rattle.thread_core.specs.CoreView.{core_of}
 use Rattle.thread_core.specs.declared.thread.Core.TheInside.{Inside}
 
--- ---- tables of refusals: the first check that holds, and what is known where none does
+-- ---- tables of refusals: the first check that holds, and what is known if none does
 
 pub all_some_of_map : {X Y : Type 0} (f : X → Y) (xs : List (Option X)) → list_all (λ (p : Option Y). is_some p) (map (option_map f) xs) ≡ list_all (λ (p : Option X). is_some p) xs
 all_some_of_map f [] = refl
@@ -25,7 +25,7 @@ codes_refuse [] = refl
 codes_refuse ((true, code) ∷ checks) = refl
 codes_refuse ((false, code) ∷ checks) = codes_refuse checks
 
--- where none holds, each of them fails
+-- if none holds, each of them fails
 pub check_fails : (checks : List (Bool × Code)) (i : ℕ) → first_code checks ≡ None → option_map_or (λ check. check.0) (slice_get checks i) false ≡ false
 check_fails [] i h = refl
 check_fails ((true, code) ∷ checks) i h = cc
@@ -65,8 +65,8 @@ refusal_stands book core a call h = ap₂ (λ b f. refusal_of book core.shape b 
 -- a refused call changes nothing
 pub refused_follows : (book : Book) (core : CoreView) (call : Call) (r : Refusal) (reply : Reply) → AgreesWith book core → refusal_of book core.shape core.registered (slot_faces core.slots) call ≡ Some r → reply ≡ refused r → Follows book core core call reply
 refused_follows book core call r reply agrees is says = record {
-  account = λ a h. subst (λ b. CoreStands book core b) (sym (ap (λ (x : Outcome). x.account) (out a h))) h;
-  reply = λ a h. says ∙ sym (ap (λ (x : Outcome). x.reply) (out a h));
+  account = λ a h. subst (λ b. CoreStands book core b) (sym (ap (λ (x : StepOutcome). x.account) (out a h))) h;
+  reply = λ a h. says ∙ sym (ap (λ (x : StepOutcome). x.reply) (out a h));
   agrees = agrees;
   shape = refl;
   taken = refl;
@@ -123,7 +123,7 @@ left_follows : (book : Book) (core : CoreView) (registered : Bool) (units : List
     → Follows book core (with_all core registered units slots) call reply
 left_follows book core registered units slots call reply agrees good leaves = record {
   account = stands;
-  reply = λ a h. sym (ap (λ (x : Outcome). x.reply) (leaves a h).out);
+  reply = λ a h. sym (ap (λ (x : StepOutcome). x.reply) (leaves a h).out);
   agrees = record {
     account = (step book core.shape agrees.account call).account;
     fits = agrees.fits;
@@ -137,7 +137,7 @@ left_follows book core registered units slots call reply agrees good leaves = re
   stands : (a : Account) → CoreStands book core a → CoreStands book (with_all core registered units slots) (step book core.shape a call).account
   stands a h =
       let does = leaves a h in
-      let is = ap (λ (x : Outcome). x.account) does.out in
+      let is = ap (λ (x : StepOutcome). x.account) does.out in
       subst (CoreStands book (with_all core registered units slots)) (sym is) (record {
         thread = h.thread;
         registered = refl;
@@ -162,7 +162,7 @@ pub done_follows : (book : Book) (core : CoreView) (units : List UnitView) (slot
     → Follows book core (with_both core units slots) call reply
 done_follows book core units slots call reply agrees good on none does = left_follows book core core.registered units slots call reply agrees good (λ a h.
     let is = step_is book core a call on none h in
-    let d = does a h (subst (λ (x : Outcome). AreApart (faces_of x.account.sets)) is (apart_stays book core.shape a call h.apart)) in
+    let d = does a h (subst (λ (x : StepOutcome). AreApart (faces_of x.account.sets)) is (apart_stays book core.shape a call h.apart)) in
     record {
       sets = d.sets;
       out = is ∙ (λ i. record { account = record a { registered = (sym h.registered) i; sets = d.after i }; reply = (sym d.reply) i; notes = [] });

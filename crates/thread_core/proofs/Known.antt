@@ -1,5 +1,5 @@
 -- What is known of the sets that run stays true.
-use Rattle.thread_core.proofs.Words.{Outcome, List, Option, ℕ, Slot, ◌≡◌, replicate, None, sym, ap, slice_get, ◌∙◌, Some, zero, suc, Book, CoreView, Account}
+use Rattle.thread_core.proofs.Words.{StepOutcome, List, Option, ℕ, Slot, ◌≡◌, replicate, None, sym, ap, slice_get, ◌∙◌, Some, zero, suc, Book, CoreView, Account}
 use Rattle.thread_core.proofs.Words.{CoreStands, faces_of, owner_from, Occ, CountedAll, ◌≤◌, time_after, AgreesWith, counted_all, consumed, refl, slot_faces}
 use Rattle.thread_core.proofs.Words.{◌<◌, length, arith, Kept, face_of, change, [], ◌∷◌, option_map, Call, Reply, is_on_sets, true, sets_after, new_kept}
 use Rattle.thread_core.proofs.Words.{kept_after, Follows, step, subst}
@@ -8,7 +8,7 @@ use Rattle.thread_core.proofs.Following.{faces_stand, Goes, step_is}
 use Rattle.thread_core.proofs.Taking.{after_taking, taken_stands, countable}
 use Rattle.thread_core.proofs.Owners.{length-units}
 
--- where nothing is known
+-- if nothing is known
 pub forgotten : (known : List (Option (Option ℕ))) (slots : List (Option Slot)) → known ≡ replicate 16 None → AreKnown known slots
 forgotten known slots is = record { owner = λ comp found e. absurd (none 16 comp found (sym (ap (λ ks. slice_get ks comp) is) ∙ e)) } where
   none : (n i : ℕ) (found : Option ℕ) → slice_get (replicate n None) i ≡ Some (Some found) → ⊥
@@ -16,7 +16,7 @@ forgotten known slots is = record { owner = λ comp found e. absurd (none 16 com
   none (suc n) zero found e = cc
   none (suc n) (suc i) found e = none n i found e
 
--- where the core stands for an account whose sets have the same faces
+-- if the core stands for an account whose sets have the same faces
 known_with : (book : Book) (old new : CoreView) (a b : Account) (known : List (Option (Option ℕ))) → CoreStands book old a → CoreStands book new b → faces_of b.sets ≡ faces_of a.sets → AreKnown known old.slots → AreKnown known new.slots
 known_with book old new a b known h g same are = record { owner = λ comp found e. ap (owner_from comp 0) (faces_stand book new b g ∙ same ∙ sym (faces_stand book old a h)) ∙ are.owner comp found e }
 
@@ -46,6 +46,6 @@ pub counts_known : {book : Book} {core now new : CoreView} {made : Call} {given 
 counts_known {book} {core} {now} {new} {made} {given} {known} k is g on one same f h =
     let a = g.agrees.account in
     let follows = subst (λ (v : CoreView). Follows book v new made given) (sym is) f in
-    let faces = ap (λ (x : Outcome). faces_of x.account.sets) (step_is book core a made on g.allowed g.agrees.stands) ∙ ap faces_of (one a)
+    let faces = ap (λ (x : StepOutcome). faces_of x.account.sets) (step_is book core a made on g.allowed g.agrees.stands) ∙ ap faces_of (one a)
     ∙ change_faces (kept_after book a.past made) a.sets k (same a) in
     known_with book core new a (step book core.shape a made).account known g.agrees.stands (follows.account a g.agrees.stands) faces h

@@ -44,13 +44,13 @@ has_slot slots k there = go (at slots k) refl where
   go None e = let gone : true ≡ false = sym (ap (λ (o : Option Face). is_none o) (face_at slots k None e)) ∙ there in cc
   go (Some slot) e = record { slot = slot; at_slot = e; inside = slice_get_within slots k _ (at-some slots k slot e) }
 
--- so it is where a call is not refused whose table begins with that test
+-- so it is if a call is not refused whose table begins with that test
 pub named : {book : Book} {core : CoreView} {made : Call} (k : ℕ) → Goes book core made
     → option_map_or (λ r. r.0) (slice_get (rows book core.shape core.registered (slot_faces core.slots) made) 0) false ≡ is_absent (slot_faces core.slots) k
     → Has core.slots k
 named {book} {core} {made} k g first = has_slot core.slots k (sym first ∙ row_off book core made 0 g.allowed)
 
--- a call whose table begins with that test is refused where there is no set
+-- a call whose table begins with that test is refused if there is no set
 pub absent_follows : {book : Book} {core : CoreView} {made : Call} (k : ℕ) (more : Option Refusal) → AgreesWith book core → at core.slots k ≡ None
     → refusal_of book core.shape core.registered (slot_faces core.slots) made ≡ (if is_absent (slot_faces core.slots) k then Some (Plain Enoevst) else more)
     → Follows book core core made (plain Enoevst)
@@ -58,7 +58,7 @@ absent_follows {book} {core} {made} k more agrees none table =
     refused_follows book core made (Plain Enoevst) _ agrees
     (table ∙ ap (λ (o : Option Face). if is_none o then Some (Plain Enoevst) else more) (face_at core.slots k None none)) refl
 
--- and goes on where there is one, if that test is all
+-- and goes on if there is one, if that test is all
 pub goes_there : {book : Book} {core : CoreView} {made : Call} (k : ℕ) (slot : Slot) → AgreesWith book core → at core.slots k ≡ Some slot
     → refusal_of book core.shape core.registered (slot_faces core.slots) made ≡ (if is_absent (slot_faces core.slots) k then Some (Plain Enoevst) else None)
     → Goes book core made
@@ -109,7 +109,7 @@ under book core a k slot h here = go (at a.sets k) refl where
         (sym (slot_at book core a k h ∙ ap (option_map (slot_of book core.shape a.past)) e) ∙ here);
   }
 
--- it runs where the table says so
+-- it runs if the table says so
 pub runs_as : {book : Book} {core : CoreView} {a : Account} {k : ℕ} {slot : Slot} (u : Under book core a k slot)
     → u.set.running ≡ runs (slot_faces core.slots) k
 runs_as u = sym (ap (λ (o : Option Face). option_map_or (λ f. f.running) o false) u.at_face)
@@ -183,7 +183,7 @@ put_follows book core units slot new made reply k g good on one here puts =
       reply = p.reply;
     })
 
--- where neither the set that was in a place nor what comes there runs, the units stay
+-- if neither the set that was in a place nor what comes there runs, the units stay
 pub units_rest : (book : Book) (core : CoreView) (a : Account) (k : ℕ) (t place : Option Kept) → CoreStands book core a
     → AreApart (faces_of (slice_set a.sets k t)) → slice_get a.sets k ≡ Some place → ((c : ℕ) → IsQuiet c place) → ((c : ℕ) → IsQuiet c t)
     → core.units ≡ units_of book core.shape a.past (slice_set a.sets k t)
@@ -191,7 +191,7 @@ units_rest book core a k t place h apart e quiet new =
     h.units
     ∙ units_same book core.shape a.past a.past a.sets (slice_set a.sets k t) (λ c. unit_stays book a.past a.sets k c t place apart e (quiet c) (new c))
 
--- so they do where a set is put anew that has no component
+-- so they do if a set is put anew that has no component
 pub units_without : (book : Book) (core : CoreView) (a : Account) (k : ℕ) (s t : Kept) → CoreStands book core a
     → AreApart (faces_of (slice_set a.sets k (Some t))) → slice_get a.sets k ≡ Some (Some s) → s.set.component ≡ None → t.set.component ≡ None
     → core.units ≡ units_of book core.shape a.past (slice_set a.sets k (Some t))
@@ -203,7 +203,7 @@ units_without book core a k s t h apart place none still = units_rest book core 
 pub quiet_but : (s : Kept) (comp c : ℕ) → s.set.component ≡ Some comp → (c ≡ comp → ⊥) → IsQuiet c (Some s)
 quiet_but s comp c is other = quiet_other s c (λ on. other (same_some c comp (sym on ∙ is)))
 
--- where a set is put that runs on no other component, and the one before it did not, the unit of this component alone changes
+-- if a set is put that runs on no other component, and the one before it did not, the unit of this component alone changes
 pub units_one : (book : Book) (core : CoreView) (a : Account) (k comp : ℕ) (ws : List ℕ) (s t : Kept) (unit : UnitView) (found : Option Kept)
     → CoreStands book core a → AreApart (faces_of (slice_set a.sets k (Some t))) → slice_get a.sets k ≡ Some (Some s) → slice_get core.shape comp ≡ Some ws
     → s.set.component ≡ Some comp → t.set.component ≡ Some comp → runner comp (slice_set a.sets k (Some t)) ≡ found
@@ -215,7 +215,7 @@ units_one book core a k comp ws s t unit found h apart place at_comp on still ru
     ∙ units_put book core.shape a.past a.past a.sets (slice_set a.sets k (Some t)) comp ws at_comp
     (λ c other. unit_stays book a.past a.sets k c (Some t) (Some s) apart place (quiet_but s comp c on other) (quiet_but t comp c still other))
 
--- and it is the unit of the set that is put, where this one runs
+-- and it is the unit of the set that is put, if this one runs
 pub units_run : (book : Book) (core : CoreView) (a : Account) (k comp : ℕ) (ws : List ℕ) (s t : Kept) (unit : UnitView) → CoreStands book core a
     → AreApart (faces_of (slice_set a.sets k (Some t))) → slice_get a.sets k ≡ Some (Some s) → slice_get core.shape comp ≡ Some ws
     → s.set.component ≡ Some comp → t.set.component ≡ Some comp → t.running ≡ true

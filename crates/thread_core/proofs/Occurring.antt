@@ -4,7 +4,7 @@ use Rattle.thread_core.proofs.Words.{runs_on, Some, face_of, false, cases_Bool, 
 use Rattle.thread_core.proofs.Words.{Register, sym, owner_from, faces_of, refl, registers_by, runner, None, same_some, CountedAll, units_of, slots_of}
 use Rattle.thread_core.proofs.Words.{notes_at, map, note, slice_get, ◌+◌, suc, zero, map_same_on, option_map, cases_eq, unit_at, widths_at, unwrap_or}
 use Rattle.thread_core.proofs.Words.{IsShape, AreApart, counted_over, last_after, subst, get_at, get-map_some, Counted, counted_at, Slot, counted_place}
-use Rattle.thread_core.proofs.Words.{some-at, here, slice_set, slice_get_within, if◌then◌else◌, ◌==◌, ne_eqb, Bool, passing_from, counted_all}
+use Rattle.thread_core.proofs.Words.{some-at, here, slice_set, slice_get_within, if◌then◌else◌, ◌==◌, ne_eqb, Bool, passed_from, counted_all}
 use Rattle.session_model.specs.Thresholds.{passed_in}
 use Rattle.thread_core.proofs.Squares.{elsewhere, slot_elsewhere, passing_elsewhere, registers_elsewhere, stopped_stays, unit_by, after, counted_follows}
 use Rattle.thread_core.proofs.Owners.{IsSameUnit, units_same, get-units, units_put, put_as, runner-none, runs_by, quiet_other, runner-some, quiet_none, Runs, other_runs, faces_same}
@@ -50,7 +50,7 @@ other_unit book shape past o sets c fit within apart ws = ap (λ (rs : List (Opt
       let h = stays book shape past o r.set (fit.fit k r.set r.at) (within_at (length past) sets k r.set within r.at) elsewhere in
       rw (runner-some sets c k r.set e r.at) (h.registers ws r.running)
 
--- where no set runs on the occurrence's component, all stays
+-- if no set runs on the occurrence's component, all stays
 pub record AllFollow (book : Book) (shape : Widths) (past : List Occ) (o : Occ) (sets : List (Option Kept)) (c : CountedAll) : Type 0 where
   pub units : c.units ≡ units_of book shape (past ++ o ∷ []) sets
   pub slots : c.slots ≡ slots_of book shape (past ++ o ∷ []) sets
@@ -184,7 +184,7 @@ some_follows book shape past o sets k shapely fit within apart small e = subst (
       notes_one book thread past o 0 sets k r.set r.at (λ i t other f. (stay i t other f).silent)
       ∙ ap (λ (n : ℕ). map (note thread n o) (passed_in r.set.running book past r.set o)) number
       ∙ ap (λ (b : Bool). map (note thread k o) (passed_in b book past r.set o)) r.running
-      ∙ the_set (passing_from book past r.set o 0 r.set.set.events r.set.set.thresholds) thread
+      ∙ the_set (passed_from book past r.set o 0 r.set.set.events r.set.set.thresholds) thread
 
 pub all_follow : (book : Book) (shape : Widths) (past : List Occ) (o : Occ) (sets : List (Option Kept)) → IsShape shape → AreFit book shape sets → AllWithin (length past) sets → AreApart (faces_of sets) → o.amount ≤ 255
     → AllFollow book shape past o sets (counted_all (last_after None past) o (units_of book shape past sets) (slots_of book shape past sets))

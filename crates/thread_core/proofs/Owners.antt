@@ -1,4 +1,4 @@
--- Which set runs on a component, and the units and places where one place is put anew.
+-- Which set runs on a component, and the units and places if one place is put anew.
 use Rattle.thread_core.proofs.Words.{Book, Widths, List, Occ, Option, Kept, map, option_map, face_of_slot, slots_of, ◌≡◌, faces_of, [], refl, None, ◌∷◌, ap}
 use Rattle.thread_core.proofs.Words.{Some, face_of, ℕ, runs_on, false, option_map_or, ◌==◌, true, eqb-true, ap₂, Bool, ◌&&◌, ◌∙◌, eq-eqb, here, both}
 use Rattle.thread_core.proofs.Words.{if◌then◌else◌, Face, owner_from, slice_get, zero, sym, suc, ◌+◌, cond-false, cases_Bool, inl, cond-true, arith, inr}
@@ -6,7 +6,7 @@ use Rattle.thread_core.proofs.Words.{sum_by-append, ◌≤◌, at, same_some, ge
 use Rattle.thread_core.proofs.Words.{get-set_same, slice_get_within, subst, get-set_other, runs, count_by, cond, ◌<◌, length, units_from, unit_at, units_of}
 use Rattle.thread_core.proofs.Words.{registers_by, same_items, is_counting, counting_by, slot_of}
 
--- a set runs in the core where it does in the account
+-- a set runs in the core if it does in the account
 runs_same : (book : Book) (past : List Occ) (s : Kept) (b : Bool) (m : Option ℕ) → is_counting (counting_by book past s b m) ≡ b
 runs_same book past s false m = refl
 runs_same book past s true None = refl
@@ -132,7 +132,7 @@ quiet_none sets comp i p none e = quiet_from comp 0 (faces_of sets) i (option_ma
 pub other_runs : (sets : List (Option Kept)) (comp j k : ℕ) (s t : Kept) → AreApart (faces_of sets) → slice_get sets j ≡ Some (Some s) → slice_get sets k ≡ Some (Some t) → runs_on (Some comp) (Some (face_of s)) ≡ true → runs_on (Some comp) (Some (face_of t)) ≡ true → j ≡ k
 other_runs sets comp j k s t apart e f g h = one_meets (runs_on (Some comp)) (faces_of sets) j k (Some (face_of s)) (Some (face_of t)) (apart.each comp) (get-map_some (option_map face_of) sets j (Some s) e) (get-map_some (option_map face_of) sets k (Some t) f) g h
 
--- the set that runs on a component is found, and none where none does
+-- the set that runs on a component is found, and none if none does
 pub runner-some : (sets : List (Option Kept)) (comp k : ℕ) (s : Kept) → owner_from comp 0 (faces_of sets) ≡ Some k → slice_get sets k ≡ Some (Some s) → runner comp sets ≡ Some s
 runner-some sets comp k s e f = ap (option_and_then (at sets)) e ∙ some-at sets k s f
 
@@ -161,7 +161,7 @@ put_cases P sets k t place e new others i p f = elim (cases_eq i k) [
   | inr other ↦ others i p other (sym (get-set_other sets k i t other) ∙ f)
 ]
 
--- where one place is put anew, which set runs on a component stays, if neither what was there nor what comes there does
+-- if one place is put anew, which set runs on a component stays, if neither what was there nor what comes there does
 pub runner_same : (sets : List (Option Kept)) (k comp : ℕ) (t place : Option Kept) → AreApart (faces_of (slice_set sets k t))
     → slice_get sets k ≡ Some place → IsQuiet comp place → IsQuiet comp t → runner comp (slice_set sets k t) ≡ runner comp sets
 runner_same sets k comp t place apart e quiet new = go (owner_from comp 0 (faces_of sets)) refl where

@@ -35,9 +35,9 @@ any_none : (c : ℕ) (cs : List ℕ) (i x : ℕ) → list_any (λ k. k == c) cs 
 any_none c cs i x h e is = let both : true ≡ false = sym (eq-eqb x c (sym is)) ∙ none_any (λ k. k == c) cs i x h e in cc
 
 -- what the code answers is what the table and the replies say
-abbrev Tells : Option Refusal → Reply → Result ℕ Code → Type 0
-Tells refusal reply (Ok v) = (refusal ≡ None) × (done (body.Register v) ≡ reply)
-Tells refusal reply (Err e) = refusal ≡ Some (Plain e)
+abbrev TellsRegister : Option Refusal → Reply → Result ℕ Code → Type 0
+TellsRegister refusal reply (Ok v) = (refusal ≡ None) × (done (body.Register v) ≡ reply)
+TellsRegister refusal reply (Err e) = refusal ≡ Some (Plain e)
 
 abbrev codes : Bool → Bool → Bool → Bool → Option Refusal
 codes running counter free shared =
@@ -81,7 +81,7 @@ register_free : (book : Book) (past : List Occ) (s : Kept) (ws : List ℕ) (c : 
 register_free book past s ws c none = ap register_value (no_register-on book past s ws c (λ i e. any_none c (counters_for (set_natives book s.set)) i c none e refl))
 
 tells_set : (book : Book) (core : CoreView) (a : Account) (k c : ℕ) (s : Kept) → CoreStands book core a → at a.sets k ≡ Some s
-    → Tells (table_by book core.shape c (Some (face_of s))) (done (body.Register (register_of book core.shape a.past s c))) (register_shown core.units (face_of s) c)
+    → TellsRegister (table_by book core.shape c (Some (face_of s))) (done (body.Register (register_of book core.shape a.past s c))) (register_shown core.units (face_of s) c)
 tells_set book core a k c s h e = go (cases_Bool s.running) s.set.component refl where
   T : Option Refusal
   T = codes s.running (has_counter core.shape c s.set) (leaves_free book c s.set) (is_multiplexed s.set)
@@ -97,27 +97,27 @@ tells_set book core a k c s h e = go (cases_Bool s.running) s.set.component refl
 
   -- the counter exists
   counted : (ws : List ℕ) (m : Option ℕ) → s.running ≡ true → s.set.slice ≡ m → ws ≡ widths_at core.shape s.set.component → has_counter core.shape c s.set ≡ true
-      → Tells T R (register_by m (record { widths = ws; registers = running_registers book ws a.past s m }) c)
+      → TellsRegister T R (register_by m (record { widths = ws; registers = running_registers book ws a.past s m }) c)
   counted ws (Some slice) run turns same has =
       ap₂ (λ (x y : Bool). codes x y (leaves_free book c s.set) (is_multiplexed s.set)) run has
       ∙ ap (λ (m : Option ℕ). codes true true (leaves_free_by m book c s.set) (is_multiplexed (record s.set { slice = m }))) turns
   counted ws None run plain same has = by (cases_Bool (list_any (λ x. x == c) (counters_for (set_natives book s.set)))) where
-    by : (list_any (λ x. x == c) (counters_for (set_natives book s.set)) ≡ true) ⊎ (list_any (λ x. x == c) (counters_for (set_natives book s.set)) ≡ false) → Tells T R (register_value (at_place (running_registers book ws a.past s None) c))
-    by (inl found) = subst (Tells T R) (sym (register_there book core.shape a.past s ws c fit plain same found)) (
+    by : (list_any (λ x. x == c) (counters_for (set_natives book s.set)) ≡ true) ⊎ (list_any (λ x. x == c) (counters_for (set_natives book s.set)) ≡ false) → TellsRegister T R (register_value (at_place (running_registers book ws a.past s None) c))
+    by (inl found) = subst (TellsRegister T R) (sym (register_there book core.shape a.past s ws c fit plain same found)) (
       ap₂ (λ (x y : Bool). codes x y (leaves_free book c s.set) (is_multiplexed s.set)) run has
           ∙ ap (λ (m : Option ℕ). codes true true (leaves_free_by m book c s.set) (is_multiplexed (record s.set { slice = m }))) plain
           ∙ ap (λ (x : Bool). codes true true (not x) false) found,
       refl,
     )
-    by (inr none) = subst (Tells T R) (sym (register_free book a.past s ws c none)) (
+    by (inr none) = subst (TellsRegister T R) (sym (register_free book a.past s ws c none)) (
         ap₂ (λ (x y : Bool). codes x y (leaves_free book c s.set) (is_multiplexed s.set)) run has
         ∙ ap (λ (m : Option ℕ). codes true true (leaves_free_by m book c s.set) (is_multiplexed (record s.set { slice = m }))) plain
         ∙ ap (λ (x : Bool). codes true true (not x) false) none
         )
 
-  go : (s.running ≡ true) ⊎ (s.running ≡ false) → (m : Option ℕ) → s.set.component ≡ m → Tells T R (here s.running s.set.component)
-  go (inr stopped) m is = subst (Tells T R) (sym (ap (λ (b : Bool). here b s.set.component) stopped)) (ap (λ (b : Bool). codes b (has_counter core.shape c s.set) (leaves_free book c s.set) (is_multiplexed s.set)) stopped)
-  go (inl run) None is = subst (Tells T R) (sym (ap₂ here run is)) (
+  go : (s.running ≡ true) ⊎ (s.running ≡ false) → (m : Option ℕ) → s.set.component ≡ m → TellsRegister T R (here s.running s.set.component)
+  go (inr stopped) m is = subst (TellsRegister T R) (sym (ap (λ (b : Bool). here b s.set.component) stopped)) (ap (λ (b : Bool). codes b (has_counter core.shape c s.set) (leaves_free book c s.set) (is_multiplexed s.set)) stopped)
+  go (inl run) None is = subst (TellsRegister T R) (sym (ap₂ here run is)) (
       ap₂ (λ (x y : Bool). codes x y (leaves_free book c s.set) (is_multiplexed s.set)) run
       (ap (λ (m : Option ℕ). not (nat_le (length (widths_at core.shape m)) c)) is ∙ ap not (le-leb 0 c (omega arith)))
       )
@@ -131,16 +131,16 @@ tells_set book core a k c s h e = go (cases_Bool s.running) s.set.component refl
     found : here s.running s.set.component ≡ (if nat_le (length ws.0) c then Err Einval else register_by s.set.slice unit c)
     found = ap₂ here run is ∙ ap (λ (u : Option UnitView). register_on s.set.slice u c) (unit_on book core a k comp s ws.0 h e run is ws.1)
 
-    by : (nat_le (length ws.0) c ≡ true) ⊎ (nat_le (length ws.0) c ≡ false) → Tells T R (here s.running s.set.component)
-    by (inl lacks) = subst (Tells T R) (sym (found ∙ cond-true (nat_le (length ws.0) c) (Err Einval) (register_by s.set.slice unit c) lacks)) (
+    by : (nat_le (length ws.0) c ≡ true) ⊎ (nat_le (length ws.0) c ≡ false) → TellsRegister T R (here s.running s.set.component)
+    by (inl lacks) = subst (TellsRegister T R) (sym (found ∙ cond-true (nat_le (length ws.0) c) (Err Einval) (register_by s.set.slice unit c) lacks)) (
         ap₂ (λ (x y : Bool). codes x y (leaves_free book c s.set) (is_multiplexed s.set)) run
         (ap (λ (w : List ℕ). not (nat_le (length w) c)) (sym ws.2) ∙ ap not lacks)
         )
-    by (inr has) = subst (Tells T R) (sym (found ∙ cond-false (nat_le (length ws.0) c) (Err Einval) (register_by s.set.slice unit c) has))
+    by (inr has) = subst (TellsRegister T R) (sym (found ∙ cond-false (nat_le (length ws.0) c) (Err Einval) (register_by s.set.slice unit c) has))
         (counted ws.0 s.set.slice run refl ws.2 (ap (λ (w : List ℕ). not (nat_le (length w) c)) (sym ws.2) ∙ ap not has))
 
 tells : (book : Book) (core : CoreView) (a : Account) (k c : ℕ) (slot : Slot) → CoreStands book core a → at core.slots k ≡ Some slot
-    → Tells (account_refusal book core.shape a (call.Raw k c)) (reply_over book (sight_of_kept book core.shape a.past) a.sets (call.Raw k c))
+    → TellsRegister (account_refusal book core.shape a (call.Raw k c)) (reply_over book (sight_of_kept book core.shape a.past) a.sets (call.Raw k c))
     (register_shown core.units (face_of_slot slot) c)
 tells book core a k c slot h there =
     let u = under book core a k slot h there in
@@ -149,14 +149,14 @@ tells book core a k c slot h there =
     let reply = ap (λ (o : Option Kept). done (option_map_or (λ x. body.Register (register_of book core.shape a.past x c)) o body.Nothing)) u.at_set in
     let face = ap face_of_slot (sym u.is) ∙ face_same book core.shape a.past s in
     let shown : Face → Result ℕ Code = λ f. register_shown core.units f c in
-    subst₂ (λ (t : Option Refusal) (r : Reply). Tells t r (shown (face_of_slot slot))) (sym table) (sym reply)
-    (subst (λ (f : Face). Tells (table_by book core.shape c (Some (face_of s))) (done (body.Register (register_of book core.shape a.past s c))) (shown f))
+    subst₂ (λ (t : Option Refusal) (r : Reply). TellsRegister t r (shown (face_of_slot slot))) (sym table) (sym reply)
+    (subst (λ (f : Face). TellsRegister (table_by book core.shape c (Some (face_of s))) (done (body.Register (register_of book core.shape a.past s c))) (shown f))
     (sym face) (tells_set book core a k c s h u.at_set))
 
 pub raw_follows : (book : Book) (core : CoreView) (k c : ℕ) (result : Result ℕ Code) (slot : Slot) → AgreesWith book core → at core.slots k ≡ Some slot
     → result ≡ register_shown core.units (face_of_slot slot) c → Follows book core core (call.Raw k c) (reply_of (λ v. body.Register v) result)
 raw_follows book core k c result slot agrees there is =
-    go result (λ a h. subst (Tells (refusal a) (reply a)) (sym is) (tells book core a k c slot h there)) where
+    go result (λ a h. subst (TellsRegister (refusal a) (reply a)) (sym is) (tells book core a k c slot h there)) where
       refusal : Account → Option Refusal
       refusal a = account_refusal book core.shape a (call.Raw k c)
 
@@ -166,7 +166,7 @@ raw_follows book core k c result slot agrees there is =
       stands : (r : Option Refusal) → refusal agrees.account ≡ r → refusal_of book core.shape core.registered (slot_faces core.slots) (call.Raw k c) ≡ r
       stands r says = refusal_stands book core agrees.account (call.Raw k c) agrees.stands ∙ says
 
-      go : (result : Result ℕ Code) → ((a : Account) → CoreStands book core a → Tells (refusal a) (reply a) result)
+      go : (result : Result ℕ Code) → ((a : Account) → CoreStands book core a → TellsRegister (refusal a) (reply a) result)
           → Follows book core core (call.Raw k c) (reply_of (λ v. body.Register v) result)
       go (Ok v) told =
           let none = stands None (told agrees.account agrees.stands).0 in

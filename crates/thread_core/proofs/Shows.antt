@@ -102,7 +102,7 @@ values_are book core a k s h e =
     map_same_on (event_value book (number_in (set_natives book s.set) numbers)) (event_value book (measured s.set.slice book a.past s)) s.set.events
     (λ i x f. value_same book s.set (measured s.set.slice book a.past s) numbers i x (numbers_are book core a k h s e) f)
 
--- estimates are bounded where counts are
+-- estimates are bounded if counts are
 pub estimate_le : (c t act : ℕ) → c ≤ 255 * act → estimate c t act ≤ 255 * t
 estimate_le c t act h = elim (cases_eq act 0) [
   | inl none ↦ (let zero_is : estimate c t act ≡ 0 = cond-true (act == 0) 0 (c * t / act) (eq-eqb act 0 none) in omega arith)

@@ -1,6 +1,6 @@
 -- What an occurrence does to what is kept of a set is what is kept after one occurrence more.
 use Rattle.thread_core.proofs.Words.{Widths, Option, ℕ, IsShape, AreWidths, widths_at, None, arith, Some, slice_get, refl, List, ◌≡◌, unwrap_or, [], replicate}
-use Rattle.thread_core.proofs.Words.{zero, suc, ◌+◌, Book, Native, Occ, Kept, EventRef, get_or, ◌==◌, passes, lead, ◌++◌, passing_from, ◌∷◌, cond-false, ne_eqb}
+use Rattle.thread_core.proofs.Words.{zero, suc, ◌+◌, Book, Native, Occ, Kept, EventRef, get_or, ◌==◌, passes, lead, ◌++◌, passed_from, ◌∷◌, cond-false, ne_eqb}
 use Rattle.thread_core.proofs.Words.{ap, ◌∙◌, if◌then◌else◌, Bool, true, false, ◌≤◌, length, IsFit, last_after, count, pins_of, runs, plain, ◌-◌, set_natives}
 use Rattle.thread_core.proofs.Words.{counters_for, held_have_natives, all_at, IsHeld, position_or_len, same_native, get_position, lead_among, slice_get_within}
 use Rattle.thread_core.proofs.Words.{placed, get_at, option_map_or, get_or_from_slice_get, get-pins_from, Pin, period, weight_of, pinned, nat_lt, ◌/◌, sym}
@@ -10,7 +10,7 @@ use Rattle.thread_core.proofs.Words.{clock, clock_stays, turns_of, IsWithin, map
 use Rattle.thread_core.proofs.Words.{pin_made, place_of_lead, armed_from, armed_event, armed_of, threshold_is, period_some, with_turn, carry_of, group_at}
 use Rattle.thread_core.proofs.Words.{all_moved, all_moved-programs, all_moved-none, le-ltb, rotation_of}
 use Rattle.thread_slots.specs.declared.slot.Counting.TheVariants as counting
-use Rattle.overflow_dispatch.specs.Passing.{passed_from}
+use Rattle.overflow_dispatch.specs.Passing.{carried_from}
 use Rattle.std.specs.Int.{bit_at}
 use Rattle.thread_slots.proofs.Carries.{AreTold, pin_passes, pin_carries}
 use Rattle.thread_core.proofs.Weighing.{count_more, measured_stopped, weight_none, turn_none}
@@ -23,14 +23,14 @@ widths_are shape (Some comp) h = go (slice_get shape comp) refl where
   go None e = rw e (record { low = λ k below. absurd (omega arith); high = λ k below. absurd (omega arith) })
   go (Some ws) e = rw e (h.widths comp ws e)
 
-none_passed : (index carry n : ℕ) → passed_from index carry (replicate n None) ≡ []
+none_passed : (index carry n : ℕ) → carried_from index carry (replicate n None) ≡ []
 none_passed index carry zero = refl
 none_passed index carry (suc n) = none_passed (index + 1) carry n
 
 -- what the carries say of the events, by index
 passed_is : (book : Book) (ns : List Native) (counters : List ℕ) (carry : ℕ) (past : List Occ) (s : Kept) (o : Occ) (n index : ℕ) (events : List EventRef) (thresholds : List ℕ)
     → ((k t : ℕ) (e : EventRef) → slice_get events k ≡ Some e → slice_get thresholds k ≡ Some (suc t) → (bit_at carry (get_or counters (place_of_lead book ns e) 0) == 1) ≡ passes past s o (lead book e) (suc t))
-    → passed_from index carry (armed_from book ns counters events thresholds ++ replicate n None) ≡ passing_from book past s o index events thresholds
+    → carried_from index carry (armed_from book ns counters events thresholds ++ replicate n None) ≡ passed_from book past s o index events thresholds
 passed_is book ns counters carry past s o n index [] ts h = none_passed index carry n
 passed_is book ns counters carry past s o n index (e ∷ es) [] h = none_passed index carry n
 passed_is book ns counters carry past s o n index (e ∷ es) (zero ∷ ts) h = passed_is book ns counters carry past s o n (index + 1) es ts (λ k t f g i. h (suc k) t f g i)
@@ -38,9 +38,9 @@ passed_is book ns counters carry past s o n index (e ∷ es) (suc t ∷ ts) h =
     let rest = passed_is book ns counters carry past s o n (index + 1) es ts (λ k u f g i. h (suc k) u f g i) in
     let armed : armed_event book ns counters e (suc t) ≡ Some (get_or counters (place_of_lead book ns e) 0) = cond-false (suc t == 0) None (Some (get_or counters (place_of_lead book ns e) 0)) (ne_eqb (suc t) 0 (λ z. absurd (omega arith))) in
     let tail = armed_from book ns counters es ts ++ replicate n None in
-    ap (λ x. passed_from index carry (x ∷ tail)) armed
-    ∙ ap (λ b. if b then index ∷ passed_from (index + 1) carry tail else passed_from (index + 1) carry tail) (h 0 t e refl refl)
-    ∙ joined (passes past s o (lead book e) (suc t)) (passed_from (index + 1) carry tail)
+    ap (λ x. carried_from index carry (x ∷ tail)) armed
+    ∙ ap (λ b. if b then index ∷ carried_from (index + 1) carry tail else carried_from (index + 1) carry tail) (h 0 t e refl refl)
+    ∙ joined (passes past s o (lead book e) (suc t)) (carried_from (index + 1) carry tail)
     ∙ ap (λ xs. (if passes past s o (lead book e) (suc t) then index ∷ [] else []) ++ xs) rest where
       joined : (b : Bool) (xs : List ℕ) → (if b then index ∷ xs else xs) ≡ (if b then index ∷ [] else []) ++ xs
       joined true xs = refl
@@ -50,7 +50,7 @@ passed_is book ns counters carry past s o n index (e ∷ es) (suc t ∷ ts) h =
 events_passed : (book : Book) (shape : Widths) (past : List Occ) (o : Occ) (s : Kept) (carry : ℕ) → s.running ≡ true → s.from ≤ length past
     → IsShape shape → IsFit book shape s.set → s.set.slice ≡ None → o.amount ≤ 255
     → AreTold (last_after None past) o (widths_at shape s.set.component) s.set.domain (count past s) carry (pins_of book s.set)
-    → passed_from 0 carry (armed_of book s.set) ≡ passing_from book past s o 0 s.set.events s.set.thresholds
+    → carried_from 0 carry (armed_of book s.set) ≡ passed_from book past s o 0 s.set.events s.set.thresholds
 events_passed book shape past o s carry runs inside shapely fit plain small told =
     passed_is book (set_natives book s.set) (counters_for (set_natives book s.set)) carry past s o (32 - length s.set.events) 0
     s.set.events s.set.thresholds (λ k t e is at.
@@ -88,7 +88,7 @@ unit_by book shape past s = record { widths = widths_at shape s.set.component; r
 
 -- what the account says after an occurrence
 abbrev pub after : Book → Widths → List Occ → Occ → Kept → Counted
-after book shape past o s = record { unit = unit_by book shape (past ++ o ∷ []) s; slot = slot_of book shape (past ++ o ∷ []) s; passed = passing_from book past s o 0 s.set.events s.set.thresholds }
+after book shape past o s = record { unit = unit_by book shape (past ++ o ∷ []) s; slot = slot_of book shape (past ++ o ∷ []) s; passed = passed_from book past s o 0 s.set.events s.set.thresholds }
 
 -- what is held of a running set, and of a stopped one
 abbrev pub running_slot : Book → Widths → List Occ → Kept → Option ℕ → Slot
@@ -124,14 +124,14 @@ turned_more past o s t u (n ∷ ns) (g ∷ gs) same runs inside =
 pub numbers-length : (book : Book) (s : AtRest) → length (numbers_of book s) ≡ length (set_natives book s)
 numbers-length book s = each_has_group (masks_of (set_natives book s)) ∙ length-map (set_natives book s) (λ (n : Native). n.allowed)
 
--- where none of them passes its threshold
+-- if none of them passes its threshold
 pub none_passing : (book : Book) (past : List Occ) (s : Kept) (o : Occ) (index : ℕ) (events : List EventRef) (thresholds : List ℕ)
     → ((k t : ℕ) (e : EventRef) → slice_get events k ≡ Some e → slice_get thresholds k ≡ Some t → passes past s o (lead book e) t ≡ false)
-    → passing_from book past s o index events thresholds ≡ []
+    → passed_from book past s o index events thresholds ≡ []
 none_passing book past s o index [] ts h = refl
 none_passing book past s o index (e ∷ es) [] h = refl
 none_passing book past s o index (e ∷ es) (t ∷ ts) h =
-    ap (λ (b : Bool). (if b then index ∷ [] else []) ++ passing_from book past s o (index + 1) es ts) (h 0 t e refl refl)
+    ap (λ (b : Bool). (if b then index ∷ [] else []) ++ passed_from book past s o (index + 1) es ts) (h 0 t e refl refl)
     ∙ none_passing book past s o (index + 1) es ts (λ k u f is at. h (suc k) u f is at)
 
 pub counted_follows : (book : Book) (shape : Widths) (past : List Occ) (o : Occ) (s : Kept) → IsShape shape → IsFit book shape s.set → s.running ≡ true
@@ -244,7 +244,7 @@ slot_elsewhere book shape past o = kept_cases _
     λ i. slot_with book shape t (counting.InTurns (rotation_of numbers slice) (begun i) (kept i)))
 
 -- it passes no threshold
-pub passing_elsewhere : (book : Book) (shape : Widths) (past : List Occ) (o : Occ) (s : Kept) → IsElsewhere book o s → s.from ≤ length past → passing_from book past s o 0 s.set.events s.set.thresholds ≡ []
+pub passing_elsewhere : (book : Book) (shape : Widths) (past : List Occ) (o : Occ) (s : Kept) → IsElsewhere book o s → s.from ≤ length past → passed_from book past s o 0 s.set.events s.set.thresholds ≡ []
 passing_elsewhere book shape past o s h inside = none_passing book past s o 0 s.set.events s.set.thresholds (λ k t e is at. none (lead book e) t (λ n led.
     count_elsewhere book past o s _ n h inside (get_position n (set_natives book s.set) (lead_among book s.set k e n is led)))) where
       none : (x : Option Native) (t : ℕ) → ((n : Native) → x ≡ Some n → count (past ++ o ∷ []) s n ≡ count past s n) → passes past s o x t ≡ false

@@ -1,7 +1,7 @@
 -- A core that starts, stops or zeroes a set: PAPI_start(3), PAPI_stop(3), PAPI_reset(3), PAPI_accum(3).
 use Rattle.thread_core.proofs.Words.{List, Occ, Kept, true, length, Option, ℕ, weighed, ◌≡◌, ap, sum, along, None, arith, length-along, Turns, Native, turned}
 use Rattle.thread_core.proofs.Words.{replicate, [], refl, ◌∷◌, ap₂, weight_in_turn, Book, Widths, widths_at, AreWidths, clock, empty_unit, running_registers}
-use Rattle.thread_core.proofs.Words.{plain, pins_of, count, weight_of, sym, programs-same, UnitView, Slot, Begun, Some, turns_of, numbers_of, set_natives}
+use Rattle.thread_core.proofs.Words.{plain, pins_of, count, weight_of, sym, programs-same, UnitView, Slot, Started, Some, turns_of, numbers_of, set_natives}
 use Rattle.thread_core.proofs.Words.{begun, false, list_any, slice_get, zero, ◌∙◌, suc, CoreView, Account, here, at, runs_on, faces_of, ◌==◌, not, CoreStands}
 use Rattle.thread_core.proofs.Words.{Face, option_map_or, slot_faces, ◌<◌, get_at, held_have_natives, all_at, IsHeld, get_position, lead_among}
 use Rattle.thread_core.proofs.Words.{slice_get_within, subst, placed, pinned, ArePinned, same_some, time_after, slice_set, Follows, end, ◌≤◌, take, drop, runs}
@@ -64,7 +64,7 @@ begun_is book shape past s ws now (Some slice) time =
 
 -- ---- start: the set
 
--- where none of the list meets the test, no item does
+-- if none of the list meets the test, no item does
 pub none_any : {X : Type 0} (p : X → Bool) (xs : List X) (i : ℕ) (x : X) → list_any p xs ≡ false → slice_get xs i ≡ Some x → p x ≡ false
 none_any p [] i x h e = cc
 none_any p (y ∷ xs) zero x h e = let same : y ≡ x = cc in ap p (sym same) ∙ (or_parts (p y) (list_any p xs) h).0
@@ -149,9 +149,9 @@ start_follows book core k now units slot new g time here new_units new_slot =
     let is = ap (begun book now (empty_unit r.widths)) (sym u.is ∙ slot_of-stopped book core.shape a.past s r.stopped)
     ∙ begun_is book core.shape a.past s r.widths now s.set.slice (time ∙ now_is book core a h) in
     record {
-      slot = new_slot r.comp (empty_unit r.widths) on r.unit ∙ ap (λ (x : Begun). x.slot) is;
+      slot = new_slot r.comp (empty_unit r.widths) on r.unit ∙ ap (λ (x : Started). x.slot) is;
       units = λ apart. new_units r.comp (empty_unit r.widths) on r.unit
-          ∙ units_run book core a k r.comp r.widths s (started a.past s) _ h apart u.place r.at_comp r.is r.is refl (ap (λ (x : Begun). x.unit) is);
+          ∙ units_run book core a k r.comp r.widths s (started a.past s) _ h apart u.place r.at_comp r.is r.is refl (ap (λ (x : Started). x.unit) is);
       reply = refl;
     })
 

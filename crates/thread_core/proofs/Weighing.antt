@@ -48,7 +48,7 @@ measured_stopped book past o s (Some slice) n stopped w =
     let a = w.in_order in let b = w.past in
     ap (λ (t : Turns). estimated_in (past ++ o ∷ []) s t group n) (turns_stay past o s slice numbers (omega arith)) ∙ estimated_stopped past o s (turns_of slice numbers past s) group n stopped w
 
--- counts are bounded where amounts are
+-- counts are bounded if amounts are
 sum_cons : (x : ℕ) (xs : List ℕ) → sum (x ∷ xs) ≡ x + sum xs
 sum_cons x xs = sum_by-append (λ y. y) (x ∷ []) xs ∙ omega arith
 

@@ -41,8 +41,8 @@ pub use Rattle.session_model.specs.Fitness.{AreFit, IsFit, IsShape}
 pub use Rattle.session_model.specs.Refusals.{refusal_of, is_multiplexed, first_of, row, conflict_of, has_events, rows}
 pub use Rattle.session_model.specs.Registers.{threshold_among}
 pub use Rattle.session_model.specs.Replies.{done, plain, reply_over, sight_of_kept, refused, state_bits, assigned}
-pub use Rattle.session_model.specs.Step.{Outcome, account_refusal, performed, step, unless}
-pub use Rattle.session_model.specs.Thresholds.{passed_from as passing_from, note, notes_at, passes}
+pub use Rattle.session_model.specs.Step.{StepOutcome, account_refusal, performed, step, unless}
+pub use Rattle.session_model.specs.Thresholds.{passed_from, note, notes_at, passes}
 pub use Rattle.session_model.specs.Values.{measured, values_of, sums, accumulated}
 pub use Rattle.session_model.specs.declared.call.Call.{Call}
 pub use Rattle.session_model.specs.declared.reply.Reply.{Reply}
@@ -66,7 +66,7 @@ pub use Rattle.thread_slots.proofs.Lists.{at-some, get-set_same, map_same, same_
 pub use Rattle.thread_slots.proofs.Lists.{drop_at, same_items, set-same}
 pub use Rattle.thread_slots.proofs.Placing.{placed, pin_made, lead_among, get_position, get-pins_from, pinned, position_is, threshold_is}
 pub use Rattle.thread_slots.proofs.Programs.{programs-at, programs-same, all_moved-programs, all_moved-none, pinned-tail}
-pub use Rattle.thread_slots.specs.Altering.{IsFor, code_before, slot_after, call_of, change_refusal, lacks_component}
+pub use Rattle.thread_slots.specs.Altering.{IsFor, code_before, slot_after, changing_call, change_refusal, lacks_component}
 pub use Rattle.thread_slots.specs.Changed.{slot_with_event, rested}
 pub use Rattle.thread_slots.specs.Countable.{IsCountable, IsTurn}
 pub use Rattle.thread_slots.specs.Counted.{CountedAll, counted_all, Counted, counted_at, counted_over, counted_place, counted, with_turn, carry_of}
@@ -74,7 +74,7 @@ pub use Rattle.thread_slots.specs.Pinned.{pins_of, programs, ArePinned, place_of
 pub use Rattle.thread_slots.specs.RawRegister.{register_shown}
 pub use Rattle.thread_slots.specs.Shown.{number_in, numbers_shown, values_shown, unit_numbers, turn_numbers, IsTellable, IsInTurns}
 pub use Rattle.thread_slots.specs.Slots.{face_of_slot, is_counting, turned, numbers_of, rotation_of, new_slot}
-pub use Rattle.thread_slots.specs.Starting.{Begun, begun, begun_by, IsStartable}
+pub use Rattle.thread_slots.specs.Starting.{Started, begun, begun_by, IsStartable}
 pub use Rattle.thread_slots.specs.Units.{units_of, empty_unit, registers_by, unit_at, owner_from, runner, running_registers, units_from}
 pub use Rattle.thread_slots.specs.declared.pins.Pin.{Pin}
 pub use Rattle.thread_slots.specs.declared.slot.Counting.{Counting}

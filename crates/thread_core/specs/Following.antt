@@ -35,7 +35,7 @@ abbrev pub changed_reply : {X : Type 0} → Result X Refusal → Reply
 changed_reply (Ok x) = plain code.Ok
 changed_reply (Err r) = refused r
 
--- the reply of a call that writes values where its code is OK
+-- the reply of a call that writes values if its code is OK
 abbrev pub values_reply : Code → List ℤ → Reply
 values_reply code.Ok values = done (body.Values values)
 values_reply c values = plain c

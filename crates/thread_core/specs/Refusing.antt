@@ -25,6 +25,6 @@ first_code (check ∷ checks) = if check.0 then Some check.1 else first_code che
 abbrev pub rest_code : List (Option Face) → ℕ → Option Code
 rest_code faces k = if is_absent faces k then Some Enoevst else if runs faces k then Some Eisrun else None
 
--- the core refuses the call with this code, or, where there is none, does not refuse it
+-- the core refuses the call with this code, or, if there is none, does not refuse it
 abbrev pub IsRefusedWith : CoreView → Call → Option Code → Type 0
 IsRefusedWith core call code = (book : Book) → option_map Plain code ≡ refusal_of book core.shape core.registered (slot_faces core.slots) call

@@ -36,7 +36,7 @@ abbrev pub start : ℕ → ℕ → ℕ
 start w zero = 0
 start w (suc t) = 2 ^ w - suc t
 
--- what it holds after so many: the count by its w bits, or what is over the last multiple of the threshold
+-- what it holds at a count: the count by its w bits, or what is over the last multiple of the threshold
 abbrev pub reg : ℕ → ℕ → ℕ → ℕ
 reg w zero count = count % 2 ^ w
 reg w (suc t) count = 2 ^ w - suc t + count % suc t
@@ -64,7 +64,7 @@ NoOtherIsProgrammed = (book : Book) (core : CoreView) (a : Account) (number comp
     → ((i : ℕ) → slice_get (counters_for (set_natives book s.set)) i ≡ Some c → ⊥)
     → programmed core comp c ≡ None
 
--- where no set runs on a component, nothing is programmed on it
+-- if no set runs on a component, nothing is programmed on it
 abbrev pub NothingIsProgrammed : Type 0
 NothingIsProgrammed = (book : Book) (core : CoreView) (a : Account) (comp c : ℕ)
     → CoreStands book core a

@@ -10,7 +10,7 @@ ghost use Rattle.session_model.specs.declared.call.Call.TheVariants as call;
 ghost use Rattle.session_model.specs.declared.reply.Body.TheVariants as body;
 ghost use Rattle.thread_core.specs.Following.{Follows, changed_reply, reply_of, values_reply};
 ghost use Rattle.thread_core.specs.Stands.{AgreesWith};
-ghost use Rattle.thread_slots.specs.Altering.{IsFor, call_of};
+ghost use Rattle.thread_slots.specs.Altering.{IsFor, changing_call};
 
 use crate::refusal::set_under;
 use crate::thread::Core;
@@ -30,7 +30,7 @@ impl Core {
         Code::Ok
     }
 
-    /// The thread is registered no more: PAPI_unregister_thread(3). EISRUN where some set of it runs, EINVAL where it is
+    /// The thread is registered no more: PAPI_unregister_thread(3). EISRUN if some set of it runs, EINVAL if it is
     /// not registered.
     pub fn unregister(&mut self, _book: &PresetBook) -> Code
         requires { AgreesWith _book.now self.old }
@@ -43,7 +43,7 @@ impl Core {
         Code::Ok
     }
 
-    /// A new set under the least free number: PAPI_create_eventset(3). ECOUNT where there are 64 sets.
+    /// A new set under the least free number: PAPI_create_eventset(3). ECOUNT if there are 64 sets.
     pub fn create(&mut self, _book: &PresetBook) -> Result<u32, Code>
         requires { AgreesWith _book.now self.old }
         ensures { Follows _book.now self.old self.new call.Create
@@ -58,8 +58,8 @@ impl Core {
         Ok(number)
     }
 
-    /// Takes a set away, so that its number is free: PAPI_destroy_eventset(3). ENOEVST where there is no such set, EISRUN
-    /// where it runs, EINVAL where it has events.
+    /// Takes a set away, so that its number is free: PAPI_destroy_eventset(3). ENOEVST if there is no such set, EISRUN
+    /// if it runs, EINVAL if it has events.
     pub fn destroy(&mut self, _book: &PresetBook, set: u32) -> Code
         requires { AgreesWith _book.now self.old }
         ensures { Follows _book.now self.old self.new (call.Destroy set) (plain result) }
@@ -73,7 +73,7 @@ impl Core {
     }
 
     /// Takes away the events of a set, its component and its turns, and zeroes its counts; the domain stays:
-    /// PAPI_cleanup_eventset(3). ENOEVST where there is no such set, EISRUN where it runs.
+    /// PAPI_cleanup_eventset(3). ENOEVST if there is no such set, EISRUN if it runs.
     pub fn cleanup(&mut self, book: &PresetBook, set: u32) -> Code
         requires { AgreesWith book.now self.old }
         ensures { Follows book.now self.old self.new (call.Cleanup set) (plain result) }
@@ -83,7 +83,7 @@ impl Core {
 
     /// Adds an event to a set, and zeroes its counts: PAPI_add_event(3).
     ///
-    /// ENOEVST where there is no such set, EISRUN where it runs, the name's code where the event's text was refused, then
+    /// ENOEVST if there is no such set, EISRUN if it runs, the name's code if the event's text was refused, then
     /// the refusals of the set at rest.
     pub fn add(&mut self, book: &PresetBook, set: u32, e: &Named) -> Result<(), Refusal>
         requires agrees { AgreesWith book.now self.old }
@@ -104,8 +104,8 @@ impl Core {
         slot.add(book, &self.shape, e)
     }
 
-    /// Takes an event away from a set, and zeroes its counts: PAPI_remove_event(3). ENOEVST where there is no such set,
-    /// EISRUN where it runs, the name's code where the event's text was refused, EINVAL where the event is not in the set.
+    /// Takes an event away from a set, and zeroes its counts: PAPI_remove_event(3). ENOEVST if there is no such set,
+    /// EISRUN if it runs, the name's code if the event's text was refused, EINVAL if the event is not in the set.
     pub fn remove(&mut self, book: &PresetBook, set: u32, e: &Named) -> Code
         requires agrees { AgreesWith book.now self.old }
         requires named { IsNamed book.now self.old.shape e.now }
@@ -114,42 +114,42 @@ impl Core {
         self.change(book, set, &Change::Remove(*e))
     }
 
-    /// Fixes the component of a set: PAPI_assign_eventset_component(3). ENOEVST where there is no such set, ENOCMP where
-    /// there is no such component, EISRUN where the set runs, EINVAL where it has another component.
+    /// Fixes the component of a set: PAPI_assign_eventset_component(3). ENOEVST if there is no such set, ENOCMP if
+    /// there is no such component, EISRUN if the set runs, EINVAL if it has another component.
     pub fn assign_component(&mut self, book: &PresetBook, set: u32, comp: u32) -> Code
         requires { AgreesWith book.now self.old }
         ensures { Follows book.now self.old self.new (call.AssignComponent set comp)
             (plain result) }
     {
-        self.change(book, set, &Change::Component(comp))
+        self.change(book, set, &Change::AssignComponent(comp))
     }
 
-    /// Gives a set another domain, by its bits, and zeroes its counts: PAPI_set_domain(3). ENOEVST where there is no such
-    /// set, EISRUN where it runs, EINVAL where the bits are 0 or have others than those of USER and KERNEL.
+    /// Gives a set another domain, by its bits, and zeroes its counts: PAPI_set_domain(3). ENOEVST if there is no such
+    /// set, EISRUN if it runs, EINVAL if the bits are 0 or have others than those of USER and KERNEL.
     pub fn set_domain(&mut self, book: &PresetBook, set: u32, bits: u32) -> Code
         requires { AgreesWith book.now self.old }
         ensures { Follows book.now self.old self.new (call.SetDomain set bits) (plain result) }
     {
-        self.change(book, set, &Change::Domain(bits))
+        self.change(book, set, &Change::SetDomain(bits))
     }
 
-    /// Lets the native events of a set take turns of so many ticks, and zeroes its counts: PAPI_set_multiplex(3). ENOEVST
-    /// where there is no such set, EISRUN where it runs, EINVAL where the ticks are not from 1 to 1,000,000, ECOMBO where
+    /// Lets the native events of a set take turns of n ticks, and zeroes its counts: PAPI_set_multiplex(3). ENOEVST
+    /// if there is no such set, EISRUN if it runs, EINVAL if the ticks are not from 1 to 1,000,000, ECOMBO if
     /// an event has a threshold.
     pub fn set_multiplex(&mut self, book: &PresetBook, set: u32, slice: u32) -> Code
         requires { AgreesWith book.now self.old }
         ensures { Follows book.now self.old self.new (call.SetMultiplex set slice) (plain result) }
     {
-        self.change(book, set, &Change::Multiplex(slice))
+        self.change(book, set, &Change::SetMultiplex(slice))
     }
 
     /// Gives an event of a set a threshold, or with 0 takes its threshold away, and zeroes the set's counts:
     /// PAPI_overflow(3).
     ///
-    /// ENOEVST where there is no such set, EISRUN where it runs, and the name's code where the event's text was refused.
-    /// EINVAL where the event is not in the set or is derived, where the threshold is neither 0 nor from 256 to the last
-    /// value of each register of the component, and where another event has one on the same native event. Else ECOMBO
-    /// where the set is multiplexed.
+    /// ENOEVST if there is no such set, EISRUN if it runs, and the name's code if the event's text was refused.
+    /// EINVAL if the event is not in the set or is derived, if the threshold is neither 0 nor from 256 to the last
+    /// value of each register of the component, and if another event has one on the same native event. Else ECOMBO
+    /// if the set is multiplexed.
     pub fn overflow(&mut self, book: &PresetBook, set: u32, e: &Named, t: u64) -> Code
         requires agrees { AgreesWith book.now self.old }
         requires named { IsNamed book.now self.old.shape e.now }
@@ -158,8 +158,8 @@ impl Core {
         self.change(book, set, &Change::Overflow { e: *e, t })
     }
 
-    /// Starts a set: PAPI_start(3). ENOEVST where there is no such set, EISRUN where it runs or another one does on its
-    /// component, EINVAL where it has no events.
+    /// Starts a set: PAPI_start(3). ENOEVST if there is no such set, EISRUN if it runs or another one does on its
+    /// component, EINVAL if it has no events.
     pub fn start(&mut self, book: &PresetBook, set: u32) -> Code
         requires { AgreesWith book.now self.old }
         ensures { Follows book.now self.old self.new (call.Start set) (plain result) }
@@ -176,8 +176,8 @@ impl Core {
         Code::Ok
     }
 
-    /// Stops a set, and writes the value of each of its events: PAPI_stop(3). ENOEVST where there is no such set, ENOTRUN
-    /// where it does not run; `into` then stays as it is.
+    /// Stops a set, and writes the value of each of its events: PAPI_stop(3). ENOEVST if there is no such set, ENOTRUN
+    /// if it does not run; `into` then stays as it is.
     pub fn stop(&mut self, book: &PresetBook, set: u32, into: &mut Values) -> Code
         requires { AgreesWith book.now self.old }
         ensures follows { Follows book.now self.old self.new (call.Stop set)
@@ -197,7 +197,7 @@ impl Core {
         Code::Ok
     }
 
-    /// Writes the value of each event of a set: PAPI_read(3). ENOEVST where there is no such set; `into`
+    /// Writes the value of each event of a set: PAPI_read(3). ENOEVST if there is no such set; `into`
     /// then stays as it is.
     pub fn read(&self, book: &PresetBook, set: u32, into: &mut Values) -> Code
         requires { AgreesWith book.now self.now }
@@ -213,7 +213,7 @@ impl Core {
     }
 
     /// Adds the value of each event of a set to the caller's, writes the sums, and zeroes the counts of the set:
-    /// PAPI_accum(3). ENOEVST where there is no such set; `into` then stays as it is.
+    /// PAPI_accum(3). ENOEVST if there is no such set; `into` then stays as it is.
     pub fn accum(&mut self, book: &PresetBook, set: u32, into: &mut Values) -> Code
         requires { AgreesWith book.now self.old }
         ensures follows { Follows book.now self.old self.new (call.Accum set)
@@ -233,7 +233,7 @@ impl Core {
         Code::Ok
     }
 
-    /// Zeroes the counts of a set, running or not: PAPI_reset(3). ENOEVST where there is no such set.
+    /// Zeroes the counts of a set, running or not: PAPI_reset(3). ENOEVST if there is no such set.
     pub fn reset(&mut self, _book: &PresetBook, set: u32) -> Code
         requires { AgreesWith _book.now self.old }
         ensures { Follows _book.now self.old self.new (call.Reset set) (plain result) }
@@ -249,7 +249,7 @@ impl Core {
         Code::Ok
     }
 
-    /// Whether a set runs, whether a threshold is set, and whether it is multiplexed, as bits: PAPI_state(3). ENOEVST where
+    /// Whether a set runs, whether a threshold is set, and whether it is multiplexed, as bits: PAPI_state(3). ENOEVST if
     /// there is no such set.
     pub fn state(&self, _book: &PresetBook, set: u32) -> Result<u32, Code>
         requires { AgreesWith _book.now self.now }
@@ -262,7 +262,7 @@ impl Core {
         Ok(slot.state())
     }
 
-    /// The events of a set in the order in which they were added: PAPI_list_events(3). ENOEVST where there is no such set.
+    /// The events of a set in the order in which they were added: PAPI_list_events(3). ENOEVST if there is no such set.
     pub fn list_events(&self, _book: &PresetBook, set: u32) -> Result<Events, Code>
         requires { AgreesWith _book.now self.now }
         ensures { Follows _book.now self.now self.now (call.ListEvents set)
@@ -274,8 +274,8 @@ impl Core {
         Ok(slot.set.events().copy())
     }
 
-    /// The native events of a set, and the counter of each, as they are when the set starts. ENOEVST where there is no such
-    /// set, ECOMBO where it is multiplexed.
+    /// The native events of a set, and the counter of each, as they are when the set starts. ENOEVST if there is no such
+    /// set, ECOMBO if it is multiplexed.
     pub fn assign(&self, _book: &PresetBook, set: u32) -> Result<Assigned, Code>
         requires { AgreesWith _book.now self.now }
         ensures { Follows _book.now self.now self.now (call.Assign set)
@@ -290,9 +290,9 @@ impl Core {
         Ok(slot.assigned())
     }
 
-    /// The register of a counter of a running set, as the hardware holds it. ENOEVST where there is no such set, ENOTRUN
-    /// where it does not run, EINVAL where its component lacks the counter or none of its native events is on it, ECOMBO
-    /// where it is multiplexed.
+    /// The register of a counter of a running set, as the hardware holds it. ENOEVST if there is no such set, ENOTRUN
+    /// if it does not run, EINVAL if its component lacks the counter or none of its native events is on it, ECOMBO
+    /// if it is multiplexed.
     pub fn raw(&self, _book: &PresetBook, set: u32, c: u32) -> Result<u64, Code>
         requires { AgreesWith _book.now self.now }
         ensures { Follows _book.now self.now self.now (call.Raw set c)
@@ -316,7 +316,7 @@ impl Core {
     fn change(&mut self, book: &PresetBook, set: u32, change: &Change) -> Code
         requires agrees { AgreesWith book.now self.old }
         requires named { IsFor book.now self.old.shape change.now }
-        ensures { Follows book.now self.old self.new (call_of set change.now) (plain result) }
+        ensures { Follows book.now self.old self.new (changing_call set change.now) (plain result) }
     {
         if let Some(code) = self.change_refusal(set, change) {
             return code;

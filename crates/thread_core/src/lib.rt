@@ -8,5 +8,5 @@ pub use thread_slots::{Pin, Slot, Taken};
 mod calls;
 mod laws;
 mod refusal;
-pub mod running;
+pub mod running_sets;
 pub mod thread;

@@ -10,7 +10,7 @@ ghost use Rattle.session_model.specs.Thresholds.{note, notes_at};
 ghost use Rattle.thread_slots.specs.Units.{empty_unit};
 ghost use Rattle.session_model.specs.Fitness.{IsShape};
 
-use crate::running::RunningSets;
+use crate::running_sets::RunningSets;
 use counter_unit::Unit;
 use papi_base::{MOST_COMPONENTS, Occ, Shape};
 use std::alloc::{AllocError, Global};

@@ -11,7 +11,7 @@ use Rattle.session_model.specs.declared.call.Call.{Call}
 use Rattle.session_model.specs.declared.reply.Reply.{Reply}
 use Rattle.session_model.specs.Account.{Account}
 use Rattle.session_model.specs.Step.{step, account_after, replies_to, notes_to}
-use Rattle.thread_session.specs.Faults.{FaultsKept, FaultsRose, IsFault, fault_count}
+use Rattle.thread_session.specs.Faults.{FaultsKept, FaultsRose, IsFaultReply, fault_count}
 use Rattle.thread_session.specs.SessionView.{SessionView}
 use Rattle.papi_base.specs.Streams.{Coming}
 use Rattle.event_sets.specs.AtRest.{Widths}
@@ -19,36 +19,36 @@ use Rattle.thread_core.specs.Stands.{CoreStands}
 use Rattle.thread_session.specs.Follows.{FollowsTo, IsCutTo, expecting}
 use Rattle.thread_session.specs.Prospects.{CanCome}
 use Rattle.thread_session.specs.Stands.{IsReady, Stands, to_come}
-use Rattle.thread_registry.specs.Seen.{Seen, Worked, Finished, FinishedTo, Cut, Ran, RanWhere, seen_of}
+use Rattle.thread_registry.specs.JobView.{JobView, Worked, Finished, FinishedTo, CutShort, WorkedOrIdle, WorkedOrIdleOn, seen_of}
 use Rattle.thread_registry.proofs.Folds.{after-more, replies-more, notes-more, replies-front, notes-part}
 use Rattle.thread_registry.proofs.Faults.{kept-same, kept-kept, kept-rose, rose-kept}
 
 -- the account, the replies and the notes after k calls
-pub record Along (book : Book) (a : Account) (x y : Seen) (k : ℕ) : Type 0 where
+pub record Along (book : Book) (a : Account) (x y : JobView) (k : ℕ) : Type 0 where
   pub stands : Stands book y.session (account_after book x.session.core.shape a (take k x.calls))
   pub replies : y.replies ≡ x.replies ++ replies_to book x.session.core.shape a (take k x.calls)
   pub notes : y.notes ≡ x.notes ++ notes_to book x.session.core.shape a (take k x.calls)
 
--- so where it is not told, and this is left to come
-pub record AlongTo (book : Book) (a : Account) (x y : Seen) (k : ℕ) (left : Coming) : Type 0 where
+-- so if it is not told, and this is left to come
+pub record AlongTo (book : Book) (a : Account) (x y : JobView) (k : ℕ) (left : Coming) : Type 0 where
   pub core : CoreStands book y.session.core (account_after book x.session.core.shape a (take k x.calls))
   pub comes_then : to_come (account_after book x.session.core.shape a (take k x.calls)) ≡ left
   pub replies : y.replies ≡ x.replies ++ replies_to book x.session.core.shape a (take k x.calls)
   pub notes : y.notes ≡ x.notes ++ notes_to book x.session.core.shape a (take k x.calls)
 
-pub record GoingTo (book : Book) (x y : Seen) (k : ℕ) (left : Coming) : Type 0 where
+pub record GoingTo (book : Book) (x y : JobView) (k : ℕ) (left : Coming) : Type 0 where
   pub expected : Coming
   pub can_come : CanCome x.session.reader expected
   pub along : (a : Account) → CoreStands book x.session.core a → to_come a ≡ expected → AlongTo book a x y k left
 
 -- the replies that were made by k calls
-pub record Made (x y : Seen) (k : ℕ) (made : List Reply) : Type 0 where
+pub record Made (x y : JobView) (k : ℕ) (made : List Reply) : Type 0 where
   pub appended : y.replies ≡ x.replies ++ made
   pub counted : length made ≡ k
-  pub faulty : All (λ r. IsFault r → FaultsRose (fault_count x.session.reader) (fault_count y.session.reader)) made
+  pub faulty : All (λ r. IsFaultReply r → FaultsRose (fault_count x.session.reader) (fault_count y.session.reader)) made
 
 -- y is the job x after its first k calls
-pub record Going (book : Book) (x y : Seen) (k : ℕ) : Type 0 where
+pub record Going (book : Book) (x y : JobView) (k : ℕ) : Type 0 where
   pub calls : y.calls ≡ x.calls
   pub starved : y.starved ≡ false
   pub shape : y.session.core.shape ≡ x.session.core.shape
@@ -68,7 +68,7 @@ grown-none ns = ([], sym (append-nil ns))
 grown-more : (a b c : List Note) → Grown a b → Grown b c → Grown a c
 grown-more a b c h i = (h.0 ++ i.0, i.1 ∙ (ap (λ v. v ++ i.0) h.1 ∙ append_assoc a h.0 i.0))
 
-pub going-none : (book : Book) (x y : Seen) → IsReady book x.session → y ≡ x → x.starved ≡ false → Going book x y 0
+pub going-none : (book : Book) (x y : JobView) → IsReady book x.session → y ≡ x → x.starved ≡ false → Going book x y 0
 going-none book x y ready e q =
     subst (λ z. Going book x z 0) (sym e)
     (record {
@@ -78,7 +78,7 @@ going-none book x y ready e q =
       ready = ready;
       faults = kept-same (fault_count x.session.reader);
       grown = grown-none x.notes;
-      made = ([], record { appended = sym (append-nil x.replies); counted = refl; faulty = All-nil (λ r. IsFault r → FaultsRose (fault_count x.session.reader) (fault_count x.session.reader)) });
+      made = ([], record { appended = sym (append-nil x.replies); counted = refl; faulty = All-nil (λ r. IsFaultReply r → FaultsRose (fault_count x.session.reader) (fault_count x.session.reader)) });
       along = λ a s. record { stands = s; replies = sym (append-nil x.replies); notes = sym (append-nil x.notes) };
       towards =
           λ left h.
@@ -90,12 +90,12 @@ going-none book x y ready e q =
     })
 
 -- what a call gave
-pub record Called (book : Book) (y z : Seen) (c : Call) (r : Reply) : Type 0 where
+pub record Called (book : Book) (y z : JobView) (c : Call) (r : Reply) : Type 0 where
   pub shape : z.session.core.shape ≡ y.session.core.shape
   pub ready : IsReady book z.session
   pub faults : FaultsKept (fault_count y.session.reader) (fault_count z.session.reader)
   pub grown : Grown y.notes z.notes
-  pub faulty : IsFault r → FaultsRose (fault_count y.session.reader) (fault_count z.session.reader)
+  pub faulty : IsFaultReply r → FaultsRose (fault_count y.session.reader) (fault_count z.session.reader)
   pub follows : (a : Account) → Stands book y.session a
       → Stands book z.session (step book y.session.core.shape a c).account
       × (r ≡ (step book y.session.core.shape a c).reply)
@@ -104,24 +104,24 @@ pub record Called (book : Book) (y z : Seen) (c : Call) (r : Reply) : Type 0 whe
 
 -- replies that spoke of a fault before speak so still
 still : (u v w : SessionView) (rs : List Reply) → FaultsKept (fault_count u.reader) (fault_count v.reader) → FaultsKept (fault_count v.reader) (fault_count w.reader)
-    → All (λ r. IsFault r → FaultsRose (fault_count u.reader) (fault_count v.reader)) rs → All (λ r. IsFault r → FaultsRose (fault_count u.reader) (fault_count w.reader)) rs
+    → All (λ r. IsFaultReply r → FaultsRose (fault_count u.reader) (fault_count v.reader)) rs → All (λ r. IsFaultReply r → FaultsRose (fault_count u.reader) (fault_count w.reader)) rs
 still u v w rs h i all = λ k d l f. rose-kept (fault_count u.reader) (fault_count v.reader) (fault_count w.reader) h (all k d l f) i
 
 -- the replies made by one call more
-made-more : (x y z : Seen) (k : ℕ) (r : Reply) (rs : List Reply) → FaultsKept (fault_count x.session.reader) (fault_count y.session.reader)
-    → FaultsKept (fault_count y.session.reader) (fault_count z.session.reader) → (IsFault r → FaultsRose (fault_count y.session.reader) (fault_count z.session.reader))
+made-more : (x y z : JobView) (k : ℕ) (r : Reply) (rs : List Reply) → FaultsKept (fault_count x.session.reader) (fault_count y.session.reader)
+    → FaultsKept (fault_count y.session.reader) (fault_count z.session.reader) → (IsFaultReply r → FaultsRose (fault_count y.session.reader) (fault_count z.session.reader))
     → z.replies ≡ y.replies ++ r ∷ [] → Made x y k rs → Made x z (k + 1) (rs ++ r ∷ [])
 made-more x y z k r rs h i f p m =
     record {
       appended = p ∙ (ap (λ v. v ++ r ∷ []) m.appended ∙ append_assoc x.replies rs (r ∷ []));
       counted = omega (arith, length-append rs (r ∷ []), m.counted);
       faulty =
-          All-push (λ r. IsFault r → FaultsRose (fault_count x.session.reader) (fault_count z.session.reader)) rs r
+          All-push (λ r. IsFaultReply r → FaultsRose (fault_count x.session.reader) (fault_count z.session.reader)) rs r
           (still x.session y.session z.session rs h i m.faulty)
           (λ g. kept-rose (fault_count x.session.reader) (fault_count y.session.reader) (fault_count z.session.reader) h (f g));
     }
 
-along-more : (book : Book) (x y z : Seen) (k : ℕ) (c : Call) (r : Reply) (a : Account) → k < length x.calls → get_or x.calls k c ≡ c
+along-more : (book : Book) (x y z : JobView) (k : ℕ) (c : Call) (r : Reply) (a : Account) → k < length x.calls → get_or x.calls k c ≡ c
     → y.session.core.shape ≡ x.session.core.shape → Called book y z c r → z.replies ≡ y.replies ++ r ∷ []
     → Along book a x y k → Along book a x z (k + 1)
 along-more book x y z k c r a h e shape called p g =
@@ -143,14 +143,14 @@ along-more book x y z k c r a h e shape called p g =
           ∙ ap (λ v. x.notes ++ v) (sym (notes-more book w a x.calls k c h e))));
     }
 
--- what the step of a call does, where this is left
-record StepsTo (book : Book) (y z : Seen) (c : Call) (r : Reply) (left : Coming) (w : Widths) (a : Account) : Type 0 where
+-- what the step of a call does, if this is left
+record StepsTo (book : Book) (y z : JobView) (c : Call) (r : Reply) (left : Coming) (w : Widths) (a : Account) : Type 0 where
   pub core : CoreStands book z.session.core (step book w a c).account
   pub comes_then : to_come (step book w a c).account ≡ left
   pub reply : r ≡ (step book w a c).reply
   pub notes : z.notes ≡ y.notes ++ (step book w a c).notes
 
-along-to-more : (book : Book) (x y z : Seen) (k : ℕ) (c : Call) (r : Reply) (left : Coming) (a : Account) → k < length x.calls → get_or x.calls k c ≡ c
+along-to-more : (book : Book) (x y z : JobView) (k : ℕ) (c : Call) (r : Reply) (left : Coming) (a : Account) → k < length x.calls → get_or x.calls k c ≡ c
     → y.session.core.shape ≡ x.session.core.shape → (f : FollowsTo book y.session z.session c r y.notes z.notes left) → z.replies ≡ y.replies ++ r ∷ []
     → AlongTo book a x y k f.expected → AlongTo book a x z (k + 1) left
 along-to-more book x y z k c r left a h e shape f p g =
@@ -174,7 +174,7 @@ along-to-more book x y z k c r left a h e shape f p g =
           ∙ ap (λ v. x.notes ++ v) (sym (notes-more book w a x.calls k c h e))));
     }
 
-going-to-more : (book : Book) (x y z : Seen) (k : ℕ) (c : Call) (r : Reply) (left : Coming) → k < length x.calls → get_or x.calls k c ≡ c
+going-to-more : (book : Book) (x y z : JobView) (k : ℕ) (c : Call) (r : Reply) (left : Coming) → k < length x.calls → get_or x.calls k c ≡ c
     → y.session.core.shape ≡ x.session.core.shape → (f : FollowsTo book y.session z.session c r y.notes z.notes left) → z.replies ≡ y.replies ++ r ∷ []
     → GoingTo book x y k f.expected → GoingTo book x z (k + 1) left
 going-to-more book x y z k c r left h e shape f p g = record {
@@ -183,7 +183,7 @@ going-to-more book x y z k c r left h e shape f p g = record {
   along = λ a s q. along-to-more book x y z k c r left a h e shape f p (g.along a s q);
 }
 
-pub going-more : (book : Book) (x y z : Seen) (k : ℕ) (c : Call) (r : Reply) → Going book x y k → k < length x.calls → get_or x.calls k c ≡ c
+pub going-more : (book : Book) (x y z : JobView) (k : ℕ) (c : Call) (r : Reply) → Going book x y k → k < length x.calls → get_or x.calls k c ≡ c
     → Called book y z c r → z.calls ≡ y.calls → z.starved ≡ false → z.replies ≡ y.replies ++ r ∷ []
     → Going book x z (k + 1)
 going-more book x y z k c r g h e called p q rs =
@@ -202,20 +202,20 @@ going-more book x y z k c r g h e called p q rs =
           going-to-more book x y z k c r left h e g.shape f rs (g.towards f.expected f.can_come);
     }
 
--- some of the first notes of a call to which memory was refused, where this is left to come
-pub record RefusedTo (book : Book) (y z : Seen) (c : Call) : Type 0 where
+-- some of the first notes of a call to which memory was refused, if this is left to come
+pub record CallStarvedTo (book : Book) (y z : JobView) (c : Call) : Type 0 where
   pub expected : Coming
   pub can_come : CanCome y.session.reader expected
   pub part : (a : Account) → CoreStands book y.session.core a → Begun y.notes (step book y.session.core.shape (expecting expected a) c).notes z.notes
 
 -- what a call left to which memory was refused
-pub record Refused (book : Book) (y z : Seen) (c : Call) : Type 0 where
+pub record CallStarved (book : Book) (y z : JobView) (c : Call) : Type 0 where
   pub shape : z.session.core.shape ≡ y.session.core.shape
   pub ready : IsReady book z.session
   pub faults : FaultsKept (fault_count y.session.reader) (fault_count z.session.reader)
   pub grown : Grown y.notes z.notes
   pub part : (a : Account) → Stands book y.session a → Begun y.notes (step book y.session.core.shape a c).notes z.notes
-  pub towards : (left : Coming) → CanCome z.session.reader left → RefusedTo book y z c
+  pub towards : (left : Coming) → CanCome z.session.reader left → CallStarvedTo book y z c
 
 begun-of : (before given after : List Note) (n : ℕ) → after ≡ before ++ take n given → Begun before given after
 begun-of before given after n e =
@@ -224,9 +224,9 @@ begun-of before given after n e =
       | inr l ↦ (length given, omega arith, e ∙ ap (λ v. before ++ v) (take_all n given (omega arith) ∙ sym (take_all (length given) given (omega arith))))
     ]
 
-cut-by : (book : Book) (x y z : Seen) (k : ℕ) (c : Call) (a : Account) → k < length x.calls → get_or x.calls k c ≡ c
+cut-by : (book : Book) (x y z : JobView) (k : ℕ) (c : Call) (a : Account) → k < length x.calls → get_or x.calls k c ≡ c
     → z.replies ≡ y.replies → y.replies ≡ x.replies ++ replies_to book x.session.core.shape a (take k x.calls) → y.notes ≡ x.notes ++ notes_to book x.session.core.shape a (take k x.calls)
-    → Begun y.notes (step book x.session.core.shape (account_after book x.session.core.shape a (take k x.calls)) c).notes z.notes → Cut book a x z
+    → Begun y.notes (step book x.session.core.shape (account_after book x.session.core.shape a (take k x.calls)) c).notes z.notes → CutShort book a x z
 cut-by book x y z k c a h e p replies notes part =
     let w = x.session.core.shape in
     let b = account_after book w a (take k x.calls) in
@@ -239,16 +239,16 @@ cut-by book x y z k c a h e p replies notes part =
       notes = begun-of x.notes all z.notes (length ps + n) (part.2 ∙ (ap (λ u. u ++ take n (step book w b c).notes) notes ∙ (append_assoc x.notes ps (take n (step book w b c).notes) ∙ ap (λ v. x.notes ++ v) front)));
     }
 
-cut-along : (book : Book) (x y z : Seen) (k : ℕ) (c : Call) (a : Account) → k < length x.calls → get_or x.calls k c ≡ c
-    → y.session.core.shape ≡ x.session.core.shape → Refused book y z c → z.replies ≡ y.replies
-    → Along book a x y k → Cut book a x z
+cut-along : (book : Book) (x y z : JobView) (k : ℕ) (c : Call) (a : Account) → k < length x.calls → get_or x.calls k c ≡ c
+    → y.session.core.shape ≡ x.session.core.shape → CallStarved book y z c → z.replies ≡ y.replies
+    → Along book a x y k → CutShort book a x z
 cut-along book x y z k c a h e shape refused p g =
     let b = account_after book x.session.core.shape a (take k x.calls) in
     cut-by book x y z k c a h e p g.replies g.notes (subst (λ v. Begun y.notes (step book v b c).notes z.notes) shape (refused.part b g.stands))
 
-cut-along-to : (book : Book) (x y z : Seen) (k : ℕ) (c : Call) (a : Account) → k < length x.calls → get_or x.calls k c ≡ c
-    → y.session.core.shape ≡ x.session.core.shape → (refused : RefusedTo book y z c) → z.replies ≡ y.replies
-    → AlongTo book a x y k refused.expected → Cut book a x z
+cut-along-to : (book : Book) (x y z : JobView) (k : ℕ) (c : Call) (a : Account) → k < length x.calls → get_or x.calls k c ≡ c
+    → y.session.core.shape ≡ x.session.core.shape → (refused : CallStarvedTo book y z c) → z.replies ≡ y.replies
+    → AlongTo book a x y k refused.expected → CutShort book a x z
 cut-along-to book x y z k c a h e shape refused p g =
     let b = account_after book x.session.core.shape a (take k x.calls) in
     let same : expecting refused.expected b ≡ b = ap (λ (q : Coming). expecting q b) (sym g.comes_then) in
@@ -262,22 +262,22 @@ begun-of-part before given after h = (h.0, omega (arith, h.1), h.2)
 begun-of-all : (before given after : List Note) → after ≡ before ++ given → Begun before given after
 begun-of-all before given after e = (length given, omega arith, e ∙ ap (λ v. before ++ v) (sym (take_all (length given) given (omega arith))))
 
-pub refused-to-of-cut : (book : Book) (y z : Seen) (c : Call) (left : Coming) → IsCutTo book y.session c y.notes z.notes left → RefusedTo book y z c
+pub refused-to-of-cut : (book : Book) (y z : JobView) (c : Call) (left : Coming) → IsCutTo book y.session c y.notes z.notes left → CallStarvedTo book y z c
 refused-to-of-cut book y z c left cut = record {
   expected = cut.expected;
   can_come = cut.can_come;
   part = λ a s. begun-of-part y.notes (step book y.session.core.shape (expecting cut.expected a) c).notes z.notes (cut.notes a s);
 }
 
-refused-to-of-made : (book : Book) (y z : Seen) (c : Call) (r : Reply) (left : Coming) → FollowsTo book y.session z.session c r y.notes z.notes left → RefusedTo book y z c
+refused-to-of-made : (book : Book) (y z : JobView) (c : Call) (r : Reply) (left : Coming) → FollowsTo book y.session z.session c r y.notes z.notes left → CallStarvedTo book y z c
 refused-to-of-made book y z c r left f = record {
   expected = f.expected;
   can_come = f.can_come;
   part = λ a s. begun-of-all y.notes (step book y.session.core.shape (expecting f.expected a) c).notes z.notes (f.notes a s);
 }
 
--- a call that was made, where its reply could not be kept
-pub refused-of : (book : Book) (y z : Seen) (c : Call) (r : Reply) → Called book y z c r → Refused book y z c
+-- a call that was made, if its reply could not be kept
+pub refused-of : (book : Book) (y z : JobView) (c : Call) (r : Reply) → Called book y z c r → CallStarved book y z c
 refused-of book y z c r called =
     record {
       shape = called.shape;
@@ -291,8 +291,8 @@ refused-of book y z c r called =
       towards = λ left h. refused-to-of-made book y z c r left (called.towards left h);
     }
 
-pub going-cut : (book : Book) (x y z : Seen) (k : ℕ) (c : Call) → Going book x y k → k < length x.calls → get_or x.calls k c ≡ c
-    → Refused book y z c → z.calls ≡ y.calls → z.starved ≡ true → z.replies ≡ y.replies
+pub going-cut : (book : Book) (x y z : JobView) (k : ℕ) (c : Call) → Going book x y k → k < length x.calls → get_or x.calls k c ≡ c
+    → CallStarved book y z c → z.calls ≡ y.calls → z.starved ≡ true → z.replies ≡ y.replies
     → Worked book x z
 going-cut book x y z k c g h e refused p q rs =
     record {
@@ -309,7 +309,7 @@ going-cut book x y z k c g h e refused p q rs =
           faulty = still x.session y.session z.session g.made.0 g.faults refused.faults g.made.1.faulty;
         },
       );
-      outcome = λ a s. subst (λ b. MatchBool b (Cut book a x z) (Finished book a x z)) (sym q) (cut-along book x y z k c a h e g.shape refused rs (g.along a s));
+      outcome = λ a s. subst (λ b. MatchBool b (CutShort book a x z) (Finished book a x z)) (sym q) (cut-along book x y z k c a h e g.shape refused rs (g.along a s));
       towards =
           λ left n.
           let f = refused.towards left n in
@@ -317,12 +317,12 @@ going-cut book x y z k c g h e refused p q rs =
           record {
             expected = way.expected;
             can_come = way.can_come;
-            outcome = λ a s t. subst (λ b. MatchBool b (Cut book a x z) (FinishedTo book a x z left)) (sym q) (cut-along-to book x y z k c a h e g.shape f rs (way.along a s t));
+            outcome = λ a s t. subst (λ b. MatchBool b (CutShort book a x z) (FinishedTo book a x z left)) (sym q) (cut-along-to book x y z k c a h e g.shape f rs (way.along a s t));
           };
     }
 
 -- all calls were made
-pub going-end : (book : Book) (x y : Seen) (k : ℕ) → Going book x y k → k ≡ length x.calls → Worked book x y
+pub going-end : (book : Book) (x y : JobView) (k : ℕ) → Going book x y k → k ≡ length x.calls → Worked book x y
 going-end book x y k g e =
     let h : length x.calls ≤ k = omega (arith, e) in
     let all : take k x.calls ≡ x.calls = take_all k x.calls h in
@@ -346,7 +346,7 @@ going-end book x y k g e =
             replies = f.replies ∙ ap (λ cs. x.replies ++ replies_to book w a cs) all;
             notes = f.notes ∙ ap (λ cs. x.notes ++ notes_to book w a cs) all;
           } in
-          subst (λ b. MatchBool b (Cut book a x y) (Finished book a x y)) (sym g.starved) done;
+          subst (λ b. MatchBool b (CutShort book a x y) (Finished book a x y)) (sym g.starved) done;
       towards =
           λ left n.
           let way = g.towards left n in
@@ -363,25 +363,25 @@ going-end book x y k g e =
                   replies = f.replies ∙ ap (λ cs. x.replies ++ replies_to book w a cs) all;
                   notes = f.notes ∙ ap (λ cs. x.notes ++ notes_to book w a cs) all;
                 } in
-                subst (λ b. MatchBool b (Cut book a x y) (FinishedTo book a x y left)) (sym g.starved) done;
+                subst (λ b. MatchBool b (CutShort book a x y) (FinishedTo book a x y left)) (sym g.starved) done;
           };
     }
 
 -- how it ended does not look at whether memory was refused before
-outcome-as : (book : Book) (a : Account) (x y : Seen) (before b : Bool)
-    → MatchBool b (Cut book a x y) (Finished book a x y)
-    → MatchBool b (Cut book a (seen_of x.session x.notes x.calls x.replies before) y) (Finished book a (seen_of x.session x.notes x.calls x.replies before) y)
+outcome-as : (book : Book) (a : Account) (x y : JobView) (before b : Bool)
+    → MatchBool b (CutShort book a x y) (Finished book a x y)
+    → MatchBool b (CutShort book a (seen_of x.session x.notes x.calls x.replies before) y) (Finished book a (seen_of x.session x.notes x.calls x.replies before) y)
 outcome-as book a x y before true h = record { replies = h.replies; notes = h.notes }
 outcome-as book a x y before false h = record { stands = h.stands; replies = h.replies; notes = h.notes }
 
-outcome-to-as : (book : Book) (a : Account) (x y : Seen) (left : Coming) (before b : Bool)
-    → MatchBool b (Cut book a x y) (FinishedTo book a x y left)
-    → MatchBool b (Cut book a (seen_of x.session x.notes x.calls x.replies before) y) (FinishedTo book a (seen_of x.session x.notes x.calls x.replies before) y left)
+outcome-to-as : (book : Book) (a : Account) (x y : JobView) (left : Coming) (before b : Bool)
+    → MatchBool b (CutShort book a x y) (FinishedTo book a x y left)
+    → MatchBool b (CutShort book a (seen_of x.session x.notes x.calls x.replies before) y) (FinishedTo book a (seen_of x.session x.notes x.calls x.replies before) y left)
 outcome-to-as book a x y left before true h = record { replies = h.replies; notes = h.notes }
 outcome-to-as book a x y left before false h = record { core = h.core; comes_then = h.comes_then; replies = h.replies; notes = h.notes }
 
 -- the job is seen the same by its parts
-pub worked-same : (book : Book) (x x' y y' : Seen) → Worked book x y
+pub worked-same : (book : Book) (x x' y y' : JobView) → Worked book x y
     → x'.session ≡ x.session → x'.notes ≡ x.notes → x'.calls ≡ x.calls → x'.replies ≡ x.replies
     → y'.session ≡ y.session → y'.notes ≡ y.notes → y'.calls ≡ y.calls → y'.replies ≡ y.replies → y'.starved ≡ y.starved
     → Worked book x' y'
@@ -412,8 +412,8 @@ worked-same book x x' y y' w a n c r a' n' c' r' s' =
     subst (λ v. Worked book x' (seen_of y'.session y'.notes y'.calls y'.replies v)) (sym s') q4
 
 -- a job with calls was worked
-pub ran-by : (book : Book) (x y : Seen) → 0 < length x.calls → Worked book x y → Ran book x y
+pub ran-by : (book : Book) (x y : JobView) → 0 < length x.calls → Worked book x y → WorkedOrIdle book x y
 ran-by book x y some w = go x.calls some where
-  go : (cs : List Call) → 0 < length cs → RanWhere cs book x y
+  go : (cs : List Call) → 0 < length cs → WorkedOrIdleOn cs book x y
   go [] h = absurd (omega (arith, h))
   go (c ∷ cs) h = w

@@ -1,5 +1,5 @@
-pub mod Seen
 pub mod JobView
+pub mod OpenedJobs
 pub mod Load
 pub use Rattle.overflow_dispatch.specs.Notes
 pub use Rattle.parallel_tasks.specs.Each

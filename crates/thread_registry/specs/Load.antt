@@ -4,7 +4,7 @@ use Rattle.std.specs.List.{sum_by}
 use Rattle.session_model.specs.declared.call.Call.{Call}
 use Rattle.session_model.specs.declared.call.Call.TheVariants.{Run}
 
--- a run asks for so many occurrences, and each other call counts as one
+-- a run asks for n occurrences, and each other call counts as one
 abbrev pub call_load : Call → ℕ
 call_load (Run n) = n
 call_load _ = 1

@@ -1,8 +1,8 @@
 //! The work of one thread.
 ghost use Rattle.std.specs.Prelude.{false};
 ghost use Rattle.std.specs.Result.{is_err};
-ghost use Rattle.thread_registry.specs.Seen.{Worked, CanWork, Ran, seen_of};
-ghost use Rattle.thread_registry.specs.JobView.{CanBeWorked, seen};
+ghost use Rattle.thread_registry.specs.JobView.{Worked, CanWork, WorkedOrIdle, seen_of};
+ghost use Rattle.thread_registry.specs.OpenedJobs.{CanBeWorked, seen};
 
 use crate::load::load_of;
 use crate::opened::Opened;
@@ -63,7 +63,7 @@ fn make_boxed<S: Source>(
 /// Makes the calls of the job. One without calls does nothing.
 fn work_job<S: Source>(job: &mut Job<S>, book: &PresetBook)
     requires { CanBeWorked book.now job.old.session job.old.calls.items }
-    ensures { Ran book.now (seen (notes job.old.handler) job.old)
+    ensures { WorkedOrIdle book.now (seen (notes job.old.handler) job.old)
         (seen (notes job.new.handler) job.new) }
 {
     if let Opened::Session(session) = &mut job.session {
@@ -79,13 +79,13 @@ fn work_job<S: Source>(job: &mut Job<S>, book: &PresetBook)
 }
 
 impl<S: Source> Task<PresetBook> for Job<S> {
-    ghost use Rattle.thread_registry.specs.Seen.{Ran};
-    ghost use Rattle.thread_registry.specs.JobView.{CanBeWorked, seen};
+    ghost use Rattle.thread_registry.specs.JobView.{WorkedOrIdle};
+    ghost use Rattle.thread_registry.specs.OpenedJobs.{CanBeWorked, seen};
     ghost use Rattle.thread_registry.specs.Load.{load_of};
 
     ghost ready = { λ book j. CanBeWorked book j.session j.calls.items };
 
-    ghost done = { λ book x y. Ran book (seen ((Handler-box x.handler).notes x.handler.value) x) (seen ((Handler-box y.handler).notes y.handler.value) y) };
+    ghost done = { λ book x y. WorkedOrIdle book (seen ((Handler-box x.handler).notes x.handler.value) x) (seen ((Handler-box y.handler).notes y.handler.value) y) };
 
     ghost load = { λ j. load_of j.calls.items };
 

@@ -1,6 +1,6 @@
 //! What a thread counts on.
 ghost use Rattle.std.specs.Prelude.{◌≡◌};
-ghost use Rattle.thread_registry.specs.JobView.{session_of};
+ghost use Rattle.thread_registry.specs.OpenedJobs.{session_of};
 
 use papi_base::Source;
 use stream_reader::StreamReader;

@@ -1,8 +1,8 @@
 //! All jobs, worked by several workers.
 ghost use Rattle.std.specs.Prelude.{ℕ, ◌≤◌};
 ghost use Rattle.parallel_tasks.specs.Each.{Each, AtEach};
-ghost use Rattle.thread_registry.specs.Seen.{Ran};
-ghost use Rattle.thread_registry.specs.JobView.{CanBeWorked, seen};
+ghost use Rattle.thread_registry.specs.JobView.{WorkedOrIdle};
+ghost use Rattle.thread_registry.specs.OpenedJobs.{CanBeWorked, seen};
 
 use crate::job::Job;
 use papi_base::Source;
@@ -22,7 +22,7 @@ pub fn work_all<R: Threads + Sync, S: Source + Send>(
     requires low { 1 ≤ workers }
     requires ready { AtEach (λ j. CanBeWorked book.now j.session j.calls.items) jobs.old.items }
     ensures worked { Each (λ x y.
-        Ran book.now (seen (notes x.handler) x) (seen (notes y.handler) y))
+        WorkedOrIdle book.now (seen (notes x.handler) x) (seen (notes y.handler) y))
         jobs.old.items jobs.new.items }
 {
     work_tasks(rt, book, jobs, workers);

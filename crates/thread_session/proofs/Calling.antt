@@ -21,7 +21,7 @@ use Rattle.stream_reader.specs.Reader.{ReaderView, coming, nothing}
 use Rattle.thread_core.specs.CoreView.{CoreView}
 use Rattle.thread_core.specs.Following.{Follows}
 use Rattle.thread_core.specs.Stands.{AgreesWith}
-use Rattle.thread_session.specs.Faults.{IsFault, IsFaultBody}
+use Rattle.thread_session.specs.Faults.{IsFaultBody, IsFaultReply}
 use Rattle.thread_session.specs.Follows.{Does, FollowsAs, FollowsTo, expecting, is_run}
 use Rattle.thread_session.specs.Prospects.{CanCome}
 use Rattle.thread_session.specs.SessionView.{AreInStep, SessionView}
@@ -32,9 +32,9 @@ record IsQuiet (a : Account) (after : Account) (reply : Reply) (notes : List Not
   pub rest : after.rest ≡ a.rest
   pub mark : after.mark ≡ a.mark
   pub none : notes ≡ []
-  pub sound : IsFault reply → ⊥
+  pub sound : IsFaultReply reply → ⊥
 
-shown_sound : {X : Type 0} (f : X → Body) → ((x : X) → IsFaultBody (f x) → ⊥) → (place : Option X) → (sets : List (Option X)) (k : ℕ) → at sets k ≡ place → IsFault (shown f sets k) → ⊥
+shown_sound : {X : Type 0} (f : X → Body) → ((x : X) → IsFaultBody (f x) → ⊥) → (place : Option X) → (sets : List (Option X)) (k : ℕ) → at sets k ≡ place → IsFaultReply (shown f sets k) → ⊥
 shown_sound f sound None sets k e = rw e (λ x. x)
 shown_sound f sound (Some x) sets k e = rw e (sound x)
 
@@ -49,7 +49,7 @@ performed_quiet book shape a (call.Assign k) e = record { rest = refl; mark = re
 performed_quiet book shape a (call.Raw k c) e = record { rest = refl; mark = refl; none = refl; sound = shown_sound _ (λ s x. x) _ a.sets k refl }
 performed_quiet book shape a made e = record { rest = refl; mark = refl; none = refl; sound = λ x. x }
 
-refused_sound : (r : Refusal) → IsFault (refused r) → ⊥
+refused_sound : (r : Refusal) → IsFaultReply (refused r) → ⊥
 refused_sound (Plain c) x = x
 refused_sound (Conflict clash) x = x
 
@@ -59,7 +59,7 @@ step_quiet book shape a made e = go (account_refusal book shape a made) where
   go None = performed_quiet book shape a made e
   go (Some r) = record { rest = refl; mark = refl; none = refl; sound = refused_sound r }
 
--- what is to come, where it is told
+-- what is to come, if it is told
 abbrev expected_of : Option Coming → Coming
 expected_of None = nothing
 expected_of (Some c) = c
@@ -99,9 +99,9 @@ does_towards book old new made reply notes still d c h =
     }
 
 -- the source did not fail
-pub call_sound : (book : Book) (old core : CoreView) (made : Call) (reply : Reply) → is_run made ≡ false → Follows book old core made reply → AgreesWith book old → IsFault reply → ⊥
+pub call_sound : (book : Book) (old core : CoreView) (made : Call) (reply : Reply) → is_run made ≡ false → Follows book old core made reply → AgreesWith book old → IsFaultReply reply → ⊥
 call_sound book old core made reply still f agrees x =
-    (step_quiet book old.shape agrees.account made still).sound (subst IsFault (f.reply agrees.account agrees.stands) x)
+    (step_quiet book old.shape agrees.account made still).sound (subst IsFaultReply (f.reply agrees.account agrees.stands) x)
 
 pub call_does : (book : Book) (old : SessionView) (core : CoreView) (made : Call) (reply : Reply) → is_run made ≡ false → Follows book old.core core made reply → Does book old (record { core = core; reader = old.reader }) made reply
 call_does book old core made reply still f =

@@ -68,7 +68,7 @@ take_past earlier later o k less =
     let is : k ≡ length earlier + suc j = omega (arith, less) in
     ap (λ (x : ℕ). take x (earlier ++ o ∷ later)) is ∙ take-append-add earlier (o ∷ later) (suc j)
 
--- the notes of the step, where these were to come and then others
+-- the notes of the step, if these were to come and then others
 pub cut_notes : (book : Book) (old new : SessionView) (n : ℕ) (before after : List Note) (a : Account) (later : List Occ) (cut : IsCut book old new n before after) → a.rest ≡ cut.earlier ++ cut.last ∷ later → CoreStands book old.core a
     → PartAdded before (step book old.core.shape a (Run n)).notes after
 cut_notes book old new n before after a later cut e h =

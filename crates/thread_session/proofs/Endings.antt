@@ -10,7 +10,7 @@ use Rattle.session_model.specs.declared.reply.Ended.{Ended}
 use Rattle.session_model.specs.declared.reply.Ended.TheVariants as ended
 use Rattle.session_model.specs.declared.reply.Reply.{Reply}
 use Rattle.session_model.specs.Account.{Account}
-use Rattle.session_model.specs.Step.{Outcome, ended_at, step}
+use Rattle.session_model.specs.Step.{StepOutcome, ended_at, step}
 use Rattle.session_model.specs.Thresholds.{notes_over}
 use Rattle.stream_reader.specs.Reader.{NextGives, ReaderView, Takes, at_mark, coming, nothing}
 use Rattle.thread_core.specs.CoreView.{CoreView}
@@ -42,7 +42,7 @@ core_at book core a rest mark h = record {
   in_limits = h.in_limits;
 }
 
--- what was to come, and what comes later: where it is told, it is this
+-- what was to come, and what comes later: if it is told, it is this
 record Expects (was now : Option Coming) (first last : Coming) : Type 0 where
   pub told : (c : Coming) → was ≡ Some c → c ≡ first
   pub left : was ≡ Some first → now ≡ Some last
@@ -82,11 +82,11 @@ follows_by : (book : Book) (old : SessionView) (core : CoreView) (reader : Reade
     → FollowsAs book old (record { core = core; reader = then }) (Run n) (run_reply (record { consumed = k; notes = count; ended = e })) before after
 follows_by book old core reader before after k count n e first last r then expects is = record {
   expected = first;
-  core = λ a h. subst (λ (x : Outcome). CoreStands book core x.account) (sym (is a)) (core_at book core (consuming r.os a) last.rest last.mark (r.taking.stands a h));
-  reply = λ a h. reply_is k count e r.os (notes_over book a.thread a.sets a.past r.os) r.number (r.counted a h) ∙ ap (λ (x : Outcome). x.reply) (sym (is a));
-  notes = λ a h. r.taking.notes a h ∙ ap (λ (x : Outcome). before ++ x.notes) (sym (is a));
+  core = λ a h. subst (λ (x : StepOutcome). CoreStands book core x.account) (sym (is a)) (core_at book core (consuming r.os a) last.rest last.mark (r.taking.stands a h));
+  reply = λ a h. reply_is k count e r.os (notes_over book a.thread a.sets a.past r.os) r.number (r.counted a h) ∙ ap (λ (x : StepOutcome). x.reply) (sym (is a));
+  notes = λ a h. r.taking.notes a h ∙ ap (λ (x : StepOutcome). before ++ x.notes) (sym (is a));
   told = expects.told;
-  left = λ a h t. expects.left t ∙ ap (λ (x : Outcome). Some (record { rest = x.account.rest; mark = x.account.mark })) (sym (is a));
+  left = λ a h t. expects.left t ∙ ap (λ (x : StepOutcome). Some (record { rest = x.account.rest; mark = x.account.mark })) (sym (is a));
 }
 
 -- all that were asked for
@@ -105,7 +105,7 @@ run_short book old core reader then before after k count n m e less so gives r =
     let x = expects_end (coming old.reader) (coming then) r.os m (λ c h. gave_mark c r.os (coming reader) (coming then) m (r.taking.told c h) gives) in
     follows_by book old core reader before after k count n e _ _ r then x (λ a. short book old.core.shape a n r.os m (omega (arith, r.number, less)) ∙ ap (ran_to book a r.os [] Dry) (sym so))
 
--- ---- where it is not told
+-- ---- if it is not told
 
 -- the run is the step, by the occurrences that it took, as if these were to come and then what is left
 towards_by : (book : Book) (old : SessionView) (core : CoreView) (reader : ReaderView) (before after : List Note) (k count n : ℕ) (e : Ended) (first last : Coming) (r : Running book old core reader before after k count)
@@ -115,10 +115,10 @@ towards_by : (book : Book) (old : SessionView) (core : CoreView) (reader : Reade
 towards_by book old core reader before after k count n e first last r then can is = record {
   expected = first;
   can_come = can;
-  core = λ a h. subst (λ (x : Outcome). CoreStands book core x.account) (sym (is a)) (core_at book core (consuming r.os a) last.rest last.mark (r.taking.stands a h));
-  reply = λ a h. reply_is k count e r.os (notes_over book a.thread a.sets a.past r.os) r.number (r.counted a h) ∙ ap (λ (x : Outcome). x.reply) (sym (is a));
-  notes = λ a h. r.taking.notes a h ∙ ap (λ (x : Outcome). before ++ x.notes) (sym (is a));
-  comes_then = λ a h. ap (λ (x : Outcome). record { rest = x.account.rest; mark = x.account.mark }) (is a);
+  core = λ a h. subst (λ (x : StepOutcome). CoreStands book core x.account) (sym (is a)) (core_at book core (consuming r.os a) last.rest last.mark (r.taking.stands a h));
+  reply = λ a h. reply_is k count e r.os (notes_over book a.thread a.sets a.past r.os) r.number (r.counted a h) ∙ ap (λ (x : StepOutcome). x.reply) (sym (is a));
+  notes = λ a h. r.taking.notes a h ∙ ap (λ (x : StepOutcome). before ++ x.notes) (sym (is a));
+  comes_then = λ a h. ap (λ (x : StepOutcome). record { rest = x.account.rest; mark = x.account.mark }) (is a);
 }
 
 -- all that were asked for
@@ -137,7 +137,7 @@ towards_short book old core reader then before after k count n m e less so takes
     (towards_by book old core reader before after k count n e (record { rest = r.os; mark = m }) nothing r then (came_to_mark old.reader reader then r.os m r.came takes over later h)
     (λ a. short book old.core.shape a n r.os m (omega (arith, r.number, less)) ∙ ap (ran_to book a r.os [] Dry) (sym so)))
 
--- ---- where what is to come is told
+-- ---- if what is to come is told
 
 -- the account expects it
 same_account : (book : Book) (old : SessionView) (a : Account) (first : Coming) → ((c : Coming) → coming old.reader ≡ Some c → c ≡ first) → Stands book old a → expecting first a ≡ a

@@ -66,7 +66,7 @@ at_end book shape s left replies before after a calls none way = record {
   noted = sym (append-nil after) ∙ (sym (ap (λ (cs : List Call). after ++ notes_to book shape way.here cs) none) ∙ way.noted);
 }
 
--- lists with the same items before them are equal where the whole lists are
+-- lists with the same items before them are equal if the whole lists are
 cancel : (before xs ys : List Note) → before ++ xs ≡ before ++ ys → xs ≡ ys
 cancel [] xs ys e = e
 cancel (b ∷ before) xs ys e = cancel before xs ys (let h : b ∷ (before ++ xs) ≡ b ∷ (before ++ ys) = e in cc)

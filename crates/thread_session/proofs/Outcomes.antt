@@ -11,12 +11,12 @@ use Rattle.session_model.specs.declared.call.Call.TheVariants.{Run}
 use Rattle.session_model.specs.declared.reply.Ended.{Ended}
 use Rattle.session_model.specs.declared.reply.Ended.TheVariants as ended
 use Rattle.session_model.specs.Account.{Account}
-use Rattle.session_model.specs.Step.{Outcome, ended_at, ran, ran_reply, step}
+use Rattle.session_model.specs.Step.{StepOutcome, ended_at, ran, ran_reply, step}
 use Rattle.session_model.specs.Thresholds.{notes_over}
 use Rattle.thread_session.specs.Follows.{expecting}
 
 -- a run that took these, and leaves that to come
-abbrev pub ran_to : Book → Account → List Occ → List Occ → Mark → Ended → Outcome
+abbrev pub ran_to : Book → Account → List Occ → List Occ → Mark → Ended → StepOutcome
 ran_to book a os later m e = record {
   account = record a { past = a.past ++ os; rest = later; mark = m };
   reply = ran_reply (length os) (notes_over book a.thread a.sets a.past os) e;

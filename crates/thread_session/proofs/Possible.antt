@@ -25,7 +25,7 @@ over_gives : (v : ReaderView) (c : Coming) → v.over ≡ true → CanCome v c �
 unfolding comes
 over_gives v c over h = rw over at h.says
 
--- what can come before an answer, where this can come after it
+-- what can come before an answer, if this can come after it
 pub before_answer : (old new : ReaderView) (answer : Next) (later : Coming) → Takes old answer new → CanCome new later → CanCome old (follows answer later)
 before_answer old new answer later takes h = go takes.judged where
   go : GoesOn old takes.taken answer new ⊎ Closes old takes.taken answer new → CanCome old (follows answer later)

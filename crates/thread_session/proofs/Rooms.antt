@@ -12,6 +12,6 @@ one_place xs at i x less =
     let same : at + (i + 1) ≡ at + i + 1 = omega arith in
     ap (λ (k : ℕ). take k (set xs (at + i) x)) same ∙ take_more_set xs (at + i) x less
 
--- what is after a place stays, where what is after an earlier one does
+-- what is after a place stays, if what is after an earlier one does
 pub later_rest : {X : Type 0} (xs ys : List X) (k j : ℕ) → drop k xs ≡ drop k ys → drop (k + j) xs ≡ drop (k + j) ys
 later_rest {X} xs ys k j e = sym (drop-drop j k xs) ∙ ap (λ (zs : List X). drop j zs) e ∙ drop-drop j k ys

@@ -32,7 +32,7 @@ pub record Taking (book : Book) (old : SessionView) (core : CoreView) (reader : 
   pub notes : (a : Account) → CoreStands book old.core a → after ≡ before ++ notes_over book a.thread a.sets a.past os
   pub told : (c : Coming) → coming old.reader ≡ Some c → GaveAll c os (coming reader)
 
--- and so many, with so many notes
+-- and k occurrences, with n notes
 pub record Running (book : Book) (old : SessionView) (core : CoreView) (reader : ReaderView) (before after : List Note) (consumed count : ℕ) : Type 0 where
   pub os : List Occ
   pub number : length os ≡ consumed

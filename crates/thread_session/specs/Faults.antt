@@ -31,5 +31,5 @@ IsFaultBody (body.Ran ran) = ran.ended ≡ Fault
 IsFaultBody b = ⊥
 
 -- the reply of a run that the source's fault ended
-abbrev pub IsFault : Reply → Type 0
-IsFault reply = IsFaultBody reply.body
+abbrev pub IsFaultReply : Reply → Type 0
+IsFaultReply reply = IsFaultBody reply.body

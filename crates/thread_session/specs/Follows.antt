@@ -29,11 +29,11 @@ is_run made = false
 abbrev pub run_reply : Ran → Reply
 run_reply ran = record { code = code_of ran.ended; body = body.Ran ran }
 
--- the account, where this is to come
+-- the account, if this is to come
 abbrev pub expecting : Coming → Account → Account
 expecting c a = record a { rest = c.rest; mark = c.mark }
 
--- Told or not, the call does and replies and notes what the step does, as if this was to come; where it is told what is to come, this is.
+-- Told or not, the call does and replies and notes what the step does, as if this was to come; if it is told what is to come, this is.
 pub record FollowsAs (book : Book) (old new : SessionView) (made : Call) (answer : Reply) (before after : List Note) : Type 0 where
   pub expected : Coming
   pub core : (a : Account) → CoreStands book old.core a → CoreStands book new.core (step book old.core.shape (expecting expected a) made).account

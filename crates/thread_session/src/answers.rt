@@ -96,7 +96,7 @@ fn assigned_reply(answer: Result<Assigned, Code>) -> Reply
     }
 }
 
-/// The values where the code is OK.
+/// The values if the code is OK.
 fn values_reply(code: Code, values: Values) -> Reply
     ensures { result ≡ values_reply code values }
 {

@@ -22,7 +22,7 @@ use session_model::{Assigned, Call, Named, Reply};
 use std::alloc::AllocError;
 
 impl<S: Source> Session<S> {
-    ghost use Rattle.thread_session.specs.Faults.{FaultsKept, FaultsRose, IsFault, fault_count};
+    ghost use Rattle.thread_session.specs.Faults.{FaultsKept, FaultsRose, IsFaultReply, fault_count};
     ghost use Rattle.thread_session.specs.Follows.{Does, FollowsAs, FollowsTo, IsCutIn, IsCutTo, is_run};
     ghost use Rattle.thread_session.specs.Prospects.{CanCome};
     ghost use Rattle.thread_session.specs.Stands.{IsReady, Stands};
@@ -35,7 +35,7 @@ impl<S: Source> Session<S> {
         self.core.register(book)
     }
 
-    /// Takes the registration back: PAPI_unregister_thread(3). EISRUN where some set of the thread runs, EINVAL where the thread is
+    /// Takes the registration back: PAPI_unregister_thread(3). EISRUN if some set of the thread runs, EINVAL if the thread is
     /// not registered.
     pub fn unregister(&mut self, book: &PresetBook) -> Code
         requires ready { IsReady book.now self.old }
@@ -44,7 +44,7 @@ impl<S: Source> Session<S> {
         self.core.unregister(book)
     }
 
-    /// A new set under the least free number: PAPI_create_eventset(3). ECOUNT where there are 64 sets.
+    /// A new set under the least free number: PAPI_create_eventset(3). ECOUNT if there are 64 sets.
     pub fn create(&mut self, book: &PresetBook) -> Result<u32, Code>
         requires ready { IsReady book.now self.old }
         ensures { Does book.now self.old self.new call.Create
@@ -53,7 +53,7 @@ impl<S: Source> Session<S> {
         self.core.create(book)
     }
 
-    /// Takes a set away: PAPI_destroy_eventset(3). ENOEVST where there is no such set, EISRUN where it runs, EINVAL where it has events.
+    /// Takes a set away: PAPI_destroy_eventset(3). ENOEVST if there is no such set, EISRUN if it runs, EINVAL if it has events.
     pub fn destroy(&mut self, book: &PresetBook, set: u32) -> Code
         requires ready { IsReady book.now self.old }
         ensures { Does book.now self.old self.new (call.Destroy set) (plain result) }
@@ -61,7 +61,7 @@ impl<S: Source> Session<S> {
         self.core.destroy(book, set)
     }
 
-    /// Takes everything but the domain from a set: PAPI_cleanup_eventset(3). ENOEVST where there is no such set, EISRUN where it runs.
+    /// Takes everything but the domain from a set: PAPI_cleanup_eventset(3). ENOEVST if there is no such set, EISRUN if it runs.
     pub fn cleanup(&mut self, book: &PresetBook, set: u32) -> Code
         requires ready { IsReady book.now self.old }
         ensures { Does book.now self.old self.new (call.Cleanup set) (plain result) }
@@ -87,8 +87,8 @@ impl<S: Source> Session<S> {
         self.core.remove(book, set, e)
     }
 
-    /// Fixes the component of a set: PAPI_assign_eventset_component(3). ENOEVST where there is no such set, ENOCMP where there is
-    /// no such component, EISRUN where the set runs, EINVAL where it has another component.
+    /// Fixes the component of a set: PAPI_assign_eventset_component(3). ENOEVST if there is no such set, ENOCMP if there is
+    /// no such component, EISRUN if the set runs, EINVAL if it has another component.
     pub fn assign_component(&mut self, book: &PresetBook, set: u32, comp: u32) -> Code
         requires ready { IsReady book.now self.old }
         ensures { Does book.now self.old self.new (call.AssignComponent set comp) (plain result) }
@@ -96,8 +96,8 @@ impl<S: Source> Session<S> {
         self.core.assign_component(book, set, comp)
     }
 
-    /// Sets the domain of a set, and zeroes its counts: PAPI_set_domain(3). ENOEVST where there is no such set, EISRUN where it runs,
-    /// EINVAL where the bits are not a domain.
+    /// Sets the domain of a set, and zeroes its counts: PAPI_set_domain(3). ENOEVST if there is no such set, EISRUN if it runs,
+    /// EINVAL if the bits are not a domain.
     pub fn set_domain(&mut self, book: &PresetBook, set: u32, bits: u32) -> Code
         requires ready { IsReady book.now self.old }
         ensures { Does book.now self.old self.new (call.SetDomain set bits) (plain result) }
@@ -105,8 +105,8 @@ impl<S: Source> Session<S> {
         self.core.set_domain(book, set, bits)
     }
 
-    /// Multiplexes a set by slices of this many ticks, and zeroes its counts: PAPI_set_multiplex(3). ENOEVST where there is no such
-    /// set, EISRUN where it runs, EINVAL where the slice is out of range, ECOMBO where a threshold is set.
+    /// Multiplexes a set by slices of this many ticks, and zeroes its counts: PAPI_set_multiplex(3). ENOEVST if there is no such
+    /// set, EISRUN if it runs, EINVAL if the slice is out of range, ECOMBO if a threshold is set.
     pub fn set_multiplex(&mut self, book: &PresetBook, set: u32, slice: u32) -> Code
         requires ready { IsReady book.now self.old }
         ensures { Does book.now self.old self.new (call.SetMultiplex set slice) (plain result) }
@@ -114,7 +114,7 @@ impl<S: Source> Session<S> {
         self.core.set_multiplex(book, set, slice)
     }
 
-    /// Sets the threshold of an event, where 0 clears it, and zeroes the set's counts: PAPI_overflow(3). The refusals are those of
+    /// Sets the threshold of an event, which 0 clears, and zeroes the set's counts: PAPI_overflow(3). The refusals are those of
     /// the core.
     pub fn overflow(&mut self, book: &PresetBook, set: u32, e: &Named, t: u64) -> Code
         requires ready { IsReady book.now self.old }
@@ -124,8 +124,8 @@ impl<S: Source> Session<S> {
         self.core.overflow(book, set, e, t)
     }
 
-    /// Starts a set: PAPI_start(3). ENOEVST where there is no such set, EISRUN where it runs or another one does on its
-    /// component, EINVAL where it has no events.
+    /// Starts a set: PAPI_start(3). ENOEVST if there is no such set, EISRUN if it runs or another one does on its
+    /// component, EINVAL if it has no events.
     pub fn start(&mut self, book: &PresetBook, set: u32) -> Code
         requires ready { IsReady book.now self.old }
         ensures { Does book.now self.old self.new (call.Start set) (plain result) }
@@ -133,7 +133,7 @@ impl<S: Source> Session<S> {
         self.core.start(book, set)
     }
 
-    /// The events of a set in the order in which they were added: PAPI_list_events(3). ENOEVST where there is no such set.
+    /// The events of a set in the order in which they were added: PAPI_list_events(3). ENOEVST if there is no such set.
     pub fn list_events(&self, book: &PresetBook, set: u32) -> Result<Events, Code>
         requires ready { IsReady book.now self.now }
         ensures { Does book.now self.now self.now (call.ListEvents set)
@@ -142,8 +142,8 @@ impl<S: Source> Session<S> {
         self.core.list_events(book, set)
     }
 
-    /// The native events of a set, and the counter of each, as they are when the set starts. ENOEVST where there is no such
-    /// set, ECOMBO where it is multiplexed.
+    /// The native events of a set, and the counter of each, as they are when the set starts. ENOEVST if there is no such
+    /// set, ECOMBO if it is multiplexed.
     pub fn assign(&self, book: &PresetBook, set: u32) -> Result<Assigned, Code>
         requires ready { IsReady book.now self.now }
         ensures { Does book.now self.now self.now (call.Assign set)
@@ -152,7 +152,7 @@ impl<S: Source> Session<S> {
         self.core.assign(book, set)
     }
 
-    /// Stops a set, and gives the value of each event: PAPI_stop(3). ENOEVST where there is no such set, ENOTRUN where it does
+    /// Stops a set, and gives the value of each event: PAPI_stop(3). ENOEVST if there is no such set, ENOTRUN if it does
     /// not run; `into` then stays as it is.
     pub fn stop(&mut self, book: &PresetBook, set: u32, into: &mut Values) -> Code
         requires ready { IsReady book.now self.old }
@@ -163,7 +163,7 @@ impl<S: Source> Session<S> {
         self.core.stop(book, set, into)
     }
 
-    /// Gives the value of each event of a set: PAPI_read(3). ENOEVST where there is no such set; `into`
+    /// Gives the value of each event of a set: PAPI_read(3). ENOEVST if there is no such set; `into`
     /// then stays as it is.
     pub fn read(&self, book: &PresetBook, set: u32, into: &mut Values) -> Code
         requires ready { IsReady book.now self.now }
@@ -174,7 +174,7 @@ impl<S: Source> Session<S> {
         self.core.read(book, set, into)
     }
 
-    /// Adds the value of each event of a set to the caller's, gives the sums, and zeroes the counts: PAPI_accum(3). ENOEVST where
+    /// Adds the value of each event of a set to the caller's, gives the sums, and zeroes the counts: PAPI_accum(3). ENOEVST if
     /// there is no such set; `into` then stays as it is.
     pub fn accum(&mut self, book: &PresetBook, set: u32, into: &mut Values) -> Code
         requires ready { IsReady book.now self.old }
@@ -185,7 +185,7 @@ impl<S: Source> Session<S> {
         self.core.accum(book, set, into)
     }
 
-    /// Zeroes the counts of a set: PAPI_reset(3). ENOEVST where there is no such set.
+    /// Zeroes the counts of a set: PAPI_reset(3). ENOEVST if there is no such set.
     pub fn reset(&mut self, book: &PresetBook, set: u32) -> Code
         requires ready { IsReady book.now self.old }
         ensures { Does book.now self.old self.new (call.Reset set) (plain result) }
@@ -193,7 +193,7 @@ impl<S: Source> Session<S> {
         self.core.reset(book, set)
     }
 
-    /// The state bits of a set: PAPI_state(3). ENOEVST where there is no such set.
+    /// The state bits of a set: PAPI_state(3). ENOEVST if there is no such set.
     pub fn state(&self, book: &PresetBook, set: u32) -> Result<u32, Code>
         requires ready { IsReady book.now self.now }
         ensures { Does book.now self.now self.now (call.State set)
@@ -202,8 +202,8 @@ impl<S: Source> Session<S> {
         self.core.state(book, set)
     }
 
-    /// The register of a counter of a set that runs. ENOEVST where there is no such set, ENOTRUN where it does not run, EINVAL where
-    /// no native event of it is on the counter, ECOMBO where it is multiplexed.
+    /// The register of a counter of a set that runs. ENOEVST if there is no such set, ENOTRUN if it does not run, EINVAL if
+    /// no native event of it is on the counter, ECOMBO if it is multiplexed.
     pub fn raw(&self, book: &PresetBook, set: u32, c: u32) -> Result<u64, Code>
         requires ready { IsReady book.now self.now }
         ensures { Does book.now self.now self.now (call.Raw set c)
@@ -258,7 +258,7 @@ impl<S: Source> Session<S> {
         ensures shape { self.new.core.shape ≡ self.old.core.shape }
         ensures faults { FaultsKept (fault_count self.old.reader) (fault_count self.new.reader) }
         ensures faulty { IfOk result
-            (λ r. IsFault r → FaultsRose (fault_count self.old.reader)
+            (λ r. IsFaultReply r → FaultsRose (fault_count self.old.reader)
             (fault_count self.new.reader)) }
     {
         match c {

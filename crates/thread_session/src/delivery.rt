@@ -8,7 +8,7 @@ use papi_base::Occ;
 use std::alloc::AllocError;
 use thread_core::Taken;
 
-/// Hands on a note for each threshold that the occurrence passed, in order. Where memory is refused, some are not taken.
+/// Hands on a note for each threshold that the occurrence passed, in order. If memory is refused, some are not taken.
 #[inline(always)]
 pub(crate) fn deliver(
     h: &mut dyn Handler,

@@ -48,7 +48,7 @@ impl<S: Source> Session<S> {
     ghost use Rattle.thread_session.specs.Follows.{FollowsAs, run_reply};
     ghost use Rattle.thread_session.specs.Stands.{IsReady};
 
-    /// Consumes up to `n` occurrences of the stream, and writes a note of each passing of a threshold into the place. Where fewer than
+    /// Consumes up to `n` occurrences of the stream, and writes a note of each passing of a threshold into the place. If fewer than
     /// 32 notes have room it stops before the next occurrence, so that no note is lost.
     pub fn run_into(&mut self, book: &PresetBook, n: u32, out: &mut [Note]) -> Filled
         requires ready { IsReady book.now self.old }

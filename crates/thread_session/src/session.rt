@@ -14,7 +14,7 @@ use thread_core::Core;
 
 /// The event sets of one thread, and the reader of the stream of occurrences that they count.
 ///
-/// Of the calls only `new`, `run`, and `call` where it runs, take memory.
+/// Of the calls only `new`, `run`, and `call` if it runs, take memory.
 #[derive(Drop)]
 pub struct Session<S: Source> {
     pub(crate) core: Core,
@@ -39,7 +39,7 @@ impl<S: Source> Session<S> {
     ghost use Rattle.thread_session.specs.Stands.{IsNew, IsReady, Stands};
 
     /// A session without sets, for units of this shape, that reads its thread's stream from the beginning. It takes the
-    /// memory for 64 sets; where that is refused, the reader is dropped.
+    /// memory for 64 sets; if that is refused, the reader is dropped.
     pub fn new(
         alloc: Global,
         thread: u32,
@@ -78,7 +78,7 @@ impl<S: Source> Session<S> {
         self.reader
     }
 
-    /// The source as the session left it, or `None` where the reader was made without one.
+    /// The source as the session left it, or `None` if the reader was made without one.
     pub fn into_source(self) -> Option<S>
         ensures source { option_map (λ s. record { tape = S.tape s; faults = S.faults s }) result
             ≡ self.reader.source }

@@ -15,7 +15,7 @@ impl<S: Source> Session<S> {
     ghost use Rattle.thread_session.specs.Folds.{AreGood};
     ghost use Rattle.thread_session.specs.Stands.{IsReady, Stands};
 
-    /// Makes the calls in order. Where memory is refused, those before are made, and their notes taken.
+    /// Makes the calls in order. If memory is refused, those before are made, and their notes taken.
     pub fn call_all(
         &mut self,
         alloc: Global,

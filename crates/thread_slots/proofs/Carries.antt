@@ -8,7 +8,7 @@ use Rattle.std.proofs.lemmas.Nat.Bits.{bit_at-zero}
 use Rattle.counter_unit.specs.Counting.{all_carries, bits_of, carries, period}
 use Rattle.counter_unit.proofs.Bits.{bit_at-bits_of}
 use Rattle.counter_unit.proofs.Steps.{carries_at}
-use Rattle.overflow_dispatch.specs.Passing.{passed_from}
+use Rattle.overflow_dispatch.specs.Passing.{carried_from}
 use Rattle.thread_slots.proofs.Programs.{programs-at, length-programs}
 
 bit_test : (b : Bool) → ((if b then 1 else 0) == 1) ≡ b
@@ -39,10 +39,10 @@ pin_passes before o ws d counts carry pins k p widths h small told g =
     let a = added (get_or ws p.counter 0) p.native d p.threshold (counts p.native) (weight_of p.native d before o) (widths.low p.counter (h.exist k p g)) (h.fit k p g) (weight_of-le p.native d before o small) in
     told.each k p g ∙ a.carried
 
--- where no counter carries nothing is passed
-pub passed_none : (index carry : ℕ) (counters : List (Option ℕ)) → carry ≡ 0 → passed_from index carry counters ≡ []
+-- if no counter carries nothing is passed
+pub passed_none : (index carry : ℕ) (counters : List (Option ℕ)) → carry ≡ 0 → carried_from index carry counters ≡ []
 passed_none index carry [] none = refl
 passed_none index carry (None ∷ counters) none = passed_none (index + 1) carry counters none
 passed_none index carry (Some c ∷ counters) none =
     let stays : (bit_at carry c == 1) ≡ false = ap (λ (x : ℕ). bit_at x c == 1) none ∙ ap (λ (x : ℕ). x == 1) (bit_at-zero c) in
-    cond-false (bit_at carry c == 1) (index ∷ passed_from (index + 1) carry counters) (passed_from (index + 1) carry counters) stays ∙ passed_none (index + 1) carry counters none
+    cond-false (bit_at carry c == 1) (index ∷ carried_from (index + 1) carry counters) (carried_from (index + 1) carry counters) stays ∙ passed_none (index + 1) carry counters none

@@ -38,7 +38,7 @@ first_more first natives i m v at below here before h = record {
 pub first_all : (first : List ℕ) (natives : List Native) (done : ℕ) → length natives ≤ done → FirstTo first natives done → AreFirst first natives
 first_all first natives done all h = record { keys = h.keys; each = λ j n e. h.each j n e (let below = slice_get_within natives j n e in omega arith) }
 
--- where no item before a place passes a test
+-- if no item before a place passes a test
 none_before : {X : Type 0} (p : X → Bool) (xs : List X) (s : ℕ) → s ≤ length xs → ((j : ℕ) (x : X) → slice_get xs j ≡ Some x → j < s → p x ≡ false)
     → s + position_or_len p (drop s xs) ≡ position_or_len p xs
 none_before p xs zero le h = omega arith

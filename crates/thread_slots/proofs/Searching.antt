@@ -12,7 +12,7 @@ found_here p xs i x e h = ap (position_or_len p) (drop_at xs i x e) ∙ rw h ref
 pub found_later : {X : Type 0} (p : X → Bool) (xs : List X) (i : ℕ) (x : X) → slice_get xs i ≡ Some x → p x ≡ false → position_or_len p (drop i xs) ≡ 1 + position_or_len p (drop (i + 1) xs)
 found_later p xs i x e h = ap (position_or_len p) (drop_at xs i x e) ∙ rw h refl
 
--- the numbers of natives are small where all numbers are
+-- the numbers of natives are small if all numbers are
 pub number_small : (natives : List Native) (numbers : List ℕ) (n : Native) → All (λ t. t < 2 ^ 48) numbers → number_in natives numbers n < 2 ^ 48
 number_small natives numbers n h = go numbers (position_or_len (same_native n) natives) h where
   go : (xs : List ℕ) (k : ℕ) → All (λ t. t < 2 ^ 48) xs → get_or xs k 0 < 2 ^ 48

@@ -15,7 +15,7 @@ use Rattle.thread_slots.specs.Shown.{numbers_in, numbers_shown, unit_numbers}
 use Rattle.thread_slots.specs.Slots.{turned}
 use Rattle.thread_slots.proofs.Lists.{map_same_on}
 
--- the counts on the pins' counters, where they fit 64 bits
+-- the counts on the pins' counters, if they fit 64 bits
 pub pins_show : (unit : UnitView) (d : Domain) (counts : Native → ℕ) (pins : List Pin) → ((n : Native) → counts n < 2 ^ 64)
     → ((k : ℕ) (p : Pin) → slice_get pins k ≡ Some p → at_place unit.registers p.counter ≡ Some (register_at (get_or unit.widths p.counter 0) p.native d p.threshold (counts p.native)))
     → pin_numbers unit pins ≡ map (λ p. counts p.native) pins

@@ -18,13 +18,13 @@ use Rattle.thread_slots.specs.declared.slot.Slot.{Slot}
 use Rattle.thread_slots.specs.Changed.{at_zero, renewed}
 
 -- the call that makes the change
-abbrev pub call_of : ℕ → Change → Call
-call_of k change.Cleanup = call.Cleanup k
-call_of k (change.Remove e) = call.Remove k e
-call_of k (change.Component comp) = call.AssignComponent k comp
-call_of k (change.Domain bits) = call.SetDomain k bits
-call_of k (change.Multiplex slice) = call.SetMultiplex k slice
-call_of k (change.Overflow e t) = call.Overflow k e t
+abbrev pub changing_call : ℕ → Change → Call
+changing_call k change.Cleanup = call.Cleanup k
+changing_call k (change.Remove e) = call.Remove k e
+changing_call k (change.AssignComponent comp) = call.AssignComponent k comp
+changing_call k (change.SetDomain bits) = call.SetDomain k bits
+changing_call k (change.SetMultiplex slice) = call.SetMultiplex k slice
+changing_call k (change.Overflow e t) = call.Overflow k e t
 
 -- its event is named
 abbrev pub IsFor : Book → Widths → Change → Type 0
@@ -34,7 +34,7 @@ IsFor book shape made = ⊤
 
 -- it wants a component that the shape has not
 abbrev pub lacks_component : Widths → Change → Bool
-lacks_component shape (change.Component comp) = nat_le (length shape) comp
+lacks_component shape (change.AssignComponent comp) = nat_le (length shape) comp
 lacks_component shape made = false
 
 -- before the set at rest is asked
@@ -50,9 +50,9 @@ abbrev pub change_refusal : Book → Widths → Change → AtRest → Option Cod
 change_refusal book shape change.Cleanup s = None
 change_refusal book shape (change.Remove (Ok e)) s = if not (has_event e s) then Some Einval else None
 change_refusal book shape (change.Remove (Err code)) s = Some code
-change_refusal book shape (change.Component comp) s = assign_refusal shape comp s
-change_refusal book shape (change.Domain bits) s = if is_bad_domain bits then Some Einval else None
-change_refusal book shape (change.Multiplex slice) s = multiplex_refusal slice s
+change_refusal book shape (change.AssignComponent comp) s = assign_refusal shape comp s
+change_refusal book shape (change.SetDomain bits) s = if is_bad_domain bits then Some Einval else None
+change_refusal book shape (change.SetMultiplex slice) s = multiplex_refusal slice s
 change_refusal book shape (change.Overflow (Ok e) t) s = threshold_refusal book shape e t s
 change_refusal book shape (change.Overflow (Err code) t) s = Some code
 
@@ -65,8 +65,8 @@ abbrev pub slot_after : Book → Widths → Change → Slot → Slot
 slot_after book shape change.Cleanup slot = renewed book shape (emptied slot.set.rest)
 slot_after book shape (change.Remove (Ok e)) slot = renewed book shape (without_event e slot.set.rest)
 slot_after book shape (change.Remove (Err code)) slot = slot
-slot_after book shape (change.Component comp) slot = record slot { set = set_view book shape (record slot.set.rest { component = Some comp }) }
-slot_after book shape (change.Domain bits) slot = recounted book shape (record slot.set.rest { domain = record { 0 = bits } }) slot
-slot_after book shape (change.Multiplex slice) slot = recounted book shape (record slot.set.rest { slice = Some slice }) slot
+slot_after book shape (change.AssignComponent comp) slot = record slot { set = set_view book shape (record slot.set.rest { component = Some comp }) }
+slot_after book shape (change.SetDomain bits) slot = recounted book shape (record slot.set.rest { domain = record { 0 = bits } }) slot
+slot_after book shape (change.SetMultiplex slice) slot = recounted book shape (record slot.set.rest { slice = Some slice }) slot
 slot_after book shape (change.Overflow (Ok e) t) slot = recounted book shape (with_threshold e t slot.set.rest) slot
 slot_after book shape (change.Overflow (Err code) t) slot = slot

@@ -8,7 +8,7 @@ use Rattle.thread_slots.specs.declared.slot.Counting.{Counting}
 use Rattle.thread_slots.specs.declared.slot.Counting.TheVariants as counting
 use Rattle.thread_slots.specs.declared.slot.Slot.{Slot}
 
--- a stopped set with so many natives, that has counted nothing
+-- a stopped set with n natives, that has counted nothing
 abbrev pub at_zero : ℕ → Counting
 at_zero natives = counting.Stopped (replicate natives 0)
 

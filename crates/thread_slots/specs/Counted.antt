@@ -7,7 +7,7 @@ use Rattle.papi_base.specs.declared.bits.Domain.{Domain}
 use Rattle.papi_base.specs.Weight.{weight_of}
 use Rattle.multiplex.specs.Turns.{group_at}
 use Rattle.counter_unit.specs.Counting.{UnitView, all_moved, all_carries, bits_of}
-use Rattle.overflow_dispatch.specs.Passing.{passed_from}
+use Rattle.overflow_dispatch.specs.Passing.{carried_from}
 use Rattle.session_model.specs.Faces.{at}
 use Rattle.thread_slots.specs.declared.slot.Counting.{Counting}
 use Rattle.thread_slots.specs.declared.slot.Counting.TheVariants as counting
@@ -25,7 +25,7 @@ pub record Counted : Type 0 where
 abbrev pub carry_of : Option Occ → Occ → UnitView → ℕ
 carry_of before o unit = bits_of (all_carries before o unit.widths unit.registers)
 
--- each count and what its native adds, where its group is the one that runs
+-- each count and what its native adds, if its group is the one that runs
 abbrev pub with_turn : Domain → Option Occ → Occ → ℕ → List Native → List ℕ → List ℕ → List ℕ
 with_turn d before o group [] numbers counts = []
 with_turn d before o group (n ∷ ns) [] counts = []
@@ -38,7 +38,7 @@ counted_in before o unit slot (counting.Stopped kept) = record { unit = unit; sl
 counted_in before o unit slot (counting.OnUnit pins armed) = record {
   unit = record unit { registers = all_moved before o unit.widths unit.registers };
   slot = slot;
-  passed = passed_from 0 (carry_of before o unit) armed;
+  passed = carried_from 0 (carry_of before o unit) armed;
 }
 counted_in before o unit slot (counting.InTurns r begun kept) = record {
   unit = unit;
@@ -58,7 +58,7 @@ pub record CountedPlace : Type 0 where
   pub place : Option Slot
   pub passed : List ℕ
 
--- nothing counts where there is no set
+-- nothing counts if there is no set
 abbrev pub counted_place : Option Occ → Occ → UnitView → Option Slot → CountedPlace
 counted_place before o unit None = record { unit = unit; place = None; passed = [] }
 counted_place before o unit (Some slot) = record {
@@ -67,7 +67,7 @@ counted_place before o unit (Some slot) = record {
   passed = (counted before o unit slot).passed;
 }
 
--- all units and all sets, with the passed thresholds and the number of their set, 0 where there are none
+-- all units and all sets, with the passed thresholds and the number of their set, 0 if there are none
 pub record CountedAll : Type 0 where
   pub units : List UnitView
   pub slots : List (Option Slot)
@@ -87,12 +87,12 @@ placed comp number units slots c = record {
   passed = c.passed;
 }
 
--- where the component has a unit
+-- if the component has a unit
 abbrev pub counted_at : Option Occ → Occ → List UnitView → List (Option Slot) → ℕ → Option UnitView → CountedAll
 counted_at before o units slots number None = uncounted units slots
 counted_at before o units slots number (Some unit) = placed o.comp number units slots (counted_place before o unit (at slots number))
 
--- where a set runs on the component
+-- if a set runs on the component
 abbrev pub counted_over : Option Occ → Occ → List UnitView → List (Option Slot) → Option ℕ → CountedAll
 counted_over before o units slots None = uncounted units slots
 counted_over before o units slots (Some number) = counted_at before o units slots number (slice_get units o.comp)

@@ -16,12 +16,12 @@ use Rattle.thread_slots.specs.Pinned.{ArePinned, armed_of, pins_of, place_of_lea
 use Rattle.thread_slots.specs.Slots.{rotation_of}
 
 -- a unit and a set that started on it
-pub record Begun : Type 0 where
+pub record Started : Type 0 where
   pub unit : UnitView
   pub slot : Slot
 
 -- a set that starts at this time: on the unit, or in turns
-abbrev pub begun_by : Book → ℕ → UnitView → Slot → Option ℕ → Begun
+abbrev pub begun_by : Book → ℕ → UnitView → Slot → Option ℕ → Started
 begun_by book now unit slot None = record {
   unit = record unit { registers = programs unit.widths slot.set.rest.domain (λ n. 0) (pins_of book slot.set.rest) unit.registers };
   slot = record slot { counting = counting.OnUnit (pins_of book slot.set.rest) (armed_of book slot.set.rest) };
@@ -32,7 +32,7 @@ begun_by book now unit slot (Some slice) = record {
 }
 
 -- by whether its natives take turns
-abbrev pub begun : Book → ℕ → UnitView → Slot → Begun
+abbrev pub begun : Book → ℕ → UnitView → Slot → Started
 begun book now unit slot = begun_by book now unit slot slot.set.rest.slice
 
 -- each event with a threshold has a counter that can be watched

@@ -15,7 +15,7 @@ use Rattle.thread_slots.specs.Pinned.{pins_of, programs}
 abbrev pub empty_unit : List ℕ → UnitView
 empty_unit widths = record { widths = widths; registers = replicate (length widths) None }
 
--- the number of the first set that runs on the component, where the list begins at this number
+-- the number of the first set that runs on the component, if the list begins at this number
 abbrev pub owner_from : ℕ → ℕ → List (Option Face) → Option ℕ
 owner_from comp number [] = None
 owner_from comp number (place ∷ places) = if runs_on (Some comp) place then Some number else owner_from comp (number + 1) places
@@ -29,7 +29,7 @@ abbrev pub running_registers : Book → List ℕ → List Occ → Kept → Optio
 running_registers book widths past s None = programs widths s.set.domain (count past s) (pins_of book s.set) (replicate (length widths) None)
 running_registers book widths past s (Some slice) = replicate (length widths) None
 
--- where no set runs, nothing is programmed
+-- if no set runs, nothing is programmed
 abbrev pub registers_by : Book → List ℕ → List Occ → Option Kept → List (Option Register)
 registers_by book widths past None = replicate (length widths) None
 registers_by book widths past (Some s) = running_registers book widths past s s.set.slice

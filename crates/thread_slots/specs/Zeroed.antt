@@ -9,7 +9,7 @@ use Rattle.thread_slots.specs.declared.slot.Slot.{Slot}
 use Rattle.thread_slots.specs.Changed.{at_zero}
 use Rattle.thread_slots.specs.Pinned.{programs}
 
--- nothing has been counted by so many natives; turns begin at this time
+-- nothing has been counted by n natives; turns begin at this time
 abbrev pub zeroed_in : ℕ → ℕ → Counting → Counting
 zeroed_in now natives (counting.Stopped kept) = at_zero natives
 zeroed_in now natives (counting.OnUnit pins armed) = counting.OnUnit pins armed
@@ -23,12 +23,12 @@ zeroed_slot now slot = record slot { counting = zeroed_in now (length slot.set.n
 abbrev pub zeroed_unit : Domain → List Pin → UnitView → UnitView
 zeroed_unit domain pins unit = record unit { registers = programs unit.widths domain (λ n. 0) pins unit.registers }
 
--- where the component has a unit
+-- if the component has a unit
 abbrev pub zeroed_at : Domain → List Pin → List UnitView → ℕ → Option UnitView → List UnitView
 zeroed_at domain pins units comp None = units
 zeroed_at domain pins units comp (Some unit) = slice_set units comp (zeroed_unit domain pins unit)
 
--- where the set has a component
+-- if the set has a component
 abbrev pub zeroed_on : Domain → List Pin → List UnitView → Option ℕ → List UnitView
 zeroed_on domain pins units None = units
 zeroed_on domain pins units (Some comp) = zeroed_at domain pins units comp (slice_get units comp)

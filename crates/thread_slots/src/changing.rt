@@ -22,11 +22,11 @@ pub enum Change {
     /// An event is taken away: PAPI_remove_event(3).
     Remove(Named),
     /// The component is fixed: PAPI_assign_eventset_component(3).
-    Component(u32),
+    AssignComponent(u32),
     /// Another domain, as bits: PAPI_set_domain(3).
-    Domain(u32),
-    /// Turns for so many ticks each: PAPI_set_multiplex(3).
-    Multiplex(u32),
+    SetDomain(u32),
+    /// Turns for n ticks each: PAPI_set_multiplex(3).
+    SetMultiplex(u32),
     /// Another threshold of an event, or with 0 none: PAPI_overflow(3).
     Overflow { e: Named, t: u64 },
 }
@@ -36,7 +36,7 @@ pub fn lacks_component(shape: &Shape, change: &Change) -> bool
     ensures { result ≡ lacks_component shape.now change.now }
 {
     match change {
-        Change::Component(comp) => *comp >= shape.comps(),
+        Change::AssignComponent(comp) => *comp >= shape.comps(),
         _ => false,
     }
 }
@@ -103,13 +103,13 @@ impl Slot {
                 Ok(())
             }
             Change::Remove(Err(code)) | Change::Overflow { e: Err(code), .. } => Err(*code),
-            Change::Component(comp) => self.set.assign_component(*comp, shape),
-            Change::Domain(bits) => {
+            Change::AssignComponent(comp) => self.set.assign_component(*comp, shape),
+            Change::SetDomain(bits) => {
                 self.set.set_domain(*bits)?;
                 self.recount();
                 Ok(())
             }
-            Change::Multiplex(slice) => {
+            Change::SetMultiplex(slice) => {
                 self.set.set_multiplex(*slice)?;
                 self.recount();
                 Ok(())

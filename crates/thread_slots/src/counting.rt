@@ -15,7 +15,7 @@ use multiplex::Rotation;
 use overflow_dispatch::Passed;
 use papi_base::{Counts, Domain, Native, Natives, Occ, weight};
 
-/// The events whose thresholds one occurrence passed, by their indexes, and the number of their set, 0 where there are
+/// The events whose thresholds one occurrence passed, by their indexes, and the number of their set, 0 if there are
 /// none: PAPI_overflow(3).
 #[derive(Drop)]
 pub struct Taken {
@@ -102,7 +102,7 @@ fn count_place(unit: &mut Unit, place: &mut Option<Slot>, before: Option<&Occ>, 
     }
 }
 
-/// The number of the set whose events passed their thresholds, and 0 where none did.
+/// The number of the set whose events passed their thresholds, and 0 if none did.
 #[inline(always)]
 fn noting_set(passed: &Passed, number: u32) -> u32
     ensures { result ≡ (if length passed.now == 0 then 0 else number) }

@@ -14,7 +14,7 @@ const KEYS: usize = 128;
 /// A place beyond each list of native events.
 const NOWHERE: u8 = MOST_SET_NATIVES as u8;
 
-/// The place of a native event in the list from a place on, or the length of the list where it is not in it from there.
+/// The place of a native event in the list from a place on, or the length of the list if it is not in it from there.
 #[inline(always)]
 #[tactic(auto, using(crate::proofs::Searching::found_here, crate::proofs::Searching::found_later))]
 fn place_from(natives: &Natives, from: u32, n: &Native) -> u32
@@ -30,7 +30,7 @@ fn place_from(natives: &Natives, from: u32, n: &Native) -> u32
     natives.len()
 }
 
-/// The place of a native event in the list, or the length of the list where it is not in it.
+/// The place of a native event in the list, or the length of the list if it is not in it.
 pub fn place_of(natives: &Natives, n: &Native) -> u32
     ensures place { result ≡ position_or_len (same_native n.now) natives.now }
     ensures within { result ≤ length natives.now }

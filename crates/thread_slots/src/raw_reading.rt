@@ -24,8 +24,8 @@ fn register_on(unit: &Unit, slice: Option<u32>, c: u32) -> Result<u64, Code>
 }
 
 impl Slot {
-    /// The register of a counter: ENOTRUN where the set does not run, EINVAL where its component lacks the counter or none of
-    /// its native events is on it, ECOMBO where they take turns.
+    /// The register of a counter: ENOTRUN if the set does not run, EINVAL if its component lacks the counter or none of
+    /// its native events is on it, ECOMBO if they take turns.
     pub fn register(&self, units: &[Unit], c: u32) -> Result<u64, Code>
         ensures { result ≡ register_shown units.now (face_of_slot self.now) c }
     {

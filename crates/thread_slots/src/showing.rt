@@ -31,7 +31,7 @@ impl Slot {
         u32::from(state_of(self.is_running(), self.set.is_armed(), multiplexed).0)
     }
 
-    /// Its native events, each with its counter, where they do not take turns.
+    /// Its native events, each with its counter, if they do not take turns.
     pub fn assigned(&self) -> Assigned
         ensures { self.now.set.rest.slice ≡ None
             → result ≡ record {

@@ -116,7 +116,7 @@ impl Slot {
         self.counting = Counting::OnUnit { pins, armed };
     }
 
-    /// It begins at this time, its native events taking turns of so many ticks.
+    /// It begins at this time, its native events taking turns of n ticks.
     fn begin_in_turns(&mut self, counters: u32, slice: u32, now: u64)
         requires some { 0 < length self.old.set.natives }
         requires counters { self.old.set.counters ≡ counters }
@@ -166,7 +166,7 @@ impl Slot {
             → self.old.set.rest.component ≡ Some comp → slice_get units.old comp ≡ Some unit
             → self.new ≡ (begun book.now now unit self.old).slot }
 
-        // Where the component is not fixed, nothing begins.
+        // If the component is not fixed, nothing begins.
         ensures same_units { self.old.set.rest.component ≡ None → units.new ≡ units.old }
         ensures same_slot { self.old.set.rest.component ≡ None → self.new ≡ self.old }
     {

@@ -10,7 +10,7 @@ use event_sets::EventSet;
 use papi_base::{Counts, EventRef, Native, Natives, Values};
 use postfix_rules::{PresetBook, value_of};
 
-/// The number of a native event, and 0 where it is not in the list.
+/// The number of a native event, and 0 if it is not in the list.
 #[inline(always)]
 fn number_of(places: &FirstPlaces, natives: &Natives, numbers: &Counts, n: &Native) -> u64
     requires places { AreFirst places.now.first natives.now }
@@ -43,7 +43,7 @@ fn own_numbers(places: &FirstPlaces, natives: &Natives, numbers: &Counts, own: &
     counts
 }
 
-/// The value of an event, where the number of each native event is given.
+/// The value of an event, if the number of each native event is given.
 fn value_of_event(
     book: &PresetBook,
     places: &FirstPlaces,
@@ -70,7 +70,7 @@ fn value_of_event(
     }
 }
 
-/// The value of each event of the set, where the number of each of its native events is given.
+/// The value of each event of the set, if the number of each of its native events is given.
 pub fn values_of(book: &PresetBook, set: &EventSet, numbers: &Counts) -> Values
     requires same_length { length numbers.now ≡ length set.now.natives }
     requires small { All (λ t. t < 2 ^ 48) numbers.now }

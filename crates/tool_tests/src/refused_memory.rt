@@ -38,7 +38,7 @@ impl Handler for OneNote {
     }
 }
 
-// The same calls on each of so many threads, call by call.
+// The same calls on each of n threads, call by call.
 fn script_of(alloc: Global, threads: u32) -> Result<String, AllocError> {
     let mut script = String::new(alloc);
     for call in [
@@ -56,7 +56,7 @@ fn script_of(alloc: Global, threads: u32) -> Result<String, AllocError> {
     Ok(script)
 }
 
-// The handler of `refused` of so many threads is refused its second note of four: it keeps its first, the others have all.
+// Of n threads, the handler of `refused` is refused its second note of four: it keeps its first, the others have all.
 fn check<R: Threads + Sync + Abort>(
     rt: &R,
     alloc: Global,

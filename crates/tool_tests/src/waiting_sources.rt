@@ -33,7 +33,7 @@ impl Meeting {
     }
 }
 
-// Gives a text. Where it has a meeting, its first read waits for that, and fails where the others do not come.
+// Gives a text. If it has a meeting, its first read waits for that, and fails if the others do not come.
 #[derive(Drop)]
 struct WaitingSource<'a> {
     rest: &'a [u8],

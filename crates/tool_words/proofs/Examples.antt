@@ -146,7 +146,7 @@ pub workers_twice : form (run_words (codes "--workers=2" ∷ codes "--workers=2"
 unfolding on_words
 workers_twice = refl
 
--- so many streams
+-- n streams
 abbrev streams : ℕ → List Text
 streams zero = []
 streams (suc n) = codes "t" ∷ streams n

@@ -7,34 +7,34 @@ use Rattle.clap.specs.declared.error.kind.ErrorKind.{ErrorKind}
 use Rattle.clap.specs.declared.error.kind.ErrorKind.TheVariants as kind
 use Rattle.tool_words.specs.declared.fault.WordsFault.{WordsFault}
 use Rattle.tool_words.specs.declared.fault.WordsFault.TheVariants.{BadWords, Memory}
-use Rattle.tool_words.specs.Words.{Answers, IsMatched, IsRefused, app_with, fault_by, read_by, unless_refused}
+use Rattle.tool_words.specs.Words.{Answers, AreMatches, HasSomeKind, app_with, fault_by, read_by, unless_refused}
 
 -- a kind of refusal is among those that there are
-pub some_kind : (k : ErrorKind) (kinds : Kinds) → IsAmong k kinds → IsRefused kinds
+pub some_kind : (k : ErrorKind) (kinds : Kinds) → IsAmong k kinds → HasSomeKind kinds
 some_kind k [] h = absurd h
 some_kind k (x ∷ xs) h = tt
 
 -- words that `clap` refuses, or at which memory ran out
 pub refused : (app : App) (words : List Text) (k : ErrorKind) → (k ≡ kind.OutOfMemory) ⊎ IsAmong k (fault_of app words)
-    → IsMatched (Err (fault_by k)) app words
+    → AreMatches (Err (fault_by k)) app words
 refused app words k (inl e) = rw e tt
 refused app words k (inr h) = by (fault_by k)
   where
-    by : (fault : WordsFault) → IsMatched (Err fault) app words
+    by : (fault : WordsFault) → AreMatches (Err fault) app words
     by BadWords = some_kind k (fault_of app words) h
     by Memory = tt
 
 -- what refused words ask for
-pub nothing_asked : {A : Type 0} (kinds : Kinds) (given : Option A) → IsRefused kinds → unless_refused kinds given ≡ None
+pub nothing_asked : {A : Type 0} (kinds : Kinds) (given : Option A) → HasSomeKind kinds → unless_refused kinds given ≡ None
 nothing_asked [] given h = absurd h
 nothing_asked (k ∷ ks) given h = refl
 
 -- a fault of the matches is the answer
 pub answers_fault : {A : Type 0} (rules : List Rule) (own : App) (asked : List Row → Option A) (words : List Text) (fault : WordsFault) → own ≡ app_with rules
-    → IsMatched (Err fault) own words → Answers (Err fault) (read_by rules asked words)
+    → AreMatches (Err fault) own words → Answers (Err fault) (read_by rules asked words)
 unfolding read_by
 answers_fault rules own asked words BadWords e h =
-    nothing_asked (fault_of (app_with rules) words) (asked (matches_of (app_with rules) words)) (subst (λ (a : App). IsRefused (fault_of a words)) e h)
+    nothing_asked (fault_of (app_with rules) words) (asked (matches_of (app_with rules) words)) (subst (λ (a : App). HasSomeKind (fault_of a words)) e h)
 answers_fault rules own asked words Memory e h = tt
 
 -- what the matches ask for is the answer

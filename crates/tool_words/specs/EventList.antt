@@ -17,7 +17,7 @@ is_event event = not (is_empty event) && list_all is_event_character event
 unfoldable pub parts_of : Text → List Text
 parts_of list = slice_split (λ b. b == 44) list
 
--- these, where each is an event and a set can have as many
+-- these, if each is an event and a set can have as many
 abbrev pub events_among : List Text → Option (List Text)
 events_among parts = if list_all is_event parts && nat_le (length parts) MOST_SET_EVENTS then Some parts else None
 

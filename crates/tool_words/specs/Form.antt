@@ -43,6 +43,6 @@ abbrev pub tool_of : List Text → Text
 tool_of [] = []
 tool_of (tool ∷ words) = tool
 
--- the command that the words ask for, where they are of a tool's form
+-- the command that the words ask for, if they are of a tool's form
 abbrev pub form : List Text → Option Command
 form words = option_and_then (λ t. t.asks words) (find (λ t. bytes_eq (tool_of words) t.name) tools)

@@ -5,7 +5,7 @@ use Rattle.clap.specs.ValueTests.{is_numeral}
 use Rattle.clap.specs.Words.{Row, Rule, Text, new_rule, one_of}
 use Rattle.clap.specs.declared.builder.value_parser.ValueParser.TheVariants as parser
 
--- what a type of so many bits reads: one decimal digit or more, before which a plus may stand
+-- what a type of n bits reads: one decimal digit or more, before which a plus may stand
 abbrev pub unsigned_of : ℕ → Text → Option ℕ
 unsigned_of bits text =
     let digits = without_leading_plus text in

@@ -38,7 +38,7 @@ is_cpu name =
 abbrev pub presets_of : Text → Text → Option PresetWords
 presets_of file cpu = if is_cpu cpu then Some (record { file = file; cpu = cpu }) else None
 
--- the presets that are asked for, where they are: both a file and a cpu are given, or neither is
+-- the presets that are asked for, if they are: both a file and a cpu are given, or neither is
 abbrev pub presets_asked : Option Text → Option Text → Option (Option PresetWords)
 presets_asked None None = Some None
 presets_asked (Some file) (Some cpu) = option_map Some (presets_of file cpu)

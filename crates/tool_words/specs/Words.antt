@@ -11,12 +11,12 @@ use Rattle.tool_words.specs.declared.fault.WordsFault.TheVariants.{BadWords, Mem
 abbrev pub app_with : List Rule → App
 app_with rules = record (new_app (codes "papi")) { top = record (new_app (codes "papi")).top { rules = rules } }
 
--- nothing, where there is a kind of refusal
+-- nothing, if there is a kind of refusal
 abbrev pub unless_refused : {A : Type 0} → Kinds → Option A → Option A
 unless_refused [] given = given
 unless_refused (k ∷ ks) given = None
 
--- what words ask for, by the rules of their arguments: nothing where these refuse them, else what their matches come to
+-- what words ask for, by the rules of their arguments: nothing if these refuse them, else what their matches come to
 unfoldable pub read_by : {A : Type 0} → List Rule → (List Row → Option A) → List Text → Option A
 read_by rules asked words = unless_refused (fault_of (app_with rules) words) (asked (matches_of (app_with rules) words))
 
@@ -27,15 +27,15 @@ Answers (Err BadWords) asked = asked ≡ None
 Answers (Err Memory) asked = Unit {0}
 
 -- there is a kind of refusal
-abbrev pub IsRefused : Kinds → Type 0
-IsRefused [] = ⊥
-IsRefused (k ∷ ks) = Unit {0}
+abbrev pub HasSomeKind : Kinds → Type 0
+HasSomeKind [] = ⊥
+HasSomeKind (k ∷ ks) = Unit {0}
 
 -- the matches of words under a command
-abbrev pub IsMatched : Result ArgMatches WordsFault → App → List Text → Type 0
-IsMatched (Ok matches) app words = (fault_of app words ≡ []) × (rows_of (found_of matches) ≡ matches_of app words)
-IsMatched (Err BadWords) app words = IsRefused (fault_of app words)
-IsMatched (Err Memory) app words = Unit {0}
+abbrev pub AreMatches : Result ArgMatches WordsFault → App → List Text → Type 0
+AreMatches (Ok matches) app words = (fault_of app words ≡ []) × (rows_of (found_of matches) ≡ matches_of app words)
+AreMatches (Err BadWords) app words = HasSomeKind (fault_of app words)
+AreMatches (Err Memory) app words = Unit {0}
 
 -- the fault of words at which `clap` answers with an error of this kind
 abbrev pub fault_by : ErrorKind → WordsFault

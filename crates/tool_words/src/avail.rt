@@ -12,7 +12,7 @@ use papi_base::Text;
 use std::alloc::{AllocError, Global};
 
 /// What the words of `papi_avail` ask for: the name of the unit file, the presets, whether the available presets alone are
-/// asked for, and the name of an event, where one is asked for.
+/// asked for, and the name of an event, if one is asked for.
 #[derive(Drop)]
 pub struct AvailWords {
     pub unit: Text,

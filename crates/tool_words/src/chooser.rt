@@ -26,7 +26,7 @@ pub enum EventKind {
     Preset,
 }
 
-/// What the words of `papi_event_chooser` ask for: the name of the unit file, the presets where they are asked for, which
+/// What the words of `papi_event_chooser` ask for: the name of the unit file, the presets if they are asked for, which
 /// events are listed, and the texts of the events that are given, from 1 to [`MOST_SET_EVENTS`], as many as a set has.
 #[derive(Drop)]
 pub struct ChooserWords {

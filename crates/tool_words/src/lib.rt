@@ -64,7 +64,7 @@ pub fn read_words(alloc: Global, words: &[String]) -> Result<Command, WordsFault
     }
 }
 
-// The tool that the words name, or an empty text where there are no words.
+// The tool that the words name, or an empty text if there are no words.
 fn tool_in(words: &[String]) -> &str
     ensures { result.now ≡ tool_of (map string_bytes words.now) }
 {

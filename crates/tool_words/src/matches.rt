@@ -3,7 +3,7 @@
 ghost use Rattle.std.specs.Prelude.{◌≡◌, IfOk, map, option_map, string_bytes, true};
 ghost use Rattle.clap.specs.Words.{all_of, app_of, first_of, found_of, is_simple_and_free, rows_of, rule_of};
 ghost use Rattle.tool_words.specs.Numbers as Numbers;
-ghost use Rattle.tool_words.specs.Words.{Answers, IsMatched, app_with};
+ghost use Rattle.tool_words.specs.Words.{Answers, AreMatches, app_with};
 
 use crate::fault::{WordsFault, fault_by};
 use crate::texts::Texts;
@@ -39,7 +39,7 @@ pub(crate) fn matches_in<'a>(
     words: &'a [String],
 ) -> Result<ArgMatches<'a>, WordsFault>
     requires { is_simple_and_free (app_of command) ≡ true }
-    ensures { IsMatched result (app_of command.entry) (map string_bytes words.now) }
+    ensures { AreMatches result (app_of command.entry) (map string_bytes words.now) }
 {
     match command.try_get_matches_from(words) {
         Ok(matches) => Ok(matches),
@@ -83,7 +83,7 @@ pub(crate) fn text_needed(
     Ok(Text::copy_of(alloc, text)?)
 }
 
-// A copy of the first value of an argument, where it has one.
+// A copy of the first value of an argument, if it has one.
 pub(crate) fn text_asked(
     alloc: Global,
     matches: &ArgMatches<'_>,

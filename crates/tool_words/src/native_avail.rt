@@ -10,8 +10,8 @@ use clap::{Arg, ArgMatches};
 use papi_base::Text;
 use std::alloc::{AllocError, Global};
 
-/// What the words of `papi_native_avail` ask for: the name of the unit file, the name of an event, where one is asked for,
-/// the texts that the names of the listed events have and do not have, where they are given, and whether umasks are listed.
+/// What the words of `papi_native_avail` ask for: the name of the unit file, the name of an event, if one is asked for,
+/// the texts that the names of the listed events have and do not have, if they are given, and whether umasks are listed.
 #[derive(Drop)]
 pub struct NativeAvailWords {
     pub unit: Text,

@@ -101,7 +101,7 @@ fn presets_of(alloc: Global, file: &str, cpu: &str) -> Result<PresetWords, Words
     })
 }
 
-// The presets that are asked for, where they are.
+// The presets that are asked for, if they are.
 pub(crate) fn presets_asked(
     alloc: Global,
     matches: &ArgMatches<'_>,

@@ -24,7 +24,7 @@ pub const LAST_SET: u32 = MOST_SETS as u32 - 1;
 /// The greatest index of an event whose notes are counted.
 pub const LAST_INDEX: u32 = MOST_SET_EVENTS as u32 - 1;
 
-/// What the words of `papi_profil` ask for: the names of the unit file and of the map, the presets where they are asked for,
+/// What the words of `papi_profil` ask for: the names of the unit file and of the map, the presets if they are asked for,
 /// whose notes are counted (those of a thread, of one of its sets, and of the event of this index in it, each counted from
 /// 0), how many workers, the name of the script, and the names of the streams.
 #[derive(Drop)]

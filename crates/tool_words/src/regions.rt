@@ -42,7 +42,7 @@ impl Model for EventTexts {
 }
 
 impl EventTexts {
-    // A copy of these texts, where each is an event and a set can have as many.
+    // A copy of these texts, if each is an event and a set can have as many.
     fn copy_of(alloc: Global, parts: &[&str]) -> Result<EventTexts, WordsFault>
         requires { 1 ≤ length parts.now }
         ensures { Answers result (events_among (map (λ s. s.now) parts.now)) }
@@ -64,7 +64,7 @@ impl EventTexts {
     }
 }
 
-/// What the words of `papi_regions` ask for: the name of the unit file, the presets where they are asked for, the events that are
+/// What the words of `papi_regions` ask for: the name of the unit file, the presets if they are asked for, the events that are
 /// counted, how many workers, the name of the region script, and the names of the streams.
 #[derive(Drop)]
 pub struct RegionsWords {

@@ -14,7 +14,7 @@ use clap::{Arg, ArgMatches};
 use papi_base::Text;
 use std::alloc::{AllocError, Global};
 
-/// What the words of `papi_run` ask for: the name of the unit file, the presets where they are asked for, how many workers,
+/// What the words of `papi_run` ask for: the name of the unit file, the presets if they are asked for, how many workers,
 /// whether the notes are asked for, the name of the script, and the names of the streams.
 #[derive(Drop)]
 pub struct RunWords {

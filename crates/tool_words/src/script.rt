@@ -13,7 +13,7 @@ use clap::ArgMatches;
 use papi_base::Text;
 use std::alloc::Global;
 
-// The name of the unit file, the presets where they are asked for, how many workers, the name of the script, and the names of
+// The name of the unit file, the presets if they are asked for, how many workers, the name of the script, and the names of
 // the streams.
 #[derive(Drop)]
 pub(crate) struct ScriptWords {

@@ -37,7 +37,7 @@ impl Model for Rounds {
 }
 
 impl Rounds {
-    /// So many rounds, or `None` where that is not from 1 to [`MOST_ROUNDS`].
+    /// So many rounds, or `None` if that is not from 1 to [`MOST_ROUNDS`].
     pub fn new(count: u32) -> Option<Rounds>
         ensures { result ≡ rounds_of count }
     {

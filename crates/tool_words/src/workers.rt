@@ -42,7 +42,7 @@ impl Workers {
         Workers { count: 1 }
     }
 
-    /// So many workers, or `None` where that is not from 1 to [`MOST_WORKERS`].
+    /// So many workers, or `None` if that is not from 1 to [`MOST_WORKERS`].
     pub fn new(count: u32) -> Option<Workers>
         ensures { result ≡ workers_of count }
     {

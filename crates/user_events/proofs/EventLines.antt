@@ -20,7 +20,7 @@ use Rattle.preset_csv.proofs.Fields.{IsGood, IsInk, ink-good, symbols-good, word
 use Rattle.preset_csv.proofs.RowBack.{cpu-line, def-good, def-line, def_row, first-good, good-plain, preset-line, rest-good, rest-line, rest_row}
 use Rattle.preset_csv.proofs.SymbolRows.{all-test}
 use Rattle.preset_csv.proofs.WrittenParts.{rows-append}
-use Rattle.user_events.specs.Events.{EventView, ExtendedView, IsEvent, IsGiven}
+use Rattle.user_events.specs.Events.{EventView, ExtendedView, IsEvent, IsPresent}
 use Rattle.user_events.specs.Lines.{line_of, lines_of}
 use Rattle.user_events.specs.Names.{is_event_byte, is_event_name}
 use Rattle.user_events.specs.Written.{event_rows, extended_text, named_rows}
@@ -88,7 +88,7 @@ row_back s (entry.Def d) = def_row s d.kind d.formula d.natives
 abbrev pub event_row : EventView → Derivation
 event_row e = row_back e.name e.entry
 
-named-lines : (s : Text) (x : Entry) (rows : List (List Text)) (rs : List Derivation) → IsGood s → IsEntry x → IsGiven x → map line_of rows ≡ map (gives event) rs
+named-lines : (s : Text) (x : Entry) (rows : List (List Text)) (rs : List Derivation) → IsGood s → IsEntry x → IsPresent x → map line_of rows ≡ map (gives event) rs
     → map line_of (named_rows s x ++ rows) ≡ gives event (row_back s x) ∷ map (gives event) rs
 named-lines s entry.Missing rows rs g h k e = absurd k
 named-lines s entry.Uncomputed rows rs g h k e = ap₂ (λ (x : Line) (xs : List Line). x ∷ xs) (event-line (s ∷ codes "DERIVED_CMPD" ∷ []) ∙ ap (gives event) (rest-derived s g)) e

@@ -11,16 +11,16 @@ use Rattle.preset_csv.specs.Presets.{read_from}
 use Rattle.preset_csv.specs.Tables.{IsEntry}
 use Rattle.preset_csv.specs.declared.entry.Entry.{Entry}
 use Rattle.preset_csv.specs.declared.entry.Entry.TheVariants as entry
-use Rattle.preset_csv.proofs.Back.{IsTaken, Stands, all-held, both, no-cause, stands-more}
+use Rattle.preset_csv.proofs.Back.{HasEntry, Stands, all-held, both, no-cause, stands-more}
 use Rattle.preset_csv.proofs.OneMore.{read-more}
 use Rattle.preset_csv.proofs.RowBack.{def-judged, rest-judged}
 use Rattle.user_events.specs.Entries.{event_judged, infix_entry}
-use Rattle.user_events.specs.Events.{Distinct, EventView, IsEvent, IsGiven, names_of}
+use Rattle.user_events.specs.Events.{Distinct, EventView, IsEvent, IsPresent, names_of}
 use Rattle.user_events.specs.Names.{is_event_name}
 use Rattle.table_rows.specs.Tables.{first_fault}
 use Rattle.user_events.specs.Rows.{among, event_read, events_of, events_read, line_cause, name_added, named_entry, names_in}
 use Rattle.user_events.specs.Steps.{put_event}
-use Rattle.user_events.specs.declared.event.TheConstants.{MOST_EVENTS}
+use Rattle.user_events.specs.declared.event.TheConstants.{MOST_USER_EVENTS}
 use Rattle.user_events.proofs.EventLines.{event_row, row_back}
 use Rattle.user_events.proofs.MoreRows.{or-parts, put-more, same-order}
 use Rattle.user_events.proofs.Putting.{put-last}
@@ -31,7 +31,7 @@ use Rattle.user_events.proofs.Putting.{put-last}
 abbrev pub IsNamed : Derivation → Type 0
 IsNamed r = (is_event_name r.symbol ≡ true) × ((e : Entry) × (event_judged r ≡ Ok e))
 
-row-judged : (s : Text) (x : Entry) → IsEntry x → IsGiven x → event_judged (row_back s x) ≡ Ok x
+row-judged : (s : Text) (x : Entry) → IsEntry x → IsPresent x → event_judged (row_back s x) ≡ Ok x
 row-judged s entry.Missing h g = absurd g
 row-judged s entry.Uncomputed h g = rest-judged infix_entry s
 row-judged s (entry.Def d) h g = def-judged infix_entry s d h
@@ -55,11 +55,11 @@ events-back name above (r ∷ rs) es s = events-back name (above ++ gives preset
 
 -- ---- they have no cause
 
-not-many : (b : Bool) (n : ℕ) → n < MOST_EVENTS → (b && nat_le MOST_EVENTS n) ≡ false
+not-many : (b : Bool) (n : ℕ) → n < MOST_USER_EVENTS → (b && nat_le MOST_USER_EVENTS n) ≡ false
 not-many true n lt = grind (arith, tests, lt)
 not-many false n lt = refl
 
-named-clear : (names : List Text) (r : Derivation) (e : Entry) → is_event_name r.symbol ≡ true → length names < MOST_EVENTS → event_judged r ≡ Ok e → named_entry names r ≡ Ok e
+named-clear : (names : List Text) (r : Derivation) (e : Entry) → is_event_name r.symbol ≡ true → length names < MOST_USER_EVENTS → event_judged r ≡ Ok e → named_entry names r ≡ Ok e
 named-clear names r e form few j = rw (form, not-many (not (among r.symbol names)) (length names) few, j) refl
 
 one-name : (ns : List Text) (r : Derivation) → length (name_added ns r) ≤ length ns + 1
@@ -83,12 +83,12 @@ event-read name above r s = read-more (event_read name) [] above (gives event r)
 preset-passed : (name : Text) (above : List Line) (r : Derivation) → events_read name (above ++ gives preset r ∷ []) ≡ events_read name above
 preset-passed name above r = read-more (event_read name) [] above (gives preset r) ∙ append-nil (events_read name above)
 
-pub no-fault : (name : Text) (above : List Line) (rs es : List Derivation) → Stands name above → AllByRecursion (IsTaken event_judged) rs → AllByRecursion IsNamed es
-    → length (events_read name above) + length es ≤ MOST_EVENTS → first_fault (line_cause name) above (both rs es) ≡ None
+pub no-fault : (name : Text) (above : List Line) (rs es : List Derivation) → Stands name above → AllByRecursion (HasEntry event_judged) rs → AllByRecursion IsNamed es
+    → length (events_read name above) + length es ≤ MOST_USER_EVENTS → first_fault (line_cause name) above (both rs es) ≡ None
 unfolding first_fault
 no-fault name above [] [] s h k le = refl
 no-fault name above [] (r ∷ es) s h k le =
-    let few : length (names_in (events_read name above)) < MOST_EVENTS = omega (arith, le, names-few (events_read name above)) in
+    let few : length (names_in (events_read name above)) < MOST_USER_EVENTS = omega (arith, le, names-few (events_read name above)) in
     let count : length (events_read name (above ++ gives event r ∷ [])) ≡ length (events_read name above) + 1 = ap length (event-read name above r s) ∙ length-append (events_read name above) (r ∷ []) in
     rw (s.1, all-held name above s, named-clear (names_in (events_read name above)) r k.0.1.0 k.0.0 few k.0.1.1)
     (no-fault name (above ++ gives event r ∷ []) [] es (stands-more name above event r s) tt k.1 (omega (arith, le, count)))

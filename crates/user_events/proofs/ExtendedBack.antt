@@ -1,4 +1,4 @@
--- A written table reads back, also where the cpu's name can stand in no field: then no row is written, and none is read.
+-- A written table reads back, also if the cpu's name can stand in no field: then no row is written, and none is read.
 use Rattle.std.proofs.Common.{◌≡◌, ◌∙◌, ◌+◌, ◌≤◌, ◌∷◌, ◌++◌, Bool, true, false, List, [], length, map, refl, sym, ap, ap₂, arith, None}
 use Rattle.table_rows.specs.Rows.{rows_text}
 use Rattle.table_rows.specs.Tables.{first_fault}
@@ -18,7 +18,7 @@ use Rattle.user_events.specs.Events.{EventView, ExtendedView, IsExtended}
 use Rattle.user_events.specs.Lines.{line_of, lines_of}
 use Rattle.user_events.specs.Rows.{event_read, events_of, events_read, extended_fault, extended_in, line_cause}
 use Rattle.user_events.specs.Written.{ReadsBack, event_rows, extended_text}
-use Rattle.user_events.specs.declared.event.TheConstants.{MOST_EVENTS}
+use Rattle.user_events.specs.declared.event.TheConstants.{MOST_USER_EVENTS}
 use Rattle.user_events.proofs.EventLines.{event_row, plain-cpu, written-lines}
 use Rattle.user_events.proofs.EventsBack.{events-are, events-back, named, no-fault}
 use Rattle.user_events.proofs.Taking.{event-line-kept, no-events}
@@ -49,7 +49,7 @@ good-fault x h e =
     let n = x.presets.cpu in
     let rs = rows_back symbols x.presets.rows in
     let es = map event_row x.events in
-    let few : length (events_read n (cpu n ∷ [])) + length es ≤ MOST_EVENTS = omega (arith, ap length (none-above n), length-map-row x.events, h.few) in
+    let few : length (events_read n (cpu n ∷ [])) + length es ≤ MOST_USER_EVENTS = omega (arith, ap length (none-above n), length-map-row x.events, h.few) in
     ap (first_fault (line_cause n) []) (written-lines x (field-good n e) h.table.each h.each)
     ∙ first-fault n (both rs es) (no-fault n (cpu n ∷ []) rs es (first-stands n) (table-taken event_judged (written-back infix_entry) x.presets.rows h.table.each) (named x.events h.each) few)
 

@@ -4,7 +4,7 @@ use Rattle.std.specs.Prelude.{⊤, ◌==◌, if◌then◌else◌}
 use Rattle.table_rows.specs.Texts.{Text, is_empty, is_printable}
 use Rattle.postfix_rules.specs.Faults.{FormulaView}
 use Rattle.postfix_rules.specs.InfixReading.{infix_of}
-use Rattle.postfix_rules.specs.Reading.{Refused, formula_of}
+use Rattle.postfix_rules.specs.Reading.{RefusedFormula, formula_of}
 use Rattle.preset_csv.specs.Entries.{def_entry, formula_entry, judged_as, judged_by, kept_entry, kept_natives, typed_entry}
 use Rattle.preset_csv.specs.Entries as Presets
 use Rattle.preset_csv.specs.Lines.{Derivation}
@@ -16,17 +16,17 @@ use Rattle.preset_csv.specs.declared.kind.DerivedType.{DerivedType}
 use Rattle.preset_csv.specs.declared.kind.DerivedType.TheVariants as derived
 use Rattle.preset_csv.specs.declared.kind.Kind.TheVariants as kind
 use Rattle.user_events.specs.Entries.{event_judged, has_rate, infix_entry}
-use Rattle.user_events.specs.Events.{IsGiven}
+use Rattle.user_events.specs.Events.{IsPresent}
 
 abbrev pub Gives : Result Entry PresetCause → Type 0
-Gives (Ok e) = IsGiven e
+Gives (Ok e) = IsPresent e
 Gives (Err why) = ⊤
 
 either : (b : Bool) (x y : Result Entry PresetCause) → Gives x → Gives y → Gives (if b then x else y)
 either true x y h k = h
 either false x y h k = k
 
-formula-gives : (natives : List Text) (o : Result FormulaView Refused) → Gives (formula_entry natives o)
+formula-gives : (natives : List Text) (o : Result FormulaView RefusedFormula) → Gives (formula_entry natives o)
 formula-gives natives (Ok f) = tt
 formula-gives natives (Err refused) = tt
 

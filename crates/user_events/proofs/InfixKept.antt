@@ -8,15 +8,15 @@ use Rattle.postfix_rules.specs.declared.fault.FormulaCause.TheVariants as cause
 use Rattle.postfix_rules.specs.Faults.{FormulaView, IsFormula, fault_from}
 use Rattle.postfix_rules.specs.InfixReading.{OrderView, ended_tokens, infix_end, infix_ended, infix_of, moved_by, order_begun, order_cause, refused_at}
 use Rattle.postfix_rules.specs.InfixTokens.{InfixPart, infix_parts}
-use Rattle.postfix_rules.specs.Reading.{Refused}
-use Rattle.preset_csv.specs.Defs.{Agrees}
+use Rattle.postfix_rules.specs.Reading.{RefusedFormula}
+use Rattle.preset_csv.specs.Defs.{FitsKind}
 use Rattle.preset_csv.specs.Entries.{formula_entry}
 use Rattle.preset_csv.specs.declared.entry.Entry.TheVariants as entry
 use Rattle.preset_csv.specs.declared.kind.Kind.TheVariants as kind
 use Rattle.preset_csv.proofs.Judged.{InfixKept, Keeps, Ready, def-kept}
 use Rattle.user_events.specs.Entries.{has_rate, infix_entry}
 
-abbrev IsOne : ℕ → Result FormulaView Refused → Type 0
+abbrev IsOne : ℕ → Result FormulaView RefusedFormula → Type 0
 IsOne natives (Ok f) = (f.natives ≡ natives) × IsFormula natives f.tokens
 IsOne natives (Err r) = ⊤
 
@@ -41,7 +41,7 @@ all-one natives place order (part ∷ rest) = go (order_cause natives order part
     go None h = h
     go (Some why) h = tt
 
-pub infix-agrees : (natives : List Text) (text : Text) (f : FormulaView) → infix_of (length natives) text ≡ Ok f → Agrees kind.Postfix (Some f) natives
+pub infix-agrees : (natives : List Text) (text : Text) (f : FormulaView) → infix_of (length natives) text ≡ Ok f → FitsKind kind.Postfix (Some f) natives
 unfolding infix_of
 infix-agrees natives text f e =
     let one = subst (IsOne (length natives)) e (all-one (length natives) 0 order_begun (infix_parts text)) in
@@ -50,7 +50,7 @@ infix-agrees natives text f e =
 formula-kept : (natives : List Text) (text : Text) → Ready natives → Keeps (formula_entry natives (infix_of (length natives) text))
 formula-kept natives text ready = go (infix_of (length natives) text) refl
   where
-    go : (o : Result FormulaView Refused) → infix_of (length natives) text ≡ o → Keeps (formula_entry natives o)
+    go : (o : Result FormulaView RefusedFormula) → infix_of (length natives) text ≡ o → Keeps (formula_entry natives o)
     go (Ok f) e = def-kept natives kind.Postfix (Some f) ready (infix-agrees natives text f e)
     go (Err refused) e = tt
 

@@ -8,7 +8,7 @@ use Rattle.std.proofs.lemmas.List.{length-map}
 use Rattle.table_rows.specs.Rows.{IsReadRow}
 use Rattle.table_rows.specs.Tables.{TakesRow}
 use Rattle.table_rows.specs.Texts.{Text, text_at}
-use Rattle.table_rows.specs.declared.fault.Refusal.{Refusal}
+use Rattle.table_rows.specs.declared.fault.RowRefusal.{RowRefusal}
 use Rattle.table_rows.proofs.TablesRead.{takes-as}
 use Rattle.preset_csv.specs.Lines as Presets
 use Rattle.preset_csv.specs.Lines.{Derivation, Line, cpu, derivation_of, event, gives, other, preset}
@@ -24,14 +24,14 @@ use Rattle.preset_csv.proofs.Judged.{Keeps, judged-kept}
 use Rattle.preset_csv.proofs.TableKept.{IsKept as IsRowKept, IsLine, derivation-kept, line-kept, lines-plain, none-read, presets-kept}
 use Rattle.preset_csv.proofs.RowsTaken as PresetRows
 use Rattle.user_events.specs.Entries.{event_judged, infix_entry}
-use Rattle.user_events.specs.Events.{Distinct, EventView, IsEvent, IsExtended, IsGiven, names_of}
+use Rattle.user_events.specs.Events.{Distinct, EventView, IsEvent, IsExtended, IsPresent, names_of}
 use Rattle.user_events.specs.Lines.{line_of, lines_of}
 use Rattle.user_events.specs.Names.{is_event_name}
-use Rattle.user_events.specs.Reading.{IsKept, IsTaken}
+use Rattle.user_events.specs.Reading.{GivePresetsAndEvents, IsKept}
 use Rattle.user_events.specs.Rows.{among, event_read, events_of, events_read, extended_in}
 use Rattle.user_events.specs.Rows.{is_too_many, line_cause, named_entry, names_in}
 use Rattle.user_events.specs.Steps.{IsMore, Taking, cause_more, events_more, events_with, put_event, put_judged}
-use Rattle.user_events.specs.declared.event.TheConstants.{MOST_EVENTS}
+use Rattle.user_events.specs.declared.event.TheConstants.{MOST_USER_EVENTS}
 use Rattle.user_events.proofs.Giving.{Gives, event-gives}
 use Rattle.user_events.proofs.InfixKept.{infix-kept}
 use Rattle.user_events.proofs.MoreRows.{events-more, events_more_cause, named-ok, names-are, names-distinct, no-cause}
@@ -48,7 +48,7 @@ event-line-kept fields h = go (str_eq_ignore_ascii_case (text_at fields 0) (code
 
 -- ---- what is kept
 
-all-put : (xs : List EventView) (name : Text) (e : Entry) → AllByRecursion IsEvent xs → is_event_name name ≡ true → IsEntry e × IsGiven e → AllByRecursion IsEvent (put_event xs name e)
+all-put : (xs : List EventView) (name : Text) (e : Entry) → AllByRecursion IsEvent xs → is_event_name name ≡ true → IsEntry e × IsPresent e → AllByRecursion IsEvent (put_event xs name e)
 all-put [] name e h n k = ((n, k.0, k.1), tt)
 all-put (x ∷ xs) name e h n k = go (bytes_eq name x.name) (all-put xs name e h.1 n k)
   where
@@ -73,14 +73,14 @@ put-longer (x ∷ xs) name e = go (bytes_eq name x.name) (put-longer xs name e)
     go true r = omega arith
     go false r = omega arith
 
-put-few : (xs : List EventView) (name : Text) (e : Entry) → length xs ≤ MOST_EVENTS → is_too_many (names_of xs) name ≡ false → length (put_event xs name e) ≤ MOST_EVENTS
-put-few xs name e le m = go (among name (names_of xs)) (nat_le MOST_EVENTS (length (names_of xs))) refl refl m
+put-few : (xs : List EventView) (name : Text) (e : Entry) → length xs ≤ MOST_USER_EVENTS → is_too_many (names_of xs) name ≡ false → length (put_event xs name e) ≤ MOST_USER_EVENTS
+put-few xs name e le m = go (among name (names_of xs)) (nat_le MOST_USER_EVENTS (length (names_of xs))) refl refl m
   where
-    go : (b c : Bool) → among name (names_of xs) ≡ b → nat_le MOST_EVENTS (length (names_of xs)) ≡ c → (not b && c) ≡ false → length (put_event xs name e) ≤ MOST_EVENTS
+    go : (b c : Bool) → among name (names_of xs) ≡ b → nat_le MOST_USER_EVENTS (length (names_of xs)) ≡ c → (not b && c) ≡ false → length (put_event xs name e) ≤ MOST_USER_EVENTS
     go true c p q h = omega (arith, put-known xs name e p)
     go false true p q h = cc h
     go false false p q h =
-        let lt : length (names_of xs) < MOST_EVENTS = grind (arith, tests, q) in
+        let lt : length (names_of xs) < MOST_USER_EVENTS = grind (arith, tests, q) in
         omega (arith, lt, put-longer xs name e, length-map xs (λ (x : EventView). x.name))
 
 event-put : (b : Bool) (xs : List EventView) (r : Derivation) → IsRowKept r → IsKept xs → cause_if b (named_entry (names_of xs) r) ≡ None → IsKept (events_with b xs r)
@@ -88,7 +88,7 @@ event-put false xs r k h e = h
 event-put true xs r k h e =
     let x = no-cause (named_entry (names_of xs) r) e in
     let n = named-ok (names_of xs) r x.0 x.1 in
-    let kept : IsEntry x.0 × IsGiven x.0 = (subst Keeps n.entry (judged-kept infix_entry infix-kept r k), subst Gives n.entry (event-gives r)) in
+    let kept : IsEntry x.0 × IsPresent x.0 = (subst Keeps n.entry (judged-kept infix_entry infix-kept r k), subst Gives n.entry (event-gives r)) in
     subst IsKept (sym (ap (put_judged xs r.symbol) x.1)) (record { few = put-few xs r.symbol x.0 h.few n.few; each = all-put xs r.symbol x.0 h.each n.form kept })
 
 begun-cause : (b : Bool) (o : Option PresetCause) → (if not b then Some cause.NoCpu else o) ≡ None → o ≡ None
@@ -116,7 +116,7 @@ read-cause name above (cpu n) e = tt
 read-cause name above (gives preset r) e = tt
 read-cause name above (gives event r) e = begun-cause (has_cpu above) (cause_if (holds name above) (named_entry (names_in (events_read name above)) r)) e
 
-pub none-taken : (name : Text) (s : Taking) → s.group ≡ record { begun = false; closed = false; holds = false } → s.entries ≡ replicate 26 entry.Missing → s.events ≡ [] → IsTaken name [] s
+pub none-taken : (name : Text) (s : Taking) → s.group ≡ record { begun = false; closed = false; holds = false } → s.entries ≡ replicate 26 entry.Missing → s.events ≡ [] → GivePresetsAndEvents name [] s
 unfolding read_from names_in
 none-taken name s g es none = record {
   presets = PresetRows.none-taken event_judged name s.group s.entries g es;
@@ -124,8 +124,8 @@ none-taken name s g es none = record {
   kept = subst IsKept (sym none) (record { few = omega arith; each = tt });
 }
 
-more-taken : (name : Text) (above : List Line) (line : Line) (old new : Taking) → IsLine line → IsTaken name above old → cause_more old.group old.events line ≡ None → IsMore name line old new
-    → IsTaken name (above ++ line ∷ []) new
+more-taken : (name : Text) (above : List Line) (line : Line) (old new : Taking) → IsLine line → GivePresetsAndEvents name above old → cause_more old.group old.events line ≡ None → IsMore name line old new
+    → GivePresetsAndEvents name (above ++ line ∷ []) new
 more-taken name above line old new l t none m =
     let here : line_cause name above line ≡ None = cause-same name above line ∙ rw (← t.presets.group, ← t.events) none in
     record {
@@ -135,16 +135,16 @@ more-taken name above line old new l t none m =
       kept = subst IsKept (sym m.1) (kept-more old.group old.events line l none t.kept);
     }
 
-pub row-taken : (name : Text) (above : List Line) (line : Line) (old new : Taking) (result : Result Unit (Refusal PresetCause)) → IsLine line → IsTaken name above old
-    → TakesRow (cause_more old.group old.events line) (IsMore name line old new) result → TakesRow (line_cause name above line) (IsTaken name (above ++ line ∷ []) new) result
+pub row-taken : (name : Text) (above : List Line) (line : Line) (old new : Taking) (result : Result Unit (RowRefusal PresetCause)) → IsLine line → GivePresetsAndEvents name above old
+    → TakesRow (cause_more old.group old.events line) (IsMore name line old new) result → TakesRow (line_cause name above line) (GivePresetsAndEvents name (above ++ line ∷ []) new) result
 row-taken name above line old new result l t takes =
-    takes-as (cause_more old.group old.events line) (line_cause name above line) (IsMore name line old new) (IsTaken name (above ++ line ∷ []) new) result
+    takes-as (cause_more old.group old.events line) (line_cause name above line) (IsMore name line old new) (GivePresetsAndEvents name (above ++ line ∷ []) new) result
     (ap (λ (g : Group). cause_more g old.events line) t.presets.group ∙ ap (λ (es : List EventView). cause_more (group_at name above) es line) t.events ∙ sym (cause-same name above line))
     (λ none m. more-taken name above line old new l t none m) takes
 
 -- ---- the table
 
--- an EVENT row is read only where the group above it holds the cpu
+-- an EVENT row is read only if the group above it holds the cpu
 pub no-events : (name : Text) (lines : List Line) → is_field name ≡ false → AllByRecursion IsLine lines → events_of (events_read name lines) ≡ []
 unfolding names_in
 no-events name lines e h = ap events_of (none-read (event_read name) name unheld [] lines e tt h)
@@ -155,7 +155,7 @@ no-events name lines e h = ap events_of (none-read (event_read name) name unheld
     unheld above (gives preset r) h = refl
     unheld above (gives event r) h = rw h refl
 
-pub extended-kept : (name : Text) (bytes : List ℕ) (s : Taking) → IsTaken name (lines_of bytes) s → IsExtended (record { presets = record { cpu = name; rows = s.entries }; events = s.events })
+pub extended-kept : (name : Text) (bytes : List ℕ) (s : Taking) → GivePresetsAndEvents name (lines_of bytes) s → IsExtended (record { presets = record { cpu = name; rows = s.entries }; events = s.events })
 extended-kept name bytes s t =
     let rows = events_read name (lines_of bytes) in
     let lines = lines-plain line_of event-line-kept bytes in record {
@@ -166,7 +166,7 @@ extended-kept name bytes s t =
       named = λ f. t.events ∙ no-events name (lines_of bytes) f lines;
     }
 
-pub extended-is : (name : Text) (bytes : List ℕ) (s : Taking) → IsTaken name (lines_of bytes) s → record { presets = record { cpu = name; rows = s.entries }; events = s.events } ≡ extended_in name bytes
+pub extended-is : (name : Text) (bytes : List ℕ) (s : Taking) → GivePresetsAndEvents name (lines_of bytes) s → record { presets = record { cpu = name; rows = s.entries }; events = s.events } ≡ extended_in name bytes
 unfolding extended_in
 extended-is name bytes s t =
     ap (λ (es : List Entry). record { presets = record { cpu = name; rows = es }; events = s.events }) t.presets.entries_are

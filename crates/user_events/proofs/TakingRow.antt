@@ -11,8 +11,8 @@ use Rattle.preset_csv.specs.Steps.{Judges}
 use Rattle.preset_csv.specs.declared.entry.Entry.{Entry}
 use Rattle.preset_csv.specs.declared.fault.PresetCause.{PresetCause}
 use Rattle.preset_csv.specs.declared.fault.PresetCause.TheVariants as cause
-use Rattle.table_rows.specs.declared.fault.Refusal.{Refusal}
-use Rattle.table_rows.specs.declared.fault.Refusal.TheVariants as refusal
+use Rattle.table_rows.specs.declared.fault.RowRefusal.{RowRefusal}
+use Rattle.table_rows.specs.declared.fault.RowRefusal.TheVariants as refusal
 use Rattle.preset_csv.proofs.NativesKept.{symbol-there}
 use Rattle.user_events.specs.Entries.{event_judged}
 use Rattle.user_events.specs.Events.{EventView, event_view, names_of}
@@ -20,7 +20,7 @@ use Rattle.user_events.specs.Names.{is_event_byte, is_event_name}
 use Rattle.user_events.specs.Rows.{is_too_many, limited, named_entry}
 use Rattle.preset_csv.specs.Presets.{cause_if}
 use Rattle.user_events.specs.Steps.{IsOverLimit, event_cause, events_with, put_event, put_judged}
-use Rattle.user_events.specs.declared.event.TheConstants.{MOST_EVENTS}
+use Rattle.user_events.specs.declared.event.TheConstants.{MOST_USER_EVENTS}
 use Rattle.user_events.specs.declared.event.UserEvent.{UserEvent}
 use Rattle.user_events.proofs.Putting.{is-among, is_named, not-among}
 
@@ -42,7 +42,7 @@ name-printable t h =
     all-printable t c.0
 
 pub too-many : (events : List UserEvent) (name : Text) (o : Option ℕ) (b : Bool) → o ≡ position (is_named name) (map event_view events) → is_some o ≡ not b
-    → (b && nat_le MOST_EVENTS (length events)) ≡ is_too_many (names_of (map event_view events)) name
+    → (b && nat_le MOST_USER_EVENTS (length events)) ≡ is_too_many (names_of (map event_view events)) name
 too-many events name None true e h = rw (not-among (map event_view events) name (sym e), length-map (map event_view events) (λ (x : EventView). x.name), length-map events event_view) refl
 too-many events name None false e h = cc h
 too-many events name (Some p) true e h = cc h
@@ -65,11 +65,11 @@ judged-by fields names b e m =
     rw (s, t) refl
 
 -- the refusal of one name too many
-abbrev Refuses : Result Entry PresetCause → Refusal PresetCause → Type 0
+abbrev Refuses : Result Entry PresetCause → RowRefusal PresetCause → Type 0
 Refuses j (refusal.Cause why) = j ≡ Err why
 Refuses j refusal.Memory = Unit {0}
 
-over : (j : Result Entry PresetCause) (judged : Result Entry (Refusal PresetCause)) (refused : Refusal PresetCause) → Judges j judged → IsOverLimit judged refused → Refuses (limited true j) refused
+over : (j : Result Entry PresetCause) (judged : Result Entry (RowRefusal PresetCause)) (refused : RowRefusal PresetCause) → Judges j judged → IsOverLimit judged refused → Refuses (limited true j) refused
 over j (Ok e) refused h o = subst (Refuses (limited true j)) (sym o) (ap (limited true) h)
 over j (Err (refusal.Cause cause.NoCpu)) refused h o = subst (Refuses (limited true j)) (sym o) (ap (limited true) h)
 over j (Err (refusal.Cause cause.BadField)) refused h o = subst (Refuses (limited true j)) (sym o) (ap (limited true) h)
@@ -77,20 +77,20 @@ over j (Err (refusal.Cause cause.OverLimit)) refused h o = subst (Refuses (limit
 over j (Err (refusal.Cause (cause.BadFormula why))) refused h o = subst (Refuses (limited true j)) (sym o) (ap (limited true) h)
 over j (Err refusal.Memory) refused h o = subst (Refuses (limited true j)) (sym o) tt
 
-refuses : (holds : Bool) (j : Result Entry PresetCause) (refused : Refusal PresetCause) (fields : List Text) (old : List EventView) → holds ≡ true
+refuses : (holds : Bool) (j : Result Entry PresetCause) (refused : RowRefusal PresetCause) (fields : List Text) (old : List EventView) → holds ≡ true
     → named_entry (names_of old) (derivation_of fields) ≡ j → Refuses j refused
     → RefusesRow (event_cause holds old (derivation_of fields)) refused
 refuses true j (refusal.Cause why) fields old h is r = rw (is, r) refl
 refuses true j refusal.Memory fields old h is r = tt
 refuses false j refused fields old h is r = cc h
 
-pub over-taken : (fields : List Text) (holds : Bool) (old : List EventView) (judged : Result Entry (Refusal PresetCause)) (refused : Refusal PresetCause) → holds ≡ true
+pub over-taken : (fields : List Text) (holds : Bool) (old : List EventView) (judged : Result Entry (RowRefusal PresetCause)) (refused : RowRefusal PresetCause) → holds ≡ true
     → is_event_name (text_at fields 1) ≡ true → is_too_many (names_of old) (text_at fields 1) ≡ true
     → Judges (event_judged (derivation_of fields)) judged → IsOverLimit judged refused → RefusesRow (event_cause holds old (derivation_of fields)) refused
 over-taken fields holds old judged refused h e m j o =
     refuses holds (limited true (event_judged (derivation_of fields))) refused fields old h (judged-by fields (names_of old) true e m) (over (event_judged (derivation_of fields)) judged refused j o)
 
-pub event-refused : (fields : List Text) (holds : Bool) (old : List EventView) (refused : Refusal PresetCause) → holds ≡ true
+pub event-refused : (fields : List Text) (holds : Bool) (old : List EventView) (refused : RowRefusal PresetCause) → holds ≡ true
     → is_event_name (text_at fields 1) ≡ true → is_too_many (names_of old) (text_at fields 1) ≡ false
     → Judges (event_judged (derivation_of fields)) (Err refused) → RefusesRow (event_cause holds old (derivation_of fields)) refused
 event-refused fields holds old (refusal.Cause why) h e m j = refuses holds (event_judged (derivation_of fields)) (refusal.Cause why) fields old h (judged-by fields (names_of old) false e m) j

@@ -1,4 +1,4 @@
--- The entry that a row gives, where formulas may be in infix order: papi_events.csv.
+-- The entry that a row gives, if formulas may be in infix order: papi_events.csv.
 use Rattle.std.specs.Prelude.{◌==◌, Bool, List, length, Result, Ok, if◌then◌else◌}
 use Rattle.std.specs.List.{list_any}
 use Rattle.table_rows.specs.Texts.{Text}
@@ -17,6 +17,6 @@ has_rate formula = list_any (λ b. b == 35) formula
 abbrev pub infix_entry : Text → List Text → Result Entry PresetCause
 infix_entry formula natives = if has_rate formula then Ok entry.Uncomputed else formula_entry natives (infix_of (length natives) formula)
 
--- the entry of a row, or its first cause: as in a file of presets alone, but where the formula is in infix order
+-- the entry of a row, or its first cause: as in a file of presets alone, but if the formula is in infix order
 abbrev pub event_judged : Derivation → Result Entry PresetCause
 event_judged = judged_by infix_entry

@@ -7,7 +7,7 @@ use Rattle.preset_csv.specs.Tables.{IsEntry, IsTable, TableView, is_field}
 use Rattle.preset_csv.specs.declared.entry.Entry.{Entry}
 use Rattle.preset_csv.specs.declared.entry.Entry.TheVariants as entry
 use Rattle.user_events.specs.Names.{is_event_name}
-use Rattle.user_events.specs.declared.event.TheConstants.{MOST_EVENTS}
+use Rattle.user_events.specs.declared.event.TheConstants.{MOST_USER_EVENTS}
 use Rattle.user_events.specs.declared.event.UserEvent.{UserEvent}
 
 -- a user event: its name, and what it is computed of
@@ -25,14 +25,14 @@ pub record ExtendedView : Type 0 where
   pub events : List EventView
 
 -- an entry that a row gives; none gives a missing one
-abbrev pub IsGiven : Entry → Type 0
-IsGiven entry.Missing = ⊥
-IsGiven entry.Uncomputed = ⊤
-IsGiven (entry.Def d) = ⊤
+abbrev pub IsPresent : Entry → Type 0
+IsPresent entry.Missing = ⊥
+IsPresent entry.Uncomputed = ⊤
+IsPresent (entry.Def d) = ⊤
 
 -- what each event of a table keeps
 abbrev pub IsEvent : EventView → Type 0
-IsEvent e = (is_event_name e.name ≡ true) × IsEntry e.entry × IsGiven e.entry
+IsEvent e = (is_event_name e.name ≡ true) × IsEntry e.entry × IsPresent e.entry
 
 -- the names of some events
 abbrev pub names_of : List EventView → List Text
@@ -43,11 +43,11 @@ abbrev pub Distinct : List Text → Type 0
 Distinct [] = ⊤
 Distinct (t ∷ rest) = AllByRecursion (λ u. bytes_eq t u ≡ false) rest × Distinct rest
 
--- At most so many user events, none of them missing, of names that have their form and differ pairwise. None is read for a cpu whose name can
+-- At most MOST_USER_EVENTS user events, none of them missing, of names that have their form and differ pairwise. None is read for a cpu whose name can
 -- stand in no field.
 pub record IsExtended (x : ExtendedView) : Type 0 where
   pub table : IsTable x.presets
-  pub few : length x.events ≤ MOST_EVENTS
+  pub few : length x.events ≤ MOST_USER_EVENTS
   pub each : AllByRecursion IsEvent x.events
   pub distinct : Distinct (names_of x.events)
   pub named : is_field x.presets.cpu ≡ false → x.events ≡ []

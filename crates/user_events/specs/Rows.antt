@@ -16,7 +16,7 @@ use Rattle.user_events.specs.Entries.{event_judged}
 use Rattle.user_events.specs.Events.{EventView, ExtendedView}
 use Rattle.user_events.specs.Lines.{lines_of}
 use Rattle.user_events.specs.Names.{is_event_name}
-use Rattle.user_events.specs.declared.event.TheConstants.{MOST_EVENTS}
+use Rattle.user_events.specs.declared.event.TheConstants.{MOST_USER_EVENTS}
 use Rattle.user_events.specs.declared.extended.Extended.{Extended}
 
 -- ---- the rows that are read
@@ -67,7 +67,7 @@ limited true (Err (cause.BadFormula why)) = Err cause.OverLimit
 
 -- the name is new, and there are as many as there may be
 abbrev pub is_too_many : List Text → Text → Bool
-is_too_many names name = not (among name names) && nat_le MOST_EVENTS (length names)
+is_too_many names name = not (among name names) && nat_le MOST_USER_EVENTS (length names)
 
 -- the entry of an EVENT row below others with these names, or its first cause
 abbrev pub named_entry : List Text → Derivation → Result Entry PresetCause
@@ -93,6 +93,6 @@ unfoldable pub extended_in : Text → List ℕ → ExtendedView
 extended_in name bytes =
     record { presets = record { cpu = name; rows = presets event_judged name (lines_of bytes) }; events = events_of (events_read name (lines_of bytes)) }
 
--- these where no row is faulty, or the first fault, or out of memory
+-- these if no row is faulty, or the first fault, or out of memory
 abbrev pub ReadsExtended : Result Extended (RowFault PresetCause) → List ℕ → Text → Type 0
 ReadsExtended result bytes name = ReadsTable (extended_fault name bytes) (λ x. x ≡ extended_in name bytes) result

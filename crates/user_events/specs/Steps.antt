@@ -9,8 +9,8 @@ use Rattle.preset_csv.specs.declared.entry.Entry.{Entry}
 use Rattle.preset_csv.specs.declared.fault.PresetCause.{PresetCause}
 use Rattle.preset_csv.specs.declared.fault.PresetCause.TheVariants as cause
 use Rattle.preset_csv.specs.declared.group.Group.{Group}
-use Rattle.table_rows.specs.declared.fault.Refusal.{Refusal}
-use Rattle.table_rows.specs.declared.fault.Refusal.TheVariants as refusal
+use Rattle.table_rows.specs.declared.fault.RowRefusal.{RowRefusal}
+use Rattle.table_rows.specs.declared.fault.RowRefusal.TheVariants as refusal
 use Rattle.user_events.specs.Entries.{event_judged}
 use Rattle.user_events.specs.Events.{EventView, names_of}
 use Rattle.user_events.specs.Rows.{named_entry}
@@ -25,7 +25,7 @@ abbrev pub put_judged : List EventView → Text → Result Entry PresetCause →
 put_judged events name (Ok e) = put_event events name e
 put_judged events name (Err why) = events
 
--- the events with what an EVENT row gives, where its group holds the cpu
+-- the events with what an EVENT row gives, if its group holds the cpu
 abbrev pub events_with : Bool → List EventView → Derivation → List EventView
 events_with held events r = if held then put_judged events r.symbol (named_entry (names_of events) r) else events
 
@@ -59,7 +59,7 @@ IsMore name line old new =
     Presets.IsMore event_judged name line old.group old.entries new.group new.entries × (new.events ≡ events_more old.group old.events line)
 
 -- the refusal of a row that adds one name too many, whatever it is judged
-abbrev pub IsOverLimit : Result Entry (Refusal PresetCause) → Refusal PresetCause → Type 0
+abbrev pub IsOverLimit : Result Entry (RowRefusal PresetCause) → RowRefusal PresetCause → Type 0
 IsOverLimit (Ok e) refused = refused ≡ refusal.Cause cause.OverLimit
 IsOverLimit (Err (refusal.Cause cause.NoCpu)) refused = refused ≡ refusal.Cause cause.NoCpu
 IsOverLimit (Err (refusal.Cause cause.BadField)) refused = refused ≡ refusal.Cause cause.BadField

@@ -11,7 +11,7 @@ use preset_csv::Entry;
 use std::alloc::{AllocError, Global};
 
 /// How many user events a cpu has at most.
-pub const MOST_EVENTS: usize = 256;
+pub const MOST_USER_EVENTS: usize = 256;
 
 /// How many characters the name of a user event has at most.
 pub const LONGEST_EVENT_NAME: usize = 32;
@@ -54,7 +54,7 @@ pub fn is_event_name(name: &[u8]) -> bool
         && !begins_as_preset(name)
 }
 
-/// The place of the event of this name, and `None` where there is none.
+/// The place of the event of this name, and `None` if there is none.
 pub fn place_of(events: &[UserEvent], name: &str) -> Option<usize>
     ensures { result ≡ position (λ e. bytes_eq name.now e.name) (map event_view events.now) }
 {

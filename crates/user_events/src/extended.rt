@@ -4,7 +4,7 @@ use crate::event::UserEvent;
 use preset_csv::PresetTable;
 use std::marker::Model;
 
-/// The presets for a cpu, and its user events in the order of their ranks: at most [`MOST_EVENTS`](crate::MOST_EVENTS),
+/// The presets for a cpu, and its user events in the order of their ranks: at most [`MOST_USER_EVENTS`](crate::MOST_USER_EVENTS),
 /// of names of 1 to 32 letters, digits and `_` that do not begin with `PAPI_`, and that differ pairwise.
 #[derive(Drop)]
 pub struct Extended {

@@ -6,7 +6,7 @@ ghost use Rattle.user_events.specs.Entries as Entries;
 use postfix_rules::read_infix;
 use preset_csv::{Def, Entry, Kind, PresetCause, RowJudge, formula_refusal};
 use std::alloc::Global;
-use table_rows::Refusal;
+use table_rows::RowRefusal;
 
 // Whether a formula has a `#`.
 fn has_rate(formula: &[u8]) -> bool
@@ -25,7 +25,7 @@ impl RowJudge for EventJudge {
         alloc: Global,
         formula: &str,
         natives: Vec<String>,
-    ) -> Result<Entry, Refusal<PresetCause>> {
+    ) -> Result<Entry, RowRefusal<PresetCause>> {
         if has_rate(formula.as_bytes()) {
             return Ok(Entry::Uncomputed);
         }

@@ -9,7 +9,7 @@ pub mod laws;
 mod reading;
 mod writing;
 
-pub use crate::event::{LONGEST_EVENT_NAME, MOST_EVENTS, UserEvent};
+pub use crate::event::{LONGEST_EVENT_NAME, MOST_USER_EVENTS, UserEvent};
 pub use crate::extended::Extended;
 pub use crate::reading::read_extended;
 pub use crate::writing::write_extended;

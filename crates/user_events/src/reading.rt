@@ -9,12 +9,12 @@ ghost use Rattle.preset_csv.specs.Lines.{Line, derivation_of, row_line};
 ghost use Rattle.preset_csv.specs.Steps.{IsPlainRow};
 ghost use Rattle.user_events.specs.Events.{event_view, names_of};
 ghost use Rattle.user_events.specs.Lines.{line_of};
-ghost use Rattle.user_events.specs.Reading.{IsTaken, taking};
+ghost use Rattle.user_events.specs.Reading.{GivePresetsAndEvents, taking};
 ghost use Rattle.user_events.specs.Rows as Rows;
 ghost use Rattle.user_events.specs.Rows.{ReadsExtended};
 ghost use Rattle.user_events.specs.Steps.{IsMore, IsOverLimit, cause_more, event_cause, events_with};
 
-use crate::event::{MOST_EVENTS, UserEvent, is_event_name, place_of, put_event};
+use crate::event::{MOST_USER_EVENTS, UserEvent, is_event_name, place_of, put_event};
 use crate::extended::Extended;
 use crate::judging::EventJudge;
 use preset_csv::{
@@ -22,7 +22,7 @@ use preset_csv::{
     take_line,
 };
 use std::alloc::{AllocError, Global};
-use table_rows::{ByteRecord, Refusal, TableKind, printable_text, read_table, text_at};
+use table_rows::{ByteRecord, RowRefusal, TableKind, printable_text, read_table, text_at};
 
 /// What a record is, by its first field, without regard to ASCII case.
 #[tactic(auto, unfolding(crate::specs::Lines::line_of))]
@@ -41,27 +41,29 @@ fn event_row_of(row: &ByteRecord) -> Row<'_>
 fn is_too_many(events: &[UserEvent], name: &str) -> bool
     ensures { result ≡ Rows.is_too_many (names_of (map event_view events.now)) name.now }
 {
-    place_of(events, name).is_none() && events.len() >= MOST_EVENTS
+    place_of(events, name).is_none() && events.len() >= MOST_USER_EVENTS
 }
 
 // The refusal of a row that would add one name too many.
-fn over_limit(judged: Result<Entry, Refusal<PresetCause>>) -> Refusal<PresetCause>
+fn over_limit(judged: Result<Entry, RowRefusal<PresetCause>>) -> RowRefusal<PresetCause>
     ensures { IsOverLimit judged result }
 {
     match judged {
-        Ok(_) => Refusal::Cause(PresetCause::OverLimit),
-        Err(Refusal::Cause(PresetCause::BadFormula(_))) => Refusal::Cause(PresetCause::OverLimit),
+        Ok(_) => RowRefusal::Cause(PresetCause::OverLimit),
+        Err(RowRefusal::Cause(PresetCause::BadFormula(_))) => RowRefusal::Cause(
+            PresetCause::OverLimit,
+        ),
         Err(refusal) => refusal,
     }
 }
 
-// Takes what an EVENT row derives, where its group holds the asked cpu.
+// Takes what an EVENT row derives, if its group holds the asked cpu.
 fn take_event(
     alloc: Global,
     row: &ByteRecord,
     holds: bool,
     events: &mut Vec<UserEvent>,
-) -> Result<(), Refusal<PresetCause>>
+) -> Result<(), RowRefusal<PresetCause>>
     requires plain { IsReadRow (fields_of row.now) }
     ensures { TakesRow (event_cause holds (map event_view events.old.items)
         (derivation_of (fields_of row.now)))
@@ -74,10 +76,10 @@ fn take_event(
     }
     let name = text_at(row, 1);
     if !is_event_name(name) {
-        return Err(Refusal::Cause(PresetCause::BadField));
+        return Err(RowRefusal::Cause(PresetCause::BadField));
     }
     let Some(name) = printable_text(name) else {
-        return Err(Refusal::Cause(PresetCause::BadField));
+        return Err(RowRefusal::Cause(PresetCause::BadField));
     };
     let judged = judge::<EventJudge>(alloc, row);
     if is_too_many(events.as_slice(), name) {
@@ -100,7 +102,7 @@ fn take_any_line(
     cpu: &str,
     row: Row<'_>,
     taken: &mut WithEvents,
-) -> Result<(), Refusal<PresetCause>>
+) -> Result<(), RowRefusal<PresetCause>>
     requires plain { IsPlainRow row }
     requires all { length taken.old.presets.entries.items ≡ PRESETS }
     ensures { TakesRow (cause_more taken.old.presets.group (map event_view taken.old.events.items)
@@ -131,7 +133,7 @@ impl<'c> TableKind for EventRows<'c> {
 
     ghost cause = { λ p above line. Rows.line_cause p.cpu.now above line };
 
-    ghost gives = { λ p lines taken. IsTaken p.cpu.now lines (taking taken) };
+    ghost gives = { λ p lines taken. GivePresetsAndEvents p.cpu.now lines (taking taken) };
 
     fn no_rows(&self, alloc: Global) -> Result<WithEvents, AllocError> {
         Ok(WithEvents {
@@ -148,7 +150,7 @@ impl<'c> TableKind for EventRows<'c> {
         alloc: Global,
         taken: &mut WithEvents,
         row: &ByteRecord,
-    ) -> Result<(), Refusal<PresetCause>> {
+    ) -> Result<(), RowRefusal<PresetCause>> {
         take_any_line(alloc, self.cpu, event_row_of(row), taken)
     }
 }

@@ -8,7 +8,7 @@ use std::alloc::{AllocError, Global};
 use std::marker::{Send, Sync};
 use std::thread::Threads;
 
-/// One run of a row: its words, its number k, and its number of workers, where it gives one.
+/// One run of a row: its words, its number k, and its number of workers, if it gives one.
 #[derive(Clone, Copy)]
 pub struct RowRun<'a> {
     pub words: &'a str,
@@ -40,7 +40,7 @@ fn words_of(alloc: Global, run: RowRun) -> Result<Vec<String>, AllocError> {
     Ok(words)
 }
 
-// A file in memory. Where the row says that its reads fail, it ends there.
+// A file in memory. If the row says that its reads fail, it ends there.
 fn tape_of(
     alloc: Global,
     row: &Row,
@@ -74,7 +74,7 @@ fn files_of(
     Ok(MemFiles::new(alloc, tapes, largest, failing))
 }
 
-// A sink that takes so many bytes, or all.
+// A sink that takes n bytes, or all.
 fn sink_of(alloc: Global, room: Option<Amount>, k: u64) -> MemSink {
     match room {
         Some(amount) => MemSink::new(alloc, amount.in_run(k)),
@@ -115,7 +115,7 @@ pub fn carry_out<R: Threads + Sync>(
     })
 }
 
-// What is expected of a text in run k: where its sink takes so many bytes, its front.
+// What is expected of a text in run k: its front, if its sink takes n bytes.
 fn expected(text: &str, room: Option<Amount>, k: u64) -> &str {
     match room {
         Some(amount) => front(text, amount.in_run(k)),

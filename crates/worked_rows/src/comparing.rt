@@ -19,7 +19,7 @@ pub fn front(text: &str, n: u64) -> &str {
     text_of(&bytes[..n])
 }
 
-/// Whether a text is the given one, line by line. Where a given line ends in three dots, only what stands before them is compared.
+/// Whether a text is the given one, line by line. If a given line ends in three dots, only what stands before them is compared.
 pub fn agrees(given: &str, came: &str) -> bool {
     let mut wanted = given.split('\n');
     for line in came.split('\n') {

@@ -9,7 +9,7 @@ pub fn between<'a>(line: &'a str, front: &str, back: &str) -> Option<&'a str> {
     }
 }
 
-/// What stands in a line before and after the first `mark`; where there is none, the line and nothing.
+/// What stands in a line before and after the first `mark`; if there is none, the line and nothing.
 pub fn parted<'a>(line: &'a str, mark: &str) -> (&'a str, &'a str) {
     match line.split_once(mark) {
         Some(parts) => parts,

@@ -1,7 +1,7 @@
 //! Worked rows: examples of calls of the tools, each with what is to come of it, which are carried out and compared.
 //!
 //! Each argument names a file of rows. For each of them one line says that all its rows agree, or the rows that differ are
-//! printed with what came. The status is 1 where a row differs or can't be read.
+//! printed with what came. The status is 1 if a row differs or can't be read.
 #![tactic(auto)]
 
 mod carrying;
@@ -31,7 +31,7 @@ const SHARED: [&str; 5] = [
 
 // What came of the rows of a file: how many there are, and what is said of those that differ.
 #[derive(Drop)]
-struct Seen {
+struct FileTally {
     rows: u64,
     differing: String,
 }
@@ -146,8 +146,8 @@ fn try_rows<R: Threads + Sync>(
     alloc: Global,
     shared: &[RowFile],
     rows: &str,
-) -> Result<Seen, AllocError> {
-    let mut seen = Seen {
+) -> Result<FileTally, AllocError> {
+    let mut seen = FileTally {
         rows: 0,
         differing: String::new(alloc),
     };

@@ -3,14 +3,14 @@
 //! - `row SENTENCE` says what it shows.
 //! - `words WORD ..` has the words, and `or WORD ..` further ones with which the same comes. More words may stand below.
 //! - `script`, with the lines of the file `s` below, each beside its reply: `0 run 3 -> PAPI_OK 2 0`. The line's number, the
-//!   thread and the call, with which a reply begins, are left out. Where the script is refused its lines have no replies.
+//!   thread and the call, with which a reply begins, are left out. If the script is refused its lines have no replies.
 //! - `file NAME` (a stream too), with its lines below. Each row also has the files `lab.unit`, `lab.presets`,
 //!   `user.presets`, `full.unit` and `several.unit` of the folder, if it has none of that name itself.
 //! - `opening N fails`, counted from 1; `NAME fails after N bytes`: its reads fail then (`all`: at its end); `reads give N bytes`
 //!   at most; `out takes N bytes`, `err takes N bytes`: writes fail then, and their first N bytes are what is expected.
 //! - `for workers N ..` carries the row out with each of these numbers of workers; `for k from N to M`, `for k below the length
 //!   of out` and `.. of err` carry it out for each k, which stands as `k` in the settings above.
-//! - `status N`, where it is not 0.
+//! - `status N`, if it is not 0.
 //! - `out` and `err`, with the lines below: the output, after the replies, and the lines on standard error.
 //! - `notes`, with a line `THREAD SET INDEX PC` below for each note of the handlers; with `--notes` they are expected after the
 //!   replies too. `notes unread`: the notes are not compared.

@@ -35,7 +35,7 @@ pub struct RowFile {
     pub text: String,
 }
 
-/// A read that fails: of the file of this name, after so many bytes.
+/// A read that fails: of the file of this name, after n bytes.
 #[derive(Drop)]
 pub struct Fault {
     pub name: String,
@@ -56,17 +56,17 @@ pub struct Row {
     pub failing: Vec<u64>,
     /// How many bytes a read gives at most.
     pub piece: Amount,
-    /// How many bytes standard output and standard error take, where they don't take all.
+    /// How many bytes standard output and standard error take, if they don't take all.
     pub out_room: Option<Amount>,
     pub err_room: Option<Amount>,
     /// The numbers of workers with which it is carried out; none: once, without that option.
     pub workers: Vec<u64>,
     pub runs: Runs,
     pub status: u64,
-    /// The output and the lines on standard error. Where a line ends in three dots, only what stands before them is given.
+    /// The output and the lines on standard error. If a line ends in three dots, only what stands before them is given.
     pub out: String,
     pub err: String,
-    /// The notes of all handlers, in the order of their threads, where they are given.
+    /// The notes of all handlers, in the order of their threads, if they are given.
     pub notes: String,
     pub gives_notes: bool,
 }

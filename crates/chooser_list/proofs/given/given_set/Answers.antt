@@ -7,7 +7,7 @@ use Rattle.event_sets.specs.AtRest.{AtRest}
 use Rattle.papi_base.specs.declared.code.Code.{Code}
 use Rattle.papi_base.specs.declared.native.EventRef.{EventRef}
 use Rattle.reply_text.specs.Replies.{Text}
-use Rattle.chooser_list.specs.Choosing.{Given, RefusedText, with_named, with_text, with_texts}
+use Rattle.chooser_list.specs.Choosing.{GivenSet, RefusedText, with_named, with_text, with_texts}
 use Rattle.chooser_list.proofs.given.given_set.Goals as goal
 
 after_refused : (catalog : CatalogView) (r : RefusedText) (texts : List Text) → with_texts catalog (Err r) texts ≡ Err r
@@ -15,7 +15,7 @@ unfolding with_texts
 after_refused catalog r [] = refl
 after_refused catalog r (text ∷ texts) = after_refused catalog r texts
 
-one_more : (catalog : CatalogView) (given : Given) (texts : List Text) (i : ℕ) (text : Text) → i < length texts → text ≡ get_or texts i []
+one_more : (catalog : CatalogView) (given : GivenSet) (texts : List Text) (i : ℕ) (text : Text) → i < length texts → text ≡ get_or texts i []
     → with_texts catalog given (drop i texts) ≡ with_texts catalog (with_text catalog given text) (drop (i + 1) texts)
 unfolding with_texts
 one_more catalog given texts i text small is =
@@ -24,11 +24,11 @@ one_more catalog given texts i text small is =
 here : (texts : List Text) (i : ℕ) (item text : Text) → i < length texts → item ≡ get_or texts i item → text ≡ item → text ≡ get_or texts i []
 here texts i item text small is same = same ∙ sym (get_or_from_slice_get texts i item [] (slice_get-get_or texts i item small ∙ ap Some (sym is)))
 
-no_more : (catalog : CatalogView) (given : Given) (texts : List Text) (i : ℕ) → length texts ≤ i → with_texts catalog given (drop i texts) ≡ given
+no_more : (catalog : CatalogView) (given : GivenSet) (texts : List Text) (i : ℕ) → length texts ≤ i → with_texts catalog given (drop i texts) ≡ given
 unfolding with_texts
 no_more catalog given texts i all = ap (with_texts catalog given) (drop_all i texts all)
 
-looked_up_is : (catalog : CatalogView) (s : AtRest) (text : Text) (named : Result EventRef Code) (given : Given) → named ≡ looked_up catalog text
+looked_up_is : (catalog : CatalogView) (s : AtRest) (text : Text) (named : Result EventRef Code) (given : GivenSet) → named ≡ looked_up catalog text
     → with_named catalog text s named ≡ given → with_text catalog (Ok s) text ≡ given
 looked_up_is catalog s text named given is more = ap (with_named catalog text s) (sym is) ∙ more
 
@@ -40,7 +40,7 @@ returns-in-Err-clause-refused c =
     sym c.loop-text.invariant.so_far
     ∙ one_more catalog (Ok c.loop-text.set.rest) texts c.loop-text.text-index text c.loop-text-test.true
     (here texts c.loop-text.text-index c.text-item.result text c.loop-text-test.true c.text-item.is c.as_str-text.ensures)
-    ∙ ap (λ (g : Given). with_texts catalog g (drop (c.loop-text.text-index + 1) texts)) (looked_up_is catalog c.loop-text.set.rest text _ _ c.lookup.ensures.event (c.in-Err.ensures.refused text))
+    ∙ ap (λ (g : GivenSet). with_texts catalog g (drop (c.loop-text.text-index + 1) texts)) (looked_up_is catalog c.loop-text.set.rest text _ _ c.lookup.ensures.event (c.in-Err.ensures.refused text))
     ∙ after_refused catalog _ (drop (c.loop-text.text-index + 1) texts)
 
 pub loop-text-preserved : goal.loop-text-preserved
@@ -50,7 +50,7 @@ loop-text-preserved c =
     let text = c.as_str-text.result.now in
     record {
       so_far =
-          ap (λ (g : Given). with_texts catalog g (drop (c.loop-text.text-index + 1) texts)) (sym (looked_up_is catalog c.loop-text.set.rest text _ _ c.lookup.ensures.event (c.in_default.ensures.added text)))
+          ap (λ (g : GivenSet). with_texts catalog g (drop (c.loop-text.text-index + 1) texts)) (sym (looked_up_is catalog c.loop-text.set.rest text _ _ c.lookup.ensures.event (c.in_default.ensures.added text)))
           ∙ sym (one_more catalog (Ok c.loop-text.set.rest) texts c.loop-text.text-index text c.loop-text-test.true
           (here texts c.loop-text.text-index c.text-item.result text c.loop-text-test.true c.text-item.is c.as_str-text.ensures))
           ∙ c.loop-text.invariant.so_far;

@@ -1,4 +1,4 @@
--- those that are left have it where all do
+-- those that are left have it if all do
 use Rattle.std.proofs.Common.{◌≡◌, drop}
 use Rattle.std.specs.List.{list_any}
 use Rattle.postfix_rules.specs.Sameness.{same_event}

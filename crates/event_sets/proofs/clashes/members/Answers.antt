@@ -1,4 +1,4 @@
--- a place joins where it is a member
+-- a place joins if it is a member
 use Rattle.std.proofs.Common.{◌≡◌, ◌<◌, ◌∷◌, [], ◌==◌, true, false, arith, sym, ◌∙◌, length, length-append}
 use Rattle.std.specs.Int.{bit_at}
 use Rattle.event_sets.proofs.Clashing.{member_joins, member_not}

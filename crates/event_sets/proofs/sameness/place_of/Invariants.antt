@@ -1,4 +1,4 @@
--- it is among those that are left where it is in the list, and its place is the first one there
+-- it is among those that are left if it is in the list, and its place is the first one there
 use Rattle.std.proofs.Common.{◌≡◌, ◌+◌, drop}
 use Rattle.std.specs.List.{list_any, position_or_len}
 use Rattle.postfix_rules.specs.Sameness.{same_event}

@@ -1,4 +1,4 @@
--- those that are left have one where all do
+-- those that are left have one if all do
 use Rattle.std.proofs.Common.{◌≡◌, drop}
 use Rattle.std.specs.Prelude.{nat_lt}
 use Rattle.std.specs.List.{list_any}

@@ -1,7 +1,7 @@
 -- The library is put back as it was.
 use Rattle.std.proofs.Common.{rules, ◌≡◌, ℤ, Option, Some, sym, subst, to_z, of_z, w32}
 use Rattle.papi_c.specs.Libraries.{LibraryView}
-use Rattle.papi_c.specs.Called.{Gave, Gives}
+use Rattle.papi_c.specs.Called.{GaveValues, GivesValues}
 use Rattle.session_model.specs.declared.call.Call.TheVariants as call
 use Rattle.papi_c.proofs.values.kistalub_read.Goals as goal
 
@@ -15,8 +15,8 @@ returns c =
     let count = c.read-number.new.count in
     let before = c.args.out.now in
     let after = c.read-number.new.out in
-    let at_v : Gave v v made c.read-number.result count before after =
-    subst (λ (l : LibraryView). Gave l l made c.read-number.result count before after) c.deref.ensures c.read-number.ensures.gave in
-    let at_n : Gave v v made n count before after = subst (λ (m : ℤ). Gave v v made m count before after) (sym same) at_v in
-    let to_new = subst (λ (b : Option LibraryView). Gives (Some v) b made n counted count before after) (sym c.put.ensures) at_n in
-    record { gives = subst (λ (a : Option LibraryView). Gives a c.put.new.self.library made n counted count before after) c.in-Some.ensures.taken to_new }
+    let at_v : GaveValues v v made c.read-number.result count before after =
+    subst (λ (l : LibraryView). GaveValues l l made c.read-number.result count before after) c.deref.ensures c.read-number.ensures.gave in
+    let at_n : GaveValues v v made n count before after = subst (λ (m : ℤ). GaveValues v v made m count before after) (sym same) at_v in
+    let to_new = subst (λ (b : Option LibraryView). GivesValues (Some v) b made n counted count before after) (sym c.put.ensures) at_n in
+    record { gives = subst (λ (a : Option LibraryView). GivesValues a c.put.new.self.library made n counted count before after) c.in-Some.ensures.taken to_new }

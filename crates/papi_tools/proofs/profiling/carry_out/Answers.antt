@@ -1,13 +1,13 @@
 use Rattle.std.proofs.Common.{refl}
 use Rattle.papi_tools.proofs.ProfilLemmas.{added_tells, begun_tells, said_told}
 use Rattle.papi_tools.proofs.RunLemmas.{marked_yes, met_in_said}
-use Rattle.papi_tools.specs.Profiling.{Profiled}
+use Rattle.papi_tools.specs.Profiling.{GivenProfile}
 use Rattle.papi_tools.proofs.profiling.carry_out.Goals as goal
 
 pub returns-in-Ok-clause-ran : goal.returns-in-Ok-clause-ran
 returns-in-Ok-clause-ran g c =
     let (run, can, replies, notes, begun) = c.in-Ok.ensures.possible in
-    let given : Profiled = record { ranges = c.args.input.map; run = run } in (
+    let given : GivenProfile = record { ranges = c.args.input.map; run = run } in (
       given,
       record { ranges_are = refl; run = can },
       record {
@@ -23,7 +23,7 @@ returns-in-Ok-clause-met g c =
 pub returns-in-Err-clause-ran : goal.returns-in-Err-clause-ran
 returns-in-Err-clause-ran g c =
     let (run, can, replies, notes, begun) = c.in-Err.ensures.possible in
-    let given : Profiled = record { ranges = c.args.input.map; run = run } in
+    let given : GivenProfile = record { ranges = c.args.input.map; run = run } in
     (given, record { ranges_are = refl; run = can }, record { said = tt; told = begun_tells c.args.words.now given _ _ begun })
 
 pub returns-in-Ok-clause-yes : goal.returns-in-Ok-clause-yes

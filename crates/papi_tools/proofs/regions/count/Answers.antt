@@ -1,6 +1,6 @@
 use Rattle.std.proofs.Common.{◌≡◌, ◌∙◌, Err, Ok, ap, arith, refl, rules}
 use Rattle.chooser_list.specs.Choosing.{all_taken, chooser_text}
-use Rattle.papi_tools.specs.RegionCounts.{Counted}
+use Rattle.papi_tools.specs.RegionCounts.{GivenRegions}
 use Rattle.papi_tools.specs.Running.{ran_replies}
 use Rattle.papi_tools.specs.declared.refusal.Stop.TheVariants.{Memory}
 use Rattle.papi_tools.proofs.RegionLemmas.{are_calls, are_events, counted_told, nothing_counted, out_of_memory, refused_said, script_is}
@@ -23,7 +23,7 @@ returns-in-Ok-clause-counted g c =
     let script = script_is c.args.regions.now _ c.args.words.now.events _ texts c.in_ok-script.ensures.told in
     let said = rw texts at c.said_of.ensures.said in
     let (run, can, replies, notes, begun) = c.in-Ok.ensures.possible in
-    let given : Counted = record { catalog = c.args.catalog.now; lines = c.args.regions.now; streams = run.streams } in
+    let given : GivenRegions = record { catalog = c.args.catalog.now; lines = c.args.regions.now; streams = run.streams } in
     let same = are_calls c.args.catalog.now c.args.regions.now _ c.args.readers.now.items c.args.words.now.events run can script in (
       given,
       record { catalog_is = refl; lines_are = refl; can_come = can.can_come },

@@ -1,5 +1,5 @@
 use Rattle.papi_tools.specs.Run.{given_under, ran_verdict, run_verdict}
-use Rattle.papi_tools.specs.Running.{CanBeGiven}
+use Rattle.papi_tools.specs.Running.{CanBeGivenRun}
 use Rattle.papi_tools.proofs.RunLemmas.{met_later}
 use Rattle.papi_tools.proofs.FindingLemmas.{Never}
 use Rattle.papi_tools.proofs.StepLemmas.{ran_after, stopped_after}
@@ -8,7 +8,7 @@ use Rattle.papi_tools.proofs.run.run.Goals as goal
 pub returns-in-Ok-clause-ran : goal.returns-in-Ok-clause-ran
 unfolding run_verdict
 returns-in-Ok-clause-ran g c =
-    ran_after (λ (x : Unit {0}) given. CanBeGiven c.in-Ok.input.catalog c.in-Ok.input.script c.in-Ok.input.readers.items given) tt (λ o. given_under o c.args.words.now) (ran_verdict c.args.words.now.notes) _ _ _ c.carry_out.result
+    ran_after (λ (x : Unit {0}) given. CanBeGivenRun c.in-Ok.input.catalog c.in-Ok.input.script c.in-Ok.input.readers.items given) tt (λ o. given_under o c.args.words.now) (ran_verdict c.args.words.now.notes) _ _ _ c.carry_out.result
     c.in-Ok.ensures.found c.carry_out.ensures.ran
 
 pub returns-in-Ok-clause-met : goal.returns-in-Ok-clause-met

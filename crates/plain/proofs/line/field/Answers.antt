@@ -5,7 +5,7 @@ use Rattle.std.proofs.lemmas.Iterator.Consumers.{nth_from_yields_List}
 use Rattle.std.proofs.lemmas.Iterator.Splits.{YieldsList-from_slice_split}
 use Rattle.plain.proofs.line.field.Goals as goal
 
--- the text of a field, where the one that stands for a missing field is empty
+-- the text of a field, if the one that stands for a missing field is empty
 text_of : (found : Option (Bor (List ℕ))) (empty : Bor (List ℕ)) → empty.now ≡ [] → (unwrap_or found empty).now ≡ unwrap_or (option_map (λ x. x.now) found) []
 text_of None empty e = e
 text_of (Some x) empty e = refl

@@ -1,5 +1,5 @@
 use Rattle.std.proofs.Common.{◌<◌, length}
-use Rattle.thread_registry.specs.Seen.{CanWork}
+use Rattle.thread_registry.specs.JobView.{CanWork}
 use Rattle.plan_runner.proofs.Outcomes.{left-of, ready-by}
 use Rattle.plan_runner.proofs.jobs.run_jobs.Goals as goal
 

@@ -1,7 +1,7 @@
 use Rattle.std.proofs.Common.{arith, refl, subst, sym, ◌∙◌, ◌-◌, ◌+◌, ◌≡◌, ◌<◌, ◌≤◌, ◌∷◌, [], drop, length, map, vec_len}
 use Rattle.std.proofs.lemmas.List.{take_all, length-map}
 use Rattle.event_sets.specs.AtRest.{Widths}
-use Rattle.thread_registry.specs.JobView.{IsOpened}
+use Rattle.thread_registry.specs.OpenedJobs.{IsOpenedForCalls}
 use Rattle.thread_session.specs.SessionView.{IsFresh}
 use Rattle.plan_runner.specs.Jobs.{before, befores_of}
 use Rattle.plan_runner.specs.Works.{AreWorks, IsWork, calls_of}
@@ -26,7 +26,7 @@ loop-taken-init g c =
       handlers = sym (take_all _ _ (omega (arith, c.args.handlers.now.ok.0)));
       readers = sym (take_all _ _ (omega (arith, c.requires.readers, c.args.readers.now.ok.0)));
       works = sym (take_all _ _ (omega (arith, c.requires.works, c.args.works.now.ok.0)));
-      opened = all-empty (λ j. IsOpened j.session j.calls.items) c.args.jobs.now.items (omega (arith, c.requires.no_jobs, c.args.jobs.now.ok.0));
+      opened = all-empty (λ j. IsOpenedForCalls j.session j.calls.items) c.args.jobs.now.items (omega (arith, c.requires.no_jobs, c.args.jobs.now.ok.0));
       jobs = λ shape all. none-yet _ c.args.jobs.now.items _ n (omega (arith, c.requires.no_jobs, c.args.jobs.now.ok.0)) (few shape);
     }
 
@@ -65,7 +65,7 @@ loop-taken-preserved g c =
       handlers = front-cut _ _ _ _ _ _ inv.handlers c.take_last-handler.ensures.items one (omega (arith, c.args.handlers.now.ok.0));
       readers = front-cut _ _ _ _ _ _ inv.readers c.take_last-reader.ensures.items one (omega (arith, c.requires.readers, c.args.readers.now.ok.0));
       works = front-cut _ _ _ _ _ _ inv.works c.take_last-work.ensures.items one (omega (arith, c.requires.works, c.args.works.now.ok.0));
-      opened = all-more (λ j. IsOpened j.session j.calls.items) _ _ _ c.push_reserved.ensures.items inv.opened c.lend.ensures.opened;
+      opened = all-more (λ j. IsOpenedForCalls j.session j.calls.items) _ _ _ c.push_reserved.ensures.items inv.opened c.lend.ensures.opened;
       jobs = λ shape all. jobs-more _ _ _ _ _ _ m n (inv.jobs shape all) c.push_reserved.ensures.items (c.lend.ensures.job shape n (found shape all)) (cut shape);
     }
 

@@ -1,6 +1,6 @@
 use Rattle.std.proofs.Common.{◌≡◌, ◌+◌, ◌-◌, All, map, reverse, take, drop, vec_len, vec_capacity}
 use Rattle.event_sets.specs.AtRest.{Widths}
-use Rattle.thread_registry.specs.JobView.{IsOpened, seen}
+use Rattle.thread_registry.specs.OpenedJobs.{IsOpenedForCalls, seen}
 use Rattle.plan_runner.specs.Jobs.{befores_of}
 use Rattle.plan_runner.specs.Works.{AreWorks}
 use Rattle.plan_runner.proofs.lending.take_out.Given as goal
@@ -19,7 +19,7 @@ invariant-loop-taken g l =
       handlers : l.handlers.items ≡ take (n - l._taken) l.initial.handlers.items;
       readers : l.readers.items ≡ take (n - l._taken) l.initial.readers.items;
       works : l.works.items ≡ take (n - l._taken) l.initial.works.items;
-      opened : All (λ j. IsOpened j.session j.calls.items) l.jobs.items;
+      opened : All (λ j. IsOpenedForCalls j.session j.calls.items) l.jobs.items;
       jobs :
           (shape : Widths) → AreWorks shape l.initial.works.items
           → map (λ j. seen ((goal.Handler-dyn g (j.handler.vtable, j.handler.value)).notes j.handler.value) j) l.jobs.items

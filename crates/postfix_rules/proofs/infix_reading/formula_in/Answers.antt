@@ -1,5 +1,5 @@
 use Rattle.std.proofs.Common.{sym, subst}
-use Rattle.postfix_rules.specs.InfixReading.{Gives}
+use Rattle.postfix_rules.specs.InfixReading.{AnswersInfix}
 use Rattle.postfix_rules.proofs.InfixEnds.{cause-in, reads-ended, reads-more, reads-none, reads-refused}
 use Rattle.postfix_rules.proofs.infix_reading.formula_in.Goals as goal
 
@@ -24,4 +24,4 @@ loop-part-preserved c =
 pub returns : goal.returns
 returns c =
     let s = c.loop-part in
-    subst (Gives c.end_formula.result) (sym (reads-ended c.args.natives c.args.text.now s.rest.now s.tokens s.order c.in_default.ensures.begins s.invariant)) c.end_formula.ensures
+    subst (AnswersInfix c.end_formula.result) (sym (reads-ended c.args.natives c.args.text.now s.rest.now s.tokens s.order c.in_default.ensures.begins s.invariant)) c.end_formula.ensures

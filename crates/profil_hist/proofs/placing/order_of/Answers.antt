@@ -1,17 +1,17 @@
 use Rattle.std.proofs.Common.{ℕ, map, length, subst, sym, rules}
 use Rattle.std.proofs.lemmas.List.{length-map}
 use Rattle.std.proofs.lemmas.List.Sorted.{IsNonDecreasingBy-from_sort_by_key}
-use Rattle.profil_hist.specs.Places.{Places}
+use Rattle.profil_hist.specs.Places.{ArePlacesOf}
 use Rattle.profil_hist.specs.Views.{range_text}
-use Rattle.profil_hist.specs.declared.placing.Placed.{Placed}
+use Rattle.profil_hist.specs.declared.placing.RangeStart.{RangeStart}
 use Rattle.profil_hist.proofs.InOrder.{places-moved}
 use Rattle.profil_hist.proofs.placing.order_of.Goals as goal
 
 pub returns : goal.returns
 returns c =
-    let P : ℕ → Type 0 = λ n. Places (map range_text c.args.ranges.now) n c.in_ok-places.places.items in
+    let P : ℕ → Type 0 = λ n. ArePlacesOf (map range_text c.args.ranges.now) n c.in_ok-places.places.items in
     let all = subst P (sym (length-map c.args.ranges.now range_text)) c.in_ok-places.ensures in
     record {
       all = places-moved (map range_text c.args.ranges.now) (length (map range_text c.args.ranges.now)) c.in_ok-places.places.items c.sort_by_key.new.self.items c.sort_by_key.ensures.permutation all;
-      rising = IsNonDecreasingBy-from_sort_by_key (λ (p : Placed). p.start) c.sort_by_key.new.self.items c.in_ok-sort_by_key.ensures.sorted (λ a r f k. search rules);
+      rising = IsNonDecreasingBy-from_sort_by_key (λ (p : RangeStart). p.start) c.sort_by_key.new.self.items c.in_ok-sort_by_key.ensures.sorted (λ a r f k. search rules);
     }

@@ -4,17 +4,17 @@ use Rattle.std.specs.Prelude.{option_map}
 use Rattle.std.specs.List.Sorted.{IsPartitionPoint}
 use Rattle.profil_hist.specs.Ranges.{RangeText, in_range}
 use Rattle.profil_hist.specs.Views.{range_text}
-use Rattle.profil_hist.specs.declared.placing.Placed.{Placed}
+use Rattle.profil_hist.specs.declared.placing.RangeStart.{RangeStart}
 use Rattle.profil_hist.proofs.InOrder.{at-range, none-below, none-last, placed-within}
 use Rattle.profil_hist.proofs.placing.range_of.Goals as goal
 
-abbrev any_place : Placed
+abbrev any_place : RangeStart
 any_place = record { start = 0; range = 0 }
 
 pub returns-then-below-eq0 : goal.returns-then-below-eq0
 returns-then-below-eq0 c =
     let none : c.count_below-below.result ≡ 0 = omega arith in
-    let P : ℕ → Type 0 = λ n. IsPartitionPoint (λ (p : Placed). p.start ≤ c.args.pc) (λ (p : Placed). c.args.pc < p.start) c.args.order.now n in
+    let P : ℕ → Type 0 = λ n. IsPartitionPoint (λ (p : RangeStart). p.start ≤ c.args.pc) (λ (p : RangeStart). c.args.pc < p.start) c.args.order.now n in
     none-below (map range_text c.args.ranges.now) c.args.order.now c.args.pc any_place c.requires.ordered (subst P none c.count_below-below.ensures.point)
 
 pub offset_bounds-ranges-range : goal.offset_bounds-ranges-range
@@ -29,14 +29,14 @@ bounds-ranges-range c =
 
 pub returns-then-holds : goal.returns-then-holds
 returns-then-holds c =
-    let p : Placed = get_or c.args.order.now (c.count_below-below.result - 1) any_place in
+    let p : RangeStart = get_or c.args.order.now (c.count_below-below.result - 1) any_place in
     let lt : p.range < length c.args.ranges.now = placed-within c.args.ranges.now p (c.requires.ordered.all.right (c.count_below-below.result - 1) any_place (omega arith)) in
     let at = at-range c.args.ranges.now p.range c.index-ranges-range.result c.index-ranges-range.is lt in
     ap (option_map (λ (r : RangeText). in_range r c.args.pc)) at ∙ ap (λ (b : Bool). Some b) (sym c.holds.ensures ∙ c.if-holds.true)
 
 pub returns-else-holds : goal.returns-else-holds
 returns-else-holds c =
-    let p : Placed = get_or c.args.order.now (c.count_below-below.result - 1) any_place in
+    let p : RangeStart = get_or c.args.order.now (c.count_below-below.result - 1) any_place in
     let lt : p.range < length c.args.ranges.now = placed-within c.args.ranges.now p (c.requires.ordered.all.right (c.count_below-below.result - 1) any_place (omega arith)) in
     let at = at-range c.args.ranges.now p.range c.index-ranges-range.result c.index-ranges-range.is lt in
     none-last (map range_text c.args.ranges.now) c.args.order.now c.args.pc c.count_below-below.result p.range (range_text c.index-ranges-range.result) any_place c.requires.kept c.requires.ordered

@@ -1,9 +1,9 @@
 use Rattle.std.proofs.Common.{◌∙◌, sym, arith}
 use Rattle.table_rows.proofs.Ranges.{decimal_in-range}
-use Rattle.profil_hist.specs.declared.limits.TheConstants.{MOST_WIDTH}
+use Rattle.profil_hist.specs.declared.limits.TheConstants.{MOST_BUCKET_ADDRESSES}
 use Rattle.profil_hist.proofs.row.width_in.Goals as goal
 
 pub overflow_cast-result : goal.overflow_cast-result
 overflow_cast-result c =
-    let r = decimal_in-range 1 MOST_WIDTH c.args.text.now c.in-Some.n (sym c.decimal_in.ensures ∙ c.in-Some.is) in
+    let r = decimal_in-range 1 MOST_BUCKET_ADDRESSES c.args.text.now c.in-Some.n (sym c.decimal_in.ensures ∙ c.in-Some.is) in
     omega (arith, r.1)

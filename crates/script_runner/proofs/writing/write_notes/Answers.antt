@@ -9,9 +9,9 @@ use Rattle.script_runner.proofs.writing.write_notes.Goals as goal
 none : Note
 none = record { thread = 0; set = 0; index = 0; pc = 0 }
 
-pub returns-in_err-push_note-clause-part : goal.returns-in_err-push_note-clause-part
+pub returns-in_err-gather_note-clause-part : goal.returns-in_err-gather_note-clause-part
 unfolding notes_text
-returns-in_err-push_note-clause-part g c =
+returns-in_err-gather_note-clause-part g c =
     let notes = c.args.notes.now in
     let i = c.loop-note.note-index in
     let x = get_or notes i none in
@@ -24,7 +24,7 @@ returns-in_err-write_piece-clause-part g c =
     let notes = c.args.notes.now in
     let i = c.loop-note.note-index in
     let x = get_or notes i none in
-    let part = rw c.in_ok-push_note.ensures.text at c.in_err-write_piece.ensures.part in
+    let part = rw c.in_ok-gather_note.ensures.text at c.in_err-write_piece.ensures.part in
     always_on_err c.from_residual-in_err-write_piece.result
     (item-part note_text _ _ _ notes i x (string_bytes c.loop-note.gathered) c.loop-note-test.true (get_or_default notes i none x c.loop-note-test.true) c.loop-note.invariant.written part)
 
@@ -34,7 +34,7 @@ loop-note-preserved g c =
     let notes = c.args.notes.now in
     let i = c.loop-note.note-index in
     let x = get_or notes i none in
-    let more = rw c.in_ok-push_note.ensures.text at c.in_ok-write_piece.ensures.ok in record {
+    let more = rw c.in_ok-gather_note.ensures.text at c.in_ok-write_piece.ensures.ok in record {
       written = item-written note_text _ _ _ notes i x (string_bytes c.loop-note.gathered) (string_bytes c.write_piece.new.gathered) c.loop-note-test.true (get_or_default notes i none x c.loop-note-test.true) c.loop-note.invariant.written more;
       quiet = search rules;
     }

@@ -1,4 +1,4 @@
--- those that are left are all taken where all are
+-- those that are left are all taken if all are
 use Rattle.thread_core.proofs.Words.{list_all, is_some, slot_faces, drop, ◌≡◌}
 use Rattle.thread_core.proofs.refusal.all_taken.Given as goal
 

@@ -1,4 +1,4 @@
--- those that are left have one that runs where all do
+-- those that are left have one that runs if all do
 use Rattle.thread_core.proofs.Words.{list_any, slot_faces, drop, ◌≡◌}
 use Rattle.session_model.specs.Faces.{is_running}
 use Rattle.thread_core.proofs.refusal.some_is_running.Given as goal

@@ -1,4 +1,4 @@
--- those that are left have one that runs where all do
+-- those that are left have one that runs if all do
 use Rattle.thread_core.proofs.Words.{list_any, runs_on, slot_faces, drop, ◌≡◌}
 use Rattle.thread_core.proofs.refusal.some_runs.Given as goal
 

@@ -1,7 +1,7 @@
 use Rattle.std.proofs.Common.{length, refl, Option, None}
 use Rattle.std.proofs.lemmas.List.{take-replicate, length-replicate}
 use Rattle.counter_unit.specs.declared.registers.Register.{Register}
-use Rattle.counter_unit.proofs.Places.{AreSound-empty}
+use Rattle.counter_unit.proofs.Places.{FitWidths-empty}
 use Rattle.counter_unit.proofs.unit.Unit.new.Goals as goal
 
 pub invariant_of-result : goal.invariant_of-result
@@ -12,7 +12,7 @@ invariant_of-result c =
       few = c.counters-counters.ensures.short;
       are_widths = c.counters-counters.ensures.widths;
       long = length-replicate 32 none;
-      sound = rw empty (AreSound-empty c.args.shape.now);
+      sound = rw empty (FitWidths-empty c.args.shape.now);
       selects = rw empty (c.none.ensures (length c.args.shape.now));
     }
 

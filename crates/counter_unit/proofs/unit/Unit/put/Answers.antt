@@ -2,7 +2,7 @@ use Rattle.std.proofs.Common.{◌≡◌, ◌<◌, ap, arith, length, take, set, 
 use Rattle.std.proofs.Math.Seq.{take-set-lt}
 use Rattle.std.proofs.lemmas.List.{get_or-take, length-set}
 use Rattle.counter_unit.specs.Counting.{UnitView}
-use Rattle.counter_unit.proofs.Places.{AreSound-put}
+use Rattle.counter_unit.proofs.Places.{FitWidths-put}
 use Rattle.counter_unit.proofs.unit.Unit.put.Goals as goal
 
 pub put-requires : goal.put-requires
@@ -21,7 +21,7 @@ invariant_of-self c =
       few = c.self.invariant.few;
       are_widths = c.self.invariant.are_widths;
       long = length-set c.self.inside.registers c.args.c c.args.place ∙ c.self.invariant.long;
-      sound = rw put (AreSound-put ws rs c.args.c c.args.place exists (rw shape c.requires.sound) c.self.invariant.sound);
+      sound = rw put (FitWidths-put ws rs c.args.c c.args.place exists (rw shape c.requires.sound) c.self.invariant.sound);
       selects = rw put (c.put.ensures rs (omega arith) stood c.self.invariant.selects);
     }
 

@@ -4,7 +4,7 @@ use Rattle.std.proofs.Math.Seq.{take-set-lt}
 use Rattle.std.proofs.lemmas.List.{get_or-take, length-set}
 use Rattle.counter_unit.specs.Counting.{After, at_place, moved_place}
 use Rattle.counter_unit.specs.Selects.{admits, bit_of}
-use Rattle.counter_unit.proofs.Places.{AreSound-moved}
+use Rattle.counter_unit.proofs.Places.{FitWidths-moved}
 use Rattle.counter_unit.proofs.Tables.{AreSelects-moved}
 use Rattle.counter_unit.proofs.Steps.{all_carried, all_done, begins, bit_is, goes_on, lowest, lowest_is, others-lt}
 use Rattle.counter_unit.proofs.unit.Unit.step.Goals as goal
@@ -72,7 +72,7 @@ invariant_of-self c =
       few = c.self.invariant.few;
       are_widths = c.self.invariant.are_widths;
       long = c.loop-left.invariant.long;
-      sound = rw done (AreSound-moved before c.args.o.now ws rs c.self.invariant.are_widths (omega arith) c.self.invariant.sound);
+      sound = rw done (FitWidths-moved before c.args.o.now ws rs c.self.invariant.are_widths (omega arith) c.self.invariant.sound);
       selects = rw done (AreSelects-moved before c.args.o.now c.self.inside.selects ws rs c.self.invariant.sound.same_length c.self.invariant.selects);
     }
 

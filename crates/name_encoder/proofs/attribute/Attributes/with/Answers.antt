@@ -5,7 +5,7 @@ use Rattle.event_tables.specs.Views.{mask_text}
 use Rattle.name_encoder.specs.Judged.{meaning_text}
 use Rattle.name_encoder.specs.declared.attribute.Meaning.{Meaning}
 use Rattle.name_encoder.proofs.Steps.{meaning-row}
-use Rattle.name_encoder.proofs.attribute.Given.with.Goals as goal
+use Rattle.name_encoder.proofs.attribute.Attributes.with.Goals as goal
 
 pub with_mask-requires-clause-there : goal.with_mask-requires-clause-there
 with_mask-requires-clause-there c =

@@ -1,8 +1,8 @@
 use Rattle.std.proofs.Common.{arith, refl, rules}
-use Rattle.papi_tools.specs.Running.{Given, ran_notes}
+use Rattle.papi_tools.specs.Running.{GivenRun, ran_notes}
 use Rattle.papi_tools.proofs.RunLemmas.{counted, faulty, nothing_ran, planned_from, replied, sources_kept, tells}
 use Rattle.papi_tools.proofs.TellingLemmas.{none_begun}
-use Rattle.papi_tools.proofs.running.run_script.Goals as goal
+use Rattle.papi_tools.proofs.script_run.run_script.Goals as goal
 
 pub returns-in_err-lines-clause-begun : goal.returns-in_err-lines-clause-begun
 unfolding ran_notes
@@ -63,7 +63,7 @@ pub returns-clause-possible : goal.returns-clause-possible
 unfolding ran_notes
 returns-clause-possible g c =
     let (streams, can, ran) = c.in_ok-lines.ensures.possible in
-    let given : Given = record { catalog = c.args.catalog.now; script = c.args.script.now; streams = streams } in
+    let given : GivenRun = record { catalog = c.args.catalog.now; script = c.args.script.now; streams = streams } in
     let (replies, notes, begun) = ran _ _ (planned_from c.args.catalog.now c.args.script.now _ _ _ c.book.ensures.book c.shape-shape.ensures.shape c.in_ok-plan.ensures.plan) in (
       given,
       record { catalog_is = refl; script_is = refl; can_come = can },

@@ -2,9 +2,9 @@
 ghost use Rattle.std.specs.Prelude.{◌≡◌, ◌≤◌, All, Any, IfOk, OnOk, map, vec_len};
 ghost use Rattle.overflow_dispatch.specs.Notes.{EachAdded, EachBegun, EachGrown};
 ghost use Rattle.plan_runner.specs.Marks.{marks_in};
-ghost use Rattle.thread_session.specs.Faults.{IsFault};
+ghost use Rattle.thread_session.specs.Faults.{IsFaultReply};
 ghost use Rattle.thread_session.specs.SessionView.{IsFresh};
-ghost use Rattle.papi_tools.specs.Running.{CanBeGiven, Given, IsGiven, note_counts, ran_notes, ran_replies};
+ghost use Rattle.papi_tools.specs.Running.{CanBeGivenRun, GivenRun, IsGivenRun, note_counts, ran_notes, ran_replies};
 ghost use Rattle.papi_tools.specs.Streams.{SomeFailed, sources_in};
 
 use component_table::{Catalog, NativeCodes};
@@ -22,7 +22,7 @@ use stream_reader::StreamReader;
 /// What a run gives: the replies in the order of the script, the mark that each thread's runs met, and how many notes each
 /// handler had before.
 #[derive(Drop)]
-pub struct Ran {
+pub struct RanScript {
     pub lines: Vec<ReplyLine>,
     pub marks: [Option<Ended>; THREADS as usize],
     pub noted: Vec<u64>,
@@ -41,26 +41,27 @@ pub fn run_script<R: Threads + Sync, S: Source + Send>(
     readers: &mut Vec<StreamReader<S>>,
     handlers: &mut Vec<Box<dyn Handler + Send>>,
     workers: u32,
-) -> Result<Ran, AllocError>
+) -> Result<RanScript, AllocError>
     requires readers { vec_len readers.old ≡ THREADS }
     requires fresh { All IsFresh readers.old.items }
     requires handlers { vec_len handlers.old ≡ THREADS }
     requires workers { 1 ≤ workers }
     ensures len { vec_len handlers.new ≡ THREADS }
-    ensures replies { (given : Given) → IsGiven catalog.now script.now readers.old.items given
+    ensures replies { (given : GivenRun) → IsGivenRun catalog.now script.now readers.old.items given
         → IfOk result (λ ran. ran.lines.items ≡ ran_replies given) }
     ensures marks { IfOk result (λ ran. ran.marks ≡ marks_in ran.lines.items) }
     ensures noted { IfOk result
         (λ ran. ran.noted.items ≡ note_counts (map (λ b. notes b) handlers.old.items)) }
-    ensures notes { (given : Given) → IsGiven catalog.now script.now readers.old.items given
+    ensures notes { (given : GivenRun) → IsGivenRun catalog.now script.now readers.old.items given
         → OnOk result (EachAdded (map (λ b. notes b) handlers.old.items) (ran_notes given)
         (map (λ b. notes b) handlers.new.items)) }
-    ensures begun { (given : Given) → IsGiven catalog.now script.now readers.old.items given
+    ensures begun { (given : GivenRun) → IsGivenRun catalog.now script.now readers.old.items given
         → EachBegun (map (λ b. notes b) handlers.old.items) (ran_notes given)
         (map (λ b. notes b) handlers.new.items) }
 
     // Told or not, there are streams that can come of the readers, of which these are the replies and the notes.
-    ensures possible { (given : Given) × CanBeGiven catalog.now script.now readers.old.items given
+    ensures possible { (given : GivenRun)
+        × CanBeGivenRun catalog.now script.now readers.old.items given
         × IfOk result (λ ran. ran.lines.items ≡ ran_replies given)
         × OnOk result (EachAdded (map (λ b. notes b) handlers.old.items) (ran_notes given)
         (map (λ b. notes b) handlers.new.items))
@@ -72,7 +73,7 @@ pub fn run_script<R: Threads + Sync, S: Source + Send>(
         (map (λ b. notes b) handlers.new.items) }
     ensures sources { sources_in readers.new.items ≡ sources_in readers.old.items }
     ensures faulty { IfOk result
-        (λ ran. Any (λ l. IsFault l.reply) ran.lines.items → SomeFailed readers.new.items) }
+        (λ ran. Any (λ l. IsFaultReply l.reply) ran.lines.items → SomeFailed readers.new.items) }
 {
     let noted = counts_of(alloc, handlers)?;
     let mut codes = NativeCodes::new(alloc);
@@ -88,7 +89,7 @@ pub fn run_script<R: Threads + Sync, S: Source + Send>(
         handlers,
         workers,
     )?;
-    Ok(Ran {
+    Ok(RanScript {
         lines,
         marks,
         noted,

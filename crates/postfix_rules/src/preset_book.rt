@@ -2,7 +2,7 @@
 use crate::Derived;
 use std::marker::Model;
 
-/// Under each row of the preset table what is derived there, where the preset is available.
+/// Under each row of the preset table what is derived there, if the preset is available.
 #[derive(Drop)]
 pub struct PresetBook {
     rows: Vec<Option<Derived>>,
@@ -29,7 +29,7 @@ impl PresetBook {
         PresetBook { rows }
     }
 
-    /// What is derived in a row; `None` where the preset is not available, or there is no such row.
+    /// What is derived in a row; `None` if the preset is not available, or there is no such row.
     pub fn get(&self, row: u32) -> Option<&Derived>
         ensures entry { option_copied result ≡ entry self.now row }
         ensures derived { IfSome result (λ d. IsDerived d.now) }

@@ -11,7 +11,7 @@ use std::marker::Model;
 use thread_slots::Slot;
 
 /// For each component the number of the set that runs on it, if one does, as soon as it has been asked for. A core forgets
-/// it where its sets change otherwise than in their counts, so that between changes no occurrence looks at other sets.
+/// it if its sets change otherwise than in their counts, so that between changes no occurrence looks at other sets.
 #[derive(Drop)]
 pub struct RunningSets {
     known: [Option<Option<u32>>; MOST_COMPONENTS],

@@ -1,6 +1,6 @@
 use Rattle.std.proofs.Common.{arith}
 use Rattle.std.proofs.lemmas.Grind.{elements}
-use Rattle.name_encoder.proofs.attribute.Given.with_mask.Goals as goal
+use Rattle.name_encoder.proofs.attribute.Attributes.with_mask.Goals as goal
 
 pub returns-then-is_some : goal.returns-then-is_some
 returns-then-is_some c = grind (arith, elements)
