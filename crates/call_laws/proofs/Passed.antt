@@ -14,8 +14,7 @@ use Rattle.postfix_rules.specs.Presets.{Book, lead}
 use Rattle.session_model.specs.Account.{Kept, last_after}
 use Rattle.session_model.specs.Counts.{in_window}
 use Rattle.session_model.specs.Faces.{at}
-use Rattle.session_model.specs.Thresholds.{notes_at, notes_of_place, passed_from}
-use Rattle.session_model.specs.Thresholds.{passes as model_passes}
+use Rattle.session_model.specs.Thresholds.{notes_at, notes_of_place, passed_from, passes as model_passes}
 use Rattle.call_laws.specs.History.{OccAfter, placed_after}
 use Rattle.call_laws.specs.Measures.{count_over}
 use Rattle.call_laws.specs.Passings.{Moment, passes, passing_indexes, reaches_more}

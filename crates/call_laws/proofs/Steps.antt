@@ -12,8 +12,7 @@ use Rattle.session_model.specs.declared.call.Call.TheVariants as call
 use Rattle.session_model.specs.declared.reply.Reply.{Reply}
 use Rattle.session_model.specs.Account.{Account, Kept}
 use Rattle.session_model.specs.Bounds.{AllWithin}
-use Rattle.session_model.specs.Faces.{at, change, face_of, faces_of, free, is_absent}
-use Rattle.session_model.specs.Faces.{runs as face_runs}
+use Rattle.session_model.specs.Faces.{at, change, face_of, faces_of, free, is_absent, runs as face_runs}
 use Rattle.session_model.specs.Changes.{kept_after}
 use Rattle.session_model.specs.Refusals.{rows}
 use Rattle.session_model.specs.Replies.{refused, reply_over, sight_of_kept}

@@ -45,10 +45,6 @@ cycles = record { comp = 0; event = 1; select = 0x3c; masks = 0; umask = 0; mods
 abbrev pub br_inst : Native
 br_inst = record { comp = 0; event = 2; select = 0xc4; masks = 1; umask = 1; mods = no_mods; allowed = 1 }
 
--- lab::BR_INST:TAKEN
-abbrev pub br_taken : Native
-br_taken = record { comp = 0; event = 2; select = 0xc4; masks = 2; umask = 2; mods = no_mods; allowed = 1 }
-
 -- lab::BR_MISP
 abbrev pub br_misp : Native
 br_misp = record { comp = 0; event = 3; select = 0xc5; masks = 0; umask = 0; mods = no_mods; allowed = 1 }

@@ -14,10 +14,6 @@ range_more : (n : ℕ) → range_with_len 0 (n + 1) ≡ range_with_len 0 n ++ n 
 range_more n = sym (map_same (range_with_len 0 (n + 1))) ∙ map-range_with_len_more (λ x. x) 0 n n (omega arith) ∙ ap (λ (xs : List ℕ). xs ++ n ∷ []) (map_same (range_with_len 0 n))
 
 module _ {X : Type 0} (p : X → Bool) where
-  -- nothing was looked at
-  pub kept_none : (start : List X) → start ≡ start ++ filter p []
-  kept_none start = sym (append-nil start)
-
   kept_both : (start so_far after xs ys : List X) → so_far ≡ start ++ filter p xs → after ≡ so_far ++ filter p ys → after ≡ start ++ filter p (xs ++ ys)
   kept_both start so_far after xs ys a b =
       b ∙ ap (λ zs. zs ++ filter p ys) a ∙ append_assoc start (filter p xs) (filter p ys) ∙ ap (λ zs. start ++ zs) (sym (filter-append p xs ys))

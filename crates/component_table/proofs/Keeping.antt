@@ -13,9 +13,6 @@ pub record Cleared (book : Book) (presets : TableView) (r : ℕ) (now : TableVie
   pub long : length now.rows ≡ 26
   pub so_far : available_from book 0 presets.rows ≡ take r now.rows ++ available_from book r (drop r now.rows)
 
-pub cleared-none : (book : Book) (presets : TableView) → length presets.rows ≡ 26 → Cleared book presets 0 presets
-cleared-none book presets long = record { same_cpu = refl; long = long; so_far = refl }
-
 next : (book : Book) (r : ℕ) (e : Entry) (rest : List Entry) → available_from book r (e ∷ rest) ≡ (if is_available book r then e else row.Missing) ∷ available_from book (r + 1) rest
 unfolding available_from
 next book r e rest = refl

@@ -18,13 +18,6 @@ pub record Named (tables : List ComponentText) (texts : List Text) (i : ℕ) (na
   pub so_far : natives_named tables texts ≡ after natives (natives_named tables (drop i texts))
   pub count : length natives ≡ i
 
-after_none : (r : Option (List Native)) → r ≡ after [] r
-after_none None = refl
-after_none (Some more) = refl
-
-pub named-none : (tables : List ComponentText) (texts : List Text) → Named tables texts 0 []
-named-none tables texts = record { so_far = after_none (natives_named tables texts); count = refl }
-
 named_here : (tables : List ComponentText) (texts : List Text) (i : ℕ) → i < length texts
     → natives_named tables (drop i texts) ≡ with_first (names tables (get_or texts i [])) (natives_named tables (drop (i + 1) texts))
 unfolding natives_named

@@ -6,7 +6,6 @@ use Rattle.std.proofs.lemmas.Bool.{cases_eq, cases_lt}
 use Rattle.std.proofs.lemmas.Nat.Bits.{bit_at-pow_same, bit_at-pow_other}
 use Rattle.std.proofs.Math.Pow.{pow-lt}
 use Rattle.counter_alloc.specs.Assignments.{Has, IsAssignment, Assignable, IsLeast, IsLeastDeficient}
-use Rattle.counter_alloc.specs.Search.{Holds}
 use Rattle.counter_alloc.specs.Settling.{Settles}
 use Rattle.counter_alloc.specs.Masks.{AreMasks}
 use Rattle.counter_alloc.proofs.Hall.{deficient_not_assignable}
@@ -17,17 +16,6 @@ only_member c k has = elim (cases_eq k c) [
   | inl e ↦ e
   | inr ne ↦ let none = bit_at-pow_other c k ne in absurd (omega arith)
 ]
-
--- an assignment, but for a place whose allowed counters change
-pub holds_but : (allowed chosen : List ℕ) (place mask : ℕ) → IsAssignment allowed chosen → Holds (set allowed place mask) chosen place
-holds_but allowed chosen place mask assigned =
-    let same : length (set allowed place mask) ≡ length allowed = length-set allowed place mask in
-    let one = assigned.one_each in
-    record {
-      one_each = omega arith;
-      is_allowed = λ i below ne. rw (get_or-set_other allowed place i mask 0 ne) (assigned.is_allowed i (omega arith));
-      distinct = λ i j i_in j_in i_apart j_apart. assigned.distinct i j (omega arith) (omega arith);
-    }
 
 -- a place may be allowed its own counter alone
 pub assigned_alone : (allowed chosen : List ℕ) (place c : ℕ) → place < length allowed → get_or chosen place 0 ≡ c → IsAssignment allowed chosen

@@ -1,7 +1,6 @@
 -- Assignments of distinct allowed counters to the places of a list of native events, and the sets of places that rule
 -- one out, after Hall's theorem. A set that has none is PAPI_ECNFLCT of PAPI_add_event(3).
-use Rattle.std.specs.Prelude.{◌≡◌, ℕ, ◌+◌, ◌^◌, ◌<◌, ◌≤◌, ◌==◌, if◌then◌else◌, List}
-use Rattle.std.specs.Prelude.{[], ◌∷◌, length, take, slice_index, bit_or, count_ones}
+use Rattle.std.specs.Prelude.{◌≡◌, ℕ, ◌+◌, ◌^◌, ◌<◌, ◌≤◌, ◌==◌, if◌then◌else◌, List, [], ◌∷◌, length, take, slice_index, bit_or, count_ones}
 use Rattle.std.specs.Int.{bit_at}
 
 -- k is a member of the bit set

@@ -1,19 +1,15 @@
 -- Places of registers, one by one and all together.
 use Rattle.std.proofs.Common.{◌≡◌, ℕ, zero, suc, ◌+◌, ◌-◌, ◌^◌, ◌<◌, ◌≤◌, inl, inr, List, [], ◌∷◌, length, set, get_or, replicate, refl, ap, ◌∙◌, arith, Option, Some, None}
 use Rattle.std.specs.Prelude.{◌==◌}
-use Rattle.std.specs.Option.{option_map}
 use Rattle.std.proofs.lemmas.Bool.{cases_eq, cond_both, cond-true, cond-false, eq-eqb, ne_eqb, leb-true, leb-false}
 use Rattle.papi_base.proofs.Weights.{weight_of-le}
 use Rattle.papi_base.specs.Weight.{weight_of}
 use Rattle.papi_base.specs.Widths.{AreWidths}
 use Rattle.std.proofs.lemmas.List.{length-set, length-replicate, get_or-set_same, get_or-set_other}
-use Rattle.std.proofs.lemmas.Nat.{pow_pos}
 use Rattle.std.proofs.Math.Pow.{pow_mono}
 use Rattle.papi_base.specs.declared.occurrence.Occ.{Occ}
-use Rattle.papi_base.specs.declared.native.Native.{Native}
-use Rattle.papi_base.specs.declared.bits.Domain.{Domain}
 use Rattle.counter_unit.specs.declared.registers.Register.{Register}
-use Rattle.counter_unit.specs.Counting.{IsThreshold, period, beginning, begun, begun_again, at_place, FitsWidth, FitWidths, moved, carries, moved_place, all_moved}
+use Rattle.counter_unit.specs.Counting.{IsThreshold, period, beginning, at_place, FitsWidth, FitWidths, moved, carries, moved_place, all_moved}
 
 pub at_place-replicate : (n c : ℕ) → at_place (replicate n None) c ≡ None
 at_place-replicate zero c = refl
@@ -51,13 +47,6 @@ period_some w t some = cond-false (t == 0) (2 ^ w) t (ne_eqb t 0 (λ e. omega ar
 pub period_fits : (w t : ℕ) → 16 ≤ w → IsThreshold w t → (256 ≤ period w t) × (period w t ≤ 2 ^ w)
 period_fits w t low (inl none) = let most : 2 ^ 16 ≤ 2 ^ w = pow_mono low in let e = period_none w t none in (omega arith, omega arith)
 period_fits w t low (inr fits) = let e = period_some w t (omega (arith, fits.0)) in (omega (arith, fits.0), omega (arith, fits.1))
-
-pub begun-sound : (w : ℕ) (n : Native) (d : Domain) (t : ℕ) → 16 ≤ w → IsThreshold w t → FitsWidth w (Some (begun w n d t))
-begun-sound w n d t low fits = let p = period_fits w t low fits in (fits, omega arith, omega (arith, pow_pos w))
-
-pub again-sound : (w : ℕ) (place : Option Register) → 16 ≤ w → FitsWidth w place → FitsWidth w (option_map (begun_again w) place)
-again-sound w None low h = tt
-again-sound w (Some r) low h = let p = period_fits w r.threshold low h.0 in (h.0, omega arith, omega (arith, pow_pos w))
 
 -- what is added is less than a period, so a register stays sound
 moved-sound : (w more : ℕ) (r : Register) → 16 ≤ w → more ≤ 255 → FitsWidth w (Some r) → FitsWidth w (Some (moved w more r))

@@ -1,9 +1,9 @@
 -- The counters that occurrences with each code can move, as the registers change.
-use Rattle.std.proofs.Common.{◌≡◌, ℕ, ◌+◌, ◌<◌, inl, inr, List, length, set, get_or, replicate, refl, ap, sym, ◌∙◌, arith, Option, Some, None}
+use Rattle.std.proofs.Common.{◌≡◌, ℕ, ◌<◌, inl, inr, List, length, set, get_or, replicate, refl, ap, sym, ◌∙◌, arith, Option, Some, None}
 use Rattle.std.specs.Int.{bit_at}
 use Rattle.std.specs.Prelude.{◌==◌, false}
 use Rattle.std.proofs.lemmas.Bool.{and_left, cases_eq, ne_eqb}
-use Rattle.std.proofs.lemmas.List.{length-set, length-replicate, get_or-replicate, get_or-set_same, get_or-set_other}
+use Rattle.std.proofs.lemmas.List.{length-replicate, get_or-replicate, get_or-set_same, get_or-set_other}
 use Rattle.std.proofs.lemmas.Nat.Bits.{bit_at-zero}
 use Rattle.papi_base.specs.declared.occurrence.Occ.{Occ}
 use Rattle.counter_unit.specs.declared.registers.Register.{Register}
@@ -82,17 +82,3 @@ pub record Marking (k : Key) (c : ℕ) (place : Option Register) (old now : List
   pub codes : length now ≡ length old
   pub here : (code : ℕ) → code < done → bit_at (get_or now code 0) c ≡ bit_of (has k code place)
   pub there : (code i : ℕ) → i < 32 → (i ≡ c → ⊥) → bit_at (get_or now code 0) i ≡ bit_at (get_or old code 0) i
-
-pub marking_on : (k : Key) (c : ℕ) (place : Option Register) (old now : List ℕ) (done mask : ℕ) → done < length now → bit_at mask c ≡ bit_of (has k done place)
-    → ((i : ℕ) → i < 32 → (i ≡ c → ⊥) → bit_at mask i ≡ bit_at (get_or now done 0) i) → Marking k c place old now done → Marking k c place old (set now done mask) (done + 1)
-marking_on k c place old now done mask exists here there h = record {
-  codes = length-set now done mask ∙ h.codes;
-  here = λ code small. elim (cases_eq code done) [
-    | inl same ↦ rw same (ap (λ m. bit_at m c) (get_or-set_same now done mask 0 exists) ∙ here)
-    | inr apart ↦ ap (λ m. bit_at m c) (get_or-set_other now done code mask 0 apart) ∙ h.here code (omega arith)
-  ];
-  there = λ code i below other. elim (cases_eq code done) [
-    | inl same ↦ rw same (ap (λ m. bit_at m i) (get_or-set_same now done mask 0 exists) ∙ there i below other ∙ h.there done i below other)
-    | inr apart ↦ ap (λ m. bit_at m i) (get_or-set_other now done code mask 0 apart) ∙ h.there code i below other
-  ];
-}

@@ -151,10 +151,6 @@ module _ (book : Book) (shape : Widths) (e : EventRef) (s : SetView) (n : Native
             before (inl none) = subst (All (λ m. Some n.comp ≡ Some m.comp)) (sym (no_natives none)) (λ k m below. absurd (omega arith))
             before (inr some) = λ k m below. sym some ∙ ready.sound.owned k m below
 
-      -- the matching to which the new natives are added
-      begun : MatchingView → MatchingView
-      begun kept = if is_some s.rest.component then kept else record { counters = counters; allowed = [] }
-
       pub begun_counters : (kept : MatchingView) → IsMatched s kept → (if is_some s.rest.component then kept else record { counters = counters; allowed = [] }).counters ≡ counters
       begun_counters kept matched = go s.rest.component refl where
         go : (o : Option ℕ) → s.rest.component ≡ o → (let m : MatchingView = if is_some o then kept else record { counters = counters; allowed = [] } in m.counters) ≡ counters

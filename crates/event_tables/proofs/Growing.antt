@@ -28,12 +28,6 @@ on_last-set view f (x ∷ []) (suc i) new d e h = absurd (omega arith)
 on_last-set view f (x ∷ y ∷ rest) zero new d e h = absurd (omega arith)
 on_last-set view f (x ∷ y ∷ rest) (suc i) new d e h = ap (λ t. view x ∷ t) (on_last-set view f (y ∷ rest) i new d (omega arith) h)
 
-pub on_last-same : {X : Type 0} (xs : List X) → on_last (λ x. x) xs ≡ xs
-unfolding on_last
-on_last-same [] = refl
-on_last-same (x ∷ []) = refl
-on_last-same (x ∷ y ∷ rest) = ap (λ t. x ∷ t) (on_last-same (y ∷ rest))
-
 -- ---- a row that is not a component
 
 abbrev pub IsInner : Line → Type 0

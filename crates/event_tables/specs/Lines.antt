@@ -1,6 +1,5 @@
 -- What one row of a unit file says, by itself. The file format is this project's own.
-use Rattle.std.specs.Prelude.{◌&&◌, ◌||◌, ◌==◌, ℕ, Bool, true, false, not, List, length, Option, Some, None}
-use Rattle.std.specs.Prelude.{if◌then◌else◌, nat_le, codes}
+use Rattle.std.specs.Prelude.{◌&&◌, ◌||◌, ◌==◌, ℕ, Bool, true, false, not, List, length, Option, Some, None, if◌then◌else◌, nat_le, codes}
 use Rattle.std.specs.List.{filter, list_all, slice_split}
 use Rattle.std.specs.Str.{bytes_eq}
 use Rattle.papi_base.specs.declared.limits.TheConstants.{LEAST_WIDTH, MOST_WIDTH}

@@ -70,10 +70,6 @@ count_within p k = omega (arith, count_by-le-length p (range_with_len 0 k), leng
 
 -- ---- texts
 
--- nothing is pushed
-pub none : {X : Type 0} (f : X → Text) (start : Text) → start ≡ start ++ flat_map f []
-none f start = sym (append-nil start)
-
 -- the text of one item more is pushed
 pub pushed : {X : Type 0} (f : X → Text) (xs ys : List X) (x : X) (start line after : Text) → ys ≡ xs ++ x ∷ [] → line ≡ start ++ flat_map f xs → after ≡ line ++ f x → after ≡ start ++ flat_map f ys
 pushed f xs ys x start line after e so_far more =

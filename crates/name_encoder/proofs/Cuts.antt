@@ -2,7 +2,7 @@
 use Rattle.std.proofs.Common.{◌≡◌, ◌∙◌, ◌+◌, ◌<◌, ◌≤◌, ◌∷◌, ◌++◌, ℕ, List, [], Option, Some, None, Bool, true, false, length, get_or}
 use Rattle.std.proofs.Common.{drop, take, refl, sym, ap, nat_eq, option_map, append_assoc, append-nil}
 use Rattle.std.proofs.lemmas.List.{drop_more, drop_all, take_more}
-use Rattle.std.specs.Prelude.{◌==◌, ◌&&◌, if◌then◌else◌}
+use Rattle.std.specs.Prelude.{◌==◌, if◌then◌else◌}
 use Rattle.std.proofs.lemmas.Bool.{eq-eqb, eqb-true, ne_eqb}
 use Rattle.std.specs.List.{onto_first, slice_split, starts_with}
 use Rattle.table_rows.specs.Texts.{Text}
@@ -46,13 +46,6 @@ cut-never mark text i le = rw (drop_all i text le) refl
 abbrev pub parts_after : Text → Option (Text × Text) → List Text
 parts_after t None = t ∷ []
 parts_after t (Some p) = p.0 ∷ slice_split (λ b. b == 58) p.1
-
-and-true : (b : Bool) → (b && true) ≡ b
-and-true true = refl
-and-true false = refl
-
-colon-first : (b : ℕ) (t : Text) → starts_with nat_eq (b ∷ t) (58 ∷ []) ≡ nat_eq 58 b
-colon-first b t = and-true (nat_eq 58 b)
 
 swapped : (b : ℕ) → nat_eq 58 b ≡ (b == 58)
 swapped b = go (b == 58) refl

@@ -87,10 +87,6 @@ found-any p f (x ∷ xs) = go (p x) (found-any p f xs)
     go true h = refl
     go false h = h
 
-none-of : {X : Type 0} (o : Option X) → is_some o ≡ false → o ≡ None
-none-of None e = refl
-none-of (Some x) e = cc e
-
 -- ---- the flags of named umasks
 
 named-at : (xs : List SaidAttribute) (k i j : ℕ) (masks : List MaskText) → j ≡ k + i → i < length masks → slice_get (named_from xs k masks) i ≡ Some (list_any (means (mask j)) xs)

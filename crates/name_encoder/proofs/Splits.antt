@@ -1,5 +1,5 @@
 -- The parts of a text that was put together from words.
-use Rattle.std.proofs.Common.{◌≡◌, ◌∙◌, ◌==◌, ◌∷◌, ◌++◌, ℕ, true, false, List, [], Option, Some, None, refl, sym, ap, arith, tests, nat_eq, codes, append_assoc, append-nil, option_map}
+use Rattle.std.proofs.Common.{◌≡◌, ◌∙◌, ◌==◌, ◌∷◌, ◌++◌, ℕ, true, false, List, [], Option, Some, None, refl, sym, ap, arith, tests, nat_eq, append_assoc, append-nil, option_map}
 use Rattle.std.specs.List.{AllByRecursion, list_all, slice_split}
 use Rattle.std.proofs.lemmas.Bool.{and_parts}
 use Rattle.table_rows.specs.Texts.{Text, is_name, is_name_byte}
@@ -44,10 +44,6 @@ Three = 58 ∷ 58 ∷ 58 ∷ []
 
 abbrev ahead : ℕ → Option (Text × Text) → Option (Text × Text)
 ahead b o = option_map (λ p. (b ∷ p.0, p.1)) o
-
-other-step : (b : ℕ) (y : Text) → nat_eq 58 b ≡ false → cut_at Three (b ∷ y) ≡ ahead b (cut_at Three y)
-unfolding cut_at
-other-step b y n = rw n refl
 
 colon-step : (b : ℕ) (y : Text) → nat_eq 58 b ≡ false → cut_at Three (58 ∷ b ∷ y) ≡ ahead 58 (cut_at Three (b ∷ y))
 unfolding cut_at
@@ -111,10 +107,6 @@ no-sign (b ∷ w) h = rw (h.0, no-sign w h.1) refl
 pub attribute-word : (w : Text) → NoSigns w → attribute_of w ≡ record { name = w; value = None }
 unfolding attribute_of
 attribute-word w h = rw (no-sign w h) refl
-
-pub attribute-value : (v : Text) → attribute_of (99 ∷ 61 ∷ v) ≡ record { name = codes "c"; value = Some v }
-unfolding attribute_of cut_at
-attribute-value v = refl
 
 -- ---- a name is a word
 

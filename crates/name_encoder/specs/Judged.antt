@@ -14,7 +14,7 @@ use Rattle.name_encoder.specs.declared.attribute.Meaning.TheVariants as means_as
 use Rattle.name_encoder.specs.declared.attribute.Modifier.{Modifier}
 use Rattle.name_encoder.specs.declared.attribute.Modifier.TheVariants as modifier
 use Rattle.name_encoder.specs.Names as Names
-use Rattle.name_encoder.specs.Names.{SaidAttribute, has_true, names_alone, names_mask, row_alone}
+use Rattle.name_encoder.specs.Names.{SaidAttribute, row_alone}
 
 -- ---- the code's kinds of meaning, as those of the definitions
 

@@ -1,7 +1,6 @@
 -- What an event's text names, or why it names nothing.
-use Rattle.std.specs.Prelude.{◌&&◌, ◌||◌, ◌==◌, ◌<◌, ◌^◌, ◌+◌, length, ℕ, Bool, true, false, not, List, [], ◌∷◌, ◌++◌, drop, map}
-use Rattle.std.specs.Prelude.{Option, Some, None, Result, Ok, Err}
-use Rattle.std.specs.Prelude.{if◌then◌else◌, nat_eq, nat_lt, codes, bytes_eq, slice_get, is_none, option_map, unwrap_or, find}
+use Rattle.std.specs.Prelude.{◌&&◌, ◌||◌, ◌==◌, ◌<◌, ◌^◌, ◌+◌, length, ℕ, Bool, true, false, not, List, [], ◌∷◌, ◌++◌, drop, map, Option, Some, None}
+use Rattle.std.specs.Prelude.{Result, Ok, Err, if◌then◌else◌, nat_eq, nat_lt, codes, bytes_eq, slice_get, is_none, option_map, unwrap_or, find}
 use Rattle.std.specs.Int.RustNames.{bit_and, bit_or}
 use Rattle.std.specs.List.{list_any, position_from, starts_with}
 use Rattle.std.specs.Option.{option_map_or, option_or}

@@ -4,13 +4,6 @@ use Rattle.std.proofs.Common.{◌≡◌, ℕ, zero, suc, ◌+◌, ◌<◌, ◌�
 pub in_place_length : {X : Type 0} (new old : List X) (i : ℕ) → length new ≡ length old → i ≤ length old → length (take i new ++ drop i old) ≡ length old
 in_place_length new old i e h = omega (arith, length-append (take i new) (drop i old), length-take-le i new (omega arith), length-drop i old)
 
--- what the loop reads
-pub in_place_get : {X : Type 0} (new old : List X) (i : ℕ) → length new ≡ length old → i < length old → slice_get (take i new ++ drop i old) i ≡ slice_get old i
-in_place_get new [] i e h = absurd (omega arith)
-in_place_get [] (y ∷ ys) i e h = absurd (omega arith)
-in_place_get (x ∷ xs) (y ∷ ys) zero e h = refl
-in_place_get (x ∷ xs) (y ∷ ys) (suc i) e h = in_place_get xs ys i (omega arith) (omega arith)
-
 in_place_set : {X : Type 0} (new old : List X) (i : ℕ) (y : X) → length new ≡ length old → i < length old → slice_get new i ≡ Some y → set (take i new ++ drop i old) i y ≡ take (suc i) new ++ drop (suc i) old
 in_place_set new [] i y e h g = absurd (omega arith)
 in_place_set [] (z ∷ zs) i y e h g = absurd (omega arith)
@@ -21,9 +14,6 @@ in_place_set (x ∷ xs) (z ∷ zs) (suc i) y e h g = ap (λ ws. x ∷ ws) (in_pl
 pub in_place_put : {X : Type 0} (new old items : List X) (i : ℕ) (y : X) → length new ≡ length old → i < length old → items ≡ take i new ++ drop i old → slice_get new i ≡ Some y
     → set items i y ≡ take (i + 1) new ++ drop (i + 1) old
 in_place_put new old items i y e h done g = ap (λ xs. set xs i y) done ∙ rw add-one (in_place_set new old i y e h g)
-
-pub in_place_read : {X : Type 0} (new old items : List X) (i : ℕ) (y : X) → length new ≡ length old → i < length old → items ≡ take i new ++ drop i old → slice_get items i ≡ Some y → slice_get old i ≡ Some y
-in_place_read new old items i y e h done g = sym (in_place_get new old i e h) ∙ sym (ap (λ xs. slice_get xs i) done) ∙ g
 
 -- a turn that changes nothing
 pub in_place_skip : {X : Type 0} (new old items : List X) (i : ℕ) (y : X) → length new ≡ length old → i < length old → items ≡ take i new ++ drop i old → slice_get new i ≡ Some y → slice_get old i ≡ Some y

@@ -16,10 +16,6 @@ pub record IsFront (tape : Tape) (now : Option Tape) (bytes : List ℕ) : Type 0
 abbrev pub HasRead : Option Tape → Option Tape → List ℕ → Type 0
 HasRead tape now bytes = IfSome tape (λ tape. IsFront tape now bytes)
 
-pub HasRead-start : (tape : Option Tape) → HasRead tape tape []
-HasRead-start None = tt
-HasRead-start (Some t) = record { rest = refl; front = refl; within = omega arith }
-
 -- the front grows by what a read gives
 front-more : (t : Tape) (bytes buf : List ℕ) (n : ℕ) → IsFront t (Some (without (length bytes) t)) bytes → Gives (without (length bytes) t) (Ok n) buf → IsFront t (Some (without n (without (length bytes) t))) (bytes ++ take n buf)
 front-more t bytes buf n f g =

@@ -1,6 +1,5 @@
 -- What is given into an array of fixed room.
-use Rattle.std.specs.Prelude.{ℕ, ℤ, ◌≡◌, ◌<◌, ◌≤◌, ◌++◌, ◌⊎◌, List, drop, length, map, negsuc, pos, unwrap_or}
-use Rattle.std.specs.Prelude.{Option, Some, None, Result, Ok, Err}
+use Rattle.std.specs.Prelude.{ℕ, ℤ, ◌≡◌, ◌<◌, ◌≤◌, ◌++◌, ◌⊎◌, List, drop, length, map, negsuc, pos, unwrap_or, Option, Some, None, Result, Ok, Err}
 use Rattle.papi_base.specs.Codes.{number_of}
 use Rattle.papi_base.specs.declared.code.Code.{Code}
 use Rattle.papi_base.specs.declared.native.EventRef.{EventRef}

@@ -1,6 +1,5 @@
 -- Runs from C: PAPI_overflow(3).
-use Rattle.std.specs.Prelude.{ℕ, ℤ, ◌≡◌, ◌<◌, ◌+◌, ◌⊎◌, Bool, true, if◌then◌else◌, List, [], drop, length, map, negsuc, take}
-use Rattle.std.specs.Prelude.{Option, Some, None}
+use Rattle.std.specs.Prelude.{ℕ, ℤ, ◌≡◌, ◌<◌, ◌+◌, ◌⊎◌, Bool, true, if◌then◌else◌, List, [], drop, length, map, negsuc, take, Option, Some, None}
 use Rattle.overflow_dispatch.specs.declared.handler.Note.{Note}
 use Rattle.papi_base.specs.Codes.{number_of}
 use Rattle.papi_c.specs.Faults.{fault_of}

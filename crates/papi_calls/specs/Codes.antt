@@ -1,6 +1,5 @@
 -- Events by their codes: PAPI_event_code_to_name(3), PAPI_add_event(3).
-use Rattle.std.specs.Prelude.{ℕ, ◌==◌, List, Option, Some, None, Result, Ok, Err, true, ◌≡◌, ⊤}
-use Rattle.std.specs.Prelude.{if◌then◌else◌, nat_lt, position, slice_get, unwrap_or}
+use Rattle.std.specs.Prelude.{ℕ, ◌==◌, List, Option, Some, None, Result, Ok, Err, true, ◌≡◌, ⊤, if◌then◌else◌, nat_lt, position, slice_get, unwrap_or}
 use Rattle.papi_base.specs.declared.code.Code.{Code}
 use Rattle.papi_base.specs.declared.code.Code.TheVariants.{Enoevnt}
 use Rattle.papi_base.specs.declared.native.EventRef.{EventRef}

@@ -1,5 +1,5 @@
 -- Choices tried one after another.
-use Rattle.std.proofs.Common.{◌≡◌, ◌≢◌, ℕ, suc, ◌+◌, ◌-◌, ◌<◌, ◌≤◌, ◌==◌, Bool, true, false, not, ◌&&◌, refl, ◌∙◌, arith, inl, inr, append-nil, List, [], ◌∷◌, ◌++◌, length, get_or, drop, map, Option, Some, None, slice_get, append_assoc}
+use Rattle.std.proofs.Common.{◌≡◌, ◌≢◌, ℕ, suc, ◌+◌, ◌-◌, ◌<◌, ◌≤◌, ◌==◌, Bool, false, not, ◌&&◌, refl, ◌∙◌, arith, inl, inr, append-nil, List, [], ◌∷◌, ◌++◌, length, get_or, drop, map, Option, Some, None, slice_get, append_assoc}
 use Rattle.std.specs.Prelude.{filter, find, if◌then◌else◌}
 use Rattle.std.specs.List.{flat_map, list_any, range_with_len}
 use Rattle.std.specs.Int.{bit_at}
@@ -9,18 +9,9 @@ use Rattle.counter_alloc.specs.Listing.{all_distinct, assigns, choices, least, m
 
 -- ---- whether a counter comes twice
 
-pub any_here : (x j : ℕ) (xs : List ℕ) → j < length xs → get_or xs j 0 ≡ x → list_any (λ d. d == x) (drop j xs) ≡ true
-any_here x j xs below same = rw (drop_more xs j 0 below, eq-eqb (get_or xs j 0) x same) refl
-
-pub any_later : (x j : ℕ) (xs : List ℕ) → j < length xs → get_or xs j 0 ≢ x → list_any (λ d. d == x) (drop j xs) ≡ list_any (λ d. d == x) (drop (j + 1) xs)
-any_later x j xs below other = rw (drop_more xs j 0 below, ne_eqb (get_or xs j 0) x other) refl
-
 pub distinct_by : (i : ℕ) (xs : List ℕ) (twice : Bool) → i < length xs → list_any (λ d. d == get_or xs i 0) (drop (i + 1) xs) ≡ twice
     → all_distinct (drop i xs) ≡ (not twice && all_distinct (drop (i + 1) xs))
 distinct_by i xs twice below is = rw (drop_more xs i 0 below, is) refl
-
-pub distinct_end : (i : ℕ) (xs : List ℕ) → length xs ≤ i → all_distinct (drop i xs) ≡ true
-distinct_end i xs past = rw (drop_all i xs past) refl
 
 pub any_end : (x j : ℕ) (xs : List ℕ) → length xs ≤ j → list_any (λ d. d == x) (drop j xs) ≡ false
 any_end x j xs past = rw (drop_all j xs past) refl

@@ -47,9 +47,6 @@ left_more ws i end w below e =
     let steps : end - i ≡ suc (end - (i + 1)) = omega arith in
     rw (steps, drop_get ws i w e) (sum_by-cons (λ k. k) w (take (end - (i + 1)) (drop (i + 1) ws)))
 
-pub left_none : (ws : List ℕ) (i end : ℕ) → end ≤ i → left ws i end ≡ 0
-left_none ws i end past = let e : end - i ≡ 0 = omega arith in rw e refl
-
 -- ---- ticks
 
 -- the ticks from one on that pass a test, below a total
@@ -60,6 +57,3 @@ pub tick_more : (p : ℕ → Bool) (tick total : ℕ) (passes : Bool) → tick <
 tick_more p tick total passes below is =
     let steps : total - tick ≡ suc (total - (tick + 1)) = omega arith in
     rw steps (sum_by-cons (λ x. cond (p x) 1 0) tick (range_with_len (tick + 1) (total - (tick + 1))) ∙ ap (λ b. cond b 1 0 + ticks_left p (tick + 1) total) is)
-
-pub tick_none : (p : ℕ → Bool) (tick total : ℕ) → total ≤ tick → ticks_left p tick total ≡ 0
-tick_none p tick total past = let e : total - tick ≡ 0 = omega arith in rw e refl

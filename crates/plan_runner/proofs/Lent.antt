@@ -1,17 +1,15 @@
 -- Jobs that are made from the end.
-use Rattle.std.proofs.Common.{◌≡◌, ℕ, ◌+◌, ◌<◌, ◌≤◌, zero, suc, false, List, [], ◌∷◌, ◌++◌, length, map, reverse, drop, get_or, refl, sym}
-use Rattle.std.proofs.Common.{◌∙◌, ap, ap₂, arith, Option, Some, None, slice_get}
+use Rattle.std.proofs.Common.{◌≡◌, ℕ, ◌+◌, ◌<◌, ◌≤◌, zero, suc, List, [], ◌∷◌, ◌++◌, length, map, reverse, drop, get_or, refl, sym}
+use Rattle.std.proofs.Common.{◌∙◌, ap, ap₂, arith, Some, slice_get}
 use Rattle.std.proofs.lemmas.List.{reverse-append, drop_all, drop_more}
 use Rattle.overflow_dispatch.specs.declared.handler.Note.{Note}
 use Rattle.event_sets.specs.AtRest.{Widths}
 use Rattle.session_model.specs.declared.call.Call.{Call}
 use Rattle.stream_reader.specs.Reader.{ReaderView}
-use Rattle.thread_core.specs.CoreView.{CoreView, opening_core}
-use Rattle.thread_registry.specs.OpenedJobs.{unopened}
-use Rattle.thread_registry.specs.JobView.{JobView, seen_of}
+use Rattle.thread_registry.specs.JobView.{JobView}
 use Rattle.plan_runner.specs.declared.works.Work.{Work}
 use Rattle.plan_runner.specs.Jobs.{before, befores_from}
-use Rattle.plan_runner.specs.Works.{AreWorks, IsWork, core_for}
+use Rattle.plan_runner.specs.Works.{AreWorks, IsWork}
 use Rattle.plan_runner.proofs.Lists.{map-push}
 
 pub before-at : (k : ℕ) (shape : Widths) (rs : List ReaderView) (nss : List (List Note)) (css : List (List Call)) (t : ℕ) (d : JobView) (r : ReaderView) → t < length rs → length nss ≡ length rs → length css ≡ length rs

@@ -1,7 +1,7 @@
 -- Lists that lose their last element while others gain it, and what holds of all elements.
 use Rattle.std.proofs.Common.{◌≡◌, ◌||◌, Bool, false, true, List, [], ◌∷◌, ◌++◌, All, length, map, reverse, refl, sym}
-use Rattle.std.proofs.Common.{◌∙◌, ap, ap₂, subst, arith, append-nil, append_assoc}
-use Rattle.std.proofs.lemmas.List.{drop_all, reverse-append, map-append}
+use Rattle.std.proofs.Common.{◌∙◌, ap, subst, arith, append-nil, append_assoc}
+use Rattle.std.proofs.lemmas.List.{reverse-append, map-append}
 use Rattle.std.proofs.lemmas.List.Elements.{All-append, All-push}
 
 pub all-none : {X : Type 0} (P : X → Type 0) → All P []

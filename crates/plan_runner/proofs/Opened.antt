@@ -4,9 +4,6 @@ use Rattle.event_sets.specs.AtRest.{Widths}
 use Rattle.plan_runner.specs.declared.works.Work.{Work}
 use Rattle.plan_runner.specs.Works.{AreWorks, IsWork}
 
-pub no-works : (shape : Widths) → AreWorks shape []
-no-works shape = record { each = λ t w e. absurd (cc) }
-
 -- those from the thread k on, and one more
 more-from : (shape : Widths) (w : Work) (ws : List Work) (k : ℕ) → ((j : ℕ) (u : Work) → slice_get ws j ≡ Some u → IsWork shape (k + j) u) → IsWork shape (k + length ws) w
     → (t : ℕ) (v : Work) → slice_get (ws ++ w ∷ []) t ≡ Some v → IsWork shape (k + t) v

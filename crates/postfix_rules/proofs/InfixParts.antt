@@ -1,8 +1,7 @@
 -- The first part of a text in infix order, and what is after it.
-use Rattle.std.proofs.Common.{◌≡◌, ◌∙◌, ◌<◌, ◌≤◌, ◌+◌, ◌^◌, ◌∷◌, ℕ, suc, Bool, true, false, List, [], Option, Some, None, cond, length, take, drop, refl, sym, ap, subst, arith}
+use Rattle.std.proofs.Common.{◌≡◌, ◌∙◌, ◌<◌, ◌≤◌, ◌+◌, ◌^◌, ◌∷◌, ℕ, suc, Bool, true, false, List, [], Some, None, cond, length, take, drop, refl, sym, ap, subst, arith}
 use Rattle.std.specs.Prelude.{◌&&◌, ◌||◌, ◌==◌, not, nat_lt, slice_index, if◌then◌else◌}
 use Rattle.std.specs.List.{list_all, prefix_len, take_while}
-use Rattle.std.specs.Option.{option_map}
 use Rattle.std.proofs.lemmas.Bool.{eq-eqb, eqb-true, ne_eqb}
 use Rattle.std.proofs.lemmas.List.Sums.{take_while-cons}
 use Rattle.std.proofs.lemmas.List.{drop_all, drop_more}
@@ -10,9 +9,7 @@ use Rattle.papi_base.specs.Numerals.{is_digit, is_empty, is_numeral}
 use Rattle.table_rows.specs.Texts.{Text, is_blank}
 use Rattle.postfix_rules.specs.declared.fault.FormulaCause.{FormulaCause}
 use Rattle.postfix_rules.specs.declared.fault.FormulaCause.TheVariants as cause
-use Rattle.postfix_rules.specs.declared.token.Operator.{Operator}
 use Rattle.postfix_rules.specs.declared.token.Token.TheVariants as token
-use Rattle.postfix_rules.specs.declared.infix_token.InfixToken.TheVariants as sign
 use Rattle.postfix_rules.specs.Faults.{Part, operand_cause, token_cause}
 use Rattle.postfix_rules.specs.InfixFaults.{infix_cause, place_of_operand}
 use Rattle.postfix_rules.specs.InfixTokens.{InfixPart, begins_digits, digits_of, in_infix, infix_from, sign_part}
@@ -42,18 +39,9 @@ one-sign [] e = absurd (omega arith)
 one-sign (b ∷ []) e = refl
 one-sign (b ∷ c ∷ text) e = absurd (omega arith)
 
-abbrev sign_by : Bool → Bool → Option Operator → InfixPart
-sign_by b c o = if b then Some sign.Open else if c then Some sign.Close else option_map (λ p. sign.Token (token.Operator p)) o
-
 pub sign-none : (text : Text) → length text ≡ 1 → (slice_index text 0 ≡ 40 → ⊥) → (slice_index text 0 ≡ 41 → ⊥) → operator_of text ≡ None → sign_part (slice_index text 0) ≡ None
 sign-none text e n m o =
     let is : operator_of (slice_index text 0 ∷ []) ≡ None = ap operator_of (sym (one-sign text e)) ∙ o in
-    rw (ne_eqb _ 40 n, ne_eqb _ 41 m, is) refl
-
-pub sign-some : (text : Text) (p : Operator) → length text ≡ 1 → (slice_index text 0 ≡ 40 → ⊥) → (slice_index text 0 ≡ 41 → ⊥) → operator_of text ≡ Some p
-    → sign_part (slice_index text 0) ≡ Some (sign.Token (token.Operator p))
-sign-some text p e n m o =
-    let is : operator_of (slice_index text 0 ∷ []) ≡ Some p = ap operator_of (sym (one-sign text e)) ∙ o in
     rw (ne_eqb _ 40 n, ne_eqb _ 41 m, is) refl
 
 pub no-token : (part : InfixPart) → part ≡ None → (natives : ℕ) (must : Bool) (depth : ℕ) → natives < 2 ^ 32 → infix_cause natives must depth part ≡ Some cause.UnknownToken

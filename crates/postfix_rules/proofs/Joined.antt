@@ -18,10 +18,6 @@ after-append book seen (x ∷ es) e = after-append book (joined_by seen (natives
 pub one_more_joins : OneMoreJoins
 one_more_joins book es e = after-append book [] es e
 
--- the natives so far, with one that may be new
-next : Native → List Native → List Native
-next n seen = if among n seen then seen else seen ++ n ∷ []
-
 -- a list with one that may be new begins with the list
 next_begins : (b : Bool) (n : Native) (seen more : List Native) → take (length (if b then seen else seen ++ n ∷ [])) more ≡ (if b then seen else seen ++ n ∷ []) → take (length seen) more ≡ seen
 next_begins true n seen more h = h

@@ -1,5 +1,5 @@
 -- Reading a text, token by token.
-use Rattle.std.proofs.Common.{◌≡◌, ◌∙◌, ◌+◌, ◌≤◌, ◌∷◌, ◌++◌, ℕ, List, [], Some, None, length, map, refl, sym, ap, arith, append_assoc, append-nil}
+use Rattle.std.proofs.Common.{◌≡◌, ◌∙◌, ◌+◌, ◌≤◌, ◌∷◌, ◌++◌, ℕ, List, [], Some, None, length, map, refl, sym, ap, append_assoc, append-nil}
 use Rattle.std.specs.Prelude.{Ok, Err}
 use Rattle.std.proofs.lemmas.List.{length-append, map-append}
 use Rattle.postfix_rules.specs.declared.fault.FormulaCause.{FormulaCause}
@@ -16,9 +16,6 @@ pub record SoFar (natives : ℕ) (text rest : Text) (tokens : List Token) (heigh
   pub parts : parts_of text ≡ map Some tokens ++ parts_of rest
   pub faults : fault_from natives 0 0 (parts_of text) ≡ fault_from natives (length tokens) height (parts_of rest)
   pub few : height ≤ 16
-
-pub so_far-start : (natives : ℕ) (text : Text) → SoFar natives text text [] 0
-so_far-start natives text = record { parts = refl; faults = refl; few = omega arith }
 
 fault-next : (natives place height : ℕ) (part : Part) (rest : List Part) → token_cause natives height part ≡ None
     → fault_from natives place height (part ∷ rest) ≡ fault_from natives (place + 1) (height_after height part) rest

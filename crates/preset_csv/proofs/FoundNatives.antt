@@ -4,7 +4,7 @@ use Rattle.std.proofs.Common.{length, get_or, refl, sym, ap, arith, append_assoc
 use Rattle.std.specs.Prelude.{if◌then◌else◌}
 use Rattle.std.specs.List.{list_all}
 use Rattle.std.proofs.lemmas.Bool.{and_from}
-use Rattle.std.proofs.lemmas.List.{drop_all, drop_more, length-append, length-take, take_all}
+use Rattle.std.proofs.lemmas.List.{drop_all, drop_more, length-append, take_all}
 use Rattle.std.proofs.lemmas.List.Folds.{list_all-append}
 use Rattle.std.proofs.lemmas.Option.{slice_get-get_or}
 use Rattle.table_rows.specs.Texts.{Text, is_printable, text_at, trimmed}
@@ -56,9 +56,6 @@ pub record Held (fields : List Text) (first i count : ℕ) (natives : List Text)
   pub placed : first + count ≡ i
   pub few : natives ≡ take MOST_NATIVES all
 
-pub none-held : (fields : List Text) (first : ℕ) → Held fields first first 0 []
-none-held fields first = record { all = []; found = record { found = refl; printed = refl }; counted = refl; placed = omega arith; few = refl }
-
 take-more : (n : ℕ) (xs ys : List Text) → take n (take n xs ++ ys) ≡ take n (xs ++ ys)
 take-more zero xs ys = refl
 take-more (suc n) [] ys = refl
@@ -74,10 +71,6 @@ held-more fields first i count natives more lt h stays printed is = record {
   placed = omega (arith, h.placed);
   few = is ∙ ap (λ (t : List Text). take MOST_NATIVES (t ++ text_at fields i ∷ [])) h.few ∙ take-more MOST_NATIVES h.all (text_at fields i ∷ []);
 }
-
--- not more than that many are held
-pub held-few : (fields : List Text) (first i count : ℕ) (natives : List Text) → Held fields first i count natives → length natives ≤ MOST_NATIVES
-held-few fields first i count natives h = rw h.few (omega (arith, length-take MOST_NATIVES h.all))
 
 -- the fields before field i are all of the row's natives
 pub record Ends (fields : List Text) (first i : ℕ) : Type 0 where

@@ -14,7 +14,7 @@ use Rattle.std.specs.List.{list_any}
 use Rattle.std.specs.List.Sorted.{IsPartitionPoint, IsPermutation}
 use Rattle.profil_hist.specs.Views.{range_text}
 use Rattle.profil_hist.specs.declared.range.MapRange.{MapRange}
-use Rattle.profil_hist.specs.Places.{ArePlacesOf, IsOrder, IsPlaced, IsRangeOf}
+use Rattle.profil_hist.specs.Places.{ArePlacesOf, IsOrder, IsPlaced}
 use Rattle.profil_hist.specs.Ranges.{IsMap, IsRange, RangeText, end_of, in_bucket, in_range}
 use Rattle.profil_hist.specs.declared.placing.RangeStart.{RangeStart}
 use Rattle.profil_hist.proofs.Noted.{all-found, and-true, false-unless, inside, true-not-false, two-apart, within}
@@ -127,9 +127,6 @@ mapped-within f items i v e = go (slice_get (map range_text items) i) refl e
 
 pub placed-within : (items : List MapRange) (p : RangeStart) → IsPlaced (map range_text items) p → p.range < length items
 placed-within items p is = mapped-within (λ (r : RangeText). r.start) items p.range p.start is
-
-pub range-within : (items : List MapRange) (i pc : ℕ) → IsRangeOf (map range_text items) pc (Some i) → i < length items
-range-within items i pc is = mapped-within (λ (r : RangeText). in_range r pc) items i true is
 
 -- ---- the ranges in order
 

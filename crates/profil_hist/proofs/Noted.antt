@@ -179,9 +179,6 @@ bucket-others : (ranges : List RangeText) (k i : ℕ) (pcs : List ℕ) (pc : ℕ
     → bucket_count ranges k i pcs ≡ bucket_count ranges k i (pcs ++ pc ∷ [])
 bucket-others ranges k i pcs pc absent = go (slice_get ranges k) absent
   where
-    count : List ℕ → RangeText → Option ℕ
-    count xs s = if nat_lt i s.buckets then Some (count_by (in_bucket s i) xs) else None
-
     one : (s : RangeText) (b : Bool) → nat_lt i s.buckets ≡ b → in_range s pc ≡ false
         → (if b then Some (count_by (in_bucket s i) pcs) else None) ≡ (if b then Some (count_by (in_bucket s i) (pcs ++ pc ∷ [])) else None)
     one s true t f =
@@ -220,15 +217,6 @@ passed-counts h pc pcs none is =
       outside = ap (λ (n : ℕ). n + 1) is.outside ∙ sym more;
       total = omega (arith, is.total, length-append pcs (pc ∷ []));
     }
-
-pub passed-kept : (h : HistText) → h.total < 2 ^ 63 → IsHist h → IsHist (passed h)
-passed-kept h room is = record {
-  kept = is.kept;
-  shape = is.shape;
-  whole = omega (arith, is.whole);
-  inside = omega (arith, is.inside);
-  few = omega arith;
-}
 
 -- ---- one in a bucket
 

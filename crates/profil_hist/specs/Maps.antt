@@ -1,6 +1,5 @@
 -- The ranges of a map's rows, and the first fault. The file format is this project's own.
-use Rattle.std.specs.Prelude.{◌≡◌, ◌||◌, ◌+◌, ℕ, List, [], ◌∷◌, length, map, Option, Some}
-use Rattle.std.specs.Prelude.{None, Result, if◌then◌else◌, nat_le, nat_lt, codes}
+use Rattle.std.specs.Prelude.{◌≡◌, ◌||◌, ◌+◌, ℕ, List, [], ◌∷◌, length, map, Option, Some, None, Result, if◌then◌else◌, nat_le, nat_lt, codes}
 use Rattle.std.specs.List.{list_any}
 use Rattle.std.specs.Str.{bytes_eq}
 use Rattle.table_rows.specs.Rows.{rows_of}

@@ -1,6 +1,5 @@
 -- Sampling a stream, occurrence by occurrence.
-use Rattle.std.proofs.Common.{◌≡◌, ℕ, ◌+◌, ◌≤◌, ◌<◌, List, [], ◌∷◌, ◌++◌, length, map, replicate, refl, ap, sym, subst, ◌∙◌, arith, append_assoc, append-nil, Option, Some, None, true, if◌then◌else◌, ◌==◌, unwrap_or, zero, suc}
-use Rattle.std.proofs.lemmas.Bool.{ltb-true}
+use Rattle.std.proofs.Common.{◌≡◌, ℕ, ◌+◌, ◌≤◌, ◌<◌, List, [], ◌∷◌, ◌++◌, length, map, replicate, refl, ap, sym, subst, ◌∙◌, arith, append_assoc, append-nil, Option, Some, if◌then◌else◌, ◌==◌, unwrap_or, zero, suc}
 use Rattle.std.proofs.lemmas.List.{map-append}
 use Rattle.std.proofs.lemmas.List.Sums.{sum_by-append}
 use Rattle.std.specs.BTreeMap.{BTreeMap, get, is_at}
@@ -11,10 +10,9 @@ use Rattle.papi_base.specs.declared.occurrence.Occ.{Occ}
 use Rattle.papi_base.specs.Streams.{Coming, Mark, Dry, Bad, Fault}
 use Rattle.overflow_dispatch.specs.declared.handler.Note.{Note}
 use Rattle.postfix_rules.specs.Presets.{Book}
-use Rattle.session_model.specs.Account.{Account, Kept, time_after}
+use Rattle.session_model.specs.Account.{Account, Kept}
 use Rattle.session_model.specs.Thresholds.{note, notes_at, notes_over}
 use Rattle.stream_reader.specs.declared.next.Next.TheVariants as next
-use Rattle.stream_reader.specs.Judged.{is_above}
 use Rattle.stream_reader.specs.Reader.{GaveOne, NextGives, ReaderView, at_mark}
 use Rattle.thread_core.specs.CoreView.{CoreView}
 use Rattle.thread_core.specs.Stands.{CoreStands, consumed}
@@ -33,17 +31,6 @@ pub record SoFar (core : CoreView) (to_come : Option Coming) (book : Book) (a : 
   pub left : to_come ≡ Some (record { rest = later; mark = stream.mark })
   pub stands : CoreStands book core (consuming os a)
   pub exact : (pc : ℕ) → unwrap_or (entry pc) 0 ≡ passings_at (passings book a os) pc
-
-pub at_start : (core : CoreView) (to_come : Option Coming) (book : Book) (a : Account) (stream : Coming) (entry : ℕ → Option ℕ)
-    → CoreStands book core a → to_come ≡ Some stream → ((pc : ℕ) → entry pc ≡ None) → SoFar core to_come book a stream entry
-at_start core to_come book a stream entry stands told none = record {
-  os = [];
-  later = stream.rest;
-  rest = refl;
-  left = told;
-  stands = subst (λ (past : List Occ). CoreStands book core (record a { past = past })) (sym (append-nil a.past)) stands;
-  exact = λ pc. ap (λ (o : Option ℕ). unwrap_or o 0) (none pc);
-}
 
 notes_over_append : (book : Book) (thread : ℕ) (sets : List (Option Kept)) (past os ps : List Occ) → notes_over book thread sets past (os ++ ps) ≡ notes_over book thread sets past os ++ notes_over book thread sets (past ++ os) ps
 notes_over_append book thread sets past [] ps = ap (λ (xs : List Occ). notes_over book thread sets xs ps) (sym (append-nil past))
@@ -113,17 +100,6 @@ at_end core to_come to_come_then book a stream entry m gives s = go s.later s.re
         → ((pc : ℕ) → unwrap_or (entry pc) 0 ≡ passings_at (passings book a stream.rest) pc) × (stream.mark ≡ m)
     go [] e g = (λ pc. s.exact pc ∙ ap (λ (os : List Occ). passings_at (passings book a os) pc) (sym (e ∙ append-nil s.os)), same_mark m stream.mark g.0)
     go (x ∷ xs) e g = absurd (not_at_mark m x (sym g.0))
-
--- the stamp of a next occurrence is not before the core's time
-time_of : (last : Option Occ) (stamp : Option ℕ) (o : Occ) → option_map (λ (x : Occ). x.stamp) last ≡ stamp → is_above stamp o.stamp ≡ true → time_after last ≤ o.stamp
-time_of None stamp o e above = omega arith
-time_of (Some x) None o e above = absurd cc
-time_of (Some x) (Some s) o e above =
-    let same : x.stamp ≡ s = (let h : Some x.stamp ≡ Some s = e in cc) in
-    omega (arith, same, ltb-true s o.stamp above)
-
-pub in_time : (core : CoreView) (reader later : ReaderView) (o : Occ) → AreInStep core reader → GaveOne reader.start o later.start → time_after core.last ≤ o.stamp
-in_time core reader later o s n = time_of core.last reader.start.last o s.last n.above
 
 pub in_step_then : (core core_then : CoreView) (reader later : ReaderView) (o : Occ) → core_then.taken ≡ core.taken + 1 → core_then.last ≡ Some o → AreInStep core reader → GaveOne reader.start o later.start → AreInStep core_then later
 in_step_then core core_then reader later o t l s n = record {

@@ -1,7 +1,6 @@
 -- The calls with which a thread begins, and its account after them: its set has the events and counts from the first occurrence on.
-use Rattle.std.proofs.Common.{◌≡◌, ◌≢◌, ◌+◌, ◌<◌, ◌≤◌, ◌==◌, ℕ, zero, suc, Bool, true, false, not, List, [], ◌∷◌, ◌++◌, map, drop, take}
-use Rattle.std.proofs.Common.{length, replicate, pos, refl, sym, ◌∙◌, ap, ap₂, subst, arith, append_assoc, append-nil, Option, Some, None}
-use Rattle.std.proofs.Common.{Ok}
+use Rattle.std.proofs.Common.{◌≡◌, ◌≢◌, ◌+◌, ◌<◌, ◌≤◌, ◌==◌, ℕ, zero, suc, Bool, true, false, not, List, [], ◌∷◌, ◌++◌, map, drop, take, length}
+use Rattle.std.proofs.Common.{replicate, pos, refl, sym, ◌∙◌, ap, ap₂, subst, arith, append_assoc, append-nil, Option, Some, None, Ok}
 use Rattle.std.specs.Prelude.{if◌then◌else◌}
 use Rattle.std.specs.Option.{option_map}
 use Rattle.std.specs.List.{flat_map, list_any, range_with_len}
@@ -133,10 +132,6 @@ domain_with book s (e ∷ events) = domain_with book (with_event book e s) event
 done : (book : Book) (shape : Widths) (a : Account) (c : Call) → account_refusal book shape a c ≡ None
     → (step book shape a c).account ≡ (performed book shape a c).account
 done book shape a c e = ap (λ o. (unless o a (performed book shape a c)).account) e
-
-created : (book : Book) (shape : Widths) (t : ℕ) (rest : List Occ) (mark : Mark)
-    → (step book shape (opening t rest mark) call.Create).account ≡ holding t new_set rest mark
-created book shape t rest mark = refl
 
 add_rows : (b c : Bool) (d : Option Clash) → (if b then Some (Plain Einval) else if c then Some (Plain Ecount) else option_map Conflict d) ≡ None
     → first_of (row b Einval ∷ row c Ecount ∷ conflict_row d ∷ []) ≡ None

@@ -1,8 +1,7 @@
 -- Texts that grow at their end, and lists that are worked item by item.
-use Rattle.std.proofs.Common.{◌≡◌, ◌∙◌, ◌<◌, ◌≤◌, ◌+◌, ◌∷◌, ◌++◌, ℕ, zero, suc, List, [], Bool, Some, cond, count_by, length, slice_get}
-use Rattle.std.proofs.Common.{take, drop, map, sym, ap, refl, arith, append_assoc, get_or, slice_index_or}
-use Rattle.std.proofs.lemmas.List.{drop_all, drop_more, flat_map_more, map-append, take_more}
-use Rattle.std.proofs.lemmas.List.Sums.{sum_by-append}
+use Rattle.std.proofs.Common.{◌≡◌, ◌∙◌, ◌<◌, ◌≤◌, ◌+◌, ◌∷◌, ◌++◌, ℕ, zero, suc, List, [], Some, length, slice_get}
+use Rattle.std.proofs.Common.{take, drop, map, sym, ap, refl, arith, get_or, slice_index_or}
+use Rattle.std.proofs.lemmas.List.{drop_all, drop_more, flat_map_more, take_more}
 use Rattle.std.proofs.lemmas.List.FromFn.{map-range_with_len_more}
 use Rattle.std.proofs.lemmas.Option.{get_or_from_slice_get, slice_get_within}
 use Rattle.std.specs.Prelude.{fold}
@@ -17,10 +16,6 @@ pub range_more : (k : ℕ) → range_with_len 0 (k + 1) ≡ range_with_len 0 k +
 range_more k =
     sym (map_same (range_with_len 0 (k + 1))) ∙ map-range_with_len_more (λ x. x) 0 k k (omega arith)
     ∙ ap (λ (ks : List ℕ). ks ++ k ∷ []) (map_same (range_with_len 0 k))
-
--- two pieces one after the other
-pub both : (start middle after x y : Text) → middle ≡ start ++ x → after ≡ middle ++ y → after ≡ start ++ (x ++ y)
-both start middle after x y first second = second ∙ ap (λ (t : Text). t ++ y) first ∙ append_assoc start x y
 
 -- the text of one number more
 pub number_more : (f : ℕ → Text) (start now after : Text) (i : ℕ) → now ≡ start ++ flat_map f (range_with_len 0 i) → after ≡ now ++ f i → after ≡ start ++ flat_map f (range_with_len 0 (i + 1))
@@ -37,14 +32,6 @@ item_more f xs i x start now after small is so_far more =
     more ∙ ap (λ (t : Text). t ++ f x) so_far ∙ flat_map_more f start (take i xs) x
     ∙ ap (λ ys. start ++ flat_map f ys) (sym (take_more xs i x small ∙ ap (λ y. take i xs ++ y ∷ []) (sym is)))
 
--- the same of items that are seen by a view
-pub seen_more : {X Y : Type 0} (view : X → Y) (f : Y → Text) (xs : List X) (i : ℕ) (x : X) (start now after : Text) → i < length xs → x ≡ get_or xs i x →
-    now ≡ start ++ flat_map f (map view (take i xs)) → after ≡ now ++ f (view x) → after ≡ start ++ flat_map f (map view (take (i + 1) xs))
-seen_more view f xs i x start now after small is so_far more =
-    more ∙ ap (λ (t : Text). t ++ f (view x)) so_far ∙ flat_map_more f start (map view (take i xs)) (view x)
-    ∙ ap (λ ys. start ++ flat_map f ys)
-    (sym (ap (map view) (take_more xs i x small ∙ ap (λ y. take i xs ++ y ∷ []) (sym is)) ∙ map-append view (take i xs) (x ∷ [])))
-
 -- a fold goes on after one item more
 pub fold_on : {X Y A : Type 0} (view : X → Y) (f : A → Y → A) (xs : List X) (i : ℕ) (x : X) (now next all : A) → i < length xs → x ≡ get_or xs i x → next ≡ f now (view x) →
     fold f now (map view (drop i xs)) ≡ all → fold f next (map view (drop (i + 1) xs)) ≡ all
@@ -58,23 +45,6 @@ fold_end view f xs i now all past so_far =
     let none : drop i xs ≡ [] = drop_all i xs past in
     let e = rw none at so_far in e
 
-count_first : {Y : Type 0} (p : Y → Bool) (y : Y) (ys : List Y) → count_by p (y ∷ ys) ≡ count_by p (y ∷ []) + count_by p ys
-count_first p y ys = sum_by-append (λ z. cond (p z) 1 0) (y ∷ []) ys
-
--- one item more is counted
-pub count_on : {X Y : Type 0} (view : X → Y) (p : Y → Bool) (xs : List X) (i : ℕ) (x : X) (now next all : ℕ) → i < length xs → x ≡ get_or xs i x → next ≡ now + count_by p (view x ∷ []) →
-    now + count_by p (map view (drop i xs)) ≡ all → next + count_by p (map view (drop (i + 1) xs)) ≡ all
-count_on view p xs i x now next all small is step so_far =
-    let here : drop i xs ≡ x ∷ drop (i + 1) xs = drop_more xs i x small ∙ ap (λ y. y ∷ drop (i + 1) xs) (sym is) in
-    let e = ap (λ ys. count_by p (map view ys)) here ∙ count_first p (view x) (map view (drop (i + 1) xs)) in
-    omega (arith, step, e, so_far)
-
-pub count_end : {X Y : Type 0} (view : X → Y) (p : Y → Bool) (xs : List X) (i : ℕ) (now all : ℕ) → length xs ≤ i → now + count_by p (map view (drop i xs)) ≡ all → now ≡ all
-count_end view p xs i now all past so_far =
-    let none : drop i xs ≡ [] = drop_all i xs past in
-    let e = rw none at so_far in
-    omega (arith, e)
-
 -- the text of one value more
 pub value_more : {X : Type 0} (f : X → Text) (xs : List X) (i : ℕ) (x : X) (start now after : Text) → slice_get xs i ≡ Some x →
     now ≡ start ++ flat_map f (take i xs) → after ≡ now ++ f x → after ≡ start ++ flat_map f (take (i + 1) xs)
@@ -86,8 +56,3 @@ pub at_place : {X Y : Type 0} (view : X → Y) (xs : List X) (i : ℕ) (x : X) (
 at_place view [] i x d small is = absurd (omega arith)
 at_place view (y ∷ ys) zero x d small is = ap view (sym is)
 at_place view (y ∷ ys) (suc i) x d small is = at_place view ys i x d (omega arith) is
-
-pub past_end : {X Y : Type 0} (view : X → Y) (xs : List X) (i : ℕ) (d : Y) → length xs ≤ i → slice_index_or (map view xs) i d ≡ d
-past_end view [] i d past = refl
-past_end view (y ∷ ys) zero d past = absurd (omega arith)
-past_end view (y ∷ ys) (suc i) d past = past_end view ys i d (omega arith)

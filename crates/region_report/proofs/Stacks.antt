@@ -1,30 +1,14 @@
 -- The open regions as they are kept.
-use Rattle.std.proofs.Common.{OnOk, Result, Ok, Err, true, false, drop, eq-eqb, slice_set, ◌≡◌, ◌∙◌, ◌<◌, ◌≤◌, ◌+◌, ◌-◌, ◌∷◌, ◌++◌, ℕ, zero}
-use Rattle.std.proofs.Common.{suc, List, [], length, take, map, replicate, sym, ap, refl, arith, get_or, Vec, Global}
-use Rattle.std.proofs.lemmas.List.{drop_all, drop_more, length-map, map-append, map-set, replicate_more}
+use Rattle.std.proofs.Common.{OnOk, Result, Ok, Err, true, false, drop, eq-eqb, slice_set, ◌≡◌, ◌∙◌, ◌<◌, ◌≤◌, ◌+◌, ◌∷◌, ℕ}
+use Rattle.std.proofs.Common.{List, [], length, sym, ap, refl, arith, get_or, Vec, Global}
+use Rattle.std.proofs.lemmas.List.{drop_all, drop_more, length-map, map-set}
 use Rattle.std.proofs.lemmas.Bool.{ne_eqb}
-use Rattle.region_report.specs.Lines.{Open, after_call, after_line}
+use Rattle.region_report.specs.Lines.{after_call, after_line}
 use Rattle.region_report.specs.Opens.{open_text, stack_text, stacks_text}
 use Rattle.region_report.specs.Scripts.{all_ended}
 use Rattle.region_report.specs.declared.regions.RegionLine.{RegionLine}
 use Rattle.region_report.proofs.Pieces.{at_place}
 use Rattle.region_report.specs.declared.opened.OpenRegion.{OpenRegion}
-
-map-take : {X Y : Type 0} (f : X → Y) (n : ℕ) (xs : List X) → map f (take n xs) ≡ take n (map f xs)
-map-take f zero xs = refl
-map-take f (suc n) [] = refl
-map-take f (suc n) (x ∷ xs) = ap (λ ys. f x ∷ ys) (map-take f n xs)
-
--- without the innermost
-pub ended : (opens : List OpenRegion) (n : ℕ) → n ≡ length opens → stack_text (take (n - 1) opens) ≡ take (length (stack_text opens) - 1) (stack_text opens)
-ended opens n e = map-take open_text (n - 1) opens ∙ ap (λ k. take (k - 1) (stack_text opens)) (e ∙ sym (length-map opens open_text))
-
--- no regions of one thread more
-pub none_more : (threads : List (Vec OpenRegion Global)) (t : ℕ) (none : Vec OpenRegion Global) → none.items ≡ [] → stacks_text threads ≡ replicate t [] → stacks_text (threads ++ none ∷ []) ≡ replicate (t + 1) []
-none_more threads t none e so_far =
-    map-append (λ (opens : Vec OpenRegion Global). stack_text opens.items) threads (none ∷ [])
-    ∙ ap (λ (opens : List OpenRegion). stacks_text threads ++ stack_text opens ∷ []) e
-    ∙ ap (λ (all : List (List Open)). all ++ [] ∷ []) so_far ∙ replicate_more t []
 
 here : (threads : List (Vec OpenRegion Global)) (i : ℕ) (x : Vec OpenRegion Global) → i < length threads → x ≡ get_or threads i x → drop i threads ≡ x ∷ drop (i + 1) threads
 here threads i x small is = drop_more threads i x small ∙ ap (λ y. y ∷ drop (i + 1) threads) (sym is)

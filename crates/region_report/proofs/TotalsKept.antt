@@ -1,7 +1,6 @@
 -- The totals of a thread's regions after one span more, and the lines of regions one by one.
-use Rattle.std.proofs.Common.{◌≡◌, ◌∙◌, ◌<◌, ◌≤◌, ◌+◌, ◌^◌, ◌∷◌, ◌++◌, ℕ, ℤ, zero, suc, Bool, true, false, not, List, [], None}
-use Rattle.std.proofs.Common.{Some, All, cond, count_by, drop, length, map, take, refl, sym, ap, ap₂, arith, append_assoc, append-nil}
-use Rattle.std.proofs.Common.{get_or, if◌then◌else◌, w64}
+use Rattle.std.proofs.Common.{◌≡◌, ◌∙◌, ◌<◌, ◌≤◌, ◌+◌, ◌^◌, ◌∷◌, ◌++◌, ℕ, ℤ, zero, suc, Bool, true, false, not, List, [], None, Some, All, cond}
+use Rattle.std.proofs.Common.{count_by, drop, length, map, take, refl, sym, ap, ap₂, arith, append_assoc, append-nil, get_or, if◌then◌else◌, w64}
 use Rattle.std.specs.Prelude.{◌&&◌, ◌==◌, ◌||◌, fold, nat_lt, pos, position, replicate, slice_get, slice_set}
 use Rattle.std.specs.Int.{int_wrapping_add}
 use Rattle.std.specs.List.{flat_map, list_any, position_or_len}

@@ -4,7 +4,7 @@ use Rattle.std.specs.List.{list_all}
 use Rattle.std.specs.Str.Lines.{lines}
 use Rattle.papi_base.specs.declared.limits.TheConstants.{THREADS}
 use Rattle.script_lines.specs.declared.fault.LineFault.{LineFault}
-use Rattle.script_lines.specs.ByLine.{Format, ReadsLines, Refused, lines_from}
+use Rattle.script_lines.specs.ByLine.{Format, ReadsLines, lines_from}
 use Rattle.region_report.specs.Lines.{Open, after_line, after_reading, region_line}
 use Rattle.region_report.specs.declared.fault.RegionCause.{RegionCause}
 use Rattle.region_report.specs.declared.fault.RegionCause.TheVariants.{NotEnded}

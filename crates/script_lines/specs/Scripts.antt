@@ -5,7 +5,7 @@ use Rattle.script_lines.specs.declared.fault.LineFault.{LineFault}
 use Rattle.script_lines.specs.declared.fault.ScriptCause.{ScriptCause}
 use Rattle.script_lines.specs.declared.script.Script.{Script}
 use Rattle.script_lines.specs.declared.script.ScriptLine.{ScriptLine}
-use Rattle.script_lines.specs.ByLine.{Format, ReadsLines, Refused, lines_from}
+use Rattle.script_lines.specs.ByLine.{Format, ReadsLines, lines_from}
 use Rattle.script_lines.specs.Lines.{call_line}
 
 -- scripts, where so many call lines stand above a line

@@ -18,9 +18,6 @@ nothing-more (Some zs) = ap Some (sym (append-nil zs))
 
 -- ---- a text and what comes after it
 
-pub written-none : (taken : Option (List ℕ)) → IsWrittenSoFar taken taken [] []
-written-none taken = record { written = []; taken = nothing-more taken; whole = refl }
-
 gathered-more : (before taken : Option (List ℕ)) (text more gathered : List ℕ) → IsWrittenSoFar before taken text gathered → IsWrittenSoFar before taken (text ++ more) (gathered ++ more)
 gathered-more before taken text more gathered w = record {
   written = w.written;

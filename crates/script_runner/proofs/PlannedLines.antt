@@ -2,7 +2,7 @@
 use Rattle.std.proofs.Common.{◌≡◌, ◌∙◌, ◌<◌, ◌≤◌, ◌+◌, ◌∷◌, ◌++◌, ℕ, Bool, true, false, List, [], length, map, refl, ap, ap₂, sym, subst, arith, append_assoc, length-append, take, drop, get_or}
 use Rattle.std.proofs.lemmas.List.{append-nil, map-append, take-append-drop, take_all, take_more}
 use Rattle.std.proofs.lemmas.List.Concat.{flat_map-append}
-use Rattle.std.proofs.lemmas.List.Elements.{All-nil, All-push}
+use Rattle.std.proofs.lemmas.List.Elements.{All-push}
 use Rattle.std.specs.List.{flat_map}
 use Rattle.std.specs.Prelude.{All, Ok, Err, if◌then◌else◌}
 use Rattle.component_table.specs.Catalogs.{CatalogView, shape_of}
@@ -129,9 +129,6 @@ pub record IsPlanned (catalog : CatalogView) (done : List ScriptLine) (plan : Li
   pub threads : All (λ p. p.thread < THREADS) plan
   pub mentioned : codes ≡ mentioned_in (map (line_of catalog) done)
   pub few : length codes ≤ length done
-
-pub planned-none : (catalog : CatalogView) → IsPlanned catalog [] [] []
-planned-none catalog = record { asks = refl; heads = refl; good = All-nil (IsGoodLine catalog); threads = All-nil (λ p. p.thread < THREADS); mentioned = refl; few = omega arith }
 
 pub planned-more : (catalog : CatalogView) (done : List ScriptLine) (l : ScriptLine) (plan : List PlanLine) (word : CallName) (asked : Asked) (planned : Planned) (codes codes' : List Native)
     → l.thread < THREADS → word ≡ name_of l.call → asked ≡ asked_of catalog l.call → IsGoodAsk catalog asked → codes' ≡ joined_by codes (mentions_of asked) → planned ≡ planned_by (setting_of catalog) codes' asked

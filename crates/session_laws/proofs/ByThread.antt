@@ -1,7 +1,6 @@
 -- The world looked at on one thread: by induction on the lines of the script.
-use Rattle.std.proofs.Common.{◌≡◌, ◌≢◌, ℕ, Bool, true, false, ◌==◌, ◌&&◌, if◌then◌else◌, List, [], ◌∷◌, ◌++◌, refl, sym, ◌∙◌, ap, ap₂}
-use Rattle.std.proofs.Common.{subst, arith, append_assoc, append-nil, slice_get, slice_set, slice_index_or, unwrap_or, zero, suc, ◌+◌, ◌<◌}
-use Rattle.std.proofs.Common.{Some}
+use Rattle.std.proofs.Common.{◌≡◌, ◌≢◌, ℕ, Bool, true, false, ◌==◌, ◌&&◌, if◌then◌else◌, List, [], ◌∷◌, ◌++◌, refl, sym, ◌∙◌, ap, ap₂, subst, arith}
+use Rattle.std.proofs.Common.{append_assoc, append-nil, slice_get, slice_set, slice_index_or, unwrap_or, zero, suc, ◌+◌, ◌<◌, Some}
 use Rattle.std.proofs.lemmas.Bool.Decides.{nat_tests}
 use Rattle.papi_base.specs.declared.native.Native.{Native}
 use Rattle.postfix_rules.specs.Presets.{Book}

@@ -6,7 +6,6 @@ pub mod Sets
 pub mod AgreementStays
 pub mod Within
 pub mod Apart
-pub mod Mapped
 pub mod Counted
 pub mod Merging
 pub mod Fits

@@ -4,8 +4,7 @@ use Rattle.papi_base.specs.declared.occurrence.Occ.{Occ}
 use Rattle.papi_base.specs.declared.native.Native.{Native}
 use Rattle.papi_base.specs.declared.native.EventRef.{EventRef}
 use Rattle.overflow_dispatch.specs.declared.handler.Note.{Note}
-use Rattle.postfix_rules.specs.Presets.{Book}
-use Rattle.postfix_rules.specs.Presets.{lead}
+use Rattle.postfix_rules.specs.Presets.{Book, lead}
 use Rattle.session_model.specs.Account.{Kept}
 use Rattle.session_model.specs.Counts.{count}
 

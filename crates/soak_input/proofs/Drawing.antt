@@ -1,7 +1,7 @@
 -- What is drawn, and what a source that draws it has left.
 use Rattle.std.proofs.Common.{◌≡◌, ◌∙◌, ◌<◌, ◌≤◌, ◌+◌, ◌-◌, ◌*◌, ◌/◌, ◌%◌, ◌∷◌, ◌++◌, ℕ, zero, suc, false, [], Ok, length, take, drop, refl, sym, ap, ap₂, arith, append_assoc, length-append}
 use Rattle.std.proofs.Math.Nat.{mod-add-mod}
-use Rattle.std.proofs.lemmas.List.{drop-drop, drop_all, drop_at, length-take-le, take-append-drop, take-append-le}
+use Rattle.std.proofs.lemmas.List.{drop-drop, drop_all, length-take-le, take-append-drop, take-append-le}
 use Rattle.std.specs.Fmt.{digit_glyph}
 use Rattle.papi_base.specs.Outside.{Gives}
 use Rattle.soak_input.specs.Generator.{next}
@@ -73,10 +73,6 @@ filled_more all buf middle room back rest filled n small some so_far more =
     so_far ∙ ap (λ (t : Text). take filled buf ++ t) more ∙ sym (append_assoc (take filled buf) (take n room) rest)
     ∙ ap (λ (t : Text). take filled buf ++ t ++ rest) (sym (take-append-le n room back some))
     ∙ ap (λ (t : Text). t ++ rest) (sym (take_past (take filled buf) (room ++ back) filled n (length-take-le filled buf small)))
-
--- what is left after a read
-pub left_after : (all buf rest : Text) (n : ℕ) → n ≤ length buf → all ≡ take n buf ++ rest → well_ended rest ≡ well_ended (drop n all)
-left_after all buf rest n small is = ap well_ended (sym (ap (drop n) is ∙ drop_at (take n buf) rest n (length-take-le n buf small)))
 
 nothing_in : (buf rest : Text) (n : ℕ) → n ≤ length buf → take n buf ++ rest ≡ [] → n ≡ 0
 nothing_in buf rest n small e = let long : length (take n buf ++ rest) ≡ 0 = ap length e in omega (arith, length-append (take n buf) rest, length-take-le n buf small, long)

@@ -1,6 +1,6 @@
 -- Sums of values, of which some are added.
-use Rattle.std.proofs.Common.{◌≡◌, ◌∙◌, ◌<◌, ◌≤◌, ◌+◌, ◌∷◌, ℕ, ℤ, List, Some, get_or, length, drop, sym, ap}
-use Rattle.std.proofs.lemmas.List.{drop_all, drop_more}
+use Rattle.std.proofs.Common.{◌≡◌, ◌∙◌, ◌<◌, ◌+◌, ◌∷◌, ℕ, ℤ, List, Some, get_or, length, drop, sym, ap}
+use Rattle.std.proofs.lemmas.List.{drop_more}
 use Rattle.std.proofs.lemmas.Option.{get_or_from_slice_get, slice_get_within}
 use Rattle.std.specs.Prelude.{fold, slice_get}
 
@@ -15,7 +15,3 @@ from_value xs i x h = from_item xs i x (slice_get_within xs i x h) (sym (get_or_
 pub added_more : {X : Type 0} (f : ℤ → X → ℤ) (xs : List X) (i : ℕ) (x : X) (sum next all : ℤ) → drop i xs ≡ x ∷ drop (i + 1) xs → next ≡ f sum x →
     fold f sum (drop i xs) ≡ all → fold f next (drop (i + 1) xs) ≡ all
 added_more f xs i x sum next all is more so_far = ap (λ s. fold f s (drop (i + 1) xs)) more ∙ ap (λ ys. fold f sum ys) (sym is) ∙ so_far
-
--- all items are added
-pub added_all : {X : Type 0} (f : ℤ → X → ℤ) (xs : List X) (i : ℕ) (sum all : ℤ) → length xs ≤ i → fold f sum (drop i xs) ≡ all → sum ≡ all
-added_all f xs i sum all end so_far = sym (ap (λ ys. fold f sum ys) (drop_all i xs end)) ∙ so_far

@@ -1,21 +1,20 @@
 -- The stamps of a stream rise, and it has at most 5,162,220 occurrences.
-use Rattle.std.proofs.Common.{◌≡◌, ◌∙◌, ◌+◌, ◌*◌, ◌<◌, ◌≤◌, ◌==◌, ◌&&◌, ◌∷◌, ℕ, Bool, true, false, List, [], Option, Some, None, length}
-use Rattle.std.proofs.Common.{refl, sym, ap, subst, arith, nat_lt, nat_le, codes, bytes_eq, IfSome, ◌⊎◌, inl, inr}
+use Rattle.std.proofs.Common.{◌≡◌, ◌∙◌, ◌+◌, ◌<◌, ◌≤◌, ◌==◌, ◌&&◌, ◌∷◌, ℕ, Bool, true, false, List, [], Option, Some, None, length}
+use Rattle.std.proofs.Common.{refl, sym, ap, subst, arith, nat_lt, nat_le, codes, bytes_eq, IfSome}
 use Rattle.std.specs.Prelude.{if◌then◌else◌, cond}
 use Rattle.std.specs.List.{list_all, slice_split, onto_first}
 use Rattle.std.specs.Option.{option_map, option_map_or}
 use Rattle.std.specs.Str.Parse.{digits_value}
 use Rattle.std.proofs.lemmas.Bool.{and_parts, leb-true, ltb-false, lt-ltb, eqb-true}
 use Rattle.papi_base.specs.Numerals.{decimal_in, flag_bit, hex_in, is_decimal, is_hex_digit, is_numeral}
-use Rattle.papi_base.specs.declared.outside.Ending.{Ending}
 use Rattle.papi_base.specs.declared.occurrence.Occ.{Occ}
 use Rattle.papi_base.specs.declared.occurrence.LineCause.TheVariants as cause
-use Rattle.stream_reader.specs.Lines.{Line, tape_lines}
+use Rattle.stream_reader.specs.Lines.{Line}
 use Rattle.stream_reader.specs.declared.line.LineStart.{LineStart}
 use Rattle.stream_reader.specs.declared.line.Judgement.{Judgement}
 use Rattle.stream_reader.specs.declared.line.Judgement.TheVariants.{Bad, Skipped, Version, Occurs}
 use Rattle.stream_reader.specs.Judged.{field, fields_judged, fields_of, given, is_above, is_skipped, judged, line_text, mode_of, occ_of, stamp_of, text_judged, without_return}
-use Rattle.stream_reader.specs.Occurs.{IsStart, Rise, after, line_passed, joined, occurs_from, occurs_of, first_start}
+use Rattle.stream_reader.specs.Occurs.{IsStart, after, line_passed}
 
 -- ---- how long fields are
 
@@ -267,53 +266,3 @@ state-next st line (Bad c) e s = state-passed st line s
 state-next st line Skipped e s = state-passed st line s
 state-next st line Version e s = let c = s.counted in record { counted = omega (arith, c); below = λ q. cc q }
 state-next st line (Occurs o) e s = state-after st line o s (line-occurrence st line o e)
-
--- the stamps of what is left rise from above the last one
-pub rise-from : (e : Ending) (st : LineStart) (lines : List Line) → IsStart st → Rise st.last (occurs_from e st lines).rest
-unfolding occurs_from Rise
-rise-from e st [] s = tt
-rise-from e st (line ∷ rest) s = go (judged st line) refl (rise-from e (after st line (judged st line)) rest (state-next st line (judged st line) refl s))
-  where
-    go : (j : Judgement) → judged st line ≡ j → Rise (after st line j).last (occurs_from e (after st line j) rest).rest → Rise st.last (joined st.number j (occurs_from e (after st line j) rest)).rest
-    go (Bad c) q more = tt
-    go Skipped q more = more
-    go Version q more = more
-    go (Occurs o) q more = let f = stamp-fits st line o s (line-occurrence st line o q) in (f.0, f.1, more)
-
--- the occurrences of what is left take 13 bytes each
-pub few-from : (e : Ending) (st : LineStart) (lines : List Line) → IsStart st → ((occurs_from e st lines).rest ≡ []) ⊎ (13 * (st.given + length (occurs_from e st lines).rest) ≤ 67108864)
-unfolding occurs_from
-few-from e st [] s = inl refl
-few-from e st (line ∷ rest) s = go (judged st line) refl (few-from e (after st line (judged st line)) rest (state-next st line (judged st line) refl s))
-  where
-    go : (j : Judgement) → judged st line ≡ j
-        → ((occurs_from e (after st line j) rest).rest ≡ []) ⊎ (13 * ((after st line j).given + length (occurs_from e (after st line j) rest).rest) ≤ 67108864)
-        → ((joined st.number j (occurs_from e (after st line j) rest)).rest ≡ []) ⊎ (13 * (st.given + length (joined st.number j (occurs_from e (after st line j) rest)).rest) ≤ 67108864)
-    go (Bad c) q more = inl refl
-    go Skipped q more = more
-    go Version q more = more
-    go (Occurs o) q (inl none) =
-        let l = line-occurrence st line o q in
-        let c = s.counted in
-        let z = l.size in
-        let w = l.within in
-        let n : length (occurs_from e (after st line (Occurs o)) rest).rest ≡ 0 = rw none refl in
-        inr (omega (arith, c, z, w, n))
-    go (Occurs o) q (inr more) = inr (omega (arith, more))
-
-first_start-state : IsStart first_start
-first_start-state = record { counted = omega arith; below = λ e. tt }
-
--- the stamps of a tape rise
-pub stamps-rise : (e : Ending) (bytes : List ℕ) → Rise None (occurs_of e bytes).rest
-unfolding occurs_of
-stamps-rise e bytes = rise-from e first_start (tape_lines e bytes) first_start-state
-
--- and it has at most 5,162,220 occurrences
-pub few-occurrences : (e : Ending) (bytes : List ℕ) → length (occurs_of e bytes).rest ≤ 5162220
-unfolding occurs_of
-few-occurrences e bytes = go (few-from e first_start (tape_lines e bytes) first_start-state)
-  where
-    go : ((occurs_from e first_start (tape_lines e bytes)).rest ≡ []) ⊎ (13 * (0 + length (occurs_from e first_start (tape_lines e bytes)).rest) ≤ 67108864) → length (occurs_from e first_start (tape_lines e bytes)).rest ≤ 5162220
-    go (inl none) = rw none (omega arith)
-    go (inr le) = omega (arith, le)

@@ -1,5 +1,5 @@
 -- The bytes of a reader: the place of a line, and a piece after it.
-use Rattle.std.proofs.Common.{◌≡◌, ◌∙◌, ◌+◌, ◌-◌, ◌≤◌, ◌++◌, ℕ, List, [], length, take, drop, sym, ap, arith, length-drop, length-append, take-take}
+use Rattle.std.proofs.Common.{◌≡◌, ◌∙◌, ◌+◌, ◌-◌, ◌≤◌, ◌++◌, ℕ, List, [], length, take, drop, sym, ap, arith, length-drop, length-append}
 use Rattle.std.proofs.Math.Seq.{take-add}
 use Rattle.std.proofs.lemmas.List.{append-nil, drop-drop, drop-take, drop_all, drop_at, length-take-le}
 use borrow.Rule.Slice.PartMut.{mid_of, put_mid}
@@ -35,10 +35,6 @@ pub held-drop : (from to n : ℕ) (bytes : List ℕ) → n ≤ to - from → tak
 held-drop from to n bytes le =
     let size : n + (to - (from + n)) ≡ to - from = omega arith in
     sym (ap (λ j. drop n (take j (drop from bytes))) (sym size) ∙ drop-take n (to - (from + n)) (drop from bytes) ∙ ap (take (to - (from + n))) (drop-drop n from bytes))
-
--- the front of the bytes held
-pub held-take : (from to n : ℕ) (bytes : List ℕ) → n ≤ to - from → take n (drop from bytes) ≡ take n (take (to - from) (drop from bytes))
-held-take from to n bytes le = sym (take-take n (to - from) (drop from bytes) le)
 
 pub length-held : (from to : ℕ) (bytes : List ℕ) → from ≤ to → to ≤ length bytes → length (take (to - from) (drop from bytes)) ≡ to - from
 length-held from to bytes order within = length-take-le (to - from) (drop from bytes) (omega (arith, length-drop from bytes))

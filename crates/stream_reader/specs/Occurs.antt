@@ -1,16 +1,14 @@
 -- The occurrences of a tape, and how it ends: this project's own stream format, docs/FORMATS.md.
-use Rattle.std.specs.Prelude.{◌≡◌, ◌≤◌, ◌<◌, ◌*◌, ⊤, IfSome, ◌+◌, ℕ, Bool, true, false, List, [], ◌∷◌, length, Option, Some, None}
+use Rattle.std.specs.Prelude.{◌≡◌, ◌≤◌, ◌<◌, ◌*◌, IfSome, ◌+◌, ℕ, Bool, true, false, List, [], ◌∷◌, length, Some, None}
 use Rattle.papi_base.specs.Numerals.{flag_bit}
 use Rattle.papi_base.specs.Streams.{Mark, Dry, Bad, Fault, Coming}
 use Rattle.papi_base.specs.declared.outside.Ending.{Ending}
 use Rattle.papi_base.specs.declared.outside.Ending.TheVariants as ending
-use Rattle.papi_base.specs.declared.occurrence.Occ.{Occ}
-use Rattle.papi_base.specs.declared.limits.TheConstants.{LAST_STAMP}
 use Rattle.stream_reader.specs.declared.line.LineStart.{LineStart}
 use Rattle.stream_reader.specs.declared.line.Judgement.{Judgement}
 use Rattle.stream_reader.specs.declared.line.Judgement.TheVariants as judgement
 use Rattle.stream_reader.specs.Lines.{Line, tape_lines}
-use Rattle.stream_reader.specs.Judged.{is_above, judged}
+use Rattle.stream_reader.specs.Judged.{judged}
 
 -- a line after which the stream gives nothing more
 abbrev pub is_bad : Judgement → Bool
@@ -60,11 +58,6 @@ unfoldable pub occurs_of : Ending → List ℕ → Coming
 occurs_of e bytes = occurs_on e first_start bytes
 
 -- ---- what every stream keeps
-
--- the stamps rise strictly, from above the last one, and are in range
-unfoldable pub Rise : Option ℕ → List Occ → Type 0
-Rise last [] = ⊤
-Rise last (o ∷ rest) = (is_above last o.stamp ≡ true) × (o.stamp ≤ LAST_STAMP) × Rise (Some o.stamp) rest
 
 -- what is so where a line begins: occurrences take 13 bytes each, and those of version 1 are numbered
 pub record IsStart (start : LineStart) : Type 0 where

@@ -40,10 +40,6 @@ tape_of v = option_and_then (λ (s : SourceView). s.tape) v.source
 abbrev pub faults_of : ReaderView → ℕ
 faults_of v = option_map_or (λ (s : SourceView). s.faults) v.source 0
 
--- how many occurrences it has given
-abbrev pub given_by : ReaderView → ℕ
-given_by v = v.start.given
-
 -- a reader that was not asked yet
 abbrev pub new_view : Option SourceView → Bool → ReaderView
 new_view source over = record { start = first_start; held = []; over = over; asked = false; source = source }

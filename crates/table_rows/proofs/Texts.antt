@@ -49,9 +49,6 @@ pub digits-all : (t : Text) → Digits t → list_all is_digit t ≡ true
 digits-all [] h = refl
 digits-all (b ∷ t) h = and_from (is_digit b) (list_all is_digit t) (grind (arith, tests, h.0)) (digits-all t h.1)
 
-pub digits-plain : (t : Text) → Digits t → NoBlanks t
-digits-plain t h = all-map (λ b. (48 ≤ b) × (b ≤ 57)) (λ b. is_blank b ≡ false) t (λ b r. grind (arith, tests, r)) h
-
 pub decimal-digits : (n : ℕ) → n < 2 ^ 64 → Digits (decimal n)
 decimal-digits n lt = digits-from (decimal n) (decimal_is_IsNumeral n lt).0.1
 

@@ -1,6 +1,5 @@
 -- The texts of a table's fields; the numbers that they write are Numerals'.
-use Rattle.std.specs.Prelude.{◌&&◌, ◌||◌, ◌==◌, ℕ, Bool, List, [], ◌∷◌, length, reverse}
-use Rattle.std.specs.Prelude.{unwrap_or, if◌then◌else◌, nat_le, slice_index}
+use Rattle.std.specs.Prelude.{◌&&◌, ◌||◌, ◌==◌, ℕ, Bool, List, [], ◌∷◌, length, reverse, unwrap_or, if◌then◌else◌, nat_le, slice_index}
 use Rattle.std.specs.List.{list_all, slice_get}
 use Rattle.table_rows.specs.declared.limits.TheConstants.{LONGEST_NAME}
 pub use Rattle.papi_base.specs.Numerals.{is_digit, is_empty, is_hex_digit}

@@ -3,10 +3,6 @@ use Rattle.std.proofs.Common.{◌≤◌, inl, inr, ℕ, Option, Some, None, arit
 use Rattle.papi_base.specs.Outside.{Rose}
 use Rattle.thread_session.specs.Faults.{FaultsKept, FaultsRose}
 
-pub kept-same : (a : Option ℕ) → FaultsKept a a
-kept-same None = tt
-kept-same (Some n) = omega arith
-
 pub kept-kept : (a b c : Option ℕ) → FaultsKept a b → FaultsKept b c → FaultsKept a c
 kept-kept None None c h i = i
 kept-kept (Some x) (Some y) (Some z) h i = omega (arith, h, i)

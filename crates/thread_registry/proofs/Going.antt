@@ -1,7 +1,7 @@
 -- A job after its first calls, and after all of them.
-use Rattle.std.proofs.Common.{◌≡◌, ℕ, ◌+◌, ◌<◌, ◌≤◌, Bool, true, false, List, [], ◌∷◌, ◌++◌, All, length, take, get_or, refl, ap, ap₂, sym, ◌∙◌, append_assoc, length-append, arith, subst, inl, inr}
+use Rattle.std.proofs.Common.{◌≡◌, ℕ, ◌+◌, ◌<◌, ◌≤◌, Bool, true, false, List, [], ◌∷◌, ◌++◌, All, length, take, get_or, ap, ap₂, sym, ◌∙◌, append_assoc, length-append, arith, subst, inl, inr}
 use Rattle.std.proofs.lemmas.Bool.{cases_lt}
-use Rattle.std.proofs.lemmas.List.{append-nil, take_all}
+use Rattle.std.proofs.lemmas.List.{take_all}
 use Rattle.std.proofs.lemmas.List.Elements.{All-push}
 use Rattle.std.specs.Bool.{MatchBool}
 use Rattle.postfix_rules.specs.Presets.{Book}
@@ -21,7 +21,7 @@ use Rattle.thread_session.specs.Prospects.{CanCome}
 use Rattle.thread_session.specs.Stands.{IsReady, Stands, to_come}
 use Rattle.thread_registry.specs.JobView.{JobView, Worked, Finished, FinishedTo, CutShort, WorkedOrIdle, WorkedOrIdleOn, seen_of}
 use Rattle.thread_registry.proofs.Folds.{after-more, replies-more, notes-more, replies-front, notes-part}
-use Rattle.thread_registry.proofs.Faults.{kept-same, kept-kept, kept-rose, rose-kept}
+use Rattle.thread_registry.proofs.Faults.{kept-kept, kept-rose, rose-kept}
 
 -- the account, the replies and the notes after k calls
 pub record Along (book : Book) (a : Account) (x y : JobView) (k : ℕ) : Type 0 where
@@ -59,35 +59,8 @@ pub record Going (book : Book) (x y : JobView) (k : ℕ) : Type 0 where
   pub along : (a : Account) → Stands book x.session a → Along book a x y k
   pub towards : (left : Coming) → CanCome y.session.reader left → GoingTo book x y k left
 
-All-nil : {X : Type 0} (P : X → Type 0) → All P []
-All-nil P = λ k d l. absurd (omega (arith, l))
-
-grown-none : (ns : List Note) → Grown ns ns
-grown-none ns = ([], sym (append-nil ns))
-
 grown-more : (a b c : List Note) → Grown a b → Grown b c → Grown a c
 grown-more a b c h i = (h.0 ++ i.0, i.1 ∙ (ap (λ v. v ++ i.0) h.1 ∙ append_assoc a h.0 i.0))
-
-pub going-none : (book : Book) (x y : JobView) → IsReady book x.session → y ≡ x → x.starved ≡ false → Going book x y 0
-going-none book x y ready e q =
-    subst (λ z. Going book x z 0) (sym e)
-    (record {
-      calls = refl;
-      starved = q;
-      shape = refl;
-      ready = ready;
-      faults = kept-same (fault_count x.session.reader);
-      grown = grown-none x.notes;
-      made = ([], record { appended = sym (append-nil x.replies); counted = refl; faulty = All-nil (λ r. IsFaultReply r → FaultsRose (fault_count x.session.reader) (fault_count x.session.reader)) });
-      along = λ a s. record { stands = s; replies = sym (append-nil x.replies); notes = sym (append-nil x.notes) };
-      towards =
-          λ left h.
-          record {
-            expected = left;
-            can_come = h;
-            along = λ a s e. record { core = s; comes_then = e; replies = sym (append-nil x.replies); notes = sym (append-nil x.notes) };
-          };
-    })
 
 -- what a call gave
 pub record Called (book : Book) (y z : JobView) (c : Call) (r : Reply) : Type 0 where

@@ -1,6 +1,5 @@
 -- A call that is not a run leaves the stream alone, and notes nothing.
-use Rattle.std.proofs.Common.{◌≡◌, ℕ, false, List, [], ◌++◌, refl, ap, sym, subst, ◌∙◌, ap₂, arith, append-nil, Option, Some, None}
-use Rattle.std.specs.Option.{option_map}
+use Rattle.std.proofs.Common.{◌≡◌, ℕ, false, List, [], ◌++◌, refl, ap, sym, subst, ◌∙◌, ap₂, append-nil, Option, Some, None}
 use Rattle.papi_base.specs.declared.occurrence.Occ.{Occ}
 use Rattle.papi_base.specs.Streams.{Coming, Mark}
 use Rattle.overflow_dispatch.specs.Notes.{PartAdded}
@@ -24,7 +23,7 @@ use Rattle.thread_core.specs.Stands.{AgreesWith}
 use Rattle.thread_session.specs.Faults.{IsFaultBody, IsFaultReply}
 use Rattle.thread_session.specs.Follows.{Does, FollowsAs, FollowsTo, expecting, is_run}
 use Rattle.thread_session.specs.Prospects.{CanCome}
-use Rattle.thread_session.specs.SessionView.{AreInStep, SessionView}
+use Rattle.thread_session.specs.SessionView.{SessionView}
 use Rattle.thread_session.proofs.Endings.{core_at, follows_reply, follows_stands}
 
 -- what a call leaves of the stream, its notes, and that the source did not fail
@@ -143,11 +142,3 @@ still_by (call.Run n) other = absurd (other n refl)
 -- the notes of a run that is this call
 pub part_of_call : (book : Book) (shape : Widths) (a : Account) (made run : Call) (before after : List Note) → made ≡ run → PartAdded before (step book shape a run).notes after → PartAdded before (step book shape a made).notes after
 part_of_call book shape a made run before after e part = subst (λ (k : Call). PartAdded before (step book shape a k).notes after) (sym e) part
-
--- the core has taken what the reader has given, as before
-pub in_step_same : (book : Book) (core core_then : CoreView) (reader : ReaderView) (made : Call) (reply : Reply) → Follows book core core_then made reply → AreInStep core reader → AreInStep core_then reader
-in_step_same book core core_then reader made reply f s = record {
-  taken = f.taken ∙ s.taken;
-  few = omega (arith, f.taken, s.few);
-  last = ap (option_map (λ (o : Occ). o.stamp)) f.last ∙ s.last;
-}

@@ -1,10 +1,9 @@
 -- The count of a session's source does not fall.
-use Rattle.std.proofs.Common.{◌≡◌, inl, inr, ℕ, ◌≤◌, arith, Option, Some, None}
+use Rattle.std.proofs.Common.{◌≡◌, ℕ, ◌≤◌, arith, Option, Some, None}
 use Rattle.std.specs.Prelude.{is_some}
 use Rattle.std.specs.Option.{option_map, option_map_or}
-use Rattle.papi_base.specs.Outside.{Rose}
 use Rattle.stream_reader.specs.Reader.{ReaderView, SourceView, faults_of}
-use Rattle.thread_session.specs.Faults.{FaultsKept, FaultsRose, fault_count}
+use Rattle.thread_session.specs.Faults.{FaultsKept, fault_count}
 
 abbrev count_of : Option SourceView → Option ℕ
 count_of source = option_map (λ (s : SourceView). s.faults) source
@@ -20,21 +19,8 @@ kept_from (Some o) None new kept same more = absurd kept
 kept_from (Some o) (Some m) None kept same more = absurd cc
 kept_from (Some o) (Some m) (Some n) kept same more = omega (arith, kept, more)
 
-rose_from : (old mid new : Option SourceView) → FaultsKept (count_of old) (count_of mid) → is_some new ≡ is_some mid → Rose (number_of mid) (number_of new) → FaultsRose (count_of old) (count_of new)
-rose_from None None None kept same (inl less) = absurd (omega (arith, less))
-rose_from None None None kept same (inr top) = absurd (omega (arith, top))
-rose_from None None (Some n) kept same rose = absurd cc
-rose_from None (Some m) new kept same rose = absurd kept
-rose_from (Some o) None new kept same rose = absurd kept
-rose_from (Some o) (Some m) None kept same rose = absurd cc
-rose_from (Some o) (Some m) (Some n) kept same (inl less) = inl (omega (arith, kept, less))
-rose_from (Some o) (Some m) (Some n) kept same (inr top) = inr top
-
 pub kept_on : (old mid new : ReaderView) → FaultsKept (fault_count old) (fault_count mid) → is_some new.source ≡ is_some mid.source → faults_of mid ≤ faults_of new → FaultsKept (fault_count old) (fault_count new)
 kept_on old mid new kept same more = kept_from old.source mid.source new.source kept same more
-
-pub rose_on : (old mid new : ReaderView) → FaultsKept (fault_count old) (fault_count mid) → is_some new.source ≡ is_some mid.source → Rose (faults_of mid) (faults_of new) → FaultsRose (fault_count old) (fault_count new)
-rose_on old mid new kept same rose = rose_from old.source mid.source new.source kept same rose
 
 kept_self : (source : Option SourceView) → FaultsKept (count_of source) (count_of source)
 kept_self None = tt

@@ -1,16 +1,14 @@
 -- A run, occurrence by occurrence.
-use Rattle.std.proofs.Common.{◌≡◌, ℕ, ◌+◌, ◌≤◌, List, [], ◌∷◌, ◌++◌, length, map, refl, ap, ap₂, sym, subst, ◌∙◌, arith, append_assoc, append-nil, length-append, Option, Some, None, true}
+use Rattle.std.proofs.Common.{◌≡◌, ℕ, ◌+◌, ◌≤◌, List, [], ◌∷◌, ◌++◌, length, map, refl, ap, ap₂, sym, subst, ◌∙◌, arith, append_assoc, append-nil, length-append, Option, Some}
 use Rattle.std.proofs.lemmas.List.{length-map}
-use Rattle.std.proofs.lemmas.Bool.{ltb-true}
 use Rattle.std.specs.Option.{option_map}
 use Rattle.papi_base.specs.declared.occurrence.Occ.{Occ}
 use Rattle.papi_base.specs.Streams.{Coming}
 use Rattle.overflow_dispatch.specs.declared.handler.Note.{Note}
 use Rattle.postfix_rules.specs.Presets.{Book}
-use Rattle.session_model.specs.Account.{Account, Kept, time_after}
+use Rattle.session_model.specs.Account.{Account, Kept}
 use Rattle.session_model.specs.Thresholds.{note, notes_at, notes_over}
 use Rattle.stream_reader.specs.declared.next.Next.TheVariants as next
-use Rattle.stream_reader.specs.Judged.{is_above}
 use Rattle.stream_reader.specs.Reader.{GaveOne, NextGives, ReaderView, Takes, coming}
 use Rattle.thread_core.specs.CoreView.{CoreView}
 use Rattle.thread_core.specs.Stands.{CoreStands, consumed}
@@ -80,17 +78,6 @@ one_more book old core core_then reader reader_then before after after_then k co
           ∙ sym (length-append (notes_over book a.thread a.sets a.past r.os) (map (note thread set o) passed)) ∙ ap length (sym (over a h));
       came = came_more old.reader reader reader_then r.os o r.came takes;
     }
-
--- the stamp of a next occurrence is not before the core's time
-time_of : (last : Option Occ) (stamp : Option ℕ) (o : Occ) → option_map (λ (x : Occ). x.stamp) last ≡ stamp → is_above stamp o.stamp ≡ true → time_after last ≤ o.stamp
-time_of None stamp o e above = omega arith
-time_of (Some x) None o e above = absurd cc
-time_of (Some x) (Some s) o e above =
-    let same : x.stamp ≡ s = (let h : Some x.stamp ≡ Some s = e in cc) in
-    omega (arith, same, ltb-true s o.stamp above)
-
-pub in_time : (core : CoreView) (reader later : ReaderView) (o : Occ) → AreInStep core reader → GaveOne reader.start o later.start → time_after core.last ≤ o.stamp
-in_time core reader later o s n = time_of core.last reader.start.last o s.last n.above
 
 pub in_step_then : (core core_then : CoreView) (reader later : ReaderView) (o : Occ) → core_then.taken ≡ core.taken + 1 → core_then.last ≡ Some o → later.start.given ≤ 5200000 → AreInStep core reader → GaveOne reader.start o later.start → AreInStep core_then later
 in_step_then core core_then reader later o t l few s n = record {

@@ -19,8 +19,7 @@ use Rattle.preset_csv.proofs.SymbolRows.{same-text}
 use Rattle.user_events.specs.Entries.{event_judged}
 use Rattle.user_events.specs.Events.{Distinct, EventView, names_of}
 use Rattle.user_events.specs.Names.{is_event_name}
-use Rattle.user_events.specs.Rows.{among, event_of, event_read, events_of, events_read, is_too_many, limited, name_added}
-use Rattle.user_events.specs.Rows.{named_entry, names_in}
+use Rattle.user_events.specs.Rows.{among, event_of, event_read, events_of, events_read, is_too_many, limited, name_added, named_entry, names_in}
 use Rattle.user_events.specs.Steps.{events_more, events_with, put_event, put_judged}
 
 -- ---- the names of the user events differ

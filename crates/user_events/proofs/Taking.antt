@@ -28,8 +28,7 @@ use Rattle.user_events.specs.Events.{Distinct, EventView, IsEvent, IsExtended, I
 use Rattle.user_events.specs.Lines.{line_of, lines_of}
 use Rattle.user_events.specs.Names.{is_event_name}
 use Rattle.user_events.specs.Reading.{GivePresetsAndEvents, IsKept}
-use Rattle.user_events.specs.Rows.{among, event_read, events_of, events_read, extended_in}
-use Rattle.user_events.specs.Rows.{is_too_many, line_cause, named_entry, names_in}
+use Rattle.user_events.specs.Rows.{among, event_read, events_of, events_read, extended_in, is_too_many, line_cause, named_entry, names_in}
 use Rattle.user_events.specs.Steps.{IsMore, Taking, cause_more, events_more, events_with, put_event, put_judged}
 use Rattle.user_events.specs.declared.event.TheConstants.{MOST_USER_EVENTS}
 use Rattle.user_events.proofs.Giving.{Gives, event-gives}

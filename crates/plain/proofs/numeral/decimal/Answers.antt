@@ -4,7 +4,7 @@ use Rattle.std.proofs.lemmas.Bool.{le-leb, lt-leb}
 use Rattle.std.proofs.lemmas.Bool.Decides.{nat_tests}
 use Rattle.plain.proofs.Numbers.{and_false, decimal_empty, decimal_is, decimal_other, decimal_zero}
 use Rattle.plain.proofs.numeral.decimal.Goals as goal
-use Rattle.plain.proofs.numeral.decimal.Goals.{then-is_empty-via-then-is_empty, then-is_empty-via-else-is_empty+then-text-eq48, then-text-gt1, else-text-gt1}
+use Rattle.plain.proofs.numeral.decimal.Goals.{then-is_empty-via-then-is_empty, then-is_empty-via-else-is_empty+then-text-eq48}
 use Rattle.plain.proofs.numeral.decimal.Goals.{else-low-number-via-then-low-number+else-number-high, else-low-number-via-else-low-number}
 
 pub returns-then-is_empty-clause-number : goal.returns-then-is_empty-clause-number

@@ -1,6 +1,5 @@
 use Rattle.std.proofs.Common.{◌≡◌, ◌++◌, map, take}
-use Rattle.std.specs.Prelude.{string_bytes}
-use Rattle.std.specs.Prelude.{zip}
+use Rattle.std.specs.Prelude.{string_bytes, zip}
 use Rattle.reply_text.specs.Replies.{assigned_text, spaced}
 use Rattle.reply_text.proofs.results.push_assignment.Given as goal
 

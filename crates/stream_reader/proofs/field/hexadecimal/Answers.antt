@@ -3,9 +3,8 @@ use Rattle.std.proofs.lemmas.Bool.{ltb-true}
 use Rattle.std.proofs.lemmas.Bool.Decides.{nat_tests}
 use Rattle.stream_reader.proofs.Hexadecimals.{Ends, Stops, at-space, at-end, at-digit, digit-some, digit-no-space, digit-none, hex-few, hex-small, hex-stops, hex-within}
 use Rattle.stream_reader.proofs.field.hexadecimal.Goals as goal
-use Rattle.stream_reader.proofs.field.hexadecimal.Goals.{then-size-few-via-then-size-few}
-use Rattle.stream_reader.proofs.field.hexadecimal.Goals.{then-size-few-via-else-size-few+then-text-size-ne32, then-size-text}
-use Rattle.stream_reader.proofs.field.hexadecimal.Goals.{else-size-text, else-loop-size-test, then-loop-size-test+in-None}
+use Rattle.stream_reader.proofs.field.hexadecimal.Goals.{then-size-few-via-then-size-few, then-size-few-via-else-size-few+then-text-size-ne32}
+use Rattle.stream_reader.proofs.field.hexadecimal.Goals.{then-size-text, else-size-text, else-loop-size-test, then-loop-size-test+in-None}
 
 pub overflow_mul-value : goal.overflow_mul-value
 overflow_mul-value c =
