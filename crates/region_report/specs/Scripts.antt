@@ -4,7 +4,7 @@ use Rattle.std.specs.List.{list_all}
 use Rattle.std.specs.Str.Lines.{lines}
 use Rattle.papi_base.specs.declared.limits.TheConstants.{THREADS}
 use Rattle.script_lines.specs.declared.fault.LineFault.{LineFault}
-use Rattle.script_lines.specs.ByLine.{Format, ReadsLines, lines_from}
+use Rattle.script_lines.specs.ByLine.{Format, ReadsLines, Refused, lines_from}
 use Rattle.region_report.specs.Lines.{Open, after_line, after_reading, region_line}
 use Rattle.region_report.specs.declared.fault.RegionCause.{RegionCause}
 use Rattle.region_report.specs.declared.fault.RegionCause.TheVariants.{NotEnded}
@@ -37,7 +37,7 @@ region_scripts = record {
 }
 
 -- the call lines of a region script, or its first line that has a fault, with the first cause that it has
-unfoldable pub regions_of : List ℕ → Result (List RegionLine) (RefusedRegionLine RegionCause)
+unfoldable pub regions_of : List ℕ → Result (List RegionLine) (Refused RegionCause)
 regions_of bytes = lines_from region_scripts 1 (above_line 0 0 none_open) (lines bytes)
 
 -- The answer to these bytes. Memory may run out at any script.

@@ -5,7 +5,7 @@ use Rattle.script_lines.specs.declared.fault.LineFault.{LineFault}
 use Rattle.script_lines.specs.declared.fault.ScriptCause.{ScriptCause}
 use Rattle.script_lines.specs.declared.script.Script.{Script}
 use Rattle.script_lines.specs.declared.script.ScriptLine.{ScriptLine}
-use Rattle.script_lines.specs.ByLine.{Format, ReadsLines, lines_from}
+use Rattle.script_lines.specs.ByLine.{Format, ReadsLines, Refused, lines_from}
 use Rattle.script_lines.specs.Lines.{call_line}
 
 -- scripts, where so many call lines stand above a line
@@ -13,7 +13,7 @@ abbrev pub scripts : Format ℕ ScriptLine ScriptCause
 scripts = record { line_of = call_line; after = λ above line. above + 1; at_end = λ number above. Ok [] }
 
 -- the call lines of a script, or its first line that is not a call line, with the first cause that it has
-unfoldable pub script_of : List ℕ → Result (List ScriptLine) (RefusedCallLine ScriptCause)
+unfoldable pub script_of : List ℕ → Result (List ScriptLine) (Refused ScriptCause)
 script_of bytes = lines_from scripts 1 0 (lines bytes)
 
 -- The answer to these bytes. Memory may run out at any script.
