@@ -15,9 +15,8 @@
 #include <stddef.h>
 #include <stdint.h>
 
-#define MOST_EVENTS 32
-#define MOST_SETS 64
-#define MOST_COMPONENTS 16
+/* MOST_SETS, MOST_SET_EVENTS and MOST_COMPONENTS are those of the proved crates: c/build reads them there. */
+#define MOST_EVENTS MOST_SET_EVENTS
 #define NAME_ROOM 1024
 
 typedef struct { unsigned char *bytes; size_t length; } text;

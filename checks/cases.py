@@ -107,7 +107,7 @@ CALLS: dict[str, Calls] = {
     "overflow at a threshold of 255": calls(*READY, f"overflow 0 {A} 255"),
     "overflow with threshold 0 if none is set": calls(*READY, f"overflow 0 {A} 0"),
     "read of a stopped set to which an event was added": calls(*STOPPED, f"add 0 {B}", "read 0", shown=first_value_or_stop),
-    "create of a 65th set": calls(*["create"] * 65),
+    "create of a thousandth set": calls(*["create"] * 1000),
 }
 
 

@@ -15,7 +15,7 @@ from dataclasses import replace
 from pathlib import Path
 from typing import Callable, Iterator
 
-from running import EXAMPLE_OF, EXAMPLES, WHOLE, WRITE_FAULT, Example, Program, Run, Tally, differs
+from running import EXAMPLE_OF, EXAMPLES, MOST_SETS, WHOLE, WRITE_FAULT, Example, Program, Run, Tally, differs
 
 
 class Room:
@@ -143,9 +143,9 @@ MANY = 20_000
 
 
 def long_output() -> bytes:
-    """The replies to many calls of `create`: the first 64 make a set, and the others are refused."""
-    sets = [f"{line} 0 create PAPI_OK {line - 1}\n" for line in range(1, 65)]
-    return "".join(sets + [f"{line} 0 create PAPI_ECOUNT\n" for line in range(65, MANY + 1)]).encode()
+    """The replies to many calls of `create`: the first make a set each, and the others are refused."""
+    sets = [f"{line} 0 create PAPI_OK {line - 1}\n" for line in range(1, MOST_SETS + 1)]
+    return "".join(sets + [f"{line} 0 create PAPI_ECOUNT\n" for line in range(MOST_SETS + 1, MANY + 1)]).encode()
 
 
 def run_long(program: Program, folder: Path, **how: object) -> Run:

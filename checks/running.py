@@ -36,6 +36,9 @@ TOOLS = tuple(EXAMPLE_OF)
 # Those that run a script over streams.
 RUNNING = ("papi_run", "papi_profil", "papi_regions")
 
+LIMITS = (ROOT / "crates/papi_base/src/limits.rt").read_text(encoding="utf-8")
+MOST_SETS = int(re.findall(r"MOST_SETS: usize = ([0-9_]+);", LIMITS)[0])
+
 WHOLE, NO, REFUSED, READ_FAULT, MEMORY, WRITE_FAULT = range(6)
 BAD_WORDS = b"papi: bad words\n"
 

@@ -80,7 +80,14 @@ def word_faults(form: Form, read: Words) -> list[str]:
     faults = list(read.faults)
     for option in form.options.values():
         faults += _option_faults(form, option, read)
-    return faults + _place_faults(form, read.others)
+    faults += _place_faults(form, read.others)
+    return faults or _too_large(form, read)
+
+
+def _too_large(form: Form, read: Words) -> list[str]:
+    """If nothing else is wrong: the numbers whose meaning names no range."""
+    numbers = [form.options[word] for word in read.options if len(form.options[word].value) == 1 and not limits_of(form.options[word].meaning)]
+    return [f"{option.word} {shown(read.options[option.word])}: the number is too large" for option in numbers]
 
 
 def _option_faults(form: Form, option: Option, read: Words) -> list[str]:
@@ -112,11 +119,12 @@ def _event_faults(value: str) -> list[str]:
 def _number_faults(word: str, name: str, meaning: str, value: str) -> list[str]:
     """For a word whose value is a number. Its name has one letter, or is SIZE."""
     limits = limits_of(meaning)
-    if limits is None or len(name) > 1 and name != "SIZE":
+    if len(name) > 1 and name != "SIZE":
         return []
-    if re.fullmatch("[0-9]{1,9}", value) and limits[0] <= int(value) <= limits[1]:
+    if re.fullmatch("[0-9]{1,9}", value) and (limits is None or limits[0] <= int(value) <= limits[1]):
         return []
-    return [f"{word} {shown(value)}: a number from {limits[0]} to {limits[1]} is wanted"]
+    wanted = f"a number from {limits[0]} to {limits[1]}" if limits else "a number"
+    return [f"{word} {shown(value)}: {wanted} is wanted"]
 
 
 def _place_faults(form: Form, others: list[str]) -> list[str]:

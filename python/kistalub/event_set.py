@@ -49,7 +49,7 @@ class EventSet:
     """A set of events, which counts from `start` to `stop`: `with EventSet("INST_RETIRED", "CYCLES") as events:`. Leaving it stops and destroys the set.
 
     Counts are dictionaries, a number for each event by the name that it was added with, in the order in which they were added. A set belongs to the thread that
-    made it: its calls in others raise `ENOEVST`. At most 64 sets a thread and 32 events a set.
+    made it: its calls in others raise `ENOEVST`. The README's limits say how many sets a thread has, and how many events a set.
 
     A `multiplexed` set takes events that do not fit on the counters together. They take turns of `slice_ns` nanoseconds of the model's clock, each an occurrence
     at the usual 1000 MHz (0: the library's slice, KISTALUB_SLICE), and counts are estimates. `domain` is which occurrences count, the library's if it is None.

@@ -71,7 +71,8 @@ WORDS = (
     bad_words("a soak that is too large", "papi_soak 1001", 'SIZE "1001": a number from 1 to 1000 is wanted'),
     bad_words("a processor's name with a comma", "papi_avail -U u -P p -C a,b",
               '-C "a,b": a processor\'s name has 1 to 64 printable characters, no comma, and no space at its ends'),
-    bad_words("an empty number", "papi_profil -U u -M m --set= s t", '--set "": a number from 0 to 63 is wanted'),
+    bad_words("an empty number", "papi_profil -U u -M m --set= s t", '--set "": a number is wanted'),
+    bad_words("a set that no thread has", "papi_profil -U u -M m --set 1000 s t", '--set "1000": the number is too large'),
     bad_words("two commas", "papi_regions -U u --events LOADS,,STORES r t", "--events: names with one comma between two, and no spaces"),
     Case("a tool that is not there", "papi_rum -U u s t", "papi: bad words", 2, ('there is no tool "papi_rum" (near: papi_run)', "papi --help lists the tools")),
 )

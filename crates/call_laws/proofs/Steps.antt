@@ -3,6 +3,7 @@ use Rattle.std.proofs.Common.{◌≡◌, ◌≢◌, ℕ, zero, suc, false, List,
 use Rattle.std.specs.Prelude.{replicate}
 use Rattle.std.proofs.lemmas.Bool.{both_ways}
 use Rattle.std.specs.Option.{option_map, option_map_or}
+use Rattle.papi_base.specs.declared.limits.TheConstants.{MOST_SETS}
 use Rattle.papi_base.specs.declared.occurrence.Occ.{Occ}
 use Rattle.postfix_rules.specs.Presets.{Book}
 use Rattle.event_sets.specs.declared.refusal.Refusal.{Refusal}
@@ -134,8 +135,8 @@ opening_follows t = record {
   past_is = refl;
   rest_is = refl;
   within = opening_within t.number t.stream t.mark;
-  runs_is = λ k. ap running (no_set 64 k);
-  each = λ k s e. let both : None ≡ Some s = sym (no_set 64 k) ∙ e in cc;
+  runs_is = λ k. ap running (no_set MOST_SETS k);
+  each = λ k s e. let both : None ≡ Some s = sym (no_set MOST_SETS k) ∙ e in cc;
 }
 
 -- the history of a thread's first calls follows its account

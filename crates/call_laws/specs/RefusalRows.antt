@@ -1,5 +1,6 @@
 -- Refusals, and what they leave. Worked rows over the lab unit, for PAPI_add_event(3), PAPI_start(3) and so on.
-use Rattle.std.specs.Prelude.{pos, [], ◌∷◌, ◌++◌, drop, ◌≡◌, Err}
+use Rattle.std.specs.Prelude.{pos, [], ◌∷◌, ◌++◌, ◌+◌, ◌-◌, drop, ◌≡◌, Err}
+use Rattle.papi_base.specs.declared.limits.TheConstants.{MOST_SETS}
 use Rattle.papi_base.specs.declared.native.EventRef.TheVariants as event
 use Rattle.papi_base.specs.declared.code.Code.TheVariants as code
 use Rattle.papi_base.specs.declared.occurrence.LineCause.TheVariants.{Stamp}
@@ -30,10 +31,10 @@ FirstSets = replies ([])
     (Create ∷ Create ∷ Add 0 (named cycles) ∷ Add 0 (named inst) ∷ Add 1 (named cycles) ∷ Stop 0 ∷ [])
     ≡ number 0 ∷ number 1 ∷ ok ∷ ok ∷ ok ∷ plain code.Enotrun ∷ []
 
--- the least free number, and no 65th set
-abbrev pub SixtyFourSets : Type 0
-SixtyFourSets = drop 62 (replies [] (times 65 (Create ∷ []) ++ Destroy 5 ∷ Create ∷ []))
-    ≡ number 62 ∷ number 63 ∷ plain code.Ecount ∷ ok ∷ number 5 ∷ []
+-- the least free number, and no set more
+abbrev pub MostSets : Type 0
+MostSets = drop (MOST_SETS - 2) (replies [] (times (MOST_SETS + 1) (Create ∷ []) ++ Destroy 5 ∷ Create ∷ []))
+    ≡ number (MOST_SETS - 2) ∷ number (MOST_SETS - 1) ∷ plain code.Ecount ∷ ok ∷ number 5 ∷ []
 
 -- a run that meets a bad line, once
 abbrev pub BadStamp : Type 0

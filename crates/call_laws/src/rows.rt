@@ -4,7 +4,7 @@ ghost use Rattle.call_laws.specs.CountingRows.{Edges, EdgesFromBefore, FirstRun,
 ghost use Rattle.call_laws.specs.ThresholdRows.{NarrowRegister, NarrowRegisterNotes, SecondThreshold, SecondThresholdNotes, ThresholdNotes, ThresholdPassed};
 ghost use Rattle.call_laws.specs.MultiplexingRows.{EstimateOfFive, NoStamps, Stamps, TakeTurns};
 ghost use Rattle.call_laws.specs.PresetRows.{FormulaValues, PresetsShareNatives, ThreeOfPresets, UserFormula};
-ghost use Rattle.call_laws.specs.RefusalRows.{BadStamp, FirstSets, Refusals, RefusedMention, SixtyFourSets};
+ghost use Rattle.call_laws.specs.RefusalRows.{BadStamp, FirstSets, MostSets, Refusals, RefusedMention};
 ghost use Rattle.call_laws.specs.ThreadRows.{CodesAndNames, CodesOfTwoThreads, OneStreamFails, RegisteredThreads, ThreeThreads};
 
 /// Which events a set takes, and on which counters.
@@ -58,7 +58,7 @@ pub fn preset_rows()
 pub fn refusal_rows()
     ensures refusals { Refusals }
     ensures first_sets { FirstSets }
-    ensures sixty_four_sets { SixtyFourSets }
+    ensures most_sets { MostSets }
     ensures bad_stamp { BadStamp }
     ensures refused_mention { RefusedMention }
 {}

@@ -27,7 +27,7 @@ impl Library {
         self.session.unregister(self.catalog.book())
     }
 
-    /// A new set under the least free number: PAPI_create_eventset(3). ECOUNT if there are 64 sets.
+    /// A new set under the least free number: PAPI_create_eventset(3). ECOUNT if there are [`papi_base::MOST_SETS`].
     pub fn create(&mut self) -> Result<u32, Code>
         ensures made { Made self.old self.new call.Create
             (reply_of (λ n. body.SetNumber n) result) }

@@ -9,7 +9,7 @@ use Rattle.std.proofs.lemmas.Bool.Decides.{nat_tests}
 use Rattle.std.proofs.lemmas.List.{drop-drop, length-drop}
 use Rattle.std.proofs.lemmas.List.Elements.{All-head, All-tail}
 use Rattle.papi_base.specs.Streams.{Coming, Dry, Mark}
-use Rattle.papi_base.specs.declared.limits.TheConstants.{THREADS}
+use Rattle.papi_base.specs.declared.limits.TheConstants.{MOST_SETS, THREADS}
 use Rattle.papi_base.specs.declared.native.EventRef.{EventRef}
 use Rattle.papi_base.specs.declared.occurrence.Occ.{Occ}
 use Rattle.postfix_rules.specs.Presets.{Book}
@@ -67,7 +67,7 @@ line_account book shape t s asked tape mark (region.Run n) =
     let k : ℕ = min n (length (drop q tape)) in
     let after : Mark = if nat_lt (length (drop q tape)) n then Dry else mark in (
       after,
-      ap₂ (λ past rest. record { thread = t; registered = false; sets = Some (counting_set s) ∷ replicate 63 None; past = past; rest = rest; mark = after })
+      ap₂ (λ past rest. record { thread = t; registered = false; sets = Some (counting_set s) ∷ replicate (MOST_SETS - 1) None; past = past; rest = rest; mark = after })
           (sym (take-add q k tape)) (drop-drop k q tape)
           ∙ ap (λ p. counting t s p tape after) (next asked n tape),
     )

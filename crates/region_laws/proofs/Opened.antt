@@ -1,5 +1,5 @@
 -- The calls with which a thread begins, and its account after them: its set has the events and counts from the first occurrence on.
-use Rattle.std.proofs.Common.{◌≡◌, ◌≢◌, ◌+◌, ◌<◌, ◌≤◌, ◌==◌, ℕ, zero, suc, Bool, true, false, not, List, [], ◌∷◌, ◌++◌, map, drop, take, length}
+use Rattle.std.proofs.Common.{◌≡◌, ◌≢◌, ◌+◌, ◌-◌, ◌<◌, ◌≤◌, ◌==◌, ℕ, zero, suc, Bool, true, false, not, List, [], ◌∷◌, ◌++◌, map, drop, take, length}
 use Rattle.std.proofs.Common.{replicate, pos, refl, sym, ◌∙◌, ap, ap₂, subst, arith, append_assoc, append-nil, Option, Some, None, Ok}
 use Rattle.std.specs.Prelude.{if◌then◌else◌}
 use Rattle.std.specs.Option.{option_map}
@@ -7,6 +7,7 @@ use Rattle.std.specs.List.{flat_map, list_any, range_with_len}
 use Rattle.std.proofs.lemmas.Bool.Decides.{nat_tests}
 use Rattle.papi_base.specs.Streams.{Mark}
 use Rattle.papi_base.specs.declared.code.Code.TheVariants.{Ecount, Einval, Eisrun}
+use Rattle.papi_base.specs.declared.limits.TheConstants.{MOST_SETS}
 use Rattle.papi_base.specs.declared.native.EventRef.{EventRef}
 use Rattle.papi_base.specs.declared.occurrence.Occ.{Occ}
 use Rattle.postfix_rules.specs.Presets.{Book}
@@ -100,7 +101,7 @@ abbrev kept_at : AtRest → Kept
 kept_at s = record { set = s; running = false; from = 0; to = 0; values = replicate (length s.events) (pos 0) }
 
 abbrev holding : ℕ → AtRest → List Occ → Mark → Account
-holding t s rest mark = record { thread = t; registered = false; sets = Some (kept_at s) ∷ replicate 63 None; past = []; rest = rest; mark = mark }
+holding t s rest mark = record { thread = t; registered = false; sets = Some (kept_at s) ∷ replicate (MOST_SETS - 1) None; past = []; rest = rest; mark = mark }
 
 -- the set since it was started
 abbrev pub counting_set : AtRest → Kept
@@ -109,7 +110,7 @@ counting_set s = record { set = s; running = true; from = 0; to = 0; values = re
 -- the account of a thread that has only such a set and has consumed n of these occurrences
 abbrev pub counting : ℕ → AtRest → ℕ → List Occ → Mark → Account
 counting t s q tape mark =
-    record { thread = t; registered = false; sets = Some (counting_set s) ∷ replicate 63 None; past = take q tape; rest = drop q tape; mark = mark }
+    record { thread = t; registered = false; sets = Some (counting_set s) ∷ replicate (MOST_SETS - 1) None; past = take q tape; rest = drop q tape; mark = mark }
 
 -- a set with further events
 abbrev pub with_events : Book → AtRest → List EventRef → AtRest
@@ -150,7 +151,7 @@ start_rows true c e f = cc
 start_rows false true e f = cc
 start_rows false false e f = refl
 
-none_runs : (s : AtRest) (comp : Option ℕ) → list_any (runs_on comp) (faces_of (Some (kept_at s) ∷ replicate 63 None)) ≡ false
+none_runs : (s : AtRest) (comp : Option ℕ) → list_any (runs_on comp) (faces_of (Some (kept_at s) ∷ replicate (MOST_SETS - 1) None)) ≡ false
 none_runs s None = refl
 none_runs s (Some c) = refl
 

@@ -2,6 +2,7 @@
 use Rattle.std.proofs.Common.{◌≡◌, Bool, true, false, not, refl, Some, None, Ok, Err}
 use Rattle.std.specs.Option.{ForSome}
 use Rattle.std.proofs.lemmas.List.Elements.{All-replicate}
+use Rattle.papi_base.specs.declared.limits.TheConstants.{MOST_SETS}
 use Rattle.postfix_rules.specs.Presets.{Book, rule_of_event}
 use Rattle.event_sets.specs.AtRest.{Widths, cannot_arm, cannot_take, has_event, is_other, is_plain, new_set, shares_native}
 use Rattle.event_sets.specs.Agreement.{Agrees}
@@ -54,4 +55,4 @@ agreement_stays book shape a c good h = record {
 }
 
 pub opening_agrees : OpeningAgrees
-opening_agrees book thread rest mark = record { each = to_faces (λ f. Agrees book f.set) (opening thread rest mark).sets (All-replicate (λ place. ForSome place (λ s. Agrees book s.set)) 64 None (λ x e. cc)) }
+opening_agrees book thread rest mark = record { each = to_faces (λ f. Agrees book f.set) (opening thread rest mark).sets (All-replicate (λ place. ForSome place (λ s. Agrees book s.set)) MOST_SETS None (λ x e. cc)) }

@@ -1,9 +1,10 @@
--- Each thread keeps its 64 places, and each set one value of the caller for each event.
+-- Each thread keeps its places, and each set one value of the caller for each event.
 use Rattle.std.proofs.Common.{◌≡◌, ◌∙◌, ◌∷◌, ℤ, pos, List, [], length, refl, sym, ap, arith, Option, None, Ok, Err}
 use Rattle.std.proofs.Math.ListN.{length-set}
 use Rattle.std.proofs.lemmas.List.{length-map, length-replicate}
 use Rattle.std.proofs.lemmas.List.Elements.{All-replicate}
 use Rattle.std.specs.Option.{ForSome}
+use Rattle.papi_base.specs.declared.limits.TheConstants.{MOST_SETS}
 use Rattle.papi_base.specs.declared.occurrence.Occ.{Occ}
 use Rattle.postfix_rules.specs.Presets.{Book, event_value}
 use Rattle.session_model.specs.declared.call.Call.{Call}
@@ -79,4 +80,4 @@ pub values_stay : ValuesStay
 values_stay book shape a c h = record { each = step_each IsValued book shape a c (record { one_each = refl }) (λ q k s i there g. kept_valued book a.past c s g) h.each }
 
 pub opening_valued : OpeningValued
-opening_valued thread rest mark = record { each = All-replicate (λ place. ForSome place IsValued) 64 None (λ x e. cc) }
+opening_valued thread rest mark = record { each = All-replicate (λ place. ForSome place IsValued) MOST_SETS None (λ x e. cc) }

@@ -4,6 +4,7 @@ use Rattle.std.specs.Prelude.{nat_le}
 use Rattle.std.specs.Option.{ForSome, option_and_then, option_map}
 use Rattle.std.proofs.lemmas.List.Elements.{All-replicate}
 use Rattle.std.proofs.lemmas.Bool.Decides.{nat_tests}
+use Rattle.papi_base.specs.declared.limits.TheConstants.{MOST_SETS}
 use Rattle.postfix_rules.specs.Presets.{Book, rule_of_event}
 use Rattle.event_sets.specs.declared.refusal.Clash.{Clash}
 use Rattle.event_sets.specs.AtRest.{Widths, cannot_arm, cannot_take, clash_with, has_event, is_armed, is_bad_threshold, is_full, is_other, is_plain, shares_native}
@@ -90,4 +91,4 @@ fit_stays book shape a c is_shape fits good h = are_fit book shape _
     (values_stay book shape a c (each_valued book shape a.sets h))
 
 pub opening_fits : OpeningFits
-opening_fits book shape thread rest mark = are_fit book shape (opening thread rest mark).sets (All-replicate (λ place. ForSome place (λ s. IsFit book shape s.set)) 64 None (λ x e. cc)) (opening_valued thread rest mark)
+opening_fits book shape thread rest mark = are_fit book shape (opening thread rest mark).sets (All-replicate (λ place. ForSome place (λ s. IsFit book shape s.set)) MOST_SETS None (λ x e. cc)) (opening_valued thread rest mark)

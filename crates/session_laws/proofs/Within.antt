@@ -4,6 +4,7 @@ use Rattle.std.specs.Prelude.{if◌then◌else◌}
 use Rattle.std.specs.Option.{ForSome}
 use Rattle.std.proofs.lemmas.List.{take-append-drop}
 use Rattle.std.proofs.lemmas.List.Elements.{All-replicate}
+use Rattle.papi_base.specs.declared.limits.TheConstants.{MOST_SETS}
 use Rattle.papi_base.specs.declared.occurrence.Occ.{Occ}
 use Rattle.postfix_rules.specs.Presets.{Book}
 use Rattle.event_sets.specs.AtRest.{Widths}
@@ -129,4 +130,4 @@ rise_stays book shape a c h =
     (rises-front 0 (step book shape a c).account.past (step book shape a c).account.rest all, all)
 
 pub opening_within : OpeningWithin
-opening_within thread rest mark = record { each = All-replicate (λ place. ForSome place (IsWithin 0)) 64 None (λ x e. cc) }
+opening_within thread rest mark = record { each = All-replicate (λ place. ForSome place (IsWithin 0)) MOST_SETS None (λ x e. cc) }

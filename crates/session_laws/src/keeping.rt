@@ -17,7 +17,7 @@ pub fn window_laws()
     ensures apart { ApartStays }
 {}
 
-/// A thread keeps its 64 places of sets, and each set one value of the caller for each event.
+/// A thread keeps its places of sets, and each set one value of the caller for each event.
 pub fn place_laws()
     ensures places { PlacesStay }
     ensures opening_valued { OpeningValued }

@@ -7,7 +7,7 @@ use Rattle.event_sets.specs.AtRest.{Widths}
 use Rattle.thread_slots.specs.declared.slot.Slot.{Slot}
 use Rattle.thread_slots.specs.Units.{empty_unit}
 
--- The thread and whether it is registered; the unit's shape; under each number below 64 a set or none; the unit of each
+-- The thread and whether it is registered; the unit's shape; under each number below MOST_SETS a set or none; the unit of each
 -- component; how many occurrences were taken, and the last of them.
 pub record CoreView : Type 0 where
   pub thread : ℕ

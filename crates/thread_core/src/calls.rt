@@ -43,7 +43,7 @@ impl Core {
         Code::Ok
     }
 
-    /// A new set under the least free number: PAPI_create_eventset(3). ECOUNT if there are 64 sets.
+    /// A new set under the least free number: PAPI_create_eventset(3). ECOUNT if there are [`papi_base::MOST_SETS`].
     pub fn create(&mut self, _book: &PresetBook) -> Result<u32, Code>
         requires { AgreesWith _book.now self.old }
         ensures { Follows _book.now self.old self.new call.Create

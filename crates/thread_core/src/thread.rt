@@ -60,7 +60,7 @@ impl Core {
     ghost use Rattle.thread_core.specs.CoreView.{opening_core};
     ghost use Rattle.thread_core.specs.Stands.{AgreesWith, CoreStands, consumed};
 
-    /// A core without sets, for units of this shape. It takes the memory for 64 sets.
+    /// A core without sets, for units of this shape. It takes the memory for all sets.
     pub fn new(alloc: Global, thread: u32, shape: Shape) -> Result<Core, AllocError>
         ensures core { IfOk result (λ core. core ≡ opening_core thread shape) }
         ensures stands { (book : Book) (rest : List Occ) (mark : Mark)

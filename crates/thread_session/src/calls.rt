@@ -44,7 +44,7 @@ impl<S: Source> Session<S> {
         self.core.unregister(book)
     }
 
-    /// A new set under the least free number: PAPI_create_eventset(3). ECOUNT if there are 64 sets.
+    /// A new set under the least free number: PAPI_create_eventset(3). ECOUNT if there are [`papi_base::MOST_SETS`].
     pub fn create(&mut self, book: &PresetBook) -> Result<u32, Code>
         requires ready { IsReady book.now self.old }
         ensures { Does book.now self.old self.new call.Create

@@ -39,7 +39,7 @@ impl<S: Source> Session<S> {
     ghost use Rattle.thread_session.specs.Stands.{IsNew, IsReady, Stands};
 
     /// A session without sets, for units of this shape, that reads its thread's stream from the beginning. It takes the
-    /// memory for 64 sets; if that is refused, the reader is dropped.
+    /// memory for all sets; if that is refused, the reader is dropped.
     pub fn new(
         alloc: Global,
         thread: u32,

@@ -79,7 +79,7 @@ pub fn free_number(slots: &[Option<Slot>]) -> u32
     number
 }
 
-/// 64 places without sets.
+/// The places of all sets, without sets.
 pub fn empty_places(alloc: Global) -> Result<Vec<Option<Slot>>, AllocError>
     ensures { IfOk result (λ slots. slots.items ≡ replicate MOST_SETS None) }
 {

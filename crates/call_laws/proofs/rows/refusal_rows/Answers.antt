@@ -14,9 +14,9 @@ pub returns-clause-first_sets : goal.returns-clause-first_sets
 unfolding members choices assigns shortest_prefix deficient_sets blame_of lib.Count.ones pile_from tree_value divided signed_sum int_wrap
 returns-clause-first_sets c = refl
 
-pub returns-clause-sixty_four_sets : goal.returns-clause-sixty_four_sets
+pub returns-clause-most_sets : goal.returns-clause-most_sets
 unfolding members choices assigns shortest_prefix deficient_sets blame_of lib.Count.ones pile_from tree_value divided signed_sum int_wrap
-returns-clause-sixty_four_sets c = refl
+returns-clause-most_sets c = refl
 
 pub returns-clause-bad_stamp : goal.returns-clause-bad_stamp
 unfolding members choices assigns shortest_prefix deficient_sets blame_of lib.Count.ones pile_from tree_value divided signed_sum int_wrap

@@ -1,9 +1,10 @@
 use Rattle.std.proofs.Common.{◌≡◌, ◌≤◌, replicate, vec_capacity, vec_len, None}
+use Rattle.papi_base.specs.declared.limits.TheConstants.{MOST_SETS}
 use Rattle.thread_slots.proofs.slot.empty_places.Given as goal
 
 abbrev pub invariant-loop : goal.invariant-loop
 invariant-loop l = record {
   items : l.slots.items ≡ replicate l.counter None;
   len : vec_len l.slots ≡ l.counter;
-  room : 64 ≤ vec_capacity l.slots;
+  room : MOST_SETS ≤ vec_capacity l.slots;
 }
