@@ -7,6 +7,7 @@ from pathlib import Path
 from random import Random
 
 from running import EXAMPLES, RUNNING
+from scripts import CALLS
 
 NUMBERS = [
     "0", "1", "2", "3", "5", "8", "31", "32", "33", "63", "64", "65", "255", "256", "500", "1000", "65535", "65536", "1000000", "1000001",
@@ -30,13 +31,16 @@ OPERANDS = ["N0", "N1", "N0", "N1", "0", "1", "2", "7", "1000000", "N2", "N7", "
 INFIX = [*OPERANDS, "+", "-", "*", "/", "(", ")", "(", ")", " ", "\t", "N", "N8", "#", "x", "00", "01", "-1", "9223372036854775808", "N0N1", "|"]
 USER_EVENTS = ["OWN", "W1", "own", "STALL2", "CYCLES", "2", "_", "u", "U" * 32]
 ODD_USER_EVENTS = ["U" * 33, "PAPI_X", "PAPI_TOT_INS", "papi_x", "a-b", "", "a b", "\u00e9", "PAPI_"]
-CALLS = {
-    "register": "", "unregister": "", "threads": "", "create": "", "destroy": "s", "cleanup": "s", "add": "se", "remove": "se",
-    "component": "sn", "domain": "sd", "multiplex": "sn", "overflow": "seo", "start": "s", "stop": "s", "read": "s", "accum": "s",
-    "reset": "s", "state": "s", "events": "s", "assign": "s", "raw": "sd", "run": "r", "code": "e", "name": "x",
-}  # fmt: skip
 OFTEN = ["add"] * 6 + ["start"] * 3 + ["run"] * 5 + ["read"] * 3 + ["stop"] * 2 + ["overflow"] * 3 + ["multiplex"] * 2 + list(CALLS)
 CODES = ["0x40000000", "0x40000001", "0x80000032", "0x8000003b", "0x0", "0xffffffff", "0x", "0x123456789", "40000000", "0XFF"]
+SMALL = ["0", "1", "2", "3", "4", "31", "32"]
+SLICES = ["0", "1", "2", "3", "15", "16", "1000", "1000000", "1000001", "4294967295"]
+# What is drawn of each kind of argument, but for events.
+ARGUMENTS = {
+    "SET": ["0", "0", "0", "0", "1", "2", "63", "64", "4294967295"], "COMPONENT": SLICES, "BITS": SMALL, "SLICE": SLICES, "COUNTER": SMALL,
+    "THRESHOLD": ["0", "255", "256", "256", "300", "1000", "1000", "65535", "65536", "281474976710655", "18446744073709551615"],
+    "N": ["0", "1", "2", "5", "20", "100", "1000", "4294967295"], "CODE": CODES[:6],
+}  # fmt: skip
 MODIFIERS = ["u", "k", "e", "i", "u=0", "k=1", "e=y", "i=n", "c=0", "c=1", "c=2", "c=255", "c=0xff", "c=256", "c=01", "c", "u=2", "u=", "=1", "x", ""]
 
 
@@ -203,19 +207,7 @@ def call_line(rng: Random, thread: str, drawn: Drawn, fault: bool) -> str:
 def argument(rng: Random, kind: str, drawn: Drawn, fault: bool) -> str:
     if fault:
         return rng.choice(NUMBERS)
-    if kind == "e":
-        return printable(name(rng, drawn)) or "x"
-    if kind == "x":
-        return rng.choice(CODES[:6])
-    if kind == "s":
-        return rng.choice(["0", "0", "0", "0", "1", "2", "63", "64", "4294967295"])
-    if kind == "d":
-        return rng.choice(["0", "1", "2", "3", "4", "31", "32"])
-    if kind == "o":
-        return rng.choice(["0", "255", "256", "256", "300", "1000", "1000", "65535", "65536", "281474976710655", "18446744073709551615"])
-    if kind == "r":
-        return rng.choice(["0", "1", "2", "5", "20", "100", "1000", "4294967295"])
-    return rng.choice(["0", "1", "2", "3", "15", "16", "1000", "1000000", "1000001", "4294967295"])
+    return printable(name(rng, drawn)) or "x" if kind == "EVENT" else rng.choice(ARGUMENTS[kind])
 
 
 REGIONS = ["outer", "inner", "loop", "a", "b", "A", "x_2", "1-2", "-", "r" * 64]

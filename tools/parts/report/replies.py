@@ -5,17 +5,14 @@ from __future__ import annotations
 from dataclasses import dataclass
 from typing import Iterable, Sequence
 
-from scripts import Call
+from scripts import CALLS, Call
 
 from parts.command import Fault
 
 OK = "PAPI_OK"
 STREAM_FAULT = "PAPI_ESYS"  # a run that met a bad line: no refusal
 CONFLICT = "PAPI_ECNFLCT"
-OF_SETS = (
-    "destroy", "cleanup", "add", "remove", "component", "domain", "multiplex", "overflow", "start", "stop", "read", "accum", "reset", "state", "events",
-    "assign", "raw",
-)
+OF_SETS = [name for name, arguments in CALLS.items() if arguments[:1] == ("SET",)]
 
 
 @dataclass(frozen=True)
