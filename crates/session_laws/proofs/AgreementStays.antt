@@ -22,31 +22,13 @@ held false e = cc
 keeps_agreement : (book : Book) (shape : Widths) (a : Account) (c : Call) → IsGood book shape c → account_refusal book shape a c ≡ None → Keeps (λ s. Agrees book s.set) book a.past c a.sets
 keeps_agreement book shape a (call.Cleanup j) good q = λ k s i there g. emptied_agrees book s.set
 keeps_agreement book shape a (call.Add j (Ok e)) good q = λ k s i there g. added_agrees book e s.set good.0 (test_fails book shape a (call.Add j (Ok e)) 2 j (cannot_take book e) s q (here a.sets j k s i there) refl) g
-keeps_agreement book shape a (call.Add j (Err c)) good q = λ k s i there g. g
 keeps_agreement book shape a (call.Remove j (Ok e)) good q = λ k s i there g. removed_agrees book e s.set g
-keeps_agreement book shape a (call.Remove j (Err c)) good q = λ k s i there g. g
 keeps_agreement book shape a (call.AssignComponent j comp) good q = λ k s i there g. assigned_agrees book comp s.set (test_fails book shape a (call.AssignComponent j comp) 3 j (λ set. is_other set.component (Some comp)) s q (here a.sets j k s i there) refl) g
-keeps_agreement book shape a (call.SetDomain j bits) good q = λ k s i there g. record { held = g.held; owned = g.owned; one_each = g.one_each; distinct = g.distinct; plain = g.plain; apart = g.apart }
-keeps_agreement book shape a (call.SetMultiplex j slice) good q = λ k s i there g. record { held = g.held; owned = g.owned; one_each = g.one_each; distinct = g.distinct; plain = g.plain; apart = g.apart }
 keeps_agreement book shape a (call.Overflow j (Ok e) t) good q = λ k s i there g.
     let at_j = here a.sets j k s i there in
     let arms = neither (not (has_event e s.set)) (not (is_plain (rule_of_event book e))) (test_fails book shape a (call.Overflow j (Ok e) t) 2 j (cannot_arm book e) s q at_j refl) in
     armed_agrees book e t s.set (held (has_event e s.set) arms.0) (held (is_plain (rule_of_event book e)) arms.1) (test_fails book shape a (call.Overflow j (Ok e) t) 4 j (shares_native book e t) s q at_j refl) g
-keeps_agreement book shape a (call.Overflow j (Err c) t) good q = λ k s i there g. g
-keeps_agreement book shape a (call.Start j) good q = λ k s i there g. g
-keeps_agreement book shape a (call.Stop j) good q = λ k s i there g. g
-keeps_agreement book shape a (call.Accum j) good q = λ k s i there g. g
-keeps_agreement book shape a (call.Reset j) good q = λ k s i there g. g
-keeps_agreement book shape a call.Register good q = λ k s i there g. g
-keeps_agreement book shape a call.Unregister good q = λ k s i there g. g
-keeps_agreement book shape a call.Create good q = λ k s i there g. g
-keeps_agreement book shape a (call.Destroy j) good q = λ k s i there g. g
-keeps_agreement book shape a (call.Read j) good q = λ k s i there g. g
-keeps_agreement book shape a (call.State j) good q = λ k s i there g. g
-keeps_agreement book shape a (call.ListEvents j) good q = λ k s i there g. g
-keeps_agreement book shape a (call.Assign j) good q = λ k s i there g. g
-keeps_agreement book shape a (call.Raw j c) good q = λ k s i there g. g
-keeps_agreement book shape a (call.Run n) good q = λ k s i there g. g
+keeps_agreement book shape a c good q = λ k s i there g. record { held = g.held; owned = g.owned; one_each = g.one_each; distinct = g.distinct; plain = g.plain; apart = g.apart }
 
 pub agreement_stays : AgreementStays
 agreement_stays book shape a c good h = record {

@@ -12,7 +12,7 @@ use Rattle.session_model.specs.declared.call.Call.TheVariants as call
 use Rattle.session_model.specs.Account.{Account, Kept}
 use Rattle.session_model.specs.Bounds.{AreApart}
 use Rattle.session_model.specs.Faces.{Face, at, change, component_runs, face_of, faces_of, free, runs_on}
-use Rattle.session_model.specs.Changes.{kept_after, new_kept, sets_after}
+use Rattle.session_model.specs.Changes.{changed_at, changed_by, kept_after, new_kept, sets_after}
 use Rattle.session_model.specs.Refusals.{rows}
 use Rattle.session_model.specs.Step.{account_refusal}
 use Rattle.session_laws.specs.Keeping.{ApartStays, OpeningApart}
@@ -124,31 +124,23 @@ started_apart f sets k same alone apart = record { each = each } where
   each : (component : ℕ) → count_by (runs_on (Some component)) (faces_of (change f sets k)) ≤ 1
   each component = subst (λ xs. count_by (runs_on (Some component)) xs ≤ 1) (map_put (option_map face_of) sets k (option_map f (at sets k))) (go component (at sets k) refl)
 
+changed_apart : (f : Kept → Kept) (sets : List (Option Kept)) (o : Option ℕ)
+    → ((s : Kept) (component : ℕ) → runs_on (Some component) (Some (face_of (f s))) ≡ true → runs_on (Some component) (Some (face_of s)) ≡ true)
+    → AreApart (faces_of sets) → AreApart (faces_of (changed_at f o sets))
+changed_apart f sets None given h = h
+changed_apart f sets (Some k) given h = change_apart f sets k (λ s there. given s) h
+
 sets_apart : (book : Book) (shape : Widths) (a : Account) (c : Call) → account_refusal book shape a c ≡ None → AreApart (faces_of a.sets) → AreApart (faces_of (sets_after new_kept (kept_after book a.past) c a.sets))
 sets_apart book shape a call.Create q h = put_apart a.sets (free a.sets) (Some new_kept) (λ component. refl) h
 sets_apart book shape a (call.Destroy k) q h = put_apart a.sets k None (λ component. refl) h
 sets_apart book shape a (call.Cleanup k) q h = change_apart (kept_after book a.past (call.Cleanup k)) a.sets k (λ s there component e. absurd (stopped_runs s.running false (is_stopped book shape a (call.Cleanup k) 1 k s q there refl) e)) h
 sets_apart book shape a (call.Add k (Ok x)) q h = change_apart (kept_after book a.past (call.Add k (Ok x))) a.sets k (λ s there component e. absurd (stopped_runs s.running (option_map_or (λ z. z == component) (component_of_event book x) false) (is_stopped book shape a (call.Add k (Ok x)) 1 k s q there refl) e)) h
-sets_apart book shape a (call.Add k (Err c)) q h = change_apart (kept_after book a.past (call.Add k (Err c))) a.sets k (λ s there component e. e) h
-sets_apart book shape a (call.Remove k (Ok x)) q h = change_apart (kept_after book a.past (call.Remove k (Ok x))) a.sets k (λ s there component e. e) h
-sets_apart book shape a (call.Remove k (Err c)) q h = change_apart (kept_after book a.past (call.Remove k (Err c))) a.sets k (λ s there component e. e) h
 sets_apart book shape a (call.AssignComponent k comp) q h = change_apart (kept_after book a.past (call.AssignComponent k comp)) a.sets k (λ s there component e. absurd (stopped_runs s.running (comp == component) (is_stopped book shape a (call.AssignComponent k comp) 2 k s q there refl) e)) h
-sets_apart book shape a (call.SetDomain k bits) q h = change_apart (kept_after book a.past (call.SetDomain k bits)) a.sets k (λ s there component e. e) h
-sets_apart book shape a (call.SetMultiplex k slice) q h = change_apart (kept_after book a.past (call.SetMultiplex k slice)) a.sets k (λ s there component e. e) h
-sets_apart book shape a (call.Overflow k (Ok x) t) q h = change_apart (kept_after book a.past (call.Overflow k (Ok x) t)) a.sets k (λ s there component e. e) h
-sets_apart book shape a (call.Overflow k (Err c) t) q h = change_apart (kept_after book a.past (call.Overflow k (Err c) t)) a.sets k (λ s there component e. e) h
 sets_apart book shape a (call.Start k) q h = started_apart (kept_after book a.past (call.Start k)) a.sets k (λ s. refl) (row_fails (rows book shape a.registered (faces_of a.sets) (call.Start k)) 2 q) h
 sets_apart book shape a (call.Stop k) q h = change_apart (kept_after book a.past (call.Stop k)) a.sets k (λ s there component e. cc) h
-sets_apart book shape a (call.Accum k) q h = change_apart (kept_after book a.past (call.Accum k)) a.sets k (λ s there component e. e) h
-sets_apart book shape a (call.Reset k) q h = change_apart (kept_after book a.past (call.Reset k)) a.sets k (λ s there component e. e) h
-sets_apart book shape a call.Register q h = h
-sets_apart book shape a call.Unregister q h = h
-sets_apart book shape a (call.Read k) q h = h
-sets_apart book shape a (call.State k) q h = h
-sets_apart book shape a (call.ListEvents k) q h = h
-sets_apart book shape a (call.Assign k) q h = h
-sets_apart book shape a (call.Raw k c) q h = h
-sets_apart book shape a (call.Run n) q h = h
+sets_apart book shape a (call.Remove k (Ok x)) q h = changed_apart (kept_after book a.past (call.Remove k (Ok x))) a.sets (Some k) (λ s component e. e) h
+sets_apart book shape a (call.Overflow k (Ok x) t) q h = changed_apart (kept_after book a.past (call.Overflow k (Ok x) t)) a.sets (Some k) (λ s component e. e) h
+sets_apart book shape a c q h = changed_apart (kept_after book a.past c) a.sets (changed_by c) (λ s component e. e) h
 
 pub apart_stays : ApartStays
 apart_stays book shape a c h =

@@ -1,5 +1,5 @@
 -- Each thread keeps its places, and each set one value of the caller for each event.
-use Rattle.std.proofs.Common.{◌≡◌, ◌∙◌, ◌∷◌, ℤ, pos, List, [], length, refl, sym, ap, arith, Option, None, Ok, Err}
+use Rattle.std.proofs.Common.{◌≡◌, ◌∙◌, ◌∷◌, ℕ, ℤ, pos, List, [], length, refl, sym, ap, arith, Option, Some, None, Ok, Err}
 use Rattle.std.proofs.Math.ListN.{length-set}
 use Rattle.std.proofs.lemmas.List.{length-map, length-replicate}
 use Rattle.std.proofs.lemmas.List.Elements.{All-replicate}
@@ -12,32 +12,18 @@ use Rattle.session_model.specs.declared.call.Call.TheVariants as call
 use Rattle.session_model.specs.Account.{Kept}
 use Rattle.session_model.specs.Bounds.{IsValued}
 use Rattle.session_model.specs.Values.{measured, sums, values_of}
-use Rattle.session_model.specs.Changes.{kept_after, new_kept, sets_after}
+use Rattle.session_model.specs.Changes.{changed_at, changed_by, kept_after, new_kept, sets_after}
 use Rattle.session_laws.specs.Keeping.{OpeningValued, PlacesStay, ValuesStay}
 use Rattle.session_laws.proofs.Sets.{performed_sets, step_each, step_has}
+
+as_many : (f : Kept → Kept) (o : Option ℕ) (sets : List (Option Kept)) → length (changed_at f o sets) ≡ length sets
+as_many f None sets = refl
+as_many f (Some k) sets = length-set sets k _
 
 places_after : (book : Book) (past : List Occ) (c : Call) (sets : List (Option Kept)) → length (sets_after new_kept (kept_after book past) c sets) ≡ length sets
 places_after book past call.Create sets = length-set sets _ _
 places_after book past (call.Destroy k) sets = length-set sets k _
-places_after book past (call.Cleanup k) sets = length-set sets k _
-places_after book past (call.Add k e) sets = length-set sets k _
-places_after book past (call.Remove k e) sets = length-set sets k _
-places_after book past (call.AssignComponent k comp) sets = length-set sets k _
-places_after book past (call.SetDomain k bits) sets = length-set sets k _
-places_after book past (call.SetMultiplex k slice) sets = length-set sets k _
-places_after book past (call.Overflow k e t) sets = length-set sets k _
-places_after book past (call.Start k) sets = length-set sets k _
-places_after book past (call.Stop k) sets = length-set sets k _
-places_after book past (call.Accum k) sets = length-set sets k _
-places_after book past (call.Reset k) sets = length-set sets k _
-places_after book past call.Register sets = refl
-places_after book past call.Unregister sets = refl
-places_after book past (call.Read k) sets = refl
-places_after book past (call.State k) sets = refl
-places_after book past (call.ListEvents k) sets = refl
-places_after book past (call.Assign k) sets = refl
-places_after book past (call.Raw k c) sets = refl
-places_after book past (call.Run n) sets = refl
+places_after book past c sets = as_many (kept_after book past c) (changed_by c) sets
 
 pub places_stay : PlacesStay
 places_stay book shape a c = step_has (λ b. length b.sets ≡ length a.sets) book shape a c refl (λ q. ap length (performed_sets book shape a c) ∙ places_after book a.past c a.sets)
@@ -53,28 +39,10 @@ values_each book past s = length-map s.set.events (event_value book (measured s.
 kept_valued : (book : Book) (past : List Occ) (c : Call) (s : Kept) → IsValued s → IsValued (kept_after book past c s)
 kept_valued book past (call.Cleanup k) s h = record { one_each = length-replicate _ (pos 0) }
 kept_valued book past (call.Add k (Ok e)) s h = record { one_each = length-replicate _ (pos 0) }
-kept_valued book past (call.Add k (Err c)) s h = h
 kept_valued book past (call.Remove k (Ok e)) s h = record { one_each = length-replicate _ (pos 0) }
-kept_valued book past (call.Remove k (Err c)) s h = h
-kept_valued book past (call.AssignComponent k comp) s h = record { one_each = h.one_each }
-kept_valued book past (call.SetDomain k bits) s h = record { one_each = h.one_each }
-kept_valued book past (call.SetMultiplex k slice) s h = record { one_each = h.one_each }
-kept_valued book past (call.Overflow k (Ok e) t) s h = record { one_each = h.one_each }
-kept_valued book past (call.Overflow k (Err c) t) s h = h
-kept_valued book past (call.Start k) s h = record { one_each = h.one_each }
-kept_valued book past (call.Stop k) s h = record { one_each = h.one_each }
 kept_valued book past (call.Accum k) s h = let all = values_each book past s in record { one_each = length-sums s.values (values_of book past s) (h.one_each ∙ sym all) ∙ all }
-kept_valued book past (call.Reset k) s h = record { one_each = h.one_each }
-kept_valued book past call.Register s h = h
-kept_valued book past call.Unregister s h = h
-kept_valued book past call.Create s h = h
-kept_valued book past (call.Destroy k) s h = h
-kept_valued book past (call.Read k) s h = h
-kept_valued book past (call.State k) s h = h
-kept_valued book past (call.ListEvents k) s h = h
-kept_valued book past (call.Assign k) s h = h
-kept_valued book past (call.Raw k c) s h = h
-kept_valued book past (call.Run n) s h = h
+kept_valued book past (call.Overflow k (Ok e) t) s h = record { one_each = h.one_each }
+kept_valued book past c s h = record { one_each = h.one_each }
 
 pub values_stay : ValuesStay
 values_stay book shape a c h = record { each = step_each IsValued book shape a c (record { one_each = refl }) (λ q k s i there g. kept_valued book a.past c s g) h.each }

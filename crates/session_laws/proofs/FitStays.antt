@@ -42,9 +42,7 @@ keeps_fit book shape a (call.Add j (Ok e)) is_shape fits good q = λ k s i there
     let clash : clash_with book e s.set ≡ None = no_clash (clash_with book e s.set)
     (sym (ap (λ o. is_some (option_and_then (λ f. clash_with book e f.set) o)) (at_map face_of a.sets j ∙ ap (option_map face_of) at_j)) ∙ row_fails (rows book shape a.registered (faces_of a.sets) (call.Add j (Ok e))) 4 q) in
     added_fit book shape e s.set is_shape fits good.0 good.1 (test_fails book shape a (call.Add j (Ok e)) 2 j (cannot_take book e) s q at_j refl) (test_fails book shape a (call.Add j (Ok e)) 3 j (is_full book e) s q at_j refl) clash g
-keeps_fit book shape a (call.Add j (Err c)) is_shape fits good q = λ k s i there g. g
 keeps_fit book shape a (call.Remove j (Ok e)) is_shape fits good q = λ k s i there g. removed_fit book shape e s.set g
-keeps_fit book shape a (call.Remove j (Err c)) is_shape fits good q = λ k s i there g. g
 keeps_fit book shape a (call.AssignComponent j comp) is_shape fits good q = λ k s i there g.
     assigned_fit book shape comp s.set is_shape (below_of (length shape) comp (row_fails (rows book shape a.registered (faces_of a.sets) (call.AssignComponent j comp)) 1 q))
     (test_fails book shape a (call.AssignComponent j comp) 3 j (λ set. is_other set.component (Some comp)) s q (here a.sets j k s i there) refl) g
@@ -56,21 +54,7 @@ keeps_fit book shape a (call.Overflow j (Ok e) t) is_shape fits good q = λ k s 
     let arms = neither (not (has_event e s.set)) (not (is_plain (rule_of_event book e))) (test_fails book shape a (call.Overflow j (Ok e) t) 2 j (cannot_arm book e) s q at_j refl) in
     armed_fit book shape e t s.set (held (has_event e s.set) arms.0) (held (is_plain (rule_of_event book e)) arms.1) (test_fails book shape a (call.Overflow j (Ok e) t) 3 j (is_bad_threshold shape t) s q at_j refl)
     (test_fails book shape a (call.Overflow j (Ok e) t) 4 j (shares_native book e t) s q at_j refl) (test_fails book shape a (call.Overflow j (Ok e) t) 5 j is_multiplexed s q at_j refl) g
-keeps_fit book shape a (call.Overflow j (Err c) t) is_shape fits good q = λ k s i there g. g
-keeps_fit book shape a (call.Start j) is_shape fits good q = λ k s i there g. g
-keeps_fit book shape a (call.Stop j) is_shape fits good q = λ k s i there g. g
-keeps_fit book shape a (call.Accum j) is_shape fits good q = λ k s i there g. g
-keeps_fit book shape a (call.Reset j) is_shape fits good q = λ k s i there g. g
-keeps_fit book shape a call.Register is_shape fits good q = λ k s i there g. g
-keeps_fit book shape a call.Unregister is_shape fits good q = λ k s i there g. g
-keeps_fit book shape a call.Create is_shape fits good q = λ k s i there g. g
-keeps_fit book shape a (call.Destroy j) is_shape fits good q = λ k s i there g. g
-keeps_fit book shape a (call.Read j) is_shape fits good q = λ k s i there g. g
-keeps_fit book shape a (call.State j) is_shape fits good q = λ k s i there g. g
-keeps_fit book shape a (call.ListEvents j) is_shape fits good q = λ k s i there g. g
-keeps_fit book shape a (call.Assign j) is_shape fits good q = λ k s i there g. g
-keeps_fit book shape a (call.Raw j c) is_shape fits good q = λ k s i there g. g
-keeps_fit book shape a (call.Run n) is_shape fits good q = λ k s i there g. g
+keeps_fit book shape a c is_shape fits good q = λ k s i there g. g
 
 -- by place, and by number
 each_fit : (book : Book) (shape : Widths) (sets : List (Option Kept)) → AreFit book shape sets → Each (λ s. IsFit book shape s.set) sets

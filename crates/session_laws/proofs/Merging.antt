@@ -48,25 +48,7 @@ unregistered book shape a false false = refl
 pub registered_follows : RegisteredFollows
 registered_follows book shape a call.Register = refl
 registered_follows book shape a call.Unregister = unregistered book shape a (list_any is_running (faces_of a.sets)) (not a.registered)
-registered_follows book shape a call.Create = keeps (account_refusal book shape a call.Create) a (performed book shape a call.Create) refl
-registered_follows book shape a (call.Destroy k) = keeps (account_refusal book shape a (call.Destroy k)) a (performed book shape a (call.Destroy k)) refl
-registered_follows book shape a (call.Cleanup k) = keeps (account_refusal book shape a (call.Cleanup k)) a (performed book shape a (call.Cleanup k)) refl
-registered_follows book shape a (call.Add k e) = keeps (account_refusal book shape a (call.Add k e)) a (performed book shape a (call.Add k e)) refl
-registered_follows book shape a (call.Remove k e) = keeps (account_refusal book shape a (call.Remove k e)) a (performed book shape a (call.Remove k e)) refl
-registered_follows book shape a (call.AssignComponent k comp) = keeps (account_refusal book shape a (call.AssignComponent k comp)) a (performed book shape a (call.AssignComponent k comp)) refl
-registered_follows book shape a (call.SetDomain k bits) = keeps (account_refusal book shape a (call.SetDomain k bits)) a (performed book shape a (call.SetDomain k bits)) refl
-registered_follows book shape a (call.SetMultiplex k slice) = keeps (account_refusal book shape a (call.SetMultiplex k slice)) a (performed book shape a (call.SetMultiplex k slice)) refl
-registered_follows book shape a (call.Overflow k e t) = keeps (account_refusal book shape a (call.Overflow k e t)) a (performed book shape a (call.Overflow k e t)) refl
-registered_follows book shape a (call.Start k) = keeps (account_refusal book shape a (call.Start k)) a (performed book shape a (call.Start k)) refl
-registered_follows book shape a (call.Stop k) = keeps (account_refusal book shape a (call.Stop k)) a (performed book shape a (call.Stop k)) refl
-registered_follows book shape a (call.Read k) = keeps (account_refusal book shape a (call.Read k)) a (performed book shape a (call.Read k)) refl
-registered_follows book shape a (call.Accum k) = keeps (account_refusal book shape a (call.Accum k)) a (performed book shape a (call.Accum k)) refl
-registered_follows book shape a (call.Reset k) = keeps (account_refusal book shape a (call.Reset k)) a (performed book shape a (call.Reset k)) refl
-registered_follows book shape a (call.State k) = keeps (account_refusal book shape a (call.State k)) a (performed book shape a (call.State k)) refl
-registered_follows book shape a (call.ListEvents k) = keeps (account_refusal book shape a (call.ListEvents k)) a (performed book shape a (call.ListEvents k)) refl
-registered_follows book shape a (call.Assign k) = keeps (account_refusal book shape a (call.Assign k)) a (performed book shape a (call.Assign k)) refl
-registered_follows book shape a (call.Raw k c) = keeps (account_refusal book shape a (call.Raw k c)) a (performed book shape a (call.Raw k c)) refl
-registered_follows book shape a (call.Run n) = keeps (account_refusal book shape a (call.Run n)) a (performed book shape a (call.Run n)) refl
+registered_follows book shape a c = keeps (account_refusal book shape a c) a (performed book shape a c) refl
 
 pub listed_bits : (bit : ℕ) (accounts : List Account) → bits_from bit (map (λ a. a.registered) accounts) ≡ listed_from bit accounts
 listed_bits bit [] = refl

@@ -13,7 +13,7 @@ use Rattle.session_model.specs.declared.call.Call.TheVariants as call
 use Rattle.session_model.specs.Account.{Account, Kept}
 use Rattle.session_model.specs.Faces.{Face, at, change, face_of, faces_of, free, has, runs}
 use Rattle.session_model.specs.Refusals.{first_of, rows}
-use Rattle.session_model.specs.Changes.{changed_by, kept_after, new_kept, sets_after}
+use Rattle.session_model.specs.Changes.{changed_at, changed_by, kept_after, new_kept, sets_after}
 use Rattle.session_model.specs.Step.{account_refusal, performed, step, unless}
 
 -- a row that does not come
@@ -75,57 +75,21 @@ change_each P f sets k h given = All-set (λ place. ForSome place P) sets k (opt
 abbrev pub Keeps : (Kept → Type 0) → Book → List Occ → Call → List (Option Kept) → Type 0
 Keeps P book past call sets = (k : ℕ) (s : Kept) → changed_by call ≡ Some k → at sets k ≡ Some s → P s → P (kept_after book past call s)
 
-changed : (P : Kept → Type 0) (book : Book) (past : List Occ) (c : Call) (k : ℕ) (sets : List (Option Kept)) → changed_by c ≡ Some k → Keeps P book past c sets → Each P sets → Each P (change (kept_after book past c) sets k)
-changed P book past c k sets q given h = change_each P (kept_after book past c) sets k h (λ s e p. given k s q e p)
+changed : (P : Kept → Type 0) (book : Book) (past : List Occ) (c : Call) (o : Option ℕ) (sets : List (Option Kept)) → changed_by c ≡ o → Keeps P book past c sets → Each P sets → Each P (changed_at (kept_after book past c) o sets)
+changed P book past c None sets q given h = h
+changed P book past c (Some k) sets q given h = change_each P (kept_after book past c) sets k h (λ s e p. given k s q e p)
 
 pub sets_each : (P : Kept → Type 0) (book : Book) (past : List Occ) (c : Call) (sets : List (Option Kept)) → P new_kept → Keeps P book past c sets → Each P sets → Each P (sets_after new_kept (kept_after book past) c sets)
 sets_each P book past call.Create sets fresh given h = All-set (λ place. ForSome place P) sets (free sets) (Some new_kept) (of_one P new_kept fresh) h
 sets_each P book past (call.Destroy k) sets fresh given h = All-set (λ place. ForSome place P) sets k None (λ x e. cc) h
-sets_each P book past (call.Cleanup k) sets fresh given h = changed P book past (call.Cleanup k) k sets refl given h
-sets_each P book past (call.Add k e) sets fresh given h = changed P book past (call.Add k e) k sets refl given h
-sets_each P book past (call.Remove k e) sets fresh given h = changed P book past (call.Remove k e) k sets refl given h
-sets_each P book past (call.AssignComponent k comp) sets fresh given h = changed P book past (call.AssignComponent k comp) k sets refl given h
-sets_each P book past (call.SetDomain k bits) sets fresh given h = changed P book past (call.SetDomain k bits) k sets refl given h
-sets_each P book past (call.SetMultiplex k slice) sets fresh given h = changed P book past (call.SetMultiplex k slice) k sets refl given h
-sets_each P book past (call.Overflow k e t) sets fresh given h = changed P book past (call.Overflow k e t) k sets refl given h
-sets_each P book past (call.Start k) sets fresh given h = changed P book past (call.Start k) k sets refl given h
-sets_each P book past (call.Stop k) sets fresh given h = changed P book past (call.Stop k) k sets refl given h
-sets_each P book past (call.Accum k) sets fresh given h = changed P book past (call.Accum k) k sets refl given h
-sets_each P book past (call.Reset k) sets fresh given h = changed P book past (call.Reset k) k sets refl given h
-sets_each P book past call.Register sets fresh given h = h
-sets_each P book past call.Unregister sets fresh given h = h
-sets_each P book past (call.Read k) sets fresh given h = h
-sets_each P book past (call.State k) sets fresh given h = h
-sets_each P book past (call.ListEvents k) sets fresh given h = h
-sets_each P book past (call.Assign k) sets fresh given h = h
-sets_each P book past (call.Raw k c) sets fresh given h = h
-sets_each P book past (call.Run n) sets fresh given h = h
+sets_each P book past c sets fresh given h = changed P book past c (changed_by c) sets refl given h
 
 -- ---- steps
 
 -- the sets after a call that is not refused
 pub performed_sets : (book : Book) (shape : Widths) (a : Account) (c : Call) → (performed book shape a c).account.sets ≡ sets_after new_kept (kept_after book a.past) c a.sets
-performed_sets book shape a call.Create = refl
-performed_sets book shape a (call.Destroy k) = refl
-performed_sets book shape a (call.Cleanup k) = refl
-performed_sets book shape a (call.Add k e) = refl
-performed_sets book shape a (call.Remove k e) = refl
-performed_sets book shape a (call.AssignComponent k comp) = refl
-performed_sets book shape a (call.SetDomain k bits) = refl
-performed_sets book shape a (call.SetMultiplex k slice) = refl
-performed_sets book shape a (call.Overflow k e t) = refl
-performed_sets book shape a (call.Start k) = refl
-performed_sets book shape a (call.Stop k) = refl
-performed_sets book shape a (call.Accum k) = refl
-performed_sets book shape a (call.Reset k) = refl
-performed_sets book shape a call.Register = refl
-performed_sets book shape a call.Unregister = refl
-performed_sets book shape a (call.Read k) = refl
-performed_sets book shape a (call.State k) = refl
-performed_sets book shape a (call.ListEvents k) = refl
-performed_sets book shape a (call.Assign k) = refl
-performed_sets book shape a (call.Raw k c) = refl
 performed_sets book shape a (call.Run n) = refl
+performed_sets book shape a c = refl
 
 -- what holds of a refused call's account, and of that of each call that is not refused
 pub step_has : (P : Account → Type 0) (book : Book) (shape : Widths) (a : Account) (c : Call) → P a → (account_refusal book shape a c ≡ None → P (performed book shape a c).account) → P (step book shape a c).account

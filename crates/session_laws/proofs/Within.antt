@@ -25,32 +25,15 @@ zeroed_within : (now : ℕ) (s : Kept) → IsWithin now s → IsWithin now (zero
 zeroed_within now s h = record { in_order = omega arith; past = (end_bounds now s.running s.from s.to h.in_order h.past).1 }
 
 kept_within : (book : Book) (past : List Occ) (c : Call) (s : Kept) → IsWithin (length past) s → IsWithin (length past) (kept_after book past c s)
-kept_within book past (call.Cleanup k) s h = let z = zeroed_within (length past) s h in record { in_order = z.in_order; past = z.past }
-kept_within book past (call.Add k (Ok e)) s h = let z = zeroed_within (length past) s h in record { in_order = z.in_order; past = z.past }
-kept_within book past (call.Add k (Err c)) s h = h
-kept_within book past (call.Remove k (Ok e)) s h = let z = zeroed_within (length past) s h in record { in_order = z.in_order; past = z.past }
-kept_within book past (call.Remove k (Err c)) s h = h
-kept_within book past (call.AssignComponent k comp) s h = record { in_order = h.in_order; past = h.past }
-kept_within book past (call.SetDomain k bits) s h = let z = zeroed_within (length past) s h in record { in_order = z.in_order; past = z.past }
-kept_within book past (call.SetMultiplex k slice) s h = let z = zeroed_within (length past) s h in record { in_order = z.in_order; past = z.past }
-kept_within book past (call.Overflow k (Ok e) t) s h = let z = zeroed_within (length past) s h in record { in_order = z.in_order; past = z.past }
-kept_within book past (call.Overflow k (Err c) t) s h = h
-kept_within book past (call.Start k) s h = record { in_order = omega arith; past = omega arith }
 kept_within book past (call.Stop k) s h =
     let e = end_bounds (length past) s.running s.from s.to h.in_order h.past in
     record { in_order = e.0; past = e.1 }
-kept_within book past (call.Accum k) s h = let z = zeroed_within (length past) s h in record { in_order = z.in_order; past = z.past }
-kept_within book past (call.Reset k) s h = zeroed_within (length past) s h
-kept_within book past call.Register s h = h
-kept_within book past call.Unregister s h = h
-kept_within book past call.Create s h = h
-kept_within book past (call.Destroy k) s h = h
-kept_within book past (call.Read k) s h = h
-kept_within book past (call.State k) s h = h
-kept_within book past (call.ListEvents k) s h = h
-kept_within book past (call.Assign k) s h = h
-kept_within book past (call.Raw k c) s h = h
-kept_within book past (call.Run n) s h = h
+kept_within book past (call.Add k (Ok e)) s h = let z = zeroed_within (length past) s h in record { in_order = z.in_order; past = z.past }
+kept_within book past (call.Remove k (Ok e)) s h = let z = zeroed_within (length past) s h in record { in_order = z.in_order; past = z.past }
+kept_within book past (call.Overflow k (Ok e) t) s h = let z = zeroed_within (length past) s h in record { in_order = z.in_order; past = z.past }
+kept_within book past c s h =
+    let z = zeroed_within (length past) s h in
+    record { in_order = omega (arith, h.in_order, z.in_order); past = omega (arith, h.past, z.past) }
 
 -- windows that lie in the past go on to do so
 pub within_more : (now later : ℕ) (sets : List (Option Kept)) → now ≤ later → AllWithin now sets → AllWithin later sets
@@ -64,26 +47,7 @@ same_time book a c h = record { each = sets_each (IsWithin (length a.past)) book
 
 performed_within : (book : Book) (shape : Widths) (a : Account) (c : Call) → AllWithin (length a.past) a.sets → AllWithin (length (performed book shape a c).account.past) (performed book shape a c).account.sets
 performed_within book shape a (call.Run n) h = within_more (length a.past) (length (a.past ++ take (min n (length a.rest)) a.rest)) a.sets (omega (arith, length-append a.past (take (min n (length a.rest)) a.rest))) h
-performed_within book shape a call.Register h = h
-performed_within book shape a call.Unregister h = h
-performed_within book shape a call.Create h = same_time book a call.Create h
-performed_within book shape a (call.Destroy k) h = same_time book a (call.Destroy k) h
-performed_within book shape a (call.Cleanup k) h = same_time book a (call.Cleanup k) h
-performed_within book shape a (call.Add k e) h = same_time book a (call.Add k e) h
-performed_within book shape a (call.Remove k e) h = same_time book a (call.Remove k e) h
-performed_within book shape a (call.AssignComponent k comp) h = same_time book a (call.AssignComponent k comp) h
-performed_within book shape a (call.SetDomain k bits) h = same_time book a (call.SetDomain k bits) h
-performed_within book shape a (call.SetMultiplex k slice) h = same_time book a (call.SetMultiplex k slice) h
-performed_within book shape a (call.Overflow k e t) h = same_time book a (call.Overflow k e t) h
-performed_within book shape a (call.Start k) h = same_time book a (call.Start k) h
-performed_within book shape a (call.Stop k) h = same_time book a (call.Stop k) h
-performed_within book shape a (call.Accum k) h = same_time book a (call.Accum k) h
-performed_within book shape a (call.Reset k) h = same_time book a (call.Reset k) h
-performed_within book shape a (call.Read k) h = h
-performed_within book shape a (call.State k) h = h
-performed_within book shape a (call.ListEvents k) h = h
-performed_within book shape a (call.Assign k) h = h
-performed_within book shape a (call.Raw k c) h = h
+performed_within book shape a c h = same_time book a c h
 
 pub within_stays : WithinStays
 within_stays book shape a c h = step_has (λ b. AllWithin (length b.past) b.sets) book shape a c h (λ q. performed_within book shape a c h)
@@ -103,26 +67,7 @@ performed_rises : (book : Book) (shape : Widths) (a : Account) (c : Call) → Ri
 performed_rises book shape a (call.Run n) h =
     let k = min n (length a.rest) in
     subst (Rises 0) (sym (append_assoc a.past (take k a.rest) (drop k a.rest) ∙ ap (λ xs. a.past ++ xs) (take-append-drop k a.rest))) h
-performed_rises book shape a call.Register h = h
-performed_rises book shape a call.Unregister h = h
-performed_rises book shape a call.Create h = h
-performed_rises book shape a (call.Destroy k) h = h
-performed_rises book shape a (call.Cleanup k) h = h
-performed_rises book shape a (call.Add k e) h = h
-performed_rises book shape a (call.Remove k e) h = h
-performed_rises book shape a (call.AssignComponent k comp) h = h
-performed_rises book shape a (call.SetDomain k bits) h = h
-performed_rises book shape a (call.SetMultiplex k slice) h = h
-performed_rises book shape a (call.Overflow k e t) h = h
-performed_rises book shape a (call.Start k) h = h
-performed_rises book shape a (call.Stop k) h = h
-performed_rises book shape a (call.Accum k) h = h
-performed_rises book shape a (call.Reset k) h = h
-performed_rises book shape a (call.Read k) h = h
-performed_rises book shape a (call.State k) h = h
-performed_rises book shape a (call.ListEvents k) h = h
-performed_rises book shape a (call.Assign k) h = h
-performed_rises book shape a (call.Raw k c) h = h
+performed_rises book shape a c h = h
 
 pub rise_stays : RiseStays
 rise_stays book shape a c h =
