@@ -1,7 +1,6 @@
 -- Thresholds that the history of a thread shows: those of sets with a number, at or above the least one.
 use Rattle.std.proofs.Common.{◌≡◌, ℕ, zero, suc, ◌<◌, ◌≤◌, ◌⊎◌, inl, inr, Bool, true, false, List, [], ◌∷◌, length, refl, sym, ap, subst, ◌∙◌, arith, Option, Some, None, Ok, slice_get}
 use Rattle.std.specs.Prelude.{◌&&◌, ◌==◌, All, nat_le, slice_index_or}
-use Rattle.std.specs.Option.{option_map_or}
 use Rattle.std.proofs.lemmas.Bool.{both_ways, cases_lt}
 use Rattle.std.proofs.lemmas.Bool.Decides.{eqb_tells, nat_tests}
 use Rattle.std.proofs.lemmas.List.Elements.{All-nil, All-push, All-set}
@@ -15,8 +14,7 @@ use Rattle.event_sets.proofs.Removed.{removed_all}
 use Rattle.session_model.specs.declared.call.Call.{Call}
 use Rattle.session_model.specs.declared.call.Call.TheVariants as call
 use Rattle.session_model.specs.Account.{Account}
-use Rattle.session_model.specs.Faces.{at, faces_of, is_absent}
-use Rattle.session_model.specs.Refusals.{rows}
+use Rattle.session_model.specs.Faces.{at}
 use Rattle.session_model.specs.Replies.{refused}
 use Rattle.session_model.specs.Step.{account_refusal, performed, replies_to, step, unless}
 use Rattle.session_laws.proofs.Sets.{test_fails}
@@ -26,7 +24,7 @@ use Rattle.call_laws.specs.SetCalls.{changed, holds_after, set_now, set_of_call}
 use Rattle.call_laws.proofs.Histories.{set_now-changed, set_now-made, set_now-other}
 use Rattle.call_laws.proofs.Noted.{Belongs, opening_belongs, step_belongs}
 use Rattle.call_laws.proofs.Replied.{refused_changes, said}
-use Rattle.call_laws.proofs.Steps.{present}
+use Rattle.call_laws.proofs.Steps.{first_row, present}
 
 -- none, or one that `overflow` takes
 abbrev pub IsThreshold : ℕ → Type 0
@@ -47,22 +45,6 @@ at_below : {X : Type 0} (places : List (Option X)) (k : ℕ) (x : X) → at plac
 at_below [] k x e = cc
 at_below (p ∷ places) zero x e = omega arith
 at_below (p ∷ places) (suc k) x e = omega (arith, at_below places k x e)
-
--- the first row of a call that changes a set is that there is none
-first_row : (book : Book) (shape : Widths) (a : Account) (c : Call) (k : ℕ) → set_of_call c ≡ Some k
-    → option_map_or (λ r. r.0) (slice_get (rows book shape a.registered (faces_of a.sets) c) 0) false ≡ is_absent (faces_of a.sets) k
-first_row book shape a (call.Cleanup j) k q = ap (is_absent (faces_of a.sets)) (let e : j ≡ k = cc in e)
-first_row book shape a (call.Add j (Ok x)) k q = ap (is_absent (faces_of a.sets)) (let e : j ≡ k = cc in e)
-first_row book shape a (call.Remove j (Ok x)) k q = ap (is_absent (faces_of a.sets)) (let e : j ≡ k = cc in e)
-first_row book shape a (call.AssignComponent j comp) k q = ap (is_absent (faces_of a.sets)) (let e : j ≡ k = cc in e)
-first_row book shape a (call.SetDomain j bits) k q = ap (is_absent (faces_of a.sets)) (let e : j ≡ k = cc in e)
-first_row book shape a (call.SetMultiplex j slice) k q = ap (is_absent (faces_of a.sets)) (let e : j ≡ k = cc in e)
-first_row book shape a (call.Overflow j (Ok x) t) k q = ap (is_absent (faces_of a.sets)) (let e : j ≡ k = cc in e)
-first_row book shape a (call.Start j) k q = ap (is_absent (faces_of a.sets)) (let e : j ≡ k = cc in e)
-first_row book shape a (call.Stop j) k q = ap (is_absent (faces_of a.sets)) (let e : j ≡ k = cc in e)
-first_row book shape a (call.Accum j) k q = ap (is_absent (faces_of a.sets)) (let e : j ≡ k = cc in e)
-first_row book shape a (call.Reset j) k q = ap (is_absent (faces_of a.sets)) (let e : j ≡ k = cc in e)
-first_row book shape a c k q = cc
 
 -- the set that a call changed is the one that it names
 names : (k : ℕ) (x : CallReply) → changed k x ≡ true → set_of_call x.call ≡ Some k

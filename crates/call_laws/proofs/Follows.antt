@@ -1,5 +1,5 @@
 -- An account follows the history of its calls: what the history says of a set is what the account keeps of it.
-use Rattle.std.proofs.Common.{◌≡◌, ◌≢◌, ℕ, ◌+◌, inl, inr, Bool, true, false, List, [], ◌∷◌, ◌++◌, length, take, drop, map, refl, sym, ap, ap₂, subst, ◌∙◌, arith, Option, Some, None, Ok}
+use Rattle.std.proofs.Common.{◌≡◌, ◌≢◌, ℕ, ◌+◌, inl, inr, Bool, true, false, List, [], ◌∷◌, ◌++◌, length, take, drop, map, refl, sym, ap, ap₂, subst, ◌∙◌, arith, Option, Some, None, Ok, Err}
 use Rattle.std.proofs.Common.{slice_set}
 use Rattle.std.specs.Prelude.{if◌then◌else◌}
 use Rattle.std.specs.Option.{option_map, option_map_or}
@@ -90,20 +90,16 @@ kept_values : (book : Book) (stream : List Occ) (log : List CallReply) (past : L
 kept_values book stream log past (call.Cleanup j) k s q inside h = sym (wrapped_zeros 0)
 kept_values book stream log past (call.Add j (Ok e)) k s q inside h = sym (wrapped_zeros _)
 kept_values book stream log past (call.Remove j (Ok e)) k s q inside h = sym (wrapped_zeros _)
-kept_values book stream log past (call.SetMultiplex j slice) k s q inside h = h.valued
 kept_values book stream log past (call.Accum j) k s q inside h =
     let n = length s.set.events in
     let rows = added book stream k log in
     ap (λ vs. sums vs (values_of book past s)) h.valued
     ∙ sums_more (event_value book (measured s.set.slice book past s)) (value_addable book (measured s.set.slice book past s)) (column_sums n rows) s.set.events
     ∙ ap (λ row. map wrapped (plus row (column_sums n rows))) (values_follow book stream log past k s inside h)
-kept_values book stream log past (call.SetDomain j bits) k s q inside h = h.valued
 kept_values book stream log past (call.Overflow j (Ok e) t) k s q inside h = h.valued
-kept_values book stream log past (call.Start j) k s q inside h = h.valued
-kept_values book stream log past (call.Stop j) k s q inside h = h.valued
-kept_values book stream log past (call.Reset j) k s q inside h = h.valued
-kept_values book stream log past (call.AssignComponent j comp) k s q inside h = h.valued
-kept_values book stream log past c k s q inside h = cc
+kept_values book stream log past (call.Add j (Err e)) k s q inside h = cc
+kept_values book stream log past (call.Remove j (Err e)) k s q inside h = cc
+kept_values book stream log past c k s q inside h = h.valued
 
 -- what is kept of the set that a call changed
 changed_set : (book : Book) (stream : List Occ) (log : List CallReply) (past : List Occ) (c : Call) (r : Reply) (k : ℕ) (s : Kept)

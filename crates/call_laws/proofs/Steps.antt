@@ -14,7 +14,7 @@ use Rattle.session_model.specs.declared.reply.Reply.{Reply}
 use Rattle.session_model.specs.Account.{Account, Kept}
 use Rattle.session_model.specs.Bounds.{AllWithin}
 use Rattle.session_model.specs.Faces.{at, change, face_of, faces_of, free, is_absent, runs as face_runs}
-use Rattle.session_model.specs.Changes.{kept_after}
+use Rattle.session_model.specs.Changes.{changed_at, kept_after}
 use Rattle.session_model.specs.Refusals.{rows}
 use Rattle.session_model.specs.Replies.{refused, reply_over, sight_of_kept}
 use Rattle.session_model.specs.Step.{account_after, account_refusal, performed, replies_to, step, unless}
@@ -27,6 +27,14 @@ use Rattle.call_laws.proofs.Places.{at-free, is_number-other, is_number-same}
 use Rattle.call_laws.proofs.Replied.{changes_none, ok_reply, quiet_makes, quiet_refused, quiet_reply, refused_changes, said, unknown_refused}
 
 -- ---- what a call that is carried out finds
+
+-- the first row of a call that changes a set is that there is none
+pub first_row : (book : Book) (shape : Widths) (a : Account) (c : Call) (k : ℕ) → set_of_call c ≡ Some k
+    → option_map_or (λ r. r.0) (slice_get (rows book shape a.registered (faces_of a.sets) c) 0) false ≡ is_absent (faces_of a.sets) k
+first_row book shape a (call.Add j (Ok x)) k q = cc
+first_row book shape a (call.Remove j (Ok x)) k q = cc
+first_row book shape a (call.Overflow j (Ok x) t) k q = cc
+first_row book shape a c k q = cc
 
 -- the set that it names
 pub present : (book : Book) (shape : Widths) (a : Account) (c : Call) (k : ℕ) → account_refusal book shape a c ≡ None
@@ -60,12 +68,11 @@ reply_to book shape a c = reply_over book (sight_of_kept book shape a.past) a.se
 -- a call that changes the set that it names
 changed_step : (book : Book) (shape : Widths) (stream : List Occ) (log : List CallReply) (a : Account) (c : Call) (k : ℕ) → c ≢ call.Create → set_of_call c ≡ Some k
     → account_refusal book shape a c ≡ None
-    → option_map_or (λ r. r.0) (slice_get (rows book shape a.registered (faces_of a.sets) c) 0) false ≡ is_absent (faces_of a.sets) k
     → AllWithin (length a.past) (change (kept_after book a.past c) a.sets k)
     → HistoryFollows book stream log a
     → Follows book stream (said c (reply_to book shape a c) ∷ log) a.past a.rest (change (kept_after book a.past c) a.sets k)
-changed_step book shape stream log a c k other e q same inside h =
-    let p = present book shape a c k q same in
+changed_step book shape stream log a c k other e q inside h =
+    let p = present book shape a c k q (first_row book shape a c k e) in
     let sight = sight_of_kept book shape a.past in
     changed_follows book stream log a.past a.rest a.sets c (reply_to book shape a c) k p.0 e (ok_reply book sight a.sets c) (quiet_reply book sight a.sets c other) p.1 inside h
 
@@ -76,6 +83,15 @@ idle_step book shape stream log a c other e h =
     let r = reply_to book shape a c in
     let quiet = quiet_reply book (sight_of_kept book shape a.past) a.sets c other in
     idle_follows book stream log a.past a.rest a.sets (said c r) (λ j. quiet_makes c r j quiet) (λ j. changes_none c r j e) quiet.takes_none h
+
+-- a call that changes the set that it names, if it names one that it changes
+named_step : (book : Book) (shape : Widths) (stream : List Occ) (log : List CallReply) (a : Account) (c : Call) (o : Option ℕ) → c ≢ call.Create → set_of_call c ≡ o
+    → account_refusal book shape a c ≡ None
+    → AllWithin (length a.past) (changed_at (kept_after book a.past c) o a.sets)
+    → HistoryFollows book stream log a
+    → Follows book stream (said c (reply_to book shape a c) ∷ log) a.past a.rest (changed_at (kept_after book a.past c) o a.sets)
+named_step book shape stream log a c None other e q inside h = idle_step book shape stream log a c other e h
+named_step book shape stream log a c (Some k) other e q inside h = changed_step book shape stream log a c k other e q inside h
 
 performed_follows : (book : Book) (shape : Widths) (stream : List Occ) (log : List CallReply) (a : Account) (c : Call) → account_refusal book shape a c ≡ None
     → AllWithin (length (performed book shape a c).account.past) (performed book shape a c).account.sets
@@ -88,21 +104,10 @@ performed_follows book shape stream log a call.Create q inside h =
     (λ j apart. is_number-other j (free a.sets) apart) (λ j. refl) refl (at-free a.sets (free a.sets) refl) inside h
 performed_follows book shape stream log a (call.Destroy k) q inside h =
     gone_follows book stream log a.past a.rest a.sets (said (call.Destroy k) (reply_to book shape a (call.Destroy k))) k (λ j. refl) (λ j. refl) refl (at_rest book shape a k q) inside h
-performed_follows book shape stream log a (call.Cleanup k) q inside h = changed_step book shape stream log a (call.Cleanup k) k (λ e. cc) refl q refl inside h
-performed_follows book shape stream log a (call.Add k (Ok e)) q inside h = changed_step book shape stream log a (call.Add k (Ok e)) k (λ e. cc) refl q refl inside h
 performed_follows book shape stream log a (call.Add k (Err code)) q inside h = unknown_refused book shape a (call.Add k (Err code)) 2 q refl
-performed_follows book shape stream log a (call.Remove k (Ok e)) q inside h = changed_step book shape stream log a (call.Remove k (Ok e)) k (λ e. cc) refl q refl inside h
 performed_follows book shape stream log a (call.Remove k (Err code)) q inside h = unknown_refused book shape a (call.Remove k (Err code)) 2 q refl
-performed_follows book shape stream log a (call.AssignComponent k comp) q inside h = changed_step book shape stream log a (call.AssignComponent k comp) k (λ e. cc) refl q refl inside h
-performed_follows book shape stream log a (call.SetDomain k bits) q inside h = changed_step book shape stream log a (call.SetDomain k bits) k (λ e. cc) refl q refl inside h
-performed_follows book shape stream log a (call.SetMultiplex k slice) q inside h = changed_step book shape stream log a (call.SetMultiplex k slice) k (λ e. cc) refl q refl inside h
-performed_follows book shape stream log a (call.Overflow k (Ok e) t) q inside h = changed_step book shape stream log a (call.Overflow k (Ok e) t) k (λ e. cc) refl q refl inside h
 performed_follows book shape stream log a (call.Overflow k (Err code) t) q inside h = unknown_refused book shape a (call.Overflow k (Err code) t) 2 q refl
-performed_follows book shape stream log a (call.Start k) q inside h = changed_step book shape stream log a (call.Start k) k (λ e. cc) refl q refl inside h
-performed_follows book shape stream log a (call.Stop k) q inside h = changed_step book shape stream log a (call.Stop k) k (λ e. cc) refl q refl inside h
-performed_follows book shape stream log a (call.Accum k) q inside h = changed_step book shape stream log a (call.Accum k) k (λ e. cc) refl q refl inside h
-performed_follows book shape stream log a (call.Reset k) q inside h = changed_step book shape stream log a (call.Reset k) k (λ e. cc) refl q refl inside h
-performed_follows book shape stream log a c q inside h = idle_step book shape stream log a c (λ e. cc) refl h
+performed_follows book shape stream log a c q inside h = named_step book shape stream log a c (set_of_call c) (λ e. cc) refl q inside h
 
 -- one more call, refused or carried out
 pub step_follows : (book : Book) (shape : Widths) (stream : List Occ) (log : List CallReply) (a : Account) (c : Call) → HistoryFollows book stream log a

@@ -55,25 +55,7 @@ written P create add start read run (script.Add set event) h = subst (λ n. P (s
 written P create add start read run (script.Start set) h = subst (λ n. P (script.Start n)) (sym h) start
 written P create add start read run (script.Read set) h = subst (λ n. P (script.Read n)) (sym h) read
 written P create add start read run (script.Run count) h = run count h
-written P create add start read run script.Register h = absurd h
-written P create add start read run script.Unregister h = absurd h
-written P create add start read run script.Threads h = absurd h
-written P create add start read run (script.Destroy set) h = absurd h
-written P create add start read run (script.Cleanup set) h = absurd h
-written P create add start read run (script.Remove set event) h = absurd h
-written P create add start read run (script.Component set component) h = absurd h
-written P create add start read run (script.Domain set bits) h = absurd h
-written P create add start read run (script.Multiplex set slice) h = absurd h
-written P create add start read run (script.Overflow set event threshold) h = absurd h
-written P create add start read run (script.Stop set) h = absurd h
-written P create add start read run (script.Accum set) h = absurd h
-written P create add start read run (script.Reset set) h = absurd h
-written P create add start read run (script.State set) h = absurd h
-written P create add start read run (script.Events set) h = absurd h
-written P create add start read run (script.Assign set) h = absurd h
-written P create add start read run (script.Raw set counter) h = absurd h
-written P create add start read run (script.Code event) h = absurd h
-written P create add start read run (script.Name code) h = absurd h
+written P create add start read run c h = absurd h
 
 abbrev pub AreWritten : List ThreadCall → Type 0
 AreWritten as' = AllByRecursion (λ a. (a.thread < 64) × IsWritten a.call) as'
