@@ -1,5 +1,5 @@
--- A line of the common form is judged to be its occurrence.
-use Rattle.std.proofs.Common.{◌≡◌, ◌∙◌, ◌+◌, ◌<◌, ◌≤◌, ◌++◌, ◌∷◌, ◌==◌, ◌&&◌, ℕ, zero, suc, Bool, true, false, List, [], Some, length, take, get_or, refl, sym, ap, arith, add-one}
+-- A line of the common form is judged to be its occurrence, and one that is empty or a comment to be skipped.
+use Rattle.std.proofs.Common.{◌≡◌, ◌∙◌, ◌+◌, ◌<◌, ◌≤◌, ◌++◌, ◌∷◌, ◌==◌, ◌&&◌, ℕ, zero, suc, Bool, true, false, List, [], Some, length, take, get_or, refl, sym, ap, subst, arith, add-one, eq-eqb, inl, inr}
 use Rattle.std.specs.Prelude.{codes, bytes_eq, if◌then◌else◌}
 use Rattle.std.proofs.Math.Seq.{drop-cons}
 use Rattle.std.proofs.lemmas.List.{length-take-le, take-append-drop}
@@ -9,11 +9,14 @@ use Rattle.papi_base.specs.Numerals.{is_digit}
 use Rattle.papi_base.specs.declared.occurrence.LineCause.TheVariants as cause
 use Rattle.papi_base.specs.declared.occurrence.Occ.{Occ}
 use Rattle.stream_reader.specs.declared.line.LineStart.{LineStart}
-use Rattle.stream_reader.specs.declared.line.Judgement.TheVariants.{Bad, Occurs}
+use Rattle.stream_reader.specs.declared.line.Judgement.{Judgement}
+use Rattle.stream_reader.specs.declared.line.Judgement.TheVariants.{Bad, Occurs, Skipped}
 use Rattle.stream_reader.specs.declared.common_line.CommonLine.{CommonLine}
 use Rattle.stream_reader.specs.Judged.{fields_judged, fields_of, is_above, is_skipped, judged, occurrence_judged, text_judged, without_return}
 use Rattle.stream_reader.specs.Fields.{occurrence_on}
-use Rattle.stream_reader.specs.CommonLines.{BeginsWith, HoldsLine}
+use Rattle.stream_reader.specs.CommonLines.{BeginsSkipped, BeginsWith, HoldsLine}
+use Rattle.stream_reader.specs.Inside.{FindsNewline}
+use Rattle.stream_reader.specs.Lines.{IsOneLine}
 use Rattle.stream_reader.specs.Reader.{ReaderView}
 use Rattle.stream_reader.proofs.Judging.{judged-some}
 
@@ -50,12 +53,12 @@ text-is start t o l e above =
     let fields : fields_judged start (fields_of t) ≡ Occurs o = judged-some start t o (sym e) ∙ is-occurrence start o above in
     rw (l.version, and-false (start.number == 1), l.skipped, fields) refl
 
-line-is : (start : LineStart) (t fields : List ℕ) (o : Occ) → length t ≤ 128 → start.passed + length t ≤ 67108864 → without_return t ≡ fields → text_judged start fields ≡ Occurs o
-    → judged start (record { bytes = t; ended = true }) ≡ Occurs o
+line-is : (start : LineStart) (t : List ℕ) (j : Judgement) → length t ≤ 128 → start.passed + length t ≤ 67108864 → text_judged start (without_return t) ≡ j
+    → judged start (record { bytes = t; ended = true }) ≡ j
 unfolding judged
-line-is start t fields o short small whole e = rw (le-ltb 128 (length t) short, le-ltb 67108864 (start.passed + length t) small, whole, e) refl
+line-is start t j short small e = rw (le-ltb 128 (length t) short, le-ltb 67108864 (start.passed + length t) small, e) refl
 
-pub holds-line : (v : ReaderView) (r : CommonLine) → BeginsWith v.start v.held r → (v.start.stamped ≡ true → is_above v.start.last r.occ.stamp ≡ true) → v.start.passed + r.size ≤ 67108864 → HoldsLine v r
+pub holds-line : (v : ReaderView) (r : CommonLine) → BeginsWith v.start v.held r → (v.start.stamped ≡ true → is_above v.start.last r.occ.stamp ≡ true) → v.start.passed + r.size ≤ 67108864 → HoldsLine v r.size (Occurs r.occ)
 holds-line v r b above small =
     let t = take r.size v.held in
     let within : r.size < length v.held = b.within in
@@ -65,6 +68,31 @@ holds-line v r b above small =
       size = b.within;
       one = b.one;
       is = sym (take-append-drop r.size v.held) ∙ ap (λ u. t ++ u) (rw (add-one, ← b.newline) (drop-cons v.held r.size 0 b.within));
-      judged = sym (line-is v.start t (take b.fields v.held) r.occ (let s = b.short in omega (arith, long)) (omega (arith, long)) b.whole
-          (text-is v.start (take b.fields v.held) r.occ (a-line v.held b.fields b.some (omega arith) b.digit) b.occurs above));
+      judged = sym (line-is v.start t (Occurs r.occ) (let s = b.short in omega (arith, long)) (omega (arith, long))
+          (ap (text_judged v.start) b.whole ∙ text-is v.start (take b.fields v.held) r.occ (a-line v.held b.fields b.some (omega arith) b.digit) b.occurs above));
+    }
+
+-- ---- lines that are skipped
+
+comment-text : (start : LineStart) (t : List ℕ) → text_judged start (without_return (35 ∷ t)) ≡ Skipped
+unfolding text_judged without_return
+comment-text start [] = rw (and-false (start.number == 1)) refl
+comment-text start (b ∷ t) = rw (and-false (start.number == 1)) refl
+
+skipped-text : (start : LineStart) (t : List ℕ) (n : ℕ) → IsOneLine (take n t) → BeginsSkipped t → text_judged start (without_return (take n t)) ≡ Skipped
+unfolding text_judged without_return
+skipped-text start t zero one begins = rw (and-false (start.number == 1)) refl
+skipped-text start [] (suc n) one begins = rw (and-false (start.number == 1)) refl
+skipped-text start (b ∷ t) (suc n) one (inl comment) = subst (λ first. text_judged start (without_return (first ∷ take n t)) ≡ Skipped) (sym comment) (comment-text start (take n t))
+skipped-text start (b ∷ t) (suc n) one (inr newline) = let first : b ≡ 10 = newline in absurd (cc (eq-eqb b 10 first, one.each.0))
+
+pub holds-skipped : (v : ReaderView) (n : ℕ) → FindsNewline v.held (Some n) → n ≤ 128 → v.start.passed + n ≤ 67108864 → BeginsSkipped v.held → HoldsLine v n Skipped
+holds-skipped v n found short small begins =
+    let within : n < length v.held = found.0 in
+    let long : length (take n v.held) ≡ n = length-take-le n v.held (omega arith) in
+    record {
+      size = within;
+      one = found.1;
+      is = found.2;
+      judged = sym (line-is v.start (take n v.held) Skipped (omega (arith, long)) (omega (arith, long)) (skipped-text v.start v.held n found.1 begins));
     }

@@ -10,7 +10,7 @@ use Rattle.stream_reader.specs.declared.common_line.Front.{Front}
 use Rattle.stream_reader.specs.declared.common_line.Head.{Head}
 use Rattle.stream_reader.specs.declared.common_line.TheConstants.{HEAD, LONGEST_NUMBERED, LONGEST_STAMP}
 use Rattle.stream_reader.specs.declared.field.Field.{Field}
-use Rattle.stream_reader.specs.declared.line.Judgement.TheVariants.{Occurs}
+use Rattle.stream_reader.specs.declared.line.Judgement.{Judgement}
 use Rattle.stream_reader.specs.declared.line.LineStart.{LineStart}
 use Rattle.stream_reader.specs.declared.limits.TheConstants.{LONGEST_LINE}
 use Rattle.stream_reader.specs.Digits.{piece}
@@ -122,9 +122,13 @@ pub record BeginsWith (start : LineStart) (t : List ℕ) (line : CommonLine) : T
   pub whole : without_return (take line.size t) ≡ take fields t
   pub occurs : occurrence_on start.stamped start.given (take fields t) ≡ Some line.occ
 
--- the bytes held begin with this line, and it is judged to be its occurrence
-pub record HoldsLine (v : ReaderView) (line : CommonLine) : Type 0 where
-  pub size : line.size < length v.held
-  pub one : IsOneLine (take line.size v.held)
-  pub is : v.held ≡ take line.size v.held ++ 10 ∷ drop (line.size + 1) v.held
-  pub judged : Occurs line.occ ≡ judged v.start (line_at v line.size true)
+-- a text begins as a comment does, or with a newline
+abbrev pub BeginsSkipped : List ℕ → Type 0
+BeginsSkipped t = (slice_index t 0 ≡ 35) ⊎ (slice_index t 0 ≡ 10)
+
+-- the bytes held begin with a line of this length, which is judged so
+pub record HoldsLine (v : ReaderView) (n : ℕ) (j : Judgement) : Type 0 where
+  pub size : n < length v.held
+  pub one : IsOneLine (take n v.held)
+  pub is : v.held ≡ take n v.held ++ 10 ∷ drop (n + 1) v.held
+  pub judged : j ≡ judged v.start (line_at v n true)

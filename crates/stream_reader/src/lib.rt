@@ -9,6 +9,7 @@ mod limits;
 mod line;
 mod next;
 mod occurrence;
+mod piece;
 mod reader;
 
 pub use limits::{LARGEST_STREAM, LONGEST_LINE, READER_BYTES};

@@ -1,5 +1,6 @@
 //! Lines, and what each of them is.
-ghost use Rattle.std.specs.Prelude.{◌≡◌, ◌<◌, ◌≤◌, ◌^◌, length, if◌then◌else◌};
+ghost use Rattle.std.specs.Prelude.{◌≡◌, ◌<◌, ◌≤◌, ◌+◌, ◌^◌, true, length, if◌then◌else◌};
+ghost use Rattle.stream_reader.specs.CommonLines.{BeginsSkipped};
 ghost use Rattle.stream_reader.specs.Judged.{fields_judged, fields_of, has_fields, is_above, judged, occurrence_judged, text_judged, without_return};
 ghost use Rattle.stream_reader.specs.Lines.{Line};
 ghost use Rattle.stream_reader.specs.Occurs.{after, is_bad};
@@ -73,6 +74,23 @@ fn cause_of(start: &LineStart, text: &[u8]) -> LineCause
     } else {
         LineCause::Fields
     }
+}
+
+/// Whether the first line of a text, if it is whole, is a comment or empty.
+#[inline(always)]
+pub(crate) fn begins_skipped(text: &[u8]) -> bool
+    ensures { result ≡ true → BeginsSkipped text.now }
+{
+    !text.is_empty() && (text[0] == b'#' || text[0] == b'\n')
+}
+
+/// Whether a line of this length is not too long, and the stream with it not too large.
+#[inline(always)]
+pub(crate) fn is_within(start: &LineStart, size: usize) -> bool
+    requires { start.now.passed < 2 ^ 32 }
+    ensures { result ≡ true → (size ≤ LONGEST_LINE) × (start.now.passed + size ≤ LARGEST_STREAM) }
+{
+    size <= LONGEST_LINE && start.passed + size as u64 <= LARGEST_STREAM
 }
 
 /// Whether a stamp is above the last one.

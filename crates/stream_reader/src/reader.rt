@@ -1,15 +1,16 @@
 //! Readers: a piece of the source, and the lines in it.
 ghost use Rattle.std.specs.Prelude.{◌≡◌, ◌<◌, ◌≤◌, ◌+◌, ◌-◌, ◌++◌, take, drop, length, Option, Some, None, IfSome, IfNone, IfOk, OnErr};
 ghost use Rattle.std.specs.Prelude.{Bool, true, false, [], Result, is_some};
-ghost use Rattle.std.specs.Option.{option_map, option_map_or, option_and_then};
+ghost use Rattle.std.specs.Option.{option_map};
 ghost use Rattle.papi_base.specs.Numerals.{flag_bit};
-ghost use Rattle.papi_base.specs.Outside.{Gives, Rose, tape_after};
+ghost use Rattle.papi_base.specs.Outside.{Rose};
 ghost use Rattle.stream_reader.specs.Inside.{answer_of};
 
 use crate::common_line::{CommonLine, common_line};
-use crate::limits::{LARGEST_STREAM, LONGEST_LINE, PIECE, READER_BYTES};
-use crate::line::{Judgement, LineStart, is_above};
+use crate::limits::{LARGEST_STREAM, LONGEST_LINE, READER_BYTES};
+use crate::line::{Judgement, LineStart, begins_skipped, is_above, is_within};
 use crate::next::Next;
+use crate::piece::{fill, move_rest};
 use memchr::memchr;
 use papi_base::{Failed, LineCause, Source};
 use std::marker::Model;
@@ -62,56 +63,9 @@ fn answer_of(number: u64, judgement: &Judgement) -> Option<Next>
     }
 }
 
-// Asks the source for a piece. A reader with no source is at the end of it.
-fn read_piece<S: Source>(source: &mut Option<S>, piece: &mut [u8]) -> Result<usize, Failed>
-    ensures bound { IfOk result (λ n. n ≤ length piece.new) }
-    ensures tape { option_and_then S.tape source.new
-        ≡ tape_after result (option_and_then S.tape source.old) }
-    ensures gives { IfSome (option_and_then S.tape source.old)
-        (λ tape. Gives tape result piece.new) }
-    ensures kept { is_some source.new ≡ is_some source.old }
-    ensures falls_never { option_map_or S.faults source.old 0
-        ≤ option_map_or S.faults source.new 0 }
-    ensures failed { OnErr result
-        (Rose (option_map_or S.faults source.old 0) (option_map_or S.faults source.new 0)) }
-{
-    match source {
-        Some(source) => source.read(piece),
-        None => Ok(0),
-    }
-}
-
-// Moves these bytes before the place of a piece.
-fn move_rest(bytes: &mut [u8; READER_BYTES], from: usize, to: usize)
-    requires in_order { from ≤ to }
-    requires within { to ≤ READER_BYTES }
-    requires short { to - from ≤ LONGEST_LINE }
-    ensures { take LONGEST_LINE bytes.new ≡ take (LONGEST_LINE - (to - from)) bytes.old
-        ++ take (to - from) (drop from bytes.old) }
-{
-    bytes.copy_within(from..to, LONGEST_LINE - (to - from));
-}
-
-// Puts a piece after the place of a line.
-fn fill<S: Source>(source: &mut Option<S>, bytes: &mut [u8; READER_BYTES]) -> Result<usize, Failed>
-    ensures room { length bytes.new ≡ READER_BYTES }
-    ensures front { take LONGEST_LINE bytes.new ≡ take LONGEST_LINE bytes.old }
-    ensures bound { IfOk result (λ n. n ≤ PIECE) }
-    ensures tape { option_and_then S.tape source.new
-        ≡ tape_after result (option_and_then S.tape source.old) }
-    ensures gives { IfSome (option_and_then S.tape source.old)
-        (λ tape. Gives tape result (drop LONGEST_LINE bytes.new)) }
-    ensures kept { is_some source.new ≡ is_some source.old }
-    ensures falls_never { option_map_or S.faults source.old 0
-        ≤ option_map_or S.faults source.new 0 }
-    ensures failed { OnErr result
-        (Rose (option_map_or S.faults source.old 0) (option_map_or S.faults source.new 0)) }
-{
-    read_piece(source, &mut bytes[LONGEST_LINE..])
-}
-
 impl<S: Source> StreamReader<S> {
     ghost use Rattle.papi_base.specs.declared.outside.Ending.TheVariants.{End};
+    ghost use Rattle.stream_reader.specs.declared.line.Judgement.TheVariants.{Occurs, Skipped};
     ghost use Rattle.stream_reader.specs.Lines.{IsOneLine};
     ghost use Rattle.stream_reader.specs.Judged.{judged};
     ghost use Rattle.stream_reader.specs.Occurs.{occurs_of};
@@ -217,7 +171,7 @@ impl<S: Source> StreamReader<S> {
     // The next line, if it is whole and of the common form.
     #[inline(always)]
     fn common_line(&self) -> Option<CommonLine>
-        ensures { IfSome result (λ line. HoldsLine self.now line) }
+        ensures { IfSome result (λ line. HoldsLine self.now line.size (Occurs line.occ)) }
     {
         let line = common_line(&self.start, &self.bytes[self.from..self.to])?;
         if self.start.stamped && !is_above(self.start.last, line.occ.stamp) {
@@ -228,6 +182,22 @@ impl<S: Source> StreamReader<S> {
             return None;
         }
         Some(line)
+    }
+
+    // The length of the next line, if it is whole, and a comment or empty.
+    #[inline(always)]
+    fn skipped_line(&self) -> Option<usize>
+        ensures { IfSome result (λ size. HoldsLine self.now size Skipped) }
+    {
+        let text = &self.bytes[self.from..self.to];
+        if !begins_skipped(text) {
+            return None;
+        }
+        let size = memchr(b'\n', text)?;
+        if !is_within(&self.start, size) {
+            return None;
+        }
+        Some(size)
     }
 
     // Asks for a piece after the bytes held.
@@ -347,6 +317,9 @@ impl<S: Source> StreamReader<S> {
     {
         if let Some(line) = self.common_line() {
             return self.take_judged(line.size, true, &Judgement::Occurs(line.occ));
+        }
+        if let Some(size) = self.skipped_line() {
+            return self.take_judged(size, true, &Judgement::Skipped);
         }
         if let Some(size) = self.line_len() {
             return self.take_line(size, true);

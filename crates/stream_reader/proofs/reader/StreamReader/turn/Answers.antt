@@ -21,6 +21,20 @@ returns-in-Some-clause-at_hand g c =
     let w : IsWhole c.args.self.now c.in-Some.line.size = record { size = q.size; one = q.one; is = q.is } in
     whole-hand c.args.self.now c.take_judged.new.self c.in-Some.line.size c.take_judged.result c.requires w c.take_judged.ensures.answer c.take_judged.ensures.after
 
+pub returns-in-Some-skipped_line-clause-passes : goal.returns-in-Some-skipped_line-clause-passes
+returns-in-Some-skipped_line-clause-passes g c =
+    let q = c.in-Some-skipped_line.ensures in
+    let w : IsWhole c.args.self.now c.in-Some-skipped_line.size = record { size = q.size; one = q.one; is = q.is } in
+    let taken = c.take_judged-in-Some-skipped_line in
+    whole-passes c.args.self.now taken.new.self c.in-Some-skipped_line.size taken.result c.requires w taken.ensures.answer taken.ensures.after
+
+pub returns-in-Some-skipped_line-clause-at_hand : goal.returns-in-Some-skipped_line-clause-at_hand
+returns-in-Some-skipped_line-clause-at_hand g c =
+    let q = c.in-Some-skipped_line.ensures in
+    let w : IsWhole c.args.self.now c.in-Some-skipped_line.size = record { size = q.size; one = q.one; is = q.is } in
+    let taken = c.take_judged-in-Some-skipped_line in
+    whole-hand c.args.self.now taken.new.self c.in-Some-skipped_line.size taken.result c.requires w taken.ensures.answer taken.ensures.after
+
 pub returns-in-Some-line_len-clause-takes : goal.returns-in-Some-line_len-clause-takes
 returns-in-Some-line_len-clause-takes g c =
     let w : IsWhole c.args.self.now c.in-Some-line_len.size = record { size = c.in-Some-line_len.ensures.0; one = c.in-Some-line_len.ensures.1; is = c.in-Some-line_len.ensures.2 } in

@@ -1,7 +1,7 @@
 use Rattle.std.proofs.Common.{◌≡◌, ◌∙◌, ◌+◌, ◌-◌, ap, sym, drop, ◌≤◌, take, arith, length, length-drop}
 use Rattle.std.proofs.lemmas.List.Edits.{take-paste}
 use Rattle.std.proofs.Math.Seq.{paste}
-use Rattle.stream_reader.proofs.reader.move_rest.Goals as goal
+use Rattle.stream_reader.proofs.piece.move_rest.Goals as goal
 
 pub returns : goal.returns
 returns c =

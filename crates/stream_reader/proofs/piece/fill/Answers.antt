@@ -3,7 +3,7 @@ use Rattle.std.proofs.lemmas.Slice.{take-put_mid_below}
 use Rattle.std.specs.Option.{option_and_then}
 use Rattle.papi_base.specs.Outside.{Gives}
 use Rattle.stream_reader.proofs.Room.{drop-put_end, length-put_end, part-long}
-use Rattle.stream_reader.proofs.reader.fill.Goals as goal
+use Rattle.stream_reader.proofs.piece.fill.Goals as goal
 
 pub returns-clause-front : goal.returns-clause-front
 returns-clause-front g c = take-put_mid_below 128 4096 c.args.bytes.now c.read_piece.new.piece 128 (omega arith) (omega (arith, c.told-bytes))
