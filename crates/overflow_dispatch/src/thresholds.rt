@@ -12,17 +12,19 @@ use std::marker::Model;
 #[derive(Drop)]
 pub struct Thresholds {
     counters: [Option<u8>; MOST_SET_EVENTS],
+    /// No event of this index or a later one is armed.
+    end: u32,
 }
 
 impl Model for Thresholds {
     ghost use Rattle.std.specs.Prelude.{List, Option, ℕ};
-    ghost use Rattle.overflow_dispatch.specs.Passing.{AreCounters};
+    ghost use Rattle.overflow_dispatch.specs.Passing.{AreCounters, IsEnd};
 
     ghost Value = { List (Option ℕ) };
 
     ghost view = { λ s. s.counters };
 
-    ghost invariant = { λ s. AreCounters s.counters };
+    ghost invariant = { λ s. AreCounters s.counters × IsEnd s.counters s.end };
 }
 
 impl Thresholds {
@@ -32,6 +34,7 @@ impl Thresholds {
     {
         Thresholds {
             counters: [None; MOST_SET_EVENTS],
+            end: 0,
         }
     }
 
@@ -42,6 +45,7 @@ impl Thresholds {
         ensures { self.new ≡ slice_set self.old index (Some c) }
     {
         self.counters[index as usize] = Some(c as u8);
+        self.end = self.end.max(index + 1);
     }
 
     /// The indexes of the armed events whose counters are among the carries, in increasing order.
@@ -50,7 +54,7 @@ impl Thresholds {
         ensures { result ≡ carried_from 0 carry self.now }
     {
         let mut passed = Passed::new();
-        for index in 0..MOST_SET_EVENTS as u32 {
+        for index in 0..self.end {
             if let Some(c) = self.counters[index as usize]
                 && (carry >> c) & 1 == 1
             {
