@@ -117,27 +117,8 @@ does_follows book old new made reply notes still d =
     subst (λ (r : ReaderView). FollowsAs book old (record { core = new.core; reader = r }) made reply notes notes) (sym d.reader) (call_follows book old new.core made reply notes still d.kept)
 
 pub still_by : (made : Call) → ((n : ℕ) → made ≡ call.Run n → ⊥) → is_run made ≡ false
-still_by call.Register other = refl
-still_by call.Unregister other = refl
-still_by call.Create other = refl
-still_by (call.Destroy k) other = refl
-still_by (call.Cleanup k) other = refl
-still_by (call.Add k x) other = refl
-still_by (call.Remove k x) other = refl
-still_by (call.AssignComponent k x) other = refl
-still_by (call.SetDomain k x) other = refl
-still_by (call.SetMultiplex k x) other = refl
-still_by (call.Overflow k x t) other = refl
-still_by (call.Start k) other = refl
-still_by (call.Stop k) other = refl
-still_by (call.Read k) other = refl
-still_by (call.Accum k) other = refl
-still_by (call.Reset k) other = refl
-still_by (call.State k) other = refl
-still_by (call.ListEvents k) other = refl
-still_by (call.Assign k) other = refl
-still_by (call.Raw k x) other = refl
 still_by (call.Run n) other = absurd (other n refl)
+still_by made other = refl
 
 -- the notes of a run that is this call
 pub part_of_call : (book : Book) (shape : Widths) (a : Account) (made run : Call) (before after : List Note) → made ≡ run → PartAdded before (step book shape a run).notes after → PartAdded before (step book shape a made).notes after
