@@ -1,5 +1,5 @@
 -- What the replies of the model show: a call that is carried out has PAPI_OK, and a call that is refused has not.
-use Rattle.std.proofs.Common.{◌≡◌, ◌≢◌, ℕ, Bool, true, false, List, [], ◌∷◌, refl, Option, Some, None, Ok, slice_get}
+use Rattle.std.proofs.Common.{◌≡◌, ◌≢◌, ℕ, Bool, true, false, List, [], ◌∷◌, refl, arith, Option, Some, None, Ok, Err, slice_get}
 use Rattle.std.specs.Prelude.{if◌then◌else◌}
 use Rattle.std.specs.Option.{option_map_or}
 use Rattle.std.proofs.Math.Bool.{and-false}
@@ -91,18 +91,13 @@ conflict_not_ok (Some clash) = refl
 
 -- the rows of a call whose set the law's tables speak of
 none_ok : (book : Book) (shape : Widths) (on : Bool) (faces : List (Option Face)) (c : Call) (k : ℕ) → set_of_call c ≡ Some k → NoneOk (rows book shape on faces c)
-none_ok book shape on faces (call.Cleanup j) k e = (refl, (refl, tt))
 none_ok book shape on faces (call.Add j (Ok e)) k q = (refl, (refl, (refl, (refl, (conflict_not_ok (clash_at book e faces j), tt)))))
+none_ok book shape on faces (call.Add j (Err e)) k q = cc
 none_ok book shape on faces (call.Remove j (Ok e)) k q = (refl, (refl, (refl, tt)))
-none_ok book shape on faces (call.AssignComponent j comp) k q = (refl, (refl, (refl, (refl, tt))))
-none_ok book shape on faces (call.SetDomain j bits) k q = (refl, (refl, (refl, tt)))
-none_ok book shape on faces (call.SetMultiplex j slice) k q = (refl, (refl, (refl, (refl, tt))))
+none_ok book shape on faces (call.Remove j (Err e)) k q = cc
 none_ok book shape on faces (call.Overflow j (Ok e) t) k q = (refl, (refl, (refl, (refl, (refl, (refl, tt))))))
-none_ok book shape on faces (call.Start j) k q = (refl, (refl, (refl, (refl, tt))))
-none_ok book shape on faces (call.Stop j) k q = (refl, (refl, tt))
-none_ok book shape on faces (call.Accum j) k q = (refl, tt)
-none_ok book shape on faces (call.Reset j) k q = (refl, tt)
-none_ok book shape on faces c k q = cc
+none_ok book shape on faces (call.Overflow j (Err e) t) k q = cc
+none_ok book shape on faces c k q = grind arith
 
 -- a refused call changed no set
 pub refused_changes : (book : Book) (shape : Widths) (a : Account) (c : Call) (r : Refusal) (j : ℕ) → account_refusal book shape a c ≡ Some r → changed j (said c (refused r)) ≡ false

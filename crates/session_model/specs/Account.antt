@@ -14,7 +14,7 @@ pub record Kept : Type 0 where
   pub to : ℕ
   pub values : List ℤ
 
--- under each number below 64 a set or none; the occurrences consumed and those to come
+-- under each number below MOST_SETS a set or none; the occurrences consumed and those to come
 pub record Account : Type 0 where
   pub thread : ℕ
   pub registered : Bool

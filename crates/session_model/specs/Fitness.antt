@@ -1,7 +1,8 @@
 -- Sets that fit the book and the shape: what holds of every set that calls lead to.
-use Rattle.std.specs.Prelude.{ℕ, ◌^◌, ◌≤◌, ◌<◌, ◌≡◌, ◌⊎◌, List, All, length, slice_get, Option, Some}
+use Rattle.std.specs.Prelude.{ℕ, ◌≤◌, ◌<◌, ◌≡◌, List, All, length, slice_get, Option, Some}
 use Rattle.papi_base.specs.Widths.{AreWidths}
-use Rattle.papi_base.specs.declared.limits.TheConstants.{LEAST_THRESHOLD, MOST_COMPONENTS, MOST_COUNTERS}
+use Rattle.papi_base.specs.declared.limits.TheConstants.{MOST_COMPONENTS, MOST_COUNTERS}
+use Rattle.counter_unit.specs.Counting.{IsThreshold}
 use Rattle.postfix_rules.specs.Presets.{Book}
 use Rattle.event_sets.specs.Agreement.{Agrees}
 use Rattle.event_sets.specs.AtRest.{AtRest, Widths, least_width, widths_at}
@@ -13,7 +14,7 @@ pub record IsFit (book : Book) (shape : Widths) (s : AtRest) : Type 0 where
   pub agrees : Agrees book s
   pub sound : IsSound (set_view book shape s)
   pub has_component : (comp : ℕ) → s.component ≡ Some comp → comp < length shape
-  pub thresholds : All (λ t. (t ≡ 0) ⊎ ((LEAST_THRESHOLD ≤ t) × (t < 2 ^ least_width (widths_at shape s.component)))) s.thresholds
+  pub thresholds : All (IsThreshold (least_width (widths_at shape s.component))) s.thresholds
 
 -- each set fits, and has a caller's value for each of its events
 pub record AreFit (book : Book) (shape : Widths) (sets : List (Option Kept)) : Type 0 where
