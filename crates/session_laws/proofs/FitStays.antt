@@ -13,7 +13,7 @@ use Rattle.event_sets.proofs.Agreeing.{by_number, neither, numbered}
 use Rattle.session_model.specs.declared.call.Call.{Call}
 use Rattle.session_model.specs.declared.call.Call.TheVariants as call
 use Rattle.session_model.specs.Account.{Account, Kept, opening}
-use Rattle.session_model.specs.Bounds.{AllValued, IsValued}
+use Rattle.session_model.specs.Bounds.{AllValued}
 use Rattle.session_model.specs.Conditions.{IsGood}
 use Rattle.session_model.specs.Faces.{face_of, faces_of}
 use Rattle.session_model.specs.Fitness.{AreFit, IsFit, IsShape}
@@ -60,19 +60,16 @@ keeps_fit book shape a c is_shape fits good q = λ k s i there g. g
 each_fit : (book : Book) (shape : Widths) (sets : List (Option Kept)) → AreFit book shape sets → Each (λ s. IsFit book shape s.set) sets
 each_fit book shape sets h = by_number (λ place. ForSome place (λ s. IsFit book shape s.set)) sets (λ i place e s q. h.fit i s (e ∙ ap Some q))
 
-each_valued : (book : Book) (shape : Widths) (sets : List (Option Kept)) → AreFit book shape sets → AllValued sets
-each_valued book shape sets h = record { each = by_number (λ place. ForSome place IsValued) sets (λ i place e s q. record { one_each = h.one_value_each i s (e ∙ ap Some q) }) }
-
 are_fit : (book : Book) (shape : Widths) (sets : List (Option Kept)) → Each (λ s. IsFit book shape s.set) sets → AllValued sets → AreFit book shape sets
 are_fit book shape sets h v = record {
   fit = λ k s e. numbered (λ place. ForSome place (λ x. IsFit book shape x.set)) sets h k (Some s) e s refl;
-  one_value_each = λ k s e. (numbered (λ place. ForSome place IsValued) sets v.each k (Some s) e s refl).one_each;
+  valued = v;
 }
 
 pub fit_stays : FitStays
 fit_stays book shape a c is_shape fits good h = are_fit book shape _
     (step_each (λ s. IsFit book shape s.set) book shape a c (new_fit book shape) (keeps_fit book shape a c is_shape fits good) (each_fit book shape a.sets h))
-    (values_stay book shape a c (each_valued book shape a.sets h))
+    (values_stay book shape a c h.valued)
 
 pub opening_fits : OpeningFits
 opening_fits book shape thread rest mark = are_fit book shape (opening thread rest mark).sets (All-replicate (λ place. ForSome place (λ s. IsFit book shape s.set)) MOST_SETS None (λ x e. cc)) (opening_valued thread rest mark)

@@ -8,6 +8,7 @@ use Rattle.event_sets.specs.Agreement.{Agrees}
 use Rattle.event_sets.specs.AtRest.{AtRest, Widths, least_width, widths_at}
 use Rattle.event_sets.specs.Sets.{IsSound, set_view}
 use Rattle.session_model.specs.Account.{Kept}
+use Rattle.session_model.specs.Bounds.{AllValued}
 
 -- A set that agrees with the book and the shape, and has what each set keeps. Its thresholds fit each register of its component.
 pub record IsFit (book : Book) (shape : Widths) (s : AtRest) : Type 0 where
@@ -19,7 +20,7 @@ pub record IsFit (book : Book) (shape : Widths) (s : AtRest) : Type 0 where
 -- each set fits, and has a caller's value for each of its events
 pub record AreFit (book : Book) (shape : Widths) (sets : List (Option Kept)) : Type 0 where
   pub fit : (k : ℕ) (s : Kept) → slice_get sets k ≡ Some (Some s) → IsFit book shape s.set
-  pub one_value_each : (k : ℕ) (s : Kept) → slice_get sets k ≡ Some (Some s) → length s.values ≡ length s.set.events
+  pub valued : AllValued sets
 
 -- at most 16 components of at most 32 counters, each from 16 to 48 bits wide
 pub record IsShape (shape : Widths) : Type 0 where

@@ -10,6 +10,9 @@ use Rattle.thread_core.proofs.Words.{slot_of, map_same, AreApart, units_of, at-s
 use Rattle.thread_core.proofs.Words.{programs, set, register_at, get_or, AgreesWith, length-map, event_value, number_in, subst₂, Bool, drop_all, set_comm}
 use Rattle.thread_core.proofs.Words.{set-set, or_parts, not-true, not-false, eqb-false, slot_with, rotation_of, begun_by, IsStartable, has_events, take_all}
 use Rattle.thread_core.proofs.Words.{length-drop, pinned-tail, zeroed, set-same, sums, accumulated, rested}
+use Rattle.std.specs.Option.{ForSome}
+use Rattle.event_sets.proofs.Agreeing.{numbered}
+use Rattle.session_model.specs.Bounds.{IsValued}
 use Rattle.session_model.specs.declared.call.Call.TheVariants as call
 use Rattle.papi_base.specs.declared.code.Code.TheVariants as code
 use Rattle.thread_core.proofs.Squares.{stopped_slot, running_slot, numbers-length, slot_of-stopped, widths_are, kept_as, kept_cases}
@@ -360,7 +363,7 @@ accum_lengths {book} {core} k now {more} {slot} {cleared} agrees here says zeroe
     ap length says
     ∙ length-map slot.set.rest.events (event_value book (number_in slot.set.natives (numbers_shown core.units now slot)))
     ∙ ap (λ (x : Slot). length x.set.rest.events) (sym u.is)
-    ∙ sym (agrees.stands.fit.one_value_each k u.set u.place)
+    ∙ sym (numbered (λ place. ForSome place IsValued) _ agrees.stands.fit.valued.each k (Some u.set) u.place u.set refl).one_each
     ∙ ap (λ (x : Slot). length x.values) u.is
     ∙ sym (ap (λ (x : Slot). length x.values) zeroes)
 
