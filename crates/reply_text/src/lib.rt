@@ -5,6 +5,7 @@ mod hexadecimal;
 mod line;
 mod names;
 mod note;
+mod numbers;
 mod results;
 
 pub use line::{push_reply, push_reply_line};

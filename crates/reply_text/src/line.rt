@@ -5,12 +5,12 @@ ghost use Rattle.papi_base.specs.CallNames.{word_of};
 ghost use Rattle.papi_base.specs.Codes.{name_of};
 ghost use Rattle.reply_text.specs.Replies.{line_text, reply_text};
 
+use crate::numbers::{push_decimal, push_number, push_word};
 use crate::results::push_results;
 use component_table::Catalog;
 use papi_base::{CallName, Code, call_word, code_name};
 use session_model::Reply;
 use std::alloc::AllocError;
-use std::fmt::Write;
 
 // Appends what stands before the reply.
 fn push_head(text: &mut String, line: u64, thread: u32, word: CallName) -> Result<(), AllocError>
@@ -18,15 +18,15 @@ fn push_head(text: &mut String, line: u64, thread: u32, word: CallName) -> Resul
         ≡ string_bytes text.old ++ (decimal line
         ++ (32 ∷ (decimal thread ++ (32 ∷ word_of word))))) }
 {
-    let word = call_word(word);
-    write!(text, "{line} {thread} {word}")
+    push_decimal(text, line)?;
+    push_number(text, thread)?;
+    push_word(text, call_word(word))
 }
 
 fn push_code(text: &mut String, code: Code) -> Result<(), AllocError>
     ensures { OnOk result (string_bytes text.new ≡ string_bytes text.old ++ 32 ∷ name_of code) }
 {
-    let code = code_name(code);
-    write!(text, " {code}")
+    push_word(text, code_name(code))
 }
 
 /// Appends the name of a reply's code and its results, each after a space.

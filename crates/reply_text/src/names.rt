@@ -5,6 +5,7 @@ ghost use Rattle.component_table.specs.EventNames.{event_name};
 ghost use Rattle.name_encoder.specs.Canonical.{canonical};
 ghost use Rattle.reply_text.specs.Replies as Replies;
 
+use crate::numbers::push_word;
 use component_table::Catalog;
 use name_encoder::write_name;
 use papi_base::{EventRef, Native};
@@ -21,7 +22,7 @@ pub(crate) fn push_event(
         ≡ string_bytes text.old ++ 32 ∷ event_name catalog.now event.now) }
 {
     let name = catalog.event_name(*text.allocator(), event)?;
-    write!(text, " {name}")
+    push_word(text, name.as_str())
 }
 
 /// Appends a space and the canonical name of a native event.
@@ -34,7 +35,7 @@ pub(crate) fn push_native(
         ≡ string_bytes text.old ++ 32 ∷ canonical catalog.now.tables native.now) }
 {
     let name = write_name(*text.allocator(), catalog.tables(), native)?;
-    write!(text, " {name}")
+    push_word(text, name.as_str())
 }
 
 /// The name of a counter of a component, and an empty text if there is none.

@@ -11,12 +11,12 @@ ghost use Rattle.reply_text.specs.Replies.{spaced};
 
 use crate::hexadecimal::push_hex;
 use crate::names::{counter_name, push_assigned, push_event, push_native};
+use crate::numbers::{push_number, push_word};
 use component_table::Catalog;
 use event_sets::Clash;
 use papi_base::{Events, MOST_COUNTERS, Natives, THREADS, Values};
-use session_model::{Assigned, Body};
+use session_model::{Assigned, Body, Ran};
 use std::alloc::AllocError;
-use std::fmt::Write;
 
 // Whether a bit of a number is set.
 fn has(set: u64, k: u32) -> bool
@@ -31,8 +31,7 @@ fn push_values(text: &mut String, values: &Values) -> Result<(), AllocError>
         ≡ string_bytes text.old ++ spaced (map signed_decimal values.now)) }
 {
     for i in 0..values.len() {
-        let value = values.at(i);
-        write!(text, " {value}")?;
+        push_number(text, values.at(i))?;
     }
     Ok(())
 }
@@ -88,8 +87,7 @@ fn push_counters(
 {
     for counter in 0..MOST_COUNTERS as u32 {
         if has(u64::from(counters), counter) {
-            let name = counter_name(catalog, comp, counter);
-            write!(text, " {name}")?;
+            push_word(text, counter_name(catalog, comp, counter))?;
         }
     }
     Ok(())
@@ -122,10 +120,18 @@ fn push_threads(text: &mut String, threads: u64) -> Result<(), AllocError>
 {
     for thread in 0..THREADS {
         if has(threads, thread) {
-            write!(text, " {thread}")?;
+            push_number(text, thread)?;
         }
     }
     Ok(())
+}
+
+fn push_ran(text: &mut String, ran: &Ran) -> Result<(), AllocError>
+    ensures { OnOk result (string_bytes text.new ≡ string_bytes text.old
+        ++ 32 ∷ (decimal ran.now.consumed ++ 32 ∷ decimal ran.now.notes)) }
+{
+    push_number(text, ran.consumed)?;
+    push_number(text, ran.notes)
 }
 
 /// Appends the results of a reply, each after a space.
@@ -139,14 +145,14 @@ pub(crate) fn push_results(
 {
     match body {
         Body::Nothing => Ok(()),
-        Body::SetNumber(number) => write!(text, " {number}"),
+        Body::SetNumber(number) => push_number(text, *number),
         Body::Values(values) => push_values(text, values),
         Body::State(bits) => push_hex(text, 2, *bits),
         Body::Events(events) => push_events(text, catalog, events),
         Body::Assigned(assigned) => push_assignment(text, catalog, assigned),
         Body::Clash(clash) => push_clash(text, catalog, clash),
-        Body::Register(value) => write!(text, " {value}"),
-        Body::Ran(ran) => write!(text, " {} {}", ran.consumed, ran.notes),
+        Body::Register(value) => push_number(text, *value),
+        Body::Ran(ran) => push_ran(text, ran),
         Body::EventCode(code) => push_hex(text, 8, *code),
         Body::EventName(event) => push_event(text, catalog, event),
         Body::Threads(threads) => push_threads(text, *threads),

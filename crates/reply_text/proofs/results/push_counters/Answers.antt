@@ -4,7 +4,7 @@ use Rattle.std.specs.Int.{bit_at}
 use Rattle.reply_text.specs.Replies.{Text, counter_text}
 use Rattle.reply_text.proofs.Texts.{member_passed, member_pushed, no_member_pushed}
 use Rattle.reply_text.proofs.results.push_counters.Goals as goal
-use Rattle.reply_text.proofs.results.push_counters.Goals.{then-has+in_ok-write, else-has}
+use Rattle.reply_text.proofs.results.push_counters.Goals.{then-has+in_ok-push_word, else-has}
 
 pub loop-counter-init : goal.loop-counter-init
 loop-counter-init c = no_member_pushed (counter_text c.args.catalog.now c.args.comp) c.args.counters _
@@ -15,8 +15,8 @@ loop-counter-preserved c =
     let k = c.loop-counter.counter in
     let bit = ap (λ (s : ℕ). bit_at s k == 1) (sym c.from.ensures) ∙ sym c.has.ensures in
     elim c.if-has.branch [
-      | then-has+in_ok-write w ↦
+      | then-has+in_ok-push_word w ↦
           rw w.text-is (member_pushed f k c.args.counters _ (string_bytes c.loop-counter.text) _ (bit ∙ w.if-has.true) c.loop-counter.invariant
-          (w.in_ok-write.ensures.bytes ∙ ap (λ (t : Text). string_bytes c.loop-counter.text ++ 32 ∷ t) w.counter_name-name.ensures))
+          (w.in_ok-push_word.ensures ∙ ap (λ (t : Text). string_bytes c.loop-counter.text ++ 32 ∷ t) w.counter_name.ensures))
       | else-has w ↦ rw w.text-is (member_passed f k c.args.counters _ (string_bytes c.loop-counter.text) (bit ∙ w.if-has.false) c.loop-counter.invariant)
     ]

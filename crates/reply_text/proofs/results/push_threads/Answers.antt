@@ -2,16 +2,16 @@ use Rattle.std.proofs.Common.{◌∙◌, sym}
 use Rattle.std.specs.Prelude.{decimal, string_bytes}
 use Rattle.reply_text.proofs.Texts.{member_passed, member_pushed, no_member_pushed}
 use Rattle.reply_text.proofs.results.push_threads.Goals as goal
-use Rattle.reply_text.proofs.results.push_threads.Goals.{then-has+in_ok-write, else-has}
+use Rattle.reply_text.proofs.results.push_threads.Goals.{then-has+in_ok-push_number, else-has}
 
 pub loop-thread-init : goal.loop-thread-init
 loop-thread-init c = no_member_pushed decimal c.args.threads _
 
 pub loop-thread-preserved : goal.loop-thread-preserved
 loop-thread-preserved c =
-    let k = c.loop-thread.thread-counter in
+    let k = c.loop-thread.thread in
     let line = string_bytes c.loop-thread.text in
     elim c.if-has.branch [
-      | then-has+in_ok-write w ↦ rw w.text-is (member_pushed decimal k c.args.threads _ line _ (sym c.has.ensures ∙ w.if-has.true) c.loop-thread.invariant w.in_ok-write.ensures.bytes)
+      | then-has+in_ok-push_number w ↦ rw w.text-is (member_pushed decimal k c.args.threads _ line _ (sym c.has.ensures ∙ w.if-has.true) c.loop-thread.invariant w.in_ok-push_number.ensures)
       | else-has w ↦ rw w.text-is (member_passed decimal k c.args.threads _ line (sym c.has.ensures ∙ w.if-has.false) c.loop-thread.invariant)
     ]

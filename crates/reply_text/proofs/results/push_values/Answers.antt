@@ -10,5 +10,5 @@ loop-i-init c = pushed_none _
 
 pub loop-i-preserved : goal.loop-i-preserved
 loop-i-preserved c =
-    item_pushed signed_decimal c.args.values.now c.loop-i.i c.at-value.result _ _ _ c.at-value.ensures.item c.loop-i.invariant
-    (c.in_ok-write.ensures.bytes ∙ ap (λ z. string_bytes c.loop-i.text ++ 32 ∷ signed_decimal z) (to_z-of_z w64 c.at-value.result (search rules)))
+    item_pushed signed_decimal c.args.values.now c.loop-i.i c.at.result _ _ _ c.at.ensures.item c.loop-i.invariant
+    (c.in_ok-push_number.ensures ∙ ap (λ z. string_bytes c.loop-i.text ++ 32 ∷ signed_decimal z) (to_z-of_z w64 c.at.result (search rules)))
