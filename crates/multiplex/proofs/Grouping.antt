@@ -5,6 +5,7 @@ use Rattle.std.proofs.lemmas.Option.{get_or_from_slice_get, slice_get_within}
 use Rattle.counter_alloc.specs.Listing.{is_assignable}
 use Rattle.multiplex.specs.Groups.{groups_from, group_count}
 use Rattle.multiplex.specs.Laws.{EachHasGroup}
+use Rattle.multiplex.specs.Rotations.{AreOrdered}
 
 -- each place has a group
 numbers_length : (group : List ℕ) (number : ℕ) (masks : List ℕ) → length (groups_from group number masks) ≡ length masks
@@ -61,3 +62,19 @@ below_push [] old new le h zero lt = omega arith
 below_push [] old new le h (suc k) lt = omega arith
 below_push (x ∷ xs) old new le h zero lt = let first = h 0 (omega arith) in omega arith
 below_push (x ∷ xs) old new le h (suc k) lt = below_push xs old new le (λ j b. h (suc j) (omega arith)) k (omega arith)
+
+-- groups stay in order if the last place has the last group or the next one
+least_push : (x : ℕ) (xs : List ℕ) (new : ℕ) → ((i : ℕ) → i < length xs → x ≤ get_or xs i 0) → x ≤ new → (k : ℕ) → k < length (xs ++ new ∷ []) → x ≤ get_or (xs ++ new ∷ []) k 0
+least_push x [] new h le zero lt = le
+least_push x [] new h le (suc k) lt = omega arith
+least_push x (y ∷ xs) new h le zero lt = h 0 (omega arith)
+least_push x (y ∷ xs) new h le (suc k) lt = least_push x xs new (λ i b. h (suc i) (omega arith)) le k (omega arith)
+
+pub ordered_push : (xs : List ℕ) (old new : ℕ) → old ≤ new → ((k : ℕ) → k < length xs → get_or xs k 0 ≤ old) → AreOrdered xs → AreOrdered (xs ++ new ∷ [])
+ordered_push [] old new le h o zero zero r lt = omega arith
+ordered_push [] old new le h o j (suc k) r lt = omega arith
+ordered_push [] old new le h o (suc j) zero r lt = omega arith
+ordered_push (x ∷ xs) old new le h o zero zero r lt = omega arith
+ordered_push (x ∷ xs) old new le h o zero (suc k) r lt = least_push x xs new (λ i b. o 0 (suc i) (omega arith) (omega arith)) (let first = h 0 (omega arith) in omega arith) k (omega arith)
+ordered_push (x ∷ xs) old new le h o (suc j) zero r lt = omega arith
+ordered_push (x ∷ xs) old new le h o (suc j) (suc k) r lt = ordered_push xs old new le (λ i b. h (suc i) (omega arith)) (λ a b r l. o (suc a) (suc b) (omega arith) (omega arith)) j k (omega arith) (omega arith)

@@ -1,17 +1,20 @@
 -- A slice of the time has one group at each of its ticks.
-use Rattle.std.proofs.Common.{◌≡◌, ℕ, ◌+◌, ◌-◌, ◌*◌, ◌/◌, ◌%◌, ◌≤◌, ◌<◌, ap, sym, ◌∙◌, arith}
+use Rattle.std.proofs.Common.{◌≡◌, ℕ, ◌+◌, ◌-◌, ◌*◌, ◌/◌, ◌%◌, ◌≤◌, ◌<◌, List, ap, sym, subst, ◌∙◌, arith}
 use Rattle.std.proofs.lemmas.Nat.{div-mul-add}
 use Rattle.std.proofs.Math.Nat.{mul-div_cancel}
-use Rattle.multiplex.specs.Rotations.{IsSliceOf}
+use Rattle.multiplex.specs.Rotations.{IsSliceOf, IsSpanOf}
 
-pub in_slice : (slice count first group time : ℕ) → IsSliceOf slice count first group → first ≤ time → time - first < slice → group ≡ time / slice % count
-in_slice slice count first group time s from below =
+pub in_slice : (numbers : List ℕ) (slice count begin first end time : ℕ) → IsSliceOf numbers slice count begin first end → begin ≤ time → time - begin < slice → IsSpanOf numbers (time / slice % count) first end
+in_slice numbers slice count begin first end time s from below =
     let b = s.begins in
-    let e : time ≡ first / slice * slice + (time - first) = omega arith in
-    s.runs ∙ ap (λ k. k % count) (sym (ap (λ t. t / slice) e ∙ div-mul-add (first / slice) slice (time - first) below))
+    let e : time ≡ begin / slice * slice + (time - begin) = omega arith in
+    let same : begin / slice ≡ time / slice = sym (ap (λ t. t / slice) e ∙ div-mul-add (begin / slice) slice (time - begin) below) in
+    subst (λ k. IsSpanOf numbers (k % count) first end) same s.runs
 
-pub slice_at : (slice count time : ℕ) → 0 < slice → IsSliceOf slice count (time / slice * slice) (time / slice % count)
-slice_at slice count time some = record {
-  begins = ap (λ k. k * slice) (sym (mul-div_cancel (time / slice) some));
-  runs = ap (λ k. k % count) (sym (mul-div_cancel (time / slice) some));
-}
+pub slice_is : (numbers : List ℕ) (slice count time first end : ℕ) → 0 < slice → IsSpanOf numbers (time / slice % count) first end → IsSliceOf numbers slice count (time / slice * slice) first end
+slice_is numbers slice count time first end some runs =
+    let same : time / slice ≡ time / slice * slice / slice = sym (mul-div_cancel (time / slice) some) in
+    record {
+      begins = ap (λ k. k * slice) same;
+      runs = subst (λ k. IsSpanOf numbers (k % count) first end) same runs;
+    }

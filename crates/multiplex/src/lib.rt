@@ -2,7 +2,7 @@
 #![tactic(auto)]
 
 pub use laws::rotation_laws;
-pub use rotation::{Rotation, estimate};
+pub use rotation::{Rotation, Span, estimate};
 
 mod laws;
 mod rotation;

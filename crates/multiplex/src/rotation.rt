@@ -5,18 +5,25 @@ ghost use Rattle.counter_alloc.specs.Masks.{AreMasks, masks_of};
 ghost use Rattle.papi_base.specs.declared.native.Native.{Native};
 ghost use Rattle.papi_base.specs.declared.limits.TheConstants.{LARGEST_AMOUNT, MOST_COUNTERS, MOST_SET_NATIVES};
 ghost use Rattle.multiplex.specs.Groups.{groups, group_count};
-ghost use Rattle.multiplex.specs.Rotations.{RotationView, IsSliceOf};
+ghost use Rattle.multiplex.specs.Rotations.{AreOrdered, IsSliceOf, IsSpanOf, RotationView};
 ghost use Rattle.multiplex.specs.Turns.{group_at, active, estimate};
 
 use counter_alloc::Matching;
 use papi_base::{Natives, Places};
 use std::marker::Model;
 
-/// A slice of the time: its first tick, and the group that runs in it.
+/// Neighbouring places of a list: the first one, and the one behind the last.
+#[derive(Clone, Copy, Debug, PartialEq, Eq)]
+pub struct Span {
+    pub first: u32,
+    pub end: u32,
+}
+
+/// A slice of the time: its first tick, and the places of the group that runs in it.
 #[derive(Clone, Copy)]
 struct Slice {
     first: u64,
-    group: u32,
+    places: Span,
 }
 
 /// The groups of at most 32 native events, the length of a slice in ticks, and the time: PAPI_set_multiplex(3).
@@ -38,26 +45,43 @@ impl Model for Rotation {
 
     ghost view = { λ r. record { numbers = r.numbers; turns = record { slice = r.slice; count = r.groups; start = 0 }; time = r.time } };
 
-    ghost invariant = { λ r. IsTurning r.numbers r.groups r.slice r.kept.first r.kept.group };
+    ghost invariant = { λ r. IsTurning r.numbers r.groups r.slice r.kept.first r.kept.places.first r.kept.places.end };
 }
 
-/// The slice that a time is in, which may be the one that is kept.
-#[inline(always)]
-fn slice_of(kept: Slice, slice: u32, groups: u32, time: u64) -> Slice
+/// The places of a group.
+fn places_of(numbers: &Places, group: u32) -> Span
+    requires { AreOrdered numbers.now }
+    ensures { IsSpanOf numbers.now group result.first result.end }
+{
+    let mut places = Span { first: 0, end: 0 };
+    for i in 0..numbers.len() {
+        let number = u32::from(numbers.at(i));
+        if number < group {
+            places.first = i + 1;
+        }
+        if number <= group {
+            places.end = i + 1;
+        }
+    }
+    places
+}
+
+/// The slice that a time is in.
+fn slice_at(numbers: &Places, slice: u32, groups: u32, time: u64) -> Slice
     requires some_slice { 0 < slice }
     requires some_group { 0 < groups }
-    requires kept { IsSliceOf slice groups kept.first kept.group }
-    ensures slice { IsSliceOf slice groups result.first result.group }
-    ensures group { result.group ≡ time / slice % groups }
+    requires ordered { AreOrdered numbers.now }
+    ensures slice { IsSliceOf numbers.now slice groups
+        result.first result.places.first result.places.end }
+    ensures places { IsSpanOf numbers.now (time / slice % groups)
+        result.places.first result.places.end }
 {
     let ticks = u64::from(slice);
-    if kept.first <= time && time - kept.first < ticks {
-        return kept;
-    }
     let number = time / ticks;
+    let group = (number % u64::from(groups)) as u32;
     Slice {
         first: number * ticks,
-        group: (number % u64::from(groups)) as u32,
+        places: places_of(numbers, group),
     }
 }
 
@@ -114,12 +138,16 @@ impl Rotation {
             }
             numbers.push(number);
         }
+        let kept = Slice {
+            first: 0,
+            places: places_of(&numbers, 0),
+        };
         Rotation {
             numbers,
             groups: u32::from(number) + 1,
             slice,
             time: 0,
-            kept: Slice { first: 0, group: 0 },
+            kept,
         }
     }
 
@@ -150,16 +178,20 @@ impl Rotation {
         number as u32
     }
 
-    /// The group that runs at a time, in ticks, as [`Rotation::group_at`] gives it. The slice of that time is kept, so that
-    /// nothing is divided at a later time in it.
+    /// The places of the group that runs at a time, in ticks. The slice of that time is kept, so that nothing is divided
+    /// or searched at a later time in it.
     #[inline(always)]
-    pub fn running_group(&mut self, time: u64) -> u32
-        ensures group { result ≡ group_at self.old.turns time }
-        ensures below { result < self.old.turns.count }
+    pub fn running_places(&mut self, time: u64) -> Span
+        ensures places { IsSpanOf self.old.numbers (group_at self.old.turns time)
+            result.first result.end }
         ensures same { self.new ≡ self.old }
     {
-        self.kept = slice_of(self.kept, self.slice, self.groups, time);
-        self.kept.group
+        let first = self.kept.first;
+        if first <= time && time - first < u64::from(self.slice) {
+            return self.kept.places;
+        }
+        self.kept = slice_at(&self.numbers, self.slice, self.groups, time);
+        self.kept.places
     }
 
     /// The group that runs now.

@@ -1,8 +1,10 @@
 -- One turn of the loop that counts the natives of the group that runs.
 use Rattle.thread_slots.proofs.Words.{◌≡◌, ℕ, zero, suc, ◌+◌, List, [], ◌∷◌, ◌++◌, length, get_or, set, take, drop, refl, ap, sym, ◌∙◌, arith, Option, Some}
-use Rattle.thread_slots.proofs.Words.{slice_get, ◌==◌, if◌then◌else◌, cond-true, cond-false, eq-eqb, ne_eqb, in_place_put, in_place_skip, in_place_number}
+use Rattle.thread_slots.proofs.Words.{slice_get, ◌==◌, if◌then◌else◌, cond-true, cond-false, eq-eqb, ne_eqb, in_place_put, in_place_skip, in_place_number, inl, inr, subst, ◌≤◌}
 use Rattle.thread_slots.proofs.Words.{number_at, Occ, Native, Domain, weight_of, with_turn}
 use Rattle.std.proofs.Common.{◌<◌, Bool, true, false, ◌&&◌, ◌||◌}
+use Rattle.std.proofs.lemmas.Bool.{cases_order}
+use Rattle.thread_slots.proofs.Lists.{get_at}
 use Rattle.papi_base.specs.Weight.{holds, in_mode, share}
 
 unheld : (event umask mode reaches code : Bool) → code ≡ false → ((event && code && umask && mode) && reaches) ≡ false
@@ -10,7 +12,7 @@ unheld true umask mode reaches code other = rw other refl
 unheld false umask mode reaches code other = refl
 
 -- an occurrence with another select code adds nothing
-pub weight_of_another : (n : Native) (d : Domain) (before : Option Occ) (o : Occ) → (n.select ≡ o.select → ⊥) → weight_of n d before o ≡ 0
+weight_of_another : (n : Native) (d : Domain) (before : Option Occ) (o : Occ) → (n.select ≡ o.select → ⊥) → weight_of n d before o ≡ 0
 weight_of_another n d before o other =
     cond-false (holds n d o) _ 0 (unheld (n.comp == o.comp) ((n.umask == 0) || share n.umask o.umask) (in_mode n d o) _ (n.select == o.select) (ne_eqb n.select o.select other))
 
@@ -39,9 +41,26 @@ turn_put d before o g ns gs old counts i n e f at below is done =
     let value = get-with_turn d before o g ns gs old i n e f at ∙ ap (λ (x : ℕ). Some (get_or old i 0 + x)) (cond-true (g == get_or gs i 0) (weight_of n d before o) 0 (eq-eqb g (get_or gs i 0) (sym is))) in
     in_place_put new old counts i (get_or counts i 0 + weight_of n d before o) same below done (value ∙ ap (λ (x : ℕ). Some (x + weight_of n d before o)) (sym read))
 
-pub turn_skip : (d : Domain) (before : Option Occ) (o : Occ) (g : ℕ) (ns : List Native) (gs old counts : List ℕ) (i : ℕ) (n : Native) → length gs ≡ length ns → length old ≡ length ns → slice_get ns i ≡ Some n → i < length old → (get_or gs i 0 ≡ g → ⊥)
+-- a native of another group, or with another select code, adds nothing
+adds_none : (d : Domain) (before : Option Occ) (o : Occ) (g h : ℕ) (n : Native) → (h ≡ g → n.select ≡ o.select → ⊥) → (if g == h then weight_of n d before o else 0) ≡ 0
+adds_none d before o g h n isnt = elim (cases_order g h) [
+  | inl e ↦ cond-true (g == h) (weight_of n d before o) 0 (eq-eqb g h e) ∙ weight_of_another n d before o (isnt (sym e))
+  | inr other ↦ cond-false (g == h) (weight_of n d before o) 0 (ne_eqb g h (λ e. elim other [ inl lt ↦ omega arith | inr lt ↦ omega arith ]))
+]
+
+turn_skip : (d : Domain) (before : Option Occ) (o : Occ) (g : ℕ) (ns : List Native) (gs old counts : List ℕ) (i : ℕ) (n : Native) → length gs ≡ length ns → length old ≡ length ns → slice_get ns i ≡ Some n → i < length old → (get_or gs i 0 ≡ g → n.select ≡ o.select → ⊥)
     → counts ≡ take i (with_turn d before o g ns gs old) ++ drop i old → counts ≡ take (i + 1) (with_turn d before o g ns gs old) ++ drop (i + 1) old
 turn_skip d before o g ns gs old counts i n e f at below isnt done =
-    let value = get-with_turn d before o g ns gs old i n e f at ∙ ap (λ (x : ℕ). Some (get_or old i 0 + x)) (cond-false (g == get_or gs i 0) (weight_of n d before o) 0 (ne_eqb g (get_or gs i 0) (λ is. isnt (sym is)))) in
+    let value = get-with_turn d before o g ns gs old i n e f at ∙ ap (λ (x : ℕ). Some (get_or old i 0 + x)) (adds_none d before o g (get_or gs i 0) n isnt) in
     let plain : Some (get_or old i 0 + 0) ≡ Some (get_or old i 0) = ap Some (omega arith) in
     in_place_skip (with_turn d before o g ns gs old) old counts i (get_or old i 0) (length-with_turn d before o g ns gs old e f) below done (value ∙ plain) (number_at old i below)
+
+-- several places that are not looked at
+pub turns_skip : (d : Domain) (before : Option Occ) (o : Occ) (g : ℕ) (ns : List Native) (gs old counts : List ℕ) (i len j : ℕ) → length gs ≡ length ns → length old ≡ length ns → i + len ≡ j → j ≤ length old
+    → ((k : ℕ) (n : Native) → i ≤ k → k < j → slice_get ns k ≡ Some n → get_or gs k 0 ≡ g → n.select ≡ o.select → ⊥)
+    → counts ≡ take i (with_turn d before o g ns gs old) ++ drop i old → counts ≡ take j (with_turn d before o g ns gs old) ++ drop j old
+turns_skip d before o g ns gs old counts i zero j e f to short isnt done = let same : i ≡ j = omega arith in subst (λ k. counts ≡ take k (with_turn d before o g ns gs old) ++ drop k old) same done
+turns_skip d before o g ns gs old counts i (suc len) j e f to short isnt done =
+    let n = get_at ns i (omega arith) in
+    let one = turn_skip d before o g ns gs old counts i n.0 e f n.1 (omega arith) (isnt i n.0 (omega arith) (omega arith) n.1) done in
+    turns_skip d before o g ns gs old counts (i + 1) len j e f (omega arith) short (λ k m from below. isnt k m (omega arith) below) one

@@ -1,4 +1,5 @@
 pub mod Countable
+pub mod Coded
 pub mod Counted
 pub mod Pinned
 pub mod Slots

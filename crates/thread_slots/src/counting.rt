@@ -1,17 +1,18 @@
 //! What one occurrence does to the sets and the units.
-ghost use Rattle.std.specs.Prelude.{◌≡◌, ℕ, ◌^◌, ◌<◌, ◌==◌, if◌then◌else◌, map, length, All, None, Some};
+ghost use Rattle.std.specs.Prelude.{◌≡◌, ℕ, ◌^◌, ◌<◌, ◌≤◌, ◌==◌, List, if◌then◌else◌, map, length, All, None, Some};
 ghost use Rattle.std.specs.Option.{option_copied, option_map};
-ghost use Rattle.papi_base.specs.Weight.{weight_of};
 ghost use Rattle.papi_base.specs.declared.limits.TheConstants.{MOST_SETS};
 ghost use Rattle.thread_slots.specs.declared.slot.Slot.{Slot};
 ghost use Rattle.thread_slots.specs.Countable.{AreCountable, IsCountable};
+ghost use Rattle.multiplex.specs.Rotations.{IsSpanOf};
+ghost use Rattle.thread_slots.specs.Coded.{AreCoded};
 ghost use Rattle.thread_slots.specs.Counted.{counted_all, counted_place, with_turn};
 ghost use Rattle.thread_slots.specs.Slots.{face_of_slot};
 ghost use Rattle.thread_slots.specs.Units.{owner_from};
 
 use crate::slot::{Counting, Slot};
 use counter_unit::Unit;
-use multiplex::Rotation;
+use multiplex::Span;
 use overflow_dispatch::Passed;
 use papi_base::{Counts, Domain, Native, Natives, Occ, weight};
 
@@ -23,43 +24,58 @@ pub struct Taken {
     pub passed: Passed,
 }
 
-/// What the occurrence adds to the native event's count, which is 0 at once if it has another select code.
+/// The places to look at if the occurrence has this select code: the one whose native event has it, the first one if none
+/// has it, and all if several have it.
+// So there is mostly one, whether or not the occurrence counts, which a processor cannot foresee.
 #[inline(always)]
-#[tactic(auto, using(crate::proofs::Turning::weight_of_another))]
-fn weight_in_turn(n: &Native, domain: Domain, before: Option<&Occ>, o: &Occ) -> u8
-    ensures { result ≡ weight_of n.now domain (option_copied before.entry) o.now }
+fn coded_places(natives: &Natives, places: Span, select: u8) -> Span
+    requires rises { places.first ≤ places.end }
+    requires within { places.end ≤ length natives.now }
+    ensures { AreCoded natives.now select places.first places.end result.first result.end }
 {
-    if n.select == o.select {
-        weight(n, domain, before, o)
-    } else {
-        0
+    // The sum speaks of how many there are at most.
+    let _count = natives.len();
+    let mut place = places.first;
+    let mut found = 0u32;
+    for i in places.first..places.end {
+        if natives.at(i).select == select {
+            place = i;
+            found += 1;
+        }
+    }
+    if found > 1 {
+        return places;
+    }
+    Span {
+        first: place,
+        end: places.end.min(place + 1),
     }
 }
 
-/// Counts one occurrence in the native events of this group.
+/// Counts one occurrence in the native events at these places, those of the group that runs.
 #[inline(always)]
 fn count_turn(
     counts: &mut Counts,
     natives: &Natives,
     domain: Domain,
-    rotation: &Rotation,
-    group: u32,
+    places: Span,
     before: Option<&Occ>,
     o: &Occ,
 )
     requires same_length { length counts.old ≡ length natives.now }
-    requires grouped { length rotation.now.numbers ≡ length natives.now }
     requires room { All (λ t. t < 2 ^ 32) counts.old }
-    ensures { let before = option_copied before.entry
-        in let numbers = rotation.now.numbers
-        in counts.new ≡ with_turn domain before o.now group natives.now numbers counts.old }
+    requires rises { places.first ≤ places.end }
+    requires within { places.end ≤ length natives.now }
+    ensures { (numbers : List ℕ) (group : ℕ) → length numbers ≡ length natives.now
+        → IsSpanOf numbers group places.first places.end
+        → counts.new ≡ with_turn domain (option_copied before.entry) o.now
+        group natives.now numbers counts.old }
 {
-    for i in 0..natives.len() {
-        if rotation.group_of(i) == group {
-            let w = weight_in_turn(&natives.at(i), domain, before, o);
-            let count = counts.at(i);
-            counts.put(i, count + u64::from(w));
-        }
+    let coded = coded_places(natives, places, o.select);
+    for i in coded.first..coded.end {
+        let w = weight(&natives.at(i), domain, before, o);
+        let count = counts.at(i);
+        counts.put(i, count + u64::from(w));
     }
 }
 
@@ -92,10 +108,9 @@ fn count_place(unit: &mut Unit, place: &mut Option<Slot>, before: Option<&Occ>, 
             begun,
             kept,
         } => {
-            let group = rotation.running_group(o.stamp.saturating_sub(*begun));
-            let natives = slot.set.natives();
+            let places = rotation.running_places(o.stamp.saturating_sub(*begun));
             let domain = slot.set.domain();
-            count_turn(kept, natives, domain, rotation, group, before, o);
+            count_turn(kept, slot.set.natives(), domain, places, before, o);
             Passed::new()
         }
         Counting::Stopped { .. } => Passed::new(),

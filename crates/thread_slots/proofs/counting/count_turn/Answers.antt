@@ -1,44 +1,60 @@
-use Rattle.thread_slots.proofs.Words.{◌≡◌, ◌++◌, ◌+◌, length, take, drop, get_or, refl, ap, sym, ◌∙◌, arith, option_copied, in_place_number, with_turn}
-use Rattle.std.proofs.Common.{◌<◌}
-use Rattle.std.proofs.lemmas.Grind.{common_steps}
-use Rattle.std.proofs.lemmas.List.{take_all, drop_all, append-nil}
-use Rattle.papi_base.proofs.InPlace.{in_place_length}
-use Rattle.thread_slots.proofs.Lists.{get_at}
-use Rattle.thread_slots.proofs.Turning.{length-with_turn, turn_put, turn_skip}
+use Rattle.thread_slots.proofs.Words.{◌≡◌, ◌+◌, ◌≤◌, ℕ, List, length, refl, ap, ◌∙◌, arith, option_copied, get_or, with_turn, slice_get, slice_get_within, Some, Native}
+use Rattle.std.proofs.Common.{◌<◌, ◌-◌}
+use Rattle.std.proofs.lemmas.Grind.{common_steps, elements}
+use Rattle.std.proofs.lemmas.List.{take_all, drop_all, append-nil, length-set}
+use Rattle.multiplex.specs.Rotations.{IsSpanOf}
+use Rattle.thread_slots.specs.Coded.{AreCoded}
+use Rattle.thread_slots.proofs.Turning.{length-with_turn, turn_put, turns_skip}
 use Rattle.thread_slots.proofs.counting.count_turn.Goals as goal
-use Rattle.thread_slots.proofs.counting.count_turn.Goals.{then-group_of-group, else-group_of-group}
+
+-- a native of the group with the select code is looked at
+looked : (natives : List Native) (numbers : List ℕ) (group select first end from to k : ℕ) (n : Native) → length numbers ≡ length natives → IsSpanOf numbers group first end → AreCoded natives select first end from to
+    → slice_get natives k ≡ Some n → get_or numbers k 0 ≡ group → n.select ≡ select → (from ≤ k) × (k < to)
+looked natives numbers group select first end from to k n e span coded at own code =
+    let inside = span.all k (omega (arith, slice_get_within natives k n at)) own in
+    coded.all k n inside.0 inside.1 at code
 
 pub loop-i-init : goal.loop-i-init
-loop-i-init c = record {
-  same = length-with_turn c.args.domain (option_copied c.args.before) c.args.o.now c.args.group c.args.natives.now c.args.rotation.now.numbers c.args.counts.now c.requires.grouped c.requires.same_length;
-  long = refl;
-  done = refl;
-}
+loop-i-init c =
+    let coded = c.coded_places-coded.ensures in
+    let ns = c.args.natives.now in
+    let old = c.args.counts.now in
+    let first = c.coded_places-coded.result.first in
+    record {
+      long = refl;
+      rest = λ k from. refl;
+      done = λ numbers group e span. turns_skip c.args.domain (option_copied c.args.before) c.args.o.now group ns numbers old old 0 first first e c.requires.same_length (omega arith) (omega arith)
+          (λ k n from below at own code. let h = looked ns numbers group c.args.o.now.select _ _ _ _ k n e span coded at own code in let low = h.0 in omega arith) refl;
+    }
 
 pub overflow_add-count : goal.overflow_add-count
 overflow_add-count c =
-    let read = in_place_number _ c.args.counts.now c.loop-i.counts c.loop-i.i c.loop-i.invariant.same (omega arith) c.loop-i.invariant.done in
+    let read = c.loop-i.invariant.rest c.loop-i.i (omega arith) in
     let room = c.requires.room c.loop-i.i 0 (omega arith) in
     let count = c.at-count.ensures.item in
     grind (arith, common_steps)
 
 pub loop-i-preserved : goal.loop-i-preserved
 loop-i-preserved c =
-    let r = c.args.rotation.now in
-    let g = c.args.group in
-    let all = with_turn c.args.domain (option_copied c.args.before) c.args.o.now c.args.group c.args.natives.now r.numbers c.args.counts.now in
-    let below : c.loop-i.i < length c.args.counts.now = omega arith in
-    let done : c.if-group_of-group.counts ≡ take (c.loop-i.i + 1) all ++ drop (c.loop-i.i + 1) c.args.counts.now = elim c.if-group_of-group.branch [
-      | then-group_of-group w ↦
-          let is : get_or r.numbers c.loop-i.i 0 ≡ g = sym c.group_of.ensures.group ∙ w.if-group_of-group.true in
-          w.counts-is ∙ w.put.ensures.put ∙ rw (w.at-count.ensures.item, w.from.ensures, w.weight_in_turn-w.ensures) (turn_put c.args.domain (option_copied c.args.before) c.args.o.now g c.args.natives.now r.numbers c.args.counts.now c.loop-i.counts c.loop-i.i w.at.result c.requires.grouped c.requires.same_length w.at.ensures.item below is c.loop-i.invariant.done)
-      | else-group_of-group w ↦
-          let n = get_at c.args.natives.now c.loop-i.i (omega arith) in
-          w.counts-is ∙ turn_skip c.args.domain (option_copied c.args.before) c.args.o.now g c.args.natives.now r.numbers c.args.counts.now c.loop-i.counts c.loop-i.i n.0 c.requires.grouped c.requires.same_length n.1 below (λ is. w.if-group_of-group.false (c.group_of.ensures.group ∙ is)) c.loop-i.invariant.done
-    ] in
-    record { same = c.loop-i.invariant.same; long = ap length done ∙ in_place_length all c.args.counts.now (c.loop-i.i + 1) c.loop-i.invariant.same (omega arith); done = done }
+    let coded = c.coded_places-coded.ensures in
+    let i = c.loop-i.i in
+    let value = c.at-count.result + c.from.result in
+    record {
+      long = ap length c.put.ensures.put ∙ length-set c.loop-i.counts i value ∙ c.loop-i.invariant.long;
+      rest = λ k from. ap (λ (xs : List ℕ). get_or xs k 0) c.put.ensures.put ∙ grind (arith, elements, common_steps, c.loop-i.invariant.rest k (omega arith));
+      done = λ numbers group e span. c.put.ensures.put ∙ rw (c.at-count.ensures.item, c.from.ensures, c.weight-w.ensures.weight)
+          (turn_put c.args.domain (option_copied c.args.before) c.args.o.now group c.args.natives.now numbers c.args.counts.now c.loop-i.counts i c.at.result e c.requires.same_length c.at.ensures.item (omega arith)
+          (span.own i (omega arith) (omega arith)) (c.loop-i.invariant.done numbers group e span));
+    }
 
 pub returns : goal.returns
-returns c =
-    let new = with_turn c.args.domain (option_copied c.args.before) c.args.o.now c.args.group c.args.natives.now c.args.rotation.now.numbers c.args.counts.now in
-    c.loop-i.invariant.done ∙ rw (take_all c.loop-i.i new (omega (arith, c.loop-i.invariant.same)), drop_all c.loop-i.i c.args.counts.now (omega arith)) (append-nil new)
+returns c numbers group e span =
+    let coded = c.coded_places-coded.ensures in
+    let ns = c.args.natives.now in
+    let old = c.args.counts.now in
+    let d = c.args.domain in
+    let before = option_copied c.args.before in
+    let new = with_turn d before c.args.o.now group ns numbers old in
+    turns_skip d before c.args.o.now group ns numbers old c.loop-i.counts c.loop-i.i _ (length old) e c.requires.same_length (let t : c.loop-i.i + (length old - c.loop-i.i) ≡ length old = omega arith in t) (omega arith)
+    (λ k n from below at own code. let h = looked ns numbers group c.args.o.now.select _ _ _ _ k n e span coded at own code in let high = h.1 in omega arith) (c.loop-i.invariant.done numbers group e span)
+    ∙ rw (take_all (length old) new (omega (arith, length-with_turn d before c.args.o.now group ns numbers old e c.requires.same_length)), drop_all (length old) old (omega arith)) (append-nil new)

@@ -6,7 +6,7 @@ use Rattle.papi_base.specs.declared.native.Native.{Native}
 use Rattle.counter_alloc.specs.Listing.{is_assignable}
 use Rattle.counter_alloc.specs.Masks.{masks_of}
 use Rattle.counter_alloc.proofs.Fitting.{masks_push, mask_small, one_mask}
-use Rattle.multiplex.proofs.Grouping.{all_at, turn_joins, turn_begins, group_count-push, below_push}
+use Rattle.multiplex.proofs.Grouping.{all_at, turn_joins, turn_begins, group_count-push, below_push, ordered_push}
 use Rattle.multiplex.proofs.rotation.Rotation.make.Goals as goal
 use Rattle.multiplex.proofs.rotation.Rotation.make.Goals.{then-not-joins, else-not-joins}
 
@@ -29,6 +29,7 @@ loop-i-preserved c =
             masks = one_mask m small;
             number = omega arith;
             below = below_push numbers c.loop-i.number (c.loop-i.number + 1) (omega arith) inv.below;
+            ordered = ordered_push numbers c.loop-i.number (c.loop-i.number + 1) (omega arith) inv.below inv.ordered;
             placed = omega (arith, length-append numbers ((c.loop-i.number + 1) ∷ []));
             last = λ some. group_count-push numbers (c.loop-i.number + 1);
             rest = turn_begins numbers group c.loop-i.number c.loop-i.i masks _ m at isnt inv.rest;
@@ -43,6 +44,7 @@ loop-i-preserved c =
             masks = masks_push group m inv.masks small;
             number = omega arith;
             below = below_push numbers c.loop-i.number c.loop-i.number (omega arith) inv.below;
+            ordered = ordered_push numbers c.loop-i.number c.loop-i.number (omega arith) inv.below inv.ordered;
             placed = omega (arith, length-append numbers (c.loop-i.number ∷ []));
             last = λ some. group_count-push numbers c.loop-i.number;
             rest = turn_joins numbers group c.loop-i.number c.loop-i.i masks _ m at fits inv.rest;

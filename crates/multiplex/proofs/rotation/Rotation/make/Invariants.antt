@@ -2,6 +2,7 @@
 use Rattle.std.proofs.Common.{ℕ, ◌≡◌, ◌<◌, ◌≤◌, ◌+◌, ◌++◌, get_or, length, drop}
 use Rattle.counter_alloc.specs.Masks.{AreMasks, masks_of}
 use Rattle.multiplex.specs.Groups.{groups_from, groups, group_count}
+use Rattle.multiplex.specs.Rotations.{AreOrdered}
 use Rattle.multiplex.proofs.rotation.Rotation.make.Given as goal
 
 abbrev pub invariant-loop-i : goal.invariant-loop-i
@@ -11,6 +12,7 @@ invariant-loop-i l = record {
   masks : AreMasks l.group.allowed;
   number : l.number ≤ l.i;
   below : (k : ℕ) → k < length l.numbers → get_or l.numbers k 0 ≤ l.number;
+  ordered : AreOrdered l.numbers;
   placed : length l.numbers ≡ l.i;
   last : 0 < l.i → group_count l.numbers ≡ l.number + 1;
   rest : l.numbers ++ groups_from l.group.allowed l.number (drop l.i (masks_of l.natives)) ≡ groups (masks_of l.natives);
