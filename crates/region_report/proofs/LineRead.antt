@@ -1,10 +1,11 @@
 -- A line of the script of calls is read as its call.
-use Rattle.std.proofs.Common.{◌≡◌, ◌∙◌, ◌<◌, ◌≤◌, ◌+◌, ◌^◌, ◌∷◌, ◌++◌, ℕ, zero, suc, Bool, true, false, not, List, [], Some, codes}
+use Rattle.std.proofs.Common.{◌-◌, ◌≡◌, ◌∙◌, ◌<◌, ◌≤◌, ◌+◌, ◌^◌, ◌∷◌, ◌++◌, ℕ, zero, suc, Bool, true, false, not, List, [], Some, codes}
 use Rattle.std.proofs.Common.{decimal, length, map, refl, sym, subst, ap, ap₂, arith, tests, append-nil, get_or, nat_le, slice_index}
 use Rattle.std.specs.Prelude.{◌&&◌, ◌||◌, ◌==◌, Ok}
 use Rattle.std.specs.List.{AllByRecursion, list_all}
 use Rattle.std.proofs.lemmas.Bool.{and_from, le-leb}
 use Rattle.std.proofs.lemmas.Fmt.{decimal_digit, first_decimal, decimal_nonempty}
+use Rattle.papi_base.specs.declared.limits.TheConstants.{THREADS}
 use Rattle.papi_base.specs.Numerals.{is_empty}
 use Rattle.table_rows.specs.Texts.{Text, decimal_in, is_decimal, is_numeral, is_printable, is_printable_byte}
 use Rattle.table_rows.proofs.Texts.{Digits, decimal-digits, decimal-numeral, decimal-value}
@@ -58,7 +59,7 @@ written P create add start read run (script.Run count) h = run count h
 written P create add start read run c h = absurd h
 
 abbrev pub AreWritten : List ThreadCall → Type 0
-AreWritten as' = AllByRecursion (λ a. (a.thread < 64) × IsWritten a.call) as'
+AreWritten as' = AllByRecursion (λ a. (a.thread < THREADS) × IsWritten a.call) as'
 
 abbrev pub line_for : ThreadCall → Text
 line_for a = decimal a.thread ++ (codes " " ++ words_for a.call)
@@ -123,8 +124,8 @@ in_range : (high n : ℕ) → n ≤ high → n < 2 ^ 64 → decimal_in 0 high (d
 unfolding decimal_in
 in_range high n le small = rw (decimal_is_decimal n small, decimal-value n small, le-leb 0 n (omega arith), le-leb n high le) refl
 
-thread_read : (t : ℕ) → t < 64 → thread_in (decimal t) ≡ Ok t
-thread_read t small = ap (number_or BadThread) (in_range 63 t (omega arith) (omega arith))
+thread_read : (t : ℕ) → t < THREADS → thread_in (decimal t) ≡ Ok t
+thread_read t small = ap (number_or BadThread) (in_range (THREADS - 1) t (omega arith) (omega arith))
 
 number_read : (n : ℕ) → n < 2 ^ 32 → number_in (decimal n) ≡ Ok n
 number_read n small = ap (number_or BadNumber) (in_range 4294967295 n (omega arith) (omega arith))
@@ -138,7 +139,7 @@ first_of_numeral (b ∷ t) rest h some =
     let other : (b == 35) ≡ false = grind (arith, tests, h.0) in
     rw (filled, other) refl
 
-not_skipped : (a : ThreadCall) → a.thread < 64 → is_skipped (line_for a) ≡ false
+not_skipped : (a : ThreadCall) → a.thread < THREADS → is_skipped (line_for a) ≡ false
 not_skipped a small = first_of_numeral (decimal a.thread) (codes " " ++ words_for a.call) (decimal-digits a.thread (omega (arith, small))) (decimal_nonempty a.thread (omega (arith, small)))
 
 -- the words after the thread
@@ -196,12 +197,12 @@ by_words : (number thread : ℕ) (words : List Text) (c : ScriptCall) → Gives 
 by_words number thread [] c h e = absurd h
 by_words number thread (word ∷ arguments) c h e = rw (e, h) refl
 
-line_words : (a : ThreadCall) → a.thread < 64 → IsWritten a.call → words_of (line_for a) ≡ decimal a.thread ∷ later_words a.call
+line_words : (a : ThreadCall) → a.thread < THREADS → IsWritten a.call → words_of (line_for a) ≡ decimal a.thread ∷ later_words a.call
 line_words a small h =
     word_then (decimal a.thread) (words_for a.call) (decimal_nonempty a.thread (omega (arith, small))) (numeral_word a.thread (omega (arith, small)))
     ∙ ap (λ ws. decimal a.thread ∷ ws) (words_later a.call h)
 
-line_read : (number above : ℕ) (a : ThreadCall) → above < 100000 → a.thread < 64 → IsWritten a.call → call_line number above (line_for a) ≡ Ok (line_with number a.thread a.call)
+line_read : (number above : ℕ) (a : ThreadCall) → above < 100000 → a.thread < THREADS → IsWritten a.call → call_line number above (line_for a) ≡ Ok (line_with number a.thread a.call)
 unfolding call_line
 line_read number above a few small h =
     let room : nat_le 100000 above ≡ false = grind (arith, tests, few) in

@@ -10,6 +10,7 @@ use Rattle.std.proofs.lemmas.Grind.{flat_map-append}
 use Rattle.std.proofs.lemmas.List.{length-map}
 use Rattle.std.proofs.lemmas.List.Elements.{recursion_from_All}
 use Rattle.std.proofs.lemmas.List.Folds.{flat_map-map}
+use Rattle.papi_base.specs.declared.limits.TheConstants.{THREADS}
 use Rattle.papi_base.specs.Numerals.{is_empty}
 use Rattle.table_rows.specs.Texts.{Text}
 use Rattle.table_rows.proofs.Texts.{Digits, decimal-digits}
@@ -62,7 +63,7 @@ inside_words = written (λ c. AreInside (words_for c)) (known (codes "create") r
   run : (count : ℕ) → count < 2 ^ 32 → AreInside (codes "run " ++ decimal count)
   run count h = inside-append (codes "run ") (decimal count) (known (codes "run ") refl) (inside_digits (decimal count) (decimal-digits count (omega (arith, h))))
 
-inside_line : (a : ThreadCall) → a.thread < 64 → IsWritten a.call → AreInside (line_for a)
+inside_line : (a : ThreadCall) → a.thread < THREADS → IsWritten a.call → AreInside (line_for a)
 inside_line a small h =
     inside-append (decimal a.thread) (codes " " ++ words_for a.call) (inside_digits (decimal a.thread) (decimal-digits a.thread (omega (arith, small))))
     (inside-append (codes " ") (words_for a.call) (known (codes " ") refl) (inside_words a.call h))
@@ -146,9 +147,9 @@ words_same (call.Run count) = refl
 pub script_text_is : (ls : List RegionLine) (events : List Text) → script_text ls events ≡ flat_map text_for (asked ls events)
 unfolding script_text asked
 script_text_is ls events =
-    sym (flat_map-append text_for (flat_map (asked_first ls events) (range_with_len 0 64)) (map asked_at ls)
+    sym (flat_map-append text_for (flat_map (asked_first ls events) (range_with_len 0 THREADS)) (map asked_at ls)
     ∙ ap₂ (λ (s t : Text). s ++ t)
-    (nested (asked_first ls events) text_for (range_with_len 0 64) ∙ same_texts (λ t. flat_map text_for (asked_first ls events t)) (thread_opening ls events) (range_with_len 0 64) (first_text ls events))
+    (nested (asked_first ls events) text_for (range_with_len 0 THREADS) ∙ same_texts (λ t. flat_map text_for (asked_first ls events t)) (thread_opening ls events) (range_with_len 0 THREADS) (first_text ls events))
     (flat_map-map text_for asked_at ls ∙ same_texts (λ l. text_for (asked_at l)) line_text ls (λ l. ap (call_text l.thread) (words_same l.call))))
 
 -- ---- what is asked
@@ -157,20 +158,20 @@ written-append : (xs ys : List ThreadCall) → AreWritten xs → AreWritten ys �
 written-append [] ys h k = k
 written-append (x ∷ xs) ys h k = (h.0, written-append xs ys h.1 k)
 
-adds_written : (thread : ℕ) (events : List Text) → thread < 64 → list_all is_event events ≡ true → AreWritten (map (asks thread) (map (λ event. script.Add 0 event) events ++ script.Start 0 ∷ []))
+adds_written : (thread : ℕ) (events : List Text) → thread < THREADS → list_all is_event events ≡ true → AreWritten (map (asks thread) (map (λ event. script.Add 0 event) events ++ script.Start 0 ∷ []))
 adds_written thread [] small e = ((small, refl), tt)
 adds_written thread (event ∷ events) small e =
     let parts = and_parts (is_event event) (list_all is_event events) e in
     ((small, (refl, parts.0)), adds_written thread events small parts.1)
 
-first_written : (ls : List RegionLine) (events : List Text) (thread : ℕ) → thread < 64 → list_all is_event events ≡ true → AreWritten (asked_first ls events thread)
+first_written : (ls : List RegionLine) (events : List Text) (thread : ℕ) → thread < THREADS → list_all is_event events ≡ true → AreWritten (asked_first ls events thread)
 first_written ls events thread small e = go (has_lines ls thread)
   where
     go : (b : Bool) → AreWritten (if b then map (asks thread) (opening_calls events) else [])
     go true = ((small, tt), adds_written thread events small e)
     go false = tt
 
-all_first : (ls : List RegionLine) (events : List Text) (from n : ℕ) → from + n ≤ 64 → list_all is_event events ≡ true → AreWritten (flat_map (asked_first ls events) (range_with_len from n))
+all_first : (ls : List RegionLine) (events : List Text) (from n : ℕ) → from + n ≤ THREADS → list_all is_event events ≡ true → AreWritten (flat_map (asked_first ls events) (range_with_len from n))
 all_first ls events from zero le e = tt
 all_first ls events from (suc n) le e =
     written-append (asked_first ls events from) (flat_map (asked_first ls events) (range_with_len (from + 1) n)) (first_written ls events from (omega arith) e) (all_first ls events (from + 1) n (omega arith) e)
@@ -181,15 +182,15 @@ call_written (call.Read name) h = refl
 call_written (call.End name) h = refl
 call_written (call.Run count) h = h
 
-lines_written : (ls : List RegionLine) → AllByRecursion (λ l. l.thread < 64) ls → AllByRecursion (λ l. count_of l.call < 2 ^ 32) ls → AreWritten (map asked_at ls)
+lines_written : (ls : List RegionLine) → AllByRecursion (λ l. l.thread < THREADS) ls → AllByRecursion (λ l. count_of l.call < 2 ^ 32) ls → AreWritten (map asked_at ls)
 lines_written [] h k = tt
 lines_written (l ∷ ls) h k = ((h.0, call_written l.call k.0), lines_written ls h.1 k.1)
 
 asked_written : (ls : List RegionLine) (events : List Text) → IsRegions ls → AreEvents events → AreWritten (asked ls events)
 unfolding asked
 asked_written ls events r e =
-    written-append (flat_map (asked_first ls events) (range_with_len 0 64)) (map asked_at ls) (all_first ls events 0 64 (omega arith) e.each)
-    (lines_written ls (recursion_from_All (λ l. l.thread < 64) ls r.threads) (recursion_from_All (λ l. count_of l.call < 2 ^ 32) ls r.counts))
+    written-append (flat_map (asked_first ls events) (range_with_len 0 THREADS)) (map asked_at ls) (all_first ls events 0 THREADS (omega arith) e.each)
+    (lines_written ls (recursion_from_All (λ l. l.thread < THREADS) ls r.threads) (recursion_from_All (λ l. count_of l.call < 2 ^ 32) ls r.counts))
 
 first_few : (ls : List RegionLine) (events : List Text) (thread : ℕ) → length (asked_first ls events thread) ≤ length events + 2
 first_few ls events thread = go (has_lines ls thread)
@@ -209,7 +210,7 @@ all_few ls events from (suc n) few =
 asked_few : (ls : List RegionLine) (events : List Text) → IsRegions ls → AreEvents events → length (asked ls events) ≤ 100000
 unfolding asked
 asked_few ls events r e =
-    omega (arith, length-append (flat_map (asked_first ls events) (range_with_len 0 64)) (map asked_at ls), all_few ls events 0 64 e.few, length-map ls asked_at, r.few)
+    omega (arith, length-append (flat_map (asked_first ls events) (range_with_len 0 THREADS)) (map asked_at ls), all_few ls events 0 THREADS e.few, length-map ls asked_at, r.few)
 
 -- the script is read as its calls
 pub is_read : (ls : List RegionLine) (events : List Text) → IsRegions ls → ReadsAsCalls ls events

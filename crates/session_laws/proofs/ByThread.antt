@@ -2,6 +2,7 @@
 use Rattle.std.proofs.Common.{◌≡◌, ◌≢◌, ℕ, Bool, true, false, ◌==◌, ◌&&◌, if◌then◌else◌, List, [], ◌∷◌, ◌++◌, refl, sym, ◌∙◌, ap, ap₂, subst, arith}
 use Rattle.std.proofs.Common.{append_assoc, append-nil, slice_get, slice_set, slice_index_or, unwrap_or, zero, suc, ◌+◌, ◌<◌, Some}
 use Rattle.std.proofs.lemmas.Bool.Decides.{nat_tests}
+use Rattle.papi_base.specs.declared.limits.TheConstants.{THREADS}
 use Rattle.papi_base.specs.declared.native.Native.{Native}
 use Rattle.postfix_rules.specs.Presets.{Book}
 use Rattle.session_model.specs.declared.call.Call.{Call}
@@ -139,5 +140,5 @@ opens (suc n) t (s ∷ ss) (suc k) h =
 
 pub opens_by_thread : OpensByThread
 opens_by_thread streams t h =
-    opens 64 0 streams t h
+    opens THREADS 0 streams t h
     ∙ ap (λ (i : ℕ). Some (opening i (slice_index_or streams t no_stream).rest (slice_index_or streams t no_stream).mark)) (let e : 0 + t ≡ t = omega arith in e)

@@ -20,7 +20,7 @@ use Rattle.session_model.specs.Replies.{done, plain}
 use Rattle.session_model.specs.Step.{account_after, notes_to, replies_to, step}
 use Rattle.session_model.specs.World.{Setting, World, answer, calls_at, mentioned_after, notes_of_thread, opening_world, replies_at, told, world_after}
 
--- each of the 64 threads begins with its opening account; a thread without a stream has an empty one
+-- each thread begins with its opening account; a thread without a stream has an empty one
 abbrev pub OpensByThread : Type 0
 OpensByThread = (streams : List Coming) (t : ℕ) → t < THREADS
     → let coming = slice_index_or streams t (record { rest = []; mark = Dry }) in
