@@ -40,9 +40,12 @@ ahead_then x t p = record {
   replies = slice_set x.replies t (rest_by (slice_index_or x.replies t []) p);
 }
 
+-- the line with its reply
+abbrev pub line_by : List Bool → List Reply → PlanLine → ReplyLine
+line_by flags replies l = record { line = l.number; thread = l.thread; word = l.word; reply = reply_by flags replies l.planned }
+
 -- the lines' replies
 abbrev pub lines_by : Ahead → List PlanLine → List ReplyLine
 lines_by x [] = []
 lines_by x (l ∷ ls) =
-    record { line = l.number; thread = l.thread; word = l.word; reply = reply_by x.flags (slice_index_or x.replies l.thread []) l.planned }
-    ∷ lines_by (ahead_then x l.thread l.planned) ls
+    line_by x.flags (slice_index_or x.replies l.thread []) l ∷ lines_by (ahead_then x l.thread l.planned) ls

@@ -1,8 +1,8 @@
 //! The replies of the threads, in the order of the plan.
-ghost use Rattle.std.specs.Prelude.{false, ◌≡◌, ◌<◌, ◌≤◌, ℕ, [], length, map, replicate, reverse, slice_index_or, slice_set, vec_len, vec_capacity};
+ghost use Rattle.std.specs.Prelude.{false, ◌≡◌, ◌<◌, ◌≤◌, ◌++◌, ◌+◌, ◌∷◌, ℕ, [], length, map, replicate, reverse, slice_index_or, slice_set, vec_len, vec_capacity};
 ghost use Rattle.session_laws.specs.Worlds.{registered_after};
 ghost use Rattle.plan_runner.specs.Plans.{AreThreads, calls_in, planned_at};
-ghost use Rattle.plan_runner.specs.Merges.{reply_by, rest_by, flags_by, lines_by};
+ghost use Rattle.plan_runner.specs.Merges.{reply_by, rest_by, flags_by, line_by, lines_by};
 
 use crate::plan::{PlanLine, Planned};
 use crate::result::ReplyLine;
@@ -60,11 +60,48 @@ fn name_reply(event: Option<EventRef>) -> Reply
     }
 }
 
-/// Answers a line. The further replies of its thread stand in `replies`, the next one last.
-fn answer_line(line: &PlanLine, replies: &mut Vec<Reply>, registry: &mut Registry) -> Reply
+/// The registered threads.
+fn threads_reply(registry: &Registry) -> Reply
+    ensures { result ≡ reply_by registry.now [] Planned.Threads }
+{
+    Reply {
+        code: Code::Ok,
+        body: Body::Threads(registry.listed()),
+    }
+}
+
+/// A line with its reply. Replies are large, so few moves stand between a thread's list and the lines.
+#[inline(always)]
+fn reply_line(line: &PlanLine, reply: Reply) -> ReplyLine
+    ensures { result ≡ record {
+      line = line.now.number;
+      thread = line.now.thread;
+      word = line.now.word;
+      reply = reply;
+    } }
+{
+    ReplyLine {
+        line: line.number,
+        thread: line.thread,
+        word: line.word,
+        reply,
+    }
+}
+
+/// Answers a line, at the end of `lines`. The further replies of its thread stand in `replies`, the next one last.
+fn answer_line(
+    line: &PlanLine,
+    replies: &mut Vec<Reply>,
+    registry: &mut Registry,
+    lines: &mut Vec<ReplyLine>,
+)
     requires thread { line.now.thread < THREADS }
     requires replied { length (calls_in line.now.planned) ≤ vec_len replies.old }
-    ensures reply { result ≡ reply_by registry.old (reverse replies.old.items) line.now.planned }
+    requires room { vec_len lines.old < vec_capacity lines.old }
+    ensures line { lines.new.items ≡ lines.old.items
+        ++ line_by registry.old (reverse replies.old.items) line.now ∷ [] }
+    ensures len { vec_len lines.new ≡ vec_len lines.old + 1 }
+    ensures capacity { vec_capacity lines.new ≡ vec_capacity lines.old }
     ensures rest { reverse replies.new.items
         ≡ rest_by (reverse replies.old.items) line.now.planned }
     ensures registered { registry.new
@@ -73,15 +110,13 @@ fn answer_line(line: &PlanLine, replies: &mut Vec<Reply>, registry: &mut Registr
     match line.planned {
         Planned::Call(call) => {
             let reply = replies.take_last();
-            keep_registered(registry, line.thread, &call, reply.code);
-            reply
+            let code = reply.code;
+            lines.push_reserved(reply_line(line, reply));
+            keep_registered(registry, line.thread, &call, code);
         }
-        Planned::Code(event) => code_reply(event),
-        Planned::Name(event) => name_reply(event),
-        Planned::Threads => Reply {
-            code: Code::Ok,
-            body: Body::Threads(registry.listed()),
-        },
+        Planned::Code(event) => lines.push_reserved(reply_line(line, code_reply(event))),
+        Planned::Name(event) => lines.push_reserved(reply_line(line, name_reply(event))),
+        Planned::Threads => lines.push_reserved(reply_line(line, threads_reply(registry))),
     }
 }
 
@@ -108,19 +143,27 @@ fn give_back_memory(replies: &mut Vec<Reply>)
     }
 }
 
-/// Answers the next line of this thread.
-fn take_reply(line: &PlanLine, replies: &mut Vec<Reply>, registry: &mut Registry) -> Reply
+/// Answers the next line of this thread, and gives back memory.
+fn answer_next(
+    line: &PlanLine,
+    replies: &mut Vec<Reply>,
+    registry: &mut Registry,
+    lines: &mut Vec<ReplyLine>,
+)
     requires thread { line.now.thread < THREADS }
     requires replied { length (calls_in line.now.planned) ≤ vec_len replies.old }
-    ensures reply { result ≡ reply_by registry.old (reverse replies.old.items) line.now.planned }
+    requires room { vec_len lines.old < vec_capacity lines.old }
+    ensures line { lines.new.items ≡ lines.old.items
+        ++ line_by registry.old (reverse replies.old.items) line.now ∷ [] }
+    ensures len { vec_len lines.new ≡ vec_len lines.old + 1 }
+    ensures capacity { vec_capacity lines.new ≡ vec_capacity lines.old }
     ensures rest { reverse replies.new.items
         ≡ rest_by (reverse replies.old.items) line.now.planned }
     ensures registered { registry.new
         ≡ flags_by registry.old (reverse replies.old.items) line.now.thread line.now.planned }
 {
-    let reply = answer_line(line, replies, registry);
+    answer_line(line, replies, registry, lines);
     give_back_memory(replies);
-    reply
 }
 
 /// Answers the lines in their order. Each thread has as many replies as it has calls. Each reply is held once: the lists give
@@ -143,12 +186,6 @@ pub fn merge(plan: &[PlanLine], replies: &mut Vec<Vec<Reply>>, lines: &mut Vec<R
     let mut registry = Registry::new();
     for line in plan {
         let list = &mut replies[line.thread as usize];
-        let reply = take_reply(line, list, &mut registry);
-        lines.push_reserved(ReplyLine {
-            line: line.number,
-            thread: line.thread,
-            word: line.word,
-            reply,
-        });
+        answer_next(line, list, &mut registry, lines);
     }
 }

@@ -40,7 +40,8 @@ fn make_calls<S: Source>(
 {
     for call in calls {
         let reply = session.call(book, call, h)?;
-        replies.push(reply)?;
+        replies.reserve(1)?;
+        replies.push_reserved(reply);
     }
     Ok(())
 }

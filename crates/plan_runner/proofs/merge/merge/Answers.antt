@@ -1,4 +1,4 @@
-use Rattle.std.proofs.Common.{rules, arith, ap, sym, ◌∙◌, ◌<◌, [], get_or, length, reverse}
+use Rattle.std.proofs.Common.{rules, arith, ap, sym, refl, ◌∙◌, ◌<◌, [], get_or, length, reverse}
 use Rattle.std.proofs.lemmas.List.{get_or_default, get_or-map}
 use Rattle.plan_runner.proofs.Dealt.{some_line}
 use Rattle.plan_runner.proofs.Merged.{merged-more, counts-more}
@@ -18,8 +18,8 @@ loop-line-preserved c =
       threads = search rules;
       len = search rules;
       room = search rules;
-      counts = counts-more _ c.loop-line.replies.items c.index_mut-list.result.now c.take_reply-reply.new.replies c.args.plan.now c.loop-line.line-index line below here inside own c.take_reply-reply.ensures.rest c.loop-line.invariant.counts;
+      counts = counts-more _ c.loop-line.replies.items c.index_mut-list.result.now c.answer_next.new.replies c.args.plan.now c.loop-line.line-index line below here inside own c.answer_next.ensures.rest c.loop-line.invariant.counts;
       whole =
-          merged-more _ c.loop-line.replies.items c.index_mut-list.result.now c.take_reply-reply.new.replies c.loop-line.registry _ c.loop-line.lines.items _ _ c.take_reply-reply.result c.args.plan.now c.loop-line.line-index line
-          below here own c.take_reply-reply.ensures.reply c.take_reply-reply.ensures.rest c.take_reply-reply.ensures.registered c.push_reserved.ensures.items c.loop-line.invariant.whole;
+          merged-more _ c.loop-line.replies.items c.index_mut-list.result.now c.answer_next.new.replies c.loop-line.registry _ c.loop-line.lines.items _ _ _ c.args.plan.now c.loop-line.line-index line
+          below here own refl c.answer_next.ensures.rest c.answer_next.ensures.registered c.answer_next.ensures.line c.loop-line.invariant.whole;
     }
