@@ -1,9 +1,10 @@
 -- Where a text has its first newline.
-use Rattle.std.proofs.Common.{◌≡◌, ◌∙◌, ◌<◌, ◌++◌, ◌∷◌, ◌==◌, ℕ, suc, Bool, true, false, List, [], length, take, get_or, refl, sym, ap, arith, add-one, Option, Some, None}
-use Rattle.std.specs.List.{AllByRecursion}
+use Rattle.std.proofs.Common.{◌≡◌, ◌∙◌, ◌+◌, ◌<◌, ◌≤◌, ◌++◌, ◌∷◌, ◌==◌, ℕ, suc, Bool, true, false, not, List, [], length, take, get_or, refl, sym, ap, subst, arith, add-one, Option, Some, None}
+use Rattle.std.specs.List.{AllByRecursion, prefix_len}
 use Rattle.std.proofs.Math.Seq.{drop-cons}
 use Rattle.std.proofs.lemmas.List.{length-take-le, take-append-drop, get_or-take}
 use Rattle.std.proofs.lemmas.Bool.{eqb-true}
+use Rattle.std.proofs.lemmas.Simd.{run_in_chunk_fails, run_in_chunk_stops}
 use Rattle.memchr.specs.Find.{IsFirstByte, is_byte}
 use Rattle.stream_reader.specs.Inside.{FindsNewline}
 
@@ -24,3 +25,12 @@ finds-newline t (Some n) h =
     let front : (k : ℕ) → k < length (take n t) → (get_or (take n t) k 0 == 10) ≡ true → ⊥ =
     λ k lt e. let below : k < n = omega (arith, long) in h.0.before k (omega arith) below (sym (ap (λ b. b == 10) (get_or-take n t k 0 below)) ∙ e) in
     (low, record { each = by-index (take n t) front }, sym (take-append-drop n t) ∙ ap (λ u. take n t ++ u) (rw (add-one, ← byte) (drop-cons t n 0 low)))
+
+-- where it is, if it is among the first n bytes
+pub near-newline : (t : List ℕ) (r n : ℕ) → n ≤ length t → r ≡ prefix_len (λ b. not (b == 10)) (take n t) → r < n → FindsNewline t (Some r)
+near-newline t r n room counted less =
+    let at : 0 + r ≡ r = omega arith in
+    let none : (k : ℕ) → 0 ≤ k → k < r → (get_or t k 0 == 10) ≡ true → ⊥ =
+    λ k low high newline. cc (run_in_chunk_fails (is_byte 10) t 0 n r 0 (omega arith) counted k low (omega arith), newline) in
+    let stops : (get_or t r 0 == 10) ≡ true = subst (λ i. (get_or t i 0 == 10) ≡ true) at (run_in_chunk_stops (is_byte 10) t 0 n r 0 (omega arith) counted less) in
+    finds-newline t (Some r) (record { low = omega arith; high = omega arith; before = none }, stops)

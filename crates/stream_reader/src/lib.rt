@@ -7,6 +7,7 @@ mod digit_vector;
 mod field;
 mod limits;
 mod line;
+mod newline;
 mod next;
 mod occurrence;
 mod piece;

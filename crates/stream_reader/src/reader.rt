@@ -9,9 +9,9 @@ ghost use Rattle.stream_reader.specs.Inside.{answer_of};
 use crate::common_line::{CommonLine, common_line};
 use crate::limits::{LARGEST_STREAM, LONGEST_LINE, READER_BYTES};
 use crate::line::{Judgement, LineStart, begins_skipped, is_above, is_within};
+use crate::newline::line_len;
 use crate::next::Next;
 use crate::piece::{fill, move_rest};
-use memchr::memchr;
 use papi_base::{Failed, LineCause, Source};
 use std::marker::Model;
 
@@ -193,7 +193,7 @@ impl<S: Source> StreamReader<S> {
         if !begins_skipped(text) {
             return None;
         }
-        let size = memchr(b'\n', text)?;
+        let size = line_len(text)?;
         if !is_within(&self.start, size) {
             return None;
         }
@@ -234,7 +234,7 @@ impl<S: Source> StreamReader<S> {
     fn line_len(&self) -> Option<usize>
         ensures { FindsNewline self.now.held result }
     {
-        memchr(b'\n', &self.bytes[self.from..self.to])
+        line_len(&self.bytes[self.from..self.to])
     }
 
     // Gives nothing from now on.

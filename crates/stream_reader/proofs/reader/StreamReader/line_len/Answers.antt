@@ -1,8 +1,7 @@
 use Rattle.std.proofs.Common.{subst}
 use Rattle.stream_reader.specs.Reader.{ReaderView}
 use Rattle.stream_reader.specs.Inside.{FindsNewline}
-use Rattle.stream_reader.proofs.Newlines.{finds-newline}
 use Rattle.stream_reader.proofs.reader.StreamReader.line_len.Goals as goal
 
 pub returns : goal.returns
-returns g c = subst (λ (v : ReaderView). FindsNewline v.held c.memchr.result) c.self.view_is (finds-newline _ c.memchr.result c.memchr.ensures)
+returns g c = subst (λ (v : ReaderView). FindsNewline v.held c.line_len.result) c.self.view_is c.line_len.ensures

@@ -1,12 +1,10 @@
-use Rattle.std.proofs.Common.{Some, refl, subst}
+use Rattle.std.proofs.Common.{refl, subst}
 use Rattle.stream_reader.specs.declared.line.Judgement.TheVariants.{Skipped}
 use Rattle.stream_reader.specs.CommonLines.{HoldsLine}
 use Rattle.stream_reader.proofs.CommonLines.{holds-skipped}
-use Rattle.stream_reader.proofs.Newlines.{finds-newline}
 use Rattle.stream_reader.proofs.reader.StreamReader.skipped_line.Goals as goal
 
 pub returns : goal.returns
 returns g c =
-    let found = finds-newline _ (Some c.in_ok-size.size) c.in_ok-size.ensures in
     let within = c.if-not-is_within.ensures refl in
-    subst (λ v. HoldsLine v c.in_ok-size.size Skipped) c.self.view_is (holds-skipped _ c.in_ok-size.size found within.0 within.1 (c.if-not-begins_skipped.ensures refl))
+    subst (λ v. HoldsLine v c.in_ok-size.size Skipped) c.self.view_is (holds-skipped _ c.in_ok-size.size c.in_ok-size.ensures within.0 within.1 (c.if-not-begins_skipped.ensures refl))
