@@ -22,7 +22,7 @@ static int some_happen(thread_state *t, uint32_t n, uint32_t *consumed) {
     int code = kistalub_run(&t->library, t->is_watched ? 1 : n, consumed, passings, MOST_EVENTS, &told, &fault);
     t->happened += *consumed;
     if (code == PAPI_ESYS) say_fault(t, &fault);
-    kl_tell(t, passings, told);
+    if (told) kl_tell(t, passings, told);
     return code;
 }
 
@@ -50,15 +50,10 @@ int kistalub_go(uint32_t n, uint32_t *went) {
     return t ? kl_go(t, n, went) : code;
 }
 
-/* The step before a call that reads, or what is left of it if memory was refused in it and the call is made again. */
+/* The step before a call that reads. */
 static int goes_on(thread_state *t) {
-    uint32_t n = t->owed ? t->owed : t->step, went = 0;
-    if (n == 0 || t->in_handler) return PAPI_OK;
-    kl_hold(t);
-    int code = kl_go(t, n, &went);
-    t->owed = code == PAPI_ENOMEM ? n - went : 0;
-    int ended = kl_let_go(t);
-    return ended == PAPI_OK ? code : ended;
+    uint32_t went = 0;
+    return t->step == 0 || t->in_handler ? PAPI_OK : kl_go(t, t->step, &went);
 }
 
 int PAPI_start(int set) {
@@ -84,8 +79,8 @@ static int given(giving call, int set, long long *values, int adding) {
     if (t) code = goes_on(t);
     if (code != PAPI_OK) return code;
     code = call(&t->library, kl_set_number(t, set), all, MOST_EVENTS, &count);
-    for (uint32_t i = 0; code == PAPI_OK && values && i < count; i++)
-        values[i] = adding ? (long long)((unsigned long long)values[i] + (unsigned long long)all[i]) : all[i];
+    if (code != PAPI_OK || !values) return code;
+    for (uint32_t i = 0; i < count; i++) values[i] = adding ? (long long)((unsigned long long)values[i] + (unsigned long long)all[i]) : all[i];
     return code;
 }
 

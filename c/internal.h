@@ -61,7 +61,7 @@ typedef struct thread_state {
     PAPI_thread_id_t id;
     int has_id, registered;
     void *kept[PAPI_NUM_TLS];
-    uint32_t step, owed; /* what happens before a call that reads, and what is left of it if memory was refused in it */
+    uint32_t step;       /* what happens before a call that reads */
     uint64_t happened;   /* how many occurrences have */
     int is_watched;      /* an event has a watch */
     int in_handler;      /* a handler of the thread runs: time stands */

@@ -115,7 +115,7 @@ int kistalub_presets_fault(const unsigned char *presets, size_t presets_len, con
 /* Consumes up to n occurrences of the stream, and says how many. Each threshold that is passed is written into the array, in order. At one
  * occurrence at most 32 are passed: if fewer have room it stops before the next occurrence with -20, PAPI_EBUF, and a further call goes
  * on, so that none is lost. With n = 1 an array of 32 is always enough. -3 once if the stream is faulty: `fault` then says where and why,
- * and after that the stream has ended. -2 if memory is refused, and nothing happened then. */
+ * and after that the stream has ended. -2 if memory is refused, and nothing happened then: an array of at most 32 takes none. */
 int kistalub_run(kistalub *h, uint32_t n, uint32_t *consumed, kistalub_passing *passings, size_t room, uint64_t *told, kistalub_fault *fault);
 
 /* What follows is C over the functions above (the sources in c/), and is not proved. */

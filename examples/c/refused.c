@@ -127,7 +127,7 @@ static void life(void) {
     PAPI_shutdown();
 }
 
-/* A step in which memory was refused goes on where it stopped. */
+/* The same with steps, which take no memory. */
 static void steps(void) {
     int set = PAPI_NULL;
     long long count;

@@ -1,7 +1,8 @@
 //! Runs.
-ghost use Rattle.std.specs.Prelude.{◌≡◌, ◌⊎◌, ◌≤◌, drop, length, map, take};
+ghost use Rattle.std.specs.Prelude.{◌≡◌, ◌≢◌, ◌⊎◌, ◌≤◌, drop, length, map, negsuc, take};
 ghost use Rattle.papi_c.specs.Runs.{IsRefusedRun, IsUnrun, Runs, Went, passing_of, run_number};
 ghost use Rattle.session_model.specs.Step.{code_of};
+ghost use Rattle.thread_session.specs.declared.filling.TheConstants.{MOST_PASSED};
 
 use crate::faults::{StreamFault, fault_of};
 use crate::handle::{ENOINIT, ENOMEM, Handle};
@@ -10,6 +11,7 @@ use papi_base::{Code, code_number};
 use papi_calls::{Filled, Library};
 use session_model::Ended;
 use std::alloc::Global;
+use thread_session::MOST_PASSED;
 
 /// No room is left in an array: PAPI_EBUF.
 const EBUF: i32 = -20;
@@ -60,6 +62,37 @@ fn number_of(filled: Filled) -> i32
     }
 }
 
+// A note of nothing.
+const BLANK: Note = Note {
+    thread: 0,
+    set: 0,
+    index: 0,
+    pc: 0,
+};
+
+// Runs a library into an array, over as many places for notes.
+fn run_over(
+    library: &mut Library,
+    n: u32,
+    consumed: &mut u32,
+    notes: &mut [Note],
+    out: &mut [Passing],
+    told: &mut u64,
+    fault: &mut StreamFault,
+) -> i32
+    requires same { length notes.old ≡ length out.old }
+    ensures went { Went library.old library.new n result consumed.new told.new fault.new out.old
+        out.new }
+    ensures made { ¬ (IsUnrun result) }
+{
+    let filled = library.run_into(n, notes);
+    tell(notes, filled.ran.notes as usize, out);
+    *consumed = filled.ran.consumed;
+    *told = filled.ran.notes;
+    *fault = fault_of(filled.ran.ended);
+    number_of(filled)
+}
+
 // Runs a library into an array.
 fn run(
     alloc: Global,
@@ -74,27 +107,23 @@ fn run(
         out.new ⊎ IsRefusedRun library.old library.new result out.old out.new }
     ensures untold { IsUnrun result
         → (consumed.new ≡ consumed.old) × (told.new ≡ told.old) × (fault.new ≡ fault.old) }
+    ensures lean { length out.old ≤ MOST_PASSED → ¬ (IsUnrun result) }
 {
-    let blank = Note {
-        thread: 0,
-        set: 0,
-        index: 0,
-        pc: 0,
-    };
-    let Ok(mut notes) = vec![in alloc; blank; out.len()] else {
+    let room = out.len();
+    if room <= MOST_PASSED {
+        let mut notes = [BLANK; MOST_PASSED];
+        return run_over(library, n, consumed, &mut notes[..room], out, told, fault);
+    }
+    let Ok(mut notes) = vec![in alloc; BLANK; room] else {
         return ENOMEM;
     };
-    let filled = library.run_into(n, notes.as_mut_slice());
-    tell(notes.as_slice(), filled.ran.notes as usize, out);
-    *consumed = filled.ran.consumed;
-    *told = filled.ran.notes;
-    *fault = fault_of(filled.ran.ended);
-    number_of(filled)
+    run_over(library, n, consumed, notes.as_mut_slice(), out, told, fault)
 }
 
 /// Consumes up to `n` occurrences, and says how many. The thresholds that were passed go into `out`, and `told` has their number. If
 /// fewer than 32 have room it stops before the next occurrence: PAPI_EBUF, and a further call goes on. PAPI_ESYS once if the stream is
-/// faulty, and `fault` then says where and why; after that the stream has ended. PAPI_ENOMEM; nothing happens then.
+/// faulty, and `fault` then says where and why; after that the stream has ended. PAPI_ENOMEM only if `out` has more than 32 places;
+/// nothing happens then.
 #[unsafe(no_mangle)]
 pub extern "C" fn kistalub_run(
     alloc: Global,
@@ -109,6 +138,7 @@ pub extern "C" fn kistalub_run(
         out.new }
     ensures untold { IsUnrun result
         → (consumed.new ≡ consumed.old) × (told.new ≡ told.old) × (fault.new ≡ fault.old) }
+    ensures lean { length out.old ≤ MOST_PASSED → result ≢ negsuc 1 }
 {
     let Some(mut library) = h.take(alloc) else {
         return ENOINIT;

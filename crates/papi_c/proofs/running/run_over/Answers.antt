@@ -3,7 +3,7 @@ use Rattle.std.proofs.Common.{rules, ◌≡◌, ◌∙◌, Bool, true, false, ap
 use Rattle.session_model.specs.declared.reply.Ended.{Ended}
 use Rattle.session_model.specs.declared.reply.Ended.TheVariants as ended
 use Rattle.papi_c.specs.Runs.{IsUnrun, run_number}
-use Rattle.papi_c.proofs.running.run.Goals as goal
+use Rattle.papi_c.proofs.running.run_over.Goals as goal
 
 ran : (full : Bool) (how : Ended) → ¬ (IsUnrun (run_number full how))
 ran true how (inl e) = let same : 20 ≡ 16 = ap unsigned_abs e in absurd (omega (arith, same))
@@ -15,8 +15,8 @@ ran false (ended.Bad line why) (inr e) = let same : 3 ≡ 2 = ap unsigned_abs e 
 ran false ended.Fault (inl e) = let same : 3 ≡ 16 = ap unsigned_abs e in absurd (omega (arith, same))
 ran false ended.Fault (inr e) = let same : 3 ≡ 2 = ap unsigned_abs e in absurd (omega (arith, same))
 
-pub returns-clause-untold : goal.returns-clause-untold
-returns-clause-untold c unrun =
+pub returns-clause-made : goal.returns-clause-made
+returns-clause-made c unrun =
     let filled = c.run_into-filled.result in
     let same : to_z w32 (of_z w32 c.number_of.result) ≡ c.number_of.result = search rules in
     absurd (ran filled.full filled.ran.ended (subst IsUnrun (same ∙ c.number_of.ensures) unrun))
