@@ -1,11 +1,11 @@
-/* The work of papi_run, papi_profil and a program of PAPI_read by hand, for each row of bench/run: count KIND STREAM..
+/* The work of papi_run and papi_profil by hand, for each row of bench/run over a stream: count KIND STREAM..
  * Each stream has a thread of its own. Prints what the replies of `run`, `read` and `stop` have after PAPI_OK, a line each, or the histogram. */
 #include "read_stream.h"
 #include <fcntl.h>
 #include <pthread.h>
 #include <stdlib.h>
 
-enum { COUNTERS = 32, THRESHOLD = 1000, SMALL_THRESHOLD = 256, SLICE = 1000, READINGS = 1000000 };
+enum { COUNTERS = 32, THRESHOLD = 1000, SMALL_THRESHOLD = 256, SLICE = 1000 };
 
 /* The map of the row with a histogram. */
 enum { START = 0x400000, WIDTH = 16, BUCKETS = 65536 };
@@ -22,7 +22,6 @@ struct work {
     size_t noted, room;
     int group, left_of_turn;
     uint64_t active[2];
-    uint64_t sum;
     uint32_t hits[BUCKETS], outside;
     struct reader reader;
     const char *stream;
@@ -161,14 +160,6 @@ static void print_hits(const struct work *w) {
     printf("outside %u\ntotal %llu\n", w->outside, (unsigned long long)(hits + w->outside));
 }
 
-/* The three events, read after each occurrence: the sum of all that was read. */
-
-INLINE void count_readings(void *to, const struct occurrence *o) {
-    struct work *w = to;
-    count_three(to, o);
-    if (w->reader.consumed <= READINGS) w->sum += w->totals[0] + 3 * w->totals[1] + 5 * w->totals[2];
-}
-
 /* The kinds of work. Each has a reader of its own, into which the compiler puts its counting. */
 
 #define READER(name, count) \
@@ -184,10 +175,6 @@ READER(read_turns, count_turns)
 READER(read_components, count_components)
 READER(read_hits, count_hits)
 
-static int read_steps(struct work *w) {
-    return consume(&w->reader, READINGS + 1, count_readings, w);
-}
-
 static const struct kind {
     const char *name;
     int (*read)(struct work *w);
@@ -195,8 +182,7 @@ static const struct kind {
 } kinds[] = {
     {"nothing", read_nothing, 0, 0},         {"three", read_three, 3, 1},  {"branches", read_branches, 1, 1},
     {"thresholds", read_thresholds, 3, 1},   {"alike", read_alike, 32, 1}, {"one", read_one, 1, 1},
-    {"turns", read_turns, 6, 1},             {"hits", read_hits, 0, 0},    {"steps", read_steps, 3, 1},
-    {"components", read_components, 16, 16},
+    {"turns", read_turns, 6, 1},             {"hits", read_hits, 0, 0},    {"components", read_components, 16, 16},
 };
 
 static const struct kind *kind_of(const char *name) {
@@ -212,7 +198,6 @@ static void print_values(const uint64_t *totals, int n) {
 static void print_work(const struct work *w) {
     int each = w->kind->sets ? w->kind->values / w->kind->sets : 0;
     if (w->kind->read == read_hits) print_hits(w);
-    else if (w->kind->read == read_steps) printf("%llu\n", (unsigned long long)w->sum);
     else printf("%llu %zu\n", (unsigned long long)w->reader.consumed, w->noted);
     for (int set = 0; set < w->kind->sets; set++) print_values(w->totals + set * each, each);
 }

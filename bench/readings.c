@@ -1,5 +1,5 @@
 /* 1,000,000 readings of three events through the library for C, an occurrence before each: readings UNIT STREAM
- * Prints the sum of what they gave, weighted by 1, 3 and 5, and the values of the stop, as `count steps` does. */
+ * Prints the sum of what they gave, weighted by 1, 3 and 5, and the values of the stop. */
 #include "papi.h"
 #include <stdio.h>
 #include <stdlib.h>

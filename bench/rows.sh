@@ -9,6 +9,9 @@ region_count=45000
 note_count=1000000
 reading_count=1000000
 
+# The program by hand of a row over a stream.
+counter=count
+
 # What runs a row's command, and how it is timed; a row may set another.
 runner=
 timer=processor_seconds
@@ -71,7 +74,7 @@ counted() {
     script=$4
     shift 4
     streams=$*
-    by_hand="./count $kind $streams"
+    by_hand="./$counter $kind $streams"
     command="papi_run -U $unit $script $streams"
     show=results
     measure "$(cat "$@" | grep -vc '^version')"
@@ -317,9 +320,10 @@ row_library() {
     fi
     "$here/../c/build" library "$archive"
     "${CC:-cc}" -std=c11 -D_POSIX_C_SOURCE=200809L -O2 -I"$here/../include" -o readings "$here/readings.c" library/libkistalub.a -lpthread
+    "${CC:-cc}" -std=c11 -D_POSIX_C_SOURCE=200809L -O2 -I"$here/../include" -o readings_by_hand "$here/readings.c" "$here/by_hand.c"
     ./generate "$((reading_count + 1))" >readings.stream
     text="library for C, $reading_count PAPI_read, step 1"
-    by_hand='./count steps readings.stream'
+    by_hand='./readings_by_hand lab.unit readings.stream'
     streams=readings.stream
     runner=./readings
     command='lab.unit readings.stream'
