@@ -1,12 +1,13 @@
 -- The text of a line, one more item at a time.
-use Rattle.std.proofs.Common.{◌≡◌, ◌∙◌, ◌<◌, ◌≤◌, ◌+◌, ◌∷◌, ◌++◌, ℕ, zero, suc, Bool, true, false, List, [], Some, cond, filter, length, map, min, take, refl, sym, ap, arith, append_assoc}
-use Rattle.std.proofs.lemmas.List.{append-nil, map-append, take_all, take_more}
+use Rattle.std.proofs.Common.{◌≡◌, ◌∙◌, ◌<◌, ◌≤◌, ◌+◌, ◌-◌, ◌∷◌, ◌++◌, ℕ, zero, suc, Bool, true, false, List, [], Some, cond, drop, filter, length, map, min, take, refl, sym, ap, arith, append_assoc}
+use Rattle.std.proofs.lemmas.List.{append-nil, drop_all, map-append, take_all, take_more}
 use Rattle.std.proofs.lemmas.List.Concat.{flat_map-append}
 use Rattle.std.proofs.lemmas.List.FromFn.{filter_of_map_range_with_len_more}
 use Rattle.std.proofs.lemmas.Option.{get_or_from_slice_get, slice_get_within}
 use Rattle.std.specs.Prelude.{◌==◌, slice_get, slice_index, zip}
 use Rattle.std.specs.Int.{bit_at}
 use Rattle.std.specs.List.{range_with_len}
+use Rattle.event_sets.proofs.Steps.{drop_at}
 use Rattle.reply_text.specs.Replies.{Text, members_below, spaced}
 
 -- ---- texts after spaces
@@ -58,6 +59,28 @@ item_pushed f xs i x start line after h so_far more =
 -- the texts of all items are pushed
 pub items_pushed : {X : Type 0} (f : X → Text) (xs : List X) (i : ℕ) (start after : Text) → length xs ≤ i → after ≡ start ++ spaced (map f (take i xs)) → after ≡ start ++ spaced (map f xs)
 items_pushed f xs i start after all so_far = so_far ∙ ap (λ ys. start ++ spaced (map f ys)) (take_all i xs all)
+
+-- ---- the items of a list, from the last one on
+
+-- no item is gathered
+pub none_before : {X : Type 0} (f : X → Text) (xs : List X) → [] ≡ spaced (map f (drop (length xs - 0) xs))
+unfolding spaced
+none_before {X = X} f xs = sym (ap (λ (ys : List X). spaced (map f ys)) (drop_all (length xs - 0) xs (omega arith)))
+
+-- one item more is gathered
+pub one_before : {X : Type 0} (f : X → Text) (xs : List X) (done i : ℕ) (x : X) (rest after : Text) → slice_get xs i ≡ Some x → i + 1 ≡ length xs - done
+    → rest ≡ spaced (map f (drop (length xs - done) xs)) → after ≡ 32 ∷ (f x ++ rest) → after ≡ spaced (map f (drop (length xs - (done + 1)) xs))
+unfolding spaced
+one_before f xs done i x rest after at next so_far more =
+    let here : length xs - (done + 1) ≡ i = omega (arith, next) in
+    let from_here : drop (length xs - (done + 1)) xs ≡ x ∷ drop (length xs - done) xs = ap (λ (k : ℕ). drop k xs) here ∙ drop_at xs i x at ∙ ap (λ (k : ℕ). x ∷ drop k xs) next in
+    more ∙ ap (λ (t : Text). 32 ∷ (f x ++ t)) so_far ∙ sym (ap (λ ys. spaced (map f ys)) from_here)
+
+-- all items are gathered
+pub all_before : {X : Type 0} (f : X → Text) (xs : List X) (done : ℕ) (rest : Text) → length xs ≤ done → rest ≡ spaced (map f (drop (length xs - done) xs)) → rest ≡ spaced (map f xs)
+all_before f xs done rest all so_far =
+    let start : length xs - done ≡ 0 = omega (arith, all) in
+    so_far ∙ ap (λ (k : ℕ). spaced (map f (drop k xs))) start
 
 -- ---- the pairs of two lists
 

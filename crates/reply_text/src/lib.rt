@@ -7,6 +7,7 @@ mod names;
 mod note;
 mod numbers;
 mod results;
+mod values;
 
 pub use line::{push_reply, push_reply_line};
 pub use note::push_note_line;

@@ -1,7 +1,6 @@
 //! The results of a reply, which follow its code.
 
 ghost use Rattle.std.specs.Prelude.{◌≡◌, ◌<◌, ◌==◌, ◌++◌, ◌∷◌, [], OnOk, codes, decimal, map, string_bytes, zip};
-ghost use Rattle.std.specs.Fmt.{signed_decimal};
 ghost use Rattle.std.specs.Int.{bit_at};
 ghost use Rattle.papi_base.specs.declared.limits.TheConstants.{MOST_COUNTERS, THREADS};
 ghost use Rattle.component_table.specs.EventNames.{event_name};
@@ -12,9 +11,10 @@ ghost use Rattle.reply_text.specs.Replies.{spaced};
 use crate::hexadecimal::push_hex;
 use crate::names::{counter_name, push_assigned, push_event, push_native};
 use crate::numbers::{push_number, push_word};
+use crate::values::push_values;
 use component_table::Catalog;
 use event_sets::Clash;
-use papi_base::{Events, MOST_COUNTERS, Natives, THREADS, Values};
+use papi_base::{Events, MOST_COUNTERS, Natives, THREADS};
 use session_model::{Assigned, Body, Ran};
 use std::alloc::AllocError;
 
@@ -24,16 +24,6 @@ fn has(set: u64, k: u32) -> bool
     ensures { result ≡ (bit_at set k == 1) }
 {
     (set >> k) & 1 == 1
-}
-
-fn push_values(text: &mut String, values: &Values) -> Result<(), AllocError>
-    ensures { OnOk result (string_bytes text.new
-        ≡ string_bytes text.old ++ spaced (map signed_decimal values.now)) }
-{
-    for i in 0..values.len() {
-        push_number(text, values.at(i))?;
-    }
-    Ok(())
 }
 
 fn push_events(text: &mut String, catalog: &Catalog, events: &Events) -> Result<(), AllocError>
