@@ -1,5 +1,5 @@
 -- The counters that occurrences with each code can move, as the registers change.
-use Rattle.std.proofs.Common.{◌≡◌, ℕ, ◌<◌, inl, inr, List, length, set, get_or, replicate, refl, ap, sym, ◌∙◌, arith, Option, Some, None}
+use Rattle.std.proofs.Common.{◌≡◌, ℕ, ◌<◌, inl, inr, List, length, set, get_or, replicate, refl, ap, sym, ◌∙◌, arith, Option, Some, None, ◌%◌}
 use Rattle.std.specs.Int.{bit_at}
 use Rattle.std.specs.Prelude.{◌==◌, false}
 use Rattle.std.proofs.lemmas.Bool.{and_left, cases_eq, ne_eqb}
@@ -11,6 +11,7 @@ use Rattle.counter_unit.specs.declared.selects.Key.{Key}
 use Rattle.counter_unit.specs.declared.selects.Key.TheVariants as key
 use Rattle.counter_unit.specs.declared.selects.Selects.{Selects}
 use Rattle.counter_unit.specs.Counting.{all_moved, at_place, moved_place}
+use Rattle.counter_unit.specs.Modes.{is_modified}
 use Rattle.counter_unit.specs.Selects.{AreMarked, AreSelects, IsMarkedAt, IsRemarked, bit_of, has}
 use Rattle.counter_unit.proofs.Places.{at_place-all_moved, at_place-replicate}
 
@@ -32,15 +33,26 @@ AreMarked-put k old new rs c place exists r h = record {
   ];
 }
 
+pub modified_put : (old new : ℕ) (rs : List (Option Register)) (c : ℕ) (place : Option Register) → c < length rs → bit_at new c ≡ bit_of (is_modified place)
+    → ((k : ℕ) → k < 32 → (k ≡ c → ⊥) → bit_at new k ≡ bit_at old k) → ((k : ℕ) → k < 32 → bit_at old k ≡ bit_of (is_modified (at_place rs k)))
+    → (k : ℕ) → k < 32 → bit_at new k ≡ bit_of (is_modified (at_place (set rs c place) k))
+modified_put old new rs c place exists here there h k below = elim (cases_eq k c) [
+  | inl same ↦ rw (same, get_or-set_same rs c place None exists) here
+  | inr apart ↦ there k below apart ∙ h k below ∙ sym (ap (λ p. bit_of (is_modified p)) (get_or-set_other rs c k place None apart))
+]
+
 -- no other code than its own moves a register
 pub code_alone : (code : ℕ) (r : Register) → (code ≡ r.native.select → ⊥) → (has key.User code (Some r) ≡ false) × (has key.Kernel code (Some r) ≡ false)
 code_alone code r other =
     let no : (r.native.select == code) ≡ false = ne_eqb r.native.select code (λ e. other (sym e)) in
     (and_left (r.native.select == code) _ no, and_left (r.native.select == code) _ no)
 
+pub comp_alone : (code : ℕ) (r : Register) → code < 256 → (code ≡ r.native.comp % 256 → ⊥) → has key.Comp code (Some r) ≡ false
+comp_alone code r low other = ne_eqb r.native.comp code (λ e. other (omega arith))
+
 -- the bits of the code that was, and of that which is, are set: no other can have been on, or be on
 pub AreMarked-at : (k : Key) (old mid new : List ℕ) (rs : List (Option Register)) (c was is : ℕ) (before place : Option Register)
-    → c < length rs → at_place rs c ≡ before → ((code : ℕ) → (code ≡ was → ⊥) → has k code before ≡ false) → ((code : ℕ) → (code ≡ is → ⊥) → has k code place ≡ false)
+    → c < length rs → at_place rs c ≡ before → ((code : ℕ) → code < 256 → (code ≡ was → ⊥) → has k code before ≡ false) → ((code : ℕ) → code < 256 → (code ≡ is → ⊥) → has k code place ≡ false)
     → IsMarkedAt k was c place old mid → IsMarkedAt k is c place mid new → AreMarked k old rs → AreMarked k new (set rs c place)
 AreMarked-at k old mid new rs c was is before place exists stood none_was none_is first second h = record {
   codes = second.codes ∙ first.codes ∙ h.codes;
@@ -58,18 +70,23 @@ AreMarked-at k old mid new rs c was is before place exists stood none_was none_i
       | inl same ↦ rw same first.here
       | inr neither ↦
           first.there code c small below (λ e f. neither e) ∙ h.each code c small below
-          ∙ ap bit_of (ap (has k code) stood ∙ none_was code neither ∙ sym (none_is code other))
+          ∙ ap bit_of (ap (has k code) stood ∙ none_was code small neither ∙ sym (none_is code small other))
     ]
   ]
 
 -- a register that moves keeps its codes
 pub AreSelects-moved : (before : Option Occ) (o : Occ) (selects : Selects) (ws : List ℕ) (rs : List (Option Register)) → length rs ≡ length ws → AreSelects selects rs → AreSelects selects (all_moved before o ws rs)
-AreSelects-moved before o selects ws rs e h = record { user = marked key.User selects.user h.user; kernel = marked key.Kernel selects.kernel h.kernel; umasks = marked key.Umask selects.umasks h.umasks } where
+AreSelects-moved before o selects ws rs e h = record { user = marked key.User selects.user h.user; kernel = marked key.Kernel selects.kernel h.kernel; umasks = marked key.Umask selects.umasks h.umasks; comps = marked key.Comp selects.comps h.comps; modified = λ c below. h.modified c below ∙ sym (ap bit_of (ap is_modified (at_place-all_moved before o ws rs c e) ∙ stays (get_or ws c 0) (at_place rs c))) } where
   moves : (k : Key) (code w : ℕ) (place : Option Register) → has k code (moved_place before o w place).place ≡ has k code place
   moves k code w None = refl
   moves key.User code w (Some r) = refl
   moves key.Kernel code w (Some r) = refl
   moves key.Umask code w (Some r) = refl
+  moves key.Comp code w (Some r) = refl
+
+  stays : (w : ℕ) (place : Option Register) → is_modified (moved_place before o w place).place ≡ is_modified place
+  stays w None = refl
+  stays w (Some r) = refl
 
   marked : (k : Key) (masks : List ℕ) → AreMarked k masks rs → AreMarked k masks (all_moved before o ws rs)
   marked k masks m = record {

@@ -1,9 +1,7 @@
 //! What an occurrence adds to a register: nothing in other modes than those in which its native event counts.
-ghost use Rattle.std.specs.Prelude.{◌≡◌, Some};
+ghost use Rattle.std.specs.Prelude.{◌≡◌, false};
 ghost use Rattle.std.specs.Option.{option_copied};
-ghost use Rattle.papi_base.specs.Weight.{weight_of};
-ghost use Rattle.counter_unit.specs.Modes.{counts_kernel, counts_user};
-ghost use Rattle.counter_unit.specs.Selects.{admits};
+ghost use Rattle.counter_unit.specs.Modes.{counts_kernel, counts_user, is_modified, weight_at};
 
 use crate::registers::Register;
 use papi_base::{Domain, Native, Occ, weight};
@@ -26,26 +24,34 @@ pub(crate) fn counts_kernel(n: &Native, d: Domain) -> bool
     if named { n.mods.kernel } else { d.0 & 2 != 0 }
 }
 
-/// What an occurrence adds to the register, if `before` came just before it: nothing unless it can move the register, and
-/// its amount as it is if neither an edge nor a least amount is asked for.
+/// Whether a native event does not count each amount as it is: it asks for an edge or a least amount.
 #[inline(always)]
-#[tactic(auto, using(crate::proofs::Steps::weight_of_other))]
-pub(crate) fn weight_on(register: &Register, moves: bool, before: Option<&Occ>, o: &Occ) -> u8
-    requires admitted { moves ≡ admits o.now (Some register.now) }
-    ensures { result ≡ weight_of register.now.native register.now.domain
-        (option_copied before.entry) o.now }
+pub(crate) fn is_modified(place: &Option<Register>) -> bool
+    ensures { result ≡ is_modified place.now }
 {
-    let n = &register.native;
-    if n.mods.edge || n.mods.cmask != 0 {
-        return if moves {
-            weight(n, register.domain, before, o)
-        } else {
-            0
-        };
+    match place {
+        Some(register) => register.native.mods.edge || register.native.mods.cmask != 0,
+        None => false,
     }
-    if moves & (n.comp == u32::from(o.comp)) {
-        o.amount
-    } else {
-        0
+}
+
+/// What an occurrence adds at a place, if `before` came just before it, given what it adds unless the place is modified.
+#[inline(always)]
+pub(crate) fn weight_at(
+    place: &Option<Register>,
+    modified: bool,
+    plain: u8,
+    before: Option<&Occ>,
+    o: &Occ,
+) -> u8
+    requires { modified ≡ false → plain ≡ weight_at (option_copied before) o.now place.now }
+    ensures { result ≡ weight_at (option_copied before.entry) o.now place.now }
+{
+    if !modified {
+        return plain;
+    }
+    match place {
+        Some(register) => weight(&register.native, register.domain, before, o),
+        None => 0,
     }
 }

@@ -1,16 +1,17 @@
 //! The unit: what is programmed, what an occurrence adds, and which counters carry (PAPI_overflow(3): after a carry a
 //! register is loaded again so that it carries after the threshold).
-ghost use Rattle.std.specs.Prelude.{◌≡◌, ◌+◌, ◌^◌, ◌<◌, ◌≤◌, ◌==◌, if◌then◌else◌, length, min, slice_index, slice_set, replicate, None, Some};
+ghost use Rattle.std.specs.Prelude.{◌≡◌, ◌+◌, ◌-◌, ◌^◌, ◌<◌, ◌≤◌, ◌==◌, if◌then◌else◌, length, min, slice_index, slice_set, replicate, None, Some};
 ghost use Rattle.std.specs.Option.{option_copied, option_map};
 ghost use Rattle.papi_base.specs.Widths.{AreWidths};
 ghost use Rattle.papi_base.specs.declared.limits.TheConstants.{LEAST_WIDTH, MOST_COUNTERS, MOST_WIDTH};
-ghost use Rattle.counter_unit.specs.Selects.{admits};
-ghost use Rattle.counter_unit.specs.Counting.{IsThreshold, FitsWidth, beginning, period, at_place, begun, begun_again};
-ghost use Rattle.counter_unit.specs.Counting.{moved_place, all_moved, all_carries, bits_of, count_on};
+ghost use Rattle.counter_unit.specs.Selects.{AreAdmitted, ArePlain};
+ghost use Rattle.counter_unit.specs.Modes.{added};
+ghost use Rattle.counter_unit.specs.Counting.{IsThreshold, FitsWidth, beginning, period, at_place, begun, begun_again, wrapped};
+ghost use Rattle.counter_unit.specs.Counting.{all_moved, all_carries, bits_of, count_on};
 
-use crate::modes::weight_on;
+use crate::modes::weight_at;
 use crate::registers::Register;
-use crate::selects::{Selects, has_bit, with_bit};
+use crate::selects::{Selects, has_bit, with_carry};
 use papi_base::{CompShape, Domain, MOST_COUNTERS, Native, Occ};
 use std::marker::Model;
 
@@ -20,6 +21,10 @@ pub struct Unit {
     shape: CompShape,
     /// A place for each counter, and none beyond them.
     registers: [Option<Register>; MOST_COUNTERS],
+    /// The values of each counter's register, and one more than the greatest.
+    rooms: [u64; MOST_COUNTERS],
+    /// The first counter as a bit, 0 if there is none.
+    first: u32,
     selects: Selects,
 }
 
@@ -32,7 +37,7 @@ impl Model for Unit {
 
     ghost view = { λ u. record { widths = u.shape; registers = take (length u.shape) u.registers } };
 
-    ghost invariant = { λ u. IsUnit u.shape u.registers u.selects };
+    ghost invariant = { λ u. IsUnit u.shape u.registers u.rooms u.first u.selects };
 }
 
 /// The values of a register of this width, and one more than the greatest.
@@ -68,33 +73,23 @@ fn beginning_of(width: u8, threshold: u64) -> u64
     room(width) - period_of(width, threshold)
 }
 
-/// Counts one occurrence at a place, given whether it moves it, and tells whether its register carried.
+/// Adds so much at a place whose register has so much room, and tells whether it carried.
 #[inline(always)]
-fn count_place(
-    place: &mut Option<Register>,
-    width: u8,
-    moves: bool,
-    before: Option<&Occ>,
-    o: &Occ,
-) -> bool
+fn add(place: &mut Option<Register>, width: u8, room: u64, more: u8) -> bool
     requires low { LEAST_WIDTH ≤ width }
     requires high { width ≤ MOST_WIDTH }
     requires sound { FitsWidth width place.old }
-    requires admitted { moves ≡ admits o.now place.old }
-    ensures place { place.new
-        ≡ (moved_place (option_copied before.entry) o.now width place.old).place }
-    ensures carried { result
-        ≡ (moved_place (option_copied before.entry) o.now width place.old).carried }
+    requires room { room ≡ 2 ^ width }
+    ensures place { place.new ≡ (added width more place.old).place }
+    ensures carried { result ≡ (added width more place.old).carried }
 {
     match place {
         None => false,
         Some(register) => {
-            let sum = register.value + u64::from(weight_on(register, moves, before, o));
-            let carried = room(width) <= sum;
+            let sum = register.value + u64::from(more);
+            let carried = room <= sum;
             if carried {
-                let period = period_of(width, register.threshold);
-                register.value = sum - period;
-                register.bank = register.bank.wrapping_add(period);
+                carry(register, width, sum);
             } else {
                 register.value = sum;
             }
@@ -103,13 +98,44 @@ fn count_place(
     }
 }
 
-/// The counters to look at if an occurrence can move these of n: the first one if it can move none.
+/// A register that would have this sum starts again, and its period goes to its bank.
+#[cold]
+#[inline(never)]
+fn carry(register: &mut Register, width: u8, sum: u64)
+    requires width { width ≤ MOST_WIDTH }
+    requires past { period width register.old.threshold ≤ sum }
+    ensures { register.new ≡ record register.old {
+      value = sum - period width register.old.threshold;
+      bank = wrapped (register.old.bank + period width register.old.threshold);
+    } }
+{
+    let period = period_of(width, register.threshold);
+    register.value = sum - period;
+    register.bank = register.bank.wrapping_add(period);
+}
+
+/// The first of so many counters as a bit.
+fn first_of(counters: u32) -> u32
+    ensures { result ≡ min counters 1 }
+{
+    counters.min(1)
+}
+
+/// The counters to look at if an occurrence can move these: the first one if it can move none.
 // So there is mostly one turn, whether or not the occurrence counts, which a processor cannot foresee.
 #[inline(always)]
-fn one_at_least(moved: u32, counters: u32) -> u32
-    ensures { result ≡ (if moved == 0 then min counters 1 else moved) }
+fn one_at_least(moved: u32, first: u32) -> u32
+    ensures { result ≡ (if moved == 0 then first else moved) }
 {
-    if moved == 0 { counters.min(1) } else { moved }
+    if moved == 0 { first } else { moved }
+}
+
+/// What is added to a counter that counts each amount as it is: nothing if the occurrence can move no counter.
+#[inline(always)]
+fn amount_of(moved: u32, o: &Occ) -> u8
+    ensures { result ≡ (if moved == 0 then 0 else o.now.amount) }
+{
+    if moved == 0 { 0 } else { o.amount }
 }
 
 /// The register at its beginning again, if the counter is programmed.
@@ -136,10 +162,16 @@ impl Unit {
         ensures widths { AreWidths shape.now }
         ensures few { length shape.now ≤ MOST_COUNTERS }
     {
-        let _counters = shape.counters();
+        let mut rooms = [0; MOST_COUNTERS];
+        let counters = shape.counters();
+        for c in 0..counters {
+            rooms[c as usize] = room(shape.width(c));
+        }
         Unit {
             shape: shape.copy(),
             registers: [None; MOST_COUNTERS],
+            rooms,
+            first: first_of(counters),
             selects: Selects::none(),
         }
     }
@@ -198,18 +230,60 @@ impl Unit {
             ≡ bits_of (all_carries (option_copied before.entry) o.now self.old.widths
             self.old.registers) }
     {
+        let all = self.selects.at(o);
+        let modified = all & self.selects.modified;
+        if modified == 0 {
+            return self.step_at(all, modified, before, o);
+        }
+        // A copy, so that the occurrence itself can stay in the processor's registers.
+        let copied = *o;
+        self.step_modified(all, modified, before, &copied)
+    }
+
+    /// The step if some of the counters that the occurrence can move do not count each amount as it is.
+    #[cold]
+    #[inline(never)]
+    fn step_modified(&mut self, all: u32, modified: u32, before: Option<&Occ>, o: &Occ) -> u32
+        requires admitted { AreAdmitted o.now self.old.registers all }
+        requires plain { ArePlain self.old.registers all modified }
+        ensures registers { self.new
+            ≡ record self.old {
+              registers = all_moved (option_copied before.entry) o.now
+                  self.old.widths self.old.registers;
+            } }
+        ensures carries { result
+            ≡ bits_of (all_carries (option_copied before.entry) o.now self.old.widths
+            self.old.registers) }
+    {
+        self.step_at(all, modified, before, o)
+    }
+
+    /// The step over the counters that the occurrence can move. All of them but the modified ones count its amount as it is.
+    #[inline(always)]
+    fn step_at(&mut self, all: u32, modified: u32, before: Option<&Occ>, o: &Occ) -> u32
+        requires admitted { AreAdmitted o.now self.old.registers all }
+        requires plain { ArePlain self.old.registers all modified }
+        ensures registers { self.new
+            ≡ record self.old {
+              registers = all_moved (option_copied before.entry) o.now
+                  self.old.widths self.old.registers;
+            } }
+        ensures carries { result
+            ≡ bits_of (all_carries (option_copied before.entry) o.now self.old.widths
+            self.old.registers) }
+    {
         // The contract speaks of the amount, which fits 8 bits.
         let _amount = o.amount;
-        let all = self.selects.at(o);
+        let amount = amount_of(all, o);
         let mut carry = 0;
-        let mut left = one_at_least(all, self.shape.counters());
+        let mut left = one_at_least(all, self.first);
         while left != 0 {
             let c = left.trailing_zeros();
             left &= !(1 << c);
-            let width = self.shape.width(c);
             let place = &mut self.registers[c as usize];
-            let carried = count_place(place, width, has_bit(all, c), before, o);
-            carry = with_bit(carry, c, carried);
+            let more = weight_at(place, has_bit(modified, c), amount, before, o);
+            let carried = add(place, self.shape.width(c), self.rooms[c as usize], more);
+            carry = with_carry(carry, c, carried);
         }
         carry
     }

@@ -3,7 +3,10 @@ use Rattle.thread_core.proofs.Words.{StepOutcome, List, Option, ℕ, Slot, ◌�
 use Rattle.thread_core.proofs.Words.{CoreStands, faces_of, owner_from, Occ, CountedAll, ◌≤◌, time_after, AgreesWith, counted_all, consumed, refl, slot_faces}
 use Rattle.thread_core.proofs.Words.{◌<◌, length, arith, Kept, face_of, change, [], ◌∷◌, option_map, Call, Reply, is_on_sets, true, sets_after, new_kept}
 use Rattle.thread_core.proofs.Words.{kept_after, Follows, step, subst}
-use Rattle.thread_core.specs.Running.{AreKnown}
+use Rattle.std.proofs.Common.{◌⊎◌, inl, inr, get_or, set, map}
+use Rattle.std.specs.Option.{option_map_or}
+use Rattle.std.proofs.lemmas.Bool.{ne_eqb}
+use Rattle.thread_core.specs.Running.{AreKnown, told_by}
 use Rattle.thread_core.proofs.Following.{faces_stand, Goes, step_is}
 use Rattle.thread_core.proofs.Taking.{after_taking, taken_stands, countable}
 use Rattle.thread_core.proofs.Owners.{length-units}
@@ -15,6 +18,43 @@ forgotten known slots is = record { owner = λ comp found e. absurd (none 16 com
   none zero i found e = cc
   none (suc n) zero found e = cc
   none (suc n) (suc i) found e = none n i found e
+
+-- a number of a set is kept as itself
+pub told_number : (k : ℕ) → k < 64 → told_by k ≡ Some (Some k)
+told_number k small = rw (ne_eqb k 255 (λ e. omega arith), ne_eqb k 254 (λ e. omega arith)) refl
+
+same_inside : {A : Type 0} (a b : A) → Some a ≡ Some b → a ≡ b
+same_inside {A} a b e = ap (λ (o : Option A). option_map_or (λ x. x) o a) e
+
+told_at : (known : List ℕ) (comp : ℕ) → comp < length known → slice_get (map told_by known) comp ≡ Some (told_by (get_or known comp 0))
+told_at [] comp below = absurd (omega arith)
+told_at (k ∷ known) zero below = refl
+told_at (k ∷ known) (suc comp) below = told_at known comp (omega arith)
+
+pub told_is : (v : List (Option (Option ℕ))) (slots : List (Option Slot)) (known : List ℕ) (comp : ℕ) (found : Option ℕ) → map told_by known ≡ v → comp < length known
+    → told_by (get_or known comp 0) ≡ Some found → AreKnown v slots → owner_from comp 0 (slot_faces slots) ≡ found
+told_is v slots known comp found view below is are = are.owner comp found (sym (ap (λ ks. slice_get ks comp) view) ∙ told_at known comp below ∙ ap Some is)
+
+told_put : (known : List ℕ) (comp kept i : ℕ) (x : Option (Option ℕ)) → comp < length known → slice_get (map told_by (set known comp kept)) i ≡ Some x
+    → ((i ≡ comp) × (x ≡ told_by kept)) ⊎ (slice_get (map told_by known) i ≡ Some x)
+told_put [] comp kept i x below e = absurd (omega arith)
+told_put (k ∷ known) zero kept zero x below e = inl (refl, sym (same_inside (told_by kept) x e))
+told_put (k ∷ known) zero kept (suc i) x below e = inr e
+told_put (k ∷ known) (suc comp) kept zero x below e = inr e
+told_put (k ∷ known) (suc comp) kept (suc i) x below e = elim (told_put known comp kept i x (omega arith) e) [
+  | inl here ↦ inl (ap suc here.0, here.1)
+  | inr there ↦ inr there
+]
+
+-- if a component is looked up, and what is found is kept
+pub known_put : (v : List (Option (Option ℕ))) (slots : List (Option Slot)) (known : List ℕ) (comp kept : ℕ) → map told_by known ≡ v → comp < length known
+    → told_by kept ≡ Some (owner_from comp 0 (slot_faces slots)) → AreKnown v slots → AreKnown (map told_by (set known comp kept)) slots
+known_put v slots known comp kept view below is are = record {
+  owner = λ i other e. elim (told_put known comp kept i (Some other) below e) [
+    | inl here ↦ rw here.0 (same_inside (owner_from comp 0 (slot_faces slots)) other (sym is ∙ sym here.1))
+    | inr there ↦ are.owner i other (sym (ap (λ ks. slice_get ks i) view) ∙ there)
+  ];
+}
 
 -- if the core stands for an account whose sets have the same faces
 known_with : (book : Book) (old new : CoreView) (a b : Account) (known : List (Option (Option ℕ))) → CoreStands book old a → CoreStands book new b → faces_of b.sets ≡ faces_of a.sets → AreKnown known old.slots → AreKnown known new.slots

@@ -1,4 +1,4 @@
-use Rattle.std.proofs.Common.{◌≡◌, Bool, true, false, refl, ap, ap₂, sym, ◌∙◌, arith}
+use Rattle.std.proofs.Common.{◌≡◌, Bool, true, false, refl, ap, ap₂, sym, ◌∙◌, arith, bit_and}
 use Rattle.std.specs.Prelude.{◌&&◌, if◌then◌else◌, min}
 use Rattle.std.specs.Int.{bit_at}
 use Rattle.std.proofs.lemmas.Nat.Bits.{bit_at_and}
@@ -15,11 +15,12 @@ both false true = refl
 both false false = refl
 
 pub returns : goal.returns
-returns c registers k h below =
+returns c registers h k below =
     let o = c.args.o.now in
     let place = at_place registers k in
     let coded : bit_at c.if-o.coded k ≡ bit_of (has (mode_of o) o.select place) = elim c.if-o.branch [
       | then-o w ↦ ap (λ m. bit_at m k) w.coded-is ∙ h.kernel.each o.select k (omega arith) below ∙ sym (ap (λ b. bit_of (has (if b then key.Kernel else key.User) o.select place)) w.if-o.true)
       | else-o w ↦ ap (λ m. bit_at m k) w.coded-is ∙ h.user.each o.select k (omega arith) below ∙ sym (ap (λ b. bit_of (has (if b then key.Kernel else key.User) o.select place)) w.if-o.false)
     ] in
-    bit_at_and c.if-o.coded _ k ∙ ap₂ min coded (h.umasks.each o.umask k (omega arith) below) ∙ both (has (mode_of o) o.select place) (has key.Umask o.umask place)
+    let first = bit_at_and _ c.if-o.coded k ∙ ap₂ min (h.comps.each o.comp k (omega arith) below) coded ∙ both (has key.Comp o.comp place) (has (mode_of o) o.select place) in
+    bit_at_and (bit_and _ c.if-o.coded) _ k ∙ ap₂ min first (h.umasks.each o.umask k (omega arith) below) ∙ both (has key.Comp o.comp place && has (mode_of o) o.select place) (has key.Umask o.umask place)

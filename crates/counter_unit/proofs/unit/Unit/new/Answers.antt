@@ -1,4 +1,5 @@
-use Rattle.std.proofs.Common.{length, refl, Option, None}
+use Rattle.std.specs.Prelude.{min}
+use Rattle.std.proofs.Common.{ap, arith, ◌∙◌, length, refl, Option, None}
 use Rattle.std.proofs.lemmas.List.{take-replicate, length-replicate}
 use Rattle.counter_unit.specs.declared.registers.Register.{Register}
 use Rattle.counter_unit.proofs.Places.{FitWidths-empty}
@@ -13,6 +14,8 @@ invariant_of-result c =
       are_widths = c.counters-counters.ensures.widths;
       long = length-replicate 32 none;
       sound = rw empty (FitWidths-empty c.args.shape.now);
+      are_rooms = record { long = c.loop-c.invariant.long; each = λ k lt. c.loop-c.invariant.each k (omega arith) };
+      is_first = c.first_of.ensures ∙ ap (λ n. min n 1) c.counters-counters.ensures.length;
       selects = rw empty (c.none.ensures (length c.args.shape.now));
     }
 
