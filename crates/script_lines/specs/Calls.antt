@@ -1,4 +1,4 @@
--- The calls of a script by their words, in the order of the table of calls: this project's own format, docs/FORMATS.md.
+-- The calls of a script, their names and words, in the order of the table of calls: this project's own format, docs/FORMATS.md.
 use Rattle.std.specs.Prelude.{◌≡◌, ℕ, List, [], ◌∷◌, Option, Some, None, Result, Err, if◌then◌else◌}
 use Rattle.std.specs.Str.{bytes_eq}
 use Rattle.papi_base.specs.CallNames.{word_of}
@@ -11,6 +11,33 @@ use Rattle.script_lines.specs.declared.fault.ScriptCause.{ScriptCause}
 use Rattle.script_lines.specs.declared.fault.ScriptCause.TheVariants.{UnknownCall}
 use Rattle.script_lines.specs.Answers.{made_of}
 use Rattle.script_lines.specs.Arguments.{nothing, one_code, one_event, one_number, set_and_event, set_event_and_threshold, two_numbers}
+
+-- the name of a call
+abbrev pub name_of : ScriptCall → CallName
+name_of call.Register = name.Register
+name_of call.Unregister = name.Unregister
+name_of call.Threads = name.Threads
+name_of call.Create = name.Create
+name_of (call.Destroy set) = name.Destroy
+name_of (call.Cleanup set) = name.Cleanup
+name_of (call.Add set event) = name.Add
+name_of (call.Remove set event) = name.Remove
+name_of (call.Component set component) = name.Component
+name_of (call.Domain set bits) = name.Domain
+name_of (call.Multiplex set slice) = name.Multiplex
+name_of (call.Overflow set event threshold) = name.Overflow
+name_of (call.Start set) = name.Start
+name_of (call.Stop set) = name.Stop
+name_of (call.Read set) = name.Read
+name_of (call.Accum set) = name.Accum
+name_of (call.Reset set) = name.Reset
+name_of (call.State set) = name.State
+name_of (call.Events set) = name.Events
+name_of (call.Assign set) = name.Assign
+name_of (call.Raw set counter) = name.Raw
+name_of (call.Run count) = name.Run
+name_of (call.Code event) = name.Code
+name_of (call.Name code) = name.Name
 
 -- what arguments a call has, and the call that they make
 pub data Form : Type 0 where

@@ -5,7 +5,6 @@ pub mod Calls
 pub mod Causes
 pub mod Kept
 pub mod Lines
-pub mod Names
 pub mod Scripts
 pub mod Words
 pub use Rattle.table_rows.specs.Texts

@@ -1,7 +1,7 @@
 //! The calls of a script.
 
 ghost use Rattle.std.specs.Prelude.{◌≡◌};
-ghost use Rattle.script_lines.specs.Names.{name_of};
+ghost use Rattle.script_lines.specs.Calls.{name_of};
 
 use papi_base::{CallName, Text};
 

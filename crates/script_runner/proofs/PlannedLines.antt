@@ -16,7 +16,7 @@ use Rattle.plan_runner.specs.declared.result.ReplyLine.{ReplyLine}
 use Rattle.plan_runner.specs.Plans.{Ask, IsGoodFor, IsPlanOf, ask_of, asks_from, planned_by}
 use Rattle.plan_runner.specs.Runs.{reply_lines}
 use Rattle.postfix_rules.specs.Sameness.{among, joined_by}
-use Rattle.script_lines.specs.Names.{name_of}
+use Rattle.script_lines.specs.Calls.{name_of}
 use Rattle.script_lines.specs.declared.script.ScriptLine.{ScriptLine}
 use Rattle.script_runner.specs.Resolving.{AreFirstOf, IsGoodAsk, asked_of, line_of, lines_of, mentioned_in, reply_lines_of, setting_of}
 use Rattle.session_model.specs.declared.call.Call.{Call}

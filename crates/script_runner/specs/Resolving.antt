@@ -10,7 +10,7 @@ use Rattle.papi_base.specs.declared.native.EventRef.TheVariants as event
 use Rattle.papi_base.specs.declared.native.Native.{Native}
 use Rattle.plan_runner.specs.declared.result.ReplyLine.{ReplyLine}
 use Rattle.postfix_rules.specs.Sameness.{joined_by}
-use Rattle.script_lines.specs.Names.{name_of}
+use Rattle.script_lines.specs.Calls.{name_of}
 use Rattle.script_lines.specs.declared.call.ScriptCall.{ScriptCall}
 use Rattle.script_lines.specs.declared.call.ScriptCall.TheVariants as script
 use Rattle.script_lines.specs.declared.script.ScriptLine.{ScriptLine}
