@@ -4,7 +4,7 @@ use Rattle.std.proofs.lemmas.List.{length-drop, take_all}
 use Rattle.std.proofs.lemmas.Str.{IsUtf8-from_ascii}
 use Rattle.std.specs.Fmt.{signed_decimal}
 use Rattle.reply_text.specs.Replies.{spaced}
-use Rattle.reply_text.specs.declared.values.TheConstants.{LONGEST_VALUE}
+use Rattle.reply_text.specs.declared.values.TheConstants.{LONGEST_LIST, LONGEST_VALUE}
 use Rattle.reply_text.proofs.Texts.{all_before, none_before, one_before}
 use Rattle.reply_text.proofs.values.push_values.Goals as goal
 
@@ -31,14 +31,14 @@ pub unreachable-requires : goal.unreachable-requires
 unreachable-requires c =
     let old = c.loop-written.invariant in
     let tail = drop c.loop-written.at c.loop-written.bytes in
-    let whole : take (672 - c.loop-written.at) tail ≡ tail = take_all (672 - c.loop-written.at) tail (omega (arith, length-drop c.loop-written.at c.loop-written.bytes, old.room)) in
+    let whole : take (LONGEST_LIST - c.loop-written.at) tail ≡ tail = take_all (LONGEST_LIST - c.loop-written.at) tail (omega (arith, length-drop c.loop-written.at c.loop-written.bytes, old.room)) in
     c.in-Err.ensures.cases.0 (rw whole (IsUtf8-from_ascii tail old.ascii))
 
 pub returns : goal.returns
 returns c =
     let old = c.loop-written.invariant in
     let tail = drop c.loop-written.at c.loop-written.bytes in
-    let whole : take (672 - c.loop-written.at) tail ≡ tail = take_all (672 - c.loop-written.at) tail (omega (arith, length-drop c.loop-written.at c.loop-written.bytes, old.room)) in
+    let whole : take (LONGEST_LIST - c.loop-written.at) tail ≡ tail = take_all (LONGEST_LIST - c.loop-written.at) tail (omega (arith, length-drop c.loop-written.at c.loop-written.bytes, old.room)) in
     let all = all_before signed_decimal c.args.values.now c.loop-written.written tail (omega (arith, c.len-written-end.ensures.length, c.loop-written-test.false)) old.gathered in
     let text : c.in-Ok.gathered.now ≡ spaced (map signed_decimal c.args.values.now) = c.in-Ok.ensures.cases.0 ∙ whole ∙ all in
     rw (← text) c.push_text.ensures

@@ -2,13 +2,14 @@ use Rattle.std.proofs.Common.{◌≡◌, ◌+◌, ◌-◌, ◌*◌, ◌≤◌, l
 use Rattle.std.specs.Fmt.{signed_decimal}
 use Rattle.std.specs.Str.{IsAscii}
 use Rattle.reply_text.specs.Replies.{spaced}
+use Rattle.reply_text.specs.declared.values.TheConstants.{LONGEST_LIST, LONGEST_VALUE}
 use Rattle.reply_text.proofs.values.push_values.Given as goal
 
 abbrev pub invariant-loop-written : goal.invariant-loop-written
 invariant-loop-written l = record {
-  room : length l.bytes ≡ 672;
-  low : 672 ≤ l.at + 21 * l.written;
-  high : l.at ≤ 672;
+  room : length l.bytes ≡ LONGEST_LIST;
+  low : LONGEST_LIST ≤ l.at + LONGEST_VALUE * l.written;
+  high : l.at ≤ LONGEST_LIST;
   ascii : IsAscii (drop l.at l.bytes);
   gathered : drop l.at l.bytes ≡ spaced (map signed_decimal (drop (length l.values - l.written) l.values));
 }
