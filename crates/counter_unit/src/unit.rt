@@ -23,8 +23,6 @@ pub struct Unit {
     registers: [Option<Register>; MOST_COUNTERS],
     /// The values of each counter's register, and one more than the greatest.
     rooms: [u64; MOST_COUNTERS],
-    /// The first counter as a bit, 0 if there is none.
-    first: u32,
     selects: Selects,
 }
 
@@ -37,7 +35,7 @@ impl Model for Unit {
 
     ghost view = { λ u. record { widths = u.shape; registers = take (length u.shape) u.registers } };
 
-    ghost invariant = { λ u. IsUnit u.shape u.registers u.rooms u.first u.selects };
+    ghost invariant = { λ u. IsUnit u.shape u.registers u.rooms u.selects };
 }
 
 /// The values of a register of this width, and one more than the greatest.
@@ -114,20 +112,13 @@ fn carry(register: &mut Register, width: u8, sum: u64)
     register.bank = register.bank.wrapping_add(period);
 }
 
-/// The first of so many counters as a bit.
-fn first_of(counters: u32) -> u32
-    ensures { result ≡ min counters 1 }
-{
-    counters.min(1)
-}
-
-/// The counters to look at if an occurrence can move these: the first one if it can move none.
+/// The counters to look at if an occurrence can move these of n: the first one if it can move none.
 // So there is mostly one turn, whether or not the occurrence counts, which a processor cannot foresee.
 #[inline(always)]
-fn one_at_least(moved: u32, first: u32) -> u32
-    ensures { result ≡ (if moved == 0 then first else moved) }
+fn one_at_least(moved: u32, counters: u32) -> u32
+    ensures { result ≡ (if moved == 0 then min counters 1 else moved) }
 {
-    if moved == 0 { first } else { moved }
+    if moved == 0 { counters.min(1) } else { moved }
 }
 
 /// What is added to a counter that counts each amount as it is: nothing if the occurrence can move no counter.
@@ -171,7 +162,6 @@ impl Unit {
             shape: shape.copy(),
             registers: [None; MOST_COUNTERS],
             rooms,
-            first: first_of(counters),
             selects: Selects::none(),
         }
     }
@@ -276,7 +266,7 @@ impl Unit {
         let _amount = o.amount;
         let amount = amount_of(all, o);
         let mut carry = 0;
-        let mut left = one_at_least(all, self.first);
+        let mut left = one_at_least(all, self.shape.counters());
         while left != 0 {
             let c = left.trailing_zeros();
             left &= !(1 << c);

@@ -1,5 +1,4 @@
-use Rattle.std.specs.Prelude.{min}
-use Rattle.std.proofs.Common.{ap, arith, ◌∙◌, length, refl, Option, None}
+use Rattle.std.proofs.Common.{arith, length, refl, Option, None}
 use Rattle.std.proofs.lemmas.List.{take-replicate, length-replicate}
 use Rattle.counter_unit.specs.declared.registers.Register.{Register}
 use Rattle.counter_unit.proofs.Places.{FitWidths-empty}
@@ -15,7 +14,6 @@ invariant_of-result c =
       long = length-replicate 32 none;
       sound = rw empty (FitWidths-empty c.args.shape.now);
       are_rooms = record { long = c.loop-c.invariant.long; each = λ k lt. c.loop-c.invariant.each k (omega arith) };
-      is_first = c.first_of.ensures ∙ ap (λ n. min n 1) c.counters-counters.ensures.length;
       selects = rw empty (c.none.ensures (length c.args.shape.now));
     }
 

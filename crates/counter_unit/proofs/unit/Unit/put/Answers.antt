@@ -23,7 +23,6 @@ invariant_of-self c =
       long = length-set c.self.inside.registers c.args.c c.args.place ∙ c.self.invariant.long;
       sound = rw put (FitWidths-put ws rs c.args.c c.args.place exists (rw shape c.requires.sound) c.self.invariant.sound);
       are_rooms = c.self.invariant.are_rooms;
-      is_first = c.self.invariant.is_first;
       selects = rw put (c.put.ensures rs (omega arith) stood c.self.invariant.selects);
     }
 

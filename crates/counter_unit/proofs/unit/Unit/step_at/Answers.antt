@@ -17,11 +17,10 @@ loop-left-init c =
     record {
       shape = refl;
       rooms = refl;
-      first = refl;
       selects = refl;
       fits = omega arith;
       long = c.self.invariant.long;
-      stepping = rw (c.one_at_least-left.ensures, c.self.invariant.is_first, c.amount_of-amount.ensures)
+      stepping = rw (c.one_at_least-left.ensures, c.counters.ensures.length, c.amount_of-amount.ensures)
           (begins (option_copied c.args.before) c.args.o.now c.self.inside.shape rs c.args.all c.args.modified c.self.invariant.few (omega arith) c.self.invariant.sound
           (rw registers c.requires.admitted) (rw registers c.requires.plain));
     }
@@ -74,7 +73,6 @@ loop-left-preserved c =
     record {
       shape = c.loop-left.invariant.shape;
       rooms = c.loop-left.invariant.rooms;
-      first = c.loop-left.invariant.first;
       selects = c.loop-left.invariant.selects;
       fits = omega arith;
       long = length-set now k _ ∙ c.loop-left.invariant.long;
@@ -89,13 +87,12 @@ invariant_of-self c =
     let ws = c.self.inside.shape in
     let rs = take (length ws) c.self.inside.registers in
     let done = all_done before c.args.o.now ws rs (take (length ws) c.loop-left.self-inside.registers) c.args.modified c.amount_of-amount.result c.loop-left.left c.loop-left.carry c.self.invariant.sound.same_length (omega arith) c.loop-left.invariant.stepping in
-    rw (c.loop-left.invariant.shape, c.loop-left.invariant.rooms, c.loop-left.invariant.first, c.loop-left.invariant.selects) record {
+    rw (c.loop-left.invariant.shape, c.loop-left.invariant.rooms, c.loop-left.invariant.selects) record {
       few = c.self.invariant.few;
       are_widths = c.self.invariant.are_widths;
       long = c.loop-left.invariant.long;
       sound = rw done (FitWidths-moved before c.args.o.now ws rs c.self.invariant.are_widths (omega arith) c.self.invariant.sound);
       are_rooms = c.self.invariant.are_rooms;
-      is_first = c.self.invariant.is_first;
       selects = rw done (AreSelects-moved before c.args.o.now c.self.inside.selects ws rs c.self.invariant.sound.same_length c.self.invariant.selects);
     }
 
