@@ -1,11 +1,12 @@
 -- Unit files that are written out, each with its tables or its first fault.
-use Rattle.std.proofs.Common.{◌≡◌, [], ◌∷◌, Some, None, true, false, refl, codes}
+use Rattle.std.proofs.Common.{◌≡◌, ℕ, List, [], ◌∷◌, Option, Some, None, true, false, refl, codes, map}
 use Rattle.csv.proofs.OnLiterals.{csv_on_literals}
 use Rattle.table_rows.specs.Rows.{rows_of}
-use Rattle.table_rows.specs.Texts.{decimal_in, hex_in, is_decimal, is_name, is_numeral, text_at, trimmed, without_front}
+use Rattle.table_rows.specs.Texts.{Text, decimal_in, hex_in, is_decimal, is_name, is_numeral, text_at, trimmed, without_front}
 use Rattle.event_tables.specs.Lines.{flags_of, line_of, words_of}
 use Rattle.table_rows.specs.Tables.{first_fault}
 use Rattle.event_tables.specs.Unit.{cause_in, components_in, counters_in, events_in, masks_in, unit_fault, unit_tables}
+use Rattle.event_tables.specs.declared.fault.RowCause.{RowCause}
 use Rattle.event_tables.specs.declared.fault.RowCause.TheVariants as cause
 
 unfoldable on_units : Unit {0}
@@ -35,50 +36,23 @@ lab : unit_tables (codes "COMPONENT,cpu,lab\nCOUNTER, P0 ,16,P\n# c\nCOUNTER,F0,
 unfolding on_units
 lab = refl
 
-width : unit_fault (codes "COMPONENT,cpu,lab\nCOUNTER,P0,8,P\n") ≡ Some (2, cause.BadWidth)
-unfolding on_units
-width = refl
+-- units with their first fault
+abbrev Row : Type 0
+Row = Text × Option (ℕ × RowCause)
 
--- a skipped row is numbered, a comment and a blank line are not
-third : unit_fault (codes "COMPONENT,cpu,lab\n\n# x\n # y\nCOUNTER,P0,08,P\n") ≡ Some (3, cause.BadRow)
-unfolding on_units
-third = refl
-
-orphan : unit_fault (codes "COUNTER,P0,8,P\n") ≡ Some (1, cause.BadRow)
-unfolding on_units
-orphan = refl
-
--- a umask belongs to an event of the last component
-orphan_mask : unit_fault (codes "COMPONENT,a,b\nCOUNTER,P,16,P\nEVENT,E,1,P,\nCOMPONENT,c,d\nUMASK,M,1,-,\n") ≡ Some (5, cause.BadRow)
-unfolding on_units
-orphan_mask = refl
-
--- a repeated counter takes precedence over its width
-again : unit_fault (codes "COMPONENT,cpu,lab\nCOUNTER,P0,16,P\nCOUNTER,P0,8,P\n") ≡ Some (3, cause.RepeatedName)
-unfolding on_units
-again = refl
-
+-- a skipped row is numbered, a comment and a blank line are not; a umask belongs to an event of the last component; a repeated counter takes precedence over its width;
 -- component names are compared without regard to case, counter names are not
-case : unit_fault (codes "COMPONENT,cpu,lab\nCOUNTER,P0,16,P\nCOUNTER,p0,16,P\nCOMPONENT,CPU,x\n") ≡ Some (4, cause.RepeatedName)
+faults : (let rows : List Row = (codes "COMPONENT,cpu,lab\nCOUNTER,P0,8,P\n", Some (2, cause.BadWidth))
+    ∷ (codes "COMPONENT,cpu,lab\n\n# x\n # y\nCOUNTER,P0,08,P\n", Some (3, cause.BadRow))
+    ∷ (codes "COUNTER,P0,8,P\n", Some (1, cause.BadRow))
+    ∷ (codes "COMPONENT,a,b\nCOUNTER,P,16,P\nEVENT,E,1,P,\nCOMPONENT,c,d\nUMASK,M,1,-,\n", Some (5, cause.BadRow))
+    ∷ (codes "COMPONENT,cpu,lab\nCOUNTER,P0,16,P\nCOUNTER,P0,8,P\n", Some (3, cause.RepeatedName))
+    ∷ (codes "COMPONENT,cpu,lab\nCOUNTER,P0,16,P\nCOUNTER,p0,16,P\nCOMPONENT,CPU,x\n", Some (4, cause.RepeatedName))
+    ∷ (codes "COMPONENT,cpu,lab\nCOUNTER,P0,16,P\nEVENT,E,1,p0,\n", Some (3, cause.UnknownCounter))
+    ∷ (codes "COMPONENT,cpu,lab\nCOUNTER,P0,16,P\nEVENT,E,1,P0\tP0,\n", Some (3, cause.BadRow))
+    ∷ (codes "COMPONENT,cpu,lab\nCOUNTER,P0,16,P\nEVENT,E,1,P0,\nUMASK,U,1,-,\n", Some (4, cause.RepeatedName))
+    ∷ (codes "COMPONENT,cpu,lab\nCOUNTER,P0,16,P\nEVENT,E,1,P0,\nUMASK,A,1,d,\nUMASK,A,1,nd,\n", Some (5, cause.BadRow))
+    ∷ ([], None)
+    ∷ [] in map (λ (r : Row). unit_fault r.0) rows ≡ map (λ (r : Row). r.1) rows)
 unfolding on_units
-case = refl
-
-unknown : unit_fault (codes "COMPONENT,cpu,lab\nCOUNTER,P0,16,P\nEVENT,E,1,p0,\n") ≡ Some (3, cause.UnknownCounter)
-unfolding on_units
-unknown = refl
-
-tab : unit_fault (codes "COMPONENT,cpu,lab\nCOUNTER,P0,16,P\nEVENT,E,1,P0\tP0,\n") ≡ Some (3, cause.BadRow)
-unfolding on_units
-tab = refl
-
-modifier : unit_fault (codes "COMPONENT,cpu,lab\nCOUNTER,P0,16,P\nEVENT,E,1,P0,\nUMASK,U,1,-,\n") ≡ Some (4, cause.RepeatedName)
-unfolding on_units
-modifier = refl
-
-second_default : unit_fault (codes "COMPONENT,cpu,lab\nCOUNTER,P0,16,P\nEVENT,E,1,P0,\nUMASK,A,1,d,\nUMASK,A,1,nd,\n") ≡ Some (5, cause.BadRow)
-unfolding on_units
-second_default = refl
-
-nothing : unit_fault [] ≡ None
-unfolding on_units
-nothing = refl
+faults = refl

@@ -13,4 +13,3 @@ pub mod Chosen
 pub mod Back
 pub mod Bounds
 pub mod Encoded
-mod Chance

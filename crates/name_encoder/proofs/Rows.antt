@@ -1,5 +1,5 @@
 -- The worked names over the lab unit.
-use Rattle.std.proofs.Common.{◌≡◌, ℕ, List, [], ◌∷◌, Ok, Err, Result, Bool, true, false, refl, codes}
+use Rattle.std.proofs.Common.{◌≡◌, ℕ, List, [], ◌∷◌, Ok, Err, Result, Bool, true, false, refl, codes, map}
 use Rattle.event_tables.specs.Tables.{ComponentText, CounterText, EventText, MaskText}
 use Rattle.table_rows.specs.Texts.{Text, decimal_in, hex_in, is_decimal, is_numeral}
 use Rattle.name_encoder.specs.Flags.{bits_of}
@@ -49,100 +49,81 @@ encoded text = go (names lab text)
     go (Ok n) = Ok (canonical lab n, code64 n)
     go (Err f) = Err f
 
-plain : encoded (codes "lab::INST_RETIRED") ≡ Ok (codes "lab::INST_RETIRED", 0x5300c0)
-unfolding on_names
-plain = refl
+-- names with their canonical names and codes, and names that are refused alike
+abbrev encodes : List (Text × (Text × ℕ)) → Type 0
+encodes rows = map (λ (r : Text × (Text × ℕ)). encoded r.0) rows ≡ map (λ (r : Text × (Text × ℕ)). Ok r.1) rows
 
-user : encoded (codes "lab::INST_RETIRED:u") ≡ Ok (codes "lab::INST_RETIRED:u", 0x5100c0)
-unfolding on_names
-user = refl
+abbrev refuses : NameFault → List Text → Type 0
+refuses fault texts = map encoded texts ≡ map (λ text. Err fault) texts
 
-mods : encoded (codes "lab::INST_RETIRED:c=2:i") ≡ Ok (codes "lab::INST_RETIRED:i:c=2", 0x2d300c0)
+given : encodes ((codes "lab::INST_RETIRED", (codes "lab::INST_RETIRED", 0x5300c0))
+    ∷ (codes "lab::INST_RETIRED:u", (codes "lab::INST_RETIRED:u", 0x5100c0))
+    ∷ (codes "lab::INST_RETIRED:c=2:i", (codes "lab::INST_RETIRED:i:c=2", 0x2d300c0))
+    ∷ (codes "inst_retired", (codes "lab::INST_RETIRED", 0x5300c0))
+    ∷ (codes "cpu:::BR_INST", (codes "lab::BR_INST:ALL", 0x5301c4))
+    ∷ (codes "MEM:STORES:LOADS", (codes "lab::MEM:LOADS:STORES", 0x5303d0))
+    ∷ (codes "CPU:::Lab::cycles:E=y:C=0x0F", (codes "lab::CYCLES:e:c=15", 0xf57003c))
+    ∷ (codes "lab::REF:c=0:i=n:u=F", (codes "lab::REF", 0x530000))
+    ∷ [])
 unfolding on_names
-mods = refl
+given = refl
 
-small : encoded (codes "inst_retired") ≡ Ok (codes "lab::INST_RETIRED", 0x5300c0)
+refused_umask : refuses name_fault.Umask (codes "MEM" ∷ [])
 unfolding on_names
-small = refl
+refused_umask = refl
 
-default : encoded (codes "cpu:::BR_INST") ≡ Ok (codes "lab::BR_INST:ALL", 0x5301c4)
+refused_attr_val : refuses name_fault.AttrVal (codes "INST_RETIRED:c=256" ∷ codes "BR_INST:ALL=" ∷ codes "BR_INST:all=1" ∷ codes "REF:c=01" ∷ codes "REF:c=0X1" ∷ [])
 unfolding on_names
-default = refl
+refused_attr_val = refl
 
-two : encoded (codes "MEM:STORES:LOADS") ≡ Ok (codes "lab::MEM:LOADS:STORES", 0x5303d0)
+refused_attr_set : refuses name_fault.AttrSet (codes "INST_RETIRED:u:u" ∷ codes "INST_RETIRED:u=0:u" ∷ [])
 unfolding on_names
-two = refl
+refused_attr_set = refl
 
-none : encoded (codes "MEM") ≡ Err name_fault.Umask
+refused_feat_comb : refuses name_fault.FeatComb (codes "BR_INST:ALL:TAKEN" ∷ [])
 unfolding on_names
-none = refl
+refused_feat_comb = refl
 
-large : encoded (codes "INST_RETIRED:c=256") ≡ Err name_fault.AttrVal
+refused_attr : refuses name_fault.Attr (codes "INST_RETIRED:x" ∷ codes "INST_RETIRED:" ∷ codes "INST_RETIRED:=1" ∷ [])
 unfolding on_names
-large = refl
+refused_attr = refl
 
-again : encoded (codes "INST_RETIRED:u:u") ≡ Err name_fault.AttrSet
+refused_not_found : refuses name_fault.NotFound (codes "NOPE" ∷ codes "cpu::::CYCLES" ∷ codes "lab::PACKETS" ∷ codes "" ∷ [])
 unfolding on_names
-again = refl
+refused_not_found = refl
 
-alone : encoded (codes "BR_INST:ALL:TAKEN") ≡ Err name_fault.FeatComb
+-- ---- names by chance, as a separate program answers them
+
+chance_given : encodes ((codes "wire::PACKETS", (codes "wire::PACKETS", 5439504))
+    ∷ (codes "cycles:i=y:c=0", (codes "lab::CYCLES:i", 13828156))
+    ∷ (codes "BR_INST:i:u=0", (codes "lab::BR_INST:ALL:i", 13828548))
+    ∷ (codes "REF:u=0:c=0", (codes "lab::REF", 5439488))
+    ∷ [])
 unfolding on_names
-alone = refl
+chance_given = refl
 
-unknown : encoded (codes "INST_RETIRED:x") ≡ Err name_fault.Attr
+chance_not_found : refuses name_fault.NotFound (codes "net:::BR_INST:x:k" ∷ codes "net:::INST_RETIRED:c=0xFf:k" ∷ codes "NOPE:e:c=0x" ∷ codes "::cycles:x" ∷
+    codes "cpu:::wire::INST_RETIRED:STORES:u=N" ∷ codes ":::BR_INST:i=y" ∷ codes "::REF:i=f:" ∷ codes ":::cycles:k:LOADS=1" ∷
+    codes "wire:::loads:i=y:K=t" ∷ codes "net::::e=2:u=0" ∷ codes "wire::cycles:C=255:TAKEN" ∷ codes "x::PACKETS:e=2:C=255:LOADS=1" ∷
+    codes "net:::BR_INST:i=y:k" ∷ codes "cpu:::wire::cycles:STORES:c=1=2" ∷ codes "::" ∷ codes ":::=" ∷ codes "CPU:::LAB::PACKETS" ∷
+    codes "x::PACKETS:LOADS=1" ∷ codes "wire::REF:u=" ∷ codes "wire::NOPE:ALL:e" ∷ codes "lab:::loads:c=007" ∷ codes "lab::NOPE:c=007:=" ∷
+    codes "CPU:::LAB::PACKETS:u=N:c=0x:c=2" ∷ codes "cpu:::wire::MEM" ∷ codes "x::BR_INST:C=255" ∷ codes "::PACKETS:=" ∷
+    codes ":::INST_RETIRED:K=t:" ∷ codes ":::NOPE:u=N:u=N" ∷ codes ":u=N:k:c=0xFf" ∷ codes "net:::INST_RETIRED" ∷ codes "::INST_RETIRED" ∷
+    codes "wire::NOPE:x" ∷ codes "cpu:::PACKETS:u=0:ALL" ∷ codes "x::REF" ∷ codes "x::BR_INST:u:c=0xFf" ∷ codes ":::PACKETS:=" ∷
+    codes ":::INST_RETIRED:C=255:x" ∷ codes "net:::MEM:loads:K=t" ∷ codes ":::PACKETS:c=0x:LOADS=1:c=1=2" ∷ codes "wire::MEM:u=:c=1=2" ∷
+    codes "wire::MEM:ALL:u=0" ∷ [])
 unfolding on_names
-unknown = refl
+chance_not_found = refl
 
-nope : encoded (codes "NOPE") ≡ Err name_fault.NotFound
+chance_umask : refuses name_fault.Umask (codes "mem" ∷ codes "mem:k:i=f" ∷ codes "lab::mem" ∷ codes "MEM:c=0:i" ∷ [])
 unfolding on_names
-nope = refl
+chance_umask = refl
 
--- ---- the edges
-
-empty : names lab (codes "") ≡ Err name_fault.NotFound
+chance_attr : refuses name_fault.Attr (codes "lab::cycles:STORES:x" ∷ codes "cpu:::MEM:=" ∷ codes "net:::PACKETS:u=0:LOADS=1:ALL" ∷ codes "REF:=:" ∷
+    codes "INST_RETIRED:=:C=255:x" ∷ codes "BR_INST:loads:u=0" ∷ [])
 unfolding on_names
-empty = refl
+chance_attr = refl
 
-empty-part : encoded (codes "INST_RETIRED:") ≡ Err name_fault.Attr
+chance_attr_val : refuses name_fault.AttrVal (codes "BR_INST:c=0x" ∷ codes "cycles:e=2:ALL" ∷ codes "lab::cycles:c:u=:c=007" ∷ [])
 unfolding on_names
-empty-part = refl
-
-no-name : encoded (codes "INST_RETIRED:=1") ≡ Err name_fault.Attr
-unfolding on_names
-no-name = refl
-
-set-value : encoded (codes "INST_RETIRED:u=0:u") ≡ Err name_fault.AttrSet
-unfolding on_names
-set-value = refl
-
-umask-value : encoded (codes "BR_INST:ALL=") ≡ Err name_fault.AttrVal
-unfolding on_names
-umask-value = refl
-
-umask-one : encoded (codes "BR_INST:all=1") ≡ Err name_fault.AttrVal
-unfolding on_names
-umask-one = refl
-
-four-colons : encoded (codes "cpu::::CYCLES") ≡ Err name_fault.NotFound
-unfolding on_names
-four-colons = refl
-
-both : encoded (codes "CPU:::Lab::cycles:E=y:C=0x0F") ≡ Ok (codes "lab::CYCLES:e:c=15", 0xf57003c)
-unfolding on_names
-both = refl
-
-zero-value : encoded (codes "lab::REF:c=0:i=n:u=F") ≡ Ok (codes "lab::REF", 0x530000)
-unfolding on_names
-zero-value = refl
-
-leading : encoded (codes "REF:c=01") ≡ Err name_fault.AttrVal
-unfolding on_names
-leading = refl
-
-capital : encoded (codes "REF:c=0X1") ≡ Err name_fault.AttrVal
-unfolding on_names
-capital = refl
-
-other : encoded (codes "lab::PACKETS") ≡ Err name_fault.NotFound
-unfolding on_names
-other = refl
+chance_attr_val = refl

@@ -1,5 +1,5 @@
 -- What written out words ask for.
-use Rattle.std.proofs.Common.{◌≡◌, ℕ, zero, suc, Bool, true, false, List, [], ◌∷◌, Option, Some, None, refl, codes}
+use Rattle.std.proofs.Common.{◌≡◌, ℕ, zero, suc, Bool, true, false, List, [], ◌∷◌, Option, Some, None, refl, codes, map}
 use Rattle.clap.specs.Words.{Text}
 use Rattle.clap.proofs.OnLiterals.{clap_on_literals}
 use Rattle.tool_words.specs.declared.command.Command.{Command}
@@ -30,40 +30,12 @@ unfoldable on_words : Unit {0}
 unfolding clap_on_literals read_by unit_rule presets_rule cpu_rule is_cpu script_words_in run_words_in run_rules workers_rule script_rule streams_rule encode_words_in encode_rules decode_words_in decode_rules needed_presets_rule needed_cpu_rule available_rule avail_words_in avail_rules event_rule native_avail_words_in native_avail_rules chooser_words_in chooser_rules soak_words_in soak_rules profil_words_in profil_rules number_rule list_rule regions_words_in regions_rules parts_of
 on_words = tt
 
+-- what each list of words asks for; none if it is refused
+abbrev answers : List (List Text × Option Command) → Type 0
+answers rows = map (λ (r : List Text × Option Command). form r.0) rows ≡ map (λ (r : List Text × Option Command). r.1) rows
+
 abbrev lab_run : Text → List Text → Command
 lab_run unit streams = Run (record { unit = unit; presets = None; workers = 1; notes = false; script = codes "s"; streams = streams })
-
-pub no_stream : form (codes "papi_run" ∷ codes "-U" ∷ codes "lab.unit" ∷ codes "s" ∷ []) ≡ Some (lab_run (codes "lab.unit") [])
-unfolding on_words
-no_stream = refl
-
-pub stream_apart : form (codes "papi_run" ∷ codes "s" ∷ codes "-Ulab.unit" ∷ codes "t0" ∷ []) ≡ Some (lab_run (codes "lab.unit") (codes "t0" ∷ []))
-unfolding on_words
-stream_apart = refl
-
-pub after_dashes : form (codes "papi_run" ∷ codes "-U=-x" ∷ codes "s" ∷ codes "--" ∷ codes "--notes" ∷ []) ≡ Some (lab_run (codes "-x") (codes "--notes" ∷ []))
-unfolding on_words
-after_dashes = refl
-
-pub streams_in_order : form (codes "papi_run" ∷ codes "s" ∷ codes "t0" ∷ codes "-U" ∷ codes "lab.unit" ∷ codes "t1" ∷ codes "t0" ∷ []) ≡ Some (lab_run (codes "lab.unit") (codes "t0" ∷ codes "t1" ∷ codes "t0" ∷ []))
-unfolding on_words
-streams_in_order = refl
-
-pub alone : form (codes "papi_run" ∷ []) ≡ None
-unfolding on_words
-alone = refl
-
-pub unit_twice : form (codes "papi_run" ∷ codes "-U" ∷ codes "lab.unit" ∷ codes "-U" ∷ codes "lab.unit" ∷ codes "s" ∷ []) ≡ None
-unfolding on_words
-unit_twice = refl
-
-pub unknown_option : form (codes "papi_run" ∷ codes "-U" ∷ codes "lab.unit" ∷ codes "-a" ∷ codes "s" ∷ []) ≡ None
-unfolding on_words
-unknown_option = refl
-
-pub help : form (codes "papi_run" ∷ codes "--help" ∷ []) ≡ None
-unfolding on_words
-help = refl
 
 abbrev lab_presets : Text → Option PresetWords
 lab_presets cpu = Some (record { file = codes "p"; cpu = cpu })
@@ -79,72 +51,8 @@ run_words more = codes "papi_run" ∷ codes "-U" ∷ codes "lab.unit" ∷ run_wi
 abbrev asked_run : Option PresetWords → Bool → Option Command
 asked_run presets notes = Some (Run (record { unit = codes "lab.unit"; presets = presets; workers = 1; notes = notes; script = codes "s"; streams = [] }))
 
-pub presets_and_notes : form (run_words (codes "-Pp" ∷ codes "--notes" ∷ codes "-C" ∷ codes "lab 2" ∷ [])) ≡ asked_run (lab_presets (codes "lab 2")) true
-unfolding on_words
-presets_and_notes = refl
-
-pub neither : form (run_words []) ≡ asked_run None false
-unfolding on_words
-neither = refl
-
-pub cpu_alone : form (run_words (codes "-C" ∷ codes "lab2" ∷ [])) ≡ None
-unfolding on_words
-cpu_alone = refl
-
-pub presets_alone : form (run_words (codes "-P" ∷ codes "p" ∷ [])) ≡ None
-unfolding on_words
-presets_alone = refl
-
-pub comma_in_cpu : form (run_words (codes "-P" ∷ codes "p" ∷ codes "-C" ∷ codes "a,b" ∷ [])) ≡ None
-unfolding on_words
-comma_in_cpu = refl
-
-pub space_after_cpu : form (run_words (codes "-P" ∷ codes "p" ∷ codes "-C" ∷ codes "lab2 " ∷ [])) ≡ None
-unfolding on_words
-space_after_cpu = refl
-
-pub notes_twice : form (run_words (codes "--notes" ∷ codes "--notes" ∷ [])) ≡ None
-unfolding on_words
-notes_twice = refl
-
 abbrev on_workers : ℕ → Option Command
 on_workers workers = Some (Run (record { unit = codes "lab.unit"; presets = None; workers = workers; notes = false; script = codes "s"; streams = [] }))
-
-pub one_worker : form (run_words (codes "--workers" ∷ codes "1" ∷ [])) ≡ on_workers 1
-unfolding on_words
-one_worker = refl
-
-pub most_workers : form (run_words (codes "--workers=64" ∷ [])) ≡ on_workers 64
-unfolding on_words
-most_workers = refl
-
-pub zero_before : form (run_words (codes "--workers" ∷ codes "02" ∷ [])) ≡ on_workers 2
-unfolding on_words
-zero_before = refl
-
-pub plus_before : form (run_words (codes "--workers" ∷ codes "+2" ∷ [])) ≡ on_workers 2
-unfolding on_words
-plus_before = refl
-
-pub no_worker : form (run_words (codes "--workers" ∷ codes "0" ∷ [])) ≡ None
-unfolding on_words
-no_worker = refl
-
-pub a_worker_too_many : form (run_words (codes "--workers" ∷ codes "65" ∷ [])) ≡ None
-unfolding on_words
-a_worker_too_many = refl
-
-pub no_number_of_workers : form (run_words (codes "--workers" ∷ codes "two" ∷ [])) ≡ None
-unfolding on_words
-no_number_of_workers = refl
-
-pub empty_number_of_workers : form (run_words (codes "--workers=" ∷ [])) ≡ None
-unfolding on_words
-empty_number_of_workers = refl
-
-pub workers_twice : form (run_words (codes "--workers=2" ∷ codes "--workers=2" ∷ [])) ≡ None
-unfolding on_words
-workers_twice = refl
 
 -- n streams
 abbrev streams : ℕ → List Text
@@ -154,59 +62,65 @@ streams (suc n) = codes "t" ∷ streams n
 abbrev streams_run : ℕ → List Text
 streams_run n = codes "papi_run" ∷ codes "-U" ∷ codes "lab.unit" ∷ codes "s" ∷ streams n
 
-pub a_stream_for_each_thread : form (streams_run 64) ≡ Some (lab_run (codes "lab.unit") (streams 64))
+run : answers (
+    (codes "papi_run" ∷ codes "-U" ∷ codes "lab.unit" ∷ codes "s" ∷ [], Some (lab_run (codes "lab.unit") []))
+    ∷ (codes "papi_run" ∷ codes "s" ∷ codes "-Ulab.unit" ∷ codes "t0" ∷ [], Some (lab_run (codes "lab.unit") (codes "t0" ∷ [])))
+    ∷ (codes "papi_run" ∷ codes "-U=-x" ∷ codes "s" ∷ codes "--" ∷ codes "--notes" ∷ [], Some (lab_run (codes "-x") (codes "--notes" ∷ [])))
+    ∷ (codes "papi_run" ∷ codes "s" ∷ codes "t0" ∷ codes "-U" ∷ codes "lab.unit" ∷ codes "t1" ∷ codes "t0" ∷ [], Some (lab_run (codes "lab.unit") (codes "t0" ∷ codes "t1" ∷ codes "t0" ∷ [])))
+    ∷ (codes "papi_run" ∷ [], None)
+    ∷ (codes "papi_run" ∷ codes "-U" ∷ codes "lab.unit" ∷ codes "-U" ∷ codes "lab.unit" ∷ codes "s" ∷ [], None)
+    ∷ (codes "papi_run" ∷ codes "-U" ∷ codes "lab.unit" ∷ codes "-a" ∷ codes "s" ∷ [], None)
+    ∷ (codes "papi_run" ∷ codes "--help" ∷ [], None)
+    ∷ (run_words (codes "-Pp" ∷ codes "--notes" ∷ codes "-C" ∷ codes "lab 2" ∷ []), asked_run (lab_presets (codes "lab 2")) true)
+    ∷ (run_words [], asked_run None false)
+    ∷ (run_words (codes "-C" ∷ codes "lab2" ∷ []), None)
+    ∷ (run_words (codes "-P" ∷ codes "p" ∷ []), None)
+    ∷ (run_words (codes "-P" ∷ codes "p" ∷ codes "-C" ∷ codes "a,b" ∷ []), None)
+    ∷ (run_words (codes "-P" ∷ codes "p" ∷ codes "-C" ∷ codes "lab2 " ∷ []), None)
+    ∷ (run_words (codes "--notes" ∷ codes "--notes" ∷ []), None)
+    ∷ (run_words (codes "--workers" ∷ codes "1" ∷ []), on_workers 1)
+    ∷ (run_words (codes "--workers=64" ∷ []), on_workers 64)
+    ∷ (run_words (codes "--workers" ∷ codes "02" ∷ []), on_workers 2)
+    ∷ (run_words (codes "--workers" ∷ codes "+2" ∷ []), on_workers 2)
+    ∷ (run_words (codes "--workers" ∷ codes "0" ∷ []), None)
+    ∷ (run_words (codes "--workers" ∷ codes "65" ∷ []), None)
+    ∷ (run_words (codes "--workers" ∷ codes "two" ∷ []), None)
+    ∷ (run_words (codes "--workers=" ∷ []), None)
+    ∷ (run_words (codes "--workers=2" ∷ codes "--workers=2" ∷ []), None)
+    ∷ (streams_run 64, Some (lab_run (codes "lab.unit") (streams 64)))
+    ∷ (streams_run 65, None)
+    ∷ [])
 unfolding on_words
-a_stream_for_each_thread = refl
-
-pub a_stream_too_many : form (streams_run 65) ≡ None
-unfolding on_words
-a_stream_too_many = refl
+run = refl
 
 -- ---- `papi_decode`
 
 abbrev lab_decode : Bool → Option Command
 lab_decode available = Some (Decode (record { unit = codes "lab.unit"; presets = record { file = codes "p"; cpu = codes "lab2" }; available = available }))
 
-pub all_presets : form (codes "papi_decode" ∷ codes "-U" ∷ codes "lab.unit" ∷ codes "-P" ∷ codes "p" ∷ codes "-C" ∷ codes "lab2" ∷ []) ≡ lab_decode false
+decode : answers (
+    (codes "papi_decode" ∷ codes "-U" ∷ codes "lab.unit" ∷ codes "-P" ∷ codes "p" ∷ codes "-C" ∷ codes "lab2" ∷ [], lab_decode false)
+    ∷ (codes "papi_decode" ∷ codes "-a" ∷ codes "-Clab2" ∷ codes "-U=lab.unit" ∷ codes "-Pp" ∷ [], lab_decode true)
+    ∷ (codes "papi_decode" ∷ codes "-U" ∷ codes "lab.unit" ∷ codes "-P" ∷ codes "p" ∷ [], None)
+    ∷ (codes "papi_decode" ∷ codes "-U" ∷ codes "lab.unit" ∷ codes "-P" ∷ codes "p" ∷ codes "-C" ∷ codes "lab2" ∷ codes "s" ∷ [], None)
+    ∷ [])
 unfolding on_words
-all_presets = refl
-
-pub available_presets : form (codes "papi_decode" ∷ codes "-a" ∷ codes "-Clab2" ∷ codes "-U=lab.unit" ∷ codes "-Pp" ∷ []) ≡ lab_decode true
-unfolding on_words
-available_presets = refl
-
-pub no_cpu : form (codes "papi_decode" ∷ codes "-U" ∷ codes "lab.unit" ∷ codes "-P" ∷ codes "p" ∷ []) ≡ None
-unfolding on_words
-no_cpu = refl
-
-pub positional_word : form (codes "papi_decode" ∷ codes "-U" ∷ codes "lab.unit" ∷ codes "-P" ∷ codes "p" ∷ codes "-C" ∷ codes "lab2" ∷ codes "s" ∷ []) ≡ None
-unfolding on_words
-positional_word = refl
+decode = refl
 
 -- ---- `papi_encode`
 
 abbrev lab_encode : List Text → Command
 lab_encode names = Encode (record { unit = codes "lab.unit"; names = names })
 
-pub names_in_order : form (codes "papi_encode" ∷ codes "-U" ∷ codes "lab.unit" ∷ codes "cpu:::MEM:c=2" ∷ codes "NOPE" ∷ []) ≡ Some (lab_encode (codes "cpu:::MEM:c=2" ∷ codes "NOPE" ∷ []))
+encode : answers (
+    (codes "papi_encode" ∷ codes "-U" ∷ codes "lab.unit" ∷ codes "cpu:::MEM:c=2" ∷ codes "NOPE" ∷ [], Some (lab_encode (codes "cpu:::MEM:c=2" ∷ codes "NOPE" ∷ [])))
+    ∷ (codes "papi_encode" ∷ codes "MEM" ∷ codes "-U=lab.unit" ∷ codes "NOPE" ∷ codes "--" ∷ codes "-x" ∷ [], Some (lab_encode (codes "MEM" ∷ codes "NOPE" ∷ codes "-x" ∷ [])))
+    ∷ (codes "papi_encode" ∷ codes "-U" ∷ codes "lab.unit" ∷ [], None)
+    ∷ (codes "papi_encode" ∷ codes "MEM" ∷ [], None)
+    ∷ (codes "papi_encode" ∷ codes "-U" ∷ codes "lab.unit" ∷ codes "-a" ∷ codes "MEM" ∷ [], None)
+    ∷ [])
 unfolding on_words
-names_in_order = refl
-
-pub names_apart : form (codes "papi_encode" ∷ codes "MEM" ∷ codes "-U=lab.unit" ∷ codes "NOPE" ∷ codes "--" ∷ codes "-x" ∷ []) ≡ Some (lab_encode (codes "MEM" ∷ codes "NOPE" ∷ codes "-x" ∷ []))
-unfolding on_words
-names_apart = refl
-
-pub no_name : form (codes "papi_encode" ∷ codes "-U" ∷ codes "lab.unit" ∷ []) ≡ None
-unfolding on_words
-no_name = refl
-
-pub no_unit : form (codes "papi_encode" ∷ codes "MEM" ∷ []) ≡ None
-unfolding on_words
-no_unit = refl
-
-pub option_of_another_tool : form (codes "papi_encode" ∷ codes "-U" ∷ codes "lab.unit" ∷ codes "-a" ∷ codes "MEM" ∷ []) ≡ None
-unfolding on_words
-option_of_another_tool = refl
+encode = refl
 
 -- ---- `papi_avail`
 
@@ -214,21 +128,14 @@ abbrev lab_avail : Bool → Option Text → Option Command
 lab_avail available event =
     Some (Avail (record { unit = codes "lab.unit"; presets = record { file = codes "p"; cpu = codes "lab2" }; available = available; event = event }))
 
-pub one_preset : form (codes "papi_avail" ∷ codes "-a" ∷ codes "-Ulab.unit" ∷ codes "-Pp" ∷ codes "-e" ∷ codes "PAPI_TOT_CYC" ∷ codes "-Clab2" ∷ []) ≡ lab_avail true (Some (codes "PAPI_TOT_CYC"))
+avail : answers (
+    (codes "papi_avail" ∷ codes "-a" ∷ codes "-Ulab.unit" ∷ codes "-Pp" ∷ codes "-e" ∷ codes "PAPI_TOT_CYC" ∷ codes "-Clab2" ∷ [], lab_avail true (Some (codes "PAPI_TOT_CYC")))
+    ∷ (codes "papi_avail" ∷ codes "-U" ∷ codes "lab.unit" ∷ codes "-P" ∷ codes "p" ∷ codes "-C" ∷ codes "lab2" ∷ [], lab_avail false None)
+    ∷ (codes "papi_avail" ∷ codes "-U" ∷ codes "lab.unit" ∷ codes "-a" ∷ [], None)
+    ∷ (codes "papi_avail" ∷ codes "--help" ∷ [], None)
+    ∷ [])
 unfolding on_words
-one_preset = refl
-
-pub listed_presets : form (codes "papi_avail" ∷ codes "-U" ∷ codes "lab.unit" ∷ codes "-P" ∷ codes "p" ∷ codes "-C" ∷ codes "lab2" ∷ []) ≡ lab_avail false None
-unfolding on_words
-listed_presets = refl
-
-pub no_presets : form (codes "papi_avail" ∷ codes "-U" ∷ codes "lab.unit" ∷ codes "-a" ∷ []) ≡ None
-unfolding on_words
-no_presets = refl
-
-pub help_of_avail : form (codes "papi_avail" ∷ codes "--help" ∷ []) ≡ None
-unfolding on_words
-help_of_avail = refl
+avail = refl
 
 -- ---- `papi_native_avail`
 
@@ -236,21 +143,14 @@ abbrev lab_natives : Option Text → Option Text → Option Text → Bool → Op
 lab_natives event included excluded umasks =
     Some (NativeAvail (record { unit = codes "lab.unit"; event = event; included = included; excluded = excluded; umasks = umasks }))
 
-pub all_natives : form (codes "papi_native_avail" ∷ codes "-U" ∷ codes "lab.unit" ∷ []) ≡ lab_natives None None None true
+natives : answers (
+    (codes "papi_native_avail" ∷ codes "-U" ∷ codes "lab.unit" ∷ [], lab_natives None None None true)
+    ∷ (codes "papi_native_avail" ∷ codes "-x" ∷ codes "INST" ∷ codes "--noumasks" ∷ codes "-U" ∷ codes "lab.unit" ∷ codes "-i=BR" ∷ [], lab_natives None (Some (codes "BR")) (Some (codes "INST")) false)
+    ∷ (codes "papi_native_avail" ∷ codes "-U" ∷ codes "lab.unit" ∷ codes "-e" ∷ codes "MEM:LOADS" ∷ [], lab_natives (Some (codes "MEM:LOADS")) None None true)
+    ∷ (codes "papi_native_avail" ∷ codes "-U" ∷ codes "lab.unit" ∷ codes "-C" ∷ codes "lab2" ∷ [], None)
+    ∷ [])
 unfolding on_words
-all_natives = refl
-
-pub chosen_natives : form (codes "papi_native_avail" ∷ codes "-x" ∷ codes "INST" ∷ codes "--noumasks" ∷ codes "-U" ∷ codes "lab.unit" ∷ codes "-i=BR" ∷ []) ≡ lab_natives None (Some (codes "BR")) (Some (codes "INST")) false
-unfolding on_words
-chosen_natives = refl
-
-pub one_native : form (codes "papi_native_avail" ∷ codes "-U" ∷ codes "lab.unit" ∷ codes "-e" ∷ codes "MEM:LOADS" ∷ []) ≡ lab_natives (Some (codes "MEM:LOADS")) None None true
-unfolding on_words
-one_native = refl
-
-pub cpu_of_natives : form (codes "papi_native_avail" ∷ codes "-U" ∷ codes "lab.unit" ∷ codes "-C" ∷ codes "lab2" ∷ []) ≡ None
-unfolding on_words
-cpu_of_natives = refl
+natives = refl
 
 -- ---- `papi_event_chooser`
 
@@ -260,58 +160,32 @@ lab_chooser presets kind events = Some (EventChooser (record { unit = codes "lab
 abbrev chooser_words_of : List Text → List Text
 chooser_words_of words = codes "papi_event_chooser" ∷ codes "-U" ∷ codes "lab.unit" ∷ words
 
-pub natives_chosen : form (chooser_words_of (codes "NATIVE" ∷ codes "BR_INST" ∷ codes "REF" ∷ [])) ≡ lab_chooser None Native (codes "BR_INST" ∷ codes "REF" ∷ [])
+chooser : answers (
+    (chooser_words_of (codes "NATIVE" ∷ codes "BR_INST" ∷ codes "REF" ∷ []), lab_chooser None Native (codes "BR_INST" ∷ codes "REF" ∷ []))
+    ∷ (chooser_words_of (codes "PRESET" ∷ codes "-Clab2" ∷ codes "MEM" ∷ codes "-P" ∷ codes "p" ∷ codes "--" ∷ codes "-x" ∷ []), lab_chooser (lab_presets (codes "lab2")) Preset (codes "MEM" ∷ codes "-x" ∷ []))
+    ∷ (chooser_words_of (codes "native" ∷ codes "BR_INST" ∷ []), None)
+    ∷ (chooser_words_of (codes "NATIVE" ∷ []), None)
+    ∷ (chooser_words_of (codes "-P" ∷ codes "p" ∷ codes "PRESET" ∷ codes "MEM" ∷ []), None)
+    ∷ (chooser_words_of (codes "NATIVE" ∷ streams 32), lab_chooser None Native (streams 32))
+    ∷ (chooser_words_of (codes "NATIVE" ∷ streams 33), None)
+    ∷ [])
 unfolding on_words
-natives_chosen = refl
-
-pub presets_chosen : form (chooser_words_of (codes "PRESET" ∷ codes "-Clab2" ∷ codes "MEM" ∷ codes "-P" ∷ codes "p" ∷ codes "--" ∷ codes "-x" ∷ [])) ≡ lab_chooser (lab_presets (codes "lab2")) Preset (codes "MEM" ∷ codes "-x" ∷ [])
-unfolding on_words
-presets_chosen = refl
-
-pub kind_in_lower_case : form (chooser_words_of (codes "native" ∷ codes "BR_INST" ∷ [])) ≡ None
-unfolding on_words
-kind_in_lower_case = refl
-
-pub no_event : form (chooser_words_of (codes "NATIVE" ∷ [])) ≡ None
-unfolding on_words
-no_event = refl
-
-pub presets_of_no_cpu : form (chooser_words_of (codes "-P" ∷ codes "p" ∷ codes "PRESET" ∷ codes "MEM" ∷ [])) ≡ None
-unfolding on_words
-presets_of_no_cpu = refl
-
-pub a_full_set : form (chooser_words_of (codes "NATIVE" ∷ streams 32)) ≡ lab_chooser None Native (streams 32)
-unfolding on_words
-a_full_set = refl
-
-pub an_event_too_many : form (chooser_words_of (codes "NATIVE" ∷ streams 33)) ≡ None
-unfolding on_words
-an_event_too_many = refl
+chooser = refl
 
 -- ---- `papi_soak`
 
 abbrev soak_of : ℕ → ℕ → Option Command
 soak_of rounds workers = Some (Soak (record { rounds = rounds; workers = workers }))
 
-pub one_round : form (codes "papi_soak" ∷ codes "1" ∷ []) ≡ soak_of 1 1
+soak : answers (
+    (codes "papi_soak" ∷ codes "1" ∷ [], soak_of 1 1)
+    ∷ (codes "papi_soak" ∷ codes "1000" ∷ codes "--workers" ∷ codes "64" ∷ [], soak_of 1000 64)
+    ∷ (codes "papi_soak" ∷ codes "0" ∷ [], None)
+    ∷ (codes "papi_soak" ∷ codes "1001" ∷ [], None)
+    ∷ (codes "papi_soak" ∷ codes "1" ∷ codes "2" ∷ [], None)
+    ∷ [])
 unfolding on_words
-one_round = refl
-
-pub most_rounds : form (codes "papi_soak" ∷ codes "1000" ∷ codes "--workers" ∷ codes "64" ∷ []) ≡ soak_of 1000 64
-unfolding on_words
-most_rounds = refl
-
-pub no_round : form (codes "papi_soak" ∷ codes "0" ∷ []) ≡ None
-unfolding on_words
-no_round = refl
-
-pub a_round_too_many : form (codes "papi_soak" ∷ codes "1001" ∷ []) ≡ None
-unfolding on_words
-a_round_too_many = refl
-
-pub two_numbers : form (codes "papi_soak" ∷ codes "1" ∷ codes "2" ∷ []) ≡ None
-unfolding on_words
-two_numbers = refl
+soak = refl
 
 -- ---- `papi_profil`
 
@@ -331,25 +205,15 @@ lab_profil thread set index streams = Some (Profil (record {
 abbrev profil_words_of : List Text → List Text
 profil_words_of words = codes "papi_profil" ∷ codes "-U" ∷ codes "lab.unit" ∷ words
 
-pub first_event : form (profil_words_of (codes "-M" ∷ codes "m" ∷ codes "s" ∷ codes "t0" ∷ [])) ≡ lab_profil 0 0 0 (codes "t0" ∷ [])
+profil : answers (
+    (profil_words_of (codes "-M" ∷ codes "m" ∷ codes "s" ∷ codes "t0" ∷ []), lab_profil 0 0 0 (codes "t0" ∷ []))
+    ∷ (profil_words_of (codes "s" ∷ codes "--thread=63" ∷ codes "--set" ∷ codes "63" ∷ codes "-Mm" ∷ codes "--index" ∷ codes "31" ∷ []), lab_profil 63 63 31 [])
+    ∷ (profil_words_of (codes "s" ∷ []), None)
+    ∷ (profil_words_of (codes "-Mm" ∷ codes "--thread=64" ∷ codes "s" ∷ []), None)
+    ∷ (profil_words_of (codes "-Mm" ∷ codes "--index=32" ∷ codes "s" ∷ []), None)
+    ∷ [])
 unfolding on_words
-first_event = refl
-
-pub last_event : form (profil_words_of (codes "s" ∷ codes "--thread=63" ∷ codes "--set" ∷ codes "63" ∷ codes "-Mm" ∷ codes "--index" ∷ codes "31" ∷ [])) ≡ lab_profil 63 63 31 []
-unfolding on_words
-last_event = refl
-
-pub no_map : form (profil_words_of (codes "s" ∷ [])) ≡ None
-unfolding on_words
-no_map = refl
-
-pub a_thread_too_many : form (profil_words_of (codes "-Mm" ∷ codes "--thread=64" ∷ codes "s" ∷ [])) ≡ None
-unfolding on_words
-a_thread_too_many = refl
-
-pub an_index_too_many : form (profil_words_of (codes "-Mm" ∷ codes "--index=32" ∷ codes "s" ∷ [])) ≡ None
-unfolding on_words
-an_index_too_many = refl
+profil = refl
 
 -- ---- `papi_regions`
 
@@ -366,41 +230,23 @@ lab_regions events streams = Some (Regions (record {
 abbrev regions_words_of : List Text → List Text
 regions_words_of words = codes "papi_regions" ∷ codes "-U" ∷ codes "lab.unit" ∷ words
 
-pub two_events : form (regions_words_of (codes "--events" ∷ codes "INST_RETIRED,lab::CYCLES" ∷ codes "s" ∷ codes "t0" ∷ []))
-    ≡ lab_regions (codes "INST_RETIRED" ∷ codes "lab::CYCLES" ∷ []) (codes "t0" ∷ [])
+regions : answers (
+    (regions_words_of (codes "--events" ∷ codes "INST_RETIRED,lab::CYCLES" ∷ codes "s" ∷ codes "t0" ∷ []), lab_regions (codes "INST_RETIRED" ∷ codes "lab::CYCLES" ∷ []) (codes "t0" ∷ []))
+    ∷ (regions_words_of (codes "s" ∷ []), None)
+    ∷ (regions_words_of (codes "--events=" ∷ codes "s" ∷ []), None)
+    ∷ (regions_words_of (codes "--events=A,,B" ∷ codes "s" ∷ []), None)
+    ∷ (regions_words_of (codes "--events=A," ∷ codes "s" ∷ []), None)
+    ∷ (regions_words_of (codes "--events" ∷ codes "A, B" ∷ codes "s" ∷ []), None)
+    ∷ (regions_words_of (codes "--events=a,b,c,d,e,f,g,h,i,j,k,l,m,n,o,p,q,r,s,t,u,v,w,x,y,z,A,B,C,D,E,F,G" ∷ codes "s" ∷ []), None)
+    ∷ [])
 unfolding on_words
-two_events = refl
-
-pub no_event_list : form (regions_words_of (codes "s" ∷ [])) ≡ None
-unfolding on_words
-no_event_list = refl
-
-pub empty_list : form (regions_words_of (codes "--events=" ∷ codes "s" ∷ [])) ≡ None
-unfolding on_words
-empty_list = refl
-
-pub empty_event : form (regions_words_of (codes "--events=A,,B" ∷ codes "s" ∷ [])) ≡ None
-unfolding on_words
-empty_event = refl
-
-pub comma_last : form (regions_words_of (codes "--events=A," ∷ codes "s" ∷ [])) ≡ None
-unfolding on_words
-comma_last = refl
-
-pub space_in_an_event : form (regions_words_of (codes "--events" ∷ codes "A, B" ∷ codes "s" ∷ [])) ≡ None
-unfolding on_words
-space_in_an_event = refl
-
-pub an_event_past_the_most : form (regions_words_of (codes "--events=a,b,c,d,e,f,g,h,i,j,k,l,m,n,o,p,q,r,s,t,u,v,w,x,y,z,A,B,C,D,E,F,G" ∷ codes "s" ∷ [])) ≡ None
-unfolding on_words
-an_event_past_the_most = refl
+regions = refl
 
 -- ---- no tool
 
-pub other_tool : form (codes "papi_cost" ∷ codes "-U" ∷ codes "lab.unit" ∷ codes "s" ∷ []) ≡ None
+no_tool : answers (
+    (codes "papi_cost" ∷ codes "-U" ∷ codes "lab.unit" ∷ codes "s" ∷ [], None)
+    ∷ ([], None)
+    ∷ [])
 unfolding on_words
-other_tool = refl
-
-pub no_words : form [] ≡ None
-unfolding on_words
-no_words = refl
+no_tool = refl
