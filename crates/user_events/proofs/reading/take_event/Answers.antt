@@ -1,4 +1,4 @@
-use Rattle.std.proofs.Common.{◌≡◌, ◌∙◌, List, map, sym, ap, subst}
+use Rattle.std.proofs.Common.{◌≡◌, ◌∙◌, true, List, map, sym, ap, subst}
 use Rattle.std.proofs.lemmas.Result.{err_from_is_err_and}
 use Rattle.csv.specs.Records.{fields_of}
 use Rattle.table_rows.specs.Texts.{Text, text_at}
@@ -12,6 +12,18 @@ use Rattle.user_events.specs.Steps.{put_event}
 use Rattle.user_events.specs.declared.event.UserEvent.{UserEvent}
 use Rattle.user_events.proofs.TakingRow.{bad-name, event-refused, event-taken, name-printable, not-printed, over-taken, printed-some}
 use Rattle.user_events.proofs.reading.take_event.Goals as goal
+use Rattle.user_events.proofs.reading.take_event.Goals.{After-is_too_many}
+
+name : (c : After-is_too_many) → is_event_name (text_at (fields_of c.args.row.now) 1) ≡ true
+name c = ap is_event_name (sym c.text_at-name.ensures) ∙ sym c.is_event_name.ensures ∙ c.if-not-is_event_name.false
+
+is : (c : After-is_too_many) → c.in-Some.name.now ≡ text_at (fields_of c.args.row.now) 1
+is c = printed-some c.in-Some.name.now c.text_at-name.result.now c.in-Some.ensures ∙ c.text_at-name.ensures
+
+-- whether the event would be one too many
+many : (c : After-is_too_many) → is_too_many (names_of (map event_view c.args.events.now.items)) (text_at (fields_of c.args.row.now) 1) ≡ c.is_too_many.result
+many c = ap (is_too_many (names_of (map event_view c.args.events.now.items))) (sym (is c))
+    ∙ ap (λ (xs : List UserEvent). is_too_many (names_of (map event_view xs)) c.in-Some.name.now) (sym c.as_slice.ensures.value) ∙ sym c.is_too_many.ensures
 
 pub returns-then-not-is_event_name : goal.returns-then-not-is_event_name
 returns-then-not-is_event_name c =
@@ -23,31 +35,21 @@ returns-in_default c = absurd (not-printed c.text_at-name.result.now c.in_defaul
 
 pub returns-then-is_too_many : goal.returns-then-is_too_many
 returns-then-is_too_many c =
-    let items = c.args.events.now.items in
-    let name = ap is_event_name (sym c.text_at-name.ensures) ∙ sym c.is_event_name.ensures ∙ c.if-not-is_event_name.false in
-    let is : c.in-Some.name.now ≡ text_at (fields_of c.args.row.now) 1 = printed-some c.in-Some.name.now c.text_at-name.result.now c.in-Some.ensures ∙ c.text_at-name.ensures in
-    let many = ap (is_too_many (names_of (map event_view items))) (sym is) ∙ ap (λ (xs : List UserEvent). is_too_many (names_of (map event_view xs)) c.in-Some.name.now) (sym c.as_slice.ensures.value)
-    ∙ sym c.is_too_many.ensures ∙ c.if-is_too_many.true in
-    over-taken (fields_of c.args.row.now) c.args.holds (map event_view items) c.judge-judged.result c.over_limit.result c.if-not-holds.false name many c.judge-judged.ensures c.over_limit.ensures
+    let w = (goal.at.returns-then-is_too_many c).After-is_too_many in
+    over-taken (fields_of c.args.row.now) c.args.holds (map event_view c.args.events.now.items) c.judge-judged.result c.over_limit.result c.if-not-holds.false (name w) (many w ∙ c.if-is_too_many.true)
+    c.judge-judged.ensures c.over_limit.ensures
 
 pub returns-in_err-judged : goal.returns-in_err-judged
 returns-in_err-judged c =
-    let items = c.args.events.now.items in
-    let name = ap is_event_name (sym c.text_at-name.ensures) ∙ sym c.is_event_name.ensures ∙ c.if-not-is_event_name.false in
-    let is : c.in-Some.name.now ≡ text_at (fields_of c.args.row.now) 1 = printed-some c.in-Some.name.now c.text_at-name.result.now c.in-Some.ensures ∙ c.text_at-name.ensures in
-    let few = ap (is_too_many (names_of (map event_view items))) (sym is) ∙ ap (λ (xs : List UserEvent). is_too_many (names_of (map event_view xs)) c.in-Some.name.now) (sym c.as_slice.ensures.value)
-    ∙ sym c.is_too_many.ensures ∙ c.if-is_too_many.false in
+    let w = (goal.at.returns-in_err-judged c).After-is_too_many in
     let p = err_from_is_err_and c.from_residual.result c.from_residual.ensures.1 in
     let refused = subst (Judges (event_judged (derivation_of (fields_of c.args.row.now)))) c.in_err-judged.was c.judge-judged.ensures in
-    rw (p.1, p.2) (event-refused (fields_of c.args.row.now) c.args.holds (map event_view items) c.in_err-judged.field-0.0 c.if-not-holds.false name few refused)
+    rw (p.1, p.2) (event-refused (fields_of c.args.row.now) c.args.holds (map event_view c.args.events.now.items) c.in_err-judged.field-0.0 c.if-not-holds.false (name w) (many w ∙ c.if-is_too_many.false) refused)
 
 pub returns : goal.returns
 returns c =
+    let w = (goal.at.returns c).After-is_too_many in
     let items = c.args.events.now.items in
-    let name = ap is_event_name (sym c.text_at-name.ensures) ∙ sym c.is_event_name.ensures ∙ c.if-not-is_event_name.false in
-    let is : c.in-Some.name.now ≡ text_at (fields_of c.args.row.now) 1 = printed-some c.in-Some.name.now c.text_at-name.result.now c.in-Some.ensures ∙ c.text_at-name.ensures in
-    let few = ap (is_too_many (names_of (map event_view items))) (sym is) ∙ ap (λ (xs : List UserEvent). is_too_many (names_of (map event_view xs)) c.in-Some.name.now) (sym c.as_slice.ensures.value)
-    ∙ sym c.is_too_many.ensures ∙ c.if-is_too_many.false in
     let entry = subst (Judges (event_judged (derivation_of (fields_of c.args.row.now)))) c.in_ok-judged.was c.judge-judged.ensures in
-    event-taken (fields_of c.args.row.now) c.args.holds (map event_view items) (map event_view c.put_event.new.events.items) c.in_ok-judged.field-0 c.if-not-holds.false name few entry
-    (c.in_ok-put_event.ensures ∙ ap (λ (n : Text). put_event (map event_view items) n c.in_ok-judged.field-0) is)
+    event-taken (fields_of c.args.row.now) c.args.holds (map event_view items) (map event_view c.put_event.new.events.items) c.in_ok-judged.field-0 c.if-not-holds.false (name w)
+    (many w ∙ c.if-is_too_many.false) entry (c.in_ok-put_event.ensures ∙ ap (λ (n : Text). put_event (map event_view items) n c.in_ok-judged.field-0) (is w))

@@ -1,5 +1,5 @@
 -- what the code finds is what the definition of the refusals says
-use Rattle.std.proofs.Common.{◌≡◌, ℕ, ◌<◌, ◌≤◌, ◌^◌, [], length, take, arith, refl, sym, ap, ap₂, subst, ◌∙◌, slice_get, Option, Some, None}
+use Rattle.std.proofs.Common.{◌≡◌, false, ℕ, ◌<◌, ◌^◌, [], length, take, arith, refl, sym, ap, ap₂, subst, ◌∙◌, slice_get, Option, Some, None}
 use Rattle.std.specs.Prelude.{All, IsNone, if◌then◌else◌, is_some}
 use Rattle.std.specs.List.{list_any}
 use Rattle.papi_base.specs.declared.native.Native.{Native}
@@ -10,12 +10,13 @@ use Rattle.postfix_rules.specs.Fitting.{Fits}
 use Rattle.postfix_rules.specs.Presets.{natives_of_event}
 use Rattle.postfix_rules.specs.Sameness.{joined_by, same_event}
 use Rattle.event_sets.specs.Assigning.{clash_of}
-use Rattle.event_sets.specs.AtRest.{is_other, widths_at}
+use Rattle.event_sets.specs.AtRest.{is_full, is_other}
 use Rattle.event_sets.specs.Sets.{IsMatched, IsSound, SetView}
 use Rattle.event_sets.proofs.JoinedNatives.{joined_grows}
 use Rattle.event_sets.proofs.Agreeing.{numbered}
 use Rattle.event_sets.proofs.Adding.{Ready, added_sound, added_view, pushed, all_in_range, begins, begun_allowed, begun_counters, full_of_natives, not_full, refused_clash, refused_full, taken}
 use Rattle.event_sets.proofs.event_set.EventSet.add.Goals as goal
+use Rattle.event_sets.proofs.event_set.EventSet.add.Goals.{After-len, After-begun-matching, In-Some, In_default-clash}
 
 none_left : {X : Type 0} (o : Option X) → ((x : X) → o ≡ Some x → ⊥) → o ≡ None
 none_left None h = refl
@@ -26,29 +27,61 @@ counters_of-counters-requires c =
     let first = ap (λ ns. slice_get ns 0) (sym c.natives_of-given.ensures) ∙ c.at-comp.ensures.item in
     (numbered (Fits c.args.shape.now) (natives_of_event c.args.book.now c.args.e.now) c.requires.fits 0 c.at-comp.result first).has_component
 
-pub returns-in_default-clause-refused : goal.returns-in_default-clause-refused
-returns-in_default-clause-refused c =
-    let s = c.args.self.now in
-    let book = c.args.book.now in
-    let shape = c.args.shape.now in
-    let e = c.args.e.now in
-    let n = c.at-comp.result in
-    let given = c.natives_of-given.ensures in
+-- the event is of the component and not in the set
+ready : (c : After-len) → Ready c.args.book.now c.args.shape.now c.args.e.now c.args.self.now c.at-comp.result
+ready c =
     let view = c.self.view_is in
-    let ready : Ready book shape e s n = record {
+    record {
       held = c.requires.held;
       fits = c.requires.fits;
       natives = c.requires.natives;
       known = c.requires.counters;
       sound = subst IsSound view c.self.invariant.0;
-      first = ap (λ ns. slice_get ns 0) (sym given) ∙ c.at-comp.ensures.item;
-      own = ap (λ (v : SetView). is_other v.rest.component (Some n.comp)) (sym view) ∙ (sym c.is_other.ensures ∙ c.if-is_other.false);
-      absent = ap (λ (v : SetView). list_any (same_event e) v.rest.events) (sym view) ∙ (sym c.has_event.ensures ∙ c.if-has_event.false);
-    } in
-    let all = joined_by s.natives (natives_of_event book e) in
-    let same : joined_by c.self.inside.natives c.natives_of-given.result ≡ all = ap₂ joined_by (ap (λ (v : SetView). v.natives) view) given in
-    let over : 32 < length all = subst (λ ns. 32 < length ns) same c.in_default.ensures.none in
-    refused_full book shape e s n ready all refl (full_of_natives book shape e s n ready all refl over)
+      first = ap (λ ns. slice_get ns 0) (sym c.natives_of-given.ensures) ∙ c.at-comp.ensures.item;
+      own = ap (λ (v : SetView). is_other v.rest.component (Some c.at-comp.result.comp)) (sym view) ∙ (sym c.is_other.ensures ∙ c.if-is_other.false);
+      absent = ap (λ (v : SetView). list_any (same_event c.args.e.now) v.rest.events) (sym view) ∙ (sym c.has_event.ensures ∙ c.if-has_event.false);
+    }
+
+-- the natives with those of the event
+joins : (c : In-Some) → c.in-Some.natives ≡ joined_by c.args.self.now.natives (natives_of_event c.args.book.now c.args.e.now)
+joins c = c.in-Some.ensures.some ∙ ap₂ joined_by (ap (λ (v : SetView). v.natives) c.self.view_is) c.natives_of-given.ensures
+
+few_events : (c : In-Some) → length c.args.self.now.rest.events < 32
+few_events c = omega (arith, c.len.ensures.length, c.if-len.false, ap (λ (v : SetView). length v.rest.events) c.self.view_is)
+
+room : (c : In-Some) → is_full c.args.book.now c.args.e.now c.args.self.now.rest ≡ false
+room c = not_full _ _ _ _ _ (ready (goal.at.In-Some c).After-len) _ (joins c) (few_events c) c.in-Some.ensures.few
+
+-- the matching to which the new natives are added
+begun_is : (c : After-begun-matching) → c.begun-matching.result
+    ≡ (if is_some c.args.self.now.rest.component then c.self.inside.matching else record { counters = c.counters_of-counters.result; allowed = [] })
+begun_is c = c.begun-matching.ensures
+    ∙ ap (λ (o : Option ℕ). let m : MatchingView = if is_some o then c.self.inside.matching else record { counters = c.counters_of-counters.result; allowed = [] } in m) (ap (λ (v : SetView). v.rest.component) c.self.view_is)
+
+matched : (c : After-begun-matching) → IsMatched c.args.self.now c.self.inside.matching
+matched c = subst (λ (v : SetView). IsMatched v c.self.inside.matching) c.self.view_is c.self.invariant.1
+
+-- it has the counters of the component
+size : (c : After-begun-matching) → c.begun-matching.result.counters ≡ c.counters_of-counters.result
+size c =
+    let w = (goal.at.After-begun-matching c).In-Some in
+    ap (λ (m : MatchingView). m.counters) (begun_is c)
+    ∙ begun_counters _ _ _ _ _ (ready (goal.at.In-Some w).After-len) _ (joins w) _ c.counters_of-counters.ensures.counted _ (matched c)
+
+-- no native event clashes
+free : (c : In_default-clash) → c.clash.result ≡ None
+free c = none_left c.clash.result c.in_default-clash.not-Some
+
+-- as many natives are there, at this slice
+clash_at : (c : In-Some) (k : ℕ) → k ≡ length c.self.inside.natives
+    → clash_of c.args.self.now.rest.slice (length c.args.self.now.natives) c.in-Some.natives ≡ clash_of c.self.inside.slice k c.in-Some.natives
+clash_at c k e = ap₂ (λ o n. clash_of o n c.in-Some.natives) (ap (λ (v : SetView). v.rest.slice) (sym c.self.view_is)) (ap (λ (v : SetView). length v.natives) (sym c.self.view_is) ∙ sym e)
+
+pub returns-in_default-clause-refused : goal.returns-in_default-clause-refused
+returns-in_default-clause-refused c =
+    let is = ready (goal.at.returns-in_default-clause-refused c).After-len in
+    let same = ap₂ joined_by (ap (λ (v : SetView). v.natives) c.self.view_is) c.natives_of-given.ensures in
+    refused_full _ _ _ _ _ is _ refl (full_of_natives _ _ _ _ _ is _ refl (subst (λ ns. 32 < length ns) same c.in_default.ensures.none))
 
 pub clash-requires-clause-from : goal.clash-requires-clause-from
 clash-requires-clause-from c =
@@ -56,195 +89,55 @@ clash-requires-clause-from c =
 
 pub clash-requires-clause-in_range : goal.clash-requires-clause-in_range
 clash-requires-clause-in_range c =
-    let s = c.args.self.now in
-    let book = c.args.book.now in
-    let shape = c.args.shape.now in
-    let e = c.args.e.now in
-    let n = c.at-comp.result in
-    let given = c.natives_of-given.ensures in
-    let view = c.self.view_is in
-    let ready : Ready book shape e s n = record {
-      held = c.requires.held;
-      fits = c.requires.fits;
-      natives = c.requires.natives;
-      known = c.requires.counters;
-      sound = subst IsSound view c.self.invariant.0;
-      first = ap (λ ns. slice_get ns 0) (sym given) ∙ c.at-comp.ensures.item;
-      own = ap (λ (v : SetView). is_other v.rest.component (Some n.comp)) (sym view) ∙ (sym c.is_other.ensures ∙ c.if-is_other.false);
-      absent = ap (λ (v : SetView). list_any (same_event e) v.rest.events) (sym view) ∙ (sym c.has_event.ensures ∙ c.if-has_event.false);
-    } in
-    let all = c.in-Some.natives in
-    let joins : all ≡ joined_by s.natives (natives_of_event book e) = c.in-Some.ensures.some ∙ ap₂ joined_by (ap (λ (v : SetView). v.natives) view) given in
-    let few_events : length s.rest.events < 32 = omega (arith, c.len.ensures.length, c.if-len.false, ap (λ (v : SetView). length v.rest.events) view) in
-    let room = not_full book shape e s n ready all joins few_events c.in-Some.ensures.few in
-    let counters = c.counters_of-counters.result in
-    let counted : counters ≡ length (widths_at shape (Some n.comp)) = c.counters_of-counters.ensures.counted in
-    let matched = subst (λ (v : SetView). IsMatched v c.self.inside.matching) view c.self.invariant.1 in
-    let component = ap (λ (v : SetView). v.rest.component) view in
-    let slice = ap (λ (v : SetView). v.rest.slice) view in
-    let begun = c.begun-matching.ensures ∙ ap (λ (o : Option ℕ). let m : MatchingView = if is_some o then c.self.inside.matching else record { counters = counters; allowed = [] } in m) component in
-    let size = ap (λ (m : MatchingView). m.counters) begun ∙ begun_counters book shape e s n ready all joins counters counted c.self.inside.matching matched in
-    subst (λ k. All (λ (m : Native). m.allowed < 2 ^ k) all) (sym size) (all_in_range book shape e s n ready all joins counters counted)
+    let at = goal.at.clash-requires-clause-in_range c in
+    subst (λ k. All (λ (m : Native). m.allowed < 2 ^ k) c.in-Some.natives) (sym (size at.After-begun-matching))
+    (all_in_range _ _ _ _ _ (ready at.After-len) _ (joins at.In-Some) _ c.counters_of-counters.ensures.counted)
 
 pub clash-requires-clause-before : goal.clash-requires-clause-before
 clash-requires-clause-before c none =
-    let s = c.args.self.now in
-    let book = c.args.book.now in
-    let shape = c.args.shape.now in
-    let e = c.args.e.now in
-    let n = c.at-comp.result in
-    let given = c.natives_of-given.ensures in
-    let view = c.self.view_is in
-    let ready : Ready book shape e s n = record {
-      held = c.requires.held;
-      fits = c.requires.fits;
-      natives = c.requires.natives;
-      known = c.requires.counters;
-      sound = subst IsSound view c.self.invariant.0;
-      first = ap (λ ns. slice_get ns 0) (sym given) ∙ c.at-comp.ensures.item;
-      own = ap (λ (v : SetView). is_other v.rest.component (Some n.comp)) (sym view) ∙ (sym c.is_other.ensures ∙ c.if-is_other.false);
-      absent = ap (λ (v : SetView). list_any (same_event e) v.rest.events) (sym view) ∙ (sym c.has_event.ensures ∙ c.if-has_event.false);
-    } in
-    let all = c.in-Some.natives in
-    let joins : all ≡ joined_by s.natives (natives_of_event book e) = c.in-Some.ensures.some ∙ ap₂ joined_by (ap (λ (v : SetView). v.natives) view) given in
-    let few_events : length s.rest.events < 32 = omega (arith, c.len.ensures.length, c.if-len.false, ap (λ (v : SetView). length v.rest.events) view) in
-    let room = not_full book shape e s n ready all joins few_events c.in-Some.ensures.few in
-    let counters = c.counters_of-counters.result in
-    let counted : counters ≡ length (widths_at shape (Some n.comp)) = c.counters_of-counters.ensures.counted in
-    let matched = subst (λ (v : SetView). IsMatched v c.self.inside.matching) view c.self.invariant.1 in
-    let component = ap (λ (v : SetView). v.rest.component) view in
-    let slice = ap (λ (v : SetView). v.rest.slice) view in
-    let begun = c.begun-matching.ensures ∙ ap (λ (o : Option ℕ). let m : MatchingView = if is_some o then c.self.inside.matching else record { counters = counters; allowed = [] } in m) component in
-    let natives : length s.natives ≡ c.len-2.result = ap (λ (v : SetView). length v.natives) (sym view) ∙ sym c.len-2.ensures.length in
-    ap (λ (m : MatchingView). m.allowed) begun
-    ∙ (begun_allowed book shape e s n ready all joins counters counted c.self.inside.matching matched (sym slice ∙ none)
-    ∙ ap masks_of (sym (begins book shape e s n ready all joins) ∙ ap (λ k. take k all) natives))
+    let at = goal.at.clash-requires-clause-before c in
+    let is = ready at.After-len in
+    let all = joins at.In-Some in
+    let natives = ap (λ (v : SetView). length v.natives) (sym c.self.view_is) ∙ sym c.len-2.ensures.length in
+    ap (λ (m : MatchingView). m.allowed) (begun_is at.After-begun-matching)
+    ∙ (begun_allowed _ _ _ _ _ is _ all _ c.counters_of-counters.ensures.counted _ (matched at.After-begun-matching) (ap (λ (v : SetView). v.rest.slice) (sym c.self.view_is) ∙ none)
+    ∙ ap masks_of (sym (begins _ _ _ _ _ is _ all) ∙ ap (λ k. take k c.in-Some.natives) natives))
 
 pub returns-in-Some-clash-clause-refused : goal.returns-in-Some-clash-clause-refused
 returns-in-Some-clash-clause-refused c =
-    let s = c.args.self.now in
-    let book = c.args.book.now in
-    let shape = c.args.shape.now in
-    let e = c.args.e.now in
-    let n = c.at-comp.result in
-    let given = c.natives_of-given.ensures in
-    let view = c.self.view_is in
-    let ready : Ready book shape e s n = record {
-      held = c.requires.held;
-      fits = c.requires.fits;
-      natives = c.requires.natives;
-      known = c.requires.counters;
-      sound = subst IsSound view c.self.invariant.0;
-      first = ap (λ ns. slice_get ns 0) (sym given) ∙ c.at-comp.ensures.item;
-      own = ap (λ (v : SetView). is_other v.rest.component (Some n.comp)) (sym view) ∙ (sym c.is_other.ensures ∙ c.if-is_other.false);
-      absent = ap (λ (v : SetView). list_any (same_event e) v.rest.events) (sym view) ∙ (sym c.has_event.ensures ∙ c.if-has_event.false);
-    } in
-    let all = c.in-Some.natives in
-    let joins : all ≡ joined_by s.natives (natives_of_event book e) = c.in-Some.ensures.some ∙ ap₂ joined_by (ap (λ (v : SetView). v.natives) view) given in
-    let few_events : length s.rest.events < 32 = omega (arith, c.len.ensures.length, c.if-len.false, ap (λ (v : SetView). length v.rest.events) view) in
-    let room = not_full book shape e s n ready all joins few_events c.in-Some.ensures.few in
-    let natives : length s.natives ≡ c.len-2.result = ap (λ (v : SetView). length v.natives) (sym view) ∙ sym c.len-2.ensures.length in
-    let slice = ap (λ (v : SetView). v.rest.slice) view in
-    refused_clash book shape e s n ready all joins c.in-Some-clash.clash room (ap₂ (λ o k. clash_of o k all) (sym slice) natives ∙ sym c.in-Some-clash.ensures.clash)
+    let at = goal.at.returns-in-Some-clash-clause-refused c in
+    let w = at.In-Some in
+    refused_clash _ _ _ _ _ (ready at.After-len) _ (joins w) c.in-Some-clash.clash (room w) (clash_at w _ c.len-2.ensures.length ∙ sym c.in-Some-clash.ensures.clash)
 
 pub returns-clause-taken : goal.returns-clause-taken
 returns-clause-taken c =
-    let s = c.args.self.now in
-    let book = c.args.book.now in
-    let shape = c.args.shape.now in
-    let e = c.args.e.now in
-    let n = c.at-comp.result in
-    let given = c.natives_of-given.ensures in
-    let view = c.self.view_is in
-    let ready : Ready book shape e s n = record {
-      held = c.requires.held;
-      fits = c.requires.fits;
-      natives = c.requires.natives;
-      known = c.requires.counters;
-      sound = subst IsSound view c.self.invariant.0;
-      first = ap (λ ns. slice_get ns 0) (sym given) ∙ c.at-comp.ensures.item;
-      own = ap (λ (v : SetView). is_other v.rest.component (Some n.comp)) (sym view) ∙ (sym c.is_other.ensures ∙ c.if-is_other.false);
-      absent = ap (λ (v : SetView). list_any (same_event e) v.rest.events) (sym view) ∙ (sym c.has_event.ensures ∙ c.if-has_event.false);
-    } in
-    let all = c.in-Some.natives in
-    let joins : all ≡ joined_by s.natives (natives_of_event book e) = c.in-Some.ensures.some ∙ ap₂ joined_by (ap (λ (v : SetView). v.natives) view) given in
-    let few_events : length s.rest.events < 32 = omega (arith, c.len.ensures.length, c.if-len.false, ap (λ (v : SetView). length v.rest.events) view) in
-    let room = not_full book shape e s n ready all joins few_events c.in-Some.ensures.few in
-    let natives : length s.natives ≡ c.len-2.result = ap (λ (v : SetView). length v.natives) (sym view) ∙ sym c.len-2.ensures.length in
-    let slice = ap (λ (v : SetView). v.rest.slice) view in
-    let free : c.clash.result ≡ None = none_left c.clash.result c.in_default-clash.not-Some in
-    let unclashed = ap₂ (λ o k. clash_of o k all) (sym slice) natives ∙ (sym c.clash.ensures.clash ∙ free) in
-    taken book shape e s n ready all joins room unclashed
+    let at = goal.at.returns-clause-taken c in
+    let w = at.In-Some in
+    taken _ _ _ _ _ (ready at.After-len) _ (joins w) (room w) (clash_at w _ c.len-2.ensures.length ∙ (sym c.clash.ensures.clash ∙ free at.In_default-clash))
 
 pub returns-clause-added : goal.returns-clause-added
 returns-clause-added c =
-    let s = c.args.self.now in
-    let book = c.args.book.now in
-    let shape = c.args.shape.now in
-    let e = c.args.e.now in
-    let n = c.at-comp.result in
-    let given = c.natives_of-given.ensures in
-    let view = c.self.view_is in
-    let ready : Ready book shape e s n = record {
-      held = c.requires.held;
-      fits = c.requires.fits;
-      natives = c.requires.natives;
-      known = c.requires.counters;
-      sound = subst IsSound view c.self.invariant.0;
-      first = ap (λ ns. slice_get ns 0) (sym given) ∙ c.at-comp.ensures.item;
-      own = ap (λ (v : SetView). is_other v.rest.component (Some n.comp)) (sym view) ∙ (sym c.is_other.ensures ∙ c.if-is_other.false);
-      absent = ap (λ (v : SetView). list_any (same_event e) v.rest.events) (sym view) ∙ (sym c.has_event.ensures ∙ c.if-has_event.false);
-    } in
-    let all = c.in-Some.natives in
-    let joins : all ≡ joined_by s.natives (natives_of_event book e) = c.in-Some.ensures.some ∙ ap₂ joined_by (ap (λ (v : SetView). v.natives) view) given in
-    let few_events : length s.rest.events < 32 = omega (arith, c.len.ensures.length, c.if-len.false, ap (λ (v : SetView). length v.rest.events) view) in
-    let room = not_full book shape e s n ready all joins few_events c.in-Some.ensures.few in
-    let counters = c.counters_of-counters.result in
-    let counted : counters ≡ length (widths_at shape (Some n.comp)) = c.counters_of-counters.ensures.counted in
-    let kept = c.self.view_is in
-    rw (c.push.ensures.pushed, c.push-2.ensures.pushed) (ap (λ (v : SetView). pushed v e n.comp all counters) kept ∙ added_view book shape e s n ready all joins counters counted)
+    let at = goal.at.returns-clause-added c in
+    let counted = c.counters_of-counters.ensures.counted in
+    rw (c.push.ensures.pushed, c.push-2.ensures.pushed) (
+    ap (λ (v : SetView). pushed v c.args.e.now c.at-comp.result.comp c.in-Some.natives c.counters_of-counters.result) c.self.view_is
+    ∙ added_view _ _ _ _ _ (ready at.After-len) _ (joins at.In-Some) _ counted
+    )
 
 pub invariant_of-self : goal.invariant_of-self
 invariant_of-self c =
-    let s = c.args.self.now in
-    let book = c.args.book.now in
-    let shape = c.args.shape.now in
-    let e = c.args.e.now in
-    let n = c.at-comp.result in
-    let given = c.natives_of-given.ensures in
-    let view = c.self.view_is in
-    let ready : Ready book shape e s n = record {
-      held = c.requires.held;
-      fits = c.requires.fits;
-      natives = c.requires.natives;
-      known = c.requires.counters;
-      sound = subst IsSound view c.self.invariant.0;
-      first = ap (λ ns. slice_get ns 0) (sym given) ∙ c.at-comp.ensures.item;
-      own = ap (λ (v : SetView). is_other v.rest.component (Some n.comp)) (sym view) ∙ (sym c.is_other.ensures ∙ c.if-is_other.false);
-      absent = ap (λ (v : SetView). list_any (same_event e) v.rest.events) (sym view) ∙ (sym c.has_event.ensures ∙ c.if-has_event.false);
-    } in
-    let all = c.in-Some.natives in
-    let joins : all ≡ joined_by s.natives (natives_of_event book e) = c.in-Some.ensures.some ∙ ap₂ joined_by (ap (λ (v : SetView). v.natives) view) given in
-    let few_events : length s.rest.events < 32 = omega (arith, c.len.ensures.length, c.if-len.false, ap (λ (v : SetView). length v.rest.events) view) in
-    let room = not_full book shape e s n ready all joins few_events c.in-Some.ensures.few in
-    let counters = c.counters_of-counters.result in
-    let counted : counters ≡ length (widths_at shape (Some n.comp)) = c.counters_of-counters.ensures.counted in
-    let matched = subst (λ (v : SetView). IsMatched v c.self.inside.matching) view c.self.invariant.1 in
-    let component = ap (λ (v : SetView). v.rest.component) view in
-    let begun = c.begun-matching.ensures ∙ ap (λ (o : Option ℕ). let m : MatchingView = if is_some o then c.self.inside.matching else record { counters = counters; allowed = [] } in m) component in
-    let natives : length s.natives ≡ c.len-2.result = ap (λ (v : SetView). length v.natives) (sym view) ∙ sym c.len-2.ensures.length in
-    let slice = ap (λ (v : SetView). v.rest.slice) view in
-    let free : c.clash.result ≡ None = none_left c.clash.result c.in_default-clash.not-Some in
-    let unclashed = ap₂ (λ o k. clash_of o k all) (sym slice) natives ∙ (sym c.clash.ensures.clash ∙ free) in
-    let none_told : IsNone c.clash.result = subst IsNone (sym free) refl in
-    let assignable : s.rest.slice ≡ None → Assignable (masks_of all) = λ unshared. c.clash.ensures.assignable (slice ∙ unshared) none_told in
-    let size = ap (λ (m : MatchingView). m.counters) begun ∙ begun_counters book shape e s n ready all joins counters counted c.self.inside.matching matched in
-    let few_counters : counters ≤ 32 = c.counters_of-counters.ensures.few in
+    let at = goal.at.invariant_of-self c in
+    let w = at.In-Some in
+    let none = free at.In_default-clash in
+    let none_told : IsNone c.clash.result = subst IsNone (sym none) refl in
+    let slice = ap (λ (v : SetView). v.rest.slice) c.self.view_is in
+    let assignable : c.args.self.now.rest.slice ≡ None → Assignable (masks_of c.in-Some.natives) = λ unshared. c.clash.ensures.assignable (slice ∙ unshared) none_told in
     rw (c.push.ensures.pushed, c.push-2.ensures.pushed) (
-      subst IsSound (ap (λ (v : SetView). pushed v e n.comp all counters) (sym view))
-          (added_sound book shape e s n ready all joins counters counted few_events c.in-Some.ensures.few few_counters assignable unclashed),
+      subst IsSound (ap (λ (v : SetView). pushed v c.args.e.now c.at-comp.result.comp c.in-Some.natives c.counters_of-counters.result) (sym c.self.view_is))
+          (added_sound _ _ _ _ _ (ready at.After-len) _ (joins w) _ c.counters_of-counters.ensures.counted (few_events w) c.in-Some.ensures.few c.counters_of-counters.ensures.few assignable
+          (clash_at w _ c.len-2.ensures.length ∙ (sym c.clash.ensures.clash ∙ none))),
       record {
-        counters = c.clash.ensures.counters none_told ∙ size;
+        counters = c.clash.ensures.counters none_told ∙ size at.After-begun-matching;
         natives = λ unshared. c.clash.ensures.given unshared none_told;
       },
     )
