@@ -5,6 +5,7 @@ use Rattle.std.specs.List.{position_or_len}
 use Rattle.std.proofs.Math.Nat.{zero-div, zero-mul}
 use Rattle.std.proofs.Math.Seq.{take-add, take-length}
 use Rattle.std.proofs.lemmas.List.{take-append-drop}
+use Rattle.session_laws.proofs.CountsInTurns.{last-append}
 use Rattle.papi_base.specs.declared.native.Native.{Native}
 use Rattle.papi_base.specs.declared.occurrence.Occ.{Occ}
 use Rattle.papi_base.specs.Weight.{weight_of}
@@ -29,10 +30,6 @@ use Rattle.call_laws.proofs.Windows.{placed-drop, placed-take, weighed_is}
 ends_is : (before : Option Occ) (os : List Occ) → ends (time_after before) (placed_after before os) ≡ time_after (last_after before os)
 ends_is before [] = refl
 ends_is before (o ∷ os) = ends_is (Some o) os
-
-pub last_after-append : (before : Option Occ) (xs ys : List Occ) → last_after before (xs ++ ys) ≡ last_after (last_after before xs) ys
-last_after-append before [] ys = refl
-last_after-append before (x ∷ xs) ys = last_after-append (Some x) xs ys
 
 -- the occurrence before a window
 abbrev before_window : List Occ → Kept → Option Occ
@@ -59,7 +56,7 @@ total_is : (past : List Occ) (s : Kept) → IsWithin (length past) s
     → total past s ≡ time_after (last_after (before_window past s) (in_window s past)) - time_after (before_window past s)
 total_is past s h =
     ap (λ os. time_after (last_after None os) - time_after (before_window past s)) (to_end past s h)
-    ∙ ap (λ b. time_after b - time_after (before_window past s)) (last_after-append None (take s.from past) (in_window s past))
+    ∙ ap (λ b. time_after b - time_after (before_window past s)) (last-append None (take s.from past) (in_window s past))
 
 -- ---- estimates
 

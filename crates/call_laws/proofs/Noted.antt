@@ -20,12 +20,12 @@ use Rattle.session_model.specs.Step.{account_refusal, notes_to, performed, repli
 use Rattle.session_model.specs.Thresholds.{notes_at, notes_of_place, notes_over, passed_in}
 use Rattle.session_laws.proofs.Counted.{places_stay}
 use Rattle.session_laws.proofs.Sets.{each_at, step_has}
+use Rattle.session_laws.proofs.CountsInTurns.{last-append}
 use Rattle.call_laws.specs.History.{CallReply, OccAfter, Thread, begun, history, placed_after, taken, taken_by}
 use Rattle.call_laws.specs.Passings.{NotesAreThePassings, note_of, notes_of_call, notes_of_occ, notes_of_run, notes_of_set, passing_indexes, passings}
 use Rattle.call_laws.specs.SetCalls.{runs_now, set_now}
 use Rattle.call_laws.specs.Values.{window}
 use Rattle.call_laws.proofs.Follows.{running}
-use Rattle.call_laws.proofs.Measured.{last_after-append}
 use Rattle.call_laws.proofs.Passed.{next, noted_is, passed_here, window-next}
 use Rattle.call_laws.proofs.Replied.{quiet_refused, quiet_reply, said}
 use Rattle.call_laws.proofs.Steps.{HistoryFollows, opening_follows, step_follows}
@@ -86,7 +86,7 @@ run_noted : (t : Thread) (log : List CallReply) (before : List OccAfter) (past o
 run_noted t log before past [] sets h = refl
 run_noted t log before past (o ∷ os) sets h = ap₂ (λ (a b : List Note). a ++ b) (occ_noted t log before past o sets h)
     (run_noted t log (before ++ next past o ∷ []) (past ++ o ∷ []) os sets (stands_next t log before past o sets h)
-    ∙ ap (λ b. notes_of_run t log (before ++ next past o ∷ []) (placed_after b os)) (last_after-append None past (o ∷ [])))
+    ∙ ap (λ b. notes_of_run t log (before ++ next past o ∷ []) (placed_after b os)) (last-append None past (o ∷ [])))
 
 -- ---- one call
 

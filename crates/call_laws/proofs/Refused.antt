@@ -4,6 +4,7 @@ use Rattle.std.specs.Prelude.{if◌then◌else◌, nat_le}
 use Rattle.std.specs.List.{list_any, position_or_len}
 use Rattle.std.proofs.Math.Bool.{and-false}
 use Rattle.papi_base.specs.declared.native.Native.{Native}
+use Rattle.papi_base.proofs.Steps.{get_front}
 use Rattle.postfix_rules.specs.NativeCodes.{native_code, native_named}
 use Rattle.postfix_rules.specs.Presets.{Book}
 use Rattle.postfix_rules.specs.Sameness.{among, joined_by, same_native}
@@ -87,11 +88,6 @@ refused_line_stays at w l = go l.asked where
   go x e = refl
 
 -- ---- mentions
-
-get_front : {X : Type 0} (xs ys : List X) (i : ℕ) (x : X) → slice_get xs i ≡ Some x → slice_get (xs ++ ys) i ≡ Some x
-get_front [] ys i x e = cc
-get_front (y ∷ xs) ys zero x e = e
-get_front (y ∷ xs) ys (suc i) x e = get_front xs ys i x e
 
 named_front : (xs ys : List Native) (c : ℕ) (n : Native) → native_named xs c ≡ Some n → native_named (xs ++ ys) c ≡ Some n
 named_front xs ys c n = go (nat_le 0x40000000 c) where

@@ -1,5 +1,5 @@
 -- Wrapped sums, one call after another.
-use Rattle.std.proofs.Common.{◌≡◌, ℕ, zero, suc, ◌%◌, ◌^◌, ◌<◌, ◌⊎◌, inl, inr, ℤ, pos, ◌+ℤ◌, true, false, List, [], ◌∷◌, map, refl, sym, ap, ap₂, ◌∙◌, arith, Option, Some, None}
+use Rattle.std.proofs.Common.{◌≡◌, ℕ, zero, suc, ◌%◌, ◌^◌, ◌<◌, ◌⊎◌, inl, inr, ℤ, pos, ◌+ℤ◌, true, false, List, [], ◌∷◌, map, refl, sym, ap, ap₂, ◌∙◌, arith, Option, Some}
 use Rattle.std.specs.Prelude.{◌==◌, FitsSigned, int_div, replicate, slice_index_or, unsigned_abs, if◌then◌else◌}
 use Rattle.std.specs.Int.{cast_signed, cast_unsigned, int_wrap, int_wrapping_add, w64}
 use Rattle.std.proofs.Math.Facts.{Fits-of_z}
@@ -35,10 +35,8 @@ count_at count (n ∷ ns) (suc i) = count_at count ns i
 
 applied_addable : (o : Operator) (x y : ℤ) → Addable (applied o x y)
 unfolding divided
-applied_addable op.Plus x y = inr (SFits-int_wrap w64 _)
-applied_addable op.Minus x y = inr (SFits-int_wrap w64 _)
-applied_addable op.Times x y = inr (SFits-int_wrap w64 _)
 applied_addable op.Over x y = elim (unsigned_abs y == 0) as (λ b. Addable (if b then pos 0 else wrapped (int_div x y))) [ true ↦ inl (0, refl) | false ↦ inr (SFits-int_wrap w64 _) ]
+applied_addable o x y = inr (SFits-int_wrap w64 _)
 
 tree_addable : (count : Native → ℕ) (ns : List Native) (tree : Tree) → Addable (tree_value (counts_of count ns) tree)
 unfolding tree_value
@@ -47,9 +45,8 @@ tree_addable count ns (Count i) = inl (count_at count ns i)
 tree_addable count ns (Node o x y) = applied_addable o _ _
 
 top_addable : (count : Native → ℕ) (ns : List Native) (pile : Option (List Tree)) → Addable (top_value (counts_of count ns) pile)
-top_addable count ns None = inl (0, refl)
-top_addable count ns (Some []) = inl (0, refl)
 top_addable count ns (Some (tree ∷ below)) = tree_addable count ns tree
+top_addable count ns pile = inl (0, refl)
 
 less_addable : (count : Native → ℕ) (ns : List Native) → Addable (first_less_others (counts_of count ns))
 less_addable count [] = inl (0, refl)

@@ -1,7 +1,7 @@
 -- The native events of an event, and that they fit the unit.
-use Rattle.std.proofs.Common.{◌≡◌, ◌∙◌, ◌<◌, ◌≤◌, ◌^◌, ◌∷◌, ℕ, zero, suc, true, false, List, [], Option, Some, None, filter, length, map, slice_get, refl, sym, ap, subst, arith}
+use Rattle.std.proofs.Common.{◌≡◌, ◌∙◌, ◌<◌, ◌≤◌, ◌^◌, ◌∷◌, ℕ, true, false, List, [], Option, Some, None, filter, length, map, slice_get, refl, sym, ap, subst, arith}
 use Rattle.std.specs.Prelude.{option_map, unwrap_or}
-use Rattle.std.specs.List.{AllByRecursion, range_with_len}
+use Rattle.std.specs.List.{range_with_len}
 use Rattle.std.specs.Option.{option_and_then}
 use Rattle.std.proofs.lemmas.List.{length-map}
 use Rattle.std.proofs.lemmas.Option.{slice_get-map, slice_get_within}
@@ -13,16 +13,12 @@ use Rattle.event_tables.specs.Tables.{ComponentText, EventText, MaskText, event_
 use Rattle.name_encoder.specs.Names.{Found, native_of}
 use Rattle.papi_base.specs.declared.native.EventRef.TheVariants as event
 use Rattle.papi_base.specs.declared.native.Native.{Native}
+use Rattle.papi_base.proofs.Steps.{all_at}
 use Rattle.chooser_list.specs.Candidates.{alone, found, natives_by, natives_in_row, natives_of_component, natives_of_event, no_modifiers, with_umask}
 use Rattle.chooser_list.specs.Choosing.{takes}
 use Rattle.chooser_list.proofs.Rows.{none_of_each, none_of_rows}
 
 -- ---- an event in its row
-
-pub all_at : {X : Type 0} (P : X → Type 0) (xs : List X) (i : ℕ) (x : X) → AllByRecursion P xs → slice_get xs i ≡ Some x → P x
-all_at P [] i x h e = cc e
-all_at P (y ∷ ys) zero x h e = let same : y ≡ x = cc e in subst P same h.0
-all_at P (y ∷ ys) (suc i) x h e = all_at P ys i x h.1 e
 
 -- the component that has it, and what is kept of it
 pub record Kept (tables : List ComponentText) (comp : ℕ) (e : EventText) : Type 0 where

@@ -5,13 +5,7 @@ use Rattle.std.proofs.lemmas.List.Concat.{flat_map-append}
 use Rattle.std.proofs.lemmas.List.Elements.{filter-append}
 use Rattle.std.proofs.lemmas.List.FromFn.{map-range_with_len_more}
 use Rattle.std.specs.List.{flat_map, range_with_len}
-
-map_same : (xs : List ℕ) → map (λ x. x) xs ≡ xs
-map_same [] = refl
-map_same (x ∷ xs) = ap (λ (ys : List ℕ). x ∷ ys) (map_same xs)
-
-range_more : (n : ℕ) → range_with_len 0 (n + 1) ≡ range_with_len 0 n ++ n ∷ []
-range_more n = sym (map_same (range_with_len 0 (n + 1))) ∙ map-range_with_len_more (λ x. x) 0 n n (omega arith) ∙ ap (λ (xs : List ℕ). xs ++ n ∷ []) (map_same (range_with_len 0 n))
+use Rattle.papi_base.proofs.Growing.{range_more}
 
 module _ {X : Type 0} (p : X → Bool) where
   kept_both : (start so_far after xs ys : List X) → so_far ≡ start ++ filter p xs → after ≡ so_far ++ filter p ys → after ≡ start ++ filter p (xs ++ ys)

@@ -1,36 +1,11 @@
 //! Native events that an event would bring to a set.
 
 ghost use Rattle.std.specs.Prelude.{◌≡◌, ◌++◌, ◌≤◌, length, take};
-ghost use Rattle.std.specs.List.{list_any};
 ghost use Rattle.counter_alloc.specs.Masks.{masks_of};
-ghost use Rattle.postfix_rules.specs.Sameness.{among, joined_by, same_event};
+ghost use Rattle.postfix_rules.specs.Sameness.{among, joined_by};
 
-use event_sets::{is_same, is_same_event};
-use papi_base::{EventRef, Events, MOST_SET_NATIVES, Native, Natives};
-
-/// Whether the event is in the list.
-pub fn has_event(events: &Events, event: &EventRef) -> bool
-    ensures { result ≡ list_any (same_event event.now) events.now }
-{
-    for i in 0..events.len() {
-        if is_same_event(event, &events.at(i)) {
-            return true;
-        }
-    }
-    false
-}
-
-// Whether the native event is in the list.
-fn has_native(natives: &Natives, n: &Native) -> bool
-    ensures { result ≡ among n.now natives.now }
-{
-    for i in 0..natives.len() {
-        if is_same(n, &natives.at(i)) {
-            return true;
-        }
-    }
-    false
-}
+use event_sets::has_native;
+use papi_base::{MOST_SET_NATIVES, Native, Natives};
 
 // Whether the native event is in one of two lists.
 fn has_either(natives: &Natives, further: &Natives, n: &Native) -> bool

@@ -11,10 +11,10 @@ ghost use Rattle.postfix_rules.specs.Fitting.{EventFits, IsHeld};
 ghost use Rattle.event_sets.specs.AtRest.{is_other};
 ghost use Rattle.postfix_rules.specs.Presets.{component_of_event};
 
-use crate::joining::{has_event, joining, masks};
+use crate::joining::{joining, masks};
 use component_table::Catalog;
 use counter_alloc::Matching;
-use event_sets::{EventSet, natives_of};
+use event_sets::{EventSet, has_event, natives_of};
 use papi_base::{EventRef, MOST_SET_EVENTS, MOST_SET_NATIVES, Natives};
 
 // Whether the set has another component.

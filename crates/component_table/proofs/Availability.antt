@@ -12,6 +12,7 @@ use Rattle.table_rows.specs.Texts.{Text}
 use Rattle.component_table.specs.Books.{are_together, book_of, derived_by, derived_from, derived_if, is_available, natives_named, rule_of, with_first}
 use Rattle.component_table.specs.Laws.{Available, ExactlyAvailable, named}
 use Rattle.component_table.proofs.Deriving.{all-together, together-all}
+use Rattle.component_table.proofs.Naming.{named_end}
 
 -- ---- texts that name natives
 
@@ -19,12 +20,8 @@ names_front : (tables : List ComponentText) (text : Text) (texts : List Text) �
 unfolding natives_named
 names_front tables text texts = refl
 
-names_none : (tables : List ComponentText) → natives_named tables [] ≡ Some []
-unfolding natives_named
-names_none tables = refl
-
 each_named : (tables : List ComponentText) (texts : List Text) (natives : List Native) → natives_named tables texts ≡ Some natives → map (names tables) texts ≡ map named natives
-each_named tables [] natives e = let none : [] ≡ natives = cc (names_none tables, e) in ap (map named) none
+each_named tables [] natives e = let none : [] ≡ natives = cc (named_end tables, e) in ap (map named) none
 each_named tables (text ∷ texts) natives e = go (names tables text) (natives_named tables texts) refl refl (each_named tables texts) (sym (names_front tables text texts) ∙ e)
   where
     go : (first : Result Native NameFault) (rest : Option (List Native)) → names tables text ≡ first → natives_named tables texts ≡ rest
@@ -35,7 +32,7 @@ each_named tables (text ∷ texts) natives e = go (names tables text) (natives_n
     go (Err fault) rest f r later h = cc h
 
 all_named : (tables : List ComponentText) (texts : List Text) (natives : List Native) → map (names tables) texts ≡ map named natives → natives_named tables texts ≡ Some natives
-all_named tables [] [] e = names_none tables
+all_named tables [] [] e = named_end tables
 all_named tables [] (n ∷ natives) e = cc e
 all_named tables (text ∷ texts) [] e = cc e
 all_named tables (text ∷ texts) (n ∷ natives) e =
@@ -68,10 +65,8 @@ from_natives tables rows r d (Some natives) here is h = from_test tables rows r 
 
 from_entry : (tables : List ComponentText) (rows : List Entry) (r : ℕ) (e : Option Entry) → slice_get rows r ≡ e
     → is_some (unwrap_or (option_map (derived_from tables) e) None) ≡ true → Available tables rows r
-from_entry tables rows r None here h = cc h
-from_entry tables rows r (Some row.Missing) here h = cc h
-from_entry tables rows r (Some row.Uncomputed) here h = cc h
 from_entry tables rows r (Some (row.Def d)) here h = from_natives tables rows r d (natives_named tables d.natives) here refl h
+from_entry tables rows r e here h = cc h
 
 available_is : (tables : List ComponentText) (rows : List Entry) (r : ℕ) → Available tables rows r → is_available (book_of tables rows) r ≡ true
 available_is tables rows r a =

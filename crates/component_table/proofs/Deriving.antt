@@ -39,17 +39,14 @@ all-together (first ∷ others) component each =
 plain-one : (k : Kind) (f : Option FormulaView) (texts : List Text) → FitsKind k f texts → rule_of k f ≡ rule.Plain → length texts ≡ 1
 plain-one kind.NotDerived None texts a e = a
 plain-one kind.NotDerived (Some f) texts a e = absurd a
-plain-one kind.Add f texts a e = cc e
-plain-one kind.Sub f texts a e = cc e
 plain-one kind.Postfix None texts a e = absurd a
 plain-one kind.Postfix (Some f) texts a e = cc e
+plain-one k f texts a e = cc e
 
 rule-counts : (k : Kind) (f : Option FormulaView) (texts : List Text) → FitsKind k f texts → TakesCounts (rule_of k f) (length texts)
-rule-counts kind.NotDerived f texts a = tt
-rule-counts kind.Add f texts a = tt
-rule-counts kind.Sub f texts a = tt
 rule-counts kind.Postfix None texts a = absurd a
 rule-counts kind.Postfix (Some f) texts a = a.0
+rule-counts k f texts a = tt
 
 -- the natives of a computed preset, all of one component, make with its rule a derived event
 pub derivable : (tables : List ComponentText) (d : DefView) (natives : List Native) → IsDef d → natives_named tables d.natives ≡ Some natives → are_together natives ≡ true

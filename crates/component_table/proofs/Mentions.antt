@@ -1,44 +1,18 @@
 -- The natives mentioned and their codes, as an insertion-ordered set keeps them.
 use Rattle.std.proofs.Common.{◌≡◌, ◌∙◌, ◌+◌, ℕ, Bool, true, false, cond, eqb, List, [], ◌∷◌, ◌++◌, Option, Some, None}
-use Rattle.std.proofs.Common.{length, refl, sym, ap, arith, option_map, if◌then◌else◌, position, ◌&&◌, ◌==◌, is_some}
+use Rattle.std.proofs.Common.{length, refl, sym, ap, arith, option_map, if◌then◌else◌, position, is_some}
 use Rattle.std.specs.List.{list_any, position_or_len}
 use Rattle.std.proofs.Math.Dec.{ltb}
 use Rattle.std.proofs.lemmas.Bool.{eqb-true}
 use Rattle.std.proofs.lemmas.List.Folds.{position_or_len_push}
-use mathlib.Core.Bool.{beq}
 use Rattle.papi_base.specs.declared.native.Native.{Native}
 use Rattle.papi_base.specs.contracts.native.NativePartialEq.TheImpl.{eq-value}
-use Rattle.postfix_rules.specs.Sameness.{among, joined_by, same_bool, same_native}
+use Rattle.postfix_rules.specs.Sameness.{among, joined_by, same_native}
 use Rattle.postfix_rules.specs.NativeCodes.{native_code}
+use Rattle.postfix_rules.proofs.AllFields.{natives_same}
 use Rattle.component_table.specs.Codes.{code_in}
 
 -- ---- the derived test for equal native events is the test of all fields
-
--- the tests in one row
-in_row : (a b c d e f g h i j k : Bool) → (a && (b && (c && (d && (e && ((f && (g && (h && (i && j)))) && k)))))) ≡ (a && b && c && d && e && f && g && h && i && j && k)
-in_row false b c d e f g h i j k = refl
-in_row true false c d e f g h i j k = refl
-in_row true true false d e f g h i j k = refl
-in_row true true true false e f g h i j k = refl
-in_row true true true true false f g h i j k = refl
-in_row true true true true true false g h i j k = refl
-in_row true true true true true true false h i j k = refl
-in_row true true true true true true true false i j k = refl
-in_row true true true true true true true true false j k = refl
-in_row true true true true true true true true true j k = refl
-
-bools_same : (a b : Bool) → beq a b ≡ same_bool a b
-bools_same true true = refl
-bools_same true false = refl
-bools_same false true = refl
-bools_same false false = refl
-
-pub natives_same : (m n : Native) → eq-value.it m n ≡ same_native m n
-natives_same m n =
-    in_row (m.comp == n.comp) (m.event == n.event) (m.select == n.select) (m.masks == n.masks) (m.umask == n.umask) (beq m.mods.user n.mods.user)
-    (beq m.mods.kernel n.mods.kernel) (beq m.mods.edge n.mods.edge) (beq m.mods.invert n.mods.invert) (m.mods.cmask == n.mods.cmask)
-    (m.allowed == n.allowed)
-    ∙ (λ i. (m.comp == n.comp) && (m.event == n.event) && (m.select == n.select) && (m.masks == n.masks) && (m.umask == n.umask) && bools_same m.mods.user n.mods.user i && bools_same m.mods.kernel n.mods.kernel i && bools_same m.mods.edge n.mods.edge i && bools_same m.mods.invert n.mods.invert i && (m.mods.cmask == n.mods.cmask) && (m.allowed == n.allowed))
 
 among_same : (natives : List Native) (n : Native) → list_any (eq-value.it n) natives ≡ among n natives
 among_same natives n i = list_any (λ m. natives_same n m i) natives

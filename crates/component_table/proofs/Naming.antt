@@ -44,7 +44,7 @@ pub named-fault : (tables : List ComponentText) (texts : List Text) (i : ℕ) (n
 named-fault tables texts i natives fault small is named =
     named.so_far ∙ ap (after natives) (named_here tables texts i small ∙ ap (λ r. with_first r (natives_named tables (drop (i + 1) texts))) is)
 
-named_end : (tables : List ComponentText) → natives_named tables [] ≡ Some []
+pub named_end : (tables : List ComponentText) → natives_named tables [] ≡ Some []
 unfolding natives_named
 named_end tables = refl
 

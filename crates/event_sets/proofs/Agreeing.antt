@@ -9,6 +9,7 @@ use Rattle.std.specs.List.{list_any, position_or_len}
 use Rattle.std.proofs.lemmas.List.Elements.{All-push}
 use Rattle.std.proofs.lemmas.Option.{slice_get_within, slice_get-get_or, get_or_from_slice_get}
 use Rattle.std.proofs.lemmas.Bool.Decides.{nat_tests}
+use Rattle.std.proofs.lemmas.Bool.{or_parts, or_right}
 use Rattle.papi_base.specs.declared.native.Native.{Native}
 use Rattle.papi_base.specs.declared.native.EventRef.{EventRef}
 use Rattle.postfix_rules.specs.Sameness.{among, joined_by, same_event}
@@ -39,14 +40,6 @@ emptied_agrees book s = record {
   plain = λ i t e h k. cc;
   apart = λ i j t u e f n h k. cc;
 }
-
-or_right : (a b : Bool) → b ≡ true → (a || b) ≡ true
-or_right true b h = refl
-or_right false b h = h
-
-pub neither : (a b : Bool) → (a || b) ≡ false → (a ≡ false) × (b ≡ false)
-neither true b h = cc
-neither false b h = (refl, h)
 
 -- an event that is in the list is found there
 pub found : (e : EventRef) (es : List EventRef) (i : ℕ) → slice_get es i ≡ Some e → list_any (same_event e) es ≡ true
@@ -124,7 +117,7 @@ pub added_agrees : AddedAgrees
 added_agrees book e s given takes h = record {
   held = All-push (IsHeld book) s.events e h.held given;
   owned = All-push (IsOwned book (component_of_event book e)) s.events e
-      (added_owner book s.component e s.events given (neither (is_other s.component (component_of_event book e)) (has_event e s) takes).0 h.owned)
+      (added_owner book s.component e s.events given (or_parts (is_other s.component (component_of_event book e)) (has_event e s) takes).0 h.owned)
       (by_number (λ n. component_of_event book e ≡ Some n.comp) (natives_of_event book e) (event_owned book e given));
   one_each = omega (arith, length-append s.thresholds (0 ∷ []), length-append s.events (e ∷ []), h.one_each);
   distinct = λ i j f a b. elim (get_pushed s.events e i f a) [
@@ -135,7 +128,7 @@ added_agrees book e s given takes h = record {
   apart = λ i j t u f g n a b c d. h.apart i j t u f g n (armed i t a) (armed j u b) (event i t f (armed i t a) c) (event j u g (armed j u b) d);
 } where
   new : has_event e s ≡ false
-  new = (neither (is_other s.component (component_of_event book e)) (has_event e s) takes).1
+  new = (or_parts (is_other s.component (component_of_event book e)) (has_event e s) takes).1
 
   fresh : (i : ℕ) (f : EventRef) → slice_get s.events i ≡ Some f → e ≡ f → ⊥
   fresh i f a q = let is : false ≡ true = sym new ∙ found e s.events i (a ∙ ap Some (sym q)) in cc is

@@ -6,7 +6,7 @@ use Rattle.papi_base.specs.declared.native.EventRef.{EventRef}
 use Rattle.postfix_rules.specs.Presets.{Book}
 use Rattle.postfix_rules.specs.Sameness.{same_event}
 use Rattle.event_sets.specs.AtRest.{armed_elsewhere, leads, least_width}
-use Rattle.event_sets.proofs.Steps.{drop_at, take_at}
+use Rattle.papi_base.proofs.Steps.{drop_at, take_at}
 
 least_push : (ws : List ℕ) (w : ℕ) → 0 < length ws → least_width (ws ++ w ∷ []) ≡ min (least_width ws) w
 least_push [] w some = absurd (omega arith)

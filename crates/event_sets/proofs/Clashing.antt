@@ -1,6 +1,6 @@
 -- Native events that are given counters one after another.
-use Rattle.std.proofs.Common.{◌≡◌, ℕ, zero, suc, ◌+◌, ◌<◌, ◌≤◌, ◌^◌, true, false, ◌==◌, List, [], ◌∷◌, ◌++◌, take, drop, refl, ap, sym, subst, ◌∙◌, arith, slice_get, Option, Some, None}
-use Rattle.std.specs.Prelude.{All, is_some, if◌then◌else◌}
+use Rattle.std.proofs.Common.{◌≡◌, ℕ, zero, suc, ◌+◌, ◌<◌, ◌≤◌, ◌^◌, true, false, ◌==◌, List, [], ◌∷◌, ◌++◌, take, drop, ap, sym, subst, ◌∙◌, arith, slice_get, Option, Some, None}
+use Rattle.std.specs.Prelude.{All, if◌then◌else◌}
 use Rattle.std.specs.Int.{bit_at}
 use Rattle.std.proofs.lemmas.List.{map-append, take-append-drop, append_assoc}
 use Rattle.papi_base.specs.declared.native.Native.{Native}
@@ -14,7 +14,7 @@ use Rattle.counter_alloc.proofs.Prefixes.{assignable_front}
 use Rattle.counter_alloc.proofs.Fitting.{is_assignable_true, is_assignable_false, mask_small}
 use Rattle.event_sets.specs.declared.refusal.Clash.{Clash}
 use Rattle.event_sets.specs.Assigning.{blamed_unless, clash_of, members_from}
-use Rattle.event_sets.proofs.Steps.{drop_at, take_at}
+use Rattle.papi_base.proofs.Steps.{drop_at, take_at}
 
 -- one place more
 pub masks_at : (natives : List Native) (i : ℕ) (n : Native) → slice_get natives i ≡ Some n → masks_of (take (i + 1) natives) ≡ masks_of (take i natives) ++ n.allowed ∷ []
@@ -46,10 +46,6 @@ refused_whole natives i n allowed e is refused assignable =
     let P : List ℕ → Type 0 = λ xs. Assignable xs → ⊥ in
     begins P natives i n allowed e is refused
     (assignable_front (masks_of (take (i + 1) natives)) (masks_of (drop (i + 1) natives)) (subst Assignable (sym (masks_split (i + 1) natives)) assignable))
-
-pub none_of : (slice : Option ℕ) → is_some slice ≡ false → slice ≡ None
-none_of None e = refl
-none_of (Some x) e = cc
 
 -- nothing stands in the way of natives with counters of their own
 pub no_clash : (slice : Option ℕ) (from : ℕ) (natives : List Native) → slice ≡ None → AreMasks (masks_of natives) → Assignable (masks_of natives) → None ≡ clash_of slice from natives

@@ -9,6 +9,7 @@ use Rattle.papi_base.specs.declared.native.EventRef.{EventRef}
 use Rattle.postfix_rules.specs.Presets.{Book, natives_after, natives_of_event}
 use Rattle.postfix_rules.specs.Sameness.{among, joined_by, same_native}
 use Rattle.postfix_rules.proofs.Equal.{native_is}
+use Rattle.postfix_rules.proofs.Joined.{joined-append}
 use Rattle.event_sets.specs.Laws.{NativesAreFirsts, firsts}
 
 -- one filter after another is the filter by both
@@ -60,10 +61,6 @@ joined_is seen (n ∷ more) = by (joined_is seen more) (joined_is (seen ++ n ∷
         new
         ∙ append_assoc seen (n ∷ []) _
         ∙ ap (λ ys. seen ++ n ∷ ys) (sym (filters_join _ _ (λ m. not (among m (seen ++ n ∷ []))) (λ m. new_left_out seen n m) (firsts more)))
-
-joined-append : (seen xs ys : List Native) → joined_by seen (xs ++ ys) ≡ joined_by (joined_by seen xs) ys
-joined-append seen [] ys = refl
-joined-append seen (x ∷ xs) ys = joined-append (if among x seen then seen else seen ++ x ∷ []) xs ys
 
 after_is : (book : Book) (seen : List Native) (es : List EventRef) → natives_after book seen es ≡ joined_by seen (flat_map (natives_of_event book) es)
 after_is book seen [] = refl

@@ -4,7 +4,7 @@ use Rattle.std.specs.Prelude.{All, if◌then◌else◌}
 use Rattle.std.proofs.lemmas.List.Elements.{All-push}
 use Rattle.papi_base.specs.declared.native.Native.{Native}
 use Rattle.postfix_rules.specs.Sameness.{among, joined_by}
-use Rattle.event_sets.proofs.Steps.{drop_at}
+use Rattle.papi_base.proofs.Steps.{drop_at}
 
 next_grows : (b : Bool) (n : Native) (seen : List Native) → length seen ≤ length (if b then seen else seen ++ n ∷ [])
 next_grows true n seen = omega arith

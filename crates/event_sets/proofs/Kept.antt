@@ -5,16 +5,15 @@ use Rattle.std.specs.Prelude.{All, is_some, if◌then◌else◌, nat_lt}
 use Rattle.std.specs.List.{list_any}
 use Rattle.std.proofs.lemmas.Bool.Decides.{nat_tests}
 use Rattle.std.proofs.lemmas.Nat.Bits.{bit_at-zero}
+use Rattle.std.proofs.lemmas.Bool.{or_parts}
+use Rattle.std.proofs.lemmas.List.Elements.{All-nil}
 use Rattle.papi_base.specs.declared.native.Native.{Native}
 use Rattle.counter_alloc.specs.Assignments.{Assignable, Has}
 use Rattle.counter_alloc.specs.Masks.{masks_of}
 use Rattle.counter_alloc.specs.Matchings.{MatchingView}
 use Rattle.event_sets.specs.AtRest.{is_armed, is_bad_domain, is_bad_slice, is_other}
 use Rattle.event_sets.specs.Sets.{IsMatched, IsSound, SetView}
-use Rattle.event_sets.proofs.Agreeing.{by_number, neither}
-
-none_of_it : {X : Type 0} (P : X → Type 0) → All P []
-none_of_it P = λ k d below. absurd (omega arith)
+use Rattle.event_sets.proofs.Agreeing.{by_number}
 
 -- ---- another domain
 
@@ -53,9 +52,9 @@ some_allowed natives a = by_number (λ n. 0 < n.allowed) natives
       positive (suc m) c e = omega arith
 
 none_armed : (ts : List ℕ) → list_any (λ t. nat_lt 0 t) ts ≡ false → All (λ t. t ≡ 0) ts
-none_armed [] h = none_of_it (λ t. t ≡ 0)
+none_armed [] h = All-nil (λ t. t ≡ 0)
 none_armed (t ∷ ts) h =
-    let parts = neither (nat_lt 0 t) (list_any (λ x. nat_lt 0 x) ts) h in
+    let parts = or_parts (nat_lt 0 t) (list_any (λ x. nat_lt 0 x) ts) h in
     let none : t ≡ 0 = grind (arith, nat_tests, parts.0) in
     at (none_armed ts parts.1) none where
       at : All (λ x. x ≡ 0) ts → t ≡ 0 → All (λ x. x ≡ 0) (t ∷ ts)
@@ -115,11 +114,11 @@ assigned_sound comp counters s own few same h = record {
   shared = λ slice is. let old = h.shared slice is in record { good_slice = old.good_slice; some_counter = old.some_counter; no_thresholds = old.no_thresholds };
 } where
   owned : (s.rest.component ≡ None) ⊎ (s.rest.component ≡ Some comp) → All (λ n. Some comp ≡ Some n.comp) s.natives
-  owned (inl none) = subst (All (λ n. Some comp ≡ Some n.comp)) (sym (no_natives s h none)) (none_of_it (λ n. Some comp ≡ Some n.comp))
+  owned (inl none) = subst (All (λ n. Some comp ≡ Some n.comp)) (sym (no_natives s h none)) (All-nil (λ n. Some comp ≡ Some n.comp))
   owned (inr is) = subst (λ c. All (λ n. c ≡ Some n.comp) s.natives) is h.owned
 
   in_range : (s.rest.component ≡ None) ⊎ (s.rest.component ≡ Some comp) → All (λ n. n.allowed < 2 ^ counters) s.natives
-  in_range (inl none) = subst (All (λ n. n.allowed < 2 ^ counters)) (sym (no_natives s h none)) (none_of_it (λ n. n.allowed < 2 ^ counters))
+  in_range (inl none) = subst (All (λ n. n.allowed < 2 ^ counters)) (sym (no_natives s h none)) (All-nil (λ n. n.allowed < 2 ^ counters))
   in_range (inr is) = subst (λ c. All (λ n. n.allowed < 2 ^ c) s.natives) (same is) h.in_range
 
 -- its matching is the one that is kept, or a new one if no component was fixed

@@ -1,6 +1,4 @@
 pub mod Firsts
-pub mod Derived
-pub mod Steps
 pub mod Removing
 pub mod Agreeing
 pub mod JoinedNatives

@@ -13,7 +13,7 @@ use Rattle.event_sets.specs.Sets.{IsSound, SetView}
 use Rattle.event_sets.proofs.Agreeing.{by_number, length-remove, natives_each, numbered}
 use Rattle.event_sets.proofs.JoinedNatives.{joined_grows}
 use Rattle.event_sets.proofs.Removing.{get_removed, stood, stood_apart}
-use Rattle.event_sets.proofs.Steps.{take_at}
+use Rattle.papi_base.proofs.Steps.{take_at}
 use Rattle.event_sets.proofs.Sublists.{no_more, of_among, sub_assignable}
 
 -- ---- a list without an item, as a loop goes through it

@@ -3,6 +3,7 @@ use Rattle.std.proofs.Common.{◌≡◌, ℕ, zero, suc, ◌<◌, ◌≤◌, Boo
 use Rattle.std.specs.Prelude.{All, if◌then◌else◌, is_some, nat_le, nat_lt, unwrap_or}
 use Rattle.std.specs.Option.{option_map, option_map_or, ForSome}
 use Rattle.std.proofs.lemmas.Bool.Decides.{nat_tests}
+use Rattle.std.proofs.lemmas.Bool.{or_parts}
 use Rattle.papi_base.specs.declared.bits.Domain.{Domain}
 use Rattle.papi_base.specs.declared.native.Native.{Native}
 use Rattle.papi_base.specs.declared.native.EventRef.TheVariants as event
@@ -22,7 +23,7 @@ use Rattle.event_sets.specs.AtRest.{Widths, cannot_arm, cannot_take, clash_with,
 use Rattle.event_sets.specs.AtRest.{is_full, is_other, natives_with, new_set, place_of, shares_native, widths_at}
 use Rattle.event_sets.specs.Sets.{IsSound, set_view}
 use Rattle.event_sets.specs.Soundness.{AddedIsSound, ArmedIsSound, AssignedIsSound, EmptiedIsSound, HeldFit, NewIsSound, RemovedIsSound, WithDomainIsSound, WithSliceIsSound}
-use Rattle.event_sets.proofs.Agreeing.{held_have_natives, neither, numbered}
+use Rattle.event_sets.proofs.Agreeing.{held_have_natives, numbered}
 use Rattle.event_sets.proofs.Clashing.{are_masks}
 use Rattle.event_sets.proofs.Kept.{armed_sound, assigned_sound, domain_sound, sliced_sound}
 use Rattle.event_sets.proofs.Removed.{removed_sound}
@@ -108,7 +109,7 @@ added_is_sound book shape e s held fits few taken sound =
     let n = lead.0 in
     let view = set_view book shape s in
     let owner : is_other s.component (Some n.comp) ≡ false = ap (is_other s.component) (sym (ap (option_map (λ (m : Native). m.comp)) lead.1))
-    ∙ (neither (is_other s.component _) (has_event e s) rows.0).0 in
+    ∙ (or_parts (is_other s.component _) (has_event e s) rows.0).0 in
     let ready : Ready book shape e view n = record {
       held = held;
       fits = fits;
@@ -117,13 +118,13 @@ added_is_sound book shape e s held fits few taken sound =
       sound = sound;
       first = lead.1;
       own = owner;
-      absent = (neither (is_other s.component _) (has_event e s) rows.0).1;
+      absent = (or_parts (is_other s.component _) (has_event e s) rows.0).1;
     } in
     let all = natives_with book e s in
     let joins = one_more_joins book s.events e in
     let counters = length (widths_at shape (Some n.comp)) in
     let size = few_counters shape n.comp few in
-    let room = neither (nat_le 32 (length s.events)) (nat_lt 32 (length all)) rows.1 in
+    let room = or_parts (nat_le 32 (length s.events)) (nat_lt 32 (length all)) rows.1 in
     let few_events : length s.events < 32 = grind (arith, nat_tests, room.0) in
     let few_natives : length all ≤ 32 = grind (arith, nat_tests, room.1) in
     let clear : clash_of s.slice (length view.natives) all ≡ None = sym (clash_is book shape e view n ready all joins) ∙ rows.2 in
@@ -139,6 +140,5 @@ held_fit book shape (event.Native n) fit held own = λ k d below. one k d below 
   one (suc k) d below = absurd (omega arith)
 held_fit book shape (event.Preset row) fit held own = go (slice_get book row) refl held where
   go : (o : Option (Option DerivedView)) → slice_get book row ≡ o → IsSomeAnd (unwrap_or o None) IsDerived → All (Fits shape) (option_map_or (λ d. d.natives) (unwrap_or o None) [])
-  go None e held = absurd held
-  go (Some None) e held = absurd held
   go (Some (Some d)) e held = numbered (λ (place : Option DerivedView). ForSome place (λ x. All (Fits shape) x.natives)) book fit.each row (Some d) e d refl
+  go o e held = absurd held

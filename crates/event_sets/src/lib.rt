@@ -13,5 +13,5 @@ mod thresholds;
 pub use event_set::EventSet;
 pub use joining::natives_of;
 pub use refusal::{Clash, Refusal};
-pub use sameness::{is_same, is_same_event};
+pub use sameness::{has_event, has_native, is_same};
 pub use thresholds::leads;

@@ -8,7 +8,7 @@ use Rattle.std.specs.List.{AllByRecursion, list_any}
 use Rattle.std.specs.Option.{option_map_or}
 use Rattle.table_rows.specs.Texts.{Text}
 use Rattle.event_tables.specs.Tables.{ComponentText, EventText, same_name}
-use Rattle.event_tables.specs.Lines.{Line, skipped, bad, component, counter, event, umask, row_line}
+use Rattle.event_tables.specs.Lines.{Line, component, event, umask, row_line}
 use Rattle.event_tables.specs.Unit.{cause_in, inner_cause, last_of, mask_cause}
 use Rattle.event_tables.specs.Steps.{CanGrow, grown, on_last, with_line}
 use Rattle.event_tables.specs.Views.{component_text}
@@ -36,11 +36,7 @@ IsInner line = ⊤
 
 pub inner-row : (r : Row) → ((n p : Bor Text) → r ≡ row.Component n p → ⊥) → IsInner (row_line r)
 inner-row (row.Component n p) k = absurd (k n p refl)
-inner-row row.Skipped k = tt
-inner-row row.Bad k = tt
-inner-row (row.Counter n w f) k = tt
-inner-row (row.Event n s' c t) k = tt
-inner-row (row.Umask n b' f t) k = tt
+inner-row r k = tt
 
 events-filled : (events : List EventText) (o : EventText → Option RowCause) → option_map_or o (last_of events) (Some cause.BadRow) ≡ None → 0 < length events
 events-filled [] o e = cc e
@@ -56,18 +52,11 @@ unfolding cause_in
 inner-grows above (event n s ns t) c l e =
     fresh (nat_le MOST_COMPONENT_EVENTS (length c.events)) (list_any (λ (x : EventText). same_name x.name n) c.events) _ (rw l at e)
 inner-grows above (umask m) c l e = events-filled c.events (λ x. mask_cause x.masks m.name m.preset_choice) (rw l at e)
-inner-grows above (counter n w f) c l e = tt
-inner-grows above skipped c l e = tt
-inner-grows above bad c l e = tt
-inner-grows above (component n p) c l e = tt
+inner-grows above line c l e = tt
 
 pub inner-with : (above : List ComponentText) (line : Line) → IsInner line → with_line above line ≡ on_last (grown line) above
-inner-with above (counter n w f) i = refl
-inner-with above (event n s ns t) i = refl
-inner-with above (umask m) i = refl
-inner-with above skipped i = refl
-inner-with above bad i = refl
 inner-with above (component n p) i = absurd i
+inner-with above line i = refl
 
 -- its cause is that in the last component
 pub cause-inner : (above : List ComponentText) (r : Row) (c : ComponentText) → (r ≡ row.Skipped → ⊥) → (r ≡ row.Bad → ⊥) → ((n p : Bor Text) → r ≡ row.Component n p → ⊥)
@@ -76,9 +65,7 @@ unfolding cause_in
 cause-inner above row.Skipped c s b k l = absurd (s refl)
 cause-inner above row.Bad c s b k l = absurd (b refl)
 cause-inner above (row.Component n p) c s b k l = absurd (k n p refl)
-cause-inner above (row.Counter n w f) c s b k l = rw l refl
-cause-inner above (row.Event n s' ns t) c s b k l = rw l refl
-cause-inner above (row.Umask n b' f t) c s b k l = rw l refl
+cause-inner above r c s b k l = rw l refl
 
 -- and it has one if there is no component
 pub cause-alone : (above : List ComponentText) (r : Row) → (r ≡ row.Skipped → ⊥) → (r ≡ row.Bad → ⊥) → ((n p : Bor Text) → r ≡ row.Component n p → ⊥)
@@ -87,9 +74,7 @@ unfolding cause_in
 cause-alone above row.Skipped s b k l = absurd (s refl)
 cause-alone above row.Bad s b k l = absurd (b refl)
 cause-alone above (row.Component n p) s b k l = absurd (k n p refl)
-cause-alone above (row.Counter n w f) s b k l = rw l refl
-cause-alone above (row.Event n s' ns t) s b k l = rw l refl
-cause-alone above (row.Umask n b' f t) s b k l = rw l refl
+cause-alone above r s b k l = rw l refl
 
 -- and adds nothing if no component stands above it
 pub none-above : (xs : List Component) (line : Line) → IsInner line → (0 < length xs → ⊥) → map component_text xs ≡ with_line (map component_text xs) line

@@ -5,13 +5,10 @@ use Rattle.std.specs.Prelude.{◌||◌, is_some, if◌then◌else◌}
 use Rattle.std.specs.List.{list_any, position_from}
 use Rattle.std.specs.Map.{update}
 use Rattle.std.specs.Str.{bytes_eq, str_to_ascii_lowercase}
+use Rattle.std.proofs.lemmas.Bool.{or_parts}
 use Rattle.table_rows.specs.Texts.{Text}
 use Rattle.event_tables.specs.Steps.{on_last, with_mask}
 use Rattle.event_tables.specs.Tables.{EventText, MaskText, row_of_lower, same_name}
-
-none-here : (a b : Bool) → (a || b) ≡ false → (a ≡ false) × (b ≡ false)
-none-here false b e = (refl, e)
-none-here true b e = cc e
 
 -- some item is found if there is one
 pub any-found : {X : Type 0} (p : X → Bool) (i : ℕ) (xs : List X) → is_some (position_from p i xs) ≡ list_any p xs
@@ -26,7 +23,7 @@ any-found p i (x ∷ xs) = go (p x) (any-found p (i + 1) xs)
 last-found : {X : Type 0} (p : X → Bool) (i n : ℕ) (xs : List X) (x : X) → n ≡ i + length xs → list_any p xs ≡ false → p x ≡ true → position_from p i (xs ++ x ∷ []) ≡ Some n
 last-found p i n [] x e h t = let same : i ≡ n = omega (arith, e) in rw t (ap Some same)
 last-found p i n (y ∷ xs) x e h t =
-    let none = none-here (p y) (list_any p xs) h in
+    let none = or_parts (p y) (list_any p xs) h in
     let more = last-found p (i + 1) n xs x (omega (arith, e)) none.1 t in
     rw none.0 more
 
@@ -61,9 +58,8 @@ indexed-more events more e n name old new m k is o fresh up q =
 row-on_last : (m : MaskText) (q : Text) (i : ℕ) (es : List EventText)
     → position_from (λ e. bytes_eq (str_to_ascii_lowercase e.name) q) i (on_last (with_mask m) es) ≡ position_from (λ e. bytes_eq (str_to_ascii_lowercase e.name) q) i es
 unfolding on_last
-row-on_last m q i [] = refl
-row-on_last m q i (e ∷ []) = refl
 row-on_last m q i (e ∷ f ∷ es) = ap (λ (o : Option ℕ). if bytes_eq (lower e.name) q then Some i else o) (row-on_last m q (i + 1) (f ∷ es))
+row-on_last m q i es = refl
 
 pub indexed-masked : (m : MaskText) (events more : List EventText) (old : Text → Option ℕ) → more ≡ on_last (with_mask m) events
     → ((q : Text) → old q ≡ row_of_lower events q) → (q : Text) → old q ≡ row_of_lower more q

@@ -1,5 +1,5 @@
 -- What holds of each item holds of the one at a place.
-use Rattle.std.proofs.Common.{◌≡◌, ◌∙◌, ◌<◌, ◌≤◌, ◌∷◌, ℕ, zero, suc, List, [], Some, None, map, length, get_or, refl, sym, ap, subst, arith}
+use Rattle.std.proofs.Common.{◌≡◌, ◌∙◌, ◌<◌, ◌∷◌, ℕ, zero, suc, List, [], Some, map, length, get_or, sym, ap, arith}
 use Rattle.std.proofs.lemmas.Option.{slice_get-get_or}
 use Rattle.std.proofs.Math.ListN.{set}
 use Rattle.std.specs.Prelude.{slice_get}
@@ -20,17 +20,6 @@ all-set P [] i new h n = h
 all-set P (x ∷ xs) zero new h n = (n, h.1)
 all-set P (x ∷ xs) (suc i) new h n = (h.0, all-set P xs i new h.1 n)
 
--- what holds of each item holds of one that is found
-pub all-found : {X : Type 0} (P : X → Type 0) (xs : List X) (i : ℕ) (x : X) → AllByRecursion P xs → slice_get xs i ≡ Some x → P x
-all-found P [] i x h e = cc e
-all-found P (y ∷ xs) zero x h e = let is : y ≡ x = cc e in subst P is h.0
-all-found P (y ∷ xs) (suc i) x h e = all-found P xs i x h.1 e
-
 -- the item at a place, and that there is none past the end
 pub item-some : {X : Type 0} (xs : List X) (i : ℕ) (x : X) → x ≡ get_or xs i x → i < length xs → slice_get xs i ≡ Some x
 item-some xs i x e lt = slice_get-get_or xs i x lt ∙ ap (λ y. Some y) (sym e)
-
-pub item-none : {X : Type 0} (xs : List X) (i : ℕ) → length xs ≤ i → slice_get xs i ≡ None
-item-none [] i h = refl
-item-none (x ∷ xs) zero h = absurd (omega arith)
-item-none (x ∷ xs) (suc i) h = item-none xs i (omega arith)

@@ -1,10 +1,11 @@
 -- A row with no cause keeps what the tables keep.
 use Rattle.std.proofs.Common.{◌≡◌, ◌∙◌, ◌<◌, ◌^◌, ◌∷◌, ◌++◌, ℕ, List, [], Option, Some, None, Bool, true, false, length, refl, ap, arith, length-append}
 use Rattle.std.proofs.Math.Pow.{pow-lt}
-use Rattle.std.proofs.lemmas.Bool.{leb-false}
+use Rattle.std.proofs.lemmas.Bool.{leb-false, or_parts}
 use Rattle.std.specs.Prelude.{◌&&◌, ◌||◌, IfSome, is_some, if◌then◌else◌, nat_le, unwrap_or}
 use Rattle.std.specs.List.{AllByRecursion, list_all, list_any}
 use Rattle.std.specs.Str.{bytes_eq}
+use Rattle.papi_base.proofs.Steps.{passed_over}
 use Rattle.table_rows.specs.Texts.{Text, is_empty, is_name}
 use Rattle.table_rows.proofs.Texts.{all-append, all-map}
 use Rattle.event_tables.specs.Tables.{ComponentText, CounterText, EventText, MaskText, same_name}
@@ -20,23 +21,15 @@ use Rattle.event_tables.proofs.Growing.{last_of-later}
 
 -- ---- tests
 
-if-none : {X : Type 0} (b : Bool) (x : X) (o : Option X) → (if b then Some x else o) ≡ None → (b ≡ false) × (o ≡ None)
-if-none true x o e = cc e
-if-none false x o e = (refl, e)
-
-either : (a b : Bool) → (a || b) ≡ false → (a ≡ false) × (b ≡ false)
-either false b e = (refl, e)
-either true b e = cc e
-
 none-each : {X : Type 0} (p : X → Bool) (xs : List X) → list_any p xs ≡ false → AllByRecursion (λ x. p x ≡ false) xs
 none-each p [] e = tt
-none-each p (x ∷ xs) e = let h = either (p x) (list_any p xs) e in (h.0, none-each p xs h.1)
+none-each p (x ∷ xs) e = let h = or_parts (p x) (list_any p xs) e in (h.0, none-each p xs h.1)
 
 either-none : {X : Type 0} (p q : X → Bool) (xs : List X) → list_any (λ x. p x || q x) xs ≡ false → (list_any p xs ≡ false) × (list_any q xs ≡ false)
 either-none p q [] e = (refl, refl)
 either-none p q (x ∷ xs) e =
-    let h = either (p x || q x) (list_any (λ y. p y || q y) xs) e in
-    let here = either (p x) (q x) h.0 in
+    let h = or_parts (p x || q x) (list_any (λ y. p y || q y) xs) e in
+    let here = or_parts (p x) (q x) h.0 in
     let more = either-none p q xs h.1 in
     (rw (here.0, more.0) refl, rw (here.1, more.1) refl)
 
@@ -45,7 +38,7 @@ either-none p q (x ∷ xs) e =
 no_repeats-more : {X : Type 0} (same : X → X → Bool) (xs : List X) (n : X) → NoRepeats same xs → list_any (λ x. same x n) xs ≡ false → NoRepeats same (xs ++ n ∷ [])
 no_repeats-more same [] n h e = (tt, tt)
 no_repeats-more same (x ∷ xs) n h e =
-    let p = either (same x n) (list_any (λ y. same y n) xs) e in
+    let p = or_parts (same x n) (list_any (λ y. same y n) xs) e in
     (all-append (λ y. same x y ≡ false) xs (n ∷ []) h.0 (p.0, tt), no_repeats-more same xs n h.1 p.1)
 
 all-on_last : {X : Type 0} (P : X → Type 0) (f : X → X) (xs : List X) → AllByRecursion P xs → ((x : X) → last_of xs ≡ Some x → P x → P (f x)) → AllByRecursion P (on_last f xs)
@@ -56,9 +49,8 @@ all-on_last P f (x ∷ y ∷ rest) h g = (h.0, all-on_last P f (y ∷ rest) h.1 
 
 length-on_last : {X : Type 0} (f : X → X) (xs : List X) → length (on_last f xs) ≡ length xs
 unfolding on_last
-length-on_last f [] = refl
-length-on_last f (x ∷ []) = refl
 length-on_last f (x ∷ y ∷ rest) = let more = length-on_last f (y ∷ rest) in omega (arith, more)
+length-on_last f xs = refl
 
 no_repeats-on_last : {X : Type 0} (same : X → X → Bool) (f : X → X) (xs : List X) → ((x y : X) → same x (f y) ≡ same x y) → NoRepeats same xs → NoRepeats same (on_last f xs)
 unfolding on_last
@@ -73,8 +65,8 @@ component-kept : (above : List ComponentText) (name pmu : Text) → is_name name
     → IsTables above → IsTables (above ++ component_of name pmu [] ∷ [])
 unfolding counters_in events_in
 component-kept above name pmu n p e h =
-    let few = if-none (nat_le MOST_COMPONENTS (length above)) cause.OverLimit _ e in
-    let fresh = if-none (list_any (λ (c : ComponentText). same_name c.name name || same_name c.pmu pmu) above) cause.RepeatedName None few.1 in
+    let few = passed_over (nat_le MOST_COMPONENTS (length above)) cause.OverLimit _ e in
+    let fresh = passed_over (list_any (λ (c : ComponentText). same_name c.name name || same_name c.pmu pmu) above) cause.RepeatedName None few.1 in
     let distinct = either-none (λ (c : ComponentText). same_name c.name name) (λ (c : ComponentText). same_name c.pmu pmu) above fresh.0 in
     let new : ComponentText = component_of name pmu [] in
     let is : IsComponent new = record {
@@ -123,8 +115,8 @@ event-wider n m lt e h =
 counter-kept : (c : ComponentText) (name : Text) (width : Option ℕ) (fixed : Bool) → is_name name ≡ true → IfSome width IsWidth → counter_cause c.counters name width ≡ None
     → IsComponent c → IsComponent (with_counter (counter_row name width fixed) c)
 counter-kept c name width fixed n w e h =
-    let few = if-none (nat_le MOST_COUNTERS (length c.counters)) cause.OverLimit _ e in
-    let fresh = if-none (list_any (λ (k : CounterText). bytes_eq k.name name) c.counters) cause.RepeatedName _ few.1 in
+    let few = passed_over (nat_le MOST_COUNTERS (length c.counters)) cause.OverLimit _ e in
+    let fresh = passed_over (list_any (λ (k : CounterText). bytes_eq k.name name) c.counters) cause.RepeatedName _ few.1 in
     let range = wide width w (some-width width fresh.1) in
     let low = leb-false MOST_COUNTERS (length c.counters) few.0 in
     let more = length-append c.counters (counter_row name width fixed ∷ []) in
@@ -156,8 +148,8 @@ all-known false e = cc e
 event-kept : (c : ComponentText) (name : Text) (select : ℕ) (names : List Text) (text : Text) → IsEventLine name select names → event_cause c name names ≡ None
     → IsComponent c → IsComponent (with_event (event_row c.counters name select names text []) c)
 event-kept c name select names text i e h =
-    let few = if-none (nat_le MOST_COMPONENT_EVENTS (length c.events)) cause.OverLimit _ e in
-    let fresh = if-none (list_any (λ (x : EventText). same_name x.name name) c.events) cause.RepeatedName _ few.1 in
+    let few = passed_over (nat_le MOST_COMPONENT_EVENTS (length c.events)) cause.OverLimit _ e in
+    let fresh = passed_over (list_any (λ (x : EventText). same_name x.name name) c.events) cause.RepeatedName _ few.1 in
     let known = all-known (list_all (λ n. is_some (counter_place c.counters n)) names) fresh.1 in
     let new : EventText = event_row c.counters name select names text [] in
     let is : IsEvent (length c.counters) new = record {
@@ -199,14 +191,14 @@ no-default m masks e = go m.preset_choice masks e
     go : (b : Bool) (xs : List MaskText) → (b && list_any (λ (o : MaskText). o.preset_choice) xs) ≡ false → list_any (λ (o : MaskText). o.preset_choice && b) xs ≡ false
     go b [] q = refl
     go false (x ∷ xs) q = rw (none x.preset_choice) (go false xs refl)
-    go true (x ∷ xs) q = let p = either x.preset_choice _ q in rw (same x.preset_choice, p.0) (go true xs p.1)
+    go true (x ∷ xs) q = let p = or_parts x.preset_choice _ q in rw (same x.preset_choice, p.0) (go true xs p.1)
 
 mask-kept : (n : ℕ) (e : EventText) (m : MaskText) → is_name m.name ≡ true → m.bits < 2 ^ 8 → mask_cause e.masks m.name m.preset_choice ≡ None → IsEvent n e → IsEvent n (with_mask m e)
 mask-kept n e m named byte none h =
-    let one = if-none (m.preset_choice && list_any (λ (o : MaskText). o.preset_choice) e.masks) cause.BadRow _ none in
-    let few = if-none (nat_le MOST_UMASKS (length e.masks)) cause.OverLimit _ one.1 in
-    let fresh = if-none (is_modifier m.name || list_any (λ (o : MaskText). same_name o.name m.name) e.masks) cause.RepeatedName None few.1 in
-    let names = either (is_modifier m.name) _ fresh.0 in
+    let one = passed_over (m.preset_choice && list_any (λ (o : MaskText). o.preset_choice) e.masks) cause.BadRow _ none in
+    let few = passed_over (nat_le MOST_UMASKS (length e.masks)) cause.OverLimit _ one.1 in
+    let fresh = passed_over (is_modifier m.name || list_any (λ (o : MaskText). same_name o.name m.name) e.masks) cause.RepeatedName None few.1 in
+    let names = or_parts (is_modifier m.name) _ fresh.0 in
     let low = leb-false MOST_UMASKS (length e.masks) few.0 in
     record {
       named = h.named;
@@ -236,28 +228,18 @@ inner_mask-kept c m named byte none h = record {
 
 grown-kept : (above : List ComponentText) (line : Line) (c : ComponentText) → IsLine line → cause_in above line ≡ None → last_of above ≡ Some c → IsComponent c → IsComponent (grown line c)
 unfolding cause_in
-grown-kept above skipped c i e l h = h
-grown-kept above bad c i e l h = h
-grown-kept above (component n p) c i e l h = h
 grown-kept above (counter n w f) c i e l h = counter-kept c n w f i.0 i.1 (rw l at e) h
 grown-kept above (event n s ns t) c i e l h = event-kept c n s ns t i (rw l at e) h
 grown-kept above (umask m) c i e l h = inner_mask-kept c m i.0 i.1 (rw l at e) h
+grown-kept above line c i e l h = h
 
 grown-name : (line : Line) (c : ComponentText) → (grown line c).name ≡ c.name
 grown-name skipped c = refl
-grown-name bad c = refl
-grown-name (component n p) c = refl
-grown-name (counter n w f) c = refl
-grown-name (event n s ns t) c = refl
-grown-name (umask m) c = refl
+grown-name line c = refl
 
 grown-pmu : (line : Line) (c : ComponentText) → (grown line c).pmu ≡ c.pmu
 grown-pmu skipped c = refl
-grown-pmu bad c = refl
-grown-pmu (component n p) c = refl
-grown-pmu (counter n w f) c = refl
-grown-pmu (event n s ns t) c = refl
-grown-pmu (umask m) c = refl
+grown-pmu line c = refl
 
 inner-kept : (above : List ComponentText) (line : Line) → IsLine line → cause_in above line ≡ None → IsTables above → IsTables (on_last (grown line) above)
 inner-kept above line i e h = record {
@@ -269,9 +251,6 @@ inner-kept above line i e h = record {
 
 pub kept : (above : List ComponentText) (line : Line) → IsLine line → cause_in above line ≡ None → IsTables above → IsTables (with_line above line)
 unfolding cause_in
-kept above skipped i e h = inner-kept above skipped i e h
 kept above bad i e h = cc e
 kept above (component n p) i e h = component-kept above n p i.0 i.1 e h
-kept above (counter n w f) i e h = inner-kept above (counter n w f) i e h
-kept above (event n s ns t) i e h = inner-kept above (event n s ns t) i e h
-kept above (umask m) i e h = inner-kept above (umask m) i e h
+kept above line i e h = inner-kept above line i e h

@@ -1,40 +1,33 @@
 -- Names in lower case, byte by byte.
-use Rattle.std.proofs.Common.{◌≡◌, ◌∙◌, ◌+◌, ◌<◌, ◌≤◌, ◌∷◌, ◌++◌, ℕ, zero, suc, List, [], Bool, true, false, length, get_or, take, refl, ap, sym, arith}
-use Rattle.std.proofs.lemmas.Bool.{leb-true, ltb-true}
+use Rattle.std.proofs.Common.{◌≡◌, ◌∙◌, ◌+◌, ◌<◌, ◌≤◌, ◌∷◌, ◌++◌, ℕ, zero, suc, List, [], Bool, true, length, get_or, take, refl, ap, sym, arith}
+use Rattle.std.proofs.lemmas.Bool.{leb-true, and_parts}
 use Rattle.std.proofs.lemmas.List.{length-map, length-take-le, map-append, take_more}
 use Rattle.std.proofs.lemmas.Str.{encode_ascii}
 use Rattle.std.specs.Char.{to_ascii_lowercase}
 use Rattle.std.specs.List.{list_all}
-use Rattle.std.specs.Prelude.{encode_utf8, if◌then◌else◌, nat_lt}
+use Rattle.std.specs.Prelude.{encode_utf8}
 use Rattle.std.specs.Str.{str_to_ascii_lowercase}
+use Rattle.std.proofs.lemmas.Str.Ascii.{lowercase_ascii}
 use Rattle.table_rows.specs.Texts.{Text, is_name, is_name_byte}
-use Rattle.table_rows.proofs.Numerals.{both, name_byte-ascii}
+use Rattle.table_rows.proofs.Numerals.{name_byte-ascii}
 
 all-pass : (p : ℕ → Bool) (xs : List ℕ) (i d : ℕ) → list_all p xs ≡ true → i < length xs → p (get_or xs i d) ≡ true
 all-pass p [] i d e lt = absurd (omega arith)
-all-pass p (x ∷ xs) zero d e lt = (both _ _ e).0
-all-pass p (x ∷ xs) (suc i) d e lt = all-pass p xs i d (both _ _ e).1 (omega arith)
-
-lower-ascii : (b : ℕ) → b < 128 → to_ascii_lowercase b < 128
-lower-ascii b h = go (nat_lt b 65) (nat_lt b 91) refl
-  where
-    go : (p q : Bool) → nat_lt b 91 ≡ q → (if p then b else if q then b + 32 else b) < 128
-    go true q e = h
-    go false true e = let lt = ltb-true b 91 e in omega (arith, lt)
-    go false false e = h
+all-pass p (x ∷ xs) zero d e lt = (and_parts _ _ e).0
+all-pass p (x ∷ xs) (suc i) d e lt = all-pass p xs i d (and_parts _ _ e).1 (omega arith)
 
 -- a byte of a name in lower case
 pub lower-small : (t : Text) (i b : ℕ) → is_name t ≡ true → i < length t → b ≡ to_ascii_lowercase (get_or t i 0) → b < 128
 unfolding is_name
 lower-small t i b n lt e =
-    let small = lower-ascii (get_or t i 0) (name_byte-ascii (get_or t i 0) (all-pass is_name_byte t i 0 (both _ _ (both _ _ n).1).1 lt)) in
+    let small = lowercase_ascii (get_or t i 0) (name_byte-ascii (get_or t i 0) (all-pass is_name_byte t i 0 (and_parts _ _ (and_parts _ _ n).1).1 lt)) in
     omega (arith, small, e)
 
 -- there is room for it
 pub lower-fits : (t text : Text) (i b : ℕ) → is_name t ≡ true → i < length t → b < 128 → text ≡ str_to_ascii_lowercase (take i t) → length text + length (encode_utf8 b) ≤ 64
 unfolding is_name
 lower-fits t text i b n lt small is =
-    let few = leb-true (length t) 64 (both _ _ (both _ _ n).1).0 in
+    let few = leb-true (length t) 64 (and_parts _ _ (and_parts _ _ n).1).0 in
     let one = ap length (encode_ascii b small) in
     let within : i ≤ length t = omega arith in
     let taken : length (take i t) ≡ i = length-take-le i t within in

@@ -52,10 +52,9 @@ unfolding events_in masks_in
 masks-later above [] more x xs q = cc q
 masks-later above (skipped ∷ rows) more x xs q = masks-later above rows more x xs q
 masks-later above (bad ∷ rows) more x xs q = masks-later above rows more x xs q
-masks-later above (component n p ∷ rows) more x xs q = refl
 masks-later above (counter n w f ∷ rows) more x xs q = masks-later _ rows more x xs q
-masks-later above (event n s ns t ∷ rows) more x xs q = refl
 masks-later above (umask m ∷ rows) more x xs q = ap (λ (t : List MaskText). m ∷ t) (masks-later above rows more x xs q)
+masks-later above rows more x xs q = refl
 
 -- what a row makes of the events of its component, which has these counters above it
 abbrev events_after : Line → List CounterText → List EventText → List EventText
@@ -124,10 +123,9 @@ unfolding components_in masks_in
 masks-after [] more c cs e = cc e
 masks-after (skipped ∷ rows) more c cs e = masks-after rows more c cs e
 masks-after (bad ∷ rows) more c cs e = masks-after rows more c cs e
-masks-after (component n p ∷ rows) more c cs e = refl
 masks-after (counter n w f ∷ rows) more c cs e = masks-after rows more c cs e
-masks-after (event n s ns t ∷ rows) more c cs e = refl
 masks-after (umask m ∷ rows) more c cs e = ap (λ (t : List MaskText). m ∷ t) (masks-after rows more c cs e)
+masks-after rows more c cs e = refl
 
 events-later : (above : List CounterText) (rows more : List Line) (c : ComponentText) (cs : List ComponentText) → components_in rows ≡ c ∷ cs → events_in above (rows ++ more) ≡ events_in above rows
 unfolding components_in events_in
@@ -145,12 +143,8 @@ component_with n p cs es = record { name = n; pmu = p; counters = cs; events = e
 
 grown-first : (n p : Text) (rows : List Line) (line : Line) → components_in rows ≡ [] → component_of n p (rows ++ line ∷ []) ≡ grown line (component_of n p rows)
 unfolding component_with
-grown-first n p rows skipped e = ap₂ (component_with n p) (counters-first rows skipped e ∙ append-nil _) (events-first [] rows skipped e)
-grown-first n p rows bad e = ap₂ (component_with n p) (counters-first rows bad e ∙ append-nil _) (events-first [] rows bad e)
-grown-first n p rows (component a b) e = ap₂ (component_with n p) (counters-first rows (component a b) e ∙ append-nil _) (events-first [] rows (component a b) e)
 grown-first n p rows (counter a b c) e = ap₂ (component_with n p) (counters-first rows (counter a b c) e) (events-first [] rows (counter a b c) e)
-grown-first n p rows (event a b c d) e = ap₂ (component_with n p) (counters-first rows (event a b c d) e ∙ append-nil _) (events-first [] rows (event a b c d) e)
-grown-first n p rows (umask m) e = ap₂ (component_with n p) (counters-first rows (umask m) e ∙ append-nil _) (events-first [] rows (umask m) e)
+grown-first n p rows line e = ap₂ (component_with n p) (counters-first rows line e ∙ append-nil _) (events-first [] rows line e)
 
 grown-later : (n p : Text) (rows more : List Line) (c : ComponentText) (cs : List ComponentText) → components_in rows ≡ c ∷ cs → component_of n p (rows ++ more) ≡ component_of n p rows
 unfolding component_with
@@ -189,9 +183,5 @@ outer-more (umask m ∷ rows) a b = outer-more rows a b
 
 pub components-more : (rows : List Line) (line : Line) → components_in (rows ++ line ∷ []) ≡ with_line (components_in rows) line
 unfolding components_in
-components-more rows skipped = inner-more rows skipped refl
-components-more rows bad = inner-more rows bad refl
 components-more rows (component a b) = outer-more rows a b
-components-more rows (counter a b c) = inner-more rows (counter a b c) refl
-components-more rows (event a b c d) = inner-more rows (event a b c d) refl
-components-more rows (umask m) = inner-more rows (umask m) refl
+components-more rows line = inner-more rows line refl

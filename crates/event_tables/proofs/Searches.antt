@@ -5,10 +5,6 @@ use Rattle.std.specs.List.{filter, list_all, list_any, position_from, slice_spli
 use Rattle.table_rows.specs.Texts.{Text, is_empty}
 use Rattle.event_tables.specs.Lines.{words_of}
 
-pub list_any-map : {X Y : Type 0} (p : Y → Bool) (h : X → Y) (xs : List X) → list_any (λ x. p (h x)) xs ≡ list_any p (map h xs)
-list_any-map p h [] = refl
-list_any-map p h (x ∷ xs) = ap (λ b. p (h x) || b) (list_any-map p h xs)
-
 pub position_from-map : {X Y : Type 0} (p : Y → Bool) (h : X → Y) (i : ℕ) (xs : List X) → position_from (λ x. p (h x)) i xs ≡ position_from p i (map h xs)
 position_from-map p h i [] = refl
 position_from-map p h i (x ∷ xs) = ap (λ (o : Option ℕ). if p (h x) then Some i else o) (position_from-map p h (i + 1) xs)

@@ -6,6 +6,7 @@ use Rattle.std.specs.Bool.{Decides}
 use Rattle.std.specs.List.{starts_with}
 use Rattle.std.specs.Prelude.{◌||◌}
 use Rattle.std.specs.Str.Iter.{HasSubslice}
+use Rattle.std.proofs.lemmas.Bool.{or_right, or_left}
 use Rattle.listing_text.specs.Lines.{Text}
 use Rattle.listing_text.specs.NativeLists.{stands_in}
 
@@ -31,21 +32,13 @@ stands part (b ∷ rest) h = go (starts_with nat_eq (b ∷ rest) part) refl h (s
     go true e k more = begins part (b ∷ rest) e
     go false e k more = later part rest b (more k)
 
-or_later : (r s : Bool) → s ≡ true → (r || s) ≡ true
-or_later true s h = refl
-or_later false s h = h
-
-or_here : (r s : Bool) → r ≡ true → (r || s) ≡ true
-or_here true s h = refl
-or_here false s h = cc h
-
 found : (part text before after : Text) → text ≡ before ++ (part ++ after) → stands_in part text ≡ true
 unfolding stands_in
 found [] [] before after e = refl
 found (p ∷ part) [] [] after e = cc e
 found (p ∷ part) [] (x ∷ before) after e = cc e
-found part (b ∷ rest) [] after e = or_here (starts_with nat_eq (b ∷ rest) part) (stands_in part rest) (begun_by part (b ∷ rest) after e)
-found part (b ∷ rest) (x ∷ before) after e = or_later (starts_with nat_eq (b ∷ rest) part) (stands_in part rest) (found part rest before after (cc e))
+found part (b ∷ rest) [] after e = or_left (starts_with nat_eq (b ∷ rest) part) (stands_in part rest) (begun_by part (b ∷ rest) after e)
+found part (b ∷ rest) (x ∷ before) after e = or_right (starts_with nat_eq (b ∷ rest) part) (stands_in part rest) (found part rest before after (cc e))
 
 pub decides : (part text : Text) → Decides (stands_in part text) (HasSubslice text part)
 decides part text = (stands part text, λ h. found part text h.0 h.1 h.2)

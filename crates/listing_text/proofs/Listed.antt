@@ -2,10 +2,11 @@
 use Rattle.std.proofs.Common.{◌≡◌, ◌∙◌, ◌+◌, ◌-◌, ◌<◌, ◌≤◌, ◌∷◌, ◌++◌, ℕ, Bool, true, false, List, [], cond, filter, get_or, length, map, refl, sym, ap, take, arith, append_assoc, append-nil}
 use Rattle.std.proofs.lemmas.List.{flat_map_more, map-append, replicate-append-replicate, take_more}
 use Rattle.std.proofs.lemmas.List.Elements.{filter-append}
-use Rattle.std.proofs.lemmas.List.FromFn.{length-range_with_len, map-range_with_len_more}
+use Rattle.std.proofs.lemmas.List.FromFn.{length-range_with_len}
 use Rattle.std.proofs.lemmas.List.Sums.{count_by-le-length, sum_by-append}
 use Rattle.std.specs.Int.{from_bool}
 use Rattle.std.specs.List.{count_by, flat_map, range_with_len, sum_by}
+use Rattle.papi_base.proofs.Growing.{range_more}
 use Rattle.listing_text.specs.Lines.{Text, spaces}
 
 -- ---- columns
@@ -23,17 +24,6 @@ space_pushed start line after field place le so_far more =
     let left = place - length field in
     more ∙ ap (λ (t : Text). t ++ spaces 1) so_far ∙ append_assoc start (field ++ spaces left) (spaces 1)
     ∙ ap (λ (t : Text). start ++ t) (append_assoc field (spaces left) (spaces 1) ∙ ap (λ (t : Text). field ++ t) (spaces_more (length field) place left le refl))
-
--- ---- lists of numbers
-
-map_same : (xs : List ℕ) → map (λ x. x) xs ≡ xs
-map_same [] = refl
-map_same (x ∷ xs) = ap (λ (ys : List ℕ). x ∷ ys) (map_same xs)
-
-pub range_more : (k : ℕ) → range_with_len 0 (k + 1) ≡ range_with_len 0 k ++ k ∷ []
-range_more k =
-    sym (map_same (range_with_len 0 (k + 1))) ∙ map-range_with_len_more (λ x. x) 0 k k (omega arith)
-    ∙ ap (λ (xs : List ℕ). xs ++ k ∷ []) (map_same (range_with_len 0 k))
 
 -- ---- one item more of a list
 
@@ -78,7 +68,3 @@ pushed f xs ys x start line after e so_far more =
 -- the same items
 pub unmoved : {X : Type 0} (f : X → Text) (xs ys : List X) (start line : Text) → ys ≡ xs → line ≡ start ++ flat_map f xs → line ≡ start ++ flat_map f ys
 unmoved f xs ys start line e so_far = so_far ∙ ap (λ zs. start ++ flat_map f zs) (sym e)
-
--- two parts, one after the other
-pub joined : (start mid after first second : Text) → mid ≡ start ++ first → after ≡ mid ++ second → after ≡ start ++ (first ++ second)
-joined start mid after first second a b = b ∙ ap (λ (t : Text). t ++ second) a ∙ append_assoc start first second

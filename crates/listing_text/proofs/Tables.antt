@@ -1,10 +1,10 @@
 -- What is at a place of the tables.
-use Rattle.std.proofs.Common.{◌≡◌, ◌∙◌, ◌<◌, ◌≤◌, ◌∷◌, ℕ, zero, suc, List, [], Option, Some, None, get_or, length, map, refl, sym, ap, subst, string_bytes, arith}
+use Rattle.std.proofs.Common.{◌≡◌, ◌∙◌, ◌<◌, ◌≤◌, ◌∷◌, ℕ, zero, suc, List, [], Option, Some, None, get_or, length, map, refl, sym, ap, string_bytes, arith}
 use Rattle.std.proofs.lemmas.List.{length-map}
 use Rattle.std.proofs.lemmas.Option.{slice_get-map, slice_get-get_or}
-use Rattle.std.specs.List.{AllByRecursion}
 use Rattle.std.specs.Option.{option_map, option_map_or}
 use Rattle.std.specs.Prelude.{slice_get}
+use Rattle.papi_base.proofs.Steps.{all_at}
 use Rattle.event_tables.specs.Kept.{IsComponent, IsTables}
 use Rattle.event_tables.specs.Tables.{ComponentText, CounterText}
 use Rattle.event_tables.specs.Views.{component_text, counter_text}
@@ -16,11 +16,6 @@ pub counter_named : (counters : List Counter) (k : ℕ) (d : Counter) → k < le
     → option_map_or (λ (c : CounterText). c.name) (slice_get (map counter_text counters) k) [] ≡ string_bytes (get_or counters k d).name
 counter_named counters k d lt =
     ap (λ (o : Option CounterText). option_map_or (λ (c : CounterText). c.name) o []) (slice_get-map counter_text counters k ∙ ap (option_map counter_text) (slice_get-get_or counters k d lt))
-
-each_at : {X : Type 0} (P : X → Type 0) (xs : List X) (i : ℕ) (x : X) → AllByRecursion P xs → slice_get xs i ≡ Some x → P x
-each_at P [] i x h e = cc e
-each_at P (y ∷ ys) zero x h e = let same : y ≡ x = cc e in subst P same h.0
-each_at P (y ∷ ys) (suc i) x h e = each_at P ys i x h.1 e
 
 absent : {X : Type 0} (xs : List X) (i : ℕ) → None ≡ slice_get xs i → i < length xs → ⊥
 absent [] i e lt = omega arith
@@ -35,8 +30,8 @@ is_there f (Some x) xs i e other lt = other x refl
 -- the limits of a component
 pub few_counters : (tables : List ComponentText) (i : ℕ) (c : Component) → IsTables tables → Some (component_text c) ≡ slice_get tables i → length c.counters.items ≤ 32
 few_counters tables i c h e =
-    let kept = each_at IsComponent tables i (component_text c) h.each (sym e) in
+    let kept = all_at IsComponent tables i (component_text c) h.each (sym e) in
     omega (arith, kept.few_counters, length-map c.counters.items counter_text)
 
 pub few_events : (tables : List ComponentText) (i : ℕ) (c : Component) → IsTables tables → Some (component_text c) ≡ slice_get tables i → length (component_text c).events ≤ 1024
-few_events tables i c h e = (each_at IsComponent tables i (component_text c) h.each (sym e)).few_events
+few_events tables i c h e = (all_at IsComponent tables i (component_text c) h.each (sym e)).few_events

@@ -1,18 +1,14 @@
 -- A counter mask that was read is a byte.
 use Rattle.std.proofs.Common.{◌≡◌, ◌<◌, ◌≤◌, ◌&&◌, ◌∷◌, ℕ, Bool, true, false, List, [], Option, Some, None, length, drop, find, refl, subst, arith, nat_le, nat_eq, codes, unwrap_or}
 use Rattle.std.specs.Prelude.{if◌then◌else◌}
-use Rattle.std.specs.Char.{digit_value}
 use Rattle.std.specs.List.{list_all, starts_with}
 use Rattle.std.specs.Option.{option_map_or}
 use Rattle.std.specs.Str.Parse.{AllDigits, digits_value}
-use Rattle.std.proofs.lemmas.Bool.{and_parts, leb-true, ltb-true}
+use Rattle.std.proofs.lemmas.Bool.{and_parts, leb-true}
 use Rattle.std.proofs.lemmas.Int.Digits.{digits_value-lt}
 use Rattle.table_rows.specs.Texts.{Text, decimal_in, hex_in, is_decimal, is_hex_digit}
+use Rattle.table_rows.proofs.Numerals.{digits-sixteen}
 use Rattle.name_encoder.specs.Names.{SaidAttribute, cmask, cmask_value, means, modifier, set_to, value_of}
-
-hex-digits : (t : Text) → list_all is_hex_digit t ≡ true → AllDigits 16 t
-hex-digits [] e = tt
-hex-digits (b ∷ t) e = let p = and_parts (is_hex_digit b) (list_all is_hex_digit t) e in (ltb-true (digit_value b) 16 p.0, hex-digits t p.1)
 
 short-value : (t : Text) → AllDigits 16 t → length t ≤ 2 → digits_value 16 t < 256
 short-value [] h le = omega arith
@@ -29,7 +25,7 @@ hex-bound t n e = go (list_all is_hex_digit t && (nat_le 1 (length t) && nat_le 
         let r = and_parts (list_all is_hex_digit t) (nat_le 1 (length t) && nat_le (length t) 2) p in
         let s = and_parts (nat_le 1 (length t)) (nat_le (length t) 2) r.1 in
         let is : digits_value 16 t ≡ n = cc q in
-        subst (λ (k : ℕ). k < 256) is (short-value t (hex-digits t r.0) (leb-true (length t) 2 s.1))
+        subst (λ (k : ℕ). k < 256) is (short-value t (digits-sixteen t r.0) (leb-true (length t) 2 s.1))
     go false p q = cc q
 
 decimal-bound : (t : Text) (n : ℕ) → decimal_in 0 255 t ≡ Some n → n < 256

@@ -1,5 +1,5 @@
 -- What the attributes of a canonical name choose, and what those of any name may choose.
-use Rattle.std.proofs.Common.{◌≡◌, ◌∙◌, ◌+◌, ◌<◌, ◌≤◌, ◌==◌, ◌&&◌, ◌||◌, ◌∷◌, ◌++◌, ◌⊎◌, ℕ, zero, suc, Bool, true}
+use Rattle.std.proofs.Common.{◌≡◌, ◌∙◌, ◌+◌, ◌<◌, ◌≤◌, ◌==◌, ◌&&◌, ◌∷◌, ◌++◌, ◌⊎◌, ℕ, zero, suc, Bool, true}
 use Rattle.std.proofs.Common.{false, List, [], Option, Some, None, length, find, slice_get, refl, sym, ap, ap₂, subst}
 use Rattle.std.proofs.Common.{arith, tests, nat_lt, decimal, inl, inr, unwrap_or, is_none, append_assoc, append-nil}
 use Rattle.std.specs.Prelude.{if◌then◌else◌}
@@ -19,6 +19,7 @@ use Rattle.name_encoder.specs.Names.{has_true, invert, kernel, mask, meaning_fau
 use Rattle.name_encoder.specs.Names.{names_alone, names_mask, rank, row_alone, said_fault, same_meaning, set_to, user, value_of}
 use Rattle.name_encoder.proofs.Faultless.{AllFlags, Combine, cmask-back}
 use Rattle.name_encoder.proofs.Saids.{mask_saids, mod_said, mod_saids, said_if}
+use Rattle.name_encoder.proofs.Judging.{or-false}
 
 -- ---- the named umasks of a canonical name
 
@@ -61,10 +62,6 @@ mods-no-mask i m =
     last : (b : Bool) → list_any (means (mask i)) (said_if b cmask (Some (decimal m.cmask))) ≡ false
     last true = refl
     last false = refl
-
-or-false : (b : Bool) → (b || false) ≡ b
-or-false true = refl
-or-false false = refl
 
 pub named-own : (flags : List Bool) (m : Mods) (masks : List MaskText) → length flags ≡ length masks → named_from (mask_saids 0 flags ++ mod_saids m) 0 masks ≡ flags
 named-own flags m masks n =
@@ -134,9 +131,8 @@ abbrev pub Named : List SaidAttribute → ℕ → Type 0
 Named said i = list_any (means (mask i)) said ≡ true
 
 mask-meant : (i : ℕ) (o : Option Meaning) → option_map_or (same_meaning (mask i)) o false ≡ true → o ≡ Some (mask i)
-mask-meant i None e = cc e
 mask-meant i (Some (mask j)) e = ap (λ (x : ℕ). Some (mask x)) (sym (eqb-true i j e))
-mask-meant i (Some (modifier m)) e = cc e
+mask-meant i o e = cc e
 
 named-mask : (said : List SaidAttribute) (i : ℕ) → Named said i → list_any names_mask said ≡ true
 named-mask [] i e = cc e

@@ -24,10 +24,6 @@ pub ok-of : {X E : Type 0} (r : Result X E) (P : X → Type 0) → ((x : X) → 
 ok-of (Ok x) P h = h x refl
 ok-of (Err e) P h = tt
 
-pub ok-map : {X E : Type 0} (r : Result X E) (P Q : X → Type 0) → IfOk r P → ((x : X) → P x → Q x) → IfOk r Q
-ok-map (Ok x) P Q h f = f x h
-ok-map (Err e) P Q h f = tt
-
 pub names-none : (tables : List ComponentText) (text : Text) (s : Split) → s ≡ split text → found_from s 0 tables ≡ None → names tables text ≡ Err name_fault.NotFound
 unfolding names
 names-none tables text s is e = rw (← is, e) refl

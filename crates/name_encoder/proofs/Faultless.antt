@@ -103,9 +103,8 @@ lower-other m (Some (mask row)) h = refl
 lower-other m (Some (modifier n)) h = ne_eqb (rank m) (rank n) (λ e. absurd (omega (arith, e, h)))
 
 lower-more : (r : ℕ) (o : Option Meaning) → lower_at r o → lower_at (r + 1) o
-lower-more r None h = h
-lower-more r (Some (mask row)) h = h
 lower-more r (Some (modifier n)) h = omega (arith, h)
+lower-more r o h = h
 
 mod-faultless : (masks : List MaskText) (above : List SaidAttribute) (m : Modifier) (v : Option Text) → is_none (value_of (modifier m) v) ≡ false
     → AllByRecursion (Lower (rank m)) above → said_fault masks above (mod_said m v) ≡ None

@@ -4,7 +4,7 @@ use Rattle.std.proofs.Common.{List, [], Option, Some, None, Ok, Err, Result, len
 use Rattle.std.proofs.Common.{refl, sym, ap, ap₂, subst, arith, nat_lt, unwrap_or, is_none, append_assoc, append-nil}
 use Rattle.std.proofs.Math.ListN.{set}
 use Rattle.std.proofs.Math.Seq.{take-set-lt}
-use Rattle.std.proofs.lemmas.Bool.{eq-eqb, eqb-true, ne_eqb}
+use Rattle.std.proofs.lemmas.Bool.{eq-eqb, eqb-true, ne_eqb, or_right}
 use Rattle.std.proofs.lemmas.List.{length-set}
 use Rattle.std.proofs.lemmas.List.Folds.{find-append, list_any-append}
 use Rattle.std.specs.Prelude.{⊤, if◌then◌else◌, is_some}
@@ -51,23 +51,16 @@ all-false = (refl, (refl, (refl, (refl, (refl, (refl, (refl, (refl, (refl, (refl
 
 no-values : (m : Modifier) → value_given nothing m ≡ given_of [] m
 no-values user = refl
-no-values kernel = refl
-no-values edge = refl
-no-values invert = refl
-no-values cmask = refl
+no-values m = refl
 
 nothing-given : (masks : List MaskText) → length masks ≤ 16 → AreSaid masks [] nothing
 nothing-given masks le = record { room = refl; named = none-named 0 masks nothing.named (omega (arith, le)) all-false; some = refl; alone = refl; values = no-values }
 
 -- ---- one more
 
-or-false : (b : Bool) → (b || false) ≡ b
+pub or-false : (b : Bool) → (b || false) ≡ b
 or-false true = refl
 or-false false = refl
-
-or-true : (b : Bool) → (b || true) ≡ true
-or-true true = refl
-or-true false = refl
 
 any-more : (p : SaidAttribute → Bool) (xs : List SaidAttribute) (s : SaidAttribute) → list_any p (xs ++ s ∷ []) ≡ (list_any p xs || p s)
 any-more p xs s = list_any-append p xs (s ∷ []) ∙ ap (λ (b : Bool). list_any p xs || b) (or-false (p s))
@@ -118,7 +111,7 @@ named-set xs v k i j [] e lt = absurd (omega (arith, lt))
 named-set xs v k zero j (m ∷ masks) e lt =
     let same : (k == j) ≡ true = eq-eqb k j (omega (arith, e)) in
     ap₂ (λ (b : Bool) (bs : List Bool). b ∷ bs)
-    (sym (any-more (means (mask k)) xs (said (Some (mask j)) v) ∙ ap (λ (b : Bool). list_any (means (mask k)) xs || b) same ∙ or-true _))
+    (sym (any-more (means (mask k)) xs (said (Some (mask j)) v) ∙ ap (λ (b : Bool). list_any (means (mask k)) xs || b) same ∙ or_right _ true refl))
     (named-other xs (Some (mask j)) v (k + 1) masks (λ n le. ne_eqb n j (λ q. absurd (omega (arith, q, e, le)))))
 named-set xs v k (suc i) j (m ∷ masks) e lt =
     let other : (k == j) ≡ false = ne_eqb k j (λ q. absurd (omega (arith, q, e))) in
@@ -134,17 +127,14 @@ Says masks xs s (Err f) = said_fault masks xs s ≡ Some f
 
 mask-values : (g : Attributes) (row : ℕ) (a : Bool) (m : Modifier) → value_given (with_mask g row a) m ≡ value_given g m
 mask-values g row a user = refl
-mask-values g row a kernel = refl
-mask-values g row a edge = refl
-mask-values g row a invert = refl
-mask-values g row a cmask = refl
+mask-values g row a m = refl
 
 mask-more : (masks : List MaskText) (xs : List SaidAttribute) (g : Attributes) (row : ℕ) (v : Option Text) → row < length masks → length masks ≤ 16 → AreSaid masks xs g
     → AreSaid masks (xs ++ said (Some (mask row)) v ∷ []) (with_mask g row (row_alone masks row))
 mask-more masks xs g row v lt le h = record {
   room = length-set g.named row true ∙ h.room;
   named = take-set-lt (length masks) g.named row true lt ∙ ap (λ (bs : List Bool). set bs row true) h.named ∙ named-set xs v 0 row row masks (omega arith) lt;
-  some = sym (any-more names_mask xs (said (Some (mask row)) v) ∙ or-true _);
+  some = sym (any-more names_mask xs (said (Some (mask row)) v) ∙ or_right _ true refl);
   alone = ap (λ (b : Bool). b || row_alone masks row) h.alone ∙ sym (any-more (names_alone masks) xs (said (Some (mask row)) v));
   values = λ m. mask-values g row (row_alone masks row) m ∙ h.values m
       ∙ sym (ap (λ (o : Option SaidAttribute). option_map (λ s. unwrap_or (value_of (modifier m) s.value) 0) o) (find-more (means (modifier m)) xs (said (Some (mask row)) v) ∙ or-none _));
@@ -215,17 +205,11 @@ record Stays (g n : Attributes) : Type 0 where
 
 stays : (g : Attributes) (m : Modifier) (v : ℕ) → Stays g (with_value g m v)
 stays g user v = record { named = refl; some = refl; alone = refl }
-stays g kernel v = record { named = refl; some = refl; alone = refl }
-stays g edge v = record { named = refl; some = refl; alone = refl }
-stays g invert v = record { named = refl; some = refl; alone = refl }
-stays g cmask v = record { named = refl; some = refl; alone = refl }
+stays g m v = record { named = refl; some = refl; alone = refl }
 
 at-rank : (m : Modifier) → modifier-at (rank m) ≡ m
 at-rank user = refl
-at-rank kernel = refl
-at-rank edge = refl
-at-rank invert = refl
-at-rank cmask = refl
+at-rank m = refl
 
 same-rank : (n m : Modifier) → (rank n == rank m) ≡ true → m ≡ n
 same-rank n m e = sym (at-rank m) ∙ ap modifier-at (sym (eqb-true (rank n) (rank m) e)) ∙ at-rank n
@@ -319,9 +303,8 @@ all-judged masks xs (s ∷ rest) g r le h =
     go (Ok n) e more = carry e.0 (all_given masks n rest) (more n e.1)
 
 ranged : (masks : List MaskText) (name : Text) (o : Option Meaning) → meaning_of masks name ≡ o → Ranged (length masks) o
-ranged masks name None e = tt
 ranged masks name (Some (mask row)) e = meaning-row masks name row e
-ranged masks name (Some (modifier m)) e = tt
+ranged masks name o e = tt
 
 all-ranged : (masks : List MaskText) (texts : List Text) → AllByRecursion (λ (s : SaidAttribute). Ranged (length masks) s.meaning) (saids_of masks texts)
 all-ranged masks [] = tt

@@ -1,6 +1,6 @@
 -- A text that is not a name is the name of no event.
-use Rattle.std.proofs.Common.{◌≡◌, ◌∙◌, ◌+◌, ◌<◌, ◌≤◌, ◌∷◌, ℕ, List, [], Some, None, Bool, true, false, length, refl, sym, ap, arith}
-use Rattle.std.proofs.lemmas.Bool.{and_from, le-leb, ltb-false, ltb-true}
+use Rattle.std.proofs.Common.{◌≡◌, ◌∙◌, ◌+◌, ◌<◌, ◌≤◌, ◌∷◌, ℕ, List, [], None, Bool, true, false, length, refl, sym, ap, arith}
+use Rattle.std.proofs.lemmas.Bool.{and_from, le-leb, ltb-false, ltb-true, and_parts}
 use Rattle.std.proofs.lemmas.List.{length-map}
 use Rattle.std.proofs.lemmas.Slice.Eq.{bytes_eq-Decides}
 use Rattle.std.specs.Char.{to_ascii_lowercase}
@@ -8,7 +8,6 @@ use Rattle.std.specs.List.{AllByRecursion, list_all}
 use Rattle.std.specs.Prelude.{◌&&◌, ◌||◌, ◌==◌, if◌then◌else◌, nat_le, nat_lt}
 use Rattle.std.specs.Str.{str_eq_ignore_ascii_case, str_to_ascii_lowercase}
 use Rattle.table_rows.specs.Texts.{Text, is_name, is_name_byte}
-use Rattle.table_rows.proofs.Numerals.{both}
 use Rattle.event_tables.specs.Kept.{IsComponent, IsEvent}
 use Rattle.event_tables.specs.Tables.{ComponentText, EventText}
 use Rattle.name_encoder.specs.Split.{Split}
@@ -50,15 +49,15 @@ all-lower (x ∷ xs) [] e h = cc e
 all-lower (x ∷ xs) (y ∷ ys) e h =
     let first : to_ascii_lowercase x ≡ to_ascii_lowercase y = cc e in
     let rest : str_to_ascii_lowercase xs ≡ str_to_ascii_lowercase ys = cc e in
-    let here : is_name_byte y ≡ true = sym (byte-lower y) ∙ ap is_name_byte (sym first) ∙ byte-lower x ∙ (both _ _ h).0 in
-    and_from (is_name_byte y) (list_all is_name_byte ys) here (all-lower xs ys rest (both _ _ h).1)
+    let here : is_name_byte y ≡ true = sym (byte-lower y) ∙ ap is_name_byte (sym first) ∙ byte-lower x ∙ (and_parts _ _ h).0 in
+    and_from (is_name_byte y) (list_all is_name_byte ys) here (all-lower xs ys rest (and_parts _ _ h).1)
 
 name-lower : (a b : Text) → str_to_ascii_lowercase a ≡ str_to_ascii_lowercase b → is_name a ≡ true → is_name b ≡ true
 unfolding is_name
 name-lower a b e h =
     let long : length a ≡ length b = sym (length-map a to_ascii_lowercase) ∙ ap length e ∙ length-map b to_ascii_lowercase in
-    let bytes = all-lower a b e (both _ _ (both _ _ h).1).1 in
-    rw (← long) (and_from _ _ (both _ _ h).0 (and_from _ _ (both _ _ (both _ _ h).1).0 bytes))
+    let bytes = all-lower a b e (and_parts _ _ (and_parts _ _ h).1).1 in
+    rw (← long) (and_from _ _ (and_parts _ _ h).0 (and_from _ _ (and_parts _ _ (and_parts _ _ h).1).0 bytes))
 
 -- ---- no event has a name that is not one
 
@@ -87,9 +86,3 @@ pub unnamed : (s : Split) (comp : ℕ) (tables : List ComponentText) → is_name
 unfolding found_from
 unnamed s comp [] f h = refl
 unnamed s comp (c ∷ tables) f h = rw (choice-unnamed s comp c f h.0) (unnamed s (comp + 1) tables f h.1)
-
--- ---- what a test that gives a value says
-
-pub given-none : {X : Type 0} (b : Bool) (x : X) → None ≡ (if b then Some x else None) → b ≡ false
-given-none true x e = cc e
-given-none false x e = refl

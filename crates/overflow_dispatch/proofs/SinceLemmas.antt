@@ -3,15 +3,10 @@ use Rattle.std.proofs.Common.{◌≡◌, ◌≤◌, ◌+◌, ℕ, zero, suc, Lis
 use Rattle.std.proofs.Math.Seq.{drop-append_seam}
 use Rattle.std.proofs.lemmas.Option.{slice_get-map}
 use Rattle.std.specs.Option.{option_map}
+use Rattle.std.proofs.lemmas.List.{drop_all}
 use Rattle.overflow_dispatch.specs.declared.handler.Note.{Note}
 use Rattle.overflow_dispatch.specs.Notes.{AddedIsTold, EachAdded, told_since}
 use Rattle.overflow_dispatch.proofs.Passes.{drop_at}
-
-drop_past : {X : Type 0} (xs : List X) (i : ℕ) → length xs ≤ i → drop i xs ≡ []
-drop_past [] zero h = refl
-drop_past [] (suc i) h = refl
-drop_past (x ∷ xs) zero h = absurd (omega arith)
-drop_past (x ∷ xs) (suc i) h = drop_past xs i (omega arith)
 
 none_past : {X : Type 0} (xs : List X) (i : ℕ) → slice_get xs i ≡ None → length xs ≤ i
 none_past [] i e = omega arith
@@ -27,10 +22,10 @@ one_more done told i x e =
 pub none_more : {X : Type 0} (done told : List X) (i : ℕ) → slice_get told i ≡ None → done ++ drop (i + 1) told ≡ done ++ drop i told
 none_more done told i e =
     let past = none_past told i e in
-    ap (λ xs. done ++ xs) (drop_past told (i + 1) (omega (arith, past)) ∙ sym (drop_past told i past))
+    ap (λ xs. done ++ xs) (drop_all (i + 1) told (omega (arith, past)) ∙ sym (drop_all i told past))
 
 pub all_done : {X : Type 0} (done told : List X) (i : ℕ) → length told ≤ i → done ≡ done ++ drop i told
-all_done done told i h = sym (ap (λ xs. done ++ xs) (drop_past told i h) ∙ append-nil done)
+all_done done told i h = sym (ap (λ xs. done ++ xs) (drop_all i told h) ∙ append-nil done)
 
 pub one_list_more : {X : Type 0} (told : X → List Note) (done all : List Note) (counts : List ℕ) (xs : List X) (i k : ℕ) (x : X) → slice_get counts i ≡ Some k
     → slice_get xs i ≡ Some x → done ++ told_since (drop i counts) (drop i (map told xs)) ≡ all

@@ -1,8 +1,5 @@
 -- A loop that replaces a list's items one after another: those before i are done, the others are as they were.
-use Rattle.std.proofs.Common.{◌≡◌, ℕ, zero, suc, ◌+◌, ◌<◌, ◌≤◌, List, [], ◌∷◌, ◌++◌, length, get_or, set, take, drop, refl, ap, sym, ◌∙◌, arith, add-one, Some, slice_get, length-append, length-take-le, length-drop}
-
-pub in_place_length : {X : Type 0} (new old : List X) (i : ℕ) → length new ≡ length old → i ≤ length old → length (take i new ++ drop i old) ≡ length old
-in_place_length new old i e h = omega (arith, length-append (take i new) (drop i old), length-take-le i new (omega arith), length-drop i old)
+use Rattle.std.proofs.Common.{◌≡◌, ℕ, zero, suc, ◌+◌, ◌<◌, List, [], ◌∷◌, ◌++◌, length, get_or, set, take, drop, refl, ap, sym, ◌∙◌, arith, add-one, Some, slice_get}
 
 in_place_set : {X : Type 0} (new old : List X) (i : ℕ) (y : X) → length new ≡ length old → i < length old → slice_get new i ≡ Some y → set (take i new ++ drop i old) i y ≡ take (suc i) new ++ drop (suc i) old
 in_place_set new [] i y e h g = absurd (omega arith)

@@ -2,7 +2,7 @@
 use Rattle.std.proofs.Common.{◌≡◌, ℕ, true, List, [], ◌∷◌, ◌++◌, refl, ap, if◌then◌else◌, Some, None, IfOk, slice_get, nat_le, Bool, ◌-◌, false, get_or, zero, suc, subst, take, length, sym, ◌∙◌}
 use Rattle.std.proofs.Math.Seq.{take-length}
 use Rattle.std.proofs.lemmas.Option.{slice_get_within}
-use Rattle.std.specs.Prelude.{Result, Ok, Err}
+use Rattle.std.specs.Prelude.{Result, Ok}
 use Rattle.papi_base.specs.declared.code.Code.{Code}
 use Rattle.papi_base.specs.declared.native.EventRef.{EventRef}
 use Rattle.papi_base.specs.declared.native.EventRef.TheVariants as event
@@ -21,25 +21,21 @@ joined mentioned n is = ap (λ b. if b then mentioned else mentioned ++ n ∷ []
 
 pub known_added : (mentioned : List Native) (set : ℕ) (e : Result EventRef Code) → IfOk e (IsKnown mentioned) → joined_by mentioned (mentions_of_call (call.Add set e)) ≡ mentioned
 known_added mentioned set (Ok (event.Native n)) is = joined mentioned n is
-known_added mentioned set (Ok (event.Preset row)) is = refl
-known_added mentioned set (Err code) is = refl
+known_added mentioned set e is = refl
 
 pub known_removed : (mentioned : List Native) (set : ℕ) (e : Result EventRef Code) → IfOk e (IsKnown mentioned) → joined_by mentioned (mentions_of_call (call.Remove set e)) ≡ mentioned
 known_removed mentioned set (Ok (event.Native n)) is = joined mentioned n is
-known_removed mentioned set (Ok (event.Preset row)) is = refl
-known_removed mentioned set (Err code) is = refl
+known_removed mentioned set e is = refl
 
 pub known_armed : (mentioned : List Native) (set : ℕ) (e : Result EventRef Code) (threshold : ℕ) → IfOk e (IsKnown mentioned)
     → joined_by mentioned (mentions_of_call (call.Overflow set e threshold)) ≡ mentioned
 known_armed mentioned set (Ok (event.Native n)) threshold is = joined mentioned n is
-known_armed mentioned set (Ok (event.Preset row)) threshold is = refl
-known_armed mentioned set (Err code) threshold is = refl
+known_armed mentioned set e threshold is = refl
 
 -- what is mentioned if a threshold is set is what its event's name mentions
 pub armed_mentions : (set : ℕ) (e : Result EventRef Code) (threshold : ℕ) → mentions_of_call (call.Overflow set e threshold) ≡ mentions_of (CodeOf e)
 armed_mentions set (Ok (event.Native n)) threshold = refl
-armed_mentions set (Ok (event.Preset row)) threshold = refl
-armed_mentions set (Err code) threshold = refl
+armed_mentions set e threshold = refl
 
 -- a native event of a code is in the list
 named_at : (b : Bool) (mentioned : List Native) (k : ℕ) (n : Native) → (if b then slice_get mentioned k else None) ≡ Some n → slice_get mentioned k ≡ Some n

@@ -105,9 +105,8 @@ small_constants natives place height (t ∷ rest) none (suc i) n e =
 -- a tree has a token
 some_tokens : (tree : Tree) → 0 < length (spelling tree)
 unfolding spelling
-some_tokens (Constant n) = omega arith
-some_tokens (Count i) = omega arith
 some_tokens (Node o x y) = omega (arith, length-append (spelling x) (spelling y ++ token.Operator o ∷ []), length-append (spelling y) (token.Operator o ∷ []))
+some_tokens tree = omega arith
 
 -- so no tree is before the first token
 pub none_before : (tokens front : List Token) (end : ℕ) (tree : Tree) → end ≡ 0 → take end tokens ≡ front ++ spelling tree → ⊥

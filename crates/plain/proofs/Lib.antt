@@ -1,5 +1,4 @@
 pub mod Choices
-pub mod Divided
 pub mod LastTokens
 pub mod Numbers
 pub mod Pieces

@@ -5,11 +5,12 @@ use Rattle.std.specs.Char.{digit_value}
 use Rattle.std.specs.Char as char
 use Rattle.std.specs.List.{list_all}
 use Rattle.std.specs.Str.Parse.{AllDigits, digits_value}
-use Rattle.std.proofs.lemmas.Bool.{cases_lt, ltb-true, le-leb, lt-leb, ne_eqb}
+use Rattle.std.proofs.lemmas.Bool.{cases_lt, ltb-true, le-leb, lt-leb, ne_eqb, and_parts, or_right, and_right}
 use Rattle.std.proofs.lemmas.Bool.Decides.{nat_tests}
 use Rattle.std.proofs.lemmas.Int.Digits.{digits_value-lt}
 use Rattle.std.proofs.Math.Nat.{le-mul_of_pos_right, mul-le-mul_right, pow-le-pow_right}
 use Rattle.papi_base.specs.Numerals.{decimal_in, hex_in, is_decimal, is_digit, is_empty, is_hex_digit, is_numeral}
+use Rattle.papi_base.proofs.Steps.{not_given, is_given}
 
 -- the greatest number of 64 bits
 abbrev pub top : ℕ
@@ -31,26 +32,6 @@ one_more v base d m some = elim (cases_lt m v) [
 abbrev pub number_of : ℕ → List ℕ → Option ℕ
 number_of base t = if list_all (λ b. char.is_digit b base) t then Some (min (digits_value base t) top) else None
 
-no_number : {X : Type 0} (b : Bool) (x : X) → None ≡ (if b then Some x else None) → b ≡ false
-no_number true x e = cc e
-no_number false x e = refl
-
-some_number : {X : Type 0} (b : Bool) (n x : X) → Some n ≡ (if b then Some x else None) → (b ≡ true) × (n ≡ x)
-some_number true n x e = (refl, cc e)
-some_number false n x e = cc e
-
-pub and_false : (b : Bool) → (b && false) ≡ false
-and_false true = refl
-and_false false = refl
-
-both : (a b : Bool) → (a && b) ≡ true → (a ≡ true) × (b ≡ true)
-both true b e = (refl, e)
-both false b e = cc e
-
-or_true : (b : Bool) → (b || true) ≡ true
-or_true true = refl
-or_true false = refl
-
 -- ---- a decimal number
 
 -- the digits of base ten are the decimal digits
@@ -70,12 +51,12 @@ pub decimal_zero : (low high : ℕ) (t : List ℕ) → 1 < length t → get_or t
 unfolding decimal_in is_decimal
 decimal_zero low high t h e =
     let more : (length t == 1) ≡ false = ne_eqb (length t) 1 (λ e. omega arith) in
-    rw (more, eq-eqb (get_or t 0 0) 48 e) (rw (and_false (is_numeral t)) refl)
+    rw (more, eq-eqb (get_or t 0 0) 48 e) (rw (and_right (is_numeral t) false refl) refl)
 
 pub decimal_other : (low high : ℕ) (t : List ℕ) → None ≡ number_of 10 t → decimal_in low high t ≡ None
 unfolding decimal_in is_decimal is_numeral
 decimal_other low high t e =
-    let other : list_all is_digit t ≡ false = sym (digits_are t) ∙ no_number _ _ e in
+    let other : list_all is_digit t ≡ false = sym (digits_are t) ∙ not_given _ _ e in
     rw other refl
 
 filled : (t : List ℕ) → 0 < length t → is_empty t ≡ false
@@ -84,7 +65,7 @@ filled (b ∷ t) h = refl
 
 form_is : (t : List ℕ) → 0 < length t → (1 < length t → get_or t 0 0 ≢ 48) → ((length t == 1) || not (get_or t 0 0 == 48)) ≡ true
 form_is t some other = elim (cases_lt 1 (length t)) [
-  | inl more ↦ rw (ne_eqb (get_or t 0 0) 48 (other more)) (or_true (length t == 1))
+  | inl more ↦ rw (ne_eqb (get_or t 0 0) 48 (other more)) (or_right (length t == 1) true refl)
   | inr one ↦ rw (eq-eqb (length t) 1 (omega arith)) refl
 ]
 
@@ -94,13 +75,13 @@ pub decimal_is : (low high n : ℕ) (t : List ℕ) → 0 < length t → (1 < len
 unfolding decimal_in is_decimal is_numeral
 decimal_is low high n t some other small e =
     let v : ℕ = digits_value 10 t in
-    let is = some_number _ n (min v top) e in
+    let is = is_given _ (min v top) n e in
     let digits : list_all is_digit t ≡ true = sym (digits_are t) ∙ is.0 in
     rw (digits, filled t some, form_is t some other) (elim (cases_lt top v) [
       | inl past ↦ (
           let above : nat_le v high ≡ false = lt-leb v high (omega arith) in
           let kept : nat_le n high ≡ false = lt-leb n high (omega (arith, is.1)) in
-          rw (above, kept, and_false (nat_le low v), and_false (nat_le low n)) refl
+          rw (above, kept, and_right (nat_le low v) false refl, and_right (nat_le low n) false refl) refl
           )
       | inr within ↦ (let same : n ≡ v = is.1 ∙ omega arith in rw same refl)
     ])
@@ -109,15 +90,7 @@ decimal_is low high n t some other small e =
 
 all_digits : (t : List ℕ) → list_all is_hex_digit t ≡ true → AllDigits 16 t
 all_digits [] e = tt
-all_digits (b ∷ t) e = let parts = both (is_hex_digit b) (list_all is_hex_digit t) e in (ltb-true (digit_value b) 16 parts.0, all_digits t parts.1)
-
-pub hex_short : (few many : ℕ) (t : List ℕ) → length t < few → hex_in few many t ≡ None
-unfolding hex_in
-hex_short few many t h = rw (lt-leb few (length t) h, and_false (list_all is_hex_digit t)) refl
-
-pub hex_long : (few many : ℕ) (t : List ℕ) → many < length t → hex_in few many t ≡ None
-unfolding hex_in
-hex_long few many t h = rw (lt-leb (length t) many h, and_false (nat_le few (length t)), and_false (list_all is_hex_digit t)) refl
+all_digits (b ∷ t) e = let parts = and_parts (is_hex_digit b) (list_all is_hex_digit t) e in (ltb-true (digit_value b) 16 parts.0, all_digits t parts.1)
 
 -- what as many digits as are asked for write
 pub record IsHex (few many : ℕ) (t : List ℕ) (n : Option ℕ) : Type 0 where

@@ -72,15 +72,11 @@ line_at start pieces i piece ended at =
 -- what a line that is not bad says stands before what comes after it
 said_before : (n : ℕ) (j : Judgement) (more : Coming) → is_bad j ≡ false → joined n j more ≡ before (occurrence_of j) more
 said_before n (judgement.Bad c) more good = cc good
-said_before n judgement.Skipped more good = refl
-said_before n judgement.Version more good = refl
-said_before n (judgement.Occurs o) more good = refl
+said_before n j more good = refl
 
 pub not_bad : (j : Judgement) → ((c : LineCause) → j ≡ judgement.Bad c → ⊥) → is_bad j ≡ false
 not_bad (judgement.Bad c) other = absurd (other c refl)
-not_bad judgement.Skipped other = refl
-not_bad judgement.Version other = refl
-not_bad (judgement.Occurs o) other = refl
+not_bad j other = refl
 
 -- a line that is not bad lies within the stream
 pub within_stream : (start : LineStart) (line : Line) → is_bad (judged start line) ≡ false → start.passed + length line.bytes ≤ LARGEST_STREAM
@@ -102,13 +98,7 @@ pub record Passed (start : LineStart) (line : Line) (next : LineStart) : Type 0 
 
 pub passed_by : (start : LineStart) (line : Line) (j : Judgement) → Passed start line (after start line j)
 passed_by start line (judgement.Bad c) = record { number = refl; passed = refl; given = omega arith }
-passed_by start line judgement.Skipped = record { number = refl; passed = refl; given = omega arith }
-passed_by start line judgement.Version = record { number = refl; passed = refl; given = omega arith }
-passed_by start line (judgement.Occurs o) = record { number = refl; passed = refl; given = omega arith }
-
-pub at_most_one : (b : Bool) → flag_bit b ≤ 1
-at_most_one true = omega arith
-at_most_one false = omega arith
+passed_by start line j = record { number = refl; passed = refl; given = omega arith }
 
 -- what was said, and then the other pieces
 pub says_on : (start : LineStart) (pieces : List (List ℕ)) (i : ℕ) (piece : List ℕ) (ended : Bool) (os : List Occ) → IsLineAt pieces i piece ended → is_bad (judged start (line_of piece ended)) ≡ false

@@ -5,6 +5,7 @@ use Rattle.std.specs.List.{range_with_len}
 use Rattle.std.proofs.lemmas.List.Sums.{sum_by-cons}
 use Rattle.std.proofs.lemmas.Option.{slice_get-get_or}
 use Rattle.papi_base.specs.declared.occurrence.Occ.{Occ}
+use Rattle.papi_base.proofs.Steps.{drop_at}
 use Rattle.session_model.specs.Account.{last_after}
 use Rattle.session_model.specs.Counts.{along}
 
@@ -33,11 +34,6 @@ along_at weigh before (x ∷ os) (suc i) o e = along_at weigh (Some x) os i o e
 
 -- ---- the sum over the places that are left
 
-drop_get : (ws : List ℕ) (i w : ℕ) → slice_get ws i ≡ Some w → drop i ws ≡ w ∷ drop (i + 1) ws
-drop_get [] i w e = cc
-drop_get (x ∷ ws) zero w e = ap (λ (y : ℕ). y ∷ ws) (cc)
-drop_get (x ∷ ws) (suc i) w e = let s : suc i + 1 ≡ suc (i + 1) = omega arith in drop_get ws i w e ∙ ap (λ k. w ∷ drop k (x ∷ ws)) (sym s)
-
 -- the sum of the weights from a place up to an end
 abbrev pub left : List ℕ → ℕ → ℕ → ℕ
 left ws i end = sum (take (end - i) (drop i ws))
@@ -45,7 +41,7 @@ left ws i end = sum (take (end - i) (drop i ws))
 pub left_more : (ws : List ℕ) (i end w : ℕ) → i < end → slice_get ws i ≡ Some w → left ws i end ≡ w + left ws (i + 1) end
 left_more ws i end w below e =
     let steps : end - i ≡ suc (end - (i + 1)) = omega arith in
-    rw (steps, drop_get ws i w e) (sum_by-cons (λ k. k) w (take (end - (i + 1)) (drop (i + 1) ws)))
+    rw (steps, drop_at ws i w e) (sum_by-cons (λ k. k) w (take (end - (i + 1)) (drop (i + 1) ws)))
 
 -- ---- ticks
 

@@ -1,5 +1,5 @@
 -- The causes of numbers that are too large.
-use Rattle.std.proofs.Common.{◌≡◌, ◌<◌, ◌≤◌, ◌^◌, ◌∷◌, ℕ, [], Some, None, Bool, true, false, length, refl, arith, tests, nat_lt}
+use Rattle.std.proofs.Common.{◌≡◌, ◌<◌, ◌≤◌, ◌^◌, ℕ, Some, None, Bool, true, false, refl, arith, tests, nat_lt}
 use Rattle.std.proofs.lemmas.Bool.{le-ltb}
 use Rattle.std.specs.Prelude.{if◌then◌else◌}
 use Rattle.std.specs.Str.Parse.{digits_value}
@@ -36,7 +36,3 @@ native-large t natives height e lt le = let no : nat_lt (digits_value 10 t) nati
 pub none-unknown : (natives height : ℕ) → token_cause natives height None ≡ Some cause.UnknownToken
 unfolding token_cause
 none-unknown natives height = refl
-
-pub no-length : (t : Text) → length t ≡ 0 → t ≡ []
-no-length [] e = refl
-no-length (b ∷ t) e = absurd (omega (arith, e))

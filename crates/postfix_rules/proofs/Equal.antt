@@ -1,5 +1,5 @@
 -- The tests for equal natives and events mean equality.
-use Rattle.std.proofs.Common.{◌≡◌, ℕ, Bool, true, false, ◌&&◌, ◌==◌, refl, sym, ap, ◌∙◌, arith}
+use Rattle.std.proofs.Common.{◌≡◌, ℕ, Bool, true, false, ◌==◌, refl, sym, ap, ◌∙◌, arith}
 use Rattle.std.proofs.lemmas.Bool.Decides.{nat_tests}
 use Rattle.papi_base.specs.declared.native.Native.{Native}
 use Rattle.papi_base.specs.declared.native.EventRef.{EventRef}
@@ -7,16 +7,12 @@ use Rattle.papi_base.specs.declared.native.EventRef.TheVariants as event
 use Rattle.postfix_rules.specs.Sameness.{same_bool, same_native, same_event}
 use Rattle.postfix_rules.specs.Laws.{SameEvents, SameNatives}
 
-pub both : (a b : Bool) → (a && b) ≡ true → (a ≡ true) × (b ≡ true)
-both true b e = (refl, e)
-both false b e = cc
-
 same_bool_is : (a b : Bool) → same_bool a b ≡ true → a ≡ b
 same_bool_is true b e = sym e
 same_bool_is false true e = e
 same_bool_is false false e = refl
 
-nat_is : (a b : ℕ) → (a == b) ≡ true → a ≡ b
+pub nat_is : (a b : ℕ) → (a == b) ≡ true → a ≡ b
 nat_is a b e = grind (arith, nat_tests, e)
 
 nat_self : (a : ℕ) → (a == a) ≡ true

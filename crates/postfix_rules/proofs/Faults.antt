@@ -3,6 +3,8 @@ use Rattle.std.proofs.Common.{◌≡◌, ◌∙◌, ◌+◌, ◌<◌, ◌≤◌,
 use Rattle.std.specs.Option.{option_map_or}
 use Rattle.std.proofs.lemmas.List.{take_all, take_at, length-append, map-append}
 use Rattle.std.proofs.lemmas.Bool.{cases_lt}
+use Rattle.std.proofs.lemmas.Option.{slice_get_past}
+use Rattle.papi_base.proofs.Steps.{get_middle}
 use Rattle.postfix_rules.specs.declared.fault.FormulaCause.{FormulaCause}
 use Rattle.postfix_rules.specs.declared.token.Token.{Token}
 use Rattle.postfix_rules.specs.declared.token.Token.TheVariants as token
@@ -35,15 +37,6 @@ after (y ∷ x ∷ pile) (Some (token.Operator o)) = Node o x y ∷ pile
 -- the place has no cause, whichever pile of at most 16 trees the parts before it are
 abbrev pub ClearAt : ℕ → List Part → ℕ → Type 0
 ClearAt natives parts j = (trees : List Tree) → Pile (take j parts) trees → length trees ≤ 16 → place_cause natives (length trees) (slice_get parts j) ≡ None
-
--- a list at and after the end of another
-get-middle : (above : List Part) (t : Part) (rest : List Part) → slice_get (above ++ t ∷ rest) (length above) ≡ Some t
-get-middle [] t rest = refl
-get-middle (a ∷ above) t rest = get-middle above t rest
-
-get-end : (above : List Part) → slice_get above (length above) ≡ None
-get-end [] = refl
-get-end (a ∷ above) = get-end above
 
 pushed : (above : List Part) (tokens : List Token) (t : Token) → above ≡ map Some tokens → above ++ Some t ∷ [] ≡ map Some (tokens ++ t ∷ [])
 pushed above tokens t p = ap (λ (a : List Part). a ++ Some t ∷ []) p ∙ sym (map-append Some tokens (t ∷ []))
@@ -83,9 +76,8 @@ clear-at natives parts j pile p e trees q few =
 
 whole : (parts : List Part) (pile : List Tree) → Pile parts pile → length pile ≡ 1 → (t : Tree) × (parts ≡ map Some (spelling t))
 unfolding pile_text
-whole parts [] p e = absurd (omega arith)
 whole parts (t ∷ []) p e = (t, p)
-whole parts (t ∷ u ∷ pile) p e = absurd (omega arith)
+whole parts pile p e = absurd (omega arith)
 
 walk : (natives : ℕ) (parts above rest : List Part) (pile : List Tree) → parts ≡ above ++ rest → Pile above pile → length pile ≤ 16
     → ((j : ℕ) → j < length above → ClearAt natives parts j) → Says natives parts (fault_from natives (length above) (length pile) rest)
@@ -99,7 +91,7 @@ walk natives parts above [] pile is p few clear = go (end_cause (length pile)) r
     before = rw same (take_all (length above) above (omega arith) ∙ p)
 
     end : place_cause natives (length pile) (slice_get parts (length above)) ≡ end_cause (length pile)
-    end = rw (same, get-end above) refl
+    end = rw (same, slice_get_past above (length above) (omega arith)) refl
 
     go : (o : Option FormulaCause) → end_cause (length pile) ≡ o → Says natives parts (option_map_or (λ why. Some (length above, why)) o None)
     go (Some why) e = record {
@@ -125,7 +117,7 @@ walk natives parts above (t ∷ rest) pile is p few clear = go (token_cause nati
     before = rw is (take_at above (t ∷ rest) (length above) refl ∙ p)
 
     here : place_cause natives (length pile) (slice_get parts (length above)) ≡ token_cause natives (length pile) t
-    here = rw (is, get-middle above t rest) refl
+    here = rw (is, get_middle above t rest) refl
 
     go : (o : Option FormulaCause) → token_cause natives (length pile) t ≡ o
         → (parts ≡ (above ++ t ∷ []) ++ rest → Pile (above ++ t ∷ []) (after pile t) → length (after pile t) ≤ 16

@@ -1,9 +1,10 @@
 -- A text in infix order reads as the grammar says, and no text both writes a tree and is at fault.
-use Rattle.std.proofs.Common.{◌≡◌, ◌∙◌, ◌+◌, ◌<◌, ◌∷◌, ◌++◌, ℕ, Bool, true, false, List, [], ap₂, ◌⊎◌, zero, suc, Option, Some, None, inl, inr, length, map, refl, sym, ap, subst, arith}
+use Rattle.std.proofs.Common.{◌≡◌, ◌∙◌, ◌+◌, ◌<◌, ◌∷◌, ◌++◌, ℕ, Bool, true, false, List, [], ap₂, ◌⊎◌, Option, Some, None, inl, inr, length, map, refl, sym, ap, subst, arith}
 use Rattle.std.specs.Prelude.{Result, Ok, Err, fold, slice_get}
 use Rattle.std.proofs.lemmas.Bool.{cases_order}
 use Rattle.std.proofs.lemmas.List.{map-append}
 use Rattle.std.proofs.lemmas.List.Sums.{fold-append}
+use Rattle.std.proofs.lemmas.Option.{slice_get_within}
 use Rattle.postfix_rules.specs.declared.fault.FormulaCause.{FormulaCause}
 use Rattle.postfix_rules.specs.declared.fault.FormulaCause.TheVariants as cause
 use Rattle.postfix_rules.specs.declared.infix_token.InfixToken.TheVariants as sign
@@ -11,7 +12,7 @@ use Rattle.postfix_rules.specs.declared.token.Operator.{Operator}
 use Rattle.postfix_rules.specs.declared.token.Token.{Token}
 use Rattle.postfix_rules.specs.declared.token.Token.TheVariants as token
 use Rattle.postfix_rules.specs.Faults.{FormulaView}
-use Rattle.postfix_rules.specs.Infix.{Written, Number, Native, Two, Inside, need, wording}
+use Rattle.postfix_rules.specs.Infix.{Written, Two, Inside, need, wording}
 use Rattle.postfix_rules.specs.InfixFaults.{HasCauseAt, IsEndFault, IsInfixFault, WritesTree, begins_factor, cause_at, must_begin, open_after, open_at_end}
 use Rattle.postfix_rules.specs.InfixLaws.{FirstInfixFaults, FromOneInfix, SameTree}
 use Rattle.postfix_rules.specs.InfixReading.{infix_of}
@@ -34,8 +35,6 @@ inside-parts x = ap (λ (ps : List InfixPart). Some sign.Open ∷ ps) (map-appen
 
 -- no factor must begin after it
 after-written : (w : Written) (must : Bool) → fold (λ (b : Bool) (p : InfixPart). begins_factor p) must (written_parts w) ≡ false
-after-written (Number n) must = refl
-after-written (Native i) must = refl
 after-written (Two o x y) must =
     ap (fold (λ (b : Bool) (p : InfixPart). begins_factor p) must) (two-parts o x y)
     ∙ fold-append (λ (b : Bool) (p : InfixPart). begins_factor p) must (written_parts x) (Some (sign.Token (token.Operator o)) ∷ written_parts y)
@@ -43,11 +42,10 @@ after-written (Two o x y) must =
 after-written (Inside x) must =
     ap (fold (λ (b : Bool) (p : InfixPart). begins_factor p) must) (inside-parts x)
     ∙ fold-append (λ (b : Bool) (p : InfixPart). begins_factor p) true (written_parts x) (Some sign.Close ∷ [])
+after-written w must = refl
 
 -- as many parentheses are open as before it
 open-written : (w : Written) (depth : ℕ) → fold open_after depth (written_parts w) ≡ depth
-open-written (Number n) depth = refl
-open-written (Native i) depth = refl
 open-written (Two o x y) depth =
     ap (fold open_after depth) (two-parts o x y)
     ∙ fold-append open_after depth (written_parts x) (Some (sign.Token (token.Operator o)) ∷ written_parts y)
@@ -59,6 +57,7 @@ open-written (Inside x) depth =
     ∙ fold-append open_after (depth + 1) (written_parts x) (Some sign.Close ∷ [])
     ∙ ap (λ (d : ℕ). open_after d (Some sign.Close)) inside
     ∙ omega arith
+open-written w depth = refl
 
 -- ---- a tree rules out a fault
 
@@ -78,16 +77,7 @@ end-sound natives parts tree cause.TooDeep writes h =
     let many = h.2.2 in
     let e = ap need same in
     omega arith
-end-sound natives parts tree cause.UnknownToken writes h = h
-end-sound natives parts tree cause.ConstantTooLarge writes h = h
-end-sound natives parts tree cause.NativeRange writes h = h
-end-sound natives parts tree cause.OperandsLeft writes h = h
-
--- a place that an index reads is inside the list
-index-within : (xs : List InfixPart) (k : ℕ) (x : InfixPart) → slice_get xs k ≡ Some x → k < length xs
-index-within [] k x e = cc
-index-within (y ∷ xs) zero x e = omega arith
-index-within (y ∷ xs) (suc k) x e = let lt = index-within xs k x e in omega arith
+end-sound natives parts tree why writes h = h
 
 tree-or-fault : (natives : ℕ) (parts : List InfixPart) (tree : Tree) (k : ℕ) (why : FormulaCause) → WritesTree natives parts tree → IsInfixFault natives parts k why → ⊥
 tree-or-fault natives parts tree k why writes fault = go (slice_get parts k) refl fault.here
@@ -95,7 +85,7 @@ tree-or-fault natives parts tree k why writes fault = go (slice_get parts k) ref
     go : (o : Option InfixPart) → slice_get parts k ≡ o → HasCauseAt natives parts k why o → ⊥
     go None e has = end-sound natives parts tree why writes has.1
     go (Some part) e has =
-        let clear : cause_at natives parts k part ≡ None = writes.clear k part (index-within parts k part e) e in
+        let clear : cause_at natives parts k part ≡ None = writes.clear k part (slice_get_within parts k part e) e in
         cc
 
 -- ---- a text has one fault
@@ -109,10 +99,7 @@ end-causes : (parts : List InfixPart) (why : FormulaCause) → IsEndFault parts 
 end-causes parts cause.OperandMissing h = inl (refl, h)
 end-causes parts cause.Unbalanced h = inr (inl (refl, h.0, h.1))
 end-causes parts cause.TooDeep h = inr (inr (refl, h.0, h.1))
-end-causes parts cause.UnknownToken h = absurd h
-end-causes parts cause.ConstantTooLarge h = absurd h
-end-causes parts cause.NativeRange h = absurd h
-end-causes parts cause.OperandsLeft h = absurd h
+end-causes parts why h = absurd h
 
 one-end : (parts : List InfixPart) (a b : FormulaCause) → EndCauses parts a → EndCauses parts b → a ≡ b
 one-end parts a b (inl h) (inl g) = h.0 ∙ sym g.0
@@ -138,7 +125,7 @@ none-before natives parts j k a b lt f g = go (slice_get parts j) refl f.here
   where
     past : (o : Option InfixPart) → slice_get parts k ≡ o → HasCauseAt natives parts k b o → length parts < k → ⊥
     past None e h end = omega (arith, h.0)
-    past (Some part) e h end = omega (arith, index-within parts k part e)
+    past (Some part) e h end = omega (arith, slice_get_within parts k part e)
 
     go : (o : Option InfixPart) → slice_get parts j ≡ o → HasCauseAt natives parts j a o → ⊥
     go None e h = past (slice_get parts k) refl g.here (omega (arith, h.0))

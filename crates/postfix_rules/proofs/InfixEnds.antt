@@ -4,6 +4,7 @@ use Rattle.std.specs.Prelude.{◌↔◌, IsTrue, Ok, is_some, not}
 use Rattle.std.specs.Option.{option_map_or}
 use Rattle.std.proofs.lemmas.Bool.{lt-ltb}
 use Rattle.std.proofs.lemmas.List.{drop_all, drop_more}
+use Rattle.papi_base.proofs.Steps.{none_of}
 use Rattle.postfix_rules.specs.declared.fault.FormulaCause.{FormulaCause}
 use Rattle.postfix_rules.specs.declared.fault.FormulaCause.TheVariants as cause
 use Rattle.postfix_rules.specs.declared.infix_token.InfixToken.{InfixToken}
@@ -30,15 +31,11 @@ here-cause : (natives i height : ℕ) (t : Token) (rest : List Token) → fault_
 unfolding fault_from
 here-cause natives i height t rest = refl
 
-none-of : {A : Type 0} (o : Option A) → is_some o ≡ false → o ≡ None
-none-of None h = refl
-none-of (Some x) h = cc h
-
 pub checked : (natives : ℕ) (tokens : List Token) (i height : ℕ) (d : Token) → i < length tokens → is_some (token_cause natives height (Some (get_or tokens i d))) ≡ false
     → Checked natives tokens i height → Checked natives tokens (i + 1) (height_after height (Some (get_or tokens i d)))
 checked natives tokens i height d lt h c =
     let t = get_or tokens i d in
-    let none = none-of (token_cause natives height (Some t)) h in
+    let none = none_of (token_cause natives height (Some t)) h in
     let parts : drop i tokens ≡ t ∷ drop (i + 1) tokens = drop_more tokens i d lt in
     record {
       same = c.same ∙ ap (λ (ts : List Token). fault_from natives i height (map Some ts)) parts ∙ here-cause natives i height t (drop (i + 1) tokens)

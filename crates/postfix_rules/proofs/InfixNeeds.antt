@@ -6,16 +6,12 @@ use Rattle.std.proofs.lemmas.List.{map-append}
 use Rattle.postfix_rules.specs.declared.token.Operator.{Operator}
 use Rattle.postfix_rules.specs.declared.token.Token.{Token}
 use Rattle.postfix_rules.specs.declared.token.Token.TheVariants as token
-use Rattle.postfix_rules.specs.Faults.{IsFormula, Part, end_cause, fault_from, height_after, operand_cause, token_cause}
+use Rattle.postfix_rules.specs.Faults.{IsFormula, Part, end_cause, fault_from, operand_cause, token_cause}
 use Rattle.postfix_rules.specs.Infix.{Written, Number, Native, Two, Inside, need, tree_of}
 use Rattle.postfix_rules.specs.Trees.{spelling}
 use Rattle.postfix_rules.proofs.InfixStates.{Small}
 use Rattle.postfix_rules.proofs.Spelled.{clear-first, constant-ok, native-ok}
-
-step-free : (natives place h : ℕ) (part : Part) (rest : List Part) → token_cause natives h part ≡ None
-    → fault_from natives place h (part ∷ rest) ≡ fault_from natives (place + 1) (height_after h part) rest
-unfolding fault_from
-step-free natives place h part rest e = rw e refl
+use Rattle.postfix_rules.proofs.SoFar.{fault-next}
 
 free-place : (h : ℕ) → h + 1 ≤ 16 → operand_cause h ≡ None
 free-place h le = go (nat_le 16 h) refl
@@ -61,8 +57,8 @@ Fits natives w place h rest = (p : ℕ) × (fault_from natives place h (map Some
 -- a tree that finds room leaves one operand
 fits : (natives : ℕ) (w : Written) (place h : ℕ) (rest : List Part) → Small natives w → h + need (tree_of w) ≤ 16 → Fits natives w place h rest
 unfolding spelling
-fits natives (Number n) place h rest s le = (place + 1, step-free natives place h (Some (token.Constant n)) rest (free-constant natives h n s le))
-fits natives (Native i) place h rest s le = (place + 1, step-free natives place h (Some (token.Native i)) rest (free-native natives h i s le))
+fits natives (Number n) place h rest s le = (place + 1, fault-next natives place h (Some (token.Constant n)) rest (free-constant natives h n s le))
+fits natives (Native i) place h rest s le = (place + 1, fault-next natives place h (Some (token.Native i)) rest (free-native natives h i s le))
 fits natives (Inside x) place h rest s le = fits natives x place h rest s le
 fits natives (Two o x y) place h rest s le =
     let g = greater (need (tree_of x)) (need (tree_of y)) in
@@ -71,7 +67,7 @@ fits natives (Two o x y) place h rest s le =
     let back : h + 1 + 1 - 1 ≡ h + 1 = omega arith in (
       b.0 + 1,
       ap (fault_from natives place h) (node-parts (spelling (tree_of x)) (spelling (tree_of y)) o rest) ∙ a.1 ∙ b.1
-          ∙ step-free natives b.0 (h + 1 + 1) (Some (token.Operator o)) rest (free-operator natives h o)
+          ∙ fault-next natives b.0 (h + 1 + 1) (Some (token.Operator o)) rest (free-operator natives h o)
           ∙ ap (λ (k : ℕ). fault_from natives (b.0 + 1) k rest) back,
     )
 

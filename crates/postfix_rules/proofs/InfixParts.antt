@@ -2,7 +2,7 @@
 use Rattle.std.proofs.Common.{◌≡◌, ◌∙◌, ◌<◌, ◌≤◌, ◌+◌, ◌^◌, ◌∷◌, ℕ, suc, Bool, true, false, List, [], Some, None, cond, length, take, drop, refl, sym, ap, subst, arith}
 use Rattle.std.specs.Prelude.{◌&&◌, ◌||◌, ◌==◌, not, nat_lt, slice_index, if◌then◌else◌}
 use Rattle.std.specs.List.{list_all, prefix_len, take_while}
-use Rattle.std.proofs.lemmas.Bool.{eq-eqb, eqb-true, ne_eqb}
+use Rattle.std.proofs.lemmas.Bool.{eq-eqb, eqb-true, ne_eqb, and_from, and_left, and_right}
 use Rattle.std.proofs.lemmas.List.Sums.{take_while-cons}
 use Rattle.std.proofs.lemmas.List.{drop_all, drop_more}
 use Rattle.papi_base.specs.Numerals.{is_digit, is_empty, is_numeral}
@@ -35,9 +35,8 @@ refused-part (Some (token.Operator o)) why h n m d lt = let e : None ≡ Some wh
 -- ---- signs
 
 one-sign : (text : Text) → length text ≡ 1 → text ≡ slice_index text 0 ∷ []
-one-sign [] e = absurd (omega arith)
 one-sign (b ∷ []) e = refl
-one-sign (b ∷ c ∷ text) e = absurd (omega arith)
+one-sign text e = absurd (omega arith)
 
 pub sign-none : (text : Text) → length text ≡ 1 → (slice_index text 0 ≡ 40 → ⊥) → (slice_index text 0 ≡ 41 → ⊥) → operator_of text ≡ None → sign_part (slice_index text 0) ≡ None
 sign-none text e n m o =
@@ -53,19 +52,6 @@ unfolding infix_from
 no-parts inside = refl
 
 -- ---- one byte more
-
-both : (x y : Bool) → x ≡ true → y ≡ true → (x && y) ≡ true
-both true true p q = refl
-both true false p q = q
-both false y p q = p
-
-no-first : (x y : Bool) → x ≡ false → (x && y) ≡ false
-no-first true y p = cc p
-no-first false y p = refl
-
-no-second : (x y : Bool) → y ≡ false → (x && y) ≡ false
-no-second true y p = p
-no-second false y p = refl
 
 abbrev is_native : ℕ → Text → Bool
 is_native b rest = (b == 78) && begins_digits rest
@@ -118,7 +104,7 @@ all-digits [] = refl
 all-digits (b ∷ rest) = ap (list_all is_digit) (take_while-cons is_digit b rest) ∙ go (is_digit b) refl (all-digits rest)
   where
     go : (d : Bool) → is_digit b ≡ d → list_all is_digit (take_while is_digit rest) ≡ true → list_all is_digit (cond d (b ∷ take_while is_digit rest) []) ≡ true
-    go true e h = both (is_digit b) (list_all is_digit (take_while is_digit rest)) e h
+    go true e h = and_from (is_digit b) (list_all is_digit (take_while is_digit rest)) e h
     go false e h = refl
 
 filled : (text : Text) → 0 < length text → is_empty text ≡ false
@@ -127,7 +113,7 @@ filled (b ∷ text) lt = refl
 
 pub digits-numeral : (text : Text) → 0 < length (take_while is_digit text) → is_numeral (take_while is_digit text) ≡ true
 unfolding is_numeral
-digits-numeral text lt = both (list_all is_digit (take_while is_digit text)) (not (is_empty (take_while is_digit text))) (all-digits text) (ap not (filled (take_while is_digit text) lt))
+digits-numeral text lt = and_from (list_all is_digit (take_while is_digit text)) (not (is_empty (take_while is_digit text))) (all-digits text) (ap not (filled (take_while is_digit text) lt))
 
 pub front-first : (text : Text) → 0 < length text → slice_index (take 1 text) 0 ≡ slice_index text 0
 front-first [] lt = absurd (omega arith)
@@ -167,17 +153,17 @@ pub native-first : (text : Text) → 0 < length text → slice_index text 0 ≡ 
     → infix_from false text ≡ in_infix (native_part (take_while is_digit (drop 1 text))) ∷ infix_from true (drop 1 text)
 native-first [] lt n d = absurd (omega arith)
 native-first (b ∷ rest) lt n d =
-    parts-are false b rest false true (is_blank b) (ap is_digit n) (both (b == 78) (begins_digits rest) (eq-eqb b 78 n) (begins rest d)) refl
+    parts-are false b rest false true (is_blank b) (ap is_digit n) (and_from (b == 78) (begins_digits rest) (eq-eqb b 78 n) (begins rest d)) refl
 
 pub sign-first : (text : Text) → 0 < length text → is_digit (slice_index text 0) ≡ false → is_blank (slice_index text 0) ≡ false → (slice_index text 0 ≡ 78 → ⊥)
     → infix_from false text ≡ sign_part (slice_index text 0) ∷ infix_from false (drop 1 text)
 sign-first [] lt d k n = absurd (omega arith)
-sign-first (b ∷ rest) lt d k n = parts-are false b rest false false false d (no-first (b == 78) (begins_digits rest) (ne_eqb b 78 n)) k
+sign-first (b ∷ rest) lt d k n = parts-are false b rest false false false d (and_left (b == 78) (begins_digits rest) (ne_eqb b 78 n)) k
 
 pub letter-first : (text : Text) → 0 < length text → is_digit (slice_index text 0) ≡ false → is_blank (slice_index text 0) ≡ false → length (take_while is_digit (drop 1 text)) ≡ 0
     → infix_from false text ≡ sign_part (slice_index text 0) ∷ infix_from false (drop 1 text)
 letter-first [] lt d k n = absurd (omega arith)
-letter-first (b ∷ rest) lt d k n = parts-are false b rest false false false d (no-second (b == 78) (begins_digits rest) (begins-none rest n)) k
+letter-first (b ∷ rest) lt d k n = parts-are false b rest false false false d (and_right (b == 78) (begins_digits rest) (begins-none rest n)) k
 
 -- ---- blanks
 
@@ -190,7 +176,7 @@ blank-is b e = go (b == 32) (b == 9) refl refl e
     go false false p q h = cc h
 
 blank-at : (b : ℕ) (rest : Text) → is_blank b ≡ true → infix_from false (b ∷ rest) ≡ infix_from false rest
-blank-at b rest e = let is = blank-is b e in parts-are false b rest false false true is.0 (no-first (b == 78) (begins_digits rest) is.1) e
+blank-at b rest e = let is = blank-is b e in parts-are false b rest false false true is.0 (and_left (b == 78) (begins_digits rest) is.1) e
 
 pub blank-more : (text : Text) (i : ℕ) → i < length text → is_blank (slice_index text i) ≡ true → infix_from false (drop i text) ≡ infix_from false (drop (i + 1) text)
 blank-more text i lt k = ap (infix_from false) (drop_more text i 0 lt) ∙ blank-at (slice_index text i) (drop (i + 1) text) k

@@ -1,13 +1,15 @@
 -- A formula in infix order is read as its grammar says, and refused at its first fault.
-use Rattle.std.proofs.Common.{◌≡◌, ◌∙◌, ◌+◌, ◌<◌, ◌∷◌, ◌++◌, ℕ, Bool, true, false, List, [], Option, Some, None, length, map, take, refl, sym, ap, subst, arith, append_assoc, append-nil, nat_lt}
+use Rattle.std.proofs.Common.{◌≡◌, ◌∙◌, ◌+◌, ◌<◌, ◌∷◌, ◌++◌, ℕ, Bool, true, false, List, [], Option, Some, None, length, map, refl, sym, ap, subst, arith, append_assoc, append-nil, nat_lt}
 use Rattle.std.specs.Prelude.{IfOk, Result, Ok, Err, slice_get}
 use Rattle.std.proofs.lemmas.Bool.{ltb-false, ltb-true}
-use Rattle.std.proofs.lemmas.List.{length-append, map-append}
+use Rattle.std.proofs.lemmas.List.{length-append, map-append, take_at}
 use Rattle.std.proofs.lemmas.List.Sums.{fold-append}
+use Rattle.std.proofs.lemmas.Option.{slice_get_past}
+use Rattle.papi_base.proofs.Steps.{get_middle}
 use Rattle.postfix_rules.specs.declared.fault.FormulaCause.{FormulaCause}
 use Rattle.postfix_rules.specs.declared.fault.FormulaCause.TheVariants as cause
 use Rattle.postfix_rules.specs.declared.fault.FormulaFault.{FormulaFault}
-use Rattle.postfix_rules.specs.declared.fault.FormulaFault.TheVariants.{At, Memory}
+use Rattle.postfix_rules.specs.declared.fault.FormulaFault.TheVariants.{Memory}
 use Rattle.postfix_rules.specs.declared.infix_token.InfixToken.{InfixToken}
 use Rattle.postfix_rules.specs.Faults.{FormulaView, IsFormula}
 use Rattle.postfix_rules.specs.Infix.{IsInfix, Written, need, tree_of}
@@ -49,22 +51,10 @@ follows-more natives before order s t e f =
 
 -- ---- places
 
-take-front : (xs ys : List InfixPart) → take (length xs) (xs ++ ys) ≡ xs
-take-front [] ys = refl
-take-front (x ∷ xs) ys = ap (λ (t : List InfixPart). x ∷ t) (take-front xs ys)
-
-get-front : (xs : List InfixPart) (y : InfixPart) (ys : List InfixPart) → slice_get (xs ++ y ∷ ys) (length xs) ≡ Some y
-get-front [] y ys = refl
-get-front (x ∷ xs) y ys = get-front xs y ys
-
-get-end : (xs : List InfixPart) → slice_get xs (length xs) ≡ None
-get-end [] = refl
-get-end (x ∷ xs) = get-end xs
-
 here : (natives : ℕ) (before rest : List InfixPart) (part : InfixPart) (order : OrderView) → must_begin before ≡ order.must → open_at_end before ≡ length order.outer
     → cause_at natives (before ++ part ∷ rest) (length before) part ≡ order_cause natives order part
 here natives before rest part order m d =
-    ap (λ (ps : List InfixPart). infix_cause natives (must_begin ps) (open_at_end ps) part) (take-front before (part ∷ rest))
+    ap (λ (ps : List InfixPart). infix_cause natives (must_begin ps) (open_at_end ps) part) (take_at before (part ∷ rest) _ refl)
     ∙ ap (λ (b : Bool). infix_cause natives b (open_at_end before) part) m
     ∙ ap (λ (n : ℕ). infix_cause natives order.must n part) d
 
@@ -80,7 +70,7 @@ clear-more natives before rest part none clear =
     go j q lt at false e =
         let le = ltb-false j (length before) e in
         let is : j ≡ length before = omega (arith, length-append before (part ∷ [])) in
-        let same : Some part ≡ Some q = sym (get-front before part rest) ∙ ap (slice_get (before ++ part ∷ rest)) (sym is) ∙ at in
+        let same : Some part ≡ Some q = sym (get_middle before part rest) ∙ ap (slice_get (before ++ part ∷ rest)) (sym is) ∙ at in
         let q_is : q ≡ part = cc same in
         ap (λ (k : ℕ). cause_at natives (before ++ part ∷ rest) k q) is ∙ ap (λ (p : InfixPart). cause_at natives (before ++ part ∷ rest) (length before) p) q_is ∙ none
 
@@ -92,7 +82,7 @@ Says natives parts (Err r) = (k : ℕ) × (r.place ≡ k + 1) × IsInfixFault na
 
 fault-end : (natives : ℕ) (before : List InfixPart) (why : FormulaCause) → HasCauseAt natives before (length before) why None
     → AreClear natives before (length before) → IsInfixFault natives before (length before) why
-fault-end natives before why h clear = record { here = subst (HasCauseAt natives before (length before) why) (sym (get-end before)) h; first = clear }
+fault-end natives before why h clear = record { here = subst (HasCauseAt natives before (length before) why) (sym (slice_get_past before (length before) (omega arith))) h; first = clear }
 
 refuses : (natives place : ℕ) (before : List InfixPart) (why : FormulaCause) → place ≡ length before → HasCauseAt natives before (length before) why None → AreClear natives before (length before)
     → Says natives before (refused_at place why)
@@ -139,7 +129,7 @@ refused-here : (natives place : ℕ) (before rest : List InfixPart) (part : Infi
     → Says natives (before ++ part ∷ rest) (infix_ended natives place order (part ∷ rest))
 refused-here natives place before rest part order why n e at clear =
     let has : HasCauseAt natives (before ++ part ∷ rest) (length before) why (slice_get (before ++ part ∷ rest) (length before)) =
-    subst (HasCauseAt natives (before ++ part ∷ rest) (length before) why) (sym (get-front before part rest)) at in
+    subst (HasCauseAt natives (before ++ part ∷ rest) (length before) why) (sym (get_middle before part rest)) at in
     subst (Says natives (before ++ part ∷ rest)) (sym (part-refused natives place order part rest why e)) (length before, ap (λ (k : ℕ). k + 1) n, record { here = has; first = clear })
 
 says : (natives place : ℕ) (before rest : List InfixPart) (order : OrderView) (s : State) → place ≡ length before → Follows natives before order s → AreClear natives (before ++ rest) (length before)
@@ -174,9 +164,8 @@ unfolding infix_of
 text-says natives text = says natives 0 [] (infix_parts text) order_begun (wants [] None None) refl (follows-none natives) (λ j part lt at. absurd (omega arith))
 
 pub answer-infix : (natives : ℕ) (text : Text) (r : Result FormulaView FormulaFault) → AnswersInfix r (infix_of natives text) → ReadsInfix r natives text
-answer-infix natives text (Ok f) e = subst (Says natives (infix_parts text)) e (text-says natives text)
-answer-infix natives text (Err (At place why)) e = subst (Says natives (infix_parts text)) e (text-says natives text)
 answer-infix natives text (Err Memory) e = tt
+answer-infix natives text r e = subst (Says natives (infix_parts text)) e (text-says natives text)
 
 pub answer-natives : (natives : ℕ) (text : Text) (r : Result FormulaView FormulaFault) → AnswersInfix r (infix_of natives text) → IfOk r (λ f. f.natives ≡ natives)
 answer-natives natives text (Ok f) e = let s = subst (Says natives (infix_parts text)) e (text-says natives text) in s.3

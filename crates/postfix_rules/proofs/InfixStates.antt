@@ -123,33 +123,28 @@ IsFine natives (done outer s w) = AllByRecursion (FrameFine natives) outer × Su
 -- ---- a term joins the sum that waits, and a factor the product
 
 factor-term : (w : Written) → IsPhrase factor w → IsPhrase term w
-factor-term (Number n) h = tt
-factor-term (Native i) h = tt
 factor-term (Two o x y) h = absurd h
 factor-term (Inside x) h = h
+factor-term w h = tt
 
 term-sum : (w : Written) → IsPhrase term w → IsPhrase sum w
 term-sum (Number n) h = tt
 term-sum (Native i) h = tt
 term-sum (Two op.Plus x y) h = absurd h
 term-sum (Two op.Minus x y) h = absurd h
-term-sum (Two op.Times x y) h = h
-term-sum (Two op.Over x y) h = h
-term-sum (Inside x) h = h
+term-sum w h = h
 
 pub joined-term : (natives : ℕ) (p : Option Held) (w : Written) → ProductFine natives p → IsPhrase factor w → Small natives w → IsPhrase term (joined p w) × Small natives (joined p w)
 joined-term natives None w h f m = (factor-term w f, m)
-joined-term natives (Some (held l op.Plus)) w h f m = absurd h.1
-joined-term natives (Some (held l op.Minus)) w h f m = absurd h.1
 joined-term natives (Some (held l op.Times)) w h f m = ((h.0, f), (h.2, m))
 joined-term natives (Some (held l op.Over)) w h f m = ((h.0, f), (h.2, m))
+joined-term natives p w h f m = absurd h.1
 
 pub joined-sum : (natives : ℕ) (s : Option Held) (w : Written) → SumFine natives s → IsPhrase term w → Small natives w → IsPhrase sum (joined s w) × Small natives (joined s w)
 joined-sum natives None w h t m = (term-sum w t, m)
-joined-sum natives (Some (held l op.Plus)) w h t m = ((h.0, t), (h.2, m))
-joined-sum natives (Some (held l op.Minus)) w h t m = ((h.0, t), (h.2, m))
 joined-sum natives (Some (held l op.Times)) w h t m = absurd h.1
 joined-sum natives (Some (held l op.Over)) w h t m = absurd h.1
+joined-sum natives s w h t m = ((h.0, t), (h.2, m))
 
 -- ---- the tokens of what is joined
 

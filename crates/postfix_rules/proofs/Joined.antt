@@ -3,6 +3,7 @@ use Rattle.std.proofs.Common.{◌≡◌, inl, inr, ℕ, zero, suc, Bool, true, f
 use Rattle.std.specs.Prelude.{if◌then◌else◌}
 use Rattle.std.proofs.lemmas.List.Folds.{list_any-append}
 use Rattle.std.proofs.Math.Seq.{take-length, take-append_seam}
+use Rattle.std.proofs.lemmas.Bool.{or_right, or_left}
 use Rattle.papi_base.specs.declared.native.Native.{Native}
 use Rattle.papi_base.specs.declared.native.EventRef.{EventRef}
 use Rattle.postfix_rules.specs.Sameness.{same_native, joined_by, among}
@@ -31,14 +32,6 @@ joined_begins seen (n ∷ more) = next_begins (among n seen) n seen (joined_by (
 
 pub earlier_stay : EarlierStay
 earlier_stay book es e = ap (take (length (natives_of book es))) (one_more_joins book es e) ∙ joined_begins (natives_of book es) (natives_of_event book e)
-
-or_left : (a b : Bool) → a ≡ true → (a || b) ≡ true
-or_left true b h = refl
-or_left false b h = cc
-
-or_right : (a b : Bool) → b ≡ true → (a || b) ≡ true
-or_right true b h = refl
-or_right false b h = h
 
 next_among : (b : Bool) (m n : Native) (seen : List Native) → among m seen ≡ true → among m (if b then seen else seen ++ n ∷ []) ≡ true
 next_among true m n seen h = h
@@ -106,3 +99,8 @@ after_distinct book seen (e ∷ es) h = after_distinct book (joined_by seen (nat
 
 pub none_twice : NoneTwice
 none_twice book es = after_distinct book [] es (λ i j n a b. cc)
+
+-- two lists join one after the other
+pub joined-append : (seen xs ys : List Native) → joined_by seen (xs ++ ys) ≡ joined_by (joined_by seen xs) ys
+joined-append seen [] ys = refl
+joined-append seen (x ∷ xs) ys = joined-append (if among x seen then seen else seen ++ x ∷ []) xs ys

@@ -6,7 +6,6 @@ pub mod Spelled
 pub mod Faults
 pub mod Refusals
 pub mod Written
-mod Divided
 mod Stacks
 mod TreeValues
 mod Sums
@@ -23,3 +22,5 @@ pub mod InfixNeeds
 pub mod InfixSound
 mod InfixAlone
 mod InfixBothWays
+pub mod AllFields
+pub mod Divided

@@ -1,22 +1,17 @@
 -- An operator is a text of one byte.
-use Rattle.std.proofs.Common.{◌≡◌, ◌==◌, ◌&&◌, ◌∷◌, ℕ, Bool, true, false, List, [], None, length, get_or, refl, ap, ◌∙◌, arith}
-use Rattle.std.proofs.lemmas.Bool.{ne_eqb}
+use Rattle.std.proofs.Common.{◌≡◌, ◌==◌, ◌∷◌, ℕ, false, List, [], None, length, get_or, refl, ap, ◌∙◌, arith}
+use Rattle.std.proofs.lemmas.Bool.{ne_eqb, and_right}
 use Rattle.postfix_rules.specs.Tokens.{operator_of}
 
 one-byte : (t : List ℕ) → length t ≡ 1 → t ≡ get_or t 0 0 ∷ []
-one-byte [] e = absurd (omega arith)
 one-byte (a ∷ []) e = refl
-one-byte (a ∷ b ∷ t) e = absurd (omega arith)
-
-no-more : (x : Bool) → (x && false) ≡ false
-no-more true = refl
-no-more false = refl
+one-byte t e = absurd (omega arith)
 
 -- a text that is not one byte long
 pub no-operator : (t : List ℕ) → (length t ≡ 1 → ⊥) → operator_of t ≡ None
 no-operator [] h = refl
 no-operator (a ∷ []) h = absurd (h refl)
-no-operator (a ∷ b ∷ t) h = rw (no-more (a == 43), no-more (a == 45), no-more (a == 42), no-more (a == 47)) refl
+no-operator (a ∷ b ∷ t) h = rw (and_right (a == 43) false refl, and_right (a == 45) false refl, and_right (a == 42) false refl, and_right (a == 47) false refl) refl
 
 -- a text of this byte alone
 pub operator-is : (t : List ℕ) (a : ℕ) → length t ≡ 1 → get_or t 0 0 ≡ a → operator_of t ≡ operator_of (a ∷ [])

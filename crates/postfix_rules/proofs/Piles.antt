@@ -7,12 +7,11 @@ use Rattle.postfix_rules.specs.Trees.{Tree, Constant, Count, Node, pile_from, pi
 -- a tree's tokens put the tree on top
 pub spelling-run : (t : Tree) (pile : List Tree) (rest : List Token) → pile_from pile (spelling t ++ rest) ≡ pile_from (t ∷ pile) rest
 unfolding pile_from spelling
-spelling-run (Constant n) pile rest = refl
-spelling-run (Count i) pile rest = refl
 spelling-run (Node o x y) pile rest =
     let a = append_assoc (spelling x) (spelling y ++ (token.Operator o ∷ [])) rest in
     let b = append_assoc (spelling y) (token.Operator o ∷ []) rest in
     rw (a, b) (spelling-run x pile (spelling y ++ (token.Operator o ∷ rest)) ∙ spelling-run y (x ∷ pile) (token.Operator o ∷ rest))
+spelling-run t pile rest = refl
 
 -- the tokens of a pile make that pile
 pub pile-run : (pile : List Tree) (rest : List Token) → pile_from [] (pile_text pile ++ rest) ≡ pile_from pile rest

@@ -3,7 +3,7 @@ use Rattle.std.proofs.Common.{◌≡◌, ◌∙◌, ◌+◌, ℕ, List, Option, 
 use Rattle.std.specs.Prelude.{IfErr, IfOk, Result, Ok, Err}
 use Rattle.postfix_rules.specs.declared.fault.FormulaCause.{FormulaCause}
 use Rattle.postfix_rules.specs.declared.fault.FormulaFault.{FormulaFault}
-use Rattle.postfix_rules.specs.declared.fault.FormulaFault.TheVariants.{At, Memory}
+use Rattle.postfix_rules.specs.declared.fault.FormulaFault.TheVariants.{At}
 use Rattle.postfix_rules.specs.declared.token.Token.{Token}
 use Rattle.postfix_rules.specs.Trees.{spelling}
 use Rattle.postfix_rules.specs.Faults.{FormulaView, IsFault, IsFormula, Part, fault_from}
@@ -103,6 +103,5 @@ text-fault natives text place cause e =
     (f.0.0, f.2, subst (IsFault natives (parts_of text) f.0.0) (sym f.3) (fault-of natives (parts_of text) f.0 f.1))
 
 pub answer-fault : (natives : ℕ) (text : Text) (r : Result FormulaView FormulaFault) → ReadsFormula r natives text → IfErr r (λ fault. IsTextFault natives text fault)
-answer-fault natives text (Ok f) e = tt
 answer-fault natives text (Err (At place cause)) e = text-fault natives text place cause e
-answer-fault natives text (Err Memory) e = tt
+answer-fault natives text r e = tt

@@ -17,7 +17,7 @@ pub record SoFar (natives : ℕ) (text rest : Text) (tokens : List Token) (heigh
   pub faults : fault_from natives 0 0 (parts_of text) ≡ fault_from natives (length tokens) height (parts_of rest)
   pub few : height ≤ 16
 
-fault-next : (natives place height : ℕ) (part : Part) (rest : List Part) → token_cause natives height part ≡ None
+pub fault-next : (natives place height : ℕ) (part : Part) (rest : List Part) → token_cause natives height part ≡ None
     → fault_from natives place height (part ∷ rest) ≡ fault_from natives (place + 1) (height_after height part) rest
 unfolding fault_from
 fault-next natives place height part rest e = rw e refl

@@ -86,9 +86,8 @@ end-one natives place height e = go (end_cause height) refl e
     go (Some w) p q = cc q
 
 one-left : (pile : List Tree) → length pile ≡ 1 → (t : Tree) × (Some pile ≡ Some (t ∷ []))
-one-left [] e = absurd (omega (arith, e))
 one-left (t ∷ []) e = (t, refl)
-one-left (t ∷ u ∷ pile) e = absurd (omega (arith, e))
+one-left pile e = absurd (omega (arith, e))
 
 -- tokens without a fault make one tree
 pub one-spelled : (natives place height : ℕ) (pile : List Tree) (tokens : List Token) → height ≡ length pile → fault_from natives place height (map Some tokens) ≡ None

@@ -5,7 +5,7 @@ use Rattle.std.proofs.lemmas.List.{drop_more, drop_all, take_more, take_more_set
 use Rattle.postfix_rules.specs.declared.token.Operator.{Operator}
 use Rattle.postfix_rules.specs.declared.token.Token.{Token}
 use Rattle.postfix_rules.specs.declared.token.Token.TheVariants as token
-use Rattle.postfix_rules.specs.Trees.{Tree, Constant, Count, Node, spelling}
+use Rattle.postfix_rules.specs.Trees.{Tree, Node, spelling}
 use Rattle.postfix_rules.specs.Faults.{fault_from, height_after, token_cause}
 use Rattle.postfix_rules.specs.Values.{applied, formula_value, tree_value}
 use Rattle.postfix_rules.specs.Stack.{pile, stack_from, stepped}
@@ -16,12 +16,11 @@ use Rattle.postfix_rules.proofs.Spelled.{clear-first, end-one, few-after, one-sp
 
 stack-run : (counts : List ℤ) (t : Tree) (stack : List ℤ) (rest : List Token) → stack_from counts stack (spelling t ++ rest) ≡ stack_from counts (tree_value counts t ∷ stack) rest
 unfolding stack_from tree_value spelling
-stack-run counts (Constant n) stack rest = refl
-stack-run counts (Count i) stack rest = refl
 stack-run counts (Node o x y) stack rest =
     let a = append_assoc (spelling x) (spelling y ++ (token.Operator o ∷ [])) rest in
     let b = append_assoc (spelling y) (token.Operator o ∷ []) rest in
     rw (a, b) (stack-run counts x stack (spelling y ++ (token.Operator o ∷ rest)) ∙ stack-run counts y (tree_value counts x ∷ stack) (token.Operator o ∷ rest))
+stack-run counts t stack rest = refl
 
 stack-value : (counts : List ℤ) (t : Tree) → stack_from counts [] (spelling t) ≡ tree_value counts t ∷ []
 unfolding stack_from
@@ -63,24 +62,21 @@ pub record Runs (counts : List ℤ) (tokens : List Token) (i height : ℕ) (stac
   pub sixteen : length stack ≡ 16
   pub same : stack_from counts [] tokens ≡ stack_from counts (pile stack height) (drop i tokens)
 
-here : (ts : List Token) (i : ℕ) (t : Token) → i < length ts → drop i ts ≡ get_or ts i t ∷ drop (i + 1) ts
-here ts i t lt = drop_more ts i t lt
-
 pub token-clear : (counts : List ℤ) (ts : List Token) (i h : ℕ) (stack : List ℤ) (t : Token) → i < length ts → Runs counts ts i h stack → token_cause (length counts) h (Some (get_or ts i t)) ≡ None
 token-clear counts ts i h stack t lt r =
-    (clear-first (length counts) i h (Some (get_or ts i t)) (map Some (drop (i + 1) ts)) (rw (here ts i t lt) at r.faultless)).now
+    (clear-first (length counts) i h (Some (get_or ts i t)) (map Some (drop (i + 1) ts)) (rw (drop_more ts i t lt) at r.faultless)).now
 
 pub runs-more : (counts : List ℤ) (ts : List Token) (i h g : ℕ) (old new : List ℤ) (t : Token) → i < length ts → length new ≡ 16 → Runs counts ts i h old
     → g ≡ height_after h (Some (get_or ts i t)) → pile new g ≡ stepped counts (get_or ts i t) (pile old h) → Runs counts ts (i + 1) g new
 unfolding stack_from
 runs-more counts ts i h g old new t lt sixteen r g_is stack_is =
     let rest = drop (i + 1) ts in
-    let c = clear-first (length counts) i h (Some (get_or ts i t)) (map Some rest) (rw (here ts i t lt) at r.faultless) in
+    let c = clear-first (length counts) i h (Some (get_or ts i t)) (map Some rest) (rw (drop_more ts i t lt) at r.faultless) in
     record {
       faultless = rw g_is c.next;
       sixteen = sixteen;
       few = rw g_is (few-after (length counts) h (get_or ts i t) r.few c.now);
-      same = r.same ∙ ap (stack_from counts (pile old h)) (here ts i t lt) ∙ ap (λ (s : List ℤ). stack_from counts s rest) (sym stack_is);
+      same = r.same ∙ ap (stack_from counts (pile old h)) (drop_more ts i t lt) ∙ ap (λ (s : List ℤ). stack_from counts s rest) (sym stack_is);
     }
 
 stack-end : (cs st : List ℤ) → stack_from cs st [] ≡ st

@@ -5,8 +5,8 @@ use Rattle.std.specs.List.{AllByRecursion, list_all, slice_split}
 use Rattle.std.specs.Str.Parse.{digits_value}
 use Rattle.std.proofs.lemmas.Bool.{and_from, le-leb}
 use Rattle.papi_base.specs.Numerals.{is_numeral}
-use Rattle.postfix_rules.specs.declared.token.Operator.TheVariants as op
 use Rattle.postfix_rules.specs.declared.token.Token.{Token}
+use Rattle.postfix_rules.specs.declared.token.Operator.TheVariants as op
 use Rattle.postfix_rules.specs.declared.token.Token.TheVariants as token
 use Rattle.postfix_rules.specs.Faults.{Part, end_cause, fault_from, height_after, token_cause}
 use Rattle.postfix_rules.specs.Tokens.{formula_text, is_bar, is_formula_byte, part_of, parts_of, pieces_of, token_text, without_blank_last}
@@ -35,9 +35,7 @@ token-inner : (t : Token) → IsWritten t → AllByRecursion Inner (token_text t
 token-inner (token.Constant n) h = digits-inner (decimal n) (decimal-digits n h)
 token-inner (token.Native i) h = ((refl, refl), digits-inner (decimal i) (decimal-digits i h))
 token-inner (token.Operator op.Plus) h = ((refl, refl), tt)
-token-inner (token.Operator op.Minus) h = ((refl, refl), tt)
-token-inner (token.Operator op.Times) h = ((refl, refl), tt)
-token-inner (token.Operator op.Over) h = ((refl, refl), tt)
+token-inner t h = ((refl, refl), tt)
 
 token-plain : (t : Token) → IsWritten t → trimmed (token_text t) ≡ token_text t
 token-plain t h = trimmed-plain (token_text t) (all-map Inner (λ b. is_blank b ≡ false) (token_text t) (λ b r. r.1) (token-inner t h))
@@ -62,9 +60,7 @@ token-back (token.Constant n) h =
     numeral-part (decimal n) (decimal-digits n h) (decimal-numeral n h) ∙ ap (λ (m : ℕ). Some (token.Constant m)) (decimal-value n h)
 token-back (token.Native i) h = native-written (decimal i) (decimal-numeral i h) ∙ ap (λ (m : ℕ). Some (token.Native m)) (decimal-value i h)
 token-back (token.Operator op.Plus) h = refl
-token-back (token.Operator op.Minus) h = refl
-token-back (token.Operator op.Times) h = refl
-token-back (token.Operator op.Over) h = refl
+token-back t h = refl
 
 -- ---- all tokens
 
@@ -80,9 +76,8 @@ pieces-split (t ∷ rest) h = split-first (token_text t) (formula_text rest) (to
 
 drop-last : (pieces : List Text) → without_blank_last (pieces ++ ([] ∷ [])) ≡ pieces
 unfolding without_blank_last trimmed without_front
-drop-last [] = refl
-drop-last (p ∷ []) = refl
 drop-last (p ∷ q ∷ rest) = ap (λ (t : List Text). p ∷ t) (drop-last (q ∷ rest))
+drop-last pieces = refl
 
 each-back : (tokens : List Token) → AllByRecursion IsWritten tokens → map (λ p. part_of (trimmed p)) (map token_text tokens) ≡ map Some tokens
 each-back [] h = refl
@@ -125,9 +120,7 @@ token-bytes : (t : Token) → IsWritten t → list_all is_formula_byte (token_te
 token-bytes (token.Constant n) h = digits-bytes (decimal n) (decimal-digits n h)
 token-bytes (token.Native i) h = digits-bytes (decimal i) (decimal-digits i h)
 token-bytes (token.Operator op.Plus) h = refl
-token-bytes (token.Operator op.Minus) h = refl
-token-bytes (token.Operator op.Times) h = refl
-token-bytes (token.Operator op.Over) h = refl
+token-bytes t h = refl
 
 bytes-append : (a b : Text) → list_all is_formula_byte a ≡ true → list_all is_formula_byte b ≡ true → list_all is_formula_byte (a ++ b) ≡ true
 bytes-append [] b h k = k

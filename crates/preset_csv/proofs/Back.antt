@@ -21,6 +21,7 @@ use Rattle.preset_csv.proofs.Fields.{IsGood, symbols-good, word-good}
 use Rattle.preset_csv.proofs.Groups.{has_cpu-more, names-more}
 use Rattle.preset_csv.proofs.RowBack.{cpu-line, def-good, def-judged, def-line, row_fields, def_row, good-plain, rest-good, rest-judged, rest-line, rest_fields, rest_row}
 use Rattle.preset_csv.proofs.SymbolRows.{Apart, AreApart, all-test, same-text, symbols-apart}
+use Rattle.preset_csv.proofs.WrittenParts.{length-symbols}
 
 -- the rows of some symbols and their entries, as they read back
 unfoldable pub rows_back : List Text → List Entry → List Derivation
@@ -167,10 +168,6 @@ written-back judge = record { rest = rest-judged judge; def = def-judged judge }
 fault-back : (name : Text) (rows : List Derivation) → AllByRecursion (HasEntry judged) rows → first_fault (line_cause judged name) [] (cpu name ∷ both rows []) ≡ None
 unfolding first_fault
 fault-back name rows h = no-fault name (cpu name ∷ []) rows (first-stands name) h
-
-length-symbols : length symbols ≡ 26
-unfolding symbols preset_rows
-length-symbols = refl
 
 pub fault-of-written : (t : TableView) → IsGood t.cpu → AllByRecursion IsEntry t.rows → first_fault (line_cause judged t.cpu) [] (lines_of (table_text t)) ≡ None
 fault-of-written t g h = ap (first_fault (line_cause judged t.cpu) []) (written-lines t g h) ∙ fault-back t.cpu (rows_back symbols t.rows) (table-taken judged (written-back uncomputed) t.rows h)

@@ -65,18 +65,13 @@ byte-begins f fields field c xs ends goes = go (c == 44) (ends_with table_config
 -- inside a record its first field stays
 next-begins : (s : State) (f : Text) (fields : List Text) (field xs : List ℕ) → InRow s → Begins f (next_record table_config s (f ∷ fields) field xs)
 unfolding next_record
-next-begins st.StartRecord f fields field xs o = absurd o
 next-begins st.StartField f fields field [] o = record { more = fields ++ (field ∷ []); state = st.StartRecord; rest = []; is = refl }
 next-begins st.StartField f fields field (c ∷ xs) o =
     byte-begins f fields field c xs (next-begins st.StartField f (fields ++ (field ∷ [])) [] xs tt) (next-begins st.InField f fields (field ++ (c ∷ [])) xs tt)
 next-begins st.InField f fields field [] o = record { more = fields ++ (field ∷ []); state = st.StartRecord; rest = []; is = refl }
 next-begins st.InField f fields field (c ∷ xs) o =
     byte-begins f fields field c xs (next-begins st.StartField f (fields ++ (field ∷ [])) [] xs tt) (next-begins st.InField f fields (field ++ (c ∷ [])) xs tt)
-next-begins st.InQuoted f fields field xs o = absurd o
-next-begins st.AfterQuote f fields field xs o = absurd o
-next-begins st.InEscape f fields field xs o = absurd o
-next-begins st.InComment f fields field xs o = absurd o
-next-begins st.AfterCr f fields field xs o = absurd o
+next-begins s f fields field xs o = absurd o
 
 -- `CPU,` and some bytes
 abbrev cpu_text : List ℕ → List ℕ

@@ -1,7 +1,6 @@
 -- The natives of a row, field by field.
-use Rattle.std.proofs.Common.{◌≡◌, ◌∙◌, ◌+◌, ◌<◌, ◌≤◌, ◌∷◌, ◌++◌, ℕ, zero, suc, Bool, true, false, List, [], Some, None, Ok, Err, map, drop, take}
+use Rattle.std.proofs.Common.{◌≡◌, ◌∙◌, ◌+◌, ◌<◌, ◌≤◌, ◌∷◌, ◌++◌, ℕ, zero, suc, true, false, List, [], Ok, Err, map, drop, take}
 use Rattle.std.proofs.Common.{length, get_or, refl, sym, ap, arith, append_assoc, append-nil, lt-ltb, le-ltb}
-use Rattle.std.specs.Prelude.{if◌then◌else◌}
 use Rattle.std.specs.List.{list_all}
 use Rattle.std.proofs.lemmas.Bool.{and_from}
 use Rattle.std.proofs.lemmas.List.{drop_all, drop_more, length-append, take_all}
@@ -104,13 +103,3 @@ broken fields first i count natives lt h stays bad =
     let whole : natives_from fields first ≡ h.all ++ text_at fields i ∷ natives_from fields (i + 1) = h.found.found
     ∙ ap (λ (t : List Text). h.all ++ t) (from-here fields i lt ∙ first-stays (text_at fields i) _ stays) in
     rw (whole, list_all-append is_printable h.all (text_at fields i ∷ natives_from fields (i + 1)), h.found.printed, bad) refl
-
--- ---- a field as the code has it
-
-pub is-printed : (b : Bool) (t u : Text) → Some u ≡ (if b then Some t else None) → (b ≡ true) × (u ≡ t)
-is-printed true t u e = (refl, cc e)
-is-printed false t u e = cc e
-
-pub not-printed : (b : Bool) (t : Text) → None ≡ (if b then Some t else None) → b ≡ false
-not-printed true t e = cc e
-not-printed false t e = refl

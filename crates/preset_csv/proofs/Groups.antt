@@ -1,6 +1,7 @@
 -- The group of some rows and of one more.
 use Rattle.std.proofs.Common.{◌≡◌, ◌∙◌, ◌∷◌, ◌++◌, ◌||◌, Bool, true, false, List, [], refl}
 use Rattle.std.specs.Prelude.{if◌then◌else◌}
+use Rattle.std.proofs.lemmas.Bool.{or_right}
 use Rattle.table_rows.specs.Texts.{Text}
 use Rattle.preset_csv.specs.Lines.{Line, other, cpu, gives}
 use Rattle.preset_csv.specs.Presets.{cuts_off, group, has_cpu}
@@ -23,10 +24,6 @@ has_cpu-more (gives w r ∷ rest) line = has_cpu-more rest line
 pub or-false : (b : Bool) → (b || false) ≡ b
 or-false true = refl
 or-false false = refl
-
-pub or-true : (b : Bool) → (b || true) ≡ true
-or-true true = refl
-or-true false = refl
 
 -- a row of another kind than CPU
 cuts-same : (above : List Line) (line : Line) → is_cpu line ≡ false → cuts_off (above ++ line ∷ []) ≡ cuts_off above
@@ -53,14 +50,14 @@ unfolding is_closed cuts_off has_cpu
 has_preset-cuts [] n e = cc e
 has_preset-cuts (other ∷ rest) n e = has_preset-cuts rest n e
 has_preset-cuts (cpu m ∷ rest) n e = has_preset-cuts rest n e
-has_preset-cuts (gives w r ∷ rest) n e = has_cpu-more rest (cpu n) ∙ or-true (has_cpu rest)
+has_preset-cuts (gives w r ∷ rest) n e = has_cpu-more rest (cpu n) ∙ or_right (has_cpu rest) true refl
 
 cuts-open : (above : List Line) (n : Text) → is_closed above ≡ false → cuts_off (above ++ cpu n ∷ []) ≡ cuts_off above
 unfolding is_closed cuts_off has_cpu
 cuts-open [] n e = refl
 cuts-open (other ∷ rest) n e = cuts-open rest n e
 cuts-open (cpu m ∷ rest) n e = cuts-open rest n e
-cuts-open (gives w r ∷ rest) n e = go (has_cpu rest) e (has_cpu-more rest (cpu n) ∙ or-true (has_cpu rest))
+cuts-open (gives w r ∷ rest) n e = go (has_cpu rest) e (has_cpu-more rest (cpu n) ∙ or_right (has_cpu rest) true refl)
   where
     go : (b : Bool) → (if b then is_closed rest else true) ≡ false → has_cpu (rest ++ cpu n ∷ []) ≡ true → has_cpu (rest ++ cpu n ∷ []) ≡ b
     go true q t = t
@@ -132,7 +129,7 @@ closed-more (cpu m ∷ rest) other = closed-more rest other
 closed-more (cpu m ∷ rest) (cpu n) = closed-more rest (cpu n)
 closed-more (cpu m ∷ rest) (gives w r) = closed-more rest (gives w r)
 closed-more (gives v s ∷ rest) other = rw (has_cpu-more rest other, or-false (has_cpu rest), closed-more rest other) refl
-closed-more (gives v s ∷ rest) (cpu n) = rw (has_cpu-more rest (cpu n), or-true (has_cpu rest), closed-more rest (cpu n)) refl
+closed-more (gives v s ∷ rest) (cpu n) = rw (has_cpu-more rest (cpu n), or_right (has_cpu rest) true refl, closed-more rest (cpu n)) refl
 closed-more (gives v s ∷ rest) (gives w r) = rw (has_cpu-more rest (gives w r), or-false (has_cpu rest), closed-more rest (gives w r)) (go (has_cpu rest))
   where
     go : (b : Bool) → (if b then true else true) ≡ true

@@ -5,16 +5,17 @@ use Rattle.std.specs.List.{list_any}
 use Rattle.std.specs.Str.{bytes_eq}
 use Rattle.std.proofs.lemmas.List.Folds.{list_any-append}
 use Rattle.std.proofs.lemmas.List.Sums.{fold-append}
+use Rattle.std.proofs.lemmas.Bool.{or_right}
 use Rattle.table_rows.specs.Texts.{Text}
 use Rattle.preset_table.specs.Table.{row_of}
-use Rattle.preset_csv.specs.Lines.{Derivation, Line, cpu, event, gives, other, preset}
+use Rattle.preset_csv.specs.Lines.{Derivation, Line, cpu, gives, other, preset}
 use Rattle.preset_csv.specs.Presets.{Judging, entry_of, entry_or, group, has_cpu, holds, line_cause, preset_read, presets, presets_read, read_from, rows_if}
 use Rattle.preset_csv.specs.Steps.{cause_more, entries_more, entries_with, group_at, group_more, is_closed, placed}
 use Rattle.preset_csv.specs.Tables.{symbols}
 use Rattle.preset_csv.specs.declared.entry.Entry.{Entry}
 use Rattle.preset_csv.specs.declared.fault.PresetCause.{PresetCause}
 use Rattle.preset_csv.specs.declared.group.Group.{Group}
-use Rattle.preset_csv.proofs.Groups.{closed-more, has_cpu-more, names-more, or-false, or-true}
+use Rattle.preset_csv.proofs.Groups.{closed-more, has_cpu-more, names-more, or-false}
 use Rattle.preset_csv.proofs.SymbolRows.{changed-at, set_at}
 
 -- ---- the group
@@ -34,19 +35,16 @@ holds-more name n false names = list_any-append (λ m. bytes_eq name m) names (n
     swap false false = refl
 
 pub group-one-more : (name : Text) (above : List Line) (line : Line) → group_at name (above ++ line ∷ []) ≡ group_more name (group_at name above) line
-group-one-more name above other = rw (has_cpu-more above other, or-false (has_cpu above), closed-more above other, names-more above other) refl
-group-one-more name above (gives w r) = rw (has_cpu-more above (gives w r), or-false (has_cpu above), closed-more above (gives w r), names-more above (gives w r)) refl
 group-one-more name above (cpu n) =
-    rw (has_cpu-more above (cpu n), or-true (has_cpu above), closed-more above (cpu n), names-more above (cpu n))
+    rw (has_cpu-more above (cpu n), or_right (has_cpu above) true refl, closed-more above (cpu n), names-more above (cpu n))
     (ap (group_of true false) (holds-more name n (is_closed above) (group above)))
+group-one-more name above line = rw (has_cpu-more above line, or-false (has_cpu above), closed-more above line, names-more above line) refl
 
 -- ---- the cause
 
 pub cause-one-more : (judge : Judging) (name : Text) (above : List Line) (line : Line) → line_cause judge name above line ≡ cause_more judge (group_at name above) line
 cause-one-more judge name above other = refl
-cause-one-more judge name above (cpu n) = refl
-cause-one-more judge name above (gives preset r) = refl
-cause-one-more judge name above (gives event r) = refl
+cause-one-more judge name above line = refl
 
 -- ---- the entries
 
@@ -106,7 +104,5 @@ unfolding presets
 entries-one-more judge name above line = ap (λ (t : List Derivation). map (entry_of judge t) symbols) (read-more (preset_read name) [] above line) ∙ go line
   where
     go : (line : Line) → map (entry_of judge (presets_read name above ++ preset_read name above line)) symbols ≡ entries_more judge (group_at name above) (map (entry_of judge (presets_read name above)) symbols) line
-    go other = unread judge (presets_read name above)
-    go (cpu n) = unread judge (presets_read name above)
     go (gives preset r) = taken-more judge (presets_read name above) r (holds name above)
-    go (gives event r) = unread judge (presets_read name above)
+    go line = unread judge (presets_read name above)

@@ -102,9 +102,7 @@ cpu-line name g = cpu-begins (name ∷ []) ∙ ap cpu (second-good (codes "CPU")
 pub type-back : (k : Kind) → type_of (kind_text k) ≡ Some (kind_type k)
 unfolding type_of
 type-back kind.NotDerived = refl
-type-back kind.Add = refl
-type-back kind.Sub = refl
-type-back kind.Postfix = refl
+type-back k = refl
 
 pub natives-read : (natives : List Text) → AllByRecursion IsNativeText natives → natives_in (map trimmed natives) ≡ natives
 natives-read natives each = ap natives_in (trims natives (natives-good natives each)) ∙ natives-back natives each
@@ -152,9 +150,8 @@ judged-plain : (judge : InfixJudging) (s : Text) (k : Kind) (natives : List Text
     → judged_by judge (def_row s k None natives) ≡ Ok (entry.Def (record { kind = k; formula = None; natives = natives }))
 unfolding judged_by
 judged-plain judge s kind.NotDerived natives each some few agrees = rw (natives-printed natives each, eight natives few, filled natives some, eq-eqb (length natives) 1 agrees) refl
-judged-plain judge s kind.Add natives each some few agrees = rw (natives-printed natives each, eight natives few, filled natives some) refl
-judged-plain judge s kind.Sub natives each some few agrees = rw (natives-printed natives each, eight natives few, filled natives some) refl
 judged-plain judge s kind.Postfix natives each some few agrees = absurd agrees
+judged-plain judge s k natives each some few agrees = rw (natives-printed natives each, eight natives few, filled natives some) refl
 
 judged-postfix : (judge : InfixJudging) (s : Text) (f : FormulaView) (natives : List Text) → AllByRecursion IsNativeText natives → 1 ≤ length natives → length natives ≤ MOST_NATIVES → FitsKind kind.Postfix (Some f) natives
     → judged_by judge (def_row s kind.Postfix (Some f) natives) ≡ Ok (entry.Def (record { kind = kind.Postfix; formula = Some f; natives = natives }))

@@ -150,10 +150,8 @@ none-read adds name none above (line ∷ rest) e a h =
     rw (none above line (not-in-group name above e a)) (none-read adds name none (above ++ line ∷ []) rest e (all-append IsLine above (line ∷ []) a (h.0, tt)) h.1)
 
 unread-unheld : (name : Text) (above : List Line) (line : Line) → holds name above ≡ false → preset_read name above line ≡ []
-unread-unheld name above other h = refl
-unread-unheld name above (cpu n) h = refl
 unread-unheld name above (gives preset r) h = rw h refl
-unread-unheld name above (gives event r) h = refl
+unread-unheld name above line h = refl
 
 all-missing : (judge : Judging) (ss : List Text) → AllByRecursion IsMissing (map (entry_of judge []) ss)
 unfolding entry_of

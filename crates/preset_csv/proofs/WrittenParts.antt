@@ -76,7 +76,7 @@ def-put w s e d t0 t2 t3 t4 is second third fourth = rw is (put-fields w s (afte
 
 -- ---- the rows of the table
 
-length-symbols : length symbols ≡ 26
+pub length-symbols : length symbols ≡ 26
 unfolding symbols preset_rows
 length-symbols = refl
 

@@ -3,7 +3,7 @@ use Rattle.std.proofs.Common.{◌≡◌, ◌∙◌, ◌+◌, ◌-◌, ◌*◌, �
 use Rattle.std.proofs.Common.{false, length, get_or, refl, sym, ap, subst, arith, map, ◌++◌, eq-eqb}
 use Rattle.std.proofs.Math.Bool.{or-true}
 use Rattle.std.proofs.Math.Nat.{div-lt_iff_lt-mul, div-mul-le_self, lt-mul-div-succ, mul_comm, mul-le-mul}
-use Rattle.std.proofs.lemmas.Bool.{eqb-true, lt-ltb, ltb-false, ltb-true}
+use Rattle.std.proofs.lemmas.Bool.{eqb-true, lt-ltb, ltb-false, ltb-true, false_from_ne_true, and_from}
 use Rattle.std.proofs.lemmas.Option.{slice_get-get_or, slice_get-map, slice_get_within}
 use Rattle.std.specs.Prelude.{◌||◌, ◌==◌, nat_lt, option_map, slice_get}
 use Rattle.std.proofs.lemmas.List.{length-map}
@@ -12,12 +12,13 @@ use Rattle.std.proofs.lemmas.List.Folds.{list_any-append}
 use Rattle.std.proofs.lemmas.List.Sorted.{All-permutation, list_any-IsPermutation}
 use Rattle.std.specs.List.{list_any}
 use Rattle.std.specs.List.Sorted.{IsPartitionPoint, IsPermutation}
+use Rattle.papi_base.proofs.Steps.{all_at}
 use Rattle.profil_hist.specs.Views.{range_text}
 use Rattle.profil_hist.specs.declared.range.MapRange.{MapRange}
 use Rattle.profil_hist.specs.Places.{ArePlacesOf, IsOrder, IsPlaced}
 use Rattle.profil_hist.specs.Ranges.{IsMap, IsRange, RangeText, end_of, in_bucket, in_range}
 use Rattle.profil_hist.specs.declared.placing.RangeStart.{RangeStart}
-use Rattle.profil_hist.proofs.Noted.{all-found, and-true, false-unless, inside, true-not-false, two-apart, within}
+use Rattle.profil_hist.proofs.Noted.{inside, true-not-false, two-apart, within}
 
 -- ---- the bucket of an address
 
@@ -84,7 +85,7 @@ pub none-below : (ranges : List RangeText) (places : List RangeStart) (pc : ℕ)
     → IsPartitionPoint (λ (p : RangeStart). p.start ≤ pc) (λ (p : RangeStart). pc < p.start) places 0 → list_any (λ (r : RangeText). in_range r pc) ranges ≡ false
 none-below ranges places pc d order point =
     none-of-all ranges pc
-    (λ k r at. false-unless (in_range r pc) (λ h. let b = range-below ranges places pc 0 d order point k r at h in absurd (omega (arith, b.under))))
+    (λ k r at. false_from_ne_true (in_range r pc) (λ h. let b = range-below ranges places pc 0 d order point k r at h in absurd (omega (arith, b.under))))
 
 -- and if the last of those does not
 pub none-last : (ranges : List RangeText) (places : List RangeStart) (pc below m : ℕ) (q : RangeText) (d : RangeStart) → IsMap ranges → IsOrder ranges places
@@ -96,17 +97,17 @@ none-last ranges places pc below m q d kept order point bound some is at not_in 
     let placed = order.all.right (below - 1) d (omega arith) in
     let start : q.start ≡ last.start = start-of ranges last m q placed is at in
     let low : last.start ≤ pc = point.0 (below - 1) d (omega arith) (omega arith) in
-    let range = all-found IsRange ranges m q kept.each at in
+    let range = all_at IsRange ranges m q kept.each at in
     let wide : 1 * 1 ≤ q.width * q.buckets = mul-le-mul range.some_width range.some_buckets in
     none-of-all ranges pc
-    (λ k r here. false-unless (in_range r pc)
+    (λ k r here. false_from_ne_true (in_range r pc)
     (λ h.
     let b = range-below ranges places pc below d order point k r here h in
     let span = inside r.start (end_of r) pc h in
     let rising = order.rising b.place (below - 1) d (omega (arith, b.under)) (omega arith) in
     let first = b.start d in
-    let over = and-true _ _ (lt-ltb r.start (end_of q) (omega (arith, rising, first, start, wide))) (lt-ltb q.start (end_of r) (omega (arith, start, low, span.upper))) in
-    let back = and-true _ _ (lt-ltb q.start (end_of r) (omega (arith, start, low, span.upper))) (lt-ltb r.start (end_of q) (omega (arith, rising, first, start, wide))) in
+    let over = and_from _ _ (lt-ltb r.start (end_of q) (omega (arith, rising, first, start, wide))) (lt-ltb q.start (end_of r) (omega (arith, start, low, span.upper))) in
+    let back = and_from _ _ (lt-ltb q.start (end_of r) (omega (arith, start, low, span.upper))) (lt-ltb r.start (end_of q) (omega (arith, rising, first, start, wide))) in
     let same = two-apart ranges k m r q kept.apart here at over back in
     let one : Some r ≡ Some q = sym here ∙ ap (slice_get ranges) same ∙ at in
     let equal : r ≡ q = cc one in

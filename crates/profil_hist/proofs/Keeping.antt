@@ -1,39 +1,32 @@
 -- A row with no cause keeps what a map keeps.
-use Rattle.std.proofs.Common.{◌≡◌, ◌+◌, ◌∷◌, ◌++◌, List, [], Option, None, Bool, true, false, length, refl, arith, length-append}
-use Rattle.std.proofs.lemmas.Bool.{leb-false}
+use Rattle.std.proofs.Common.{◌≡◌, ◌+◌, ◌∷◌, ◌++◌, List, [], None, Bool, false, length, arith, length-append}
+use Rattle.std.proofs.lemmas.Bool.{leb-false, or_parts}
 use borrow.Author.Tests.{ltb-false}
 use Rattle.std.proofs.lemmas.List.Sums.{sum_by-append}
-use Rattle.std.specs.Prelude.{◌||◌, Some, if◌then◌else◌, nat_le, nat_lt}
+use Rattle.std.specs.Prelude.{◌||◌, nat_le, nat_lt}
 use Rattle.std.specs.List.{list_any}
 use Rattle.std.specs.Str.{bytes_eq}
+use Rattle.papi_base.proofs.Steps.{passed_over}
 use Rattle.table_rows.proofs.Texts.{all-append}
-use Rattle.profil_hist.specs.Lines.{IsLine, Line, skipped, bad, range}
+use Rattle.profil_hist.specs.Lines.{IsLine, Line, range}
 use Rattle.profil_hist.specs.Maps.{cause_in, range_cause}
 use Rattle.profil_hist.specs.Ranges.{IsMap, IsRange, NoTwo, RangeText, buckets_in_all, overlaps}
 use Rattle.profil_hist.specs.Steps.{with_line}
 use Rattle.profil_hist.specs.declared.fault.MapCause.TheVariants as cause
 use Rattle.profil_hist.specs.declared.limits.TheConstants.{MOST_BUCKETS, MOST_RANGES}
 
-if-none : {X : Type 0} (b : Bool) (x : X) (o : Option X) → (if b then Some x else o) ≡ None → (b ≡ false) × (o ≡ None)
-if-none true x o e = cc e
-if-none false x o e = (refl, e)
-
-either : (a b : Bool) → (a || b) ≡ false → (a ≡ false) × (b ≡ false)
-either false b e = (refl, e)
-either true b e = cc e
-
 no_two-more : {X : Type 0} (together : X → X → Bool) (xs : List X) (n : X) → NoTwo together xs → list_any (λ x. together x n) xs ≡ false → NoTwo together (xs ++ n ∷ [])
 no_two-more together [] n h e = (tt, tt)
 no_two-more together (x ∷ xs) n h e =
-    let p = either (together x n) (list_any (λ y. together y n) xs) e in
+    let p = or_parts (together x n) (list_any (λ y. together y n) xs) e in
     (all-append (λ y. together x y ≡ false) xs (n ∷ []) h.0 (p.0, tt), no_two-more together xs n h.1 p.1)
 
 range-kept : (above : List RangeText) (r : RangeText) → IsRange r → range_cause above r ≡ None → IsMap above → IsMap (above ++ r ∷ [])
 range-kept above r is e h =
-    let limit = if-none (nat_le MOST_RANGES (length above) || nat_lt MOST_BUCKETS (buckets_in_all above + r.buckets)) cause.OverLimit _ e in
-    let name = if-none (list_any (λ (o : RangeText). bytes_eq o.name r.name) above) cause.RepeatedName _ limit.1 in
-    let apart = if-none (list_any (λ (o : RangeText). overlaps o r) above) cause.Overlap None name.1 in
-    let both = either (nat_le MOST_RANGES (length above)) (nat_lt MOST_BUCKETS (buckets_in_all above + r.buckets)) limit.0 in
+    let limit = passed_over (nat_le MOST_RANGES (length above) || nat_lt MOST_BUCKETS (buckets_in_all above + r.buckets)) cause.OverLimit _ e in
+    let name = passed_over (list_any (λ (o : RangeText). bytes_eq o.name r.name) above) cause.RepeatedName _ limit.1 in
+    let apart = passed_over (list_any (λ (o : RangeText). overlaps o r) above) cause.Overlap None name.1 in
+    let both = or_parts (nat_le MOST_RANGES (length above)) (nat_lt MOST_BUCKETS (buckets_in_all above + r.buckets)) limit.0 in
     let few = leb-false MOST_RANGES (length above) both.0 in
     let buckets = ltb-false MOST_BUCKETS (buckets_in_all above + r.buckets) both.1 in
     record {
@@ -45,6 +38,5 @@ range-kept above r is e h =
     }
 
 pub kept : (above : List RangeText) (line : Line) → IsLine line → cause_in above line ≡ None → IsMap above → IsMap (with_line above line)
-kept above skipped l e h = h
-kept above bad l e h = h
 kept above (range r) l e h = range-kept above r l e h
+kept above line l e h = h

@@ -6,4 +6,3 @@ pub mod Noted
 pub mod Profiled
 pub mod Rows
 pub mod RowsRead
-pub mod Searches

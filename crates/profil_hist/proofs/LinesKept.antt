@@ -1,10 +1,9 @@
 -- What a row of a map keeps, by itself.
 use Rattle.std.proofs.Common.{◌≡◌, ℕ, List, Option, Some, None, Bool, true, false, length, refl}
-use Rattle.std.proofs.lemmas.Bool.{leb-true}
+use Rattle.std.proofs.lemmas.Bool.{leb-true, and_parts}
 use Rattle.std.specs.Prelude.{◌&&◌, ◌==◌, ◌+◌, ◌*◌, ◌^◌, if◌then◌else◌, codes}
 use Rattle.std.specs.Str.{bytes_eq}
 use Rattle.table_rows.specs.Texts.{Text, decimal_in, is_name, is_skipped, text_at}
-use Rattle.table_rows.proofs.Numerals.{both}
 use Rattle.table_rows.proofs.Ranges.{decimal_in-range}
 use Rattle.profil_hist.specs.Lines.{IsLine, Line, skipped, bad, range, address_in, fits, line_of, range_line, range_of}
 use Rattle.profil_hist.specs.declared.limits.TheConstants.{MOST_BUCKETS, MOST_BUCKET_ADDRESSES}
@@ -31,7 +30,7 @@ range_line-kept name start width buckets = go (address_in start) (decimal_in 1 M
         (λ h.
         let wide = decimal_in-range 1 MOST_BUCKET_ADDRESSES width w e in
         let many = decimal_in-range 1 MOST_BUCKETS buckets b f in
-        let p = both _ _ h in
+        let p = and_parts _ _ h in
         record { named = p.1; some_width = wide.0; few_addresses = wide.1; some_buckets = many.0; few_buckets = many.1; ends = leb-true (s + w * b) (2 ^ 64) p.0 })
 
 choice : (b : Bool) (x y : Line) → IsLine x → IsLine y → IsLine (if b then x else y)

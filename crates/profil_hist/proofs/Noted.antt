@@ -3,14 +3,14 @@ use Rattle.std.proofs.Common.{◌≡◌, ◌∙◌, ◌+◌, ◌*◌, ◌<◌, �
 use Rattle.std.proofs.Common.{map, length, get_or, refl, sym, ap, subst, arith, eq-eqb, length-append}
 use Rattle.std.proofs.Math.ListN.{set, length-set}
 use Rattle.std.proofs.Math.Nat.{mul_comm, mul-le-mul_right}
-use Rattle.std.proofs.lemmas.Bool.{eqb-true, ltb-false, le-leb, leb-true, lt-ltb, ltb-true}
+use Rattle.std.proofs.lemmas.Bool.{eqb-true, ltb-false, le-leb, leb-true, lt-ltb, ltb-true, and_parts, false_from_ne_true, and_from}
 use Rattle.std.proofs.lemmas.List.Folds.{list_any_at}
 use Rattle.std.proofs.lemmas.List.Sums.{sum_by-append, sum_by-set}
 use Rattle.std.proofs.lemmas.Option.{get_or_from_slice_get, slice_get-map, slice_get_within}
-use Rattle.std.specs.Prelude.{◌&&◌, ◌||◌, ◌==◌, count_by, if◌then◌else◌, nat_le, nat_lt, not, option_map, slice_get, sum, sum_by}
-use Rattle.std.specs.List.{AllByRecursion, list_any}
+use Rattle.std.specs.Prelude.{◌&&◌, ◌==◌, count_by, if◌then◌else◌, nat_le, nat_lt, not, option_map, slice_get, sum, sum_by}
+use Rattle.std.specs.List.{list_any}
 use Rattle.std.specs.Option.{option_and_then, option_map_or}
-use Rattle.table_rows.proofs.Numerals.{both}
+use Rattle.papi_base.proofs.Steps.{all_at, none_any}
 use Rattle.profil_hist.specs.Counts.{IsThere, RowText, met, with_hit, with_note}
 use Rattle.profil_hist.specs.Histograms.{HistText, IsHist, IsHistogram, bucket_count, range_count}
 use Rattle.profil_hist.specs.Places.{IsPlaceOf}
@@ -19,28 +19,8 @@ use Rattle.profil_hist.specs.declared.placing.Place.{Place}
 
 -- ---- tests and numbers
 
-pub and-true : (a b : Bool) → a ≡ true → b ≡ true → (a && b) ≡ true
-and-true a b e f = rw (e, f) refl
-
 pub true-not-false : {X : Type 0} (b : Bool) → b ≡ true → b ≡ false → X
 true-not-false b e f = let no : true ≡ false = sym e ∙ f in cc no
-
-pub false-unless : (b : Bool) → (b ≡ true → ⊥) → b ≡ false
-false-unless true h = absurd (h refl)
-false-unless false h = refl
-
-any-none : {X : Type 0} (p : X → Bool) (xs : List X) (k : ℕ) (x : X) → list_any p xs ≡ false → slice_get xs k ≡ Some x → p x ≡ false
-any-none p [] k x h e = cc e
-any-none p (y ∷ xs) zero x h e = let is : y ≡ x = cc e in subst (λ z. p z ≡ false) is (first (p y) (list_any p xs) h)
-  where
-    first : (a b : Bool) → (a || b) ≡ false → a ≡ false
-    first false b e = refl
-    first true b e = cc e
-any-none p (y ∷ xs) (suc k) x h e = any-none p xs k x (rest (p y) (list_any p xs) h) e
-  where
-    rest : (a b : Bool) → (a || b) ≡ false → b ≡ false
-    rest false b e = e
-    rest true b e = cc e
 
 -- ---- buckets and ranges
 
@@ -49,10 +29,10 @@ pub record Inside (low high n : ℕ) : Type 0 where
   pub upper : n < high
 
 pub inside : (low high n : ℕ) → (nat_le low n && nat_lt n high) ≡ true → Inside low high n
-inside low high n e = let p = both _ _ e in record { lower = leb-true low n p.0; upper = ltb-true n high p.1 }
+inside low high n e = let p = and_parts _ _ e in record { lower = leb-true low n p.0; upper = ltb-true n high p.1 }
 
 pub within : (low high n : ℕ) → low ≤ n → n < high → (nat_le low n && nat_lt n high) ≡ true
-within low high n l h = and-true _ _ (le-leb low n l) (lt-ltb n high h)
+within low high n l h = and_from _ _ (le-leb low n l) (lt-ltb n high h)
 
 -- what a bucket holds, its range holds
 pub bucket-inside : (r : RangeText) (i pc : ℕ) → i < r.buckets → in_bucket r i pc ≡ true → in_range r pc ≡ true
@@ -82,12 +62,7 @@ shared : (r s : RangeText) (pc : ℕ) → in_range r pc ≡ true → in_range s 
 shared r s pc e f =
     let h = inside r.start (end_of r) pc e in
     let k = inside s.start (end_of s) pc f in
-    and-true _ _ (lt-ltb r.start (end_of s) (omega (arith, h.lower, k.upper))) (lt-ltb s.start (end_of r) (omega (arith, k.lower, h.upper)))
-
-pub all-found : {X : Type 0} (P : X → Type 0) (xs : List X) (i : ℕ) (x : X) → AllByRecursion P xs → slice_get xs i ≡ Some x → P x
-all-found P [] i x h e = cc e
-all-found P (y ∷ xs) zero x h e = let is : y ≡ x = cc e in subst P is h.0
-all-found P (y ∷ xs) (suc i) x h e = all-found P xs i x h.1 e
+    and_from _ _ (lt-ltb r.start (end_of s) (omega (arith, h.lower, k.upper))) (lt-ltb s.start (end_of r) (omega (arith, k.lower, h.upper)))
 
 -- two places of a map whose ranges overlap are one
 pub two-apart : (ranges : List RangeText) (k m : ℕ) (r s : RangeText) → NoTwo overlaps ranges → slice_get ranges k ≡ Some r → slice_get ranges m ≡ Some s
@@ -96,11 +71,11 @@ two-apart [] k m r s apart a b e f = cc a
 two-apart (x ∷ rest) zero zero r s apart a b e f = refl
 two-apart (x ∷ rest) zero (suc m) r s apart a b e f =
     let is : x ≡ r = cc a in
-    let apart_still : overlaps r s ≡ false = subst (λ (y : RangeText). overlaps y s ≡ false) is (all-found (λ (y : RangeText). overlaps x y ≡ false) rest m s apart.0 b) in
+    let apart_still : overlaps r s ≡ false = subst (λ (y : RangeText). overlaps y s ≡ false) is (all_at (λ (y : RangeText). overlaps x y ≡ false) rest m s apart.0 b) in
     true-not-false (overlaps r s) e apart_still
 two-apart (x ∷ rest) (suc k) zero r s apart a b e f =
     let is : x ≡ s = cc b in
-    let apart_still : overlaps s r ≡ false = subst (λ (y : RangeText). overlaps y r ≡ false) is (all-found (λ (y : RangeText). overlaps x y ≡ false) rest k r apart.0 a) in
+    let apart_still : overlaps s r ≡ false = subst (λ (y : RangeText). overlaps y r ≡ false) is (all_at (λ (y : RangeText). overlaps x y ≡ false) rest k r apart.0 a) in
     true-not-false (overlaps s r) f apart_still
 two-apart (x ∷ rest) (suc k) (suc m) r s apart a b e f = ap (λ n. suc n) (two-apart rest k m r s apart.1 a b e f)
 
@@ -170,7 +145,7 @@ spot ranges rows pc p shape h = go (slice_get ranges p.range) (slice_get rows p.
     go (Some r) None a b h s = cc s
     go (Some r) (Some row) a b h s =
         let t : (in_bucket r p.bucket pc && nat_lt p.bucket r.buckets) ≡ true = cc h in
-        let is = both _ _ t in
+        let is = and_parts _ _ t in
         (r, row, record { at_range = a; at_row = b; holds = is.0; below = ltb-true p.bucket r.buckets is.1; long = cc s })
 
 -- ---- ranges that do not hold it keep their counts
@@ -182,7 +157,7 @@ bucket-others ranges k i pcs pc absent = go (slice_get ranges k) absent
     one : (s : RangeText) (b : Bool) → nat_lt i s.buckets ≡ b → in_range s pc ≡ false
         → (if b then Some (count_by (in_bucket s i) pcs) else None) ≡ (if b then Some (count_by (in_bucket s i) (pcs ++ pc ∷ [])) else None)
     one s true t f =
-        let out : in_bucket s i pc ≡ false = false-unless (in_bucket s i pc) (λ h. true-not-false (in_range s pc) (bucket-inside s i pc (ltb-true i s.buckets t) h) f) in
+        let out : in_bucket s i pc ≡ false = false_from_ne_true (in_bucket s i pc) (λ h. true-not-false (in_range s pc) (bucket-inside s i pc (ltb-true i s.buckets t) h) f) in
         ap (λ (n : ℕ). Some n) (sym (count-no (in_bucket s i) pcs pc out))
     one s false t f = refl
 
@@ -208,7 +183,7 @@ passed h = record { map = h.map; rows = h.rows; outside = h.outside + 1; total =
 
 pub passed-counts : (h : HistText) (pc : ℕ) (pcs : List ℕ) → IsPlaceOf h.map pc None → IsHistogram h pcs → IsHistogram (passed h) (pcs ++ pc ∷ [])
 passed-counts h pc pcs none is =
-    let absent = λ (k : ℕ) (s : RangeText) (e : slice_get h.map k ≡ Some s). any-none (λ (r : RangeText). in_range r pc) h.map k s none e in
+    let absent = λ (k : ℕ) (s : RangeText) (e : slice_get h.map k ≡ Some s). none_any (λ (r : RangeText). in_range r pc) h.map k s none e in
     let out : not (list_any (λ (r : RangeText). in_range r pc) h.map) ≡ true = rw none refl in
     let more = count-yes (λ (x : ℕ). not (list_any (λ (r : RangeText). in_range r x) h.map)) pcs pc out in
     record {
@@ -240,7 +215,7 @@ bucket-noted r buckets j pc pcs i holds lt old = go (i == j) refl
         let P : ℕ → Type 0 = λ n. slice_get (set buckets j (get_or buckets j 0 + 1)) n ≡ (if nat_lt n r.buckets then Some (count_by (in_bucket r n) (pcs ++ pc ∷ [])) else None) in
         subst P (sym (eqb-true i j e)) here
     go false e =
-        let out : in_bucket r i pc ≡ false = false-unless (in_bucket r i pc) (λ h. true-not-false (i == j) (eq-eqb i j (bucket-unique r i j pc h holds)) e) in
+        let out : in_bucket r i pc ≡ false = false_from_ne_true (in_bucket r i pc) (λ h. true-not-false (i == j) (eq-eqb i j (bucket-unique r i j pc h holds)) e) in
         get-other buckets j i (get_or buckets j 0 + 1) (λ is. true-not-false (i == j) (eq-eqb i j is) e)
         ∙ old i
         ∙ ap (λ (n : ℕ). if nat_lt i r.buckets then Some n else None) (sym (count-no (in_bucket r i) pcs pc out))
@@ -268,7 +243,7 @@ noted-counted ranges rows pc p r row pcs apart s is = record { buckets = λ k i.
 
     absent : (k : ℕ) → (k == p.range) ≡ false → (x : RangeText) → slice_get ranges k ≡ Some x → in_range x pc ≡ false
     absent k e x at =
-        false-unless (in_range x pc) (λ h. true-not-false (k == p.range) (eq-eqb k p.range (range-unique ranges k p.range x r pc apart at s.at_range h in_r)) e)
+        false_from_ne_true (in_range x pc) (λ h. true-not-false (k == p.range) (eq-eqb k p.range (range-unique ranges k p.range x r pc apart at s.at_range h in_r)) e)
 
     other : (k : ℕ) → (k == p.range) ≡ false → slice_get (set rows p.range (with_hit p.bucket row)) k ≡ slice_get rows k
     other k e = get-other rows p.range k (with_hit p.bucket row) (λ q. true-not-false (k == p.range) (eq-eqb k p.range q) e)

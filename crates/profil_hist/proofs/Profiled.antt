@@ -1,30 +1,12 @@
 -- The text of a histogram, range by range and bucket by bucket.
-use Rattle.std.proofs.Common.{◌≡◌, ◌∙◌, ◌<◌, ◌+◌, ◌∷◌, ◌++◌, ℕ, zero, suc, List, [], Option, Some, None, Result, Ok, Err, IfOk, length, map}
-use Rattle.std.proofs.Common.{sym, ap, ap₂, refl, arith, option_map, count_by, lt-ltb, codes, decimal}
-use Rattle.std.proofs.lemmas.List.{flat_map_more}
-use Rattle.std.proofs.lemmas.List.FromFn.{map-range_with_len_more}
+use Rattle.std.proofs.Common.{◌≡◌, ◌∙◌, ◌<◌, ◌+◌, ◌∷◌, ◌++◌, ℕ, zero, suc, List, [], Option, Some, None, Result, Ok, Err, IfOk, length}
+use Rattle.std.proofs.Common.{ap, ap₂, refl, arith, option_map, count_by, lt-ltb, codes, decimal}
 use Rattle.std.specs.Prelude.{slice_get, unwrap_or}
 use Rattle.std.specs.List.{flat_map, range_with_len}
 use Rattle.table_rows.specs.Texts.{Text}
 use Rattle.profil_hist.specs.Histograms.{HistText, IsHistogram}
 use Rattle.profil_hist.specs.Profiles.{bucket_line, count_or_none, hist_lines, hits_or_none, last_lines, lines_at, profile_text, range_lines}
 use Rattle.profil_hist.specs.Ranges.{RangeText, in_bucket, in_range}
-
-map_same : (ns : List ℕ) → map (λ n. n) ns ≡ ns
-map_same [] = refl
-map_same (n ∷ ns) = ap (λ (ks : List ℕ). n ∷ ks) (map_same ns)
-
-range_more : (k : ℕ) → range_with_len 0 (k + 1) ≡ range_with_len 0 k ++ k ∷ []
-range_more k =
-    sym (map_same (range_with_len 0 (k + 1))) ∙ map-range_with_len_more (λ x. x) 0 k k (omega arith)
-    ∙ ap (λ (ks : List ℕ). ks ++ k ∷ []) (map_same (range_with_len 0 k))
-
--- the lines of one place more
-pub lines_more : (lines : ℕ → Text) (start now after : Text) (i : ℕ) → now ≡ start ++ flat_map lines (range_with_len 0 i) → after ≡ now ++ lines i →
-    after ≡ start ++ flat_map lines (range_with_len 0 (i + 1))
-lines_more lines start now after i so_far more =
-    more ∙ ap (λ (t : Text). t ++ lines i) so_far ∙ flat_map_more lines start (range_with_len 0 i) i
-    ∙ ap (λ (ks : List ℕ). start ++ flat_map lines ks) (sym (range_more i))
 
 -- there is a range in each place below their number
 pub is_there : {X Y : Type 0} (view : Y → X) (found : Option Y) (xs : List X) (k : ℕ) → option_map view found ≡ slice_get xs k → ((y : Y) → found ≡ Some y → ⊥) → k < length xs → ⊥

@@ -45,12 +45,10 @@ module _ {T E D : Type 0} (P : E → D → Type 0) (r : Result T E) (s : Result 
 module _ (unit event : List ℕ) (t : ℕ) (stream : Coming) where
   -- the stream stopped, or memory ran out
   pub stopped : (f : Fault) → Stops f stream.mark → IsProfile (Err f) unit event t stream
-  stopped (fault.Unit f) h = absurd h
-  stopped (fault.Event f) h = absurd h
-  stopped (fault.Refused r) h = absurd h
   stopped (fault.Line line cause) h = h
   stopped fault.Read h = h
   stopped fault.Memory h = h
+  stopped f h = absurd h
 
   -- the hottest addresses, unless memory ran out
   pub finished : (P : AllocError → Fault → Type 0) (r : Result (Vec Hot Global) AllocError) (s : Result (Vec Hot Global) Fault) → MatchResult r (λ y. s ≡ Ok y) (λ e. IsErrAnd s (P e))

@@ -7,12 +7,13 @@ use Rattle.std.specs.Map.{lookup}
 use Rattle.std.specs.Option.{option_map}
 use Rattle.std.specs.Ordering.{nat_cmp}
 use Rattle.papi_base.specs.declared.occurrence.Occ.{Occ}
-use Rattle.papi_base.specs.Streams.{Coming, Mark, Dry, Bad, Fault}
+use Rattle.papi_base.specs.Streams.{Coming, Mark}
 use Rattle.overflow_dispatch.specs.declared.handler.Note.{Note}
 use Rattle.postfix_rules.specs.Presets.{Book}
 use Rattle.session_model.specs.Account.{Account, Kept}
 use Rattle.session_model.specs.Thresholds.{note, notes_at, notes_over}
 use Rattle.stream_reader.specs.declared.next.Next.TheVariants as next
+use Rattle.stream_reader.proofs.Giving.{GaveAll, gave_mark, gave_more}
 use Rattle.stream_reader.specs.Reader.{GaveOne, NextGives, ReaderView, at_mark}
 use Rattle.thread_core.specs.CoreView.{CoreView}
 use Rattle.thread_core.specs.Stands.{CoreStands, consumed}
@@ -26,9 +27,7 @@ consuming os a = record a { past = a.past ++ os }
 -- these occurrences were taken, and the rest of the stream is to come
 pub record SoFar (core : CoreView) (to_come : Option Coming) (book : Book) (a : Account) (stream : Coming) (entry : ℕ → Option ℕ) : Type 0 where
   pub os : List Occ
-  pub later : List Occ
-  pub rest : stream.rest ≡ os ++ later
-  pub left : to_come ≡ Some (record { rest = later; mark = stream.mark })
+  pub gave : GaveAll stream os to_come
   pub stands : CoreStands book core (consuming os a)
   pub exact : (pc : ℕ) → unwrap_or (entry pc) 0 ≡ passings_at (passings book a os) pc
 
@@ -43,22 +42,6 @@ pcs_of : (thread set : ℕ) (o : Occ) (passed : List ℕ) → map (λ (n : Note)
 pcs_of thread set o [] = refl
 pcs_of thread set o (x ∷ xs) = ap (λ (pcs : List ℕ). o.pc ∷ pcs) (pcs_of thread set o xs)
 
-not_at_mark : (mark : Mark) (o : Occ) → next.Occ o ≡ at_mark mark → ⊥
-not_at_mark Dry o e = cc
-not_at_mark (Bad n c) o e = cc
-not_at_mark Fault o e = cc
-
-same_mark : (m mark : Mark) → at_mark m ≡ at_mark mark → mark ≡ m
-same_mark Dry Dry e = refl
-same_mark Dry (Bad n c) e = cc
-same_mark Dry Fault e = cc
-same_mark (Bad n c) Dry e = cc
-same_mark (Bad n c) (Bad k d) e = cc
-same_mark (Bad n c) Fault e = cc
-same_mark Fault Dry e = cc
-same_mark Fault (Bad n c) e = cc
-same_mark Fault Fault e = refl
-
 passings_at_append : (pc : ℕ) (xs ys : List ℕ) → passings_at (xs ++ ys) pc ≡ passings_at xs pc + passings_at ys pc
 passings_at_append pc xs ys = sum_by-append (λ (other : ℕ). if other == pc then 1 else 0) xs ys
 
@@ -68,38 +51,26 @@ pub one_more : (core core_then : CoreView) (to_come to_come_then : Option Coming
     → NextGives to_come (next.Occ o) to_come_then
     → ((pc : ℕ) → unwrap_or (entry_then pc) 0 ≡ unwrap_or (entry pc) 0 + passings_at (replicate (length passed) o.pc) pc)
     → SoFar core to_come book a stream entry → SoFar core_then to_come_then book a stream entry_then
-one_more core core_then to_come to_come_then book a stream entry entry_then o set passed stands notes gives more s =
-    go s.later s.rest (subst (λ x. NextGives x (next.Occ o) to_come_then) s.left gives)
+one_more core core_then to_come to_come_then book a stream entry entry_then o set passed stands notes gives more s = record {
+  os = s.os ++ o ∷ [];
+  gave = gave_more stream s.os to_come to_come_then o s.gave gives;
+  stands = subst (λ (past : List Occ). CoreStands book core_then (record a { past = past })) (append_assoc a.past s.os (o ∷ [])) (stands book (consuming s.os a) s.stands);
+  exact = λ pc. more pc ∙ ap (λ (n : ℕ). n + passings_at (replicate (length passed) o.pc) pc) (s.exact pc)
+      ∙ sym (ap (λ (xs : List ℕ). passings_at xs pc) its ∙ passings_at_append pc (passings book a s.os) (replicate (length passed) o.pc));
+}
   where
     its : passings book a (s.os ++ o ∷ []) ≡ passings book a s.os ++ replicate (length passed) o.pc
     its = ap (map (λ (n : Note). n.pc)) (notes_over_append book a.thread a.sets a.past s.os (o ∷ []) ∙ ap (λ (xs : List Note). notes_over book a.thread a.sets a.past s.os ++ xs) (append-nil (notes_at book a.thread (a.past ++ s.os) o 0 a.sets) ∙ notes book (consuming s.os a) s.stands))
         ∙ map-append (λ (n : Note). n.pc) (notes_over book a.thread a.sets a.past s.os) (map (note a.thread set o) passed)
         ∙ ap (λ (xs : List ℕ). passings book a s.os ++ xs) (pcs_of a.thread set o passed)
 
-    go : (later : List Occ) → stream.rest ≡ s.os ++ later → NextGives (Some (record { rest = later; mark = stream.mark })) (next.Occ o) to_come_then → SoFar core_then to_come_then book a stream entry_then
-    go [] e g = absurd (not_at_mark stream.mark o g.0)
-    go (x ∷ xs) e g =
-        let same : x ≡ o = (let h : next.Occ o ≡ next.Occ x = g.0 in cc) in
-        record {
-          os = s.os ++ o ∷ [];
-          later = xs;
-          rest = e ∙ ap (λ (y : Occ). s.os ++ y ∷ xs) same ∙ sym (append_assoc s.os (o ∷ []) xs);
-          left = g.1;
-          stands = subst (λ (past : List Occ). CoreStands book core_then (record a { past = past })) (append_assoc a.past s.os (o ∷ [])) (stands book (consuming s.os a) s.stands);
-          exact = λ pc. more pc ∙ ap (λ (n : ℕ). n + passings_at (replicate (length passed) o.pc) pc) (s.exact pc)
-              ∙ sym (ap (λ (xs : List ℕ). passings_at xs pc) its ∙ passings_at_append pc (passings book a s.os) (replicate (length passed) o.pc));
-        }
-
 -- if the stream stops, nothing is left and this is its mark
 pub at_end : (core : CoreView) (to_come to_come_then : Option Coming) (book : Book) (a : Account) (stream : Coming) (entry : ℕ → Option ℕ) (m : Mark)
     → NextGives to_come (at_mark m) to_come_then → SoFar core to_come book a stream entry
     → ((pc : ℕ) → unwrap_or (entry pc) 0 ≡ passings_at (passings book a stream.rest) pc) × (stream.mark ≡ m)
-at_end core to_come to_come_then book a stream entry m gives s = go s.later s.rest (subst (λ x. NextGives x (at_mark m) to_come_then) s.left gives)
-  where
-    go : (later : List Occ) → stream.rest ≡ s.os ++ later → NextGives (Some (record { rest = later; mark = stream.mark })) (at_mark m) to_come_then
-        → ((pc : ℕ) → unwrap_or (entry pc) 0 ≡ passings_at (passings book a stream.rest) pc) × (stream.mark ≡ m)
-    go [] e g = (λ pc. s.exact pc ∙ ap (λ (os : List Occ). passings_at (passings book a os) pc) (sym (e ∙ append-nil s.os)), same_mark m stream.mark g.0)
-    go (x ∷ xs) e g = absurd (not_at_mark m x (sym g.0))
+at_end core to_come to_come_then book a stream entry m gives s =
+    let closed = gave_mark stream s.os to_come to_come_then m s.gave gives in
+    (λ pc. s.exact pc ∙ ap (λ (os : List Occ). passings_at (passings book a os) pc) (sym closed.rest), closed.mark)
 
 pub in_step_then : (core core_then : CoreView) (reader later : ReaderView) (o : Occ) → core_then.taken ≡ core.taken + 1 → core_then.last ≡ Some o → AreInStep core reader → GaveOne reader.start o later.start → AreInStep core_then later
 in_step_then core core_then reader later o t l s n = record {

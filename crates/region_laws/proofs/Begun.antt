@@ -9,6 +9,7 @@ use Rattle.std.proofs.lemmas.List.{length-take}
 use Rattle.std.proofs.lemmas.List.Elements.{filter-append}
 use Rattle.std.proofs.lemmas.Option.{slice_get_within}
 use Rattle.papi_base.specs.declared.limits.TheConstants.{THREADS}
+use Rattle.papi_base.proofs.Steps.{get_front}
 use Rattle.table_rows.specs.Texts.{Text}
 use Rattle.script_lines.specs.Lines.{is_skipped}
 use Rattle.region_report.specs.Lines.{Open, after_line, after_reading, innermost, is_reading, line_with, open_of, region_line}
@@ -26,11 +27,6 @@ use Rattle.region_laws.proofs.Numbered.{before_grown, filter_reading, filter_run
 
 -- ---- further lines
 
-get_before : {X : Type 0} (xs ys : List X) (i : ℕ) (x : X) → slice_get xs i ≡ Some x → slice_get (xs ++ ys) i ≡ Some x
-get_before [] ys i x e = cc
-get_before (y ∷ xs) ys zero x e = e
-get_before (y ∷ xs) ys (suc i) x e = get_before xs ys i x e
-
 -- an item is among the first ones or the others
 get_either : {X : Type 0} (xs ys : List X) (i : ℕ) (x : X) → slice_get (xs ++ ys) i ≡ Some x
     → (slice_get xs i ≡ Some x) ⊎ ((k : ℕ) × (i ≡ length xs + k) × (slice_get ys k ≡ Some x))
@@ -43,7 +39,7 @@ get_either (y ∷ xs) ys (suc i) x e = go (get_either xs ys i x e) where
   go (inr h) = inr (h.0, omega (arith, h.1), h.2)
 
 grown : (before ys : List RegionLine) (i : ℕ) (b : RegionLine) → reading_line before i b → reading_line (before ++ ys) i b
-grown before ys i b e = ap (λ ls. slice_get ls i) (filter-append is_reading before ys) ∙ get_before (filter is_reading before) (filter is_reading ys) i b e
+grown before ys i b e = ap (λ ls. slice_get ls i) (filter-append is_reading before ys) ∙ get_front (filter is_reading before) (filter is_reading ys) i b e
 
 begun_grown : (before ys : List RegionLine) (i : ℕ) (l : RegionLine) → reading_line before i l → IsBegun before i l → IsBegun (before ++ ys) i l
 begun_grown before ys i l e h = record {

@@ -6,6 +6,7 @@ use Rattle.std.specs.Int.{w64}
 use Rattle.std.proofs.lemmas.Int.{fits_signed_from_abs, int_wrap_fits}
 use Rattle.std.proofs.lemmas.List.Elements.{All-head, All-tail}
 use Rattle.std.proofs.lemmas.List.Sums.{sum_by-cons}
+use Rattle.session_laws.proofs.CountsInTurns.{weight_small}
 use Rattle.papi_base.specs.Weight.{held, holds, weight_of}
 use Rattle.papi_base.specs.declared.bits.Domain.{Domain}
 use Rattle.papi_base.specs.declared.native.Native.{Native}
@@ -16,13 +17,6 @@ use Rattle.region_report.specs.declared.regions.RegionLine.{RegionLine}
 use Rattle.session_model.specs.Counts.{along}
 use Rattle.region_laws.specs.Exact.{NativesAreExact}
 use Rattle.region_laws.specs.Positions.{asked_in, count_between, position, weights}
-
-weight_small : (h e b c : Bool) (x : ℕ) → x ≤ 255 → (if h then (if e then (if b then 0 else 1) else (if c then x else 1)) else 0) ≤ 255
-weight_small false e b c x s = omega arith
-weight_small true true true c x s = omega arith
-weight_small true true false c x s = omega arith
-weight_small true false b true x s = s
-weight_small true false b false x s = omega arith
 
 -- each of some numbers is at most 255
 abbrev AreSmall : List ℕ → Type 0

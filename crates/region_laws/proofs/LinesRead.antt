@@ -8,6 +8,7 @@ use Rattle.std.proofs.Math.Seq.{take-add}
 use Rattle.std.proofs.lemmas.Bool.Decides.{nat_tests}
 use Rattle.std.proofs.lemmas.List.{drop-drop, length-drop}
 use Rattle.std.proofs.lemmas.List.Elements.{All-head, All-tail}
+use Rattle.std.proofs.lemmas.Bool.{or_right}
 use Rattle.papi_base.specs.Streams.{Coming, Dry, Mark}
 use Rattle.papi_base.specs.declared.limits.TheConstants.{MOST_SETS, THREADS}
 use Rattle.papi_base.specs.declared.native.EventRef.{EventRef}
@@ -37,9 +38,7 @@ use Rattle.region_laws.proofs.Told.{quiet_openings, told_append}
 line_values : (book : Book) (shape : Widths) (t : ℕ) (s : AtRest) (q : ℕ) (tape : List Occ) (mark : Mark) (c : RegionCall)
     → values_in (step book shape (counting t s q tape mark) (call_on_set c)).reply.body ≡ (if reads_call c then values_of book (take q tape) (counting_set s) ∷ [] else [])
 line_values book shape t s q tape mark (region.Begin name) = refl
-line_values book shape t s q tape mark (region.Read name) = refl
-line_values book shape t s q tape mark (region.End name) = refl
-line_values book shape t s q tape mark (region.Run count) = refl
+line_values book shape t s q tape mark c = refl
 
 -- the account after a call of a thread that has asked for n occurrences
 abbrev Moved : Book → Widths → ℕ → AtRest → ℕ → List Occ → Mark → RegionCall → Type 0
@@ -59,9 +58,6 @@ next asked n tape =
     grind (arith, left)
 
 line_account : (book : Book) (shape : Widths) (t : ℕ) (s : AtRest) (asked : ℕ) (tape : List Occ) (mark : Mark) (c : RegionCall) → Moved book shape t s asked tape mark c
-line_account book shape t s asked tape mark (region.Begin name) = (mark, unmoved t s asked tape mark)
-line_account book shape t s asked tape mark (region.Read name) = (mark, unmoved t s asked tape mark)
-line_account book shape t s asked tape mark (region.End name) = (mark, unmoved t s asked tape mark)
 line_account book shape t s asked tape mark (region.Run n) =
     let q : ℕ = min asked (length tape) in
     let k : ℕ = min n (length (drop q tape)) in
@@ -71,6 +67,7 @@ line_account book shape t s asked tape mark (region.Run n) =
           (sym (take-add q k tape)) (drop-drop k q tape)
           ∙ ap (λ p. counting t s p tape after) (next asked n tape),
     )
+line_account book shape t s asked tape mark c = (mark, unmoved t s asked tape mark)
 
 -- ---- all threads
 
@@ -78,10 +75,6 @@ asked_with : (u : ℕ) (before : List RegionLine) (l : RegionLine)
     → asked_in u (before ++ l ∷ []) ≡ asked_in u before + (if l.thread == u then count_of l.call else 0)
 asked_with u [] l = omega arith
 asked_with u (x ∷ before) l = let e = asked_with u before l in omega (arith, e)
-
-or_true : (b : Bool) → (b || true) ≡ true
-or_true true = refl
-or_true false = refl
 
 -- each thread that has lines counts the events, and stands at its position
 record Stands (book : Book) (streams : List Coming) (events : List EventRef) (lines before : List RegionLine) (accounts : List Account) : Type 0 where
@@ -165,7 +158,7 @@ line_told at streams events before accounts l stands =
 -- a thread of a line has lines
 has_own : (before : List RegionLine) (l : RegionLine) (ys : List RegionLine) → has_lines (before ++ l ∷ ys) l.thread ≡ true
 has_own [] l ys = let same : (l.thread == l.thread) ≡ true = grind (arith, nat_tests) in ap (λ b. b || has_lines ys l.thread) same
-has_own (x ∷ before) l ys = ap (λ b. (x.thread == l.thread) || b) (has_own before l ys) ∙ or_true (x.thread == l.thread)
+has_own (x ∷ before) l ys = ap (λ b. (x.thread == l.thread) || b) (has_own before l ys) ∙ or_right (x.thread == l.thread) true refl
 
 lines_told : (at : Setting) (streams : List Coming) (events : List EventRef) (lines : List RegionLine) (ys before : List RegionLine) (w : World)
     → All (λ l. l.thread < THREADS) ys → lines ≡ before ++ ys → Stands at.book streams events lines before w.accounts

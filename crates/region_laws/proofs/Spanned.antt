@@ -10,6 +10,7 @@ use Rattle.postfix_rules.specs.Presets.{Book}
 use Rattle.region_report.specs.Lines.{is_reading}
 use Rattle.region_report.specs.Spans.{difference, span, spans_from}
 use Rattle.region_report.specs.declared.regions.RegionLine.{RegionLine}
+use Rattle.region_report.proofs.Counted.{reading, not_reading}
 use Rattle.region_laws.specs.Nesting.{AreBegun, IsBegun, before_reading}
 use Rattle.region_laws.specs.Positions.{asked_in, position, stream_of}
 use Rattle.region_laws.specs.Readings.{reading_after, readings_after}
@@ -48,14 +49,6 @@ span_at book streams events before ys l fit reads begun =
     (subst (λ vs. All (FitsSigned w64) vs) now (fit_at all (readings before) fit))
     (subst (λ vs. All (FitsSigned w64) vs) begin (fit_at all l.begun fit)))
 
-span_read : (all : List (List ℤ)) (i : ℕ) (l : RegionLine) (ys : List RegionLine) → is_reading l ≡ true → spans_from all i (l ∷ ys) ≡ span all i l ∷ spans_from all (i + 1) ys
-unfolding spans_from
-span_read all i l ys e = rw e refl
-
-span_run : (all : List (List ℤ)) (i : ℕ) (l : RegionLine) (ys : List RegionLine) → is_reading l ≡ false → spans_from all i (l ∷ ys) ≡ spans_from all i ys
-unfolding spans_from
-span_run all i l ys e = rw e refl
-
 no_span : (all : List (List ℤ)) (i : ℕ) → spans_from all i [] ≡ []
 unfolding spans_from
 no_span all i = refl
@@ -68,7 +61,7 @@ one_line : (book : Book) (streams : List Coming) (events : List EventRef) (befor
 one_line book streams events before ys l true q fit begun rest =
     let lines : List RegionLine = before ++ l ∷ ys in
     let all : List (List ℤ) = readings_after book streams events [] lines in
-    span_read all (readings before) l ys q
+    reading all (readings before) l ys q
     ∙ ap₂ (λ x xs. x ∷ xs) (span_at book streams events before ys l fit q (begun.each (readings before) l (own_number before l ys q)))
     (ap (λ i. spans_from all i ys) (sym (readings_more before l ∙ ap (λ b. readings before + (if b then 1 else 0)) q)) ∙ rest)
     ∙ ap (λ b. (if b then region_span book streams events lines before l ∷ [] else []) ++ spans_after book streams events lines (before ++ l ∷ []) ys) (sym q)
@@ -76,7 +69,7 @@ one_line book streams events before ys l false q fit begun rest =
     let lines : List RegionLine = before ++ l ∷ ys in
     let all : List (List ℤ) = readings_after book streams events [] lines in
     let none : readings before + 0 ≡ readings before = omega arith in
-    span_run all (readings before) l ys q
+    not_reading all (readings before) l ys q
     ∙ ap (λ i. spans_from all i ys) (sym (readings_more before l ∙ ap (λ b. readings before + (if b then 1 else 0)) q ∙ none)) ∙ rest
     ∙ ap (λ b. (if b then region_span book streams events lines before l ∷ [] else []) ++ spans_after book streams events lines (before ++ l ∷ []) ys) (sym q)
 

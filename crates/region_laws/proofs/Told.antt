@@ -6,10 +6,10 @@ use Rattle.papi_base.specs.declared.native.EventRef.{EventRef}
 use Rattle.postfix_rules.specs.Presets.{Book}
 use Rattle.event_sets.specs.AtRest.{Widths}
 use Rattle.event_sets.specs.declared.refusal.Refusal.{Refusal}
-use Rattle.event_sets.specs.declared.refusal.Refusal.TheVariants.{Plain, Conflict}
 use Rattle.region_report.specs.Calls.{has_lines}
 use Rattle.region_report.specs.declared.regions.RegionLine.{RegionLine}
 use Rattle.session_model.specs.declared.call.Call.{Call}
+use Rattle.event_sets.specs.declared.refusal.Refusal.TheVariants.{Plain}
 use Rattle.session_model.specs.declared.call.Call.TheVariants as call
 use Rattle.session_model.specs.declared.line.Line.{Line}
 use Rattle.session_model.specs.Account.{Account}
@@ -39,7 +39,7 @@ AreQuiet (c ∷ cs) = IsQuiet c × AreQuiet cs
 quiet_unless : (o : Option Refusal) (a : Account) (made : StepOutcome) → values_in made.reply.body ≡ [] → values_in (unless o a made).reply.body ≡ []
 quiet_unless None a made e = e
 quiet_unless (Some (Plain c)) a made e = refl
-quiet_unless (Some (Conflict clash)) a made e = refl
+quiet_unless o a made e = refl
 
 no_values : (book : Book) (shape : Widths) (a : Account) (c : Call) → IsQuiet c → values_in (step book shape a c).reply.body ≡ []
 no_values book shape a call.Create h = quiet_unless (account_refusal book shape a call.Create) a (performed book shape a call.Create) refl

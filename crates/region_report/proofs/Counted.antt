@@ -1,16 +1,12 @@
 -- Values at each place, and spans, one more at a time.
-use Rattle.std.proofs.Common.{◌≡◌, ◌∙◌, ◌<◌, ◌≤◌, ◌+◌, ◌∷◌, ◌++◌, ℕ, ℤ, Bool, true, false, List, [], Some, length, drop, sym, ap, refl}
+use Rattle.std.proofs.Common.{◌≡◌, ◌<◌, ◌≤◌, ◌+◌, ◌∷◌, ◌++◌, ℕ, ℤ, Bool, true, false, List, [], Some, length, drop, ap, refl}
 use Rattle.std.proofs.Common.{arith, append_assoc, append-nil, get_or, length-append, min, nat_le, slice_get}
 use Rattle.std.proofs.lemmas.Bool.{leb-false, leb-true}
-use Rattle.std.proofs.lemmas.List.{drop_all, drop_more}
-use Rattle.std.proofs.lemmas.Option.{get_or_from_slice_get, slice_get_within}
+use Rattle.std.proofs.lemmas.List.{drop_all}
+use Rattle.papi_base.proofs.Steps.{drop_at, drop_item}
 use Rattle.region_report.specs.Lines.{is_reading}
 use Rattle.region_report.specs.Spans.{Span, pairwise, span, spans_at, spans_from}
 use Rattle.region_report.specs.declared.regions.RegionLine.{RegionLine}
-
--- what is left from a place on
-pub dropped : {X : Type 0} (xs : List X) (i : ℕ) (x : X) → slice_get xs i ≡ Some x → drop i xs ≡ x ∷ drop (i + 1) xs
-dropped xs i x e = drop_more xs i x (slice_get_within xs i x e) ∙ ap (λ y. y ∷ drop (i + 1) xs) (get_or_from_slice_get xs i x x e)
 
 pairs : (f : ℤ → ℤ → ℤ) (x y : ℤ) (xs ys : List ℤ) → pairwise f (x ∷ xs) (y ∷ ys) ≡ f x y ∷ pairwise f xs ys
 unfolding pairwise
@@ -20,7 +16,7 @@ pairs f x y xs ys = refl
 pub pair_more : (f : ℤ → ℤ → ℤ) (xs ys now next all : List ℤ) (i : ℕ) (x y z : ℤ) → slice_get xs i ≡ Some x → slice_get ys i ≡ Some y → z ≡ f x y → next ≡ now ++ z ∷ [] →
     now ++ pairwise f (drop i xs) (drop i ys) ≡ all → next ++ pairwise f (drop (i + 1) xs) (drop (i + 1) ys) ≡ all
 pair_more f xs ys now next all i x y z ex ey ez step so_far =
-    let e = rw (dropped xs i x ex, dropped ys i y ey, pairs f x y (drop (i + 1) xs) (drop (i + 1) ys)) at so_far in
+    let e = rw (drop_at xs i x ex, drop_at ys i y ey, pairs f x y (drop (i + 1) xs) (drop (i + 1) ys)) at so_far in
     rw (step, append_assoc, ez) e
 
 no_pairs : (f : ℤ → ℤ → ℤ) (xs ys : List ℤ) → length ys ≤ 0 → pairwise f xs ys ≡ []
@@ -54,16 +50,13 @@ pairs_all f xs ys now all i count e past so_far = go (nat_le (length xs) (length
 
 -- ---- spans
 
-reading : (readings : List (List ℤ)) (i : ℕ) (line : RegionLine) (lines : List RegionLine) → is_reading line ≡ true → spans_from readings i (line ∷ lines) ≡ span readings i line ∷ spans_from readings (i + 1) lines
+pub reading : (readings : List (List ℤ)) (i : ℕ) (line : RegionLine) (lines : List RegionLine) → is_reading line ≡ true → spans_from readings i (line ∷ lines) ≡ span readings i line ∷ spans_from readings (i + 1) lines
 unfolding spans_from
 reading readings i line lines e = rw e refl
 
-not_reading : (readings : List (List ℤ)) (i : ℕ) (line : RegionLine) (lines : List RegionLine) → is_reading line ≡ false → spans_from readings i (line ∷ lines) ≡ spans_from readings i lines
+pub not_reading : (readings : List (List ℤ)) (i : ℕ) (line : RegionLine) (lines : List RegionLine) → is_reading line ≡ false → spans_from readings i (line ∷ lines) ≡ spans_from readings i lines
 unfolding spans_from
 not_reading readings i line lines e = rw e refl
-
-at_item : (lines : List RegionLine) (k : ℕ) (line : RegionLine) → k < length lines → line ≡ get_or lines k line → drop k lines ≡ line ∷ drop (k + 1) lines
-at_item lines k line small is = drop_more lines k line small ∙ ap (λ l. l ∷ drop (k + 1) lines) (sym is)
 
 -- the span of one line more, if it reads the counters
 pub span_on : (readings : List (List ℤ)) (lines : List RegionLine) (k n m : ℕ) (line : RegionLine) (now next all : List Span) → k < length lines → line ≡ get_or lines k line → n ≡ length now → m ≡ length next →
@@ -73,12 +66,12 @@ span_on readings lines k n m line now next all small is long long' step so_far =
     go : (b : Bool) → is_reading line ≡ b → next ++ spans_from readings m (drop (k + 1) lines) ≡ all
     go true t =
         let s : next ≡ now ++ span readings n line ∷ [] = rw t at step in
-        let e = rw (at_item lines k line small is, reading readings n line (drop (k + 1) lines) t) at so_far in
+        let e = rw (drop_item lines k line small is, reading readings n line (drop (k + 1) lines) t) at so_far in
         let more : m ≡ n + 1 = omega (arith, long', long, ap (λ (ss : List Span). length ss) s, length-append now (span readings n line ∷ [])) in
         rw (more, s, append_assoc) e
     go false t =
         let s : next ≡ now = rw (t, append-nil) at step in
-        let e = rw (at_item lines k line small is, not_reading readings n line (drop (k + 1) lines) t) at so_far in
+        let e = rw (drop_item lines k line small is, not_reading readings n line (drop (k + 1) lines) t) at so_far in
         let same : m ≡ n = omega (arith, long', long, ap (λ (ss : List Span). length ss) s) in
         rw (same, s) e
 

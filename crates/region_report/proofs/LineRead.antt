@@ -1,9 +1,9 @@
 -- A line of the script of calls is read as its call.
 use Rattle.std.proofs.Common.{◌-◌, ◌≡◌, ◌∙◌, ◌<◌, ◌≤◌, ◌+◌, ◌^◌, ◌∷◌, ◌++◌, ℕ, zero, suc, Bool, true, false, not, List, [], Some, codes}
 use Rattle.std.proofs.Common.{decimal, length, map, refl, sym, subst, ap, ap₂, arith, tests, append-nil, get_or, nat_le, slice_index}
-use Rattle.std.specs.Prelude.{◌&&◌, ◌||◌, ◌==◌, Ok}
+use Rattle.std.specs.Prelude.{◌||◌, ◌==◌, Ok}
 use Rattle.std.specs.List.{AllByRecursion, list_all}
-use Rattle.std.proofs.lemmas.Bool.{and_from, le-leb}
+use Rattle.std.proofs.lemmas.Bool.{and_from, le-leb, and_parts}
 use Rattle.std.proofs.lemmas.Fmt.{decimal_digit, first_decimal, decimal_nonempty}
 use Rattle.papi_base.specs.declared.limits.TheConstants.{THREADS}
 use Rattle.papi_base.specs.Numerals.{is_empty}
@@ -22,11 +22,6 @@ use Rattle.script_lines.proofs.Reading.{no_more, said}
 use Rattle.script_lines.proofs.Splits.{is_plain, no-words, word-ends}
 use Rattle.region_report.specs.Calls.{call_text}
 use Rattle.region_report.specs.CallLines.{ThreadCall, is_event, is_event_character, numbered}
-
-pub and_parts : (a b : Bool) → (a && b) ≡ true → (a ≡ true) × (b ≡ true)
-and_parts true true e = (refl, refl)
-and_parts true false e = cc e
-and_parts false b e = cc e
 
 -- ---- the text of a call
 

@@ -1,13 +1,13 @@
 -- The script of calls that a region script stands for is read as its calls.
 use Rattle.std.proofs.Common.{◌≡◌, ◌∙◌, ◌<◌, ◌≤◌, ◌+◌, ◌*◌, ◌-◌, ◌^◌, ◌∷◌, ◌++◌, ℕ, zero, suc, Bool, true, false, not, List, [], Some}
-use Rattle.std.proofs.Common.{codes, decimal, drop, length, map, take, refl, sym, ap, ap₂, arith, tests, append_assoc, append-nil}
+use Rattle.std.proofs.Common.{codes, decimal, drop, length, map, refl, sym, ap, ap₂, arith, tests, append_assoc, append-nil}
 use Rattle.std.proofs.Common.{if◌then◌else◌, length-append, slice_index}
 use Rattle.std.specs.Prelude.{◌&&◌, ◌==◌, nat_lt, position}
 use Rattle.std.specs.List.{AllByRecursion, flat_map, list_all, position_or_len, range_with_len}
 use Rattle.std.specs.Str.Lines.{lines, strip_carriage_return}
-use Rattle.std.proofs.lemmas.Bool.{lt-ltb}
+use Rattle.std.proofs.lemmas.Bool.{lt-ltb, and_parts}
 use Rattle.std.proofs.lemmas.Grind.{flat_map-append}
-use Rattle.std.proofs.lemmas.List.{length-map}
+use Rattle.std.proofs.lemmas.List.{length-map, take_at}
 use Rattle.std.proofs.lemmas.List.Elements.{recursion_from_All}
 use Rattle.std.proofs.lemmas.List.Folds.{flat_map-map}
 use Rattle.papi_base.specs.declared.limits.TheConstants.{THREADS}
@@ -26,7 +26,7 @@ use Rattle.region_report.specs.Kept.{IsRegions, count_of}
 use Rattle.region_report.specs.declared.regions.RegionCall.{RegionCall}
 use Rattle.region_report.specs.declared.regions.RegionCall.TheVariants as call
 use Rattle.region_report.specs.declared.regions.RegionLine.{RegionLine}
-use Rattle.region_report.proofs.LineRead.{AreWritten, IsWritten, and_parts, line_for, lines_read, text_for, words_for, written}
+use Rattle.region_report.proofs.LineRead.{AreWritten, IsWritten, line_for, lines_read, text_for, words_for, written}
 
 -- ---- lines
 
@@ -89,10 +89,6 @@ never_return (b ∷ l) (suc k) h = never_return l k h.1
 return_kept : (l : Text) → AreInside l → strip_carriage_return l ≡ l
 return_kept l h = rw (never_return l (length l - 1) h) refl
 
-front_of : (l rest : Text) → take (length l) (l ++ rest) ≡ l
-front_of [] rest = refl
-front_of (b ∷ l) rest = ap (λ (t : Text). b ∷ t) (front_of l rest)
-
 back_of : (l rest : Text) (b : ℕ) → drop (length l + 1) (l ++ b ∷ rest) ≡ rest
 back_of [] rest b = refl
 back_of (c ∷ l) rest b = let e : length (c ∷ l) + 1 ≡ suc (length l + 1) = omega arith in rw e (back_of l rest b)
@@ -100,7 +96,7 @@ back_of (c ∷ l) rest b = let e : length (c ∷ l) + 1 ≡ suc (length l + 1) =
 line_cut : (l rest : Text) → AreInside l → lines (l ++ 10 ∷ rest) ≡ l ∷ lines rest
 line_cut l rest h =
     lines-cut (l ++ 10 ∷ rest) (length l) (at_newline l rest h)
-    ∙ ap₂ (λ t (u : Text). t ∷ lines u) (ap strip_carriage_return (front_of l (10 ∷ rest)) ∙ return_kept l h) (back_of l rest 10)
+    ∙ ap₂ (λ t (u : Text). t ∷ lines u) (ap strip_carriage_return (take_at l (10 ∷ rest) _ refl) ∙ return_kept l h) (back_of l rest 10)
 
 text_line : (a : ThreadCall) (rest : Text) → text_for a ++ rest ≡ line_for a ++ 10 ∷ rest
 text_line a rest =
@@ -140,9 +136,7 @@ first_text ls events thread = go (has_lines ls thread)
 
 words_same : (c : RegionCall) → words_for (call_for c) ≡ words_of_call c
 words_same (call.Begin name) = refl
-words_same (call.Read name) = refl
-words_same (call.End name) = refl
-words_same (call.Run count) = refl
+words_same c = refl
 
 pub script_text_is : (ls : List RegionLine) (events : List Text) → script_text ls events ≡ flat_map text_for (asked ls events)
 unfolding script_text asked
@@ -177,10 +171,8 @@ all_first ls events from (suc n) le e =
     written-append (asked_first ls events from) (flat_map (asked_first ls events) (range_with_len (from + 1) n)) (first_written ls events from (omega arith) e) (all_first ls events (from + 1) n (omega arith) e)
 
 call_written : (c : RegionCall) → count_of c < 2 ^ 32 → IsWritten (call_for c)
-call_written (call.Begin name) h = refl
-call_written (call.Read name) h = refl
-call_written (call.End name) h = refl
 call_written (call.Run count) h = h
+call_written c h = refl
 
 lines_written : (ls : List RegionLine) → AllByRecursion (λ l. l.thread < THREADS) ls → AllByRecursion (λ l. count_of l.call < 2 ^ 32) ls → AreWritten (map asked_at ls)
 lines_written [] h k = tt

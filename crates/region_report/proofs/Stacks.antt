@@ -1,8 +1,9 @@
 -- The open regions as they are kept.
-use Rattle.std.proofs.Common.{OnOk, Result, Ok, Err, true, false, drop, eq-eqb, slice_set, ◌≡◌, ◌∙◌, ◌<◌, ◌≤◌, ◌+◌, ◌∷◌, ℕ}
+use Rattle.std.proofs.Common.{OnOk, Result, Ok, Err, true, false, drop, eq-eqb, slice_set, ◌≡◌, ◌∙◌, ◌<◌, ◌≤◌, ◌+◌, ℕ}
 use Rattle.std.proofs.Common.{List, [], length, sym, ap, refl, arith, get_or, Vec, Global}
-use Rattle.std.proofs.lemmas.List.{drop_all, drop_more, length-map, map-set}
+use Rattle.std.proofs.lemmas.List.{drop_all, length-map, map-set}
 use Rattle.std.proofs.lemmas.Bool.{ne_eqb}
+use Rattle.papi_base.proofs.Steps.{drop_item}
 use Rattle.region_report.specs.Lines.{after_call, after_line}
 use Rattle.region_report.specs.Opens.{open_text, stack_text, stacks_text}
 use Rattle.region_report.specs.Scripts.{all_ended}
@@ -10,18 +11,15 @@ use Rattle.region_report.specs.declared.regions.RegionLine.{RegionLine}
 use Rattle.region_report.proofs.Pieces.{at_place}
 use Rattle.region_report.specs.declared.opened.OpenRegion.{OpenRegion}
 
-here : (threads : List (Vec OpenRegion Global)) (i : ℕ) (x : Vec OpenRegion Global) → i < length threads → x ≡ get_or threads i x → drop i threads ≡ x ∷ drop (i + 1) threads
-here threads i x small is = drop_more threads i x small ∙ ap (λ y. y ∷ drop (i + 1) threads) (sym is)
-
 -- the regions of one thread more
 pub ended_on : (threads : List (Vec OpenRegion Global)) (i : ℕ) (x : Vec OpenRegion Global) → i < length threads → x ≡ get_or threads i x → length x.items ≡ 0 →
     all_ended (stacks_text (drop i threads)) ≡ all_ended (stacks_text (drop (i + 1) threads))
 ended_on threads i x small is none =
-    ap (λ ts. all_ended (stacks_text ts)) (here threads i x small is) ∙ rw (eq-eqb (length (stack_text x.items)) 0 (length-map x.items open_text ∙ none)) refl
+    ap (λ ts. all_ended (stacks_text ts)) (drop_item threads i x small is) ∙ rw (eq-eqb (length (stack_text x.items)) 0 (length-map x.items open_text ∙ none)) refl
 
 pub not_ended : (threads : List (Vec OpenRegion Global)) (i : ℕ) (x : Vec OpenRegion Global) → i < length threads → x ≡ get_or threads i x → 0 < length x.items → all_ended (stacks_text (drop i threads)) ≡ false
 not_ended threads i x small is some =
-    ap (λ ts. all_ended (stacks_text ts)) (here threads i x small is)
+    ap (λ ts. all_ended (stacks_text ts)) (drop_item threads i x small is)
     ∙ rw (ne_eqb (length (stack_text x.items)) 0 (λ (q : length (stack_text x.items) ≡ 0). omega (arith, q, length-map x.items open_text))) refl
 
 pub all_done : (threads : List (Vec OpenRegion Global)) (i : ℕ) → length threads ≤ i → all_ended (stacks_text (drop i threads)) ≡ true

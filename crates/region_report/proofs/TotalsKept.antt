@@ -6,18 +6,18 @@ use Rattle.std.specs.Int.{int_wrapping_add}
 use Rattle.std.specs.List.{flat_map, list_any, position_or_len}
 use Rattle.std.specs.Bool.{Decides}
 use Rattle.std.specs.Str.{bytes_eq}
-use Rattle.std.proofs.lemmas.Bool.{ltb-false}
+use Rattle.std.proofs.lemmas.Bool.{ltb-false, or_parts}
 use Rattle.std.proofs.lemmas.Slice.Eq.{bytes_eq-Decides}
 use Rattle.std.proofs.lemmas.List.{drop_all, drop_more, length-map, map-append, take_more}
 use Rattle.std.proofs.lemmas.List.Elements.{All-cons, All-nil}
 use Rattle.std.proofs.lemmas.List.Folds.{list_any-append}
 use Rattle.std.proofs.lemmas.List.Sums.{count_by-le-length, fold-append, sum_by-append}
+use Rattle.papi_base.proofs.Steps.{drop_at}
 use Rattle.table_rows.specs.Texts.{Text}
 use Rattle.region_report.specs.Reports.{ends, is_begin, is_end, name_of, names_of, total, total_text, region_text, thread_text, with_begin, with_end, with_name}
 use Rattle.region_report.specs.Spans.{Span, pairwise}
 use Rattle.region_report.specs.Totals.{changed, ends_one, place_of, total_of, totals_text, with_instance, with_instance_at}
 use Rattle.region_report.specs.declared.totals.RegionTotal.{RegionTotal}
-use Rattle.region_report.proofs.Counted.{dropped}
 
 -- ---- names that differ
 
@@ -42,17 +42,13 @@ abbrev pub AreDistinct : List Text → Type 0
 AreDistinct [] = Unit {0}
 AreDistinct (name ∷ names) = Differs name names × AreDistinct names
 
-or_false : (a b : Bool) → (a || b) ≡ false → (a ≡ false) × (b ≡ false)
-or_false false b e = (refl, e)
-or_false true b e = cc e
-
 differs_last : (name other : Text) (names : List Text) → Differs name names → bytes_eq other name ≡ false → Differs name (names ++ other ∷ [])
 differs_last name other names d e = list_any-append (λ n. bytes_eq n name) names (other ∷ []) ∙ rw (d, e) refl
 
 distinct_last : (names : List Text) (name : Text) → AreDistinct names → Differs name names → AreDistinct (names ++ name ∷ [])
 distinct_last [] name d e = (refl, tt)
 distinct_last (n ∷ ns) name d e =
-    let parts = or_false (bytes_eq n name) (list_any (λ m. bytes_eq m name) ns) e in
+    let parts = or_parts (bytes_eq n name) (list_any (λ m. bytes_eq m name) ns) e in
     (differs_last n name ns d.0 (bytes_eq-sym name n ∙ parts.0), distinct_last ns name d.1 parts.1)
 
 distinct_with_name : (names : List Text) (name : Text) → AreDistinct names → AreDistinct (with_name names name)
@@ -134,7 +130,7 @@ same_totals : (events thread : ℕ) (spans : List Span) (s : Span) (names : List
     map (total_of events thread (spans ++ s ∷ [])) names ≡ map (total_of events thread spans) names
 same_totals events thread spans s [] h = refl
 same_totals events thread spans s (name ∷ names) h =
-    let parts = or_false (ends thread name s) (list_any (λ n. ends thread n s) names) h in
+    let parts = or_parts (ends thread name s) (list_any (λ n. ends thread n s) names) h in
     ap₂ (λ t ts. t ∷ ts) (one_total events thread spans s name false parts.0) (same_totals events thread spans s names parts.1)
 
 -- the span ends an instance of none of these regions
@@ -142,7 +138,7 @@ others_end : (thread : ℕ) (s : Span) (name : Text) (names : List Text) → end
     list_any (λ n. ends thread n s) names ≡ false
 others_end thread s name [] e is d = refl
 others_end thread s name (n ∷ ns) e is d =
-    let parts = or_false (bytes_eq n name) (list_any (λ m. bytes_eq m name) ns) d in
+    let parts = or_parts (bytes_eq n name) (list_any (λ m. bytes_eq m name) ns) d in
     let here : ends thread n s ≡ false = ends_here thread s n true e ∙ ap (λ (m : Text). bytes_eq m n) (same_name (name_of s.line.call) name is) ∙ bytes_eq-sym name n ∙ parts.0 in
     rw (here, others_end thread s name ns e is parts.1) refl
 
@@ -233,7 +229,7 @@ pub line_more : (thread i : ℕ) (names : List Text) (totals : List RegionTotal)
     now ++ totals_text thread (drop i names) (drop i totals) ≡ all → after ++ totals_text thread (drop (i + 1) names) (drop (i + 1) totals) ≡ all
 line_more thread i names totals name t now after all is small is' step so_far =
     let there : drop i totals ≡ t ∷ drop (i + 1) totals = drop_more totals i t small ∙ ap (λ u. u ∷ drop (i + 1) totals) (sym is') in
-    let e = rw (dropped names i name is, there) at so_far in
+    let e = rw (drop_at names i name is, there) at so_far in
     rw (step, append_assoc) e
 
 pub lines_all : (thread i : ℕ) (names : List Text) (totals : List RegionTotal) (now all : Text) → length names ≤ i → now ++ totals_text thread (drop i names) (drop i totals) ≡ all → now ≡ all

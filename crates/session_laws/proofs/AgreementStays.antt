@@ -1,12 +1,13 @@
 -- Each good call keeps the agreement of the sets with the book.
-use Rattle.std.proofs.Common.{◌≡◌, Bool, true, false, not, refl, Some, None, Ok, Err}
+use Rattle.std.proofs.Common.{◌≡◌, not, refl, Some, None, Ok}
 use Rattle.std.specs.Option.{ForSome}
 use Rattle.std.proofs.lemmas.List.Elements.{All-replicate}
+use Rattle.std.proofs.lemmas.Bool.{not-false, or_parts}
 use Rattle.papi_base.specs.declared.limits.TheConstants.{MOST_SETS}
 use Rattle.postfix_rules.specs.Presets.{Book, rule_of_event}
 use Rattle.event_sets.specs.AtRest.{Widths, cannot_arm, cannot_take, has_event, is_other, is_plain, new_set, shares_native}
 use Rattle.event_sets.specs.Agreement.{Agrees}
-use Rattle.event_sets.proofs.Agreeing.{added_agrees, armed_agrees, assigned_agrees, emptied_agrees, neither, removed_agrees}
+use Rattle.event_sets.proofs.Agreeing.{added_agrees, armed_agrees, assigned_agrees, emptied_agrees, removed_agrees}
 use Rattle.session_model.specs.declared.call.Call.{Call}
 use Rattle.session_model.specs.declared.call.Call.TheVariants as call
 use Rattle.session_model.specs.Account.{Account, opening}
@@ -15,10 +16,6 @@ use Rattle.session_model.specs.Conditions.{IsGood}
 use Rattle.session_laws.specs.Keeping.{AgreementStays, OpeningAgrees}
 use Rattle.session_laws.proofs.Sets.{Keeps, here, of_faces, step_each, test_fails, to_faces}
 
-held : (b : Bool) → not b ≡ false → b ≡ true
-held true e = refl
-held false e = cc
-
 keeps_agreement : (book : Book) (shape : Widths) (a : Account) (c : Call) → IsGood book shape c → account_refusal book shape a c ≡ None → Keeps (λ s. Agrees book s.set) book a.past c a.sets
 keeps_agreement book shape a (call.Cleanup j) good q = λ k s i there g. emptied_agrees book s.set
 keeps_agreement book shape a (call.Add j (Ok e)) good q = λ k s i there g. added_agrees book e s.set good.0 (test_fails book shape a (call.Add j (Ok e)) 2 j (cannot_take book e) s q (here a.sets j k s i there) refl) g
@@ -26,8 +23,8 @@ keeps_agreement book shape a (call.Remove j (Ok e)) good q = λ k s i there g. r
 keeps_agreement book shape a (call.AssignComponent j comp) good q = λ k s i there g. assigned_agrees book comp s.set (test_fails book shape a (call.AssignComponent j comp) 3 j (λ set. is_other set.component (Some comp)) s q (here a.sets j k s i there) refl) g
 keeps_agreement book shape a (call.Overflow j (Ok e) t) good q = λ k s i there g.
     let at_j = here a.sets j k s i there in
-    let arms = neither (not (has_event e s.set)) (not (is_plain (rule_of_event book e))) (test_fails book shape a (call.Overflow j (Ok e) t) 2 j (cannot_arm book e) s q at_j refl) in
-    armed_agrees book e t s.set (held (has_event e s.set) arms.0) (held (is_plain (rule_of_event book e)) arms.1) (test_fails book shape a (call.Overflow j (Ok e) t) 4 j (shares_native book e t) s q at_j refl) g
+    let arms = or_parts (not (has_event e s.set)) (not (is_plain (rule_of_event book e))) (test_fails book shape a (call.Overflow j (Ok e) t) 2 j (cannot_arm book e) s q at_j refl) in
+    armed_agrees book e t s.set (not-false (has_event e s.set) arms.0) (not-false (is_plain (rule_of_event book e)) arms.1) (test_fails book shape a (call.Overflow j (Ok e) t) 4 j (shares_native book e t) s q at_j refl) g
 keeps_agreement book shape a c good q = λ k s i there g. record { held = g.held; owned = g.owned; one_each = g.one_each; distinct = g.distinct; plain = g.plain; apart = g.apart }
 
 pub agreement_stays : AgreementStays

@@ -1,9 +1,9 @@
 -- Of each component at most one set runs.
-use Rattle.std.proofs.Common.{◌≡◌, ℕ, zero, suc, ◌+◌, ◌≤◌, Bool, true, false, List, [], ◌∷◌, refl, ap, sym, subst, ◌∙◌, arith, slice_set, Option, Some, None, Ok, Err}
-use Rattle.std.specs.Prelude.{count_by, if◌then◌else◌, ◌==◌, ◌&&◌, ◌||◌}
+use Rattle.std.proofs.Common.{◌≡◌, ℕ, zero, suc, ◌+◌, ◌≤◌, Bool, true, false, List, [], ◌∷◌, refl, ap, sym, subst, ◌∙◌, arith, slice_set, Option, Some, None, Ok}
+use Rattle.std.specs.Prelude.{count_by, if◌then◌else◌, ◌==◌, ◌&&◌}
 use Rattle.std.specs.Option.{option_map, option_map_or}
 use Rattle.std.specs.List.{list_any}
-use Rattle.std.proofs.lemmas.Bool.{eqb-true}
+use Rattle.std.proofs.lemmas.Bool.{eqb-true, or_parts}
 use Rattle.std.proofs.lemmas.List.Sums.{sum_by-cons}
 use Rattle.postfix_rules.specs.Presets.{Book, component_of_event}
 use Rattle.event_sets.specs.AtRest.{Widths}
@@ -41,15 +41,11 @@ count_set-le p [] k y h = omega arith
 count_set-le p (x ∷ xs) zero y h = omega (arith, count_cons p y xs, count_cons p x xs, bit_mono (p y) (p x) h)
 count_set-le p (x ∷ xs) (suc k) y h = omega (arith, count_cons p x (slice_set xs k y), count_cons p x xs, count_set-le p xs k y h)
 
-or_false : (b c : Bool) → (b || c) ≡ false → (b ≡ false) × (c ≡ false)
-or_false true c e = cc
-or_false false c e = (refl, e)
-
 -- none passes
 count_none : {X : Type 0} (p : X → Bool) (xs : List X) → list_any p xs ≡ false → count_by p xs ≡ 0
 count_none p [] h = refl
 count_none p (x ∷ xs) h =
-    let parts = or_false (p x) (list_any p xs) h in
+    let parts = or_parts (p x) (list_any p xs) h in
     let B : Bool → Type 0 = λ b. (if b then 1 else 0) + count_by p xs ≡ 0 in
     let there : count_by p xs ≡ 0 = count_none p xs parts.1 in
     count_cons p x xs ∙ subst B (sym parts.0) (omega (arith, there))

@@ -5,6 +5,7 @@ use Rattle.std.proofs.lemmas.Bool.Decides.{nat_tests}
 use Rattle.papi_base.specs.declared.limits.TheConstants.{THREADS}
 use Rattle.papi_base.specs.declared.native.Native.{Native}
 use Rattle.postfix_rules.specs.Presets.{Book}
+use Rattle.postfix_rules.proofs.Equal.{nat_is}
 use Rattle.session_model.specs.declared.call.Call.{Call}
 use Rattle.session_model.specs.declared.line.Asked.{Asked}
 use Rattle.session_model.specs.declared.line.Asked.TheVariants as asked
@@ -21,12 +22,9 @@ use Rattle.session_laws.proofs.Places.{set_same, set_other}
 abbrev own : ℕ → ℕ → Asked → List Call
 own s t a = if s == t then calls_asked a else []
 
-account-append : (book : Book) (shape : Widths) (a : Account) (xs ys : List Call) → account_after book shape a (xs ++ ys) ≡ account_after book shape (account_after book shape a xs) ys
+pub account-append : (book : Book) (shape : Widths) (a : Account) (xs ys : List Call) → account_after book shape a (xs ++ ys) ≡ account_after book shape (account_after book shape a xs) ys
 account-append book shape a [] ys = refl
 account-append book shape a (x ∷ xs) ys = account-append book shape (step book shape a x).account xs ys
-
-same_of : (s t : ℕ) → (s == t) ≡ true → s ≡ t
-same_of s t e = grind (arith, nat_tests, e)
 
 apart_of : (s t : ℕ) → (s == t) ≡ false → t ≢ s
 apart_of s t e = λ q. grind (arith, nat_tests, e, q)
@@ -43,7 +41,7 @@ stays book shape a false = refl
 call_account : (at : Setting) (accounts : List Account) (s t : ℕ) (c : Call) (a : Account) → slice_get accounts t ≡ Some a → (b : Bool) → (s == t) ≡ b
     → slice_get (slice_set accounts s (step at.book at.shape (account_at accounts s) c).account) t ≡ Some (account_after at.book at.shape a (if b then c ∷ [] else []))
 call_account at accounts s t c a e true q =
-    subst (λ i. slice_get (slice_set accounts i (step at.book at.shape (account_at accounts i) c).account) t ≡ Some (step at.book at.shape a c).account) (sym (same_of s t q))
+    subst (λ i. slice_get (slice_set accounts i (step at.book at.shape (account_at accounts i) c).account) t ≡ Some (step at.book at.shape a c).account) (sym (nat_is s t q))
     (set_same accounts t a (step at.book at.shape (account_at accounts t) c).account e ∙ ap (λ x. Some (step at.book at.shape x c).account) (found accounts t a e))
 call_account at accounts s t c a e false q = set_other accounts s t a (step at.book at.shape (account_at accounts s) c).account e (apart_of s t q)
 
@@ -51,9 +49,7 @@ call_account at accounts s t c a e false q = set_other accounts s t a (step at.b
 line_account : (at : Setting) (accounts : List Account) (m : List Native) (s t : ℕ) (x : Asked) (a : Account) → slice_get accounts t ≡ Some a
     → slice_get (turn at accounts m s x).accounts t ≡ Some (account_after at.book at.shape a (own s t x))
 line_account at accounts m s t (asked.Call c) a e = call_account at accounts s t c a e (s == t) refl
-line_account at accounts m s t (asked.CodeOf n) a e = e ∙ stays at.book at.shape a (s == t)
-line_account at accounts m s t (asked.NameOf c) a e = e ∙ stays at.book at.shape a (s == t)
-line_account at accounts m s t asked.Threads a e = e ∙ stays at.book at.shape a (s == t)
+line_account at accounts m s t x a e = e ∙ stays at.book at.shape a (s == t)
 
 pub account_by_thread : AccountByThread
 account_by_thread at w [] t a e = e
@@ -61,7 +57,7 @@ account_by_thread at w (l ∷ ls) t a e =
     account_by_thread at (world_after_line at w l) ls t (account_after at.book at.shape a (own l.thread t l.asked)) (line_account at w.accounts (mentioned_after w.mentioned l) l.thread t l.asked a e)
     ∙ ap (λ x. Some x) (sym (account-append at.book at.shape a (own l.thread t l.asked) (calls_at t ls)))
 
-replies-append : (book : Book) (shape : Widths) (a : Account) (xs ys : List Call)
+pub replies-append : (book : Book) (shape : Widths) (a : Account) (xs ys : List Call)
     → replies_to book shape a (xs ++ ys) ≡ replies_to book shape a xs ++ replies_to book shape (account_after book shape a xs) ys
 replies-append book shape a [] ys = refl
 replies-append book shape a (x ∷ xs) ys = ap (λ rs. (step book shape a x).reply ∷ rs) (replies-append book shape (step book shape a x).account xs ys)
@@ -72,15 +68,13 @@ none book shape a r false = refl
 
 call_reply : (at : Setting) (accounts : List Account) (s t : ℕ) (c : Call) (a : Account) → slice_get accounts t ≡ Some a → (b : Bool) → (s == t) ≡ b
     → (if (b && true) then (step at.book at.shape (account_at accounts s) c).reply ∷ [] else []) ≡ replies_to at.book at.shape a (if b then c ∷ [] else [])
-call_reply at accounts s t c a e true q = ap (λ x. (step at.book at.shape x c).reply ∷ []) (ap (account_at accounts) (same_of s t q) ∙ found accounts t a e)
+call_reply at accounts s t c a e true q = ap (λ x. (step at.book at.shape x c).reply ∷ []) (ap (account_at accounts) (nat_is s t q) ∙ found accounts t a e)
 call_reply at accounts s t c a e false q = refl
 
 line_reply : (at : Setting) (accounts : List Account) (m : List Native) (s t : ℕ) (x : Asked) (a : Account) → slice_get accounts t ≡ Some a
     → (if ((s == t) && is_call x) then (turn at accounts m s x).reply ∷ [] else []) ≡ replies_to at.book at.shape a (own s t x)
 line_reply at accounts m s t (asked.Call c) a e = call_reply at accounts s t c a e (s == t) refl
-line_reply at accounts m s t (asked.CodeOf n) a e = none at.book at.shape a (turn at accounts m s (asked.CodeOf n)).reply (s == t)
-line_reply at accounts m s t (asked.NameOf c) a e = none at.book at.shape a (turn at accounts m s (asked.NameOf c)).reply (s == t)
-line_reply at accounts m s t asked.Threads a e = none at.book at.shape a (turn at accounts m s asked.Threads).reply (s == t)
+line_reply at accounts m s t x a e = none at.book at.shape a (turn at accounts m s x).reply (s == t)
 
 pub replies_by_thread : RepliesByThread
 replies_by_thread at w [] t a e = refl
@@ -91,7 +85,7 @@ replies_by_thread at w (l ∷ ls) t a e =
     ap₂ (λ xs ys. xs ++ ys) (line_reply at w.accounts m l.thread t l.asked a e) (replies_by_thread at (world_after_line at w l) ls t next (line_account at w.accounts m l.thread t l.asked a e))
     ∙ sym (replies-append at.book at.shape a mine (calls_at t ls))
 
-notes-append : (book : Book) (shape : Widths) (a : Account) (xs ys : List Call)
+pub notes-append : (book : Book) (shape : Widths) (a : Account) (xs ys : List Call)
     → notes_to book shape a (xs ++ ys) ≡ notes_to book shape a xs ++ notes_to book shape (account_after book shape a xs) ys
 notes-append book shape a [] ys = refl
 notes-append book shape a (x ∷ xs) ys =
@@ -104,15 +98,13 @@ no_notes book shape a false = refl
 
 call_notes : (at : Setting) (accounts : List Account) (s t : ℕ) (c : Call) (a : Account) → slice_get accounts t ≡ Some a → (b : Bool) → (s == t) ≡ b
     → (if b then (step at.book at.shape (account_at accounts s) c).notes else []) ≡ notes_to at.book at.shape a (if b then c ∷ [] else [])
-call_notes at accounts s t c a e true q = ap (λ x. (step at.book at.shape x c).notes) (ap (account_at accounts) (same_of s t q) ∙ found accounts t a e) ∙ sym (append-nil (step at.book at.shape a c).notes)
+call_notes at accounts s t c a e true q = ap (λ x. (step at.book at.shape x c).notes) (ap (account_at accounts) (nat_is s t q) ∙ found accounts t a e) ∙ sym (append-nil (step at.book at.shape a c).notes)
 call_notes at accounts s t c a e false q = refl
 
 line_notes : (at : Setting) (accounts : List Account) (m : List Native) (s t : ℕ) (x : Asked) (a : Account) → slice_get accounts t ≡ Some a
     → (if s == t then (turn at accounts m s x).notes else []) ≡ notes_to at.book at.shape a (own s t x)
 line_notes at accounts m s t (asked.Call c) a e = call_notes at accounts s t c a e (s == t) refl
-line_notes at accounts m s t (asked.CodeOf n) a e = no_notes at.book at.shape a (s == t)
-line_notes at accounts m s t (asked.NameOf c) a e = no_notes at.book at.shape a (s == t)
-line_notes at accounts m s t asked.Threads a e = no_notes at.book at.shape a (s == t)
+line_notes at accounts m s t x a e = no_notes at.book at.shape a (s == t)
 
 pub notes_by_thread : NotesByThread
 notes_by_thread at w [] t a e = refl

@@ -20,7 +20,7 @@ use Rattle.multiplex.proofs.Estimates.{estimate_whole}
 use Rattle.session_laws.specs.Turning.{CountsPerTick, OneGroupCounts}
 
 -- a weight is at most 255 if the amount is
-weight_small : (h e b c : Bool) (x : ℕ) → x ≤ 255 → (if h then (if e then (if b then 0 else 1) else (if c then x else 1)) else 0) ≤ 255
+pub weight_small : (h e b c : Bool) (x : ℕ) → x ≤ 255 → (if h then (if e then (if b then 0 else 1) else (if c then x else 1)) else 0) ≤ 255
 weight_small true true true c x k = omega arith
 weight_small true true false c x k = omega arith
 weight_small true false b true x k = k
@@ -99,7 +99,7 @@ rises-drop before zero os h = h
 rises-drop before (suc k) [] h = tt
 rises-drop before (suc k) (o ∷ os) h = rises-drop (Some o) k os h.2
 
-last-append : (before : Option Occ) (xs ys : List Occ) → last_after before (xs ++ ys) ≡ last_after (last_after before xs) ys
+pub last-append : (before : Option Occ) (xs ys : List Occ) → last_after before (xs ++ ys) ≡ last_after (last_after before xs) ys
 last-append before [] ys = refl
 last-append before (x ∷ xs) ys = last-append (Some x) xs ys
 

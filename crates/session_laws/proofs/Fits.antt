@@ -3,11 +3,13 @@ use Rattle.std.proofs.Common.{◌≡◌, ◌∙◌, ◌∷◌, ◌^◌, ◌<◌,
 use Rattle.std.proofs.Common.{length, refl, sym, ap, subst, arith, slice_get, unwrap_or, Option, Some, None, is_some}
 use Rattle.std.specs.Prelude.{All, IsSomeAnd, nat_le, nat_lt}
 use Rattle.std.specs.Option.{ForSome, option_map, option_map_or}
-use Rattle.std.proofs.lemmas.List.Elements.{All-push, All-set}
+use Rattle.std.proofs.lemmas.List.Elements.{All-push, All-set, All-nil}
 use Rattle.std.proofs.lemmas.Bool.Decides.{nat_tests}
+use Rattle.std.proofs.lemmas.Bool.{or_parts}
 use Rattle.papi_base.specs.declared.native.EventRef.{EventRef}
 use Rattle.papi_base.specs.declared.native.EventRef.TheVariants as event
 use Rattle.papi_base.specs.declared.native.Native.{Native}
+use Rattle.papi_base.proofs.Steps.{none_of}
 use Rattle.postfix_rules.specs.Rules.{DerivedView, IsDerived}
 use Rattle.postfix_rules.specs.Presets.{Book, component_of_event, entry, natives_of_event, rule_of_event}
 use Rattle.event_sets.specs.declared.refusal.Refusal.TheVariants.{Conflict}
@@ -18,8 +20,7 @@ use Rattle.event_sets.specs.AtRest.{with_event, with_threshold, without_event}
 use Rattle.event_sets.specs.Agreement.{Agrees}
 use Rattle.postfix_rules.specs.Fitting.{BookFits, EventFits, Fits, IsHeld}
 use Rattle.event_sets.specs.Sets.{set_view}
-use Rattle.event_sets.proofs.Agreeing.{added_agrees, armed_agrees, assigned_agrees, by_number, emptied_agrees, event_owned, held_component, held_have_natives, neither, numbered, removed_agrees}
-use Rattle.event_sets.proofs.Clashing.{none_of}
+use Rattle.event_sets.proofs.Agreeing.{added_agrees, armed_agrees, assigned_agrees, by_number, emptied_agrees, event_owned, held_component, held_have_natives, numbered, removed_agrees}
 use Rattle.event_sets.proofs.Kept.{armed_sound, assigned_sound, sliced_sound}
 use Rattle.event_sets.proofs.Removed.{removed_all}
 use Rattle.event_sets.proofs.Sound.{added_is_sound, emptied_is_sound, few_counters, new_is_sound, removed_is_sound, with_domain_is_sound}
@@ -31,9 +32,6 @@ Fitting shape component t = (t ≡ 0) ⊎ ((256 ≤ t) × (t < 2 ^ least_width (
 few_each : (shape : Widths) → IsShape shape → All (λ widths. length widths ≤ 32) shape
 few_each shape h = by_number (λ (widths : List ℕ). length widths ≤ 32) shape h.few_counters
 
-nothing_all : {X : Type 0} (P : X → Type 0) → All P []
-nothing_all P = λ k d below. absurd (omega arith)
-
 -- ---- a set without events
 
 pub new_fit : (book : Book) (shape : Widths) → IsFit book shape new_set
@@ -41,7 +39,7 @@ new_fit book shape = record {
   agrees = emptied_agrees book new_set;
   sound = new_is_sound book shape;
   has_component = λ comp e. cc;
-  thresholds = nothing_all (Fitting shape None);
+  thresholds = All-nil (Fitting shape None);
 }
 
 pub emptied_fit : (book : Book) (shape : Widths) (s : AtRest) → IsFit book shape s → IsFit book shape (emptied s)
@@ -49,7 +47,7 @@ emptied_fit book shape s h = record {
   agrees = emptied_agrees book s;
   sound = emptied_is_sound book shape s h.sound;
   has_component = λ comp e. cc;
-  thresholds = nothing_all (Fitting shape None);
+  thresholds = All-nil (Fitting shape None);
 }
 
 -- ---- a component is fixed
@@ -87,11 +85,11 @@ assigned_fit book shape g s is_shape below same h = record {
   go (Some f) q k = let to : s.component ≡ Some g = q ∙ ap Some (same_test f g k) in subst (λ c. All (Fitting shape c) s.thresholds) to h.thresholds
   go None q k =
       let thresholds : s.thresholds ≡ [] = no_length s.thresholds s.events h.agrees.one_each (no_events book s h.agrees q) in
-      subst (All (Fitting shape (Some g))) (sym thresholds) (nothing_all (Fitting shape (Some g)))
+      subst (All (Fitting shape (Some g))) (sym thresholds) (All-nil (Fitting shape (Some g)))
 
 -- ---- one event more
 
-get_some : {X : Type 0} (o : Option (Option X)) (x : X) → unwrap_or o None ≡ Some x → o ≡ Some (Some x)
+pub get_some : {X : Type 0} (o : Option (Option X)) (x : X) → unwrap_or o None ≡ Some x → o ≡ Some (Some x)
 get_some None x e = cc
 get_some (Some p) x e = ap Some e
 
@@ -132,7 +130,7 @@ added_fit book shape e s is_shape book_fits held fits takes full clash h = recor
   -- the set with the event's component
   to : IsFit book shape (record s { component = component_of_event book e })
   to =
-      let other : is_other s.component (Some comp.0) ≡ false = subst (λ o. is_other s.component o ≡ false) comp.1 (neither (is_other s.component (component_of_event book e)) (has_event e s) takes).0 in
+      let other : is_other s.component (Some comp.0) ≡ false = subst (λ o. is_other s.component o ≡ false) comp.1 (or_parts (is_other s.component (component_of_event book e)) (has_event e s) takes).0 in
       subst (λ o. IsFit book shape (record s { component = o })) (sym comp.1) (assigned_fit book shape comp.0 s is_shape there other h)
 
 -- ---- an event is gone

@@ -1,7 +1,6 @@
 -- The replies of the threads, merged in the script's order.
-use Rattle.std.proofs.Common.{◌≡◌, ◌≢◌, ◌∙◌, ◌∷◌, ◌++◌, ◌+◌, ◌*◌, ◌<◌, ◌==◌, inl, inr, ℕ, zero, suc, Bool, true, false, not, List, [], drop}
-use Rattle.std.proofs.Common.{length, map, refl, sym, ap, ap₂, subst, arith, slice_get, slice_index_or, slice_set, unwrap_or, Option, Some}
-use Rattle.std.proofs.Common.{None, Result, Ok, Err}
+use Rattle.std.proofs.Common.{◌≡◌, ◌≢◌, ◌∙◌, ◌∷◌, ◌++◌, ◌+◌, ◌*◌, ◌<◌, ◌==◌, inl, inr, ℕ, zero, suc, Bool, true, false, not, List, [], drop, length}
+use Rattle.std.proofs.Common.{map, refl, sym, ap, ap₂, subst, arith, slice_get, slice_index_or, slice_set, unwrap_or, Option, Some, None, Result, Ok}
 use Rattle.std.specs.Prelude.{All, if◌then◌else◌}
 use Rattle.std.specs.List.{list_any}
 use Rattle.std.proofs.Math.ListN.{length-set}
@@ -15,6 +14,7 @@ use Rattle.papi_base.specs.declared.code.Code.TheVariants.{Einval, Eisrun}
 use Rattle.papi_base.specs.declared.native.EventRef.{EventRef}
 use Rattle.papi_base.specs.declared.native.EventRef.TheVariants as event
 use Rattle.papi_base.specs.declared.native.Native.{Native}
+use Rattle.papi_base.proofs.Steps.{get_at}
 use Rattle.postfix_rules.specs.Presets.{Book}
 use Rattle.event_sets.specs.declared.refusal.Refusal.{Refusal}
 use Rattle.event_sets.specs.AtRest.{Widths}
@@ -55,11 +55,6 @@ listed_bits bit [] = refl
 listed_bits bit (a ∷ accounts) = ap (λ n. (if a.registered then bit else 0) + n) (listed_bits (2 * bit) accounts)
 
 -- ---- one line
-
-there_is : {X : Type 0} (xs : List X) (t : ℕ) → t < length xs → (x : X) × (slice_get xs t ≡ Some x)
-there_is [] t h = absurd (omega (arith, h))
-there_is (x ∷ xs) zero h = (x, refl)
-there_is (x ∷ xs) (suc t) h = there_is xs t (omega (arith, h))
 
 flag_at : (accounts : List Account) (t : ℕ) (a : Account) (d : Bool) → slice_get accounts t ≡ Some a → slice_index_or (map (λ b. b.registered) accounts) t d ≡ a.registered
 flag_at [] t a d e = cc
@@ -103,12 +98,11 @@ stays at accounts m t ls q l none h = record {
 
 code_answer : (at : Setting) (accounts : List Account) (m : List Native) (e : Result EventRef Code) → answer at [] m (asked.CodeOf e) ≡ answer at accounts m (asked.CodeOf e)
 code_answer at accounts m (Ok (event.Native n)) = refl
-code_answer at accounts m (Ok (event.Preset row)) = refl
-code_answer at accounts m (Err c) = refl
+code_answer at accounts m e = refl
 
 call_goes : (at : Setting) (accounts : List Account) (m : List Native) (t : ℕ) (c : Call) (ls : List Line) (q : Ahead) → t < length accounts → IsAhead at accounts (record { thread = t; asked = asked.Call c } ∷ ls) q → Goes at accounts m t (asked.Call c) ls q
 call_goes at accounts m t c ls q few h =
-    let one = there_is accounts t few in
+    let one = get_at accounts t few in
     let a = one.0 in
     let made = step at.book at.shape a c in
     let rest = replies_to at.book at.shape made.account (calls_at t ls) in
@@ -152,9 +146,7 @@ line_goes at accounts m t asked.Threads ls q few h = record {
 
 length_kept : (at : Setting) (accounts : List Account) (m : List Native) (t : ℕ) (x : Asked) → length (turn at accounts m t x).accounts ≡ length accounts
 length_kept at accounts m t (asked.Call c) = length-set accounts t _
-length_kept at accounts m t (asked.CodeOf e) = refl
-length_kept at accounts m t (asked.NameOf c) = refl
-length_kept at accounts m t asked.Threads = refl
+length_kept at accounts m t x = refl
 
 pub merges_to_world : MergesToWorld
 merges_to_world at w [] x few h = refl

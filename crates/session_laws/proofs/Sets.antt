@@ -1,13 +1,15 @@
 -- The places of sets, and what holds of each set after a call.
-use Rattle.std.proofs.Common.{◌≡◌, ℕ, zero, suc, ◌+◌, Bool, true, false, List, [], ◌∷◌, map, refl, sym, ◌∙◌, ap, subst, slice_get, slice_set, unwrap_or, Option, Some, None}
-use Rattle.std.specs.Prelude.{All, if◌then◌else◌}
+use Rattle.std.proofs.Common.{◌≡◌, ℕ, zero, suc, ◌+◌, Bool, false, List, [], ◌∷◌, map, refl, sym, ◌∙◌, ap, subst, slice_get, slice_set, Option, Some, None}
+use Rattle.std.specs.Prelude.{All}
 use Rattle.std.specs.Option.{option_map, option_map_or, ForSome}
 use Rattle.std.proofs.lemmas.List.Elements.{All-set}
+use Rattle.session_laws.proofs.Fits.{get_some}
 use Rattle.postfix_rules.specs.Presets.{Book}
 use Rattle.event_sets.specs.declared.refusal.Refusal.{Refusal}
 use Rattle.event_sets.specs.AtRest.{AtRest, Widths}
 use Rattle.event_sets.proofs.Agreeing.{by_number, numbered}
 use Rattle.papi_base.specs.declared.occurrence.Occ.{Occ}
+use Rattle.papi_base.proofs.Steps.{passed_over}
 use Rattle.session_model.specs.declared.call.Call.{Call}
 use Rattle.session_model.specs.declared.call.Call.TheVariants as call
 use Rattle.session_model.specs.Account.{Account, Kept}
@@ -16,16 +18,11 @@ use Rattle.session_model.specs.Refusals.{first_of, rows}
 use Rattle.session_model.specs.Changes.{changed_at, changed_by, kept_after, new_kept, sets_after}
 use Rattle.session_model.specs.Step.{account_refusal, performed, step, unless}
 
--- a row that does not come
-passed : (b : Bool) (r : Refusal) (rest : Option Refusal) → (if b then Some r else rest) ≡ None → (b ≡ false) × (rest ≡ None)
-passed true r rest e = cc
-passed false r rest e = (refl, e)
-
 -- if a call is not refused, no row of its table comes
 pub row_fails : (rs : List (Bool × Refusal)) (i : ℕ) → first_of rs ≡ None → option_map_or (λ r. r.0) (slice_get rs i) false ≡ false
 row_fails [] i e = refl
-row_fails (r ∷ rs) zero e = (passed r.0 r.1 (first_of rs) e).0
-row_fails (r ∷ rs) (suc i) e = row_fails rs i (passed r.0 r.1 (first_of rs) e).1
+row_fails (r ∷ rs) zero e = (passed_over r.0 r.1 (first_of rs) e).0
+row_fails (r ∷ rs) (suc i) e = row_fails rs i (passed_over r.0 r.1 (first_of rs) e).1
 
 -- the places of a list whose items are changed
 pub at_map : {X Y : Type 0} (f : X → Y) (places : List (Option X)) (k : ℕ) → at (map (option_map f) places) k ≡ option_map f (at places k)
@@ -49,10 +46,6 @@ has_at test sets k s e = ap (λ o. option_map_or (λ f. test f.set) o false) (at
 
 pub runs_at : (sets : List (Option Kept)) (k : ℕ) (s : Kept) → at sets k ≡ Some s → runs (faces_of sets) k ≡ s.running
 runs_at sets k s e = ap (λ o. option_map_or (λ f. f.running) o false) (at_map face_of sets k ∙ ap (option_map face_of) e)
-
-get_some : {X : Type 0} (o : Option (Option X)) (x : X) → unwrap_or o None ≡ Some x → o ≡ Some (Some x)
-get_some None x e = cc
-get_some (Some p) x e = ap Some e
 
 pub of_one : {X : Type 0} (P : X → Type 0) (y : X) → P y → ForSome (Some y) P
 of_one P y p = λ x e. subst P (let same : y ≡ x = cc in same) p

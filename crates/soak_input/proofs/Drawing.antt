@@ -4,12 +4,12 @@ use Rattle.std.proofs.Math.Nat.{mod-add-mod}
 use Rattle.std.proofs.lemmas.List.{drop-drop, drop_all, length-take-le, take-append-drop, take-append-le}
 use Rattle.std.specs.Fmt.{digit_glyph}
 use Rattle.papi_base.specs.Outside.{Gives}
+use Rattle.papi_base.proofs.Growing.{both}
 use Rattle.soak_input.specs.Generator.{next}
 use Rattle.soak_input.specs.Occurrences.{fifth, occurrence_after, occurrences_after}
 use Rattle.soak_input.specs.Source.{left_text, well_ended}
 use Rattle.soak_input.specs.Streams.{Text, line_text, lines_text, six_digits, two_digits}
 use Rattle.soak_input.specs.declared.occurrence.Occurrence.{Occurrence}
-use Rattle.soak_input.proofs.Pieces.{both}
 
 -- ---- the generator
 

@@ -1,17 +1,13 @@
 -- Texts that grow at their end, piece by piece.
-use Rattle.std.proofs.Common.{◌≡◌, ◌∙◌, ◌<◌, ◌≤◌, ◌+◌, ◌∷◌, ◌++◌, ℕ, ℤ, zero, suc, List, [], Some, Result, Ok, Err, OnOk, length, take, sym, ap, arith, add-zero, append_assoc, get_or}
-use Rattle.std.proofs.lemmas.List.{append-nil, flat_map_more, length-take-le, take_all, take_more}
-use Rattle.std.proofs.lemmas.Option.{get_or_from_slice_get, slice_get_within}
+use Rattle.std.proofs.Common.{◌≡◌, ◌∙◌, ◌<◌, ◌≤◌, ◌+◌, ◌∷◌, ◌++◌, ℕ, ℤ, suc, List, [], Result, Ok, Err, OnOk, length, take, sym, ap, arith, add-zero, append_assoc, get_or}
+use Rattle.std.proofs.lemmas.List.{append-nil, length-take-le, take_all, take_more}
 use Rattle.std.specs.Fmt.{signed_decimal}
-use Rattle.std.specs.Prelude.{codes, decimal, slice_get}
-use Rattle.std.specs.List.{flat_map, range_with_len}
+use Rattle.std.specs.Prelude.{codes, decimal}
+use Rattle.std.specs.List.{flat_map}
+use Rattle.papi_base.proofs.Growing.{both}
 use Rattle.soak_input.specs.Streams.{Text}
 use Rattle.soak_input.specs.Summary.{sum_of, summary_text, thread_line, thread_lines}
 use Rattle.soak_input.specs.declared.summary.ThreadTotal.{ThreadTotal}
-
--- two pieces one after the other
-pub both : (start middle after x y : Text) → middle ≡ start ++ x → after ≡ middle ++ y → after ≡ start ++ (x ++ y)
-both start middle after x y first second = second ∙ ap (λ (t : Text). t ++ y) first ∙ append_assoc start x y
 
 -- three pieces, from nothing on
 pub three : (start a b after u v w : Text) → start ≡ [] → a ≡ start ++ u → b ≡ a ++ v → after ≡ b ++ w → after ≡ u ++ (v ++ w)
@@ -28,34 +24,6 @@ six (Err error) start a b c d e f u v w x y z p q r s t last = tt
 -- nothing yet
 pub none : (start : Text) → start ≡ start ++ []
 none start = sym (append-nil start)
-
-range_more : (a n : ℕ) → range_with_len a (n + 1) ≡ range_with_len a n ++ (a + n) ∷ []
-range_more a zero = ap (λ k. k ∷ []) (sym (add-zero a))
-range_more a (suc n) =
-    let s : suc n + 1 ≡ suc (n + 1) = omega arith in
-    let k : a + 1 + n ≡ a + suc n = omega arith in
-    rw s (ap (λ (xs : List ℕ). a ∷ xs) (range_more (a + 1) n ∙ ap (λ i. range_with_len (a + 1) n ++ i ∷ []) k))
-
--- the lines of one number more
-pub line_more : (lines : ℕ → Text) (start now after : Text) (i : ℕ) → now ≡ start ++ flat_map lines (range_with_len 0 i) → after ≡ now ++ lines i →
-    after ≡ start ++ flat_map lines (range_with_len 0 (i + 1))
-line_more lines start now after i so_far more =
-    let e : 0 + i ≡ i = omega arith in
-    more ∙ ap (λ (t : Text). t ++ lines i) so_far ∙ flat_map_more lines start (range_with_len 0 i) i
-    ∙ ap (λ (xs : List ℕ). start ++ flat_map lines xs) (sym (range_more 0 i ∙ ap (λ k. range_with_len 0 i ++ k ∷ []) e))
-
--- the lines of all numbers
-pub lines_all : (lines : ℕ → Text) (start after : Text) (i n : ℕ) → i ≡ n → after ≡ start ++ flat_map lines (range_with_len 0 i) → after ≡ start ++ flat_map lines (range_with_len 0 n)
-lines_all lines start after i n e so_far = so_far ∙ ap (λ k. start ++ flat_map lines (range_with_len 0 k)) e
-
-taken_more : {X : Type 0} (xs : List X) (i : ℕ) (x : X) → slice_get xs i ≡ Some x → take (i + 1) xs ≡ take i xs ++ x ∷ []
-taken_more xs i x h = take_more xs i x (slice_get_within xs i x h) ∙ ap (λ y. take i xs ++ y ∷ []) (get_or_from_slice_get xs i x x h)
-
--- the text of one item more
-pub item_more : {X : Type 0} (f : X → Text) (xs : List X) (i : ℕ) (x : X) (start now after : Text) → slice_get xs i ≡ Some x →
-    now ≡ start ++ flat_map f (take i xs) → after ≡ now ++ f x → after ≡ start ++ flat_map f (take (i + 1) xs)
-item_more f xs i x start now after h so_far more =
-    more ∙ ap (λ (t : Text). t ++ f x) so_far ∙ flat_map_more f start (take i xs) x ∙ ap (λ ys. start ++ flat_map f ys) (sym (taken_more xs i x h))
 
 -- the texts of all items
 pub items_all : {X : Type 0} (f : X → Text) (xs : List X) (i : ℕ) (start after : Text) → length xs ≤ i → after ≡ start ++ flat_map f (take i xs) → after ≡ start ++ flat_map f xs

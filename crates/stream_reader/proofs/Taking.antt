@@ -36,7 +36,7 @@ pub record IsKept (start : LineStart) : Type 0 where
   pub passed : start.passed ≤ 67108865
   pub numbered : start.number ≤ start.passed + 1
 
-flag-small : (b : Bool) → flag_bit b ≤ 1
+pub flag-small : (b : Bool) → flag_bit b ≤ 1
 flag-small true = omega arith
 flag-small false = omega arith
 

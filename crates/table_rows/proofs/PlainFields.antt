@@ -1,7 +1,8 @@
 -- The fields that `csv` reads with no quotes have no commas, and no bytes that end a row.
 use Rattle.std.proofs.Common.{◌≡◌, ◌+◌, ◌==◌, ◌∷◌, ◌++◌, ℕ, zero, suc, Bool, true, false, List, [], Option, Some, None, length, refl, subst}
-use Rattle.std.specs.Prelude.{⊤, ◌||◌, if◌then◌else◌}
+use Rattle.std.specs.Prelude.{⊤, if◌then◌else◌}
 use Rattle.std.specs.List.{AllByRecursion}
+use Rattle.std.proofs.lemmas.Bool.{or_parts}
 use Rattle.csv.specs.Machine.{Read, after_end, ends_at_end, ends_with, field_after, fields_after, in_field, is_byte, is_end, next_record, start_record, step}
 use Rattle.csv.specs.Reading.{records_from, records_next, strip_bom}
 use Rattle.csv.specs.declared.parser.Action.{Action}
@@ -37,18 +38,13 @@ after-open c = go (c == 13)
     go true = tt
     go false = tt
 
-no-end : (a b : Bool) → (a || b) ≡ false → (a ≡ false) × (b ≡ false)
-no-end true b e = cc e
-no-end false true e = cc e
-no-end false false e = (refl, refl)
-
 in_field-fine : (c : ℕ) → Fine c (in_field table_config c)
 in_field-fine c =
     fine-if c (c == 44) (st.StartField, act.EndField) (if ends_with table_config.terminator c then (after_end table_config.terminator c, act.EndRecord) else (st.InField, act.Copy))
     (record { open_after = tt; copies = λ e. cc e })
     (λ no_comma. fine-if c (ends_with table_config.terminator c) (after_end table_config.terminator c, act.EndRecord) (st.InField, act.Copy)
     (record { open_after = after-open c; copies = λ e. cc e })
-    (λ stays. record { open_after = tt; copies = λ e. let ends = no-end (c == 13) (c == 10) stays in (no_comma, ends.0, ends.1) }))
+    (λ stays. record { open_after = tt; copies = λ e. let ends = or_parts (c == 13) (c == 10) stays in (no_comma, ends.0, ends.1) }))
 
 start-fine : (c : ℕ) → Fine c (start_record table_config c)
 start-fine c =
@@ -60,24 +56,20 @@ step-fine : (s : State) (c : ℕ) → IsOpen s → Fine c (step table_config s c
 step-fine st.StartRecord c o = start-fine c
 step-fine st.StartField c o = in_field-fine c
 step-fine st.InField c o = in_field-fine c
-step-fine st.InQuoted c o = absurd o
-step-fine st.AfterQuote c o = absurd o
-step-fine st.InEscape c o = absurd o
 step-fine st.InComment c o = fine-if c (c == 10) (st.StartRecord, act.Skip) (st.InComment, act.Skip) (record { open_after = tt; copies = λ e. cc e })
     (λ n. record { open_after = tt; copies = λ e. cc e })
 step-fine st.AfterCr c o = fine-if c (c == 10) (st.StartRecord, act.Skip) (start_record table_config c) (record { open_after = tt; copies = λ e. cc e }) (λ n. start-fine c)
+step-fine s c o = absurd o
 
 fields-fine : (a : Action) (fields : List (List ℕ)) (field : List ℕ) → AllByRecursion IsPlainField fields → IsPlainField field → AllByRecursion IsPlainField (fields_after a fields field)
-fields-fine act.EndField fields field h k = all-append IsPlainField fields (field ∷ []) h (k, tt)
-fields-fine act.EndRecord fields field h k = all-append IsPlainField fields (field ∷ []) h (k, tt)
 fields-fine act.Skip fields field h k = h
 fields-fine act.Copy fields field h k = h
+fields-fine a fields field h k = all-append IsPlainField fields (field ∷ []) h (k, tt)
 
 field-fine : (a : Action) (c : ℕ) (field : List ℕ) → (a ≡ act.Copy → IsInner c) → IsPlainField field → IsPlainField (field_after a c field)
 field-fine act.Copy c field e k = all-append IsInner field (c ∷ []) k (e refl, tt)
-field-fine act.EndField c field e k = tt
 field-fine act.Skip c field e k = k
-field-fine act.EndRecord c field e k = tt
+field-fine a c field e k = tt
 
 abbrev IsRead : Read → Type 0
 IsRead q = AllByRecursion IsPlainField q.0 × IsOpen q.1

@@ -49,10 +49,9 @@ row-run fields x (y ∷ ys) tail h =
     ∙ more ∙ rw (append_assoc fields (x ∷ []) (y ∷ ys)) refl)
 
 row-read : (row : List (List ℕ)) (tail : List ℕ) → IsPlainRow row → next_record table_config st.StartRecord [] [] (join_with_byte 44 row ++ (10 ∷ tail)) ≡ Some (row, st.StartRecord, tail)
-row-read [] tail h = absurd h.1
-row-read ([] ∷ fields) tail h = absurd h.1
 row-read ((b ∷ x) ∷ []) tail h = record-same b (x ++ (10 ∷ tail)) h.1.0 h.0.0.0.1 h.0.0.0.2 ∙ row-run [] (b ∷ x) [] tail h.0
 row-read ((b ∷ x) ∷ y ∷ ys) tail h = record-same b ((x ++ (44 ∷ join_with_byte 44 (y ∷ ys))) ++ (10 ∷ tail)) h.1.0 h.0.0.0.1 h.0.0.0.2 ∙ row-run [] (b ∷ x) (y ∷ ys) tail h.0
+row-read row tail h = absurd h.1
 
 rows-read : (rows : List (List (List ℕ))) (n : ℕ) → AllByRecursion IsPlainRow rows → length rows < n → records_from table_config n st.StartRecord (rows_text rows) ≡ rows
 unfolding records_from rows_text next_record
@@ -68,17 +67,15 @@ few-rows (row ∷ rows) = let more = few-rows rows in omega (arith, more, length
 
 strip-same : (b : ℕ) (xs : List ℕ) → (b == 0xEF) ≡ false → strip_bom (b ∷ xs) ≡ b ∷ xs
 unfolding strip_bom
-strip-same b [] e = refl
-strip-same b (c ∷ []) e = refl
 strip-same b (c ∷ d ∷ xs) e = rw e refl
+strip-same b xs e = refl
 
 strip-rows : (rows : List (List (List ℕ))) → AllByRecursion IsPlainRow rows → strip_bom (rows_text rows) ≡ rows_text rows
 unfolding rows_text strip_bom
 strip-rows [] h = refl
-strip-rows ([] ∷ rows) h = absurd h.0.1
-strip-rows (([] ∷ fields) ∷ rows) h = absurd h.0.1
 strip-rows (((b ∷ x) ∷ []) ∷ rows) h = strip-same b (x ++ (10 ∷ rows_text rows)) h.0.1.1
 strip-rows (((b ∷ x) ∷ y ∷ ys) ∷ rows) h = strip-same b ((x ++ (44 ∷ join_with_byte 44 (y ∷ ys))) ++ (10 ∷ rows_text rows)) h.0.1.1
+strip-rows rows h = absurd h.0.1
 
 -- the rows of a text that was written from plain rows are these rows
 pub rows-back : (rows : List (List (List ℕ))) → AllByRecursion IsPlainRow rows → rows_of (rows_text rows) ≡ rows

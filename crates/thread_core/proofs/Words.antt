@@ -21,7 +21,7 @@ pub use Rattle.papi_base.specs.declared.code.Code.{Code}
 pub use Rattle.papi_base.specs.declared.native.EventRef.{EventRef}
 pub use Rattle.papi_base.specs.declared.native.Native.{Native}
 pub use Rattle.papi_base.specs.declared.occurrence.Occ.{Occ}
-pub use Rattle.postfix_rules.proofs.Equal.{both}
+pub use Rattle.std.proofs.lemmas.Bool.{and_parts as both}
 pub use Rattle.postfix_rules.specs.Fitting.{IsNamed, BookFits, IsHeld}
 pub use Rattle.postfix_rules.specs.Presets.{Book, event_value, lead, rule_of_event, natives_of_event}
 pub use Rattle.postfix_rules.specs.Sameness.{same_native}

@@ -2,25 +2,12 @@
 use Rattle.std.proofs.Common.{◌≡◌, ℕ, ◌+◌, ◌<◌, ◌≤◌, List, [], ◌∷◌, ◌++◌, length, take, drop, get_or, refl, ap, sym, ◌∙◌, append_assoc, arith}
 use Rattle.std.proofs.lemmas.List.{take_more, take-append-drop, take_at, append-nil, take-append-le, length-take-le}
 use Rattle.std.proofs.Math.Seq.{take-append-add}
+use Rattle.session_laws.proofs.ByThread.{replies-append, notes-append, account-append}
 use Rattle.postfix_rules.specs.Presets.{Book}
 use Rattle.session_model.specs.declared.call.Call.{Call}
 use Rattle.event_sets.specs.AtRest.{Widths}
 use Rattle.session_model.specs.Account.{Account}
 use Rattle.session_model.specs.Step.{step, account_after, replies_to, notes_to}
-
-pub after-append : (b : Book) (w : Widths) (a : Account) (xs ys : List Call) → account_after b w a (xs ++ ys) ≡ account_after b w (account_after b w a xs) ys
-after-append b w a [] ys = refl
-after-append b w a (x ∷ xs) ys = after-append b w (step b w a x).account xs ys
-
-pub replies-append : (b : Book) (w : Widths) (a : Account) (xs ys : List Call) → replies_to b w a (xs ++ ys) ≡ replies_to b w a xs ++ replies_to b w (account_after b w a xs) ys
-replies-append b w a [] ys = refl
-replies-append b w a (x ∷ xs) ys = ap (λ r. (step b w a x).reply ∷ r) (replies-append b w (step b w a x).account xs ys)
-
-pub notes-append : (b : Book) (w : Widths) (a : Account) (xs ys : List Call) → notes_to b w a (xs ++ ys) ≡ notes_to b w a xs ++ notes_to b w (account_after b w a xs) ys
-notes-append b w a [] ys = refl
-notes-append b w a (x ∷ xs) ys =
-    ap (λ r. (step b w a x).notes ++ r) (notes-append b w (step b w a x).account xs ys)
-    ∙ sym (append_assoc (step b w a x).notes (notes_to b w (step b w a x).account xs) (notes_to b w (account_after b w (step b w a x).account xs) ys))
 
 pub replies-length : (b : Book) (w : Widths) (a : Account) (xs : List Call) → length (replies_to b w a xs) ≡ length xs
 replies-length b w a [] = refl
@@ -32,7 +19,7 @@ call_more xs k c h e = take_more xs k c h ∙ ap (λ z. take k xs ++ z ∷ []) e
 
 pub after-more : (b : Book) (w : Widths) (a : Account) (xs : List Call) (k : ℕ) (c : Call) → k < length xs → get_or xs k c ≡ c
     → account_after b w a (take (k + 1) xs) ≡ (step b w (account_after b w a (take k xs)) c).account
-after-more b w a xs k c h e = ap (account_after b w a) (call_more xs k c h e) ∙ after-append b w a (take k xs) (c ∷ [])
+after-more b w a xs k c h e = ap (account_after b w a) (call_more xs k c h e) ∙ account-append b w a (take k xs) (c ∷ [])
 
 pub replies-more : (b : Book) (w : Widths) (a : Account) (xs : List Call) (k : ℕ) (c : Call) → k < length xs → get_or xs k c ≡ c
     → replies_to b w a (take (k + 1) xs) ≡ replies_to b w a (take k xs) ++ (step b w (account_after b w a (take k xs)) c).reply ∷ []

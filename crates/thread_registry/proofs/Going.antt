@@ -19,6 +19,7 @@ use Rattle.thread_core.specs.Stands.{CoreStands}
 use Rattle.thread_session.specs.Follows.{FollowsTo, IsCutTo, expecting}
 use Rattle.thread_session.specs.Prospects.{CanCome}
 use Rattle.thread_session.specs.Stands.{IsReady, Stands, to_come}
+use Rattle.thread_session.proofs.Growing.{grown_more}
 use Rattle.thread_registry.specs.JobView.{JobView, Worked, Finished, FinishedTo, CutShort, WorkedOrIdle, WorkedOrIdleOn, seen_of}
 use Rattle.thread_registry.proofs.Folds.{after-more, replies-more, notes-more, replies-front, notes-part}
 use Rattle.thread_registry.proofs.Faults.{kept-kept, kept-rose, rose-kept}
@@ -58,9 +59,6 @@ pub record Going (book : Book) (x y : JobView) (k : ℕ) : Type 0 where
   pub made : (made : List Reply) × Made x y k made
   pub along : (a : Account) → Stands book x.session a → Along book a x y k
   pub towards : (left : Coming) → CanCome y.session.reader left → GoingTo book x y k left
-
-grown-more : (a b c : List Note) → Grown a b → Grown b c → Grown a c
-grown-more a b c h i = (h.0 ++ i.0, i.1 ∙ (ap (λ v. v ++ i.0) h.1 ∙ append_assoc a h.0 i.0))
 
 -- what a call gave
 pub record Called (book : Book) (y z : JobView) (c : Call) (r : Reply) : Type 0 where
@@ -166,7 +164,7 @@ going-more book x y z k c r g h e called p q rs =
       shape = called.shape ∙ g.shape;
       ready = called.ready;
       faults = kept-kept (fault_count x.session.reader) (fault_count y.session.reader) (fault_count z.session.reader) g.faults called.faults;
-      grown = grown-more x.notes y.notes z.notes g.grown called.grown;
+      grown = grown_more x.notes y.notes z.notes g.grown called.grown;
       made = (g.made.0 ++ r ∷ [], made-more x y z k r g.made.0 g.faults called.faults called.faulty rs g.made.1);
       along = λ a s. along-more book x y z k c r a h e g.shape called rs (g.along a s);
       towards =
@@ -273,7 +271,7 @@ going-cut book x y z k c g h e refused p q rs =
       shape = refused.shape ∙ g.shape;
       ready = refused.ready;
       faults = kept-kept (fault_count x.session.reader) (fault_count y.session.reader) (fault_count z.session.reader) g.faults refused.faults;
-      grown = grown-more x.notes y.notes z.notes g.grown refused.grown;
+      grown = grown_more x.notes y.notes z.notes g.grown refused.grown;
       replied = (
         g.made.0,
         record {

@@ -22,7 +22,7 @@ use Rattle.thread_session.specs.Prospects.{CanCome}
 use Rattle.thread_session.proofs.Endings.{core_at}
 use Rattle.thread_session.proofs.Possible.{before_answer}
 use Rattle.thread_session.proofs.Runs.{Running, notes_over-append}
-use Rattle.thread_session.proofs.Telling.{gave_more}
+use Rattle.stream_reader.proofs.Giving.{gave_more}
 
 pub cut_at : (book : Book) (old : SessionView) (core core_then : CoreView) (reader reader_then : ReaderView) (before after after_then : List Note) (k count n thread set : ℕ) (passed : List ℕ) (o : Occ)
     → k < n

@@ -22,7 +22,7 @@ use Rattle.thread_session.specs.Prospects.{CanCome}
 use Rattle.thread_session.proofs.Possible.{came_to_mark, nothing_left}
 use Rattle.thread_session.proofs.Outcomes.{ran_to, short, whole}
 use Rattle.thread_session.proofs.Runs.{Running}
-use Rattle.thread_session.proofs.Telling.{Closed, GaveAll, gave_mark}
+use Rattle.stream_reader.proofs.Giving.{Closed, GaveAll, gave_mark}
 
 -- a core stands whatever is to come
 pub core_at : (book : Book) (core : CoreView) (a : Account) (rest : List Occ) (mark : Mark) → CoreStands book core a → CoreStands book core (record a { rest = rest; mark = mark })

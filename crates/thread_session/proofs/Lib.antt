@@ -1,4 +1,3 @@
-pub mod Telling
 pub mod Possible
 pub mod Runs
 pub mod Outcomes

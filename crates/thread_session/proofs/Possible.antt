@@ -2,7 +2,7 @@
 use Rattle.std.proofs.Common.{◌≡◌, ◌⊎◌, ℕ, true, List, [], ◌∷◌, ◌++◌, refl, ap, ap₂, sym, ◌∙◌, subst, append-nil, append_assoc, IfSome, Option, Some, None, inl, inr}
 use Rattle.std.specs.Option.{option_map}
 use Rattle.papi_base.specs.Outside.{Tape}
-use Rattle.papi_base.specs.Streams.{Coming, Mark, Dry, Bad, Fault}
+use Rattle.papi_base.specs.Streams.{Coming, Mark, Dry}
 use Rattle.papi_base.specs.declared.outside.Ending.{Ending}
 use Rattle.papi_base.specs.declared.occurrence.Occ.{Occ}
 use Rattle.stream_reader.specs.declared.next.Next.{Next}
@@ -49,8 +49,7 @@ came_more old was now os o came takes later h =
 
 at_end : (m : Mark) → follows (at_mark m) nothing ≡ record { rest = []; mark = m }
 at_end Dry = refl
-at_end (Bad n c) = refl
-at_end Fault = refl
+at_end m = refl
 
 -- the mark was given, and nothing comes after it
 pub came_to_mark : (old was now : ReaderView) (os : List Occ) (m : Mark) → ((later : Coming) → CanCome was later → CanCome old (record { rest = os ++ later.rest; mark = later.mark })) → Takes was (at_mark m) now → now.over ≡ true →

@@ -16,7 +16,7 @@ use Rattle.thread_session.specs.SessionView.{AreInStep, SessionView}
 use Rattle.thread_session.specs.Follows.{consuming}
 use Rattle.thread_session.specs.Prospects.{CanCome}
 use Rattle.thread_session.proofs.Possible.{came_more}
-use Rattle.thread_session.proofs.Telling.{GaveAll, gave_more, gave_none}
+use Rattle.stream_reader.proofs.Giving.{GaveAll, gave_more, gave_none}
 
 pub notes_over-append : (book : Book) (thread : ℕ) (sets : List (Option Kept)) (past os ps : List Occ) → notes_over book thread sets past (os ++ ps) ≡ notes_over book thread sets past os ++ notes_over book thread sets (past ++ os) ps
 notes_over-append book thread sets past [] ps = ap (λ (xs : List Occ). notes_over book thread sets xs ps) (sym (append-nil past))

@@ -6,7 +6,7 @@ use Rattle.std.proofs.lemmas.List.{length-set, get_or-set_same, set-get_or}
 use Rattle.session_model.specs.Faces.{at}
 pub use Rattle.std.proofs.lemmas.Option.{slice_get-map as get-map}
 pub use Rattle.multiplex.proofs.Grouping.{all_at}
-pub use Rattle.event_sets.proofs.Steps.{drop_at}
+pub use Rattle.papi_base.proofs.Steps.{drop_at}
 
 pub get_at : {X : Type 0} (xs : List X) (i : ℕ) → i < length xs → (x : X) × (slice_get xs i ≡ Some x)
 get_at [] i h = absurd (omega arith)

@@ -5,7 +5,7 @@ use Rattle.thread_slots.proofs.Words.{slice_get_within, get_or_from_slice_get, N
 use Rattle.thread_slots.proofs.Words.{Widths, set_natives, widths_at, leads, threshold_among, Pin, pins_from, ArePinned, IsFit}
 use Rattle.std.proofs.Common.{◌<◌, ◌^◌, true, ◌||◌}
 use Rattle.std.specs.Prelude.{is_some}
-use Rattle.std.proofs.lemmas.Bool.{cases_Bool, ltb-true}
+use Rattle.std.proofs.lemmas.Bool.{cases_Bool, ltb-true, and_parts}
 use Rattle.std.proofs.lemmas.List.{length-map}
 use Rattle.std.proofs.Math.Pow.{pow_mono}
 use Rattle.counter_alloc.specs.Assignments.{IsAssignment, Has}
@@ -15,7 +15,7 @@ use Rattle.counter_alloc.proofs.Listed.{lists_each, lists_some}
 use Rattle.counter_alloc.proofs.Sets.{has_below}
 use Rattle.postfix_rules.specs.Presets.{natives_of_event}
 use Rattle.postfix_rules.specs.Sameness.{among}
-use Rattle.postfix_rules.proofs.Equal.{native_is, native_self, both}
+use Rattle.postfix_rules.proofs.Equal.{native_is, native_self}
 use Rattle.postfix_rules.proofs.Joined.{each_is_among, is_among, none_twice}
 use Rattle.event_sets.specs.AtRest.{least_width}
 use Rattle.thread_slots.specs.Pinned.{pins_of}
@@ -122,7 +122,7 @@ above (suc m) h = (m, refl)
 
 found_here : (book : Book) (n : Native) (e : EventRef) (es : List EventRef) (t : ℕ) (ts : List ℕ) → (nat_lt 0 t && leads book n e) ≡ true → Found book n (e ∷ es) (t ∷ ts)
 found_here book n e es t ts h =
-    let parts = both (nat_lt 0 t) (leads book n e) h in
+    let parts = and_parts (nat_lt 0 t) (leads book n e) h in
     let m = above t (ltb-true 0 t parts.0) in
     record { index = 0; event = e; more = m.0; is = refl; at = ap Some m.1; leading = leads_is book n e parts.1; threshold = cond-true (nat_lt 0 t && leads book n e) t (threshold_among book n es ts) h ∙ m.1 }
 

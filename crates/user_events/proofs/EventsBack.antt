@@ -5,6 +5,7 @@ use Rattle.std.specs.Prelude.{◌&&◌, if◌then◌else◌}
 use Rattle.std.specs.List.{AllByRecursion}
 use Rattle.std.specs.Str.{bytes_eq}
 use Rattle.std.proofs.lemmas.List.{length-append, map-append}
+use Rattle.std.proofs.lemmas.Bool.{or_parts}
 use Rattle.table_rows.specs.Texts.{Text}
 use Rattle.preset_csv.specs.Lines.{Derivation, Line, event, gives, preset}
 use Rattle.preset_csv.specs.Presets.{read_from}
@@ -22,7 +23,7 @@ use Rattle.user_events.specs.Rows.{among, event_read, events_of, events_read, li
 use Rattle.user_events.specs.Steps.{put_event}
 use Rattle.user_events.specs.declared.event.TheConstants.{MOST_USER_EVENTS}
 use Rattle.user_events.proofs.EventLines.{event_row, row_back}
-use Rattle.user_events.proofs.MoreRows.{or-parts, put-more, same-order}
+use Rattle.user_events.proofs.MoreRows.{put-more, same-order}
 use Rattle.user_events.proofs.Putting.{put-last}
 
 -- ---- what a written row is judged as
@@ -38,8 +39,7 @@ row-judged s (entry.Def d) h g = def-judged infix_entry s d h
 
 row-symbol : (s : Text) (x : Entry) → (row_back s x).symbol ≡ s
 row-symbol s entry.Missing = refl
-row-symbol s entry.Uncomputed = refl
-row-symbol s (entry.Def d) = refl
+row-symbol s x = refl
 
 pub named : (es : List EventView) → AllByRecursion IsEvent es → AllByRecursion IsNamed (map event_row es)
 named [] h = tt
@@ -100,7 +100,7 @@ no-fault name above (r ∷ rs) es s h k le =
 
 among-more : (n : Text) (ns : List Text) (s : Text) → among n ns ≡ false → bytes_eq n s ≡ false → among n (ns ++ s ∷ []) ≡ false
 among-more n [] s p q = rw q refl
-among-more n (m ∷ ns) s p q = let o = or-parts (bytes_eq n m) (among n ns) p in rw o.0 (among-more n ns s o.1 q)
+among-more n (m ∷ ns) s p q = let o = or_parts (bytes_eq n m) (among n ns) p in rw o.0 (among-more n ns s o.1 q)
 
 abbrev IsNew : List EventView → Text → Type 0
 IsNew done n = among n (names_of done) ≡ false

@@ -32,15 +32,11 @@ formula-gives natives (Err refused) = tt
 
 typed-gives : (t : DerivedType) (formula : Text) (natives : List Text) → Gives (typed_entry infix_entry t formula natives)
 typed-gives derived.NotDerived formula natives = either (length natives == 1) (Ok (def_entry kind.NotDerived None natives)) (Ok entry.Uncomputed) tt tt
-typed-gives derived.Add formula natives = tt
-typed-gives derived.Sub formula natives = tt
 typed-gives derived.Postfix formula natives =
     either (Presets.has_rate formula) (Ok entry.Uncomputed) (formula_entry natives (formula_of (length natives) formula)) tt (formula-gives natives (formula_of (length natives) formula))
 typed-gives derived.Infix formula natives =
     either (has_rate formula) (Ok entry.Uncomputed) (formula_entry natives (infix_of (length natives) formula)) tt (formula-gives natives (infix_of (length natives) formula))
-typed-gives derived.Ps formula natives = tt
-typed-gives derived.AddPs formula natives = tt
-typed-gives derived.Cmpd formula natives = tt
+typed-gives t formula natives = tt
 
 natives-give : (t : DerivedType) (formula : Text) (natives : Result (List Text) PresetCause) → Gives (kept_entry infix_entry t formula natives)
 natives-give t formula (Ok natives) = either (is_empty natives) (Ok entry.Uncomputed) (typed_entry infix_entry t formula natives) tt (typed-gives t formula natives)

@@ -6,6 +6,7 @@ use Rattle.std.specs.List.{AllByRecursion}
 use Rattle.std.specs.Str.{bytes_eq}
 use Rattle.std.proofs.lemmas.List.Sums.{fold-append}
 use Rattle.std.proofs.lemmas.Slice.Eq.{bytes_eq-Decides}
+use Rattle.std.proofs.lemmas.Bool.{or_parts}
 use Rattle.table_rows.specs.Texts.{Text}
 use Rattle.table_rows.proofs.Texts.{all-append}
 use Rattle.preset_csv.specs.Lines.{Derivation, Line, cpu, event, gives, other, preset}
@@ -31,14 +32,10 @@ same-order s t e = go (bytes_eq t s) (bytes_eq-Decides t s) (bytes_eq-Decides s 
     go true d k = let yes : bytes_eq s t ≡ true = k.1 (sym (d.0 refl)) in cc (e, yes)
     go false d k = refl
 
-pub or-parts : (a b : Bool) → (a || b) ≡ false → (a ≡ false) × (b ≡ false)
-or-parts true b e = cc e
-or-parts false b e = (refl, e)
-
 distinct-last : (ns : List Text) (s : Text) → among s ns ≡ false → Distinct ns → Distinct (ns ++ s ∷ [])
 distinct-last [] s e d = (tt, tt)
 distinct-last (n ∷ ns) s e d =
-    let p = or-parts (bytes_eq s n) (among s ns) e in
+    let p = or_parts (bytes_eq s n) (among s ns) e in
     (all-append (λ (u : Text). bytes_eq n u ≡ false) ns (s ∷ []) d.0 (same-order s n p.0, tt), distinct-last ns s p.1 d.1)
 
 distinct-added : (ns : List Text) (r : Derivation) → Distinct ns → Distinct (name_added ns r)
@@ -112,9 +109,7 @@ named-ok names r x e = go (is_event_name r.symbol) (is_too_many names r.symbol) 
     none : (j : Result Entry PresetCause) → limited true j ≡ Ok x → ⊥
     none (Ok y) h = cc h
     none (Err cause.NoCpu) h = cc h
-    none (Err cause.BadField) h = cc h
-    none (Err cause.OverLimit) h = cc h
-    none (Err (cause.BadFormula why)) h = cc h
+    none j h = cc h
 
     go : (b c : Bool) → is_event_name r.symbol ≡ b → is_too_many names r.symbol ≡ c → (if b then limited c (event_judged r) else Err cause.BadField) ≡ Ok x → Named names r x
     go true true p q h = absurd (none (event_judged r) h)
@@ -150,7 +145,5 @@ events-more name above line h = ap events_of (read-more (event_read name) [] abo
         put-more rows r x.0 n.entry ∙ sym (ap (put_judged (events_of rows) r.symbol) (ap (λ (ns : List Text). named_entry ns r) (names-are rows) ∙ x.1))
 
     any : (line : Line) → events_more_cause name above line → events_of (rows ++ event_read name above line) ≡ events_more (group_at name above) (events_of rows) line
-    any other h = same-events rows
-    any (cpu n) h = same-events rows
-    any (gives preset r) h = same-events rows
     any (gives event r) h = go r (holds name above) h
+    any line h = same-events rows

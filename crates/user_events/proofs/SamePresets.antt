@@ -26,14 +26,8 @@ use Rattle.table_rows.specs.Tables.{first_fault}
 use Rattle.user_events.specs.Rows.{event_read, events_of, extended_fault, extended_in, line_cause, names_in}
 
 same-typed : (t : DerivedType) (formula : Text) (natives : List Text) → (Some t ≡ Some derived.Infix → ⊥) → typed_entry infix_entry t formula natives ≡ typed_entry uncomputed t formula natives
-same-typed derived.NotDerived formula natives h = refl
-same-typed derived.Add formula natives h = refl
-same-typed derived.Sub formula natives h = refl
-same-typed derived.Postfix formula natives h = refl
 same-typed derived.Infix formula natives h = absurd (h refl)
-same-typed derived.Ps formula natives h = refl
-same-typed derived.AddPs formula natives h = refl
-same-typed derived.Cmpd formula natives h = refl
+same-typed t formula natives h = refl
 
 same-judged : (r : Derivation) → IsOrdinary r → event_judged r ≡ judged r
 unfolding judged_by
@@ -60,11 +54,10 @@ same-lines (fields ∷ rows) h = ap₂ (λ (x : Line) (xs : List Line). x ∷ xs
 -- ---- the faults
 
 same-cause : (name : Text) (above : List Line) (x : Line) → IsOfPresets x → line_cause name above x ≡ Of.line_cause judged name above x
-same-cause name above other h = refl
-same-cause name above (cpu n) h = refl
 same-cause name above (gives preset r) h =
     ap (λ (j : Result Entry PresetCause). if not (has_cpu above) then Some cause.NoCpu else cause_if (is_read name above r) j) (same-judged r h)
 same-cause name above (gives event r) h = absurd h
+same-cause name above x h = refl
 
 same-fault : (name : Text) (above lines : List Line) → AllByRecursion IsOfPresets lines → first_fault (line_cause name) above lines ≡ first_fault (Of.line_cause judged name) above lines
 unfolding first_fault

@@ -11,7 +11,7 @@ use Rattle.table_rows.specs.Texts.{Text, text_at}
 use Rattle.table_rows.specs.declared.fault.RowRefusal.{RowRefusal}
 use Rattle.table_rows.proofs.TablesRead.{takes-as}
 use Rattle.preset_csv.specs.Lines as Presets
-use Rattle.preset_csv.specs.Lines.{Derivation, Line, cpu, derivation_of, event, gives, other, preset}
+use Rattle.preset_csv.specs.Lines.{Derivation, Line, cpu, derivation_of, event, gives}
 use Rattle.preset_csv.specs.Presets.{cause_if, has_cpu, holds, presets, read_from}
 use Rattle.preset_csv.specs.Steps.{group_at}
 use Rattle.preset_csv.specs.Tables.{IsEntry, IsTable, is_field}
@@ -95,25 +95,19 @@ begun-cause true o e = e
 begun-cause false o e = cc e
 
 kept-more : (g : Group) (xs : List EventView) (line : Line) → IsLine line → cause_more g xs line ≡ None → IsKept xs → IsKept (events_more g xs line)
-kept-more g xs other l e k = k
-kept-more g xs (cpu n) l e k = k
-kept-more g xs (gives preset r) l e k = k
 kept-more g xs (gives event r) l e k = event-put g.holds xs r l k (begun-cause g.begun _ e)
+kept-more g xs line l e k = k
 
 -- ---- the rows of a file
 
 cause-same : (name : Text) (above : List Line) (line : Line) → line_cause name above line ≡ cause_more (group_at name above) (events_of (events_read name above)) line
-cause-same name above other = refl
-cause-same name above (cpu n) = refl
-cause-same name above (gives preset r) = refl
 cause-same name above (gives event r) =
     ap (λ (ns : List Text). if not (has_cpu above) then Some cause.NoCpu else cause_if (holds name above) (named_entry ns r)) (sym (names-are (events_read name above)))
+cause-same name above line = refl
 
 read-cause : (name : Text) (above : List Line) (line : Line) → line_cause name above line ≡ None → events_more_cause name above line
-read-cause name above other e = tt
-read-cause name above (cpu n) e = tt
-read-cause name above (gives preset r) e = tt
 read-cause name above (gives event r) e = begun-cause (has_cpu above) (cause_if (holds name above) (named_entry (names_in (events_read name above)) r)) e
+read-cause name above line e = tt
 
 pub none-taken : (name : Text) (s : Taking) → s.group ≡ record { begun = false; closed = false; holds = false } → s.entries ≡ replicate 26 entry.Missing → s.events ≡ [] → GivePresetsAndEvents name [] s
 unfolding read_from names_in
@@ -149,10 +143,8 @@ unfolding names_in
 no-events name lines e h = ap events_of (none-read (event_read name) name unheld [] lines e tt h)
   where
     unheld : (above : List Line) (line : Line) → holds name above ≡ false → event_read name above line ≡ []
-    unheld above other h = refl
-    unheld above (cpu n) h = refl
-    unheld above (gives preset r) h = refl
     unheld above (gives event r) h = rw h refl
+    unheld above line h = refl
 
 pub extended-kept : (name : Text) (bytes : List ℕ) (s : Taking) → GivePresetsAndEvents name (lines_of bytes) s → IsExtended (record { presets = record { cpu = name; rows = s.entries }; events = s.events })
 extended-kept name bytes s t =

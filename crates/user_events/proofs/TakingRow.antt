@@ -70,12 +70,9 @@ Refuses j (refusal.Cause why) = j ≡ Err why
 Refuses j refusal.Memory = Unit {0}
 
 over : (j : Result Entry PresetCause) (judged : Result Entry (RowRefusal PresetCause)) (refused : RowRefusal PresetCause) → Judges j judged → IsOverLimit judged refused → Refuses (limited true j) refused
-over j (Ok e) refused h o = subst (Refuses (limited true j)) (sym o) (ap (limited true) h)
-over j (Err (refusal.Cause cause.NoCpu)) refused h o = subst (Refuses (limited true j)) (sym o) (ap (limited true) h)
-over j (Err (refusal.Cause cause.BadField)) refused h o = subst (Refuses (limited true j)) (sym o) (ap (limited true) h)
-over j (Err (refusal.Cause cause.OverLimit)) refused h o = subst (Refuses (limited true j)) (sym o) (ap (limited true) h)
-over j (Err (refusal.Cause (cause.BadFormula why))) refused h o = subst (Refuses (limited true j)) (sym o) (ap (limited true) h)
 over j (Err refusal.Memory) refused h o = subst (Refuses (limited true j)) (sym o) tt
+over j (Err (refusal.Cause cause.NoCpu)) refused h o = subst (Refuses (limited true j)) (sym o) (ap (limited true) h)
+over j judged refused h o = subst (Refuses (limited true j)) (sym o) (ap (limited true) h)
 
 refuses : (holds : Bool) (j : Result Entry PresetCause) (refused : RowRefusal PresetCause) (fields : List Text) (old : List EventView) → holds ≡ true
     → named_entry (names_of old) (derivation_of fields) ≡ j → Refuses j refused

@@ -13,6 +13,7 @@ use Rattle.chooser_list.specs.Choosing.{takes}
 use Rattle.chooser_list.proofs.Natives.{component_events, component_not_taken}
 use Rattle.chooser_list.proofs.Rows.{kept_more}
 use Rattle.chooser_list.proofs.listing.keep_component.Goals as goal
+use Rattle.chooser_list.proofs.listing.keep_component.Goals.{In-Some}
 
 row_at : (items : List EventRow) (row : ℕ) (e : EventRow) → row < length items → e ≡ get_or items row e → slice_get (map event_text items) row ≡ Some (event_text e)
 row_at items row e small is = slice_get-map event_text items row ∙ ap (option_map event_text) (slice_get-get_or items row e small ∙ ap Some (sym is))
@@ -21,12 +22,16 @@ all_rows : (comp : ℕ) (c : ComponentText) (n : ℕ) → length c.events ≡ n 
 unfolding natives_of_component
 all_rows comp c n is = ap (λ k. flat_map (natives_in_row comp c) (range_with_len 0 k)) is
 
+-- the component is in the tables
+here : (c : In-Some) → slice_get c.args.catalog.now.tables c.args.comp ≡ Some (component_text c.in-Some.component.now)
+here c = sym (ap (λ (ts : List ComponentText). slice_get ts c.args.comp) c.tables.ensures.tables) ∙ sym c.in-Some.ensures
+
 pub returns-in_default-opened : goal.returns-in_default-opened
 returns-in_default-opened c =
     let comp = c.args.comp in
     let keeps = takes c.args.catalog.now c.args.set.now.rest in
     let component = component_text c.in-Some.component.now in
-    let here : slice_get c.args.catalog.now.tables comp ≡ Some component = sym (ap (λ (ts : List ComponentText). slice_get ts comp) c.tables.ensures.tables) ∙ sym c.in-Some.ensures in
+    let here = here (goal.at.returns-in_default-opened c).In-Some in
     sym (ap (λ (es : List EventRef). c.args.events.now.items ++ es)
     (ap (λ o. filter keeps (option_map_or (natives_of_component comp) o [])) here
     ∙ component_not_taken c.args.catalog.now c.args.set.now.rest comp c.in_default-opened.ensures.other component) ∙ append-nil c.args.events.now.items)
@@ -36,7 +41,7 @@ overflow_cast-row c =
     let comp = c.args.comp in
     let tables = c.args.catalog.now.tables in
     let component = component_text c.in-Some.component.now in
-    let here : slice_get tables comp ≡ Some component = sym (ap (λ (ts : List ComponentText). slice_get ts comp) c.tables.ensures.tables) ∙ sym c.in-Some.ensures in
+    let here = here (goal.at.overflow_cast-row c).In-Some in
     let few = component_events tables comp component c.requires.kept here in
     omega (arith, few, length-map c.in-Some.component.now.events.items event_text, c.loop-row-test.true, c.len-row-end.ensures)
 
@@ -46,7 +51,7 @@ keep_natives-requires-clause-here c =
     let row = c.loop-row.row in
     let items = c.in-Some.component.now.events.items in
     let component = component_text c.in-Some.component.now in
-    let here : slice_get c.args.catalog.now.tables comp ≡ Some component = sym (ap (λ (ts : List ComponentText). slice_get ts comp) c.tables.ensures.tables) ∙ sym c.in-Some.ensures in
+    let here = here (goal.at.keep_natives-requires-clause-here c).In-Some in
     ap (option_and_then (λ (x : ComponentText). slice_get x.events row)) here
     ∙ row_at items row c.index-event.result.now (omega (arith, c.loop-row-test.true, c.len-row-end.ensures)) c.index-event.ensures
 
@@ -66,7 +71,7 @@ returns c =
     let comp = c.args.comp in
     let keeps = takes c.args.catalog.now c.args.set.now.rest in
     let component = component_text c.in-Some.component.now in
-    let here : slice_get c.args.catalog.now.tables comp ≡ Some component = sym (ap (λ (ts : List ComponentText). slice_get ts comp) c.tables.ensures.tables) ∙ sym c.in-Some.ensures in
+    let here = here (goal.at.returns c).In-Some in
     let all : length component.events ≡ c.loop-row.row =
     omega (arith, length-map c.in-Some.component.now.events.items event_text, c.loop-row-test.false, c.loop-row.auto.row-end, c.len-row-end.ensures) in
     c.loop-row.invariant

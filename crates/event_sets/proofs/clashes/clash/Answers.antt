@@ -1,8 +1,9 @@
 -- what the matching answers is what the definition says
 use Rattle.std.proofs.Common.{sym, ap, ◌∙◌, Some, List}
 use Rattle.papi_base.specs.declared.native.Native.{Native}
+use Rattle.papi_base.proofs.Steps.{none_of}
 use Rattle.event_sets.specs.declared.refusal.Clash.{Clash}
-use Rattle.event_sets.proofs.Clashing.{a_clash, are_masks, no_clash, none_of}
+use Rattle.event_sets.proofs.Clashing.{a_clash, are_masks, no_clash}
 use Rattle.event_sets.proofs.clashes.clash.Goals as goal
 
 pub returns-in-Ok-clause-clash : goal.returns-in-Ok-clause-clash

@@ -2,7 +2,7 @@
 use Rattle.std.proofs.Common.{◌≡◌, ◌<◌, ◌∷◌, [], ◌==◌, true, false, arith, sym, ◌∙◌, length, length-append}
 use Rattle.std.specs.Int.{bit_at}
 use Rattle.event_sets.proofs.Clashing.{member_joins, member_not}
-use Rattle.event_sets.proofs.Steps.{get_at}
+use Rattle.papi_base.proofs.Steps.{get_at}
 use Rattle.event_sets.proofs.clashes.members.Goals as goal
 use Rattle.event_sets.proofs.clashes.members.Goals.{then-is_member, else-is_member}
 

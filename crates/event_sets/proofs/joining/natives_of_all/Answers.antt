@@ -3,7 +3,7 @@ use Rattle.std.proofs.Common.{◌≡◌, ◌+◌, drop, length, ap, sym, ◌∙�
 use Rattle.postfix_rules.specs.Presets.{natives_after, natives_of, natives_of_event}
 use Rattle.postfix_rules.specs.Sameness.{joined_by}
 use Rattle.event_sets.proofs.Removed.{after_grows}
-use Rattle.event_sets.proofs.Steps.{drop_at}
+use Rattle.papi_base.proofs.Steps.{drop_at}
 use Rattle.event_sets.proofs.joining.natives_of_all.Goals as goal
 
 pub join-requires : goal.join-requires

@@ -1,7 +1,7 @@
 use Rattle.std.proofs.Common.{◌≡◌, ◌<◌, ◌∷◌, [], length, take, ap, sym, ◌∙◌, arith, slice_get, Some, length-append, length-take-le}
 use Rattle.papi_base.proofs.InPlace.{number_at}
 use Rattle.event_sets.proofs.Removed.{goes_at, stays_at}
-use Rattle.event_sets.proofs.Steps.{get_at}
+use Rattle.papi_base.proofs.Steps.{get_at}
 use Rattle.event_sets.proofs.removal.counts_without.Goals as goal
 use Rattle.event_sets.proofs.removal.counts_without.Goals.{then-i-place, else-i-place}
 

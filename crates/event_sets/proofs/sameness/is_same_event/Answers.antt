@@ -1,5 +1,5 @@
 use Rattle.std.proofs.Common.{◌∙◌}
-use Rattle.event_sets.proofs.Derived.{events_same}
+use Rattle.postfix_rules.proofs.AllFields.{events_same}
 use Rattle.event_sets.proofs.sameness.is_same_event.Goals as goal
 
 pub returns : goal.returns

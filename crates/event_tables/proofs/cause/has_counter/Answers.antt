@@ -3,8 +3,8 @@ use Rattle.std.specs.Prelude.{string_bytes}
 use Rattle.std.proofs.lemmas.Iterator.{YieldsList-from_slice}
 use Rattle.std.proofs.lemmas.Iterator.Search.{any_from_yields_List}
 use Rattle.std.specs.Str.{bytes_eq}
+use Rattle.papi_base.proofs.Steps.{list_any-map}
 use Rattle.event_tables.specs.Views.{counter_text}
-use Rattle.event_tables.proofs.Searches.{list_any-map}
 use Rattle.event_tables.proofs.cause.has_counter.Goals as goal
 
 pub returns : goal.returns

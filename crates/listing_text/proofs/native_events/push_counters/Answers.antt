@@ -1,10 +1,11 @@
 use Rattle.std.proofs.Common.{ℕ, Bool, ◌∙◌, ◌==◌, ◌+◌, ◌∷◌, ◌++◌, ap, map, string_bytes, sym}
 use Rattle.std.specs.Int.{bit_at}
 use Rattle.std.specs.List.{range_with_len}
+use Rattle.papi_base.proofs.Growing.{range_more}
 use Rattle.event_tables.specs.Views as Views
 use Rattle.listing_text.specs.Lines.{Text}
 use Rattle.listing_text.specs.NativeEvents.{counter_text}
-use Rattle.listing_text.proofs.Listed.{kept, passed, pushed, range_more, unmoved}
+use Rattle.listing_text.proofs.Listed.{kept, passed, pushed, unmoved}
 use Rattle.listing_text.proofs.Tables.{counter_named}
 use Rattle.listing_text.proofs.native_events.push_counters.Goals as goal
 use Rattle.listing_text.proofs.native_events.push_counters.Goals.{then-has+in_ok-write, else-has}

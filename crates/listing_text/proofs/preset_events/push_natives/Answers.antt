@@ -4,9 +4,10 @@ use Rattle.std.specs.Option.{option_map_or}
 use Rattle.std.specs.Prelude.{slice_get}
 use Rattle.name_encoder.specs.Canonical.{canonical}
 use Rattle.papi_base.specs.declared.native.Native.{Native}
+use Rattle.papi_base.proofs.Growing.{range_more}
 use Rattle.listing_text.specs.Lines.{Text}
 use Rattle.listing_text.specs.PresetEvents.{native_line}
-use Rattle.listing_text.proofs.Listed.{pushed, range_more}
+use Rattle.listing_text.proofs.Listed.{pushed}
 use Rattle.listing_text.proofs.preset_events.push_natives.Goals as goal
 
 pub loop-place-preserved : goal.loop-place-preserved

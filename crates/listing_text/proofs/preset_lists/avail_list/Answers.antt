@@ -1,8 +1,9 @@
 use Rattle.std.proofs.Common.{◌≡◌, ◌∙◌, ◌+◌, ◌++◌, ap, arith, filter, string_bytes, sym}
 use Rattle.std.specs.List.{flat_map, range_with_len}
+use Rattle.papi_base.proofs.Growing.{range_more, both}
 use Rattle.component_table.specs.Catalogs.{row_count}
 use Rattle.listing_text.specs.PresetLists.{counts_line, heading, is_listed, preset_list, row_line, rows}
-use Rattle.listing_text.proofs.Listed.{joined, kept, passed, pushed, range_more, unmoved}
+use Rattle.listing_text.proofs.Listed.{kept, passed, pushed, unmoved}
 use Rattle.listing_text.proofs.preset_lists.avail_list.Goals as goal
 use Rattle.listing_text.proofs.preset_lists.avail_list.Goals.{then-is_listed+in_ok-push_row, else-is_listed}
 
@@ -30,6 +31,6 @@ returns c =
     let all : c.loop-row.row ≡ row_count catalog = omega (arith, c.loop-row-test.false, c.loop-row.auto.row-end, c.rows-row-end.ensures.rows) in
     record {
       text =
-          joined heading (string_bytes c.loop-row.text) _ (flat_map (row_line catalog) (filter p (rows catalog))) (counts_line catalog)
+          both heading (string_bytes c.loop-row.text) _ (flat_map (row_line catalog) (filter p (rows catalog))) (counts_line catalog)
           (c.loop-row.invariant ∙ ap (λ k. heading ++ flat_map (row_line catalog) (filter p (range_with_len 0 k))) all) c.in_ok-push_counts.ensures;
     }

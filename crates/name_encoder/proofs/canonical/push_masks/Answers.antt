@@ -20,7 +20,6 @@ pub loop-m-preserved : goal.loop-m-preserved
 loop-m-preserved c =
     let x = c.m-item.result in
     let name = string_bytes c.loop-m.name in
-    let on = c.loop-m.left % 2 == 1 in
     let here : Text = if c.loop-m.left % 2 == 1 then 58 ∷ (mask_text (get_or c.args.masks.now c.loop-m.m-index c.m-item.result)).name else [] in
     let tail : Text = masks_text (c.loop-m.left / 2) (map mask_text (drop (c.loop-m.m-index + 1) c.args.masks.now)) in
     let more = masks-more c.loop-m.left c.args.masks.now c.loop-m.m-index x c.loop-m-test.true in

@@ -1,8 +1,9 @@
 use Rattle.std.proofs.Common.{◌≡◌, ◌∙◌, None, sym, ap, rules, arith}
 use Rattle.std.specs.Prelude.{option_map}
+use Rattle.papi_base.proofs.Steps.{not_given}
 use Rattle.name_encoder.specs.Views.{found_text, parts_split}
 use Rattle.name_encoder.proofs.Searching.{component-here, component-later, component-never}
-use Rattle.name_encoder.proofs.Unnamed.{given-none, unnamed}
+use Rattle.name_encoder.proofs.Unnamed.{unnamed}
 use Rattle.name_encoder.proofs.found.find.Goals as goal
 
 pub returns-in-Some-clause-found : goal.returns-in-Some-clause-found
@@ -20,4 +21,4 @@ pub returns-in_err-name-clause-found : goal.returns-in_err-name-clause-found
 returns-in_err-name-clause-found c =
     let none : c.from_residual.result ≡ None = search rules in
     ap (option_map found_text) none
-    ∙ sym (unnamed (parts_split c.args.parts.now) 0 c.args.tables.now (given-none _ _ c.in_err-name.ensures) c.components-components.ensures.kept.each)
+    ∙ sym (unnamed (parts_split c.args.parts.now) 0 c.args.tables.now (not_given _ _ c.in_err-name.ensures) c.components-components.ensures.kept.each)

@@ -1,7 +1,7 @@
 use Rattle.std.proofs.Common.{rules, ◌≡◌, ◌∙◌, w64, to_z-of_z, FitsSigned, refl}
 use Rattle.std.specs.Int.{int_wrapping_div}
 use Rattle.std.proofs.lemmas.Int.{wraps}
-use Rattle.plain.proofs.Divided.{div-wrapped, zero-bits}
+use Rattle.postfix_rules.proofs.Divided.{div-wrapped, zero-bits}
 use Rattle.plain.proofs.formula.value_of.Goals as goal
 
 pub returns-in-Plus : goal.returns-in-Plus

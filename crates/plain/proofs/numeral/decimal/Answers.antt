@@ -1,8 +1,8 @@
-use Rattle.std.proofs.Common.{◌∙◌, ◌<◌, ◌≢◌, ℕ, List, length, get_or, sym, arith, refl}
+use Rattle.std.proofs.Common.{◌∙◌, ◌<◌, ◌≢◌, ℕ, List, length, get_or, sym, arith, refl, false}
 use Rattle.std.specs.Prelude.{nat_le}
-use Rattle.std.proofs.lemmas.Bool.{le-leb, lt-leb}
+use Rattle.std.proofs.lemmas.Bool.{le-leb, lt-leb, and_right}
 use Rattle.std.proofs.lemmas.Bool.Decides.{nat_tests}
-use Rattle.plain.proofs.Numbers.{and_false, decimal_empty, decimal_is, decimal_other, decimal_zero}
+use Rattle.plain.proofs.Numbers.{decimal_empty, decimal_is, decimal_other, decimal_zero}
 use Rattle.plain.proofs.numeral.decimal.Goals as goal
 use Rattle.plain.proofs.numeral.decimal.Goals.{then-is_empty-via-then-is_empty, then-is_empty-via-else-is_empty+then-text-eq48}
 use Rattle.plain.proofs.numeral.decimal.Goals.{else-low-number-via-then-low-number+else-number-high, else-low-number-via-else-low-number}
@@ -32,6 +32,6 @@ returns-else-low-number-clause-number c =
     let n = c.in_ok-number.number in
     sym (decimal_is c.args.low c.args.high n c.args.text.now some form c.requires c.in_ok-number.ensures
     ∙ elim c.else-low-number.branch [
-      | else-low-number-via-then-low-number+else-number-high w ↦ rw (lt-leb n c.args.high w.if-number-high.false, and_false (nat_le c.args.low n)) refl
+      | else-low-number-via-then-low-number+else-number-high w ↦ rw (lt-leb n c.args.high w.if-number-high.false, and_right (nat_le c.args.low n) false refl) refl
       | else-low-number-via-else-low-number w ↦ rw (lt-leb c.args.low n w.if-low-number.false) refl
     ])

@@ -1,13 +1,14 @@
 use Rattle.std.proofs.Common.{sym}
-use Rattle.plain.proofs.Numbers.{hex_is, hex_long, hex_short}
+use Rattle.stream_reader.proofs.Hexadecimals.{hex-long, hex-short}
+use Rattle.plain.proofs.Numbers.{hex_is}
 use Rattle.plain.proofs.numeral.hexadecimal.Goals as goal
 use Rattle.plain.proofs.numeral.hexadecimal.Goals.{then-text-few-via-then-text-few, then-text-few-via-else-text-few+then-many-text}
 
 pub returns-then-text-few-clause-number : goal.returns-then-text-few-clause-number
 returns-then-text-few-clause-number c =
     sym (elim c.then-text-few.branch [
-      | then-text-few-via-then-text-few w ↦ hex_short c.args.few c.args.many c.args.text.now w.if-text-few.true
-      | then-text-few-via-else-text-few+then-many-text w ↦ hex_long c.args.few c.args.many c.args.text.now w.if-many-text.true
+      | then-text-few-via-then-text-few w ↦ hex-short c.args.few c.args.many c.args.text.now w.if-text-few.true
+      | then-text-few-via-else-text-few+then-many-text w ↦ hex-long c.args.few c.args.many c.args.text.now w.if-many-text.true
     ])
 
 pub returns-clause-number : goal.returns-clause-number

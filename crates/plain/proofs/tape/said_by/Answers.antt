@@ -6,7 +6,8 @@ use Rattle.stream_reader.specs.declared.line.LineStart.{LineStart}
 use Rattle.stream_reader.specs.Judged.{judged}
 use Rattle.stream_reader.specs.Lines.{tape_lines}
 use Rattle.stream_reader.specs.Occurs.{after, is_bad, occurs_of}
-use Rattle.plain.proofs.Pieces.{at_most_one, before, line_is, line_of, not_bad, passed_by, said_at_empty, said_at_end, said_from, says_bad, says_on, within_stream}
+use Rattle.stream_reader.proofs.Taking.{flag-small}
+use Rattle.plain.proofs.Pieces.{before, line_is, line_of, not_bad, passed_by, said_at_empty, said_at_end, said_from, says_bad, says_on, within_stream}
 use Rattle.plain.proofs.tape.said_by.Goals as goal
 use Rattle.plain.proofs.tape.said_by.Goals.{else-not-ended-via-then-not-ended+else-is_empty, else-not-ended-via-else-not-ended}
 use Rattle.plain.proofs.tape.said_by.Goals.{else-loop-i-test, then-loop-i-test+then-not-ended+then-is_empty}
@@ -59,7 +60,7 @@ loop-i-preserved c =
     let passed = ap (λ (s : LineStart). s.passed) next ∙ by.passed in
     let given = ap (λ (s : LineStart). s.given) next in
     let given_by = by.given in
-    let flag = at_most_one ended in
+    let flag = flag-small ended in
     record {
       says = c.loop-i.invariant.says ∙ on ∙ rw (← next, ← is, c.in_ok-keep.ensures) refl;
       number = omega arith;

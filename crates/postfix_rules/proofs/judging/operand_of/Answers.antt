@@ -1,6 +1,7 @@
 use Rattle.std.proofs.Common.{◌≡◌, ◌∙◌, false, sym}
+use Rattle.std.proofs.lemmas.List.{nil_from_length}
 use Rattle.papi_base.specs.Numerals.{is_numeral}
-use Rattle.postfix_rules.proofs.Digits.{no-length, none-unknown}
+use Rattle.postfix_rules.proofs.Digits.{none-unknown}
 use Rattle.postfix_rules.proofs.judging.operand_of.Goals as goal
 
 pub returns-in-Some : goal.returns-in-Some
@@ -11,4 +12,4 @@ returns-in-Some c =
 pub returns-in-None : goal.returns-in-None
 returns-in-None c natives height lt =
     let no : is_numeral c.args.piece.now ≡ false = sym c.is_numeral.ensures ∙ c.if-is_numeral.false in
-    rw (no, no-length c.args.piece.now c.in-None.ensures.cases) (none-unknown natives height)
+    rw (no, nil_from_length c.args.piece.now c.in-None.ensures.cases) (none-unknown natives height)

@@ -1,14 +1,14 @@
 use Rattle.std.proofs.Common.{◌≡◌, ◌∙◌, ◌∷◌, ◌==◌, [], false, length, sym, ap}
 use Rattle.std.proofs.lemmas.Bool.{eqb-true}
+use Rattle.std.proofs.lemmas.List.{nil_from_length}
 use Rattle.postfix_rules.specs.Tokens.{part_of, parts_of}
 use Rattle.table_rows.specs.Texts.{Text, trimmed}
-use Rattle.postfix_rules.proofs.Digits.{no-length}
 use Rattle.postfix_rules.proofs.Pieces.{not-empty, parts-blank, parts-last, some-length}
 use Rattle.postfix_rules.proofs.piece.last_piece.Goals as goal
 
 pub returns-then-is_empty-clause-parts : goal.returns-then-is_empty-clause-parts
 returns-then-is_empty-clause-parts c =
-    let none = no-length c.trimmed-piece.result.now (eqb-true _ _ (sym c.is_empty.ensures ∙ c.if-is_empty.true)) in
+    let none = nil_from_length c.trimmed-piece.result.now (eqb-true _ _ (sym c.is_empty.ensures ∙ c.if-is_empty.true)) in
     parts-blank c.args.text.now c.requires (sym c.trimmed-piece.ensures ∙ none)
 
 pub returns-else-is_empty-clause-parts : goal.returns-else-is_empty-clause-parts

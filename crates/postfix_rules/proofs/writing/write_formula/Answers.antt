@@ -1,17 +1,14 @@
 use Rattle.std.proofs.Common.{◌≡◌, ◌∙◌, ◌<◌, ◌^◌, arith, ap}
-use Rattle.std.specs.Prelude.{IfOk, Result, Ok, Err, string_bytes}
+use Rattle.std.specs.Prelude.{string_bytes}
+use Rattle.std.proofs.lemmas.Result.{IfOk-weaker}
 use Rattle.postfix_rules.specs.Tokens.{formula_text}
 use Rattle.postfix_rules.specs.Reading.{formula_of}
 use Rattle.postfix_rules.proofs.Written.{written_read}
 use Rattle.postfix_rules.proofs.writing.write_formula.Goals as goal
 
-ok-map : {T E : Type 0} (r : Result T E) (P Q : T → Type 0) → IfOk r P → ((x : T) → P x → Q x) → IfOk r Q
-ok-map (Ok x) P Q h f = f x h
-ok-map (Err e) P Q h f = tt
-
 pub returns-clause-back : goal.returns-clause-back
 returns-clause-back c =
     let f = c.args.f.now in
     let few : f.natives < 2 ^ 32 = omega (arith, c.natives-natives.type_inv, c.natives-natives.ensures.natives) in
-    ok-map c.tokens_text.result (λ s. string_bytes s ≡ formula_text f.tokens) _ (rw c.tokens.ensures.tokens at c.tokens_text.ensures)
-    (λ s e. ap (formula_of f.natives) e ∙ written_read f few c.tokens.ensures.formula)
+    IfOk-weaker c.tokens_text.result (λ s. string_bytes s ≡ formula_text f.tokens) _
+    (λ s e. ap (formula_of f.natives) e ∙ written_read f few c.tokens.ensures.formula) (rw c.tokens.ensures.tokens at c.tokens_text.ensures)

@@ -1,10 +1,11 @@
 use Rattle.std.proofs.Common.{◌≡◌, ◌∙◌, ◌∷◌, ◌++◌, [], true, false, map, string_bytes, take, sym, ap, subst, arith}
 use Rattle.std.proofs.lemmas.Result.{IfOk-weaker, MatchResult-weaker}
+use Rattle.papi_base.proofs.Steps.{not_given, is_given}
 use Rattle.csv.specs.Records.{fields_of}
 use Rattle.postfix_rules.specs.declared.derived.TheConstants.{MOST_NATIVES}
 use Rattle.table_rows.specs.Texts.{Text, is_printable}
 use Rattle.preset_csv.specs.Defs.{ends_natives}
-use Rattle.preset_csv.proofs.FoundNatives.{broken, ends-here, ends-last, held-more, is-printed, not-printed, over, within}
+use Rattle.preset_csv.proofs.FoundNatives.{broken, ends-here, ends-last, held-more, over, within}
 use Rattle.preset_csv.proofs.natives.row_natives.Goals as goal
 
 pub returns-then-ends_natives-clause-natives : goal.returns-then-ends_natives-clause-natives
@@ -23,14 +24,14 @@ pub returns-in_default-clause-refused : goal.returns-in_default-clause-refused
 returns-in_default-clause-refused c =
     broken (fields_of c.args.row.now) c.args.first c.loop-i.i c.loop-i.count _ (omega arith) c.loop-i.invariant
     (subst (λ (t : Text). ends_natives t ≡ false) c.text_at-field.ensures (sym c.ends_natives.ensures ∙ c.if-ends_natives.false))
-    (subst (λ (t : Text). is_printable t ≡ false) c.text_at-field.ensures (not-printed (is_printable c.text_at-field.result.now) c.text_at-field.result.now c.in_default.ensures))
+    (subst (λ (t : Text). is_printable t ≡ false) c.text_at-field.ensures (not_given (is_printable c.text_at-field.result.now) c.text_at-field.result.now c.in_default.ensures))
 
 pub overflow_add-count : goal.overflow_add-count
 overflow_add-count c = record { fits = omega (arith, c.loop-i.invariant.placed) }
 
 pub loop-i-preserved : goal.loop-i-preserved
 loop-i-preserved c =
-    let p = is-printed (is_printable c.text_at-field.result.now) c.text_at-field.result.now c.in-Some.text.now c.in-Some.ensures in
+    let p = is_given (is_printable c.text_at-field.result.now) c.text_at-field.result.now c.in-Some.text.now c.in-Some.ensures in
     held-more (fields_of c.args.row.now) c.args.first c.loop-i.i c.loop-i.count _ _ (omega arith) c.loop-i.invariant
     (subst (λ (t : Text). ends_natives t ≡ false) c.text_at-field.ensures (sym c.ends_natives.ensures ∙ c.if-ends_natives.false))
     (subst (λ (t : Text). is_printable t ≡ true) c.text_at-field.ensures p.0)

@@ -1,7 +1,7 @@
 use Rattle.std.proofs.Common.{arith}
 use Rattle.papi_base.specs.declared.limits.TheConstants.{THREADS}
+use Rattle.papi_base.proofs.Growing.{number_more, numbers_all}
 use Rattle.region_report.specs.Calls.{thread_opening}
-use Rattle.region_report.proofs.Pieces.{number_more, numbers_all}
 use Rattle.region_report.proofs.script.push_openings.Goals as goal
 
 pub loop-thread-preserved : goal.loop-thread-preserved

@@ -1,14 +1,15 @@
 use Rattle.std.proofs.Common.{arith}
+use Rattle.papi_base.proofs.Growing.{number_more, numbers_all}
 use Rattle.soak_input.specs.Script.{by_thread, stop_line}
-use Rattle.soak_input.proofs.Pieces.{line_more, lines_all, none}
+use Rattle.soak_input.proofs.Pieces.{none}
 use Rattle.soak_input.proofs.script.push_stops.Goals as goal
 
 pub loop-thread-init : goal.loop-thread-init
 loop-thread-init c = none _
 
 pub loop-thread-preserved : goal.loop-thread-preserved
-loop-thread-preserved c = line_more stop_line _ _ _ c.loop-thread.thread c.loop-thread.invariant c.in_ok-push_call.ensures
+loop-thread-preserved c = number_more stop_line _ _ _ c.loop-thread.thread c.loop-thread.invariant c.in_ok-push_call.ensures
 
 pub returns : goal.returns
 unfolding by_thread
-returns c = lines_all stop_line _ _ c.loop-thread.thread 4 (omega arith) c.loop-thread.invariant
+returns c = numbers_all stop_line _ _ c.loop-thread.thread 4 (omega arith) c.loop-thread.invariant

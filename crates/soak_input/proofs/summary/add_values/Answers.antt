@@ -2,7 +2,8 @@ use Rattle.std.specs.Prelude.{FitsSigned}
 use Rattle.std.specs.Int.{int_wrapping_add}
 use Rattle.std.proofs.Common.{◌∙◌, ap, rules, to_z, w64}
 use Rattle.std.proofs.lemmas.Int.{to_z-of_z}
-use Rattle.soak_input.proofs.Sums.{added_more, from_value}
+use Rattle.papi_base.proofs.Steps.{drop_at}
+use Rattle.soak_input.proofs.Sums.{added_more}
 use Rattle.soak_input.proofs.summary.add_values.Goals as goal
 
 pub loop-i-preserved : goal.loop-i-preserved
@@ -13,5 +14,5 @@ loop-i-preserved c =
     let value_fits : FitsSigned w64 value = search rules in
     let next_fits : FitsSigned w64 next = search rules in
     rw (to_z-of_z w64 next next_fits)
-    (added_more (int_wrapping_add w64) c.args.values.now c.loop-i.i value sum next _ (from_value c.args.values.now c.loop-i.i value c.at.ensures.item)
+    (added_more (int_wrapping_add w64) c.args.values.now c.loop-i.i value sum next _ (drop_at c.args.values.now c.loop-i.i value c.at.ensures.item)
     (c.wrapped_sum-sum.ensures ∙ ap (int_wrapping_add w64 sum) (to_z-of_z w64 value value_fits)) c.loop-i.invariant)

@@ -2,7 +2,8 @@ use Rattle.std.proofs.Common.{◌∙◌, ◌++◌, ◌∷◌, ap, arith, rules, 
 use Rattle.std.proofs.lemmas.Int.{to_z-of_z}
 use Rattle.std.specs.Fmt.{signed_decimal}
 use Rattle.std.specs.Prelude.{string_bytes}
-use Rattle.soak_input.proofs.Pieces.{item_more, items_all, none}
+use Rattle.papi_base.proofs.Growing.{item_more}
+use Rattle.soak_input.proofs.Pieces.{items_all, none}
 use Rattle.soak_input.proofs.summary.push_values.Goals as goal
 
 pub loop-i-init : goal.loop-i-init

@@ -1,9 +1,10 @@
 use Rattle.std.specs.Prelude.{FitsSigned, ℤ}
 use Rattle.std.proofs.Common.{arith, rules, to_z, w64}
 use Rattle.std.proofs.lemmas.Int.{to_z-of_z}
+use Rattle.papi_base.proofs.Steps.{drop_item}
 use Rattle.soak_input.specs.Summary.{add_values}
 use Rattle.soak_input.specs.declared.summary.ThreadTotal.{ThreadTotal}
-use Rattle.soak_input.proofs.Sums.{added_more, from_item}
+use Rattle.soak_input.proofs.Sums.{added_more}
 use Rattle.soak_input.proofs.summary.sum_of.Goals as goal
 
 pub loop-total-preserved : goal.loop-total-preserved
@@ -13,4 +14,4 @@ loop-total-preserved c =
     let next_fits : FitsSigned w64 next = search rules in
     rw (to_z-of_z w64 next next_fits)
     (added_more (λ (sum : ℤ) (total : ThreadTotal). add_values sum total.values) c.args.totals.now c.loop-total.total-index total (to_z w64 c.loop-total.sum-bits) next _
-    (from_item c.args.totals.now c.loop-total.total-index total (omega arith) c.total-item.is) c.add_values-sum.ensures c.loop-total.invariant)
+    (drop_item c.args.totals.now c.loop-total.total-index total (omega arith) c.total-item.is) c.add_values-sum.ensures c.loop-total.invariant)

@@ -32,7 +32,6 @@ loop-row-preserved g c =
 
 pub take_row-requires : goal.take_row-requires
 take_row-requires g c =
-    let t = g.T.TableKind in
     let inv = c.loop-row.invariant in
     let read : c.loop-row.reader ≡ fields_of c.read_row.new.row ∷ c.read_row.new.self = rw c.if-branch.true at c.in_ok-read_row.ensures.next in
     record { plain = (rw read at inv.plain).0; given = (inv.taken.above, inv.taken.given) }

@@ -1,19 +1,20 @@
 use Rattle.std.proofs.Common.{◌≡◌, ◌∙◌, List, Some, None, sym, ap}
-use Rattle.std.proofs.lemmas.Option.{slice_get-map}
+use Rattle.std.proofs.lemmas.Option.{slice_get-map, slice_get_past}
 use Rattle.std.specs.HashMap.{get_by_text}
 use Rattle.std.specs.Option.{option_and_then}
 use Rattle.std.specs.Prelude.{option_map, slice_get}
+use Rattle.papi_base.proofs.Steps.{all_at}
 use Rattle.event_tables.specs.Index.{IsIndexed}
 use Rattle.event_tables.specs.Tables.{ComponentText, row_of_lower}
 use Rattle.event_tables.specs.Views.{component_text}
-use Rattle.event_tables.proofs.Items.{all-found, item-none, item-some}
+use Rattle.event_tables.proofs.Items.{item-some}
 use Rattle.event_tables.proofs.tables.Tables.find_event.Goals as goal
 
 pub returns-in-Some : goal.returns-in-Some
 returns-in-Some c =
     let at : slice_get c.self.inside.components.items c.args.comp ≡ Some c.in-Some.c.now = rw c.as_slice.ensures.value at
     (item-some c.as_slice.result.now c.args.comp c.in-Some.c.now c.in-Some.ensures.lookup.1 c.in-Some.ensures.lookup.3.0) in
-    let indexed = all-found IsIndexed c.self.inside.components.items c.args.comp c.in-Some.c.now c.self.invariant.indexed at in
+    let indexed = all_at IsIndexed c.self.inside.components.items c.args.comp c.in-Some.c.now c.self.invariant.indexed at in
     let view : slice_get c.args.self.now c.args.comp ≡ Some (component_text c.in-Some.c.now) =
     sym (ap (λ (t : List ComponentText). slice_get t c.args.comp) c.self.view_is) ∙ slice_get-map component_text c.self.inside.components.items c.args.comp ∙ ap (option_map component_text) at in
     c.copied.ensures ∙ c.get-in-Some.ensures.value ∙ ap (get_by_text c.in-Some.c.now.rows) c.as_str.ensures ∙ indexed.rows c.args.name.now
@@ -21,7 +22,7 @@ returns-in-Some c =
 
 pub returns-in-None : goal.returns-in-None
 returns-in-None c =
-    let at : slice_get c.self.inside.components.items c.args.comp ≡ None = rw c.as_slice.ensures.value at (item-none c.as_slice.result.now c.args.comp c.in-None.ensures.lookup.3) in
+    let at : slice_get c.self.inside.components.items c.args.comp ≡ None = rw c.as_slice.ensures.value at (slice_get_past c.as_slice.result.now c.args.comp c.in-None.ensures.lookup.3) in
     let view : slice_get c.args.self.now c.args.comp ≡ None =
     sym (ap (λ (t : List ComponentText). slice_get t c.args.comp) c.self.view_is) ∙ slice_get-map component_text c.self.inside.components.items c.args.comp ∙ ap (option_map component_text) at in
     sym (ap (option_and_then (λ k. row_of_lower k.events c.args.name.now)) view)

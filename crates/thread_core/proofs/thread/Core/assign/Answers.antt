@@ -1,6 +1,6 @@
 use Rattle.thread_core.proofs.Answering.{refl, sym, ◌∙◌, ap, at, ◌≡◌, Some, Option, ℕ, option_copied, absent_follows, assign_follows, assign_refused}
 use Rattle.std.specs.Prelude.{is_some}
-use Rattle.event_sets.proofs.Clashing.{none_of}
+use Rattle.papi_base.proofs.Steps.{none_of}
 use Rattle.thread_core.proofs.thread.Core.assign.Goals as goal
 use Rattle.thread_core.proofs.thread.Core.assign.Goals.{After-is_some, In-Some}
 

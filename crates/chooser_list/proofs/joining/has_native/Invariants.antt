@@ -1,8 +1,0 @@
--- those that are left have it if all do
-use Rattle.std.proofs.Common.{◌≡◌, drop}
-use Rattle.std.specs.List.{list_any}
-use Rattle.postfix_rules.specs.Sameness.{same_native}
-use Rattle.chooser_list.proofs.joining.has_native.Given as goal
-
-abbrev pub invariant-loop-i : goal.invariant-loop-i
-invariant-loop-i l = list_any (same_native l.n) (drop l.i l.natives) ≡ list_any (same_native l.n) l.natives

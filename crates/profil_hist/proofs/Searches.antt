@@ -1,8 +1,0 @@
--- Searches of ranges by a test of what callers see of them.
-use Rattle.std.proofs.Common.{◌≡◌, ◌∷◌, List, [], Bool, map, refl, ap}
-use Rattle.std.specs.Prelude.{◌||◌}
-use Rattle.std.specs.List.{list_any}
-
-pub list_any-map : {X Y : Type 0} (p : Y → Bool) (h : X → Y) (xs : List X) → list_any (λ x. p (h x)) xs ≡ list_any p (map h xs)
-list_any-map p h [] = refl
-list_any-map p h (x ∷ xs) = ap (λ b. p (h x) || b) (list_any-map p h xs)
