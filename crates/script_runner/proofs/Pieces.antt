@@ -82,7 +82,3 @@ last-part f before taken taken' xs i gathered h w part = subst (λ ys. IsPartWri
 pub always_on_err : {T E P : Type 0} (r : Result T E) → P → OnErr r P
 always_on_err (Ok x) p = tt
 always_on_err (Err e) p = p
-
-pub on_err-map : {T E P Q : Type 0} (r : Result T E) → (P → Q) → OnErr r P → OnErr r Q
-on_err-map (Ok x) f p = tt
-on_err-map (Err e) f p = f p

@@ -4,7 +4,7 @@ use Rattle.std.proofs.lemmas.List.{append-nil, map-append, take-append-drop, tak
 use Rattle.std.proofs.lemmas.List.Concat.{flat_map-append}
 use Rattle.std.proofs.lemmas.List.Elements.{All-push}
 use Rattle.std.specs.List.{flat_map}
-use Rattle.std.specs.Prelude.{All, Ok, Err, if◌then◌else◌}
+use Rattle.std.specs.Prelude.{All, Ok, if◌then◌else◌}
 use Rattle.component_table.specs.Catalogs.{CatalogView, shape_of}
 use Rattle.papi_base.specs.declared.call_name.CallName.{CallName}
 use Rattle.papi_base.specs.declared.limits.TheConstants.{THREADS}
@@ -16,6 +16,7 @@ use Rattle.plan_runner.specs.declared.result.ReplyLine.{ReplyLine}
 use Rattle.plan_runner.specs.Plans.{Ask, IsGoodFor, IsPlanOf, ask_of, asks_from, planned_by}
 use Rattle.plan_runner.specs.Runs.{reply_lines}
 use Rattle.postfix_rules.specs.Sameness.{among, joined_by}
+use Rattle.postfix_rules.proofs.Joined.{joined-append}
 use Rattle.script_lines.specs.Calls.{name_of}
 use Rattle.script_lines.specs.declared.script.ScriptLine.{ScriptLine}
 use Rattle.script_runner.specs.Resolving.{AreFirstOf, IsGoodAsk, asked_of, line_of, lines_of, mentioned_in, reply_lines_of, setting_of}
@@ -27,10 +28,6 @@ use Rattle.session_model.specs.declared.line.Line.{Line}
 use Rattle.session_model.specs.World.{LineTold, Setting, mentioned_after, mentions_of, mentions_of_call}
 
 -- ---- native events that join others
-
-joined-append : (seen xs ys : List Native) → joined_by seen (xs ++ ys) ≡ joined_by (joined_by seen xs) ys
-joined-append seen [] ys = refl
-joined-append seen (n ∷ xs) ys = joined-append (if among n seen then seen else seen ++ n ∷ []) xs ys
 
 next-few : (b : Bool) (n : Native) (seen : List Native) → length (if b then seen else seen ++ n ∷ []) ≤ length seen + 1
 next-few true n seen = omega arith
@@ -99,10 +96,7 @@ asks-append at mentioned (k ∷ ls) l =
 good-planned : (catalog : CatalogView) (at : Setting) (mentioned : List Native) (a : Asked) → IsGoodAsk catalog a → IsGoodFor catalog.book (shape_of catalog.tables) (planned_by at mentioned a)
 good-planned catalog at mentioned (asked.Call c) good = good
 good-planned catalog at mentioned (asked.CodeOf (Ok (event.Native n))) good = tt
-good-planned catalog at mentioned (asked.CodeOf (Ok (event.Preset row))) good = tt
-good-planned catalog at mentioned (asked.CodeOf (Err c)) good = tt
-good-planned catalog at mentioned (asked.NameOf c) good = tt
-good-planned catalog at mentioned asked.Threads good = tt
+good-planned catalog at mentioned a good = tt
 
 -- ---- the loop over the lines
 

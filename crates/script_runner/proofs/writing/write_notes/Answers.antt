@@ -1,9 +1,10 @@
 use Rattle.std.proofs.Common.{get_or, rules, string_bytes}
 use Rattle.std.proofs.lemmas.List.{get_or_default}
+use Rattle.std.proofs.lemmas.Result.{on_err_weaker}
 use Rattle.overflow_dispatch.specs.declared.handler.Note.{Note}
 use Rattle.reply_text.specs.Notes.{note_text}
 use Rattle.script_runner.specs.Replies.{notes_text}
-use Rattle.script_runner.proofs.Pieces.{always_on_err, item-part, item-written, last-part, none-part, on_err-map}
+use Rattle.script_runner.proofs.Pieces.{always_on_err, item-part, item-written, last-part, none-part}
 use Rattle.script_runner.proofs.writing.write_notes.Goals as goal
 
 none : Note
@@ -42,5 +43,5 @@ loop-note-preserved g c =
 pub returns-clause-part : goal.returns-clause-part
 unfolding notes_text
 returns-clause-part g c =
-    on_err-map c.write_whole.result (last-part note_text _ _ _ c.args.notes.now c.loop-note.note-index (string_bytes c.loop-note.gathered) c.loop-note-test.false c.loop-note.invariant.written)
+    on_err_weaker c.write_whole.result (last-part note_text _ _ _ c.args.notes.now c.loop-note.note-index (string_bytes c.loop-note.gathered) c.loop-note-test.false c.loop-note.invariant.written)
     (rw c.as_bytes.ensures.value at c.write_whole.ensures.part)

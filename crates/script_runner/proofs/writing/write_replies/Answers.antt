@@ -1,6 +1,7 @@
 use Rattle.std.proofs.Common.{rules, string_bytes}
+use Rattle.std.proofs.lemmas.Result.{on_err_weaker}
 use Rattle.script_runner.specs.Replies.{replies_text, reply_line_text}
-use Rattle.script_runner.proofs.Pieces.{always_on_err, item-part, item-written, last-part, none-part, on_err-map}
+use Rattle.script_runner.proofs.Pieces.{always_on_err, item-part, item-written, last-part, none-part}
 use Rattle.script_runner.proofs.writing.write_replies.Goals as goal
 
 pub returns-in_err-gather_reply-clause-part : goal.returns-in_err-gather_reply-clause-part
@@ -26,5 +27,5 @@ loop-line-preserved g c =
 pub returns-clause-part : goal.returns-clause-part
 unfolding replies_text
 returns-clause-part g c =
-    on_err-map c.write_whole.result (last-part (reply_line_text c.args.catalog.now) _ _ _ c.args.lines.now c.loop-line.line-index (string_bytes c.loop-line.gathered) c.loop-line-test.false c.loop-line.invariant.written)
+    on_err_weaker c.write_whole.result (last-part (reply_line_text c.args.catalog.now) _ _ _ c.args.lines.now c.loop-line.line-index (string_bytes c.loop-line.gathered) c.loop-line-test.false c.loop-line.invariant.written)
     (rw c.as_bytes.ensures.value at c.write_whole.ensures.part)
