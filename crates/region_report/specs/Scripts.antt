@@ -19,7 +19,7 @@ all_ended opens = list_all (λ (regions : List Open). length regions == 0) opens
 abbrev pub none_open : List (List Open)
 none_open = replicate THREADS []
 
--- what stands above a line: so many call lines and readings, after which these regions are open
+-- what stands above a line: the numbers of call lines and of readings, and the regions that are open after them
 pub record Above : Type 0 where
   pub lines : ℕ
   pub readings : ℕ

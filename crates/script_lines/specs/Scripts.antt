@@ -8,7 +8,7 @@ use Rattle.script_lines.specs.declared.script.ScriptLine.{ScriptLine}
 use Rattle.script_lines.specs.ByLine.{Format, ReadsLines, Refused, lines_from}
 use Rattle.script_lines.specs.Lines.{call_line}
 
--- scripts, where so many call lines stand above a line
+-- scripts, by the number of call lines above a line
 abbrev pub scripts : Format ℕ ScriptLine ScriptCause
 scripts = record { line_of = call_line; after = λ above line. above + 1; at_end = λ number above. Ok [] }
 
