@@ -6,7 +6,7 @@ use Rattle.papi_base.specs.Outside.{AnswersOpening, Tape, Held, fails_next, tape
 use Rattle.papi_base.specs.declared.outside.OpenFail.{OpenFail}
 use Rattle.papi_base.specs.declared.outside.OpenFail.TheVariants as open_fail
 use Rattle.papi_tools.specs.Answers.{Answers}
-use Rattle.papi_tools.specs.Openings.{Absent, ByName, CanGive, CanOpen, Ends, Failing, First, ForSome, Is, Leads, Open, Openings, found, opened, tape_under}
+use Rattle.papi_tools.specs.Openings.{Absent, ByName, CanGive, CanOpen, Ends, Failing, First, ForSome, Is, Leads, Open, Openings, Stops, found, opened, tape_under}
 use Rattle.papi_tools.specs.Steps.{and_then}
 use Rattle.papi_tools.specs.declared.refusal.Refusal.{Refusal}
 use Rattle.papi_tools.specs.declared.refusal.Refusal.TheVariants.{NoSuchFile, CannotRead}
@@ -49,15 +49,27 @@ opening_fails {S} tape answer before name copy e same h =
 
 -- ---- one step after the other
 
--- the value of a step that gave none: it stands for nothing
-abbrev pub Never : {B : Type 0} → Unit {0} → B → Type 0
-Never {B} value expected = Unit {0}
-
 -- a step that opens nothing
 pub plain : {A : Type 0} (answer : Result A Stop) (expected : Result A Refusal) (held after : Option Held) → after ≡ held → Answers answer expected → Leads Is answer (λ openings. expected) (λ openings. openings) held after
 plain (Ok value) expected held after e h = λ x same later can. (later, rw e at can, (h ∙ ap Ok same, refl))
 plain (Err (stop.Refused refusal)) expected held after e h = let some = some_openings held in (some.0, some.1, h)
 plain (Err stop.Memory) expected held after e h = tt
+
+-- a step that failed is the last one
+pub failed : {B D : Type 0} (s : Stop) (gives : Openings → Result B Refusal) (next : Openings → B → Result D Refusal) (before : Option Held) → Stops s gives before → Stops s (λ o. and_then (gives o) (next o)) before
+failed (stop.Refused refusal) gives next before one =
+    let (o, can, gave) = one in
+    (o, can, rw gave refl)
+failed stop.Memory gives next before one = tt
+
+-- a step that gave a value, and one that failed
+pub failed_after : {A B D : Type 0} (CanBe : A → B → Type 0) (value : A) (expected : B) (s : Stop) (gives : Openings → Result B Refusal) (next : B → Openings → Result D Refusal) (rest : Openings → Openings)
+    (before mid : Option Held) → Leads CanBe (Ok value) gives rest before mid → CanBe value expected → Stops s (next expected) mid → Stops s (λ o. and_then (gives o) (λ b. next b (rest o))) before
+failed_after CanBe value expected (stop.Refused refusal) gives next rest before mid one can two =
+    let (m, m_can, m_gives) = two in
+    let (o, o_can, (o_gives, o_rest)) = one expected can m m_can in
+    (o, o_can, rw (o_gives, o_rest) m_gives)
+failed_after CanBe value expected stop.Memory gives next rest before mid one can two = tt
 
 -- a step that gave a value, and the next one
 pub leads_on : {A B C D : Type 0} (CanBe : A → B → Type 0) (CanBe' : C → D → Type 0) (value : A) (expected : B) (answer : Result C Stop) (gives : Openings → Result B Refusal) (next : B → Openings → Result D Refusal)
@@ -67,19 +79,7 @@ leads_on CanBe CanBe' value expected (Ok v) gives next rest rest' before mid aft
     let (m, m_can, (m_gives, m_rest)) = two e is later told in
     let (o, o_can, (o_gives, o_rest)) = one expected can m m_can in
     (o, o_can, (rw (o_gives, o_rest) m_gives, ap rest' o_rest ∙ m_rest))
-leads_on CanBe CanBe' value expected (Err (stop.Refused refusal)) gives next rest rest' before mid after one can two =
-    let (m, m_can, m_gives) = two in
-    let (o, o_can, (o_gives, o_rest)) = one expected can m m_can in
-    (o, o_can, rw (o_gives, o_rest) m_gives)
-leads_on CanBe CanBe' value expected (Err stop.Memory) gives next rest rest' before mid after one can two = tt
-
--- a step that failed is the last one
-pub failed : {A B C D : Type 0} (CanBe : A → B → Type 0) (CanBe' : C → D → Type 0) (s : Stop) (gives : Openings → Result B Refusal) (next : Openings → B → Result D Refusal) (rest rest' : Openings → Openings)
-    (before mid after : Option Held) → Leads CanBe (Err s) gives rest before mid → Leads CanBe' (Err s) (λ o. and_then (gives o) (next o)) rest' before after
-failed CanBe CanBe' (stop.Refused refusal) gives next rest rest' before mid after one =
-    let (o, can, gave) = one in
-    (o, can, rw gave refl)
-failed CanBe CanBe' stop.Memory gives next rest rest' before mid after one = tt
+leads_on CanBe CanBe' value expected (Err s) gives next rest rest' before mid after one can two = failed_after CanBe value expected s gives next rest before mid one can two
 
 -- a step that gave a value, and the last one
 pub ends_after : {A B C D : Type 0} (CanBe : A → B → Type 0) (CanBe' : C → D → Type 0) (value : A) (expected : B) (answer : Result C Stop) (gives : Openings → Result B Refusal) (next : B → Openings → Result D Refusal)
@@ -89,25 +89,7 @@ ends_after CanBe CanBe' value expected (Ok v) gives next rest before mid one can
     let (m, m_can, m_gives) = two e is in
     let (o, o_can, (o_gives, o_rest)) = one expected can m m_can in
     (o, o_can, rw (o_gives, o_rest) m_gives)
-ends_after CanBe CanBe' value expected (Err (stop.Refused refusal)) gives next rest before mid one can two =
-    let (m, m_can, m_gives) = two in
-    let (o, o_can, (o_gives, o_rest)) = one expected can m m_can in
-    (o, o_can, rw (o_gives, o_rest) m_gives)
-ends_after CanBe CanBe' value expected (Err stop.Memory) gives next rest before mid one can two = tt
-
-pub failed_last : {A B C D : Type 0} (CanBe : A → B → Type 0) (CanBe' : C → D → Type 0) (s : Stop) (gives : Openings → Result B Refusal) (next : Openings → B → Result D Refusal) (rest : Openings → Openings)
-    (before mid : Option Held) → Leads CanBe (Err s) gives rest before mid → Ends CanBe' (Err s) (λ o. and_then (gives o) (next o)) before
-failed_last CanBe CanBe' (stop.Refused refusal) gives next rest before mid one =
-    let (o, can, gave) = one in
-    (o, can, rw gave refl)
-failed_last CanBe CanBe' stop.Memory gives next rest before mid one = tt
-
-pub ended : {A B C D : Type 0} (CanBe : A → B → Type 0) (CanBe' : C → D → Type 0) (s : Stop) (gives : Openings → Result B Refusal) (next : B → Result D Refusal) (before : Option Held) →
-    Ends CanBe (Err s) gives before → Ends CanBe' (Err s) (λ o. and_then (gives o) next) before
-ended CanBe CanBe' (stop.Refused refusal) gives next before one =
-    let (o, can, gave) = one in
-    (o, can, rw gave refl)
-ended CanBe CanBe' stop.Memory gives next before one = tt
+ends_after CanBe CanBe' value expected (Err s) gives next rest before mid one can two = failed_after CanBe value expected s gives next rest before mid one can two
 
 -- what the last step gave is part of what is expected
 pub ends_with : {A B C D : Type 0} (CanBe : A → B → Type 0) (CanBe' : C → D → Type 0) (value : A) (whole : C) (gives : Openings → Result B Refusal) (build : B → D) (before : Option Held) →
@@ -119,27 +101,33 @@ ends_with CanBe CanBe' value whole gives build before last part = λ e is.
 
 -- ---- what a tool answers
 
+-- what is so of what comes after a step that gave a value
+pub so_after : {A B : Type 0} (P : Result B Refusal → Type 0) (value : A) (gives : Openings → Result A Refusal) (next : A → Openings → Result B Refusal) (rest : Openings → Openings) (before mid : Option Held) →
+    Leads Is (Ok value) gives rest before mid → ForSome mid (λ o. P (next value o)) → ForSome before (λ o. P (and_then (gives o) (λ v. next v (rest o))))
+so_after P value gives next rest before mid one two =
+    let (m, m_can, so) = two in
+    let (o, o_can, (gave, goes)) = one value refl m m_can in
+    (o, o_can, rw (gave, goes) so)
+
+-- what is so of all that the last step that opens files can have given
+pub so_at_end : {I X B : Type 0} (P : Result B Refusal → Type 0) (CanBe : I → X → Type 0) (input : I) (gives : Openings → Result X Refusal) (build : X → B) (held : Option Held) → Ends CanBe (Ok input) gives held →
+    ((x : X) × CanBe input x × P (Ok (build x))) → ForSome held (λ o. P (and_then (gives o) (λ x. Ok (build x))))
+so_at_end P CanBe input gives build held ends some =
+    let (x, can, so) = some in
+    let (o, o_can, gave) = ends x can in
+    (o, o_can, rw gave so)
+
 -- what it says of what the steps gave
 pub answered : {A C : Type 0} (value : A) (answer : Result C Stop) (gives : Openings → Result A Refusal) (next : A → Result C Refusal) (rest : Openings → Openings) (before after : Option Held) →
     Leads Is (Ok value) gives rest before after → Answers answer (next value) → ForSome before (λ o. Answers answer (and_then (gives o) next))
 answered value answer gives next rest before after one h =
     let (later, can) = some_openings after in
-    let (o, o_can, (gave, r)) = one value refl later can in
-    (o, o_can, rw gave h)
+    so_after (Answers answer) value gives (λ v o. next v) rest before after one (later, can, h)
 
 -- a step that failed ends it
-pub refused : {A B C : Type 0} (CanBe : A → B → Type 0) (s : Stop) (gives : Openings → Result B Refusal) (next : Openings → B → Result C Refusal) (rest : Openings → Openings) (before after : Option Held) →
-    Leads CanBe (Err s) gives rest before after → ForSome before (λ o. Answers (Err s) (and_then (gives o) (next o)))
-refused CanBe (stop.Refused refusal) gives next rest before after one =
-    let (o, can, gave) = one in
-    (o, can, rw gave refl)
-refused CanBe stop.Memory gives next rest before after one =
-    let (o, can) = some_openings before in
-    (o, can, tt)
-
--- memory ran out
-pub out_of_memory : {C : Type 0} (expected : Openings → Result C Refusal) (before : Option Held) → ForSome before (λ o. Answers (Err stop.Memory) (expected o))
-out_of_memory expected before =
+pub refused : {C : Type 0} (s : Stop) (gives : Openings → Result C Refusal) (before : Option Held) → Stops s gives before → ForSome before (λ o. Answers (Err s) (gives o))
+refused (stop.Refused refusal) gives before one = one
+refused stop.Memory gives before one =
     let (o, can) = some_openings before in
     (o, can, tt)
 
@@ -149,7 +137,4 @@ answers_of (Ok value) gives rest before after one =
     let (later, can) = some_openings after in
     let (o, o_can, (gave, r)) = one value refl later can in
     (o, o_can, gave)
-answers_of (Err (stop.Refused refusal)) gives rest before after one = one
-answers_of (Err stop.Memory) gives rest before after one =
-    let (o, can) = some_openings before in
-    (o, can, tt)
+answers_of (Err s) gives rest before after one = refused s gives before one

@@ -1,12 +1,10 @@
 pub mod CarriedLemmas
-pub mod CauseLemmas
 pub mod FaultLemmas
 pub mod FindingLemmas
 mod LookingLemmas
 pub mod OpeningLemmas
 pub mod PositionLemmas
 pub mod ProfilLemmas
-pub mod QuietLemmas
 pub mod ReadingLemmas
 pub mod RegionLemmas
 pub mod RunLemmas

@@ -8,7 +8,7 @@ use Rattle.stream_reader.specs.Occurs.{occurs_of}
 use Rattle.stream_reader.specs.Reader.{ReaderView, SourceView, comes, new_view, tape_of}
 use Rattle.thread_session.specs.Prospects.{CanCome}
 use Rattle.papi_tools.specs.Opening.{tapes_under}
-use Rattle.papi_tools.specs.Openings.{CanGive, CanOpen, Ends, ForSome, Leads, Openings, opened, tape_under}
+use Rattle.papi_tools.specs.Openings.{CanGive, CanOpen, Ends, ForSome, Leads, Openings, Stops, opened, tape_under}
 use Rattle.papi_tools.specs.Steps.{and_then}
 use Rattle.papi_tools.specs.Streams.{CanEachGive, IsUnread, empty_stream, stream_of, streams_of, streams_under}
 use Rattle.papi_tools.specs.declared.refusal.Refusal.{Refusal}
@@ -86,20 +86,19 @@ some_tapes (r ∷ rs) =
     (t ∷ ts, (t_can, ts_can))
 
 -- a file that is not opened ends the opening
-stopped : {S : Type 0} (tape : S → Option Tape) (before now next : Option Held) (names rest : List (List ℕ)) (name : List ℕ) (readers : List ReaderView) (s : Stop) → AreOpen before names (name ∷ rest) now readers →
-    Leads {A = S} (λ x t. CanGive (tape x) t) (Err s) (λ o. tape_under o name) opened now next → Ends {A = Unit {0}} (λ x tapes. CanEachGive readers tapes) (Err s) (λ o. tapes_under o names) before
-stopped tape before now next names rest name readers stop.Memory a h = tt
-stopped tape before now next names rest name readers (stop.Refused refusal) a h =
+stopped : (before now : Option Held) (names rest : List (List ℕ)) (name : List ℕ) (readers : List ReaderView) (s : Stop) → AreOpen before names (name ∷ rest) now readers →
+    Stops s (λ o. tape_under o name) now → Stops s (λ o. tapes_under o names) before
+stopped before now names rest name readers stop.Memory a h = tt
+stopped before now names rest name readers (stop.Refused refusal) a h =
     let (mid, m_can, there) = h in
     let (tapes, give) = some_tapes readers in
     let (o, o_can, is) = a.each tapes give mid m_can in
     (o, o_can, rw there at is)
 
-pub stopped_at : {S : Type 0} (tape : S → Option Tape) (before now next : Option Held) (names : List (List ℕ)) (i : ℕ) (item name : List ℕ) (readers : List ReaderView) (s : Stop) → i < length names → item ≡ get_or names i item →
-    name ≡ item → AreOpen before names (drop i names) now readers → Leads {A = S} (λ x t. CanGive (tape x) t) (Err s) (λ o. tape_under o name) opened now next →
-    Ends {A = Unit {0}} (λ x tapes. CanEachGive readers tapes) (Err s) (λ o. tapes_under o names) before
-stopped_at tape before now next names i item name readers s h e same a opens =
-    stopped tape before now next names (drop (i + 1) names) name readers s (rw (next_name names i item name h e same) at a) opens
+pub stopped_at : (before now : Option Held) (names : List (List ℕ)) (i : ℕ) (item name : List ℕ) (readers : List ReaderView) (s : Stop) → i < length names → item ≡ get_or names i item → name ≡ item →
+    AreOpen before names (drop i names) now readers → Stops s (λ o. tape_under o name) now → Stops s (λ o. tapes_under o names) before
+stopped_at before now names i item name readers s h e same a opens =
+    stopped before now names (drop (i + 1) names) name readers s (rw (next_name names i item name h e same) at a) opens
 
 -- ---- the streams of all threads
 

@@ -92,17 +92,17 @@ same_readings at catalog w (l ∷ ls) =
 
 -- the readings of a run are those of the script with the events
 readings_of_run : ScriptIsLookedUp → (texts : List (List ℕ)) (given : GivenRegions) (events : List EventRef) → LooksUp (asked_of given.catalog) texts events →
-    readings_in (ran_replies (calls_of texts given)) ≡ readings_told (told (setting_of given.catalog) (opening_world given.streams) (script_of given.lines events))
+    readings_in (ran_replies (calls_of texts given)) ≡ readings_told (told (setting_of given.catalog) (opening_world given.streams) (script_of given.script events))
 unfolding ran_replies lines_of
 readings_of_run law texts given events looks =
-    same_readings (setting_of given.catalog) given.catalog (opening_world given.streams) (numbered 1 (asked given.lines texts))
-    ∙ ap (λ ls. readings_told (told (setting_of given.catalog) (opening_world given.streams) ls)) (law (asked_of given.catalog) given.lines texts events looks)
+    same_readings (setting_of given.catalog) given.catalog (opening_world given.streams) (numbered 1 (asked given.script texts))
+    ∙ ap (λ ls. readings_told (told (setting_of given.catalog) (opening_world given.streams) ls)) (law (asked_of given.catalog) given.script texts events looks)
 
 -- what was read shows what regions count by positions
-pub by_position : ScriptIsLookedUp → SpansByPosition → (texts : List (List ℕ)) (given : GivenRegions) → All (λ l. l.thread < 64) given.lines → AreBegun given.lines → 1 ≤ length texts →
+pub by_position : ScriptIsLookedUp → SpansByPosition → (texts : List (List ℕ)) (given : GivenRegions) → All (λ l. l.thread < 64) given.script → AreBegun given.script → 1 ≤ length texts →
     is_ok (given_set given.catalog texts) ≡ true → AllFit (readings_in (ran_replies (calls_of texts given))) →
-    spans_from (readings_in (ran_replies (calls_of texts given))) 0 given.lines ≡ region_spans given.catalog.book given.streams (events_named given.catalog texts) given.lines
+    spans_from (readings_in (ran_replies (calls_of texts given))) 0 given.script ≡ region_spans given.catalog.book given.streams (events_named given.catalog texts) given.script
 by_position script_law span_law texts given threads begun some taken fit =
     let t = are_taken given.catalog new_set texts taken in
     let same = readings_of_run script_law texts given (events_named given.catalog texts) (looks_up given.catalog new_set texts t) in
-    rw same (span_law (setting_of given.catalog) given.streams given.lines (events_named given.catalog texts) threads begun (omega (arith, t.long, some)) t.takes (rw same at fit))
+    rw same (span_law (setting_of given.catalog) given.streams given.script (events_named given.catalog texts) threads begun (omega (arith, t.long, some)) t.takes (rw same at fit))

@@ -6,25 +6,21 @@ use Rattle.std.proofs.lemmas.List.Elements.{filter-append}
 use Rattle.std.proofs.lemmas.Option.{get_or_from_slice_get, slice_get_within}
 use Rattle.std.specs.Prelude.{slice_get}
 use Rattle.overflow_dispatch.specs.declared.handler.Note.{Note}
-use Rattle.overflow_dispatch.specs.Notes.{EachAdded, EachBegun}
-use Rattle.component_table.specs.Catalogs.{CatalogView}
-use Rattle.script_lines.specs.declared.script.ScriptLine.{ScriptLine}
+use Rattle.overflow_dispatch.specs.Notes.{EachAdded}
 use Rattle.session_model.specs.declared.reply.Ended.{Ended}
-use Rattle.stream_reader.specs.Reader.{ReaderView}
 use Rattle.plan_runner.specs.declared.result.ReplyLine.{ReplyLine}
 use Rattle.plan_runner.specs.Marks.{marks_in}
 use Rattle.profil_hist.specs.Histograms.{HistText, IsHistogram}
 use Rattle.profil_hist.specs.Ranges.{RangeText}
 use Rattle.tool_words.specs.declared.profil.ProfilWords.{ProfilWords}
 use Rattle.papi_tools.specs.Answers.{Answers}
-use Rattle.papi_tools.specs.Profiling.{CanBeProfiled, GivenProfile, counted_in, is_counted, profile_said, profiled_verdict}
-use Rattle.papi_tools.specs.Running.{note_counts, ran_notes, ran_replies}
-use Rattle.papi_tools.specs.Verdict.{AnswersSaid, TellsBy}
+use Rattle.papi_tools.specs.Profiling.{counted_in, is_counted, profile_said, profiled_verdict}
+use Rattle.papi_tools.specs.Running.{GivenRun, note_counts, ran_notes, ran_replies}
+use Rattle.papi_tools.specs.Verdict.{AnswersSaid}
 use Rattle.papi_tools.specs.declared.refusal.Stop.{Stop}
-use Rattle.papi_tools.specs.declared.refusal.Stop.TheVariants as stop
 use Rattle.papi_tools.specs.declared.said.Said.{Said}
-use Rattle.papi_tools.proofs.RunLemmas.{as_many, given_is}
-use Rattle.papi_tools.proofs.TellingLemmas.{added_begun}
+use Rattle.papi_tools.proofs.RunLemmas.{as_many}
+use Rattle.papi_tools.proofs.StepLemmas.{says_same}
 
 -- ---- the notes, one after another
 
@@ -111,39 +107,18 @@ told_since (b ∷ before) (g ∷ given) (a ∷ after) (suc t) same h =
 abbrev pub counted_since : ProfilWords → List ℕ → List (List Note) → List ℕ
 counted_since words counts after = counted_in words.set words.index (drop (slice_index_or counts words.thread 0) (slice_index_or after words.thread []))
 
-said_is : {X : Type 0} (told : X → List Note) (handlers : Vec X Global) (after : List (List Note)) (words : ProfilWords) (given : GivenProfile) (ranges : List RangeText) (lines : List ReplyLine) (marks : List (Option Ended)) (counts : List ℕ) (said : Said) →
-    vec_len handlers ≡ 64 → ranges ≡ given.ranges → lines ≡ ran_replies given.run → marks ≡ marks_in lines → counts ≡ note_counts (map told handlers.items) → EachAdded (map told handlers.items) (ran_notes given.run) after →
-    said ≡ profile_said ranges marks (counted_since words counts after) → (profiled_verdict words given).said ≡ said
+said_is : {X : Type 0} (told : X → List Note) (handlers : Vec X Global) (after : List (List Note)) (words : ProfilWords) (given : GivenRun) (ranges : List RangeText) (lines : List ReplyLine) (marks : List (Option Ended)) (counts : List ℕ) →
+    vec_len handlers ≡ 64 → lines ≡ ran_replies given → marks ≡ marks_in lines → counts ≡ note_counts (map told handlers.items) → EachAdded (map told handlers.items) (ran_notes given) after →
+    (profiled_verdict words ranges given).said ≡ profile_said ranges marks (counted_since words counts after)
 unfolding profiled_verdict
-said_is told handlers after words given ranges lines marks counts said n r l m c h e =
-    sym (e
-    ∙ ap (λ ks. profile_said ranges marks (counted_since words ks after)) c
-    ∙ ap (λ ns. profile_said ranges marks (counted_in words.set words.index ns)) (told_since (map told handlers.items) (ran_notes given.run) after words.thread (as_many told handlers given.run n) h)
-    ∙ ap (λ rs. profile_said rs marks (counted_in words.set words.index (slice_index_or (ran_notes given.run) words.thread []))) r
-    ∙ ap (λ ms. profile_said given.ranges ms (counted_in words.set words.index (slice_index_or (ran_notes given.run) words.thread []))) (m ∙ ap marks_in l))
+said_is told handlers after words given ranges lines marks counts n l m c h =
+    sym (ap (λ ks. profile_said ranges marks (counted_since words ks after)) c
+    ∙ ap (λ ns. profile_said ranges marks (counted_in words.set words.index ns)) (told_since (map told handlers.items) (ran_notes given) after words.thread (as_many told handlers given n) h)
+    ∙ ap (λ ms. profile_said ranges ms (counted_in words.set words.index (slice_index_or (ran_notes given) words.thread []))) (m ∙ ap marks_in l))
 
 -- what is said of a run is what the definition says
-pub said_told : {X : Type 0} (told : X → List Note) (handlers : Vec X Global) (after : List (List Note)) (words : ProfilWords) (given : GivenProfile) (ranges : List RangeText) (lines : List ReplyLine) (marks : List (Option Ended)) (counts : List ℕ) (answer : Result Said Stop) →
-    vec_len handlers ≡ 64 → ranges ≡ given.ranges → lines ≡ ran_replies given.run → marks ≡ marks_in lines → counts ≡ note_counts (map told handlers.items) → EachAdded (map told handlers.items) (ran_notes given.run) after →
-    Answers answer (Ok (profile_said ranges marks (counted_since words counts after))) → AnswersSaid answer (Ok (profiled_verdict words given))
-said_told told handlers after words given ranges lines marks counts (Ok said) n r l m c h e =
-    let same : profile_said ranges marks (counted_since words counts after) ≡ said = cc e in
-    said_is told handlers after words given ranges lines marks counts said n r l m c h (sym same)
-said_told told handlers after words given ranges lines marks counts (Err (stop.Refused refusal)) n r l m c h e = absurd cc
-said_told told handlers after words given ranges lines marks counts (Err stop.Memory) n r l m c h e = tt
-
--- all notes are told, whatever is said
-pub added_tells : (words : ProfilWords) (given : GivenProfile) (before after : List (List Note)) (answer : Result Said Stop) → EachAdded before (ran_notes given.run) after → TellsBy answer (profiled_verdict words given).notes before after
-unfolding profiled_verdict
-added_tells words given before after (Ok said) h = h
-added_tells words given before after (Err (stop.Refused refusal)) h = h
-added_tells words given before after (Err stop.Memory) h = added_begun before (ran_notes given.run) after h
-
-pub begun_tells : (words : ProfilWords) (given : GivenProfile) (before after : List (List Note)) → EachBegun before (ran_notes given.run) after → TellsBy (Err stop.Memory) (profiled_verdict words given).notes before after
-unfolding profiled_verdict
-begun_tells words given before after h = h
-
--- what can be profiled is made of the ranges and of what can be given to the run
-pub profiled_is : (ranges : List RangeText) (catalog : CatalogView) (script : List ScriptLine) (readers : List ReaderView) (given : GivenProfile) → CanBeProfiled ranges catalog script readers given →
-    record { ranges = ranges; run = record { catalog = catalog; script = script; streams = given.run.streams } } ≡ given
-profiled_is ranges catalog script readers given is = ap₂ (λ rs run. record { ranges = rs; run = run }) is.ranges_are (given_is catalog script readers given.run is.run)
+pub said_told : {X : Type 0} (told : X → List Note) (handlers : Vec X Global) (after : List (List Note)) (words : ProfilWords) (given : GivenRun) (ranges : List RangeText) (lines : List ReplyLine) (marks : List (Option Ended)) (counts : List ℕ) (answer : Result Said Stop) →
+    vec_len handlers ≡ 64 → lines ≡ ran_replies given → marks ≡ marks_in lines → counts ≡ note_counts (map told handlers.items) → EachAdded (map told handlers.items) (ran_notes given) after →
+    Answers answer (Ok (profile_said ranges marks (counted_since words counts after))) → AnswersSaid answer (Ok (profiled_verdict words ranges given))
+said_told told handlers after words given ranges lines marks counts answer n l m c h e =
+    says_same answer (profile_said ranges marks (counted_since words counts after)) (profiled_verdict words ranges given) e (said_is told handlers after words given ranges lines marks counts n l m c h)

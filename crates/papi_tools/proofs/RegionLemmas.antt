@@ -12,22 +12,27 @@ use Rattle.plan_runner.specs.declared.result.ReplyLine.{ReplyLine}
 use Rattle.plan_runner.proofs.Worlds.{some-streams}
 use Rattle.region_report.specs.CallLines as Calls
 use Rattle.region_report.specs.CallLines.{asked, numbered}
-use Rattle.region_laws.specs.Nesting.{AreBegun}
+use Rattle.region_laws.specs.Nesting.{AreBegun, ScriptsAreBegun}
 use Rattle.region_laws.specs.Scripts.{ScriptIsLookedUp}
 use Rattle.region_laws.specs.Spans.{AllFit, SpansByPosition}
 use Rattle.region_report.specs.Kept.{IsRegions}
 use Rattle.region_report.specs.Reports.{report_text}
+use Rattle.region_report.specs.Scripts.{regions_of}
 use Rattle.region_report.specs.Spans.{spans_from}
+use Rattle.region_report.specs.declared.fault.RegionCause.{RegionCause}
 use Rattle.region_report.specs.declared.regions.RegionLine.{RegionLine}
+use Rattle.script_lines.specs.ByLine.{Refused}
 use Rattle.script_lines.specs.declared.script.ScriptLine.{ScriptLine}
 use Rattle.session_model.specs.declared.reply.Ended.{Ended}
 use Rattle.stream_reader.specs.Reader.{ReaderView}
 use Rattle.tool_words.specs.EventList as Words
 use Rattle.papi_tools.specs.Answers.{Answers, IsExpected}
+use Rattle.papi_tools.specs.Contents.{lines_unless, regions_in}
 use Rattle.papi_tools.specs.Marks.{marked_said}
-use Rattle.papi_tools.specs.RegionCounts.{CanBeCounted, GivenRegions, calls_of, counted_said, readings_in, regions_said, said_with, values_in}
+use Rattle.papi_tools.specs.RegionCounts.{GivenRegions, calls_of, counted_said, readings_in, regions_said, said_with, values_in}
 use Rattle.papi_tools.specs.Running.{CanBeGivenRun, GivenRun, ran_replies}
 use Rattle.papi_tools.specs.Texts.{text_said}
+use Rattle.papi_tools.specs.declared.refusal.Refusal.TheVariants as refusal
 use Rattle.papi_tools.specs.declared.refusal.Stop.{Stop}
 use Rattle.papi_tools.specs.declared.refusal.Stop.TheVariants as stop
 use Rattle.papi_tools.specs.declared.said.Said.{Said}
@@ -46,7 +51,7 @@ reading_more lines i line now next small is step so_far =
 
 -- the calls that the region script asks for are what is given to the run
 pub are_calls : (catalog : CatalogView) (lines : List RegionLine) (script : List ScriptLine) (readers : List ReaderView) (events : List (List ℕ)) (given : GivenRun) → CanBeGivenRun catalog script readers given →
-    script ≡ numbered 1 (asked lines events) → given ≡ calls_of events (record { catalog = catalog; lines = lines; streams = given.streams })
+    script ≡ numbered 1 (asked lines events) → given ≡ calls_of events (let regions : GivenRegions = record { catalog = catalog; script = lines; streams = given.streams } in regions)
 are_calls catalog lines script readers events given is e =
     ap₂ (λ k ls. record { catalog = k; script = ls; streams = given.streams }) (sym is.catalog_is) (sym is.script_is ∙ e)
 
@@ -81,7 +86,7 @@ counted_by events given named = taken_by events given (given_set given.catalog e
 
 -- the report, if all are taken
 pub counted_told : ScriptIsLookedUp → SpansByPosition → (catalog : CatalogView) (lines : List RegionLine) (events : List (List ℕ)) (given : GivenRegions) (taken : Bool) (replies : List ReplyLine) (marks : List (Option Ended))
-    (answer : Result Said Stop) → catalog ≡ given.catalog → lines ≡ given.lines → IsRegions lines → AreBegun lines → 1 ≤ length events → taken ≡ all_taken catalog events → taken ≡ true →
+    (answer : Result Said Stop) → catalog ≡ given.catalog → lines ≡ given.script → IsRegions lines → AreBegun lines → 1 ≤ length events → taken ≡ all_taken catalog events → taken ≡ true →
     replies ≡ ran_replies (calls_of events given) → marks ≡ marks_in replies → IfOk answer (λ _. AllFit (readings_in replies)) →
     Answers answer (Ok (marked_said marks (report_text (length events) (spans_from (readings_in replies) 0 lines)))) → Answers answer (Ok (regions_said events given))
 counted_told script_law span_law catalog lines events given taken replies marks (Ok said) catalog_is lines_are kept begun some t named r m fit h =
@@ -98,17 +103,21 @@ counted_told script_law span_law catalog lines events given taken replies marks 
 -- ---- if nothing is run
 
 pub nothing_counted : (catalog : CatalogView) (lines : List RegionLine) (readers : List ReaderView) (events : List (List ℕ)) (answer : Result Said Stop) → length readers ≡ 64 →
-    ((given : GivenRegions) → catalog ≡ given.catalog → Answers answer (Ok (regions_said events given))) → (given : GivenRegions) × CanBeCounted catalog lines readers given × Answers answer (Ok (regions_said events given))
+    ((given : GivenRegions) → catalog ≡ given.catalog → Answers answer (Ok (regions_said events given))) → (given : GivenRegions) × CanBeGivenRun catalog lines readers given × Answers answer (Ok (regions_said events given))
 nothing_counted catalog lines readers events answer long said =
     let (streams, can) = some-streams readers long in
-    let given : GivenRegions = record { catalog = catalog; lines = lines; streams = streams } in
-    (given, record { catalog_is = refl; lines_are = refl; can_come = can }, said given refl)
+    let given : GivenRegions = record { catalog = catalog; script = lines; streams = streams } in
+    (given, record { catalog_is = refl; script_is = refl; can_come = can }, said given refl)
 
 -- the script of calls is not refused, so memory ran out
 pub out_of_memory : {A B : Type 0} (s : Stop) (x : A) (y : B) → Answers (Err s) (Ok x) → Answers (Err s) (Ok y)
 out_of_memory (stop.Refused refusal) x y h = absurd cc
 out_of_memory stop.Memory x y h = tt
 
--- what can be counted is made of the catalog, the lines and the streams
-pub counted_is : (catalog : CatalogView) (lines : List RegionLine) (readers : List ReaderView) (given : GivenRegions) → CanBeCounted catalog lines readers given → record { catalog = catalog; lines = lines; streams = given.streams } ≡ given
-counted_is catalog lines readers given is = ap₂ (λ k ls. record { catalog = k; lines = ls; streams = given.streams }) is.catalog_is is.lines_are
+-- the lines of a region script name the readings at which their regions began
+pub begun_of : ScriptsAreBegun → (lines : List RegionLine) → (name bytes : List ℕ) × (regions_in name bytes ≡ Ok lines) → AreBegun lines
+begun_of law lines (name, bytes, is) = by_lines (regions_of bytes) refl is
+  where
+    by_lines : (read : Result (List RegionLine) (Refused RegionCause)) → regions_of bytes ≡ read → lines_unless refusal.RegionLine name read ≡ Ok lines → AreBegun lines
+    by_lines (Ok some) e h = let same : some ≡ lines = cc h in law bytes lines (e ∙ ap Ok same)
+    by_lines (Err refused) e h = absurd cc

@@ -6,7 +6,7 @@ use Rattle.std.specs.Option.{option_map, option_map_or}
 use Rattle.event_sets.specs.AtRest.{Widths}
 use Rattle.postfix_rules.specs.Presets.{Book}
 use Rattle.overflow_dispatch.specs.declared.handler.Note.{Note}
-use Rattle.overflow_dispatch.specs.Notes.{EachAdded, EachBegun, told_since}
+use Rattle.overflow_dispatch.specs.Notes.{EachAdded, told_since}
 use Rattle.overflow_dispatch.proofs.SinceLemmas.{added_is_told}
 use Rattle.papi_base.specs.Outside.{Rose}
 use Rattle.session_model.specs.World.{LineTold, notes_of_thread}
@@ -23,13 +23,12 @@ use Rattle.plan_runner.specs.Runs.{AllKept, IsPlannedAndTold, IsPlannedFrom, rep
 use Rattle.plan_runner.proofs.Worlds.{some-streams}
 use Rattle.script_runner.specs.Resolving.{lines_of, reply_lines_of, setting_of}
 use Rattle.papi_tools.specs.Answers.{Answers}
-use Rattle.papi_tools.specs.Causes.{MetCause}
+use Rattle.papi_tools.specs.Causes.{Shows}
 use Rattle.papi_tools.specs.Marks.{marked_said, outcome_at}
 use Rattle.papi_tools.specs.Run.{ran_verdict, run_said, shown_notes}
-use Rattle.papi_tools.specs.Running.{CanBeGivenRun, GivenRun, IsGivenRun, note_counts, ran_notes, ran_replies, told_in}
-use Rattle.papi_tools.specs.Seen.{FilesSeen}
+use Rattle.papi_tools.specs.Running.{CanBeGivenRun, GivenOf, GivenRun, IsGivenRun, note_counts, ran_notes, ran_replies, told_in}
 use Rattle.papi_tools.specs.Streams.{SomeFailed, sources_in}
-use Rattle.papi_tools.specs.Verdict.{AnswersSaid, TellsBy}
+use Rattle.papi_tools.specs.Verdict.{AnswersSaid}
 use Rattle.papi_tools.specs.declared.refusal.Stop.{Stop}
 use Rattle.papi_tools.specs.declared.refusal.Stop.TheVariants as stop
 use Rattle.papi_tools.specs.declared.said.Said.{Said}
@@ -37,7 +36,7 @@ use Rattle.papi_tools.specs.declared.status.Outcome.{Outcome}
 use Rattle.papi_tools.specs.declared.status.Outcome.TheVariants.{Whole, No, Refused, ReadFault}
 use Rattle.papi_tools.proofs.FaultLemmas.{SomeFault, fault_replied, never_no}
 use Rattle.papi_tools.proofs.StreamLemmas.{sources_in-append}
-use Rattle.papi_tools.proofs.TellingLemmas.{added_begun}
+use Rattle.papi_tools.proofs.StepLemmas.{says_same}
 
 -- ---- the run of a script
 
@@ -152,58 +151,39 @@ said_is told handlers after given wanted lines marks counts said n l m c h e =
 pub said_told : {X : Type 0} (told : X → List Note) (handlers : Vec X Global) (after : List (List Note)) (given : GivenRun) (catalog : CatalogView) (wanted : Bool) (lines : List ReplyLine) (marks : List (Option Ended)) (counts : List ℕ) (answer : Result Said Stop) →
     vec_len handlers ≡ 64 → catalog ≡ given.catalog → lines ≡ ran_replies given → marks ≡ marks_in lines → counts ≡ note_counts (map told handlers.items) → EachAdded (map told handlers.items) (ran_notes given) after →
     Answers answer (Ok (run_said catalog lines marks (if wanted then told_since counts after else []))) → AnswersSaid answer (Ok (ran_verdict wanted given))
-said_told told handlers after given catalog wanted lines marks counts (Ok said) n k l m c h e =
-    said_is told handlers after given wanted lines marks counts said n l m c h
-    (let same : run_said catalog lines marks (if wanted then told_since counts after else []) ≡ said = cc e in
-    sym same ∙ ap (λ x. run_said x lines marks (if wanted then told_since counts after else [])) k)
-said_told told handlers after given catalog wanted lines marks counts (Err (stop.Refused refusal)) n k l m c h e = absurd cc
-said_told told handlers after given catalog wanted lines marks counts (Err stop.Memory) n k l m c h e = tt
+said_told told handlers after given catalog wanted lines marks counts answer n k l m c h e =
+    says_same answer (run_said catalog lines marks (if wanted then told_since counts after else [])) (ran_verdict wanted given) e
+    (said_is told handlers after given wanted lines marks counts (run_said catalog lines marks (if wanted then told_since counts after else [])) n l m c h
+    (ap (λ x. run_said x lines marks (if wanted then told_since counts after else [])) k))
 
--- all notes are told, whatever is said
-pub added_tells : (wanted : Bool) (given : GivenRun) (before after : List (List Note)) (answer : Result Said Stop) → EachAdded before (ran_notes given) after → TellsBy answer (ran_verdict wanted given).notes before after
-unfolding ran_verdict
-added_tells wanted given before after (Ok said) h = h
-added_tells wanted given before after (Err (stop.Refused refusal)) h = h
-added_tells wanted given before after (Err stop.Memory) h = added_begun before (ran_notes given) after h
+-- what runs met shows in how a call ends
+shows_met : (MaySayNo : Type 0) (lines : List ReplyLine) (marks : List (Option Ended)) (before after : ℕ) → marks ≡ marks_in lines →
+    (SomeFault lines → Rose before after) → (o : Outcome) → outcome_at marks ≡ o → Shows MaySayNo before after o
+shows_met MaySayNo lines marks before after m h Whole e = tt
+shows_met MaySayNo lines marks before after m h No e = absurd (never_no marks e)
+shows_met MaySayNo lines marks before after m h Refused e = tt
+shows_met MaySayNo lines marks before after m h ReadFault e = h (fault_replied lines (rw m at e))
 
-pub begun_tells : (wanted : Bool) (given : GivenRun) (before after : List (List Note)) → EachBegun before (ran_notes given) after → TellsBy (Err stop.Memory) (ran_verdict wanted given).notes before after
-unfolding ran_verdict
-begun_tells wanted given before after h = h
-
--- what runs met is the cause of how a call ends
-met_of : (lines : List ReplyLine) (marks : List (Option Ended)) (text : List ℕ) (before after : FilesSeen) → marks ≡ marks_in lines →
-    (SomeFault lines → Rose before.faults after.faults) → (o : Outcome) → outcome_at marks ≡ o → MetCause o before after (marked_said marks text)
-met_of lines marks text before after m h Whole e = tt
-met_of lines marks text before after m h No e = tt
-met_of lines marks text before after m h Refused e = (marks, e, refl)
-met_of lines marks text before after m h ReadFault e = h (fault_replied lines (rw m at e))
-
-pub met_in_said : (lines : List ReplyLine) (marks : List (Option Ended)) (text : List ℕ) (before after : FilesSeen) (answer : Result Said Stop) → Answers answer (Ok (marked_said marks text)) →
-    marks ≡ marks_in lines → (SomeFault lines → Rose before.faults after.faults) → IfOk answer (λ said. MetCause said.outcome before after said)
-met_in_said lines marks text before after (Ok said) e m h =
+pub run_shows : (MaySayNo : Type 0) (lines : List ReplyLine) (marks : List (Option Ended)) (text : List ℕ) (before after : ℕ) (answer : Result Said Stop) → Answers answer (Ok (marked_said marks text)) →
+    marks ≡ marks_in lines → (SomeFault lines → Rose before after) → IfOk answer (λ said. Shows MaySayNo before after said.outcome)
+run_shows MaySayNo lines marks text before after (Ok said) e m h =
     let same : marked_said marks text ≡ said = cc e in
-    rw (← same) (met_of lines marks text before after m h (outcome_at marks) refl)
-met_in_said lines marks text before after (Err s) e m h = tt
+    rw (← same) (shows_met MaySayNo lines marks before after m h (outcome_at marks) refl)
+run_shows MaySayNo lines marks text before after (Err s) e m h = tt
 
--- what is said of a run is no no
-pub marked_yes : (lines : List ReplyLine) (marks : List (Option Ended)) (text : List ℕ) (answer : Result Said Stop) → Answers answer (Ok (marked_said marks text)) → marks ≡ marks_in lines →
-    IfOk answer (λ said. said.outcome ≢ No)
-marked_yes lines marks text (Ok said) e m =
-    let same : marked_said marks text ≡ said = cc e in
-    rw (← same) (never_no marks)
-marked_yes lines marks text (Err s) e m = tt
+later : (MaySayNo : Type 0) (before between after : ℕ) (o : Outcome) → before ≤ between → between ≤ after → Shows MaySayNo between after o → Shows MaySayNo before after o
+later MaySayNo before between after Whole small big h = tt
+later MaySayNo before between after No small big h = h
+later MaySayNo before between after Refused small big h = tt
+later MaySayNo before between after ReadFault small big h = let r : Rose between after = h in grind arith
 
-met_at : (o : Outcome) (before between after : FilesSeen) (said : Said) → before.faults ≤ between.faults → between.faults ≤ after.faults → MetCause o between after said → MetCause o before after said
-met_at Whole before between after said small big h = tt
-met_at No before between after said small big h = tt
-met_at Refused before between after said small big h = h
-met_at ReadFault before between after said small big h = let r : Rose between.faults after.faults = h in grind arith
-
-pub met_later : (before between after : FilesSeen) (answer : Result Said Stop) → before.faults ≤ between.faults → between.faults ≤ after.faults → IfOk answer (λ said. MetCause said.outcome between after said) →
-    IfOk answer (λ said. MetCause said.outcome before after said)
-met_later before between after (Ok said) small big h = met_at said.outcome before between after said small big h
-met_later before between after (Err s) small big h = tt
+-- also if more was looked at before
+pub shows_later : (MaySayNo : Type 0) (before between after : ℕ) (answer : Result Said Stop) → before ≤ between → between ≤ after → IfOk answer (λ said. Shows MaySayNo between after said.outcome) →
+    IfOk answer (λ said. Shows MaySayNo before after said.outcome)
+shows_later MaySayNo before between after (Ok said) small big h = later MaySayNo before between after said.outcome small big h
+shows_later MaySayNo before between after (Err s) small big h = tt
 
 -- what can be given is made of the catalog, the script and the streams
-pub given_is : (catalog : CatalogView) (script : List ScriptLine) (readers : List ReaderView) (given : GivenRun) → CanBeGivenRun catalog script readers given → record { catalog = catalog; script = script; streams = given.streams } ≡ given
-given_is catalog script readers given is = ap₂ (λ k ls. record { catalog = k; script = ls; streams = given.streams }) is.catalog_is is.script_is
+pub given_is : {A : Type 0} (catalog : CatalogView) (script : A) (readers : List ReaderView) (given : GivenOf A) → CanBeGivenRun catalog script readers given →
+    (let made : GivenOf A = record { catalog = catalog; script = script; streams = given.streams } in made) ≡ given
+given_is {A} catalog script readers given is = ap₂ (λ (k : CatalogView) (x : A). let made : GivenOf A = record { catalog = k; script = x; streams = given.streams } in made) is.catalog_is is.script_is

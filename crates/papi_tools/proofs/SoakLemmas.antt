@@ -5,7 +5,7 @@ use Rattle.std.proofs.lemmas.List.FromFn.{map-range_with_len_more}
 use Rattle.std.specs.Prelude.{find, slice_index, slice_index_or}
 use Rattle.std.specs.List.{range_with_len}
 use Rattle.overflow_dispatch.specs.declared.handler.Note.{Note}
-use Rattle.overflow_dispatch.specs.Notes.{EachAdded, EachBegun}
+use Rattle.overflow_dispatch.specs.Notes.{EachAdded}
 use Rattle.papi_base.specs.Streams.{Coming}
 use Rattle.stream_reader.specs.Reader.{ReaderView, coming}
 use Rattle.component_table.specs.Catalogs.{CatalogView}
@@ -16,16 +16,17 @@ use Rattle.tool_words.specs.declared.soak.SoakWords.{SoakWords}
 use Rattle.papi_tools.specs.Answers.{Answers, AnswersBy}
 use Rattle.papi_tools.specs.Running.{GivenRun, IsGivenRun, note_counts, ran_notes, ran_replies}
 use Rattle.papi_tools.specs.Soaking.{soak_given, soak_tape, soak_tapes, soak_verdict, soaked, stop_values, summary_said, thread_total, thread_totals, total_between, totals_between}
-use Rattle.papi_tools.specs.Steps.{Verdict, and_then}
+use Rattle.papi_tools.specs.Steps.{and_then}
 use Rattle.papi_tools.specs.Streams.{empty_stream, stream_of, streams_of}
-use Rattle.papi_tools.specs.Verdict.{AnswersSaid, TellsBy, notes_in}
+use Rattle.papi_tools.specs.Verdict.{AnswersSaid, ComesTo, notes_in}
 use Rattle.papi_tools.specs.declared.refusal.Refusal.{Refusal}
 use Rattle.papi_tools.specs.declared.refusal.Stop.{Stop}
 use Rattle.papi_tools.specs.declared.refusal.Stop.TheVariants as stop
 use Rattle.papi_tools.specs.declared.said.Said.{Said}
 use Rattle.papi_tools.proofs.RunLemmas.{counted}
+use Rattle.papi_tools.proofs.StepLemmas.{says_same}
 use Rattle.papi_tools.proofs.StreamLemmas.{all_streams}
-use Rattle.papi_tools.proofs.TellingLemmas.{added_begun, none_added, none_begun}
+use Rattle.papi_tools.proofs.TellingLemmas.{none_added, none_begun}
 
 -- ---- the streams
 
@@ -92,62 +93,33 @@ said_is told handlers later given lines counts said all l c h e =
 pub said_told : {X : Type 0} (told : X → List Note) (handlers : Vec X Global) (later : List X) (given : GivenRun) (lines : List ReplyLine) (counts : List ℕ) (answer : Result Said Stop) → vec_len handlers ≡ 64 →
     lines ≡ ran_replies given → counts ≡ note_counts (map told handlers.items) → EachAdded (map told handlers.items) (ran_notes given) (map told later) →
     Answers answer (Ok (summary_said (totals_between lines counts (map (λ x. length (told x)) later)) (length lines))) → AnswersSaid answer (Ok (soaked given))
-said_told told handlers later given lines counts (Ok said) n l c h e =
+said_told told handlers later given lines counts answer n l c h e =
     let all : length handlers.items ≡ 64 = omega (arith, n) in
-    let same : said ≡ summary_said (totals_between lines counts (map (λ x. length (told x)) later)) (length lines) = cc e in
-    said_is told handlers.items later given lines counts said all l c h same
-said_told told handlers later given lines counts (Err (stop.Refused refusal)) n l c h e = absurd cc
-said_told told handlers later given lines counts (Err stop.Memory) n l c h e = tt
-
--- all notes are told, whatever is said
-pub added_tells : (given : GivenRun) (before after : List (List Note)) (answer : Result Said Stop) → EachAdded before (ran_notes given) after → TellsBy answer (soaked given).notes before after
-unfolding soaked
-added_tells given before after (Ok said) h = h
-added_tells given before after (Err (stop.Refused refusal)) h = h
-added_tells given before after (Err stop.Memory) h = added_begun before (ran_notes given) after h
-
-pub begun_tells : (given : GivenRun) (before after : List (List Note)) → EachBegun before (ran_notes given) after → TellsBy (Err stop.Memory) (soaked given).notes before after
-unfolding soaked
-begun_tells given before after h = h
+    let said = summary_said (totals_between lines counts (map (λ x. length (told x)) later)) (length lines) in
+    says_same answer said (soaked given) e (said_is told handlers.items later given lines counts said all l c h refl)
 
 -- ---- the whole of it
 
-said_by : (expected : Result GivenRun Refusal) (catalog : CatalogView) (script : List ScriptLine) (readers : List ReaderView) (answer : Result Said Stop) → IsOkAnd expected (IsGivenRun catalog script readers) →
-    ((given : GivenRun) → IsGivenRun catalog script readers given → AnswersSaid answer (Ok (soaked given))) → AnswersSaid answer (and_then expected (λ given. Ok (soaked given)))
-said_by (Ok given) catalog script readers answer is each = each given is
-said_by (Err refusal) catalog script readers answer is each = absurd is
+comes_by : (expected : Result GivenRun Refusal) (catalog : CatalogView) (script : List ScriptLine) (readers : List ReaderView) (before after : List (List Note)) (answer : Result Said Stop) →
+    IsOkAnd expected (IsGivenRun catalog script readers) → ((given : GivenRun) → IsGivenRun catalog script readers given → ComesTo answer (Ok (soaked given)) before after) →
+    ComesTo answer (and_then expected (λ given. Ok (soaked given))) before after
+comes_by (Ok given) catalog script readers before after answer is each = each given is
+comes_by (Err refusal) catalog script readers before after answer is each = absurd is
 
-pub run_told : (words : SoakWords) (rounds : ℕ) (catalog : CatalogView) (script : List ScriptLine) (readers : List ReaderView) (answer : Result Said Stop) → rounds ≡ words.rounds →
-    IsOkAnd (soak_given rounds) (IsGivenRun catalog script readers) → ((given : GivenRun) → IsGivenRun catalog script readers given → AnswersSaid answer (Ok (soaked given))) → AnswersSaid answer (soak_verdict words)
+pub run_comes : (words : SoakWords) (rounds : ℕ) (catalog : CatalogView) (script : List ScriptLine) (readers : List ReaderView) (before after : List (List Note)) (answer : Result Said Stop) → rounds ≡ words.rounds →
+    IsOkAnd (soak_given rounds) (IsGivenRun catalog script readers) → ((given : GivenRun) → IsGivenRun catalog script readers given → ComesTo answer (Ok (soaked given)) before after) → ComesTo answer (soak_verdict words) before after
 unfolding soak_verdict
-run_told words rounds catalog script readers answer same is each = rw (← same) (said_by (soak_given rounds) catalog script readers answer is each)
-
-tells_by : (expected : Result GivenRun Refusal) (catalog : CatalogView) (script : List ScriptLine) (readers : List ReaderView) (before after : List (List Note)) (answer : Result Said Stop) →
-    IsOkAnd expected (IsGivenRun catalog script readers) → ((given : GivenRun) → IsGivenRun catalog script readers given → TellsBy answer (soaked given).notes before after) →
-    TellsBy answer (notes_in (and_then expected (λ given. Ok (soaked given)))) before after
-tells_by (Ok given) catalog script readers before after answer is each = each given is
-tells_by (Err refusal) catalog script readers before after answer is each = absurd is
-
-pub run_tells : (words : SoakWords) (rounds : ℕ) (catalog : CatalogView) (script : List ScriptLine) (readers : List ReaderView) (before after : List (List Note)) (answer : Result Said Stop) →
-    rounds ≡ words.rounds → IsOkAnd (soak_given rounds) (IsGivenRun catalog script readers) → ((given : GivenRun) → IsGivenRun catalog script readers given → TellsBy answer (soaked given).notes before after) →
-    TellsBy answer (notes_in (soak_verdict words)) before after
-unfolding soak_verdict
-run_tells words rounds catalog script readers before after answer same is each = rw (← same) (tells_by (soak_given rounds) catalog script readers before after answer is each)
+run_comes words rounds catalog script readers before after answer same is each = rw (← same) (comes_by (soak_given rounds) catalog script readers before after answer is each)
 
 -- an answer that is not a value
 abbrev pub IsRefusedBy : Stop → Result GivenRun Refusal → Type 0
 IsRefusedBy s expected = AnswersBy {A = Unit {0}} (λ x e. Unit {0}) (Err s) expected
 
-refused_by : (expected : Result GivenRun Refusal) (s : Stop) → IsRefusedBy s expected → AnswersSaid (Err s) (and_then expected (λ given. Ok (soaked given)))
-refused_by expected (stop.Refused refusal) h = let e : expected ≡ Err refusal = h in rw e refl
-refused_by expected stop.Memory h = tt
+refused_by : (expected : Result GivenRun Refusal) (s : Stop) (lists : List (List Note)) → IsRefusedBy s expected → ComesTo (Err s) (and_then expected (λ given. Ok (soaked given))) lists lists
+refused_by expected (stop.Refused refusal) lists h = let e : expected ≡ Err refusal = h in rw e (record { said = refl; told = none_added lists [] refl })
+refused_by expected stop.Memory lists h = record { said = tt; told = none_begun lists (notes_in (and_then expected (λ given. Ok (soaked given)))) }
 
--- a refusal of what was made would end the call
-pub run_refused : (words : SoakWords) (rounds : ℕ) (s : Stop) → rounds ≡ words.rounds → IsRefusedBy s (soak_given rounds) → AnswersSaid (Err s) (soak_verdict words)
+-- a refusal of what was made would end the call, and nothing is told then
+pub run_refused : (words : SoakWords) (rounds : ℕ) (s : Stop) (lists : List (List Note)) → rounds ≡ words.rounds → IsRefusedBy s (soak_given rounds) → ComesTo (Err s) (soak_verdict words) lists lists
 unfolding soak_verdict
-run_refused words rounds s same h = rw (← same) (refused_by (soak_given rounds) s h)
-
--- and nothing is told then
-pub none_told : (expected : Result Verdict Refusal) (lists : List (List Note)) (s : Stop) → AnswersSaid (Err s) expected → TellsBy (Err s) (notes_in expected) lists lists
-none_told expected lists (stop.Refused refusal) h = let e : expected ≡ Err refusal = h in rw e (none_added lists [] refl)
-none_told expected lists stop.Memory h = none_begun lists (notes_in expected)
+run_refused words rounds s lists same h = rw (← same) (refused_by (soak_given rounds) s lists h)

@@ -1,47 +1,65 @@
 -- A tool whose verdict is made of what its steps gave: what is said and told is what is expected.
-use Rattle.std.proofs.Common.{List, [], Option, Result, Ok, Err, refl}
+use Rattle.std.proofs.Common.{◌≡◌, ◌∙◌, List, [], Option, Result, Ok, Err, refl}
 use Rattle.overflow_dispatch.specs.declared.handler.Note.{Note}
+use Rattle.overflow_dispatch.specs.Notes.{EachAdded}
 use Rattle.papi_base.specs.Outside.{Held}
 use Rattle.papi_tools.specs.Answers.{Answers}
-use Rattle.papi_tools.specs.Openings.{Ends, ForSome, Openings}
-use Rattle.papi_tools.specs.Steps.{Verdict, and_then}
-use Rattle.papi_tools.specs.Verdict.{ComesTo, notes_in}
+use Rattle.papi_tools.specs.Openings.{Ends, ForSome, Is, Leads, Openings, Stops}
+use Rattle.papi_tools.specs.Steps.{Verdict, and_then, quiet}
+use Rattle.papi_tools.specs.Verdict.{AnswersSaid, ComesTo, TellsBy, notes_in}
 use Rattle.papi_tools.specs.declared.refusal.Refusal.{Refusal}
 use Rattle.papi_tools.specs.declared.refusal.Stop.{Stop}
 use Rattle.papi_tools.specs.declared.refusal.Stop.TheVariants as stop
 use Rattle.papi_tools.specs.declared.said.Said.{Said}
-use Rattle.papi_tools.proofs.FindingLemmas.{some_openings}
-use Rattle.papi_tools.proofs.TellingLemmas.{none_added, none_begun}
-
--- what is said and told of something that the steps can have given
-pub ran_after : {I X : Type 0} (CanBe : I → X → Type 0) (input : I) (gives : Openings → Result X Refusal) (verdict : X → Verdict) (held : Option Held) (before after : List (List Note)) (answer : Result Said Stop) →
-    Ends CanBe (Ok input) gives held → ((x : X) × CanBe input x × ComesTo answer (Ok (verdict x)) before after) → ForSome held (λ o. ComesTo answer (and_then (gives o) (λ x. Ok (verdict x))) before after)
-ran_after CanBe input gives verdict held before after answer ends (x, can, comes) =
-    let (o, o_can, gave) = ends x can in
-    (o, o_can, rw gave comes)
+use Rattle.papi_tools.proofs.FindingLemmas.{so_after, so_at_end, some_openings}
+use Rattle.papi_tools.proofs.TellingLemmas.{added_begun, none_added, none_begun}
 
 -- a step that failed ends the call, and nothing is told
-pub stopped_after : {I X : Type 0} (CanBe : I → X → Type 0) (gives : Openings → Result X Refusal) (verdict : X → Verdict) (held : Option Held) (lists : List (List Note)) (s : Stop) →
-    Ends CanBe (Err s) gives held → ForSome held (λ o. ComesTo (Err s) (and_then (gives o) (λ x. Ok (verdict x))) lists lists)
-stopped_after CanBe gives verdict held lists (stop.Refused refusal) ends =
-    let (o, can, gave) = ends in
+pub stopped : (s : Stop) (gives : Openings → Result Verdict Refusal) (held : Option Held) (lists : List (List Note)) → Stops s gives held → ForSome held (λ o. ComesTo (Err s) (gives o) lists lists)
+stopped (stop.Refused refusal) gives held lists one =
+    let (o, can, gave) = one in
     (o, can, rw gave (record { said = refl; told = none_added lists [] refl }))
-stopped_after CanBe gives verdict held lists stop.Memory ends =
+stopped stop.Memory gives held lists one =
     let (o, can) = some_openings held in
-    (o, can, record { said = tt; told = none_begun lists (notes_in (and_then (gives o) (λ x. Ok (verdict x)))) })
+    (o, can, record { said = tt; told = none_begun lists (notes_in (gives o)) })
 
--- the same of a tool that tells no handler anything
-pub said_after : {I X : Type 0} (CanBe : I → X → Type 0) (input : I) (gives : Openings → Result X Refusal) (say : X → Said) (held : Option Held) (answer : Result Said Stop) → Ends CanBe (Ok input) gives held →
-    ((x : X) × CanBe input x × Answers answer (Ok (say x))) → ForSome held (λ o. Answers answer (and_then (gives o) (λ x. Ok (say x))))
-said_after CanBe input gives say held answer ends (x, can, said) =
-    let (o, o_can, gave) = ends x can in
-    (o, o_can, rw gave said)
+-- what is said and told after a step that gave a value
+pub comes_after : {A : Type 0} (value : A) (answer : Result Said Stop) (gives : Openings → Result A Refusal) (next : A → Openings → Result Verdict Refusal) (rest : Openings → Openings) (held mid : Option Held)
+    (before after : List (List Note)) → Leads Is (Ok value) gives rest held mid → ForSome mid (λ o. ComesTo answer (next value o) before after) →
+    ForSome held (λ o. ComesTo answer (and_then (gives o) (λ v. next v (rest o))) before after)
+comes_after value answer gives next rest held mid before after one two = so_after (λ e. ComesTo answer e before after) value gives next rest held mid one two
 
-pub refused_after : {I X : Type 0} (CanBe : I → X → Type 0) (gives : Openings → Result X Refusal) (say : X → Said) (held : Option Held) (s : Stop) → Ends CanBe (Err s) gives held →
-    ForSome held (λ o. Answers (Err s) (and_then (gives o) (λ x. Ok (say x))))
-refused_after CanBe gives say held (stop.Refused refusal) ends =
-    let (o, can, gave) = ends in
-    (o, can, rw gave refl)
-refused_after CanBe gives say held stop.Memory ends =
-    let (o, can) = some_openings held in
-    (o, can, tt)
+-- and after the last step that opens files
+pub comes_at_end : {I X : Type 0} (CanBe : I → X → Type 0) (input : I) (gives : Openings → Result X Refusal) (verdict : X → Verdict) (held : Option Held) (before after : List (List Note)) (answer : Result Said Stop) →
+    Ends CanBe (Ok input) gives held → ((x : X) × CanBe input x × ComesTo answer (Ok (verdict x)) before after) → ForSome held (λ o. ComesTo answer (and_then (gives o) (λ x. Ok (verdict x))) before after)
+comes_at_end CanBe input gives verdict held before after answer ends some = so_at_end (λ e. ComesTo answer e before after) CanBe input gives verdict held ends some
+
+-- ---- what is told
+
+-- all notes are told, whatever is said
+pub tells_all : (answer : Result Said Stop) (given before after : List (List Note)) → EachAdded before given after → TellsBy answer given before after
+tells_all (Ok said) given before after h = h
+tells_all (Err (stop.Refused refusal)) given before after h = h
+tells_all (Err stop.Memory) given before after h = added_begun before given after h
+
+-- what is said is what is expected
+pub says_same : (answer : Result Said Stop) (said : Said) (verdict : Verdict) → Answers answer (Ok said) → verdict.said ≡ said → AnswersSaid answer (Ok verdict)
+says_same (Ok x) said verdict h e = let same : said ≡ x = cc h in e ∙ same
+says_same (Err (stop.Refused refusal)) said verdict h e = absurd cc
+says_same (Err stop.Memory) said verdict h e = tt
+
+-- ---- a tool that tells no handler anything
+
+by_answer : (answer : Result Said Stop) (expected : Result Said Refusal) → Answers answer expected → AnswersSaid answer (quiet expected)
+by_answer (Ok said) expected h = let e : expected ≡ Ok said = h in rw e refl
+by_answer (Err (stop.Refused refusal)) expected h = let e : expected ≡ Err refusal = h in rw e refl
+by_answer (Err stop.Memory) expected h = tt
+
+no_notes : (expected : Result Said Refusal) → notes_in (quiet expected) ≡ []
+no_notes (Ok said) = refl
+no_notes (Err refusal) = refl
+
+pub quiet_comes : (held : Option Held) (answer : Result Said Stop) (expected : Openings → Result Said Refusal) (lists : List (List Note)) →
+    ForSome held (λ o. Answers answer (expected o)) → ForSome held (λ o. ComesTo answer (quiet (expected o)) lists lists)
+quiet_comes held answer expected lists (o, can, h) =
+    (o, can, record { said = by_answer answer (expected o) h; told = tells_all answer (notes_in (quiet (expected o))) lists lists (none_added lists (notes_in (quiet (expected o))) (no_notes (expected o))) })

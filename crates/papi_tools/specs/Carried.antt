@@ -1,14 +1,15 @@
 -- The contract of a tool: what a call with these words writes, how it ends, and what it tells the handlers.
-use Rattle.std.specs.Prelude.{◌≡◌, ◌≢◌, ◌<◌, ◌⊎◌, ℕ, List}
-use Rattle.papi_base.specs.Outside.{Rose}
+use Rattle.std.specs.Prelude.{◌≡◌, ◌≢◌, ◌<◌, ◌⊎◌, ℕ, List, Option, Err}
+use Rattle.papi_base.specs.Outside.{Held, Rose}
 use Rattle.overflow_dispatch.specs.declared.handler.Note.{Note}
 use Rattle.overflow_dispatch.specs.Notes.{EachGrown}
 use Rattle.tool_words.specs.Form.{form}
-use Rattle.papi_tools.specs.Causes.{IsCaused, SaysNo}
+use Rattle.papi_tools.specs.Causes.{SaysNo, Shows}
 use Rattle.papi_tools.specs.Openings.{ForSome, Openings}
 use Rattle.papi_tools.specs.Saying.{HasSinkCause, IsJudged, Says, SaysAll, TellsNotes}
-use Rattle.papi_tools.specs.Seen.{FilesSeen, SinkSeen}
-use Rattle.papi_tools.specs.Verdict.{verdict}
+use Rattle.papi_tools.specs.Seen.{FilesSeen, SinkSeen, files_seen, sink_seen}
+use Rattle.papi_tools.specs.Verdict.{verdict, verdict_for}
+use Rattle.papi_tools.specs.declared.refusal.Refusal.TheVariants.{NoSuchFile}
 use Rattle.papi_tools.specs.declared.status.Status.{Status}
 use Rattle.papi_tools.specs.declared.status.Status.TheVariants as status
 
@@ -17,7 +18,8 @@ pub record CarriesOutOver (openings : Openings) (words : List (List ℕ)) (s : S
   -- what the words come to is said
   pub says : Says s (verdict words openings).said out.taken out'.taken err.taken err'.taken
   -- it has its cause in the words or in the counts of the files
-  pub cause : s ≢ status.Memory → IsCaused (form words) files files' (verdict words openings).said
+  pub shows : s ≢ status.Memory → Shows (SaysNo (form words)) files.faults files'.faults (verdict words openings).said.outcome
+  pub missing : s ≢ status.Memory → (name : List ℕ) → verdict_for openings (form words) ≡ Err (NoSuchFile name) → Rose files.misses files'.misses
   pub no : s ≡ status.No → SaysNo (form words)
   pub read_fault : s ≡ status.ReadFault → Rose files.faults files'.faults
   pub sinks : HasSinkCause s out.faults out'.faults err.faults err'.faults
@@ -41,3 +43,15 @@ CarriesOut words s files files' out out' err err' = ForSome files.held (λ openi
 abbrev pub CarriesOutAndTells : List (List ℕ) → Status → FilesSeen → FilesSeen → SinkSeen → SinkSeen → SinkSeen → SinkSeen → List (List Note) → List (List Note) → Type 0
 CarriesOutAndTells words s files files' out out' err err' before after =
     ForSome files.held (λ openings. CarriesOutOver openings words s files files' out out' err err' × TellsOver openings words s before after)
+
+-- The same two, by what types of files and of sinks say of values.
+abbrev pub CarriesOutBy : {F K : Type 0} → (F → Option Held) → (F → ℕ) → (F → ℕ) → (F → ℕ) → (K → Option (List ℕ)) → (K → ℕ) → List (List ℕ) → Status → F → F → K → K → K → K → Type 0
+CarriesOutBy held misses faults lent taken failed words s files files' out out' err err' =
+    CarriesOut words s (files_seen held misses faults lent files) (files_seen held misses faults lent files')
+    (sink_seen taken failed out) (sink_seen taken failed out') (sink_seen taken failed err) (sink_seen taken failed err')
+
+abbrev pub CarriesOutAndTellsBy : {F K : Type 0} → (F → Option Held) → (F → ℕ) → (F → ℕ) → (F → ℕ) → (K → Option (List ℕ)) → (K → ℕ) → List (List ℕ) → Status → F → F → K → K → K → K →
+    List (List Note) → List (List Note) → Type 0
+CarriesOutAndTellsBy held misses faults lent taken failed words s files files' out out' err err' before after =
+    CarriesOutAndTells words s (files_seen held misses faults lent files) (files_seen held misses faults lent files')
+    (sink_seen taken failed out) (sink_seen taken failed out') (sink_seen taken failed err) (sink_seen taken failed err') before after

@@ -6,12 +6,11 @@ use Rattle.tool_words.specs.declared.decode.DecodeWords.{DecodeWords}
 use Rattle.user_events.specs.Events.{ExtendedView}
 use Rattle.user_events.specs.Written.{extended_text}
 use Rattle.papi_tools.specs.Opening.{file_bytes}
-use Rattle.papi_tools.specs.PresetFile.{presets_of}
+use Rattle.papi_tools.specs.Contents.{presets_of, unit_under}
 use Rattle.papi_tools.specs.declared.limits.TheConstants.{TABLE_BYTES}
 use Rattle.papi_tools.specs.Openings.{Openings, opened}
 use Rattle.papi_tools.specs.Steps.{and_then}
 use Rattle.papi_tools.specs.Texts.{text_said}
-use Rattle.papi_tools.specs.UnitFile.{unit_under}
 use Rattle.papi_tools.specs.declared.refusal.Refusal.{Refusal}
 use Rattle.papi_tools.specs.declared.said.Said.{Said}
 

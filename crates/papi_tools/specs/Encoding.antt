@@ -12,7 +12,7 @@ use Rattle.tool_words.specs.declared.encode.EncodeWords.{EncodeWords}
 use Rattle.papi_tools.specs.Openings.{Openings}
 use Rattle.papi_tools.specs.Steps.{and_then}
 use Rattle.papi_tools.specs.Texts.{text_said}
-use Rattle.papi_tools.specs.UnitFile.{unit_under}
+use Rattle.papi_tools.specs.Contents.{unit_under}
 use Rattle.papi_tools.specs.declared.refusal.Refusal.{Refusal}
 use Rattle.papi_tools.specs.declared.said.Said.{Said}
 

@@ -47,18 +47,21 @@ CanGive told tape = IfSome told (λ t. t ≡ tape)
 abbrev pub ForSome : Option Held → (Openings → Type 0) → Type 0
 ForSome held Is = (openings : Openings) × CanOpen held openings × Is openings
 
+-- A step that ends the call so: some openings give the refusal.
+abbrev pub Stops : {B : Type 0} → Stop → (Openings → Result B Refusal) → Option Held → Type 0
+Stops (Refused refusal) gives before = ForSome before (λ openings. gives openings ≡ Err refusal)
+Stops Memory gives before = Unit {0}
+
 -- The last step of those that open files, with this answer: whatever its value can stand for is what some openings give.
 abbrev pub Ends : {A B : Type 0} → (A → B → Type 0) → Result A Stop → (Openings → Result B Refusal) → Option Held → Type 0
 Ends {A} {B} CanBe (Ok value) gives before = (expected : B) → CanBe value expected → ForSome before (λ openings. gives openings ≡ Ok expected)
-Ends {A} {B} CanBe (Err (Refused refusal)) gives before = ForSome before (λ openings. gives openings ≡ Err refusal)
-Ends {A} {B} CanBe (Err Memory) gives before = Unit {0}
+Ends {A} {B} CanBe (Err s) gives before = Stops s gives before
 
 -- A step with others after it: the same, whatever the openings after it find.
 abbrev pub Leads : {A B : Type 0} → (A → B → Type 0) → Result A Stop → (Openings → Result B Refusal) → (Openings → Openings) → Option Held → Option Held → Type 0
 Leads {A} {B} CanBe (Ok value) gives rest before after =
     (expected : B) → CanBe value expected → (later : Openings) → CanOpen after later → ForSome before (λ openings. (gives openings ≡ Ok expected) × (rest openings ≡ later))
-Leads {A} {B} CanBe (Err (Refused refusal)) gives rest before after = ForSome before (λ openings. gives openings ≡ Err refusal)
-Leads {A} {B} CanBe (Err Memory) gives rest before after = Unit {0}
+Leads {A} {B} CanBe (Err s) gives rest before after = Stops s gives before
 
 -- the value itself is meant
 abbrev pub Is : {A : Type 0} → A → A → Type 0

@@ -7,15 +7,13 @@ use Rattle.session_model.specs.declared.reply.Ended.{Ended}
 use Rattle.component_table.specs.Catalogs.{CatalogView}
 use Rattle.plan_runner.specs.Marks.{marks_in}
 use Rattle.plan_runner.specs.declared.result.ReplyLine.{ReplyLine}
-use Rattle.script_lines.specs.declared.script.ScriptLine.{ScriptLine}
 use Rattle.script_runner.specs.Replies.{notes_text, replies_text}
 use Rattle.tool_words.specs.declared.run.RunWords.{RunWords}
 use Rattle.papi_tools.specs.Marks.{marked_said}
-use Rattle.papi_tools.specs.Running.{GivenRun, ran_notes, ran_replies}
-use Rattle.papi_tools.specs.ScriptFile.{script_under}
-use Rattle.papi_tools.specs.Openings.{Openings, opened}
+use Rattle.papi_tools.specs.Running.{GivenRun, given_of, ran_notes, ran_replies}
+use Rattle.papi_tools.specs.Contents.{script_under}
+use Rattle.papi_tools.specs.Openings.{Openings}
 use Rattle.papi_tools.specs.Steps.{Verdict, and_then}
-use Rattle.papi_tools.specs.Streams.{streams_under}
 use Rattle.papi_tools.specs.Tables.{after_tables, catalog_under}
 use Rattle.papi_tools.specs.declared.refusal.Refusal.{Refusal}
 use Rattle.papi_tools.specs.declared.said.Said.{Said}
@@ -36,20 +34,11 @@ ran_verdict wanted given = record {
   notes = ran_notes given;
 }
 
--- what is given with this catalog and this script: the streams in their order
-abbrev pub given_with : CatalogView → List ScriptLine → RunWords → Openings → Result GivenRun Refusal
-given_with catalog script words openings =
-    and_then (streams_under openings words.streams) (λ streams. Ok (record { catalog = catalog; script = script; streams = streams }))
+-- what comes of this catalog: the script, then the streams, then the run
+abbrev pub ran_of : RunWords → CatalogView → Openings → Result Verdict Refusal
+ran_of words catalog openings = and_then (given_of catalog (λ o. script_under o words.script) words.streams openings) (λ given. Ok (ran_verdict words.notes given))
 
--- what is given with this catalog: the script, then the streams
-abbrev pub given_of : CatalogView → RunWords → Openings → Result GivenRun Refusal
-given_of catalog words openings = and_then (script_under openings words.script) (λ script. given_with catalog script words (opened openings))
-
--- the tables, then the script, then the streams in their order
-unfoldable pub given_under : Openings → RunWords → Result GivenRun Refusal
-given_under openings words =
-    and_then (catalog_under openings words.unit words.presets) (λ catalog. given_of catalog words (after_tables words.presets openings))
-
--- what is given, and then the run
+-- the tables, then the script, then the streams in their order, and then the run
 unfoldable pub run_verdict : Openings → RunWords → Result Verdict Refusal
-run_verdict openings words = and_then (given_under openings words) (λ given. Ok (ran_verdict words.notes given))
+run_verdict openings words =
+    and_then (catalog_under openings words.unit words.presets) (λ catalog. ran_of words catalog (after_tables words.presets openings))

@@ -12,7 +12,6 @@ use Rattle.session_model.specs.declared.reply.Body.{Body}
 use Rattle.session_model.specs.declared.reply.Body.TheVariants.{Values}
 use Rattle.component_table.specs.Catalogs.{catalog_of}
 use Rattle.plan_runner.specs.declared.result.ReplyLine.{ReplyLine}
-use Rattle.script_lines.specs.Scripts.{script_of}
 use Rattle.soak_input.specs.Script.{script_text}
 use Rattle.soak_input.specs.Streams.{stream_text}
 use Rattle.soak_input.specs.Summary.{summary_text}
@@ -21,11 +20,10 @@ use Rattle.soak_input.specs.declared.limits.TheConstants.{SOAK_THREADS}
 use Rattle.soak_input.specs.declared.summary.ThreadTotal.{ThreadTotal}
 use Rattle.tool_words.specs.declared.soak.SoakWords.{SoakWords}
 use Rattle.papi_tools.specs.Running.{GivenRun, ran_notes, ran_replies}
-use Rattle.papi_tools.specs.ScriptFile.{script_unless}
+use Rattle.papi_tools.specs.Contents.{script_in, unit_of}
 use Rattle.papi_tools.specs.Steps.{Verdict, and_then}
 use Rattle.papi_tools.specs.Streams.{streams_of}
 use Rattle.papi_tools.specs.Texts.{text_said}
-use Rattle.papi_tools.specs.UnitFile.{unit_of}
 use Rattle.papi_tools.specs.declared.refusal.Refusal.{Refusal}
 use Rattle.papi_tools.specs.declared.said.Said.{Said}
 
@@ -43,7 +41,7 @@ soak_tapes rounds = map (soak_tape rounds) (range_with_len 0 SOAK_THREADS)
 unfoldable pub soak_given : ℕ → Result GivenRun Refusal
 soak_given rounds =
     and_then (unit_of (codes "lab.unit") unit_text) (λ tables.
-    and_then (script_unless (codes "soak.script") (script_of (script_text rounds))) (λ script.
+    and_then (script_in (codes "soak.script") (script_text rounds)) (λ script.
     Ok (record { catalog = catalog_of tables None; script = script; streams = streams_of (soak_tapes rounds) })))
 
 -- ---- what is said of it

@@ -3,10 +3,9 @@ use Rattle.std.specs.Prelude.{ℕ, List, Option, Result, Ok}
 use Rattle.component_table.specs.Catalogs.{CatalogView, catalog_of}
 use Rattle.event_tables.specs.Tables.{ComponentText}
 use Rattle.tool_words.specs.declared.presets.PresetWords.{PresetWords}
-use Rattle.papi_tools.specs.PresetFile.{after_presets, presets_asked}
+use Rattle.papi_tools.specs.Contents.{after_presets, presets_asked, unit_under}
 use Rattle.papi_tools.specs.Openings.{Openings, opened}
 use Rattle.papi_tools.specs.Steps.{and_then}
-use Rattle.papi_tools.specs.UnitFile.{unit_under}
 use Rattle.papi_tools.specs.declared.refusal.Refusal.{Refusal}
 
 -- the catalog of these tables, with the presets that are asked for

@@ -1,5 +1,6 @@
 -- What a call of the program comes to, as a function of its words and of what its openings find.
 use Rattle.std.specs.Prelude.{◌≡◌, ℕ, List, [], Option, Some, None, IfOk, IsOkAnd, OnErr, OnOk, Result, Ok, Err}
+use Rattle.papi_base.specs.Outside.{Rose}
 use Rattle.overflow_dispatch.specs.declared.handler.Note.{Note}
 use Rattle.overflow_dispatch.specs.Notes.{EachAdded, EachBegun}
 use Rattle.tool_words.specs.Form.{form}
@@ -17,9 +18,10 @@ use Rattle.papi_tools.specs.RegionCounts.{regions_verdict}
 use Rattle.papi_tools.specs.Run.{run_verdict}
 use Rattle.papi_tools.specs.Soaking.{soak_verdict}
 use Rattle.papi_tools.specs.Openings.{Openings}
+use Rattle.papi_tools.specs.Seen.{FilesSeen}
 use Rattle.papi_tools.specs.Steps.{Verdict, quiet}
 use Rattle.papi_tools.specs.declared.refusal.Refusal.{Refusal}
-use Rattle.papi_tools.specs.declared.refusal.Refusal.TheVariants.{BadWords}
+use Rattle.papi_tools.specs.declared.refusal.Refusal.TheVariants.{BadWords, NoSuchFile}
 use Rattle.papi_tools.specs.declared.refusal.Stop.{Stop}
 use Rattle.papi_tools.specs.declared.refusal.Stop.TheVariants as stop
 use Rattle.papi_tools.specs.declared.said.Said.{Said}
@@ -84,8 +86,9 @@ pub record ComesTo (answer : Result Said Stop) (expected : Result Verdict Refusa
   pub said : AnswersSaid answer expected
   pub told : TellsBy answer (notes_in expected) before after
 
--- What is to be said is what the call comes to, and its notes are told; if memory ran out, a prefix of them.
-pub record IsSettledAs {E : Type 0} (result : Result Said E) (verdict : Verdict) (before after : List (List Note)) : Type 0 where
-  pub said : IfOk result (λ said. said ≡ verdict.said)
-  pub told : OnOk result (EachAdded before verdict.notes after)
-  pub begun : OnErr result (EachBegun before verdict.notes after)
+-- What is to be said is what is expected, and its notes are told; if memory ran out, a prefix of them. A file is missing only if the misses rose.
+pub record IsSettledAs {E : Type 0} (result : Result Said E) (expected : Result Verdict Refusal) (files files' : FilesSeen) (before after : List (List Note)) : Type 0 where
+  pub said : IfOk result (λ said. said ≡ (ended expected).said)
+  pub missing : OnOk result ((name : List ℕ) → expected ≡ Err (NoSuchFile name) → Rose files.misses files'.misses)
+  pub told : OnOk result (EachAdded before (ended expected).notes after)
+  pub begun : OnErr result (EachBegun before (ended expected).notes after)

@@ -1,19 +1,19 @@
 //! `papi_event_chooser`: lists the events that can be added to given ones.
-ghost use Rattle.std.specs.Prelude.{◌≡◌, IfOk};
+ghost use Rattle.std.specs.Prelude.{◌≡◌, IfOk, Ok};
 ghost use Rattle.papi_tools.specs.Answers.{Answers};
 ghost use Rattle.papi_tools.specs.Causes.{IsTextual};
 ghost use Rattle.papi_tools.specs.Choosing as Choosing;
 ghost use Rattle.papi_tools.specs.Choosing.{chooser_verdict, choice_said};
-ghost use Rattle.papi_tools.specs.Looking.{Looked};
+ghost use Rattle.papi_tools.specs.Looking.{Looked, StopsByFile};
 ghost use Rattle.papi_tools.specs.Openings.{ForSome};
-ghost use Rattle.papi_tools.specs.Seen.{files_seen};
+ghost use Rattle.papi_tools.specs.Seen.{FilesSeen, files_seen};
 
 use crate::tables::read_catalog;
 use crate::{Said, Stop};
 use chooser_list::{Candidates, choose};
 use component_table::Catalog;
 use papi_base::{Files, Text};
-use std::alloc::{AllocError, Global};
+use std::alloc::Global;
 use tool_words::{ChooserWords, EventKind};
 
 // The candidates of a kind.
@@ -27,14 +27,10 @@ fn candidates_of(kind: EventKind) -> Candidates
 }
 
 // What is said of the given events.
-fn said_of(
-    alloc: Global,
-    catalog: &Catalog,
-    kind: EventKind,
-    events: &[Text],
-) -> Result<Said, AllocError>
-    ensures said { IfOk result (λ said. said ≡ choice_said catalog.now kind events.now) }
+fn said_of(alloc: Global, catalog: &Catalog, kind: EventKind, events: &[Text]) -> Result<Said, Stop>
+    ensures said { Answers result (Ok (choice_said catalog.now kind events.now)) }
     ensures textual { IfOk result (λ said. IsTextual said.outcome) }
+    ensures cause { (before after : FilesSeen) → StopsByFile result before after }
 {
     let choice = choose(alloc, catalog, candidates_of(kind), events)?;
     Ok(Said::text(alloc, choice.all_taken, choice.text))
@@ -53,7 +49,6 @@ pub fn choose_events<F: Files>(
     ensures looked { Looked result 0 (files_seen F.held F.misses F.faults F.lent files.old)
         (files_seen F.held F.misses F.faults F.lent files.new) }
 {
-    let catalog = read_catalog(alloc, files, &words.unit, &words.presets)?;
-    let said = said_of(alloc, &catalog, words.kind, words.events.as_slice())?;
-    Ok(said)
+    let catalog = read_catalog(alloc, files, &words.unit, words.presets.as_ref())?;
+    said_of(alloc, &catalog, words.kind, words.events.as_slice())
 }

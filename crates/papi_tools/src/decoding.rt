@@ -1,5 +1,5 @@
 //! `papi_decode`: gives the presets and user events of a cpu.
-ghost use Rattle.std.specs.Prelude.{◌≡◌, ◌≢◌, IfOk};
+ghost use Rattle.std.specs.Prelude.{◌≢◌, IfOk, Ok};
 ghost use Rattle.papi_tools.specs.Answers.{Answers};
 ghost use Rattle.papi_tools.specs.Causes.{IsTextual};
 ghost use Rattle.papi_tools.specs.Decoding.{decode_verdict, decoded_said, shown_in};
@@ -8,13 +8,14 @@ ghost use Rattle.papi_tools.specs.Openings.{ForSome};
 ghost use Rattle.papi_tools.specs.Seen.{FilesSeen, files_seen};
 ghost use Rattle.papi_tools.specs.declared.status.Outcome.TheVariants as outcome;
 
+use crate::contents::read_file;
+use crate::limits::TABLE_BYTES;
 use crate::preset_file::{presets_in, read_preset_bytes};
-use crate::unit_file::read_unit_file;
 use crate::{Said, Stop};
 use component_table::Catalog;
 use event_tables::Tables;
 use papi_base::{Bytes, Files};
-use std::alloc::{AllocError, Global};
+use std::alloc::Global;
 use tool_words::DecodeWords;
 use user_events::{Extended, write_extended};
 
@@ -40,10 +41,11 @@ fn shown_of(
 }
 
 // What is said of presets and user events.
-fn said_of(alloc: Global, presets: &Extended) -> Result<Said, AllocError>
-    ensures said { IfOk result (λ said. said ≡ decoded_said presets.now) }
+fn said_of(alloc: Global, presets: &Extended) -> Result<Said, Stop>
+    ensures said { Answers result (Ok (decoded_said presets.now)) }
     ensures textual { IfOk result (λ said. IsTextual said.outcome) }
     ensures yes { IfOk result (λ said. said.outcome ≢ outcome.No) }
+    ensures cause { (before after : FilesSeen) → StopsByFile result before after }
 {
     let text = write_extended(alloc, presets)?;
     Ok(Said::text(alloc, true, Bytes::new(text)))
@@ -63,9 +65,8 @@ pub fn decode_presets<F: Files>(
     ensures looked { Looked result 0 (files_seen F.held F.misses F.faults F.lent files.old)
         (files_seen F.held F.misses F.faults F.lent files.new) }
 {
-    let tables = read_unit_file(alloc, files, words.unit.as_str())?;
+    let tables: Tables = read_file(alloc, files, words.unit.as_str(), TABLE_BYTES)?;
     let bytes = read_preset_bytes(alloc, files, &words.presets)?;
     let presets = shown_of(alloc, words, tables, bytes.as_slice())?;
-    let said = said_of(alloc, &presets)?;
-    Ok(said)
+    said_of(alloc, &presets)
 }

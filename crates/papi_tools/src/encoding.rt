@@ -1,13 +1,14 @@
 //! `papi_encode`: gives the codes of events.
-ghost use Rattle.std.specs.Prelude.{◌≡◌, IfOk, string_bytes};
+ghost use Rattle.std.specs.Prelude.{◌≡◌, IfOk, Ok, string_bytes};
 ghost use Rattle.papi_tools.specs.Answers.{Answers};
 ghost use Rattle.papi_tools.specs.Causes.{IsTextual};
 ghost use Rattle.papi_tools.specs.Encoding.{answer_line, encode_verdict, encoded_said};
-ghost use Rattle.papi_tools.specs.Looking.{Looked};
+ghost use Rattle.papi_tools.specs.Looking.{Looked, StopsByFile};
 ghost use Rattle.papi_tools.specs.Openings.{ForSome};
-ghost use Rattle.papi_tools.specs.Seen.{files_seen};
+ghost use Rattle.papi_tools.specs.Seen.{FilesSeen, files_seen};
 
-use crate::unit_file::read_unit_file;
+use crate::contents::read_file;
+use crate::limits::TABLE_BYTES;
 use crate::{Said, Stop};
 use event_tables::Tables;
 use name_encoder::{NameFault, cause_word, code64, encode, write_name};
@@ -39,9 +40,10 @@ fn line_of(
 
 // What is said of names.
 #[tactic(auto, unfolding(crate::specs::Encoding::encoded_said))]
-fn said_of(alloc: Global, tables: &Tables, names: &[Text]) -> Result<Said, AllocError>
-    ensures said { IfOk result (λ said. said ≡ encoded_said tables.now names.now) }
+fn said_of(alloc: Global, tables: &Tables, names: &[Text]) -> Result<Said, Stop>
+    ensures said { Answers result (Ok (encoded_said tables.now names.now)) }
     ensures textual { IfOk result (λ said. IsTextual said.outcome) }
+    ensures cause { (before after : FilesSeen) → StopsByFile result before after }
 {
     let mut all_encode = true;
     let mut lines = Bytes::new(Vec::new(alloc));
@@ -68,7 +70,6 @@ pub fn encode_names<F: Files>(
     ensures looked { Looked result 0 (files_seen F.held F.misses F.faults F.lent files.old)
         (files_seen F.held F.misses F.faults F.lent files.new) }
 {
-    let tables = read_unit_file(alloc, files, words.unit.as_str())?;
-    let said = said_of(alloc, &tables, words.names.as_slice())?;
-    Ok(said)
+    let tables: Tables = read_file(alloc, files, words.unit.as_str(), TABLE_BYTES)?;
+    said_of(alloc, &tables, words.names.as_slice())
 }

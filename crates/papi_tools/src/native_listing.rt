@@ -1,19 +1,20 @@
 //! `papi_native_avail`: lists the native events of a unit, or says what one of them is.
-ghost use Rattle.std.specs.Prelude.{◌≡◌, IfOk, IsSome, option_map};
+ghost use Rattle.std.specs.Prelude.{◌≡◌, IfOk, IsSome, Ok, option_map};
 ghost use Rattle.papi_tools.specs.Answers.{Answers};
 ghost use Rattle.papi_tools.specs.Causes.{IsTextual};
-ghost use Rattle.papi_tools.specs.Looking.{Looked};
+ghost use Rattle.papi_tools.specs.Looking.{Looked, StopsByFile};
 ghost use Rattle.papi_tools.specs.NativeListing.{native_avail_verdict, natives_said};
 ghost use Rattle.papi_tools.specs.Openings.{ForSome};
-ghost use Rattle.papi_tools.specs.Seen.{files_seen};
+ghost use Rattle.papi_tools.specs.Seen.{FilesSeen, files_seen};
 ghost use Rattle.papi_tools.specs.declared.status.Outcome.TheVariants as outcome;
 
-use crate::unit_file::read_unit_file;
+use crate::contents::read_file;
+use crate::limits::TABLE_BYTES;
 use crate::{Said, Stop};
 use event_tables::Tables;
 use listing_text::{native_event, native_list};
 use papi_base::{Bytes, Files, Text};
-use std::alloc::{AllocError, Global};
+use std::alloc::Global;
 use tool_words::NativeAvailWords;
 
 // The text, if it is there.
@@ -27,10 +28,11 @@ fn str_of(text: &Option<Text>) -> Option<&str>
 }
 
 // What is said of the native events of a unit.
-fn said_of(alloc: Global, tables: &Tables, words: &NativeAvailWords) -> Result<Said, AllocError>
-    ensures said { IfOk result (λ said. said ≡ natives_said tables.now words.now words.now.event) }
+fn said_of(alloc: Global, tables: &Tables, words: &NativeAvailWords) -> Result<Said, Stop>
+    ensures said { Answers result (Ok (natives_said tables.now words.now words.now.event)) }
     ensures textual { IfOk result (λ said. IsTextual said.outcome) }
     ensures no { IfOk result (λ said. said.outcome ≡ outcome.No → IsSome words.now.event) }
+    ensures cause { (before after : FilesSeen) → StopsByFile result before after }
 {
     match &words.event {
         None => {
@@ -60,7 +62,6 @@ pub fn list_natives<F: Files>(
     ensures looked { Looked result 0 (files_seen F.held F.misses F.faults F.lent files.old)
         (files_seen F.held F.misses F.faults F.lent files.new) }
 {
-    let tables = read_unit_file(alloc, files, words.unit.as_str())?;
-    let said = said_of(alloc, &tables, words)?;
-    Ok(said)
+    let tables: Tables = read_file(alloc, files, words.unit.as_str(), TABLE_BYTES)?;
+    said_of(alloc, &tables, words)
 }

@@ -1,10 +1,10 @@
 //! Preset files by name.
+ghost use Rattle.std.specs.Option.{option_copied};
 ghost use Rattle.papi_tools.specs.Answers.{Answers};
+ghost use Rattle.papi_tools.specs.Contents.{after_presets, presets_asked, presets_of};
 ghost use Rattle.papi_tools.specs.Looking.{Looked, StopsByFile};
 ghost use Rattle.papi_tools.specs.Opening.{file_bytes};
 ghost use Rattle.papi_tools.specs.Openings.{Is, Leads, opened};
-ghost use Rattle.papi_tools.specs.PresetFile as PresetFile;
-ghost use Rattle.papi_tools.specs.PresetFile.{after_presets, presets_of, presets_under};
 ghost use Rattle.papi_tools.specs.Seen.{FilesSeen, files_seen};
 
 use crate::limits::TABLE_BYTES;
@@ -17,7 +17,7 @@ use tool_words::PresetWords;
 use user_events::{Extended, read_extended};
 
 /// The presets and user events for the asked cpu in the bytes of a preset file, or its first fault.
-#[tactic(auto, unfolding(crate::specs::PresetFile::presets_of))]
+#[tactic(auto, unfolding(crate::specs::Contents::presets_of))]
 pub fn presets_in(alloc: Global, words: &PresetWords, bytes: &[u8]) -> Result<Extended, Stop>
     ensures told { Answers result (presets_of words.now bytes.now) }
     ensures cause { (before after : FilesSeen) → StopsByFile result before after }
@@ -49,35 +49,21 @@ pub fn read_preset_bytes<F: Files>(
     whole_file(alloc, files, words.file.as_str(), TABLE_BYTES)
 }
 
-/// Reads the presets and user events that are asked for, or says why not.
-pub fn read_preset_file<F: Files>(
-    alloc: Global,
-    files: &mut F,
-    words: &PresetWords,
-) -> Result<Extended, Stop>
-    ensures found { Leads Is result (λ openings. presets_under openings words.now) opened
-        (F.held files.old) (F.held files.new) }
-    ensures looked { Looked result 0 (files_seen F.held F.misses F.faults F.lent files.old)
-        (files_seen F.held F.misses F.faults F.lent files.new) }
-{
-    let bytes = read_preset_bytes(alloc, files, words)?;
-    presets_in(alloc, words, bytes.as_slice())
-}
-
 /// Reads the presets and user events if they are asked for, or says why not.
 pub fn read_presets_asked<F: Files>(
     alloc: Global,
     files: &mut F,
-    words: &Option<PresetWords>,
+    words: Option<&PresetWords>,
 ) -> Result<Option<Extended>, Stop>
-    ensures found { Leads Is result (λ openings. PresetFile.presets_asked openings words.now)
-        (after_presets words.now) (F.held files.old) (F.held files.new) }
+    ensures found { Leads Is result (λ openings. presets_asked openings (option_copied words.entry))
+        (after_presets (option_copied words.entry)) (F.held files.old) (F.held files.new) }
     ensures looked { Looked result 0 (files_seen F.held F.misses F.faults F.lent files.old)
         (files_seen F.held F.misses F.faults F.lent files.new) }
 {
     match words {
         Some(words) => {
-            let presets = read_preset_file(alloc, files, words)?;
+            let bytes = read_preset_bytes(alloc, files, words)?;
+            let presets = presets_in(alloc, words, bytes.as_slice())?;
             Ok(Some(presets))
         }
         None => Ok(None),

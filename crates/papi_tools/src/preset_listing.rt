@@ -1,19 +1,19 @@
 //! `papi_avail`: lists the presets and user events of a cpu, or says what one of them is.
-ghost use Rattle.std.specs.Prelude.{◌≡◌, IfOk, IsSome};
+ghost use Rattle.std.specs.Prelude.{◌≡◌, IfOk, IsSome, Ok};
 ghost use Rattle.papi_tools.specs.Answers.{Answers};
 ghost use Rattle.papi_tools.specs.Causes.{IsTextual};
-ghost use Rattle.papi_tools.specs.Looking.{Looked};
+ghost use Rattle.papi_tools.specs.Looking.{Looked, StopsByFile};
 ghost use Rattle.papi_tools.specs.Openings.{ForSome};
 ghost use Rattle.papi_tools.specs.PresetListing.{avail_verdict, presets_said};
-ghost use Rattle.papi_tools.specs.Seen.{files_seen};
+ghost use Rattle.papi_tools.specs.Seen.{FilesSeen, files_seen};
 ghost use Rattle.papi_tools.specs.declared.status.Outcome.TheVariants as outcome;
 
-use crate::tables::read_preset_catalog;
+use crate::tables::read_catalog;
 use crate::{Said, Stop};
 use component_table::Catalog;
 use listing_text::{avail_event, avail_list};
 use papi_base::{Bytes, Files, Text};
-use std::alloc::{AllocError, Global};
+use std::alloc::Global;
 use tool_words::AvailWords;
 
 // What is said of the presets and user events of a catalog.
@@ -22,10 +22,11 @@ fn said_of(
     catalog: &Catalog,
     available: bool,
     event: &Option<Text>,
-) -> Result<Said, AllocError>
-    ensures said { IfOk result (λ said. said ≡ presets_said catalog.now available event.now) }
+) -> Result<Said, Stop>
+    ensures said { Answers result (Ok (presets_said catalog.now available event.now)) }
     ensures textual { IfOk result (λ said. IsTextual said.outcome) }
     ensures no { IfOk result (λ said. said.outcome ≡ outcome.No → IsSome event.now) }
+    ensures cause { (before after : FilesSeen) → StopsByFile result before after }
 {
     match event {
         None => {
@@ -53,7 +54,6 @@ pub fn list_presets<F: Files>(
     ensures looked { Looked result 0 (files_seen F.held F.misses F.faults F.lent files.old)
         (files_seen F.held F.misses F.faults F.lent files.new) }
 {
-    let catalog = read_preset_catalog(alloc, files, &words.unit, &words.presets)?;
-    let said = said_of(alloc, &catalog, words.available, &words.event)?;
-    Ok(said)
+    let catalog = read_catalog(alloc, files, &words.unit, Some(&words.presets))?;
+    said_of(alloc, &catalog, words.available, &words.event)
 }

@@ -1,35 +1,30 @@
 //! `papi_profil`: counts where in a program the thresholds of an event were passed.
-ghost use Rattle.std.specs.Prelude.{◌≡◌, ◌≢◌, ◌≤◌, ◌<◌, ◌-◌, ◌+◌, ◌^◌, ◌∷◌, ◌++◌, All, IfOk};
+ghost use Rattle.std.specs.Prelude.{◌≡◌, ◌≤◌, ◌<◌, ◌+◌, ◌^◌, ◌∷◌, ◌++◌, IfOk};
 ghost use Rattle.std.specs.Prelude.{OnOk, ℕ, [], List, drop, length, map, slice_get, slice_index_or, vec_len};
 ghost use Rattle.overflow_dispatch.specs.Notes.{EachGrown};
 ghost use Rattle.profil_hist.specs.Histograms.{IsHistogram};
-ghost use Rattle.thread_session.specs.SessionView.{IsFresh};
 ghost use Rattle.papi_tools.specs.Answers.{Answers};
-ghost use Rattle.papi_tools.specs.Causes.{MetCause};
-ghost use Rattle.papi_tools.specs.Looking.{Looked, StopsByFile, out_with};
-ghost use Rattle.papi_tools.specs.Openings.{Ends, ForSome};
-ghost use Rattle.papi_tools.specs.Profiling.{CanBeProfiled, GivenProfile, counted_in, is_counted, profil_verdict, profile_said, profiled_under, profiled_verdict};
+ghost use Rattle.papi_tools.specs.Causes.{Shows};
+ghost use Rattle.papi_tools.specs.Looking.{Looked, StopsByFile};
+ghost use Rattle.papi_tools.specs.Openings.{ForSome};
+ghost use Rattle.papi_tools.specs.Profiling.{counted_in, is_counted, profil_verdict, profile_said};
 ghost use Rattle.papi_tools.specs.Seen.{FilesSeen, files_seen};
-ghost use Rattle.papi_tools.specs.Streams.{sources_in};
 ghost use Rattle.papi_tools.specs.Verdict.{ComesTo};
-ghost use Rattle.papi_tools.specs.declared.status.Outcome.TheVariants as outcome;
 
-use crate::map_file::read_map_file;
+use crate::contents::read_file;
+use crate::input::{Input, open_input};
+use crate::limits::TABLE_BYTES;
 use crate::marks::{lines_of, outcome_of};
-use crate::script_file::read_script_file;
-use crate::script_run::{RanScript, run_script};
-use crate::streams::{close_readers, open_readers};
+use crate::script_run::{RanScript, run_and_close};
 use crate::tables::read_catalog;
 use crate::{Output, Said, Stop};
-use component_table::Catalog;
 use overflow_dispatch::{Handler, Note};
-use papi_base::{Bytes, Files, Source, THREADS};
+use papi_base::{Bytes, Files, THREADS};
 use profil_hist::{Hist, Map, profile_text};
 use script_lines::Script;
 use std::alloc::{AllocError, Global};
 use std::marker::{Send, Sync};
 use std::thread::Threads;
-use stream_reader::StreamReader;
 use tool_words::ProfilWords;
 
 // ---- the notes of an event
@@ -151,92 +146,6 @@ fn said_of(
 
 // ---- the tool
 
-// What a profile stands on: the map, the catalog, the script, and the readers of all threads.
-#[derive(Drop)]
-struct ProfilInput<S: Source> {
-    map: Map,
-    catalog: Catalog,
-    script: Script,
-    readers: Vec<StreamReader<S>>,
-}
-
-// Reads the tables, the map and the script, and opens the streams, or says why not.
-fn open_input<F: Files>(
-    alloc: Global,
-    files: &mut F,
-    words: &ProfilWords,
-) -> Result<ProfilInput<F::S>, Stop>
-    ensures found { Ends (λ input given.
-        CanBeProfiled input.map input.catalog input.script input.readers.items given) result
-        (λ openings. profiled_under openings words.now) (F.held files.old) }
-    ensures len { IfOk result (λ input. vec_len input.readers ≡ THREADS) }
-    ensures fresh { IfOk result (λ input. All IsFresh input.readers.items) }
-    ensures looked { Looked result (out_with (λ input. sources_in input.readers.items) result)
-        (files_seen F.held F.misses F.faults F.lent files.old)
-        (files_seen F.held F.misses F.faults F.lent files.new) }
-{
-    let catalog = read_catalog(alloc, files, &words.unit, &words.presets)?;
-    let map = read_map_file(alloc, files, words.map.as_str())?;
-    let script = read_script_file(alloc, files, words.script.as_str())?;
-    let readers = open_readers(alloc, files, words.streams.as_slice())?;
-    Ok(ProfilInput {
-        map,
-        catalog,
-        script,
-        readers,
-    })
-}
-
-// Runs the script over the readers, closes them, and says what came of it.
-fn carry_out<R: Threads + Sync, F: Files>(
-    rt: &R,
-    alloc: Global,
-    files: &mut F,
-    words: &ProfilWords,
-    input: ProfilInput<F::S>,
-    handlers: &mut Vec<Box<dyn Handler + Send>>,
-) -> Result<Said, Stop>
-    requires readers { vec_len input.readers ≡ THREADS }
-    requires fresh { All IsFresh input.readers.items }
-    requires handlers { vec_len handlers.old ≡ THREADS }
-    ensures len { vec_len handlers.new ≡ THREADS }
-    ensures ran { (given : GivenProfile)
-        × CanBeProfiled input.map input.catalog input.script input.readers.items given
-        × ComesTo result (Ok (profiled_verdict words.now given))
-        (map (λ b. notes b) handlers.old.items) (map (λ b. notes b) handlers.new.items) }
-    ensures grown { EachGrown (map (λ b. notes b) handlers.old.items)
-        (map (λ b. notes b) handlers.new.items) }
-    ensures met { IfOk result (λ said. MetCause said.outcome
-        (files_seen F.held F.misses F.faults F.lent files.old)
-        (files_seen F.held F.misses F.faults F.lent files.new) said) }
-    ensures yes { IfOk result (λ said. said.outcome ≢ outcome.No) }
-    ensures cause { (before after : FilesSeen) → StopsByFile result before after }
-    ensures lent { F.lent files.new ≡ F.lent files.old - sources_in input.readers.items }
-    ensures misses_stay { F.misses files.old ≤ F.misses files.new }
-    ensures faults_stay { F.faults files.old ≤ F.faults files.new }
-{
-    let ProfilInput {
-        map,
-        catalog,
-        script,
-        mut readers,
-    } = input;
-    let answer = run_script(
-        rt,
-        alloc,
-        &script,
-        &catalog,
-        &mut readers,
-        handlers,
-        words.workers.get(),
-    );
-    close_readers(files, readers);
-    match answer {
-        Ok(ran) => said_of(alloc, map, &ran, words, handlers),
-        Err(_) => Err(Stop::Memory),
-    }
-}
-
 /// `papi_profil`: reads the unit, the presets, the map and the script, opens the streams, carries out the script as `papi_run` does,
 /// and gives the histogram of the program counters at which a threshold of the asked event was passed. The handlers, one a
 /// thread, are told the thresholds that were passed.
@@ -254,15 +163,24 @@ pub fn profile<R: Threads + Sync, F: Files>(
         (map (λ b. notes b) handlers.old.items) (map (λ b. notes b) handlers.new.items)) }
     ensures grown { EachGrown (map (λ b. notes b) handlers.old.items)
         (map (λ b. notes b) handlers.new.items) }
-    ensures met { IfOk result (λ said. MetCause said.outcome
-        (files_seen F.held F.misses F.faults F.lent files.old)
-        (files_seen F.held F.misses F.faults F.lent files.new) said) }
-    ensures yes { IfOk result (λ said. said.outcome ≢ outcome.No) }
+    ensures shows { IfOk result
+        (λ said. Shows ⊥ (F.faults files.old) (F.faults files.new) said.outcome) }
     ensures looked { Looked result 0 (files_seen F.held F.misses F.faults F.lent files.old)
         (files_seen F.held F.misses F.faults F.lent files.new) }
 {
-    match open_input(alloc, files, words) {
-        Ok(input) => carry_out(rt, alloc, files, words, input, handlers),
-        Err(stop) => Err(stop),
-    }
+    let catalog = read_catalog(alloc, files, &words.unit, words.presets.as_ref())?;
+    let map: Map = read_file(alloc, files, words.map.as_str(), TABLE_BYTES)?;
+    let input = open_input::<Script, F>(alloc, files, &words.script, words.streams.as_slice())?;
+    let Input { script, readers } = input;
+    let ran = run_and_close(
+        rt,
+        alloc,
+        files,
+        &script,
+        &catalog,
+        readers,
+        handlers,
+        words.workers.get(),
+    )?;
+    said_of(alloc, map, &ran, words, handlers)
 }

@@ -1,27 +1,28 @@
 //! `papi_regions`: counts by region of a program.
-ghost use Rattle.std.specs.Prelude.{◌≡◌, ◌≤◌, ◌-◌, ◌++◌, ◌∷◌, [], All, IfOk, Ok, OnOk, length, vec_len};
+ghost use Rattle.std.specs.Prelude.{◌≡◌, ◌≤◌, ◌++◌, ◌∷◌, [], ℕ, All, IfOk, List, Ok, OnOk, length, vec_len};
 ghost use Rattle.papi_base.specs.Outside.{Rose};
 ghost use Rattle.papi_base.specs.declared.limits.TheConstants.{MOST_SET_EVENTS};
-ghost use Rattle.region_laws.specs.Nesting.{AreBegun};
 ghost use Rattle.region_laws.specs.Spans.{AllFit};
 ghost use Rattle.region_report.specs.CallLines.{AreEvents, asked, numbered};
 ghost use Rattle.region_report.specs.Reports.{report_text};
 ghost use Rattle.region_report.specs.Spans.{reading_values, spans_from};
 ghost use Rattle.thread_session.specs.SessionView.{IsFresh};
 ghost use Rattle.papi_tools.specs.Answers.{Answers};
-ghost use Rattle.papi_tools.specs.Causes.{MetCause};
-ghost use Rattle.papi_tools.specs.Looking.{Looked, StopsByFile, out_with};
+ghost use Rattle.papi_tools.specs.Causes.{Shows};
+ghost use Rattle.papi_tools.specs.Contents.{regions_in};
+ghost use Rattle.papi_tools.specs.Looking.{Looked, StopsByFile};
 ghost use Rattle.papi_tools.specs.Marks.{marked_said};
-ghost use Rattle.papi_tools.specs.Openings.{Ends, ForSome};
-ghost use Rattle.papi_tools.specs.RegionCounts.{CanBeCounted, GivenRegions, counted_under, readings_in, regions_said, regions_verdict};
+ghost use Rattle.papi_tools.specs.Openings.{ForSome};
+ghost use Rattle.papi_tools.specs.RegionCounts.{GivenRegions, readings_in, regions_said, regions_verdict};
+ghost use Rattle.papi_tools.specs.Running.{CanBeGivenRun};
 ghost use Rattle.papi_tools.specs.Seen.{FilesSeen, files_seen};
 ghost use Rattle.papi_tools.specs.Streams.{SomeFailed, sources_in};
 
+use crate::contents::FileContent;
+use crate::input::{Input, open_input};
 use crate::marks::{lines_of, outcome_of};
-use crate::region_file::read_region_file;
-use crate::script_file::script_in;
 use crate::script_run::{RanScript, run_script};
-use crate::streams::{close_readers, open_readers};
+use crate::streams::close_readers;
 use crate::tables::read_catalog;
 use crate::{Output, Said, Stop};
 use chooser_list::{Candidates, choose};
@@ -29,7 +30,7 @@ use component_table::Catalog;
 use overflow_dispatch::{Handler, Recorder};
 use papi_base::{Bytes, Files, Source, THREADS, Text};
 use plan_runner::ReplyLine;
-use region_laws::{readings_fit, script_law, span_law};
+use region_laws::{begun_law, readings_fit, script_law, span_law};
 use region_report::{Reading, Regions, report, script_of};
 use script_lines::Script;
 use session_model::Body;
@@ -96,7 +97,7 @@ fn calls_of(alloc: Global, regions: &Regions, events: &[Text]) -> Result<Script,
     ensures cause { (before after : FilesSeen) → StopsByFile result before after }
 {
     let text = script_of(alloc, regions, events)?;
-    script_in(alloc, "regions", text.as_bytes())
+    Script::parse(alloc, "regions", text.as_bytes())
 }
 
 // Runs the script of calls over the readers, if a set takes the events, and says what came of it.
@@ -110,16 +111,16 @@ fn count<R: Threads + Sync, S: Source + Send>(
 ) -> Result<Said, Stop>
     requires readers { vec_len readers.old ≡ THREADS }
     requires fresh { All IsFresh readers.old.items }
-    requires begun { AreBegun regions.now }
+    requires read { (name bytes : List ℕ) × (regions_in name bytes ≡ Ok regions.now) }
     ensures counted { (given : GivenRegions)
-        × CanBeCounted catalog.now regions.now readers.old.items given
+        × CanBeGivenRun catalog.now regions.now readers.old.items given
         × Answers result (Ok (regions_said words.now.events given)) }
-    ensures met { (before after : FilesSeen)
-        → (SomeFailed readers.new.items → Rose before.faults after.faults)
-        → IfOk result (λ said. MetCause said.outcome before after said) }
+    ensures shows { (before after : ℕ) → (SomeFailed readers.new.items → Rose before after)
+        → IfOk result (λ said. Shows (Unit {0}) before after said.outcome) }
     ensures cause { (before after : FilesSeen) → StopsByFile result before after }
     ensures sources { sources_in readers.new.items ≡ sources_in readers.old.items }
 {
+    begun_law();
     script_law();
     span_law();
     // Their threads are those that there are.
@@ -152,72 +153,6 @@ fn count<R: Threads + Sync, S: Source + Send>(
 
 // ---- the tool
 
-// What is counted: the catalog, the region script, and the readers of all threads.
-#[derive(Drop)]
-struct RegionsInput<S: Source> {
-    catalog: Catalog,
-    regions: Regions,
-    readers: Vec<StreamReader<S>>,
-}
-
-// Reads the tables and the region script, and opens the streams, or says why not.
-fn open_input<F: Files>(
-    alloc: Global,
-    files: &mut F,
-    words: &RegionsWords,
-) -> Result<RegionsInput<F::S>, Stop>
-    ensures found { Ends (λ input given.
-        CanBeCounted input.catalog input.regions input.readers.items given) result
-        (λ openings. counted_under openings words.now) (F.held files.old) }
-    ensures begun { IfOk result (λ input. AreBegun input.regions) }
-    ensures len { IfOk result (λ input. vec_len input.readers ≡ THREADS) }
-    ensures fresh { IfOk result (λ input. All IsFresh input.readers.items) }
-    ensures looked { Looked result (out_with (λ input. sources_in input.readers.items) result)
-        (files_seen F.held F.misses F.faults F.lent files.old)
-        (files_seen F.held F.misses F.faults F.lent files.new) }
-{
-    let catalog = read_catalog(alloc, files, &words.unit, &words.presets)?;
-    let regions = read_region_file(alloc, files, words.script.as_str())?;
-    let readers = open_readers(alloc, files, words.streams.as_slice())?;
-    Ok(RegionsInput {
-        catalog,
-        regions,
-        readers,
-    })
-}
-
-// Counts over the readers, and closes them.
-fn carry_out<R: Threads + Sync, F: Files>(
-    rt: &R,
-    alloc: Global,
-    files: &mut F,
-    words: &RegionsWords,
-    input: RegionsInput<F::S>,
-) -> Result<Said, Stop>
-    requires readers { vec_len input.readers ≡ THREADS }
-    requires fresh { All IsFresh input.readers.items }
-    requires begun { AreBegun input.regions }
-    ensures counted { (given : GivenRegions)
-        × CanBeCounted input.catalog input.regions input.readers.items given
-        × Answers result (Ok (regions_said words.now.events given)) }
-    ensures met { IfOk result (λ said. MetCause said.outcome
-        (files_seen F.held F.misses F.faults F.lent files.old)
-        (files_seen F.held F.misses F.faults F.lent files.new) said) }
-    ensures cause { (before after : FilesSeen) → StopsByFile result before after }
-    ensures lent { F.lent files.new ≡ F.lent files.old - sources_in input.readers.items }
-    ensures misses_stay { F.misses files.old ≤ F.misses files.new }
-    ensures faults_stay { F.faults files.old ≤ F.faults files.new }
-{
-    let RegionsInput {
-        catalog,
-        regions,
-        mut readers,
-    } = input;
-    let answer = count(rt, alloc, &catalog, &regions, words, &mut readers);
-    close_readers(files, readers);
-    answer
-}
-
 /// `papi_regions`: reads the unit, the presets and the region script, opens the streams, counts the events in a set of each thread that
 /// has lines, and reports what each region counted. If a set does not take the events, the first that is refused is said, and no
 /// stream is read. No handler is told anything.
@@ -229,14 +164,18 @@ pub fn count_regions<R: Threads + Sync, F: Files>(
 ) -> Result<Said, Stop>
     ensures said { ForSome (F.held files.old)
         (λ openings. Answers result (regions_verdict openings words.now)) }
-    ensures met { IfOk result (λ said. MetCause said.outcome
-        (files_seen F.held F.misses F.faults F.lent files.old)
-        (files_seen F.held F.misses F.faults F.lent files.new) said) }
+    ensures shows { IfOk result
+        (λ said. Shows (Unit {0}) (F.faults files.old) (F.faults files.new) said.outcome) }
     ensures looked { Looked result 0 (files_seen F.held F.misses F.faults F.lent files.old)
         (files_seen F.held F.misses F.faults F.lent files.new) }
 {
-    match open_input(alloc, files, words) {
-        Ok(input) => carry_out(rt, alloc, files, words, input),
-        Err(stop) => Err(stop),
-    }
+    let catalog = read_catalog(alloc, files, &words.unit, words.presets.as_ref())?;
+    let input = open_input::<Regions, F>(alloc, files, &words.script, words.streams.as_slice())?;
+    let Input {
+        script,
+        mut readers,
+    } = input;
+    let answer = count(rt, alloc, &catalog, &script, words, &mut readers);
+    close_readers(files, readers);
+    answer
 }

@@ -1,15 +1,17 @@
 //! The run of a script, whoever asks for it: over streams that are open, told to the threads' handlers.
-ghost use Rattle.std.specs.Prelude.{◌≡◌, ◌≤◌, All, Any, IfOk, OnOk, map, vec_len};
-ghost use Rattle.overflow_dispatch.specs.Notes.{EachAdded, EachBegun, EachGrown};
+ghost use Rattle.std.specs.Prelude.{◌≡◌, ◌≤◌, ◌-◌, All, Any, IfOk, map, vec_len};
+ghost use Rattle.overflow_dispatch.specs.Notes.{EachGrown};
+ghost use Rattle.papi_base.specs.Outside.{Rose};
 ghost use Rattle.plan_runner.specs.Marks.{marks_in};
 ghost use Rattle.thread_session.specs.Faults.{IsFaultReply};
 ghost use Rattle.thread_session.specs.SessionView.{IsFresh};
-ghost use Rattle.papi_tools.specs.Running.{CanBeGivenRun, GivenRun, IsGivenRun, note_counts, ran_notes, ran_replies};
+ghost use Rattle.papi_tools.specs.Running.{CanBeGivenRun, GivenRun, IsGivenRun, IsRun, note_counts};
 ghost use Rattle.papi_tools.specs.Streams.{SomeFailed, sources_in};
 
+use crate::streams::close_readers;
 use component_table::{Catalog, NativeCodes};
 use overflow_dispatch::{Handler, counts_of};
-use papi_base::{Source, THREADS};
+use papi_base::{Files, Source, THREADS};
 use plan_runner::{ReplyLine, RunResult, run_plan};
 use script_lines::Script;
 use script_runner::resolve;
@@ -47,25 +49,17 @@ pub fn run_script<R: Threads + Sync, S: Source + Send>(
     requires handlers { vec_len handlers.old ≡ THREADS }
     requires workers { 1 ≤ workers }
     ensures len { vec_len handlers.new ≡ THREADS }
-    ensures replies { (given : GivenRun) → IsGivenRun catalog.now script.now readers.old.items given
-        → IfOk result (λ ran. ran.lines.items ≡ ran_replies given) }
     ensures marks { IfOk result (λ ran. ran.marks ≡ marks_in ran.lines.items) }
     ensures noted { IfOk result
         (λ ran. ran.noted.items ≡ note_counts (map (λ b. notes b) handlers.old.items)) }
-    ensures notes { (given : GivenRun) → IsGivenRun catalog.now script.now readers.old.items given
-        → OnOk result (EachAdded (map (λ b. notes b) handlers.old.items) (ran_notes given)
-        (map (λ b. notes b) handlers.new.items)) }
-    ensures begun { (given : GivenRun) → IsGivenRun catalog.now script.now readers.old.items given
-        → EachBegun (map (λ b. notes b) handlers.old.items) (ran_notes given)
+    ensures told { (given : GivenRun) → IsGivenRun catalog.now script.now readers.old.items given
+        → IsRun result given (map (λ b. notes b) handlers.old.items)
         (map (λ b. notes b) handlers.new.items) }
 
     // Told or not, there are streams that can come of the readers, of which these are the replies and the notes.
     ensures possible { (given : GivenRun)
         × CanBeGivenRun catalog.now script.now readers.old.items given
-        × IfOk result (λ ran. ran.lines.items ≡ ran_replies given)
-        × OnOk result (EachAdded (map (λ b. notes b) handlers.old.items) (ran_notes given)
-        (map (λ b. notes b) handlers.new.items))
-        × EachBegun (map (λ b. notes b) handlers.old.items) (ran_notes given)
+        × IsRun result given (map (λ b. notes b) handlers.old.items)
         (map (λ b. notes b) handlers.new.items) }
 
     // The lists of notes have grown, the sources are those of before, and a reply of a fault shows one of a source.
@@ -94,4 +88,40 @@ pub fn run_script<R: Threads + Sync, S: Source + Send>(
         marks,
         noted,
     })
+}
+
+/// The same over the sources of files, which are closed then.
+pub fn run_and_close<R: Threads + Sync, F: Files>(
+    rt: &R,
+    alloc: Global,
+    files: &mut F,
+    script: &Script,
+    catalog: &Catalog,
+    readers: Vec<StreamReader<F::S>>,
+    handlers: &mut Vec<Box<dyn Handler + Send>>,
+    workers: u32,
+) -> Result<RanScript, AllocError>
+    requires readers { vec_len readers ≡ THREADS }
+    requires fresh { All IsFresh readers.items }
+    requires handlers { vec_len handlers.old ≡ THREADS }
+    requires workers { 1 ≤ workers }
+    ensures len { vec_len handlers.new ≡ THREADS }
+    ensures marks { IfOk result (λ ran. ran.marks ≡ marks_in ran.lines.items) }
+    ensures noted { IfOk result
+        (λ ran. ran.noted.items ≡ note_counts (map (λ b. notes b) handlers.old.items)) }
+    ensures possible { (given : GivenRun) × CanBeGivenRun catalog.now script.now readers.items given
+        × IsRun result given (map (λ b. notes b) handlers.old.items)
+        (map (λ b. notes b) handlers.new.items) }
+    ensures grown { EachGrown (map (λ b. notes b) handlers.old.items)
+        (map (λ b. notes b) handlers.new.items) }
+    ensures faulty { IfOk result (λ ran. Any (λ l. IsFaultReply l.reply) ran.lines.items
+        → Rose (F.faults files.old) (F.faults files.new)) }
+    ensures lent { F.lent files.new ≡ F.lent files.old - sources_in readers.items }
+    ensures misses_stay { F.misses files.old ≤ F.misses files.new }
+    ensures faults_stay { F.faults files.old ≤ F.faults files.new }
+{
+    let mut readers = readers;
+    let answer = run_script(rt, alloc, script, catalog, &mut readers, handlers, workers);
+    close_readers(files, readers);
+    answer
 }

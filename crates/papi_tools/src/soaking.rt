@@ -3,25 +3,22 @@ ghost use Rattle.std.specs.Prelude.{◌≡◌, ◌≢◌, All, IfOk, IsOkAnd, co
 ghost use Rattle.overflow_dispatch.specs.Notes.{EachGrown};
 ghost use Rattle.soak_input.specs.Script as soak_script;
 ghost use Rattle.soak_input.specs.Unit as soak_unit;
-ghost use Rattle.script_lines.specs.Scripts.{script_of};
 ghost use Rattle.thread_session.specs.SessionView.{IsFresh};
 ghost use Rattle.papi_tools.specs.Answers.{Answers, AnswersBy};
 ghost use Rattle.papi_tools.specs.Causes.{IsTextual};
+ghost use Rattle.papi_tools.specs.Contents.{script_in, unit_of};
 ghost use Rattle.papi_tools.specs.Looking.{StopsByFile};
 ghost use Rattle.papi_tools.specs.Running.{GivenRun, IsGivenRun};
-ghost use Rattle.papi_tools.specs.ScriptFile.{script_unless};
 ghost use Rattle.papi_tools.specs.Seen.{FilesSeen};
 ghost use Rattle.papi_tools.specs.Soaking.{soak_given, soak_tapes, soak_verdict, soaked, summary_said, totals_between};
 ghost use Rattle.papi_tools.specs.Streams.{TellStreams, streams_of};
-ghost use Rattle.papi_tools.specs.UnitFile.{unit_of};
-ghost use Rattle.papi_tools.specs.Verdict.{AnswersSaid, TellsBy, notes_in};
+ghost use Rattle.papi_tools.specs.Verdict.{ComesTo};
 ghost use Rattle.papi_tools.specs.declared.status.Outcome.TheVariants as outcome;
 
-use crate::script_file::script_in;
+use crate::contents::FileContent;
 use crate::script_run::{RanScript, run_script};
 use crate::soak_totals::totals_between;
 use crate::streams::add_empty;
-use crate::unit_file::unit_in;
 use crate::{Said, Stop};
 use component_table::Catalog;
 use event_tables::Tables;
@@ -47,16 +44,16 @@ fn soak_tables(alloc: Global) -> Result<Tables, Stop>
     ensures told { Answers result (unit_of (codes "lab.unit") soak_unit.unit_text) }
     ensures cause { (before after : FilesSeen) → StopsByFile result before after }
 {
-    unit_in(alloc, "lab.unit", unit_text().as_bytes())
+    Tables::parse(alloc, "lab.unit", unit_text().as_bytes())
 }
 
 fn soak_script(alloc: Global, rounds: u32) -> Result<Script, Stop>
     ensures told { Answers result
-        (script_unless (codes "soak.script") (script_of (soak_script.script_text rounds))) }
+        (script_in (codes "soak.script") (soak_script.script_text rounds)) }
     ensures cause { (before after : FilesSeen) → StopsByFile result before after }
 {
     let text = script_text(alloc, rounds)?;
-    script_in(alloc, "soak.script", text.as_bytes())
+    Script::parse(alloc, "soak.script", text.as_bytes())
 }
 
 // Readers of the streams of a soak, and of empty ones for the other threads.
@@ -134,10 +131,8 @@ fn carry_out<R: Threads + Sync>(
     requires fresh { All IsFresh run.readers.items }
     requires handlers { vec_len handlers.old ≡ THREADS }
     ensures len { vec_len handlers.new ≡ THREADS }
-    ensures told { (given : GivenRun) → IsGivenRun run.catalog run.script run.readers.items given
-        → AnswersSaid result (Ok (soaked given)) }
-    ensures tells { (given : GivenRun) → IsGivenRun run.catalog run.script run.readers.items given
-        → TellsBy result (soaked given).notes (map (λ b. notes b) handlers.old.items)
+    ensures comes { (given : GivenRun) → IsGivenRun run.catalog run.script run.readers.items given
+        → ComesTo result (Ok (soaked given)) (map (λ b. notes b) handlers.old.items)
         (map (λ b. notes b) handlers.new.items) }
     ensures grown { EachGrown (map (λ b. notes b) handlers.old.items)
         (map (λ b. notes b) handlers.new.items) }
@@ -175,9 +170,8 @@ pub fn soak<R: Threads + Sync>(
 ) -> Result<Said, Stop>
     requires handlers { vec_len handlers.old ≡ THREADS }
     ensures len { vec_len handlers.new ≡ THREADS }
-    ensures told { AnswersSaid result (soak_verdict words.now) }
-    ensures tells { TellsBy result (notes_in (soak_verdict words.now))
-        (map (λ b. notes b) handlers.old.items) (map (λ b. notes b) handlers.new.items) }
+    ensures comes { ComesTo result (soak_verdict words.now) (map (λ b. notes b) handlers.old.items)
+        (map (λ b. notes b) handlers.new.items) }
     ensures grown { EachGrown (map (λ b. notes b) handlers.old.items)
         (map (λ b. notes b) handlers.new.items) }
     ensures textual { IfOk result (λ said. IsTextual said.outcome) }

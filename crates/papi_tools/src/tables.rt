@@ -1,14 +1,16 @@
 //! The tables of a tool: the unit, and then the presets and user events if they are asked for.
-ghost use Rattle.std.specs.Prelude.{Some};
+ghost use Rattle.std.specs.Option.{option_copied};
 ghost use Rattle.papi_tools.specs.Looking.{Looked};
 ghost use Rattle.papi_tools.specs.Openings.{Is, Leads};
 ghost use Rattle.papi_tools.specs.Seen.{files_seen};
 ghost use Rattle.papi_tools.specs.Tables.{after_tables, catalog_under};
 
 use crate::Stop;
-use crate::preset_file::{read_preset_file, read_presets_asked};
-use crate::unit_file::read_unit_file;
+use crate::contents::read_file;
+use crate::limits::TABLE_BYTES;
+use crate::preset_file::read_presets_asked;
 use component_table::Catalog;
+use event_tables::Tables;
 use papi_base::{Files, Text};
 use std::alloc::Global;
 use tool_words::PresetWords;
@@ -18,34 +20,16 @@ pub fn read_catalog<F: Files>(
     alloc: Global,
     files: &mut F,
     unit: &Text,
-    presets: &Option<PresetWords>,
-) -> Result<Catalog, Stop>
-    ensures found { Leads Is result (λ openings. catalog_under openings unit.now presets.now)
-        (after_tables presets.now) (F.held files.old) (F.held files.new) }
-    ensures looked { Looked result 0 (files_seen F.held F.misses F.faults F.lent files.old)
-        (files_seen F.held F.misses F.faults F.lent files.new) }
-{
-    let tables = read_unit_file(alloc, files, unit.as_str())?;
-    let presets = read_presets_asked(alloc, files, presets)?;
-    let catalog = Catalog::build(alloc, tables, presets)?;
-    Ok(catalog)
-}
-
-/// Reads the unit of this name, and then the presets, or says why not.
-pub fn read_preset_catalog<F: Files>(
-    alloc: Global,
-    files: &mut F,
-    unit: &Text,
-    presets: &PresetWords,
+    presets: Option<&PresetWords>,
 ) -> Result<Catalog, Stop>
     ensures found { Leads Is result
-        (λ openings. catalog_under openings unit.now (Some presets.now))
-        (after_tables (Some presets.now)) (F.held files.old) (F.held files.new) }
+        (λ openings. catalog_under openings unit.now (option_copied presets.entry))
+        (after_tables (option_copied presets.entry)) (F.held files.old) (F.held files.new) }
     ensures looked { Looked result 0 (files_seen F.held F.misses F.faults F.lent files.old)
         (files_seen F.held F.misses F.faults F.lent files.new) }
 {
-    let tables = read_unit_file(alloc, files, unit.as_str())?;
-    let presets = read_preset_file(alloc, files, presets)?;
-    let catalog = Catalog::build(alloc, tables, Some(presets))?;
+    let tables: Tables = read_file(alloc, files, unit.as_str(), TABLE_BYTES)?;
+    let presets = read_presets_asked(alloc, files, presets)?;
+    let catalog = Catalog::build(alloc, tables, presets)?;
     Ok(catalog)
 }

@@ -1,8 +1,8 @@
 //! The tools by themselves, each over the words after its name.
 ghost use Rattle.std.specs.Prelude.{◌≡◌, ◌∷◌, IfOk, codes, map, string_bytes, vec_len};
-ghost use Rattle.papi_tools.specs.Carried.{CarriesOut, CarriesOutAndTells};
+ghost use Rattle.papi_tools.specs.Carried.{CarriesOutAndTells, CarriesOutAndTellsBy, CarriesOutBy};
 ghost use Rattle.papi_tools.specs.NoFiles.{no_files};
-ghost use Rattle.papi_tools.specs.Seen.{files_seen, sink_seen};
+ghost use Rattle.papi_tools.specs.Seen.{sink_seen};
 
 use crate::no_files::NoFiles;
 use crate::{Status, papi_main};
@@ -38,11 +38,9 @@ fn telling_tool<R: Threads + Sync, F: Files, K: Sink>(
 ) -> Status
     requires handlers { vec_len handlers.old ≡ THREADS }
     ensures len { vec_len handlers.new ≡ THREADS }
-    ensures carries_out { CarriesOutAndTells (tool.now ∷ map string_bytes words.now) result
-        (files_seen F.held F.misses F.faults F.lent files.old)
-        (files_seen F.held F.misses F.faults F.lent files.new)
-        (sink_seen K.taken K.faults out.old) (sink_seen K.taken K.faults out.new)
-        (sink_seen K.taken K.faults err.old) (sink_seen K.taken K.faults err.new)
+    ensures carries_out { CarriesOutAndTellsBy F.held F.misses F.faults F.lent K.taken K.faults
+        (tool.now ∷ map string_bytes words.now) result files.old files.new
+        out.old out.new err.old err.new
         (map (λ b. notes b) handlers.old.items) (map (λ b. notes b) handlers.new.items) }
 {
     match named(alloc, tool, words) {
@@ -63,11 +61,9 @@ pub fn run_tool<R: Threads + Sync, F: Files, K: Sink>(
 ) -> Status
     requires handlers { vec_len handlers.old ≡ THREADS }
     ensures len { vec_len handlers.new ≡ THREADS }
-    ensures carries_out { CarriesOutAndTells (codes "papi_run" ∷ map string_bytes words.now) result
-        (files_seen F.held F.misses F.faults F.lent files.old)
-        (files_seen F.held F.misses F.faults F.lent files.new)
-        (sink_seen K.taken K.faults out.old) (sink_seen K.taken K.faults out.new)
-        (sink_seen K.taken K.faults err.old) (sink_seen K.taken K.faults err.new)
+    ensures carries_out { CarriesOutAndTellsBy F.held F.misses F.faults F.lent K.taken K.faults
+        (codes "papi_run" ∷ map string_bytes words.now) result files.old files.new
+        out.old out.new err.old err.new
         (map (λ b. notes b) handlers.old.items) (map (λ b. notes b) handlers.new.items) }
 {
     telling_tool(rt, alloc, "papi_run", words, files, out, err, handlers)
@@ -85,12 +81,9 @@ pub fn profil_tool<R: Threads + Sync, F: Files, K: Sink>(
 ) -> Status
     requires handlers { vec_len handlers.old ≡ THREADS }
     ensures len { vec_len handlers.new ≡ THREADS }
-    ensures carries_out { CarriesOutAndTells (codes "papi_profil" ∷ map string_bytes words.now)
-        result
-        (files_seen F.held F.misses F.faults F.lent files.old)
-        (files_seen F.held F.misses F.faults F.lent files.new)
-        (sink_seen K.taken K.faults out.old) (sink_seen K.taken K.faults out.new)
-        (sink_seen K.taken K.faults err.old) (sink_seen K.taken K.faults err.new)
+    ensures carries_out { CarriesOutAndTellsBy F.held F.misses F.faults F.lent K.taken K.faults
+        (codes "papi_profil" ∷ map string_bytes words.now) result files.old files.new
+        out.old out.new err.old err.new
         (map (λ b. notes b) handlers.old.items) (map (λ b. notes b) handlers.new.items) }
 {
     telling_tool(rt, alloc, "papi_profil", words, files, out, err, handlers)
@@ -106,11 +99,9 @@ fn quiet_tool<R: Threads + Sync, F: Files, K: Sink>(
     out: &mut K,
     err: &mut K,
 ) -> Status
-    ensures { CarriesOut (tool.now ∷ map string_bytes words.now) result
-        (files_seen F.held F.misses F.faults F.lent files.old)
-        (files_seen F.held F.misses F.faults F.lent files.new)
-        (sink_seen K.taken K.faults out.old) (sink_seen K.taken K.faults out.new)
-        (sink_seen K.taken K.faults err.old) (sink_seen K.taken K.faults err.new) }
+    ensures { CarriesOutBy F.held F.misses F.faults F.lent K.taken K.faults
+        (tool.now ∷ map string_bytes words.now) result files.old files.new
+        out.old out.new err.old err.new }
 {
     let Ok(all) = named(alloc, tool, words) else {
         return Status::Memory;
@@ -136,11 +127,9 @@ pub fn avail<R: Threads + Sync, F: Files, K: Sink>(
     out: &mut K,
     err: &mut K,
 ) -> Status
-    ensures { CarriesOut (codes "papi_avail" ∷ map string_bytes words.now) result
-        (files_seen F.held F.misses F.faults F.lent files.old)
-        (files_seen F.held F.misses F.faults F.lent files.new)
-        (sink_seen K.taken K.faults out.old) (sink_seen K.taken K.faults out.new)
-        (sink_seen K.taken K.faults err.old) (sink_seen K.taken K.faults err.new) }
+    ensures { CarriesOutBy F.held F.misses F.faults F.lent K.taken K.faults
+        (codes "papi_avail" ∷ map string_bytes words.now) result files.old files.new
+        out.old out.new err.old err.new }
 {
     quiet_tool(rt, alloc, "papi_avail", words, files, out, err)
 }
@@ -154,11 +143,9 @@ pub fn native_avail<R: Threads + Sync, F: Files, K: Sink>(
     out: &mut K,
     err: &mut K,
 ) -> Status
-    ensures { CarriesOut (codes "papi_native_avail" ∷ map string_bytes words.now) result
-        (files_seen F.held F.misses F.faults F.lent files.old)
-        (files_seen F.held F.misses F.faults F.lent files.new)
-        (sink_seen K.taken K.faults out.old) (sink_seen K.taken K.faults out.new)
-        (sink_seen K.taken K.faults err.old) (sink_seen K.taken K.faults err.new) }
+    ensures { CarriesOutBy F.held F.misses F.faults F.lent K.taken K.faults
+        (codes "papi_native_avail" ∷ map string_bytes words.now) result files.old files.new
+        out.old out.new err.old err.new }
 {
     quiet_tool(rt, alloc, "papi_native_avail", words, files, out, err)
 }
@@ -172,11 +159,9 @@ pub fn decode<R: Threads + Sync, F: Files, K: Sink>(
     out: &mut K,
     err: &mut K,
 ) -> Status
-    ensures { CarriesOut (codes "papi_decode" ∷ map string_bytes words.now) result
-        (files_seen F.held F.misses F.faults F.lent files.old)
-        (files_seen F.held F.misses F.faults F.lent files.new)
-        (sink_seen K.taken K.faults out.old) (sink_seen K.taken K.faults out.new)
-        (sink_seen K.taken K.faults err.old) (sink_seen K.taken K.faults err.new) }
+    ensures { CarriesOutBy F.held F.misses F.faults F.lent K.taken K.faults
+        (codes "papi_decode" ∷ map string_bytes words.now) result files.old files.new
+        out.old out.new err.old err.new }
 {
     quiet_tool(rt, alloc, "papi_decode", words, files, out, err)
 }
@@ -190,11 +175,9 @@ pub fn event_chooser<R: Threads + Sync, F: Files, K: Sink>(
     out: &mut K,
     err: &mut K,
 ) -> Status
-    ensures { CarriesOut (codes "papi_event_chooser" ∷ map string_bytes words.now) result
-        (files_seen F.held F.misses F.faults F.lent files.old)
-        (files_seen F.held F.misses F.faults F.lent files.new)
-        (sink_seen K.taken K.faults out.old) (sink_seen K.taken K.faults out.new)
-        (sink_seen K.taken K.faults err.old) (sink_seen K.taken K.faults err.new) }
+    ensures { CarriesOutBy F.held F.misses F.faults F.lent K.taken K.faults
+        (codes "papi_event_chooser" ∷ map string_bytes words.now) result files.old files.new
+        out.old out.new err.old err.new }
 {
     quiet_tool(rt, alloc, "papi_event_chooser", words, files, out, err)
 }
@@ -208,11 +191,9 @@ pub fn encode_tool<R: Threads + Sync, F: Files, K: Sink>(
     out: &mut K,
     err: &mut K,
 ) -> Status
-    ensures { CarriesOut (codes "papi_encode" ∷ map string_bytes words.now) result
-        (files_seen F.held F.misses F.faults F.lent files.old)
-        (files_seen F.held F.misses F.faults F.lent files.new)
-        (sink_seen K.taken K.faults out.old) (sink_seen K.taken K.faults out.new)
-        (sink_seen K.taken K.faults err.old) (sink_seen K.taken K.faults err.new) }
+    ensures { CarriesOutBy F.held F.misses F.faults F.lent K.taken K.faults
+        (codes "papi_encode" ∷ map string_bytes words.now) result files.old files.new
+        out.old out.new err.old err.new }
 {
     quiet_tool(rt, alloc, "papi_encode", words, files, out, err)
 }
@@ -226,11 +207,9 @@ pub fn regions_tool<R: Threads + Sync, F: Files, K: Sink>(
     out: &mut K,
     err: &mut K,
 ) -> Status
-    ensures { CarriesOut (codes "papi_regions" ∷ map string_bytes words.now) result
-        (files_seen F.held F.misses F.faults F.lent files.old)
-        (files_seen F.held F.misses F.faults F.lent files.new)
-        (sink_seen K.taken K.faults out.old) (sink_seen K.taken K.faults out.new)
-        (sink_seen K.taken K.faults err.old) (sink_seen K.taken K.faults err.new) }
+    ensures { CarriesOutBy F.held F.misses F.faults F.lent K.taken K.faults
+        (codes "papi_regions" ∷ map string_bytes words.now) result files.old files.new
+        out.old out.new err.old err.new }
 {
     quiet_tool(rt, alloc, "papi_regions", words, files, out, err)
 }

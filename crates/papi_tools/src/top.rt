@@ -3,12 +3,11 @@ ghost use Rattle.std.specs.Prelude.{◌≡◌, IfOk, Some, map, string_bytes, ve
 ghost use Rattle.overflow_dispatch.specs.Notes.{EachGrown};
 ghost use Rattle.tool_words.specs.Form.{form};
 ghost use Rattle.papi_tools.specs.Carried.{CarriesOutAndTells};
-ghost use Rattle.papi_tools.specs.Causes.{IsCaused, MetCause, SaysNo};
+ghost use Rattle.papi_tools.specs.Causes.{SaysNo, Shows};
 ghost use Rattle.papi_tools.specs.Looking.{Looked};
 ghost use Rattle.papi_tools.specs.Openings.{ForSome};
 ghost use Rattle.papi_tools.specs.Seen.{files_seen, sink_seen};
-ghost use Rattle.papi_tools.specs.Verdict.{ComesTo, IsSettledAs, command_verdict, verdict};
-ghost use Rattle.papi_tools.specs.declared.status.Outcome.TheVariants as outcome;
+ghost use Rattle.papi_tools.specs.Verdict.{ComesTo, IsSettledAs, command_verdict, verdict_for};
 
 use crate::choosing::choose_events;
 use crate::decoding::decode_presets;
@@ -44,10 +43,8 @@ fn carried_out<R: Threads + Sync, F: Files>(
         (map (λ b. notes b) handlers.old.items) (map (λ b. notes b) handlers.new.items)) }
     ensures grown { EachGrown (map (λ b. notes b) handlers.old.items)
         (map (λ b. notes b) handlers.new.items) }
-    ensures met { IfOk result (λ said. MetCause said.outcome
-        (files_seen F.held F.misses F.faults F.lent files.old)
-        (files_seen F.held F.misses F.faults F.lent files.new) said) }
-    ensures no { IfOk result (λ said. said.outcome ≡ outcome.No → SaysNo (Some command.now)) }
+    ensures shows { IfOk result (λ said. Shows (SaysNo (Some command.now))
+        (F.faults files.old) (F.faults files.new) said.outcome) }
     ensures looked { Looked result 0 (files_seen F.held F.misses F.faults F.lent files.old)
         (files_seen F.held F.misses F.faults F.lent files.new) }
 {
@@ -75,13 +72,15 @@ fn said_of<R: Threads + Sync, F: Files>(
     requires handlers { vec_len handlers.old ≡ THREADS }
     ensures len { vec_len handlers.new ≡ THREADS }
     ensures said { ForSome (F.held files.old)
-        (λ openings. IsSettledAs result (verdict (map string_bytes words.now.items) openings)
+        (λ openings. IsSettledAs result
+        (verdict_for openings (form (map string_bytes words.now.items)))
+        (files_seen F.held F.misses F.faults F.lent files.old)
+        (files_seen F.held F.misses F.faults F.lent files.new)
         (map (λ b. notes b) handlers.old.items) (map (λ b. notes b) handlers.new.items)) }
     ensures grown { EachGrown (map (λ b. notes b) handlers.old.items)
         (map (λ b. notes b) handlers.new.items) }
-    ensures cause { IfOk result (IsCaused (form (map string_bytes words.now.items))
-        (files_seen F.held F.misses F.faults F.lent files.old)
-        (files_seen F.held F.misses F.faults F.lent files.new)) }
+    ensures shows { IfOk result (λ said. Shows (SaysNo (form (map string_bytes words.now.items)))
+        (F.faults files.old) (F.faults files.new) said.outcome) }
     ensures returned { F.lent files.new ≡ F.lent files.old }
 {
     let command = match read_words(alloc, words.as_slice()) {

@@ -1,24 +1,19 @@
-use Rattle.std.proofs.Common.{◌≡◌, Err, Ok, ap, rules, sym}
+use Rattle.std.proofs.Common.{◌≡◌, Err, Ok, rules}
 use Rattle.papi_tools.specs.Choosing.{choice_said, chooser_verdict}
-use Rattle.papi_tools.specs.Openings.{Is}
 use Rattle.papi_tools.specs.Tables.{after_tables, catalog_under}
-use Rattle.papi_tools.specs.declared.refusal.Stop.TheVariants.{Memory}
-use Rattle.papi_tools.proofs.FindingLemmas.{answered, out_of_memory, refused}
+use Rattle.papi_tools.proofs.FindingLemmas.{answered, failed, refused}
 use Rattle.papi_tools.proofs.choosing.choose_events.Goals as goal
 
 pub returns-in_err-catalog-clause-said : goal.returns-in_err-catalog-clause-said
 unfolding chooser_verdict
 returns-in_err-catalog-clause-said g c =
     let same : c.from_residual.result ≡ Err c.in_err-catalog.field-0.0 = search rules in
-    rw same (refused Is c.in_err-catalog.field-0.0 (λ o. catalog_under o c.args.words.now.unit c.args.words.now.presets) (λ o catalog. Ok (choice_said catalog c.args.words.now.kind c.args.words.now.events)) (after_tables c.args.words.now.presets) _ _ c.in_err-catalog.ensures.found)
-
-pub returns-in_err-said-clause-said : goal.returns-in_err-said-clause-said
-returns-in_err-said-clause-said g c =
-    let same : c.from_residual-in_err-said.result ≡ Err Memory = search rules in
-    rw same (out_of_memory (λ o. chooser_verdict o c.args.words.now) _)
+    rw same (refused c.in_err-catalog.field-0.0 (λ o. chooser_verdict o c.args.words.now) _
+    (failed c.in_err-catalog.field-0.0 (λ o. catalog_under o c.args.words.now.unit c.args.words.now.presets) (λ o catalog. Ok (choice_said catalog c.args.words.now.kind c.args.words.now.events)) _
+    (rw c.as_ref.ensures.value at c.in_err-catalog.ensures.found)))
 
 pub returns-clause-said : goal.returns-clause-said
 unfolding chooser_verdict
 returns-clause-said g c =
-    let said : c.in_ok-said.said ≡ choice_said c.in_ok-catalog.catalog c.args.words.now.kind c.args.words.now.events = search rules in
-    answered c.in_ok-catalog.catalog (Ok c.in_ok-said.said) (λ o. catalog_under o c.args.words.now.unit c.args.words.now.presets) (λ catalog. Ok (choice_said catalog c.args.words.now.kind c.args.words.now.events)) (after_tables c.args.words.now.presets) _ _ c.in_ok-catalog.ensures.found (ap Ok (sym said))
+    answered c.in_ok-catalog.catalog c.said_of.result (λ o. catalog_under o c.args.words.now.unit c.args.words.now.presets) (λ catalog. Ok (choice_said catalog c.args.words.now.kind c.args.words.now.events)) (after_tables c.args.words.now.presets) _ _
+    (rw c.as_ref.ensures.value at c.in_ok-catalog.ensures.found) (rw c.as_slice.ensures at c.said_of.ensures.said)

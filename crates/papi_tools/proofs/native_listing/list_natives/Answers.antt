@@ -1,23 +1,19 @@
-use Rattle.std.proofs.Common.{◌≡◌, Err, Ok, ap, rules, sym}
+use Rattle.std.proofs.Common.{◌≡◌, Err, Ok, rules}
+use Rattle.papi_tools.specs.Contents.{unit_under}
 use Rattle.papi_tools.specs.NativeListing.{native_avail_verdict, natives_said}
-use Rattle.papi_tools.specs.Openings.{Is, opened}
-use Rattle.papi_tools.specs.UnitFile.{unit_under}
-use Rattle.papi_tools.specs.declared.refusal.Stop.TheVariants.{Memory}
-use Rattle.papi_tools.proofs.FindingLemmas.{answered, out_of_memory, refused}
+use Rattle.papi_tools.specs.Openings.{opened}
+use Rattle.papi_tools.proofs.FindingLemmas.{answered, failed, refused}
 use Rattle.papi_tools.proofs.native_listing.list_natives.Goals as goal
 
 pub returns-in_err-tables-clause-said : goal.returns-in_err-tables-clause-said
 unfolding native_avail_verdict
 returns-in_err-tables-clause-said g c =
     let same : c.from_residual.result ≡ Err c.in_err-tables.field-0.0 = search rules in
-    rw same (refused Is c.in_err-tables.field-0.0 (λ o. unit_under o c.args.words.now.unit) (λ o tables. Ok (natives_said tables c.args.words.now c.args.words.now.event)) opened _ _ (rw c.as_str.ensures at c.in_err-tables.ensures.found))
-
-pub returns-in_err-said-clause-said : goal.returns-in_err-said-clause-said
-returns-in_err-said-clause-said g c =
-    let same : c.from_residual-in_err-said.result ≡ Err Memory = search rules in
-    rw same (out_of_memory (λ o. native_avail_verdict o c.args.words.now) _)
+    rw same (refused c.in_err-tables.field-0.0 (λ o. native_avail_verdict o c.args.words.now) _
+    (failed c.in_err-tables.field-0.0 (λ o. unit_under o c.args.words.now.unit) (λ o tables. Ok (natives_said tables c.args.words.now c.args.words.now.event)) _ (rw c.as_str.ensures at c.in_err-tables.ensures.found)))
 
 pub returns-clause-said : goal.returns-clause-said
 unfolding native_avail_verdict
 returns-clause-said g c =
-    answered c.in_ok-tables.tables (Ok c.in_ok-said.said) (λ o. unit_under o c.args.words.now.unit) (λ tables. Ok (natives_said tables c.args.words.now c.args.words.now.event)) opened _ _ (rw c.as_str.ensures at c.in_ok-tables.ensures.found) (ap Ok (sym c.in_ok-said.ensures.said))
+    answered c.in_ok-tables.tables c.said_of.result (λ o. unit_under o c.args.words.now.unit) (λ tables. Ok (natives_said tables c.args.words.now c.args.words.now.event)) opened _ _
+    (rw c.as_str.ensures at c.in_ok-tables.ensures.found) c.said_of.ensures.said

@@ -1,7 +1,7 @@
 use Rattle.std.proofs.Common.{◌≡◌, Err, Ok, rules}
 use Rattle.papi_base.specs.declared.whole.WholeFault.TheVariants as whole
 use Rattle.papi_tools.specs.Opening.{bytes_of, file_bytes}
-use Rattle.papi_tools.specs.Openings.{CanGive, Is, opened, tape_under}
+use Rattle.papi_tools.specs.Openings.{tape_under}
 use Rattle.papi_tools.specs.declared.refusal.Refusal.TheVariants.{CannotRead, TooLarge}
 use Rattle.papi_tools.specs.declared.refusal.Stop.TheVariants.{Refused}
 use Rattle.papi_tools.proofs.FindingLemmas.{failed}
@@ -12,7 +12,7 @@ pub returns-in_err-source-clause-found : goal.returns-in_err-source-clause-found
 unfolding file_bytes
 returns-in_err-source-clause-found g c =
     let same : c.from_residual.result ≡ Err c.in_err-source.field-0.0 = search rules in
-    rw same (failed (λ source tape. CanGive (g.F.S.Source.tape source) tape) Is c.in_err-source.field-0.0 (λ o. tape_under o c.args.name.now) (λ o. bytes_of c.args.limit c.args.name.now) opened opened _ _ _ c.in_err-source.ensures.found)
+    rw same (failed c.in_err-source.field-0.0 (λ o. tape_under o c.args.name.now) (λ o. bytes_of c.args.limit c.args.name.now) _ c.in_err-source.ensures.found)
 
 pub returns-in-Ok-clause-found : goal.returns-in-Ok-clause-found
 returns-in-Ok-clause-found g c =

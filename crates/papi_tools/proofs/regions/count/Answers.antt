@@ -3,8 +3,8 @@ use Rattle.chooser_list.specs.Choosing.{all_taken, chooser_text}
 use Rattle.papi_tools.specs.RegionCounts.{GivenRegions}
 use Rattle.papi_tools.specs.Running.{ran_replies}
 use Rattle.papi_tools.specs.declared.refusal.Stop.TheVariants.{Memory}
-use Rattle.papi_tools.proofs.RegionLemmas.{are_calls, are_events, counted_told, nothing_counted, out_of_memory, refused_said, script_is}
-use Rattle.papi_tools.proofs.RunLemmas.{met_in_said}
+use Rattle.papi_tools.proofs.RegionLemmas.{are_calls, are_events, begun_of, counted_told, nothing_counted, out_of_memory, refused_said, script_is}
+use Rattle.papi_tools.proofs.RunLemmas.{run_shows}
 use Rattle.papi_tools.proofs.regions.count.Goals as goal
 
 pub calls_of-requires : goal.calls_of-requires
@@ -22,19 +22,19 @@ returns-in-Ok-clause-counted g c =
     let texts = c.as_slice-events.ensures.texts in
     let script = script_is c.args.regions.now _ c.args.words.now.events _ texts c.in_ok-script.ensures.told in
     let said = rw texts at c.said_of.ensures.said in
-    let (run, can, replies, notes, begun) = c.in-Ok.ensures.possible in
-    let given : GivenRegions = record { catalog = c.args.catalog.now; lines = c.args.regions.now; streams = run.streams } in
+    let (run, can, ran) = c.in-Ok.ensures.possible in
+    let given : GivenRegions = record { catalog = c.args.catalog.now; script = c.args.regions.now; streams = run.streams } in
     let same = are_calls c.args.catalog.now c.args.regions.now _ c.args.readers.now.items c.args.words.now.events run can script in (
       given,
-      record { catalog_is = refl; lines_are = refl; can_come = can.can_come },
+      record { catalog_is = refl; script_is = refl; can_come = can.can_come },
       counted_told c.script_law.ensures c.span_law.ensures c.args.catalog.now c.args.regions.now c.args.words.now.events given c.in_ok-choice.choice.all_taken _ _ c.said_of.result refl refl
-          c.lines-lines.ensures.kept c.requires.begun c.as_slice-events.ensures.events.some (c.in_ok-choice.ensures.taken ∙ ap (all_taken c.args.catalog.now) texts) c.if-not-choice.false
-          (replies ∙ ap ran_replies same) c.in-Ok.ensures.marks c.said_of.ensures.fit said,
+          c.lines-lines.ensures.kept (begun_of c.begun_law.ensures c.args.regions.now c.requires.read) c.as_slice-events.ensures.events.some (c.in_ok-choice.ensures.taken ∙ ap (all_taken c.args.catalog.now) texts) c.if-not-choice.false
+          (ran.replies ∙ ap ran_replies same) c.in-Ok.ensures.marks c.said_of.ensures.fit said,
     )
 
-pub returns-in-Ok-clause-met : goal.returns-in-Ok-clause-met
-returns-in-Ok-clause-met g c before after rose =
-    met_in_said _ _ _ before after c.said_of.result c.said_of.ensures.said c.in-Ok.ensures.marks (λ some. rose (c.in-Ok.ensures.faulty some))
+pub returns-in-Ok-clause-shows : goal.returns-in-Ok-clause-shows
+returns-in-Ok-clause-shows g c before after rose =
+    run_shows (Unit {0}) _ _ _ before after c.said_of.result c.said_of.ensures.said c.in-Ok.ensures.marks (λ some. rose (c.in-Ok.ensures.faulty some))
 
 pub returns-in_err-choice-clause-counted : goal.returns-in_err-choice-clause-counted
 returns-in_err-choice-clause-counted g c =

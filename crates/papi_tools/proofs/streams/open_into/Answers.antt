@@ -24,7 +24,7 @@ loop-name-init g c =
 
 pub returns-in-Err-clause-found : goal.returns-in-Err-clause-found
 returns-in-Err-clause-found g c =
-    stopped_at g.F.S.Source.tape _ _ _ c.args.names.now c.loop-name.name-index c.name-item.result c.as_str.result.now _ _ c.loop-name-test.true c.name-item.is c.as_str.ensures c.loop-name.invariant.found c.in-Err.ensures.found
+    stopped_at _ _ c.args.names.now c.loop-name.name-index c.name-item.result c.as_str.result.now _ _ c.loop-name-test.true c.name-item.is c.as_str.ensures c.loop-name.invariant.found c.in-Err.ensures.found
 
 pub loop-name-preserved : goal.loop-name-preserved
 loop-name-preserved g c = record {

@@ -1,6 +1,7 @@
-use Rattle.std.proofs.Common.{arith, vec_len}
+use Rattle.std.proofs.Common.{Ok, arith, vec_len}
 use Rattle.papi_tools.specs.Opening.{tapes_under}
-use Rattle.papi_tools.proofs.FindingLemmas.{Never, ended}
+use Rattle.papi_tools.specs.Streams.{streams_of}
+use Rattle.papi_tools.proofs.FindingLemmas.{failed}
 use Rattle.papi_tools.proofs.LookingLemmas.{stopped_then}
 use Rattle.papi_tools.proofs.OpeningLemmas.{streams_found}
 use Rattle.papi_tools.proofs.streams.open_readers.Goals as goal
@@ -10,7 +11,7 @@ returns-in-Ok-clause-found g c =
     streams_found c.open_into.new.readers.items _ (vec_len c.open_into.new.readers) c.args.names.now _ (grind arith) c.add_empty.ensures.empty c.open_into.ensures.unread c.in-Ok.ensures.found
 
 pub returns-in-Err-clause-found : goal.returns-in-Err-clause-found
-returns-in-Err-clause-found g c = ended Never Never c.in-Err.stop (λ o. tapes_under o c.args.names.now) _ _ c.in-Err.ensures.found
+returns-in-Err-clause-found g c = failed c.in-Err.stop (λ o. tapes_under o c.args.names.now) (λ o tapes. Ok (streams_of tapes)) _ c.in-Err.ensures.found
 
 pub returns-in-Ok-clause-looked : goal.returns-in-Ok-clause-looked
 returns-in-Ok-clause-looked g c =

@@ -1,0 +1,81 @@
+-- What files by name hold: docs/FORMATS.md.
+use Rattle.std.specs.Prelude.{ℕ, List, Option, Some, None, Result, Ok, Err}
+use Rattle.event_tables.specs.Tables.{ComponentText}
+use Rattle.event_tables.specs.Unit.{unit_fault, unit_tables}
+use Rattle.profil_hist.specs.Maps.{map_fault, map_ranges}
+use Rattle.profil_hist.specs.Ranges.{RangeText}
+use Rattle.region_report.specs.Scripts.{regions_of}
+use Rattle.region_report.specs.declared.regions.RegionLine.{RegionLine}
+use Rattle.script_lines.specs.ByLine.{Refused}
+use Rattle.script_lines.specs.Scripts.{script_of}
+use Rattle.script_lines.specs.declared.script.ScriptLine.{ScriptLine}
+use Rattle.tool_words.specs.declared.presets.PresetWords.{PresetWords}
+use Rattle.user_events.specs.Events.{ExtendedView}
+use Rattle.user_events.specs.Rows.{extended_fault, extended_in}
+use Rattle.papi_tools.specs.Opening.{file_bytes}
+use Rattle.papi_tools.specs.Openings.{Openings, opened}
+use Rattle.papi_tools.specs.Steps.{and_then}
+use Rattle.papi_tools.specs.declared.limits.TheConstants.{SCRIPT_BYTES, TABLE_BYTES}
+use Rattle.papi_tools.specs.declared.refusal.Refusal.{Refusal}
+use Rattle.papi_tools.specs.declared.refusal.Refusal.TheVariants as refusal
+
+-- what a file of this name holds, by what its bytes are; its opening is the next one
+abbrev pub content_under : {A : Type 0} → ℕ → (List ℕ → List ℕ → Result A Refusal) → Openings → List ℕ → Result A Refusal
+content_under limit content openings name = and_then (file_bytes limit openings name) (content name)
+
+-- ---- tables
+
+-- what the rows of a file of this name give, if none of them is faulty
+abbrev pub rows_unless : {A C : Type 0} → (List ℕ → ℕ → C → Refusal) → List ℕ → Option (ℕ × C) → A → Result A Refusal
+rows_unless refuse name None given = Ok given
+rows_unless refuse name (Some fault) given = Err (refuse name fault.0 fault.1)
+
+-- what the bytes of a unit file of this name are
+unfoldable pub unit_of : List ℕ → List ℕ → Result (List ComponentText) Refusal
+unit_of name bytes = rows_unless refusal.Row name (unit_fault bytes) (unit_tables bytes)
+
+abbrev pub unit_under : Openings → List ℕ → Result (List ComponentText) Refusal
+unit_under openings name = content_under TABLE_BYTES unit_of openings name
+
+-- what the bytes of a map of this name are
+unfoldable pub map_of : List ℕ → List ℕ → Result (List RangeText) Refusal
+map_of name bytes = rows_unless refusal.MapRow name (map_fault bytes) (map_ranges bytes)
+
+abbrev pub map_under : Openings → List ℕ → Result (List RangeText) Refusal
+map_under openings name = content_under TABLE_BYTES map_of openings name
+
+-- what the bytes of a preset file are for a cpu: its presets and user events
+unfoldable pub presets_of : PresetWords → List ℕ → Result ExtendedView Refusal
+presets_of words bytes = rows_unless refusal.PresetRow words.file (extended_fault words.cpu bytes) (extended_in words.cpu bytes)
+
+-- the presets, if they are asked for
+abbrev pub presets_asked : Openings → Option PresetWords → Result (Option ExtendedView) Refusal
+presets_asked openings None = Ok None
+presets_asked openings (Some words) =
+    and_then (file_bytes TABLE_BYTES openings words.file) (λ bytes. and_then (presets_of words bytes) (λ presets. Ok (Some presets)))
+
+-- the openings after that of the presets, if they are asked for
+abbrev pub after_presets : Option PresetWords → Openings → Openings
+after_presets None openings = openings
+after_presets (Some words) openings = opened openings
+
+-- ---- scripts
+
+-- the lines of a script of this name, if none of them is faulty
+abbrev pub lines_unless : {A C : Type 0} → (List ℕ → ℕ → C → Refusal) → List ℕ → Result A (Refused C) → Result A Refusal
+lines_unless refuse name (Ok lines) = Ok lines
+lines_unless refuse name (Err refused) = Err (refuse name refused.line refused.cause)
+
+-- what the bytes of a script of this name are
+abbrev pub script_in : List ℕ → List ℕ → Result (List ScriptLine) Refusal
+script_in name bytes = lines_unless refusal.Line name (script_of bytes)
+
+abbrev pub script_under : Openings → List ℕ → Result (List ScriptLine) Refusal
+script_under openings name = content_under SCRIPT_BYTES script_in openings name
+
+-- what the bytes of a region script of this name are
+abbrev pub regions_in : List ℕ → List ℕ → Result (List RegionLine) Refusal
+regions_in name bytes = lines_unless refusal.RegionLine name (regions_of bytes)
+
+abbrev pub regions_under : Openings → List ℕ → Result (List RegionLine) Refusal
+regions_under openings name = content_under SCRIPT_BYTES regions_in openings name
