@@ -7,7 +7,7 @@ use Rattle.std.proofs.lemmas.Option.{get_or_from_slice_get, slice_get_within}
 use Rattle.std.specs.Prelude.{◌==◌, slice_get, slice_index, zip}
 use Rattle.std.specs.Int.{bit_at}
 use Rattle.std.specs.List.{range_with_len}
-use Rattle.event_sets.proofs.Steps.{drop_at}
+use Rattle.papi_base.proofs.Steps.{drop_at}
 use Rattle.reply_text.specs.Replies.{Text, members_below, spaced}
 
 -- ---- texts after spaces
