@@ -26,10 +26,12 @@ UNIT_FIELDS = {
     ),
     "UMASK": (NAME_FIELD, ("the field of bits", r"[0-9A-Fa-f]{1,2}", HEX_WANTED), ("the field of flags", "-|d|n|dn|nd", "-, d, n or dn"), TEXT_FIELD),
 }
+MOST_WIDTH = 1_048_576
+MOST_BUCKETS = 65_536
 MAP_FIELDS = {
     "RANGE": (
-        NAME_FIELD, ("START", r"0x[0-9A-Fa-f]{1,16}", "0x and 1 to 16 hexadecimal digits"), ("WIDTH", r"[1-9][0-9]*", "a number from 1 to 1048576"),
-        ("BUCKETS", r"[1-9][0-9]*", "a number from 1 to 65536"),
+        NAME_FIELD, ("START", r"0x[0-9A-Fa-f]{1,16}", "0x and 1 to 16 hexadecimal digits"), ("WIDTH", r"[1-9][0-9]*", f"a number from 1 to {MOST_WIDTH}"),
+        ("BUCKETS", r"[1-9][0-9]*", f"a number from 1 to {MOST_BUCKETS}"),
     ),
 }
 TITLES = {"COMPONENT": "name,pmu", "COUNTER": "name,width,P", "EVENT": "name,select code,counters,description", "UMASK": "name,bits,flags,description"}
@@ -108,7 +110,7 @@ def _repeated(rows: list[Row], place: int) -> str:
 
 def map_fault(rows: list[Row], place: int, cause: str) -> str:
     if cause == "bad row":
-        return form_fault(rows[place], MAP_FIELDS)
+        return form_fault(rows[place], MAP_FIELDS) or _limit_fault(rows[place].fields())
     if cause not in ("repeated name", "ranges overlap"):
         return ""
     own = rows[place].fields()
@@ -121,6 +123,13 @@ def map_fault(rows: list[Row], place: int, cause: str) -> str:
         if cause == "ranges overlap" and _start(fields) < _end(own) and _start(own) < _end(fields):
             return f"{own[1]} goes {_span(own)}, and {fields[1]} (line {other.line}) {_span(fields)}"
     return ""
+
+
+def _limit_fault(fields: list[str]) -> str:
+    for what, text, most in (("WIDTH", fields[3], MOST_WIDTH), ("BUCKETS", fields[4], MOST_BUCKETS)):
+        if int(text) > most:
+            return f"{what} is {text}, and a number from 1 to {most} is wanted"
+    return f"its addresses go past {(1 << 64) - 1:#x}" if _end(fields) > 1 << 64 else ""
 
 
 def _span(fields: list[str]) -> str:
