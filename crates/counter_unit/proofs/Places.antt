@@ -1,6 +1,7 @@
 -- Places of registers, one by one and all together.
-use Rattle.std.proofs.Common.{◌≡◌, ℕ, zero, suc, ◌+◌, ◌-◌, ◌^◌, ◌<◌, ◌≤◌, inl, inr, List, [], ◌∷◌, length, set, get_or, replicate, refl, ap, ◌∙◌, arith, Option, Some, None}
+use Rattle.std.proofs.Common.{sym, if◌then◌else◌, min, bit_or, ◌≡◌, ℕ, zero, suc, ◌+◌, ◌-◌, ◌^◌, ◌<◌, ◌≤◌, inl, inr, List, [], ◌∷◌, length, set, get_or, replicate, refl, ap, ◌∙◌, arith, Option, Some, None}
 use Rattle.std.specs.Prelude.{◌==◌}
+use Rattle.std.specs.Int.Bits.{or_zero_r}
 use Rattle.std.proofs.lemmas.Bool.{cases_eq, cond_both, cond-true, cond-false, eq-eqb, ne_eqb, leb-true, leb-false}
 use Rattle.papi_base.proofs.Weights.{weight_of-le}
 use Rattle.papi_base.specs.Weight.{weight_of}
@@ -73,6 +74,13 @@ FitWidths-moved before o ws rs widths small h = record {
   same_length = length-all_moved before o ws rs h.same_length ∙ h.same_length;
   each = λ c lt. rw (at_place-all_moved before o ws rs c h.same_length) (moved_place-sound before o (get_or ws c 0) (at_place rs c) (widths.low c lt) small (h.each c lt));
 }
+
+-- these bits with the first one, which is there if they are none
+pub first_added : (bits counters first : ℕ) → first ≡ (if bits == 0 then min counters 1 else 0) → bit_or bits first ≡ (if bits == 0 then min counters 1 else bits)
+first_added bits counters first is = elim (cases_eq bits 0) [
+  | inl none ↦ ap (λ (b : ℕ). bit_or b first) none ∙ is ∙ cond-true (bits == 0) (min counters 1) 0 (eq-eqb bits 0 none) ∙ sym (cond-true (bits == 0) (min counters 1) bits (eq-eqb bits 0 none))
+  | inr some ↦ ap (λ (b : ℕ). bit_or bits b) (is ∙ cond-false (bits == 0) (min counters 1) 0 (ne_eqb bits 0 some)) ∙ or_zero_r bits ∙ sym (cond-false (bits == 0) (min counters 1) bits (ne_eqb bits 0 some))
+]
 
 -- the rooms of these widths, while those below this one are done
 pub record Filling (ws rooms : List ℕ) (done : ℕ) : Type 0 where

@@ -112,13 +112,23 @@ fn carry(register: &mut Register, width: u8, sum: u64)
     register.bank = register.bank.wrapping_add(period);
 }
 
-/// The counters to look at if an occurrence can move these of n: the first one if it can move none.
-// So there is mostly one turn, whether or not the occurrence counts, which a processor cannot foresee.
+/// The first of n counters as a bit if an occurrence can move none, and no bit else.
 #[inline(always)]
+fn first_if_none(moved: u32, counters: u32) -> u32
+    ensures { result ≡ (if moved == 0 then min counters 1 else 0) }
+{
+    u32::from((moved == 0) & (counters != 0))
+}
+
+/// The counters to look at if an occurrence can move these of n: the first one if it can move none.
+// So there is mostly one turn, whether or not the occurrence counts, which a processor cannot foresee. It is computed from
+// bits, since a compiler may make a branch of a choice.
+#[inline(always)]
+#[tactic(auto, using(crate::proofs::Places::first_added))]
 fn one_at_least(moved: u32, counters: u32) -> u32
     ensures { result ≡ (if moved == 0 then min counters 1 else moved) }
 {
-    if moved == 0 { counters.min(1) } else { moved }
+    moved | first_if_none(moved, counters)
 }
 
 /// What is added to a counter that counts each amount as it is: nothing if the occurrence can move no counter.
