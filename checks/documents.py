@@ -111,7 +111,7 @@ def lines_with_names(path: Path) -> list[tuple[int, list[Path], list[str]]]:
 
 
 def names_in(files: list[Path]) -> set[str]:
-    """The functions that these files define, or all words of the sources and definitions of these crates."""
+    """The functions that these files define, or all words of the sources and definitions of these crates, without their comments."""
     return set().union(*(_names(file) for file in files))
 
 
@@ -133,4 +133,7 @@ def _names(file: Path, is_alone: bool = True) -> frozenset[str]:
         inside = [*file.glob("src/*.rt"), *file.glob("specs/*.antt")]
         return frozenset().union(*(_names(path, False) for path in inside))
     text = file.read_text(encoding="utf-8") if file.exists() else ""
-    return frozenset(re.findall(r"\bfn (\w+)" if is_alone else r"\w+", text))
+    if is_alone:
+        return frozenset(re.findall(r"\bfn (\w+)", text))
+    comment = r"(?m)(^|\s)--\s.*$" if file.suffix == ".antt" else r"//.*"
+    return frozenset(re.findall(r"\w+", re.sub(comment, "", text)))
