@@ -1,21 +1,19 @@
 -- An event that is added to a set.
-use Rattle.std.proofs.Common.{◌≡◌, ◌≢◌, ◌⊎◌, inl, inr, ℕ, zero, suc, ◌<◌, ◌≤◌, ◌^◌, Bool, true, false, ◌||◌, ◌==◌, List, [], ◌∷◌, ◌++◌, length, take, drop}
-use Rattle.std.proofs.Common.{refl, ap, ap₂, sym, subst, ◌∙◌, arith, slice_get, Option, Some, None, length-append, get_or, IsSomeAnd}
+use Rattle.std.proofs.Common.{◌≡◌, ◌⊎◌, inl, inr, ℕ, ◌<◌, ◌≤◌, ◌^◌, Bool, true, false, ◌||◌, ◌==◌, List, [], ◌∷◌, ◌++◌, length, take, drop}
+use Rattle.std.proofs.Common.{refl, ap, ap₂, sym, subst, ◌∙◌, arith, slice_get, Option, Some, None, length-append, get_or}
 use Rattle.std.specs.Prelude.{All, find, is_some, if◌then◌else◌, nat_le, nat_lt}
-use Rattle.std.specs.Option.{option_map, option_map_or}
+use Rattle.std.specs.Option.{option_map}
 use Rattle.std.proofs.lemmas.Bool.{lt-ltb, le-ltb}
 use Rattle.std.proofs.lemmas.Bool.Decides.{nat_tests}
 use Rattle.std.proofs.lemmas.List.{take-append-drop}
 use Rattle.std.proofs.lemmas.List.Elements.{All-append, All-push}
 use Rattle.papi_base.specs.declared.native.Native.{Native}
 use Rattle.papi_base.specs.declared.native.EventRef.{EventRef}
-use Rattle.papi_base.specs.declared.native.EventRef.TheVariants as event
 use Rattle.papi_base.specs.declared.code.Code.TheVariants.{Ecount}
 use Rattle.counter_alloc.specs.Assignments.{Assignable}
 use Rattle.counter_alloc.specs.Masks.{masks_of}
 use Rattle.counter_alloc.specs.Matchings.{MatchingView}
-use Rattle.postfix_rules.specs.Presets.{Book, component_of_event, entry, natives_of_event}
-use Rattle.postfix_rules.specs.Rules.{DerivedView, IsDerived}
+use Rattle.postfix_rules.specs.Presets.{Book, component_of_event, natives_of_event}
 use Rattle.postfix_rules.specs.Sameness.{joined_by}
 use Rattle.postfix_rules.proofs.Joined.{earlier_stay, one_more_joins}
 use Rattle.postfix_rules.proofs.Places.{get_pushed}
@@ -26,34 +24,19 @@ use Rattle.postfix_rules.specs.Fitting.{Fits, IsHeld}
 use Rattle.event_sets.specs.Assigning.{alone, clash_of}
 use Rattle.event_sets.specs.AtRest.{Widths, cannot_take, clash_with, has_event, is_full, is_other, natives_with, set_natives, widths_at, with_event}
 use Rattle.event_sets.specs.Sets.{IsMatched, IsSound, SetView, set_view}
-use Rattle.event_sets.proofs.Agreeing.{found, numbered}
+use Rattle.event_sets.proofs.Agreeing.{by_number, event_owned, found, not_other}
+use Rattle.event_sets.proofs.Kept.{no_natives}
 use Rattle.event_sets.proofs.JoinedNatives.{joined_all}
-
-all_one : {X : Type 0} (P : X → Type 0) (x : X) → P x → All P (x ∷ [])
-all_one P x h zero d below = h
-all_one P x h (suc k) d below = absurd (omega arith)
 
 -- the natives of an event that the book holds are of one component
 pub one_component : (book : Book) (e : EventRef) (n : Native) → IsHeld book e → slice_get (natives_of_event book e) 0 ≡ Some n → All (λ m. m.comp ≡ n.comp) (natives_of_event book e)
-one_component book (event.Native m) n held first = all_one (λ (x : Native). x.comp ≡ n.comp) m (let same : m ≡ n = cc in ap (λ (x : Native). x.comp) same)
-one_component book (event.Preset row) n held first = go (entry book row) held first where
-  go : (o : Option DerivedView) → IsSomeAnd o IsDerived → slice_get (option_map_or (λ d. d.natives) o []) 0 ≡ Some n → All (λ m. m.comp ≡ n.comp) (option_map_or (λ d. d.natives) o [])
-  go None held first = absurd held
-  go (Some d) held first =
-      let comp = held.one_component.0 in
-      let own : n.comp ≡ comp = numbered (λ (m : Native). m.comp ≡ comp) d.natives held.one_component.1 0 n first in
-      λ k m below. held.one_component.1 k m below ∙ sym own
+one_component book e n held first = by_number (λ m. m.comp ≡ n.comp) (natives_of_event book e) (λ i m q.
+    let same : Some m.comp ≡ Some n.comp = sym (event_owned book e held i m q) ∙ event_owned book e held 0 n first in cc)
 
 -- natives among which none is found that is allowed no counter
 none_without : (ns : List Native) → option_map alone (find (λ m. m.allowed == 0) ns) ≡ None → All (λ m. 0 < m.allowed) ns
 none_without [] h = λ k m below. absurd (omega arith)
-none_without (x ∷ ns) h = at (none_without ns) (x.allowed == 0) refl h where
-  at : (option_map alone (find (λ m. m.allowed == 0) ns) ≡ None → All (λ m. 0 < m.allowed) ns) → (b : Bool) → (x.allowed == 0) ≡ b
-      → option_map alone (if b then Some x else find (λ m. m.allowed == 0) ns) ≡ None
-      → All (λ m. 0 < m.allowed) (x ∷ ns)
-  at rest true is h k m below = cc
-  at rest false is h zero m below = let isnt : x.allowed ≢ 0 = grind (arith, nat_tests, is) in omega arith
-  at rest false is h (suc k) m below = rest h k m (omega arith)
+none_without (x ∷ ns) h = grind (arith, nat_tests, none_without ns)
 
 -- a set with one more event, its natives and its component
 abbrev pub pushed : SetView → EventRef → ℕ → List Native → ℕ → SetView
@@ -81,19 +64,8 @@ module _ (book : Book) (shape : Widths) (e : EventRef) (s : SetView) (n : Native
   pub can_take : cannot_take book e s.rest ≡ false
   can_take = ap₂ (λ a b. a || b) (ap (is_other s.rest.component) component_is ∙ ready.own) ready.absent
 
-  -- no component is fixed, or that of the event
   fixed : (s.rest.component ≡ None) ⊎ (s.rest.component ≡ Some n.comp)
-  fixed = go s.rest.component ready.own where
-    go : (o : Option ℕ) → is_other o (Some n.comp) ≡ false → (o ≡ None) ⊎ (o ≡ Some n.comp)
-    go None h = inl refl
-    go (Some c) h = let same : c ≡ n.comp = grind (arith, nat_tests, h) in inr (ap Some same)
-
-  -- a set without a component has no natives
-  no_natives : s.rest.component ≡ None → s.natives ≡ []
-  no_natives none = go s.natives ready.sound.owned where
-    go : (ns : List Native) → All (λ m. s.rest.component ≡ Some m.comp) ns → ns ≡ []
-    go [] h = refl
-    go (m ∷ ns) h = let some : s.rest.component ≡ Some m.comp = h 0 m (omega arith) in cc
+  fixed = not_other s.rest.component n.comp ready.own
 
   module _ (all : List Native) (joins : all ≡ joined_by s.natives (natives_of_event book e)) where
     pub all_is : all ≡ natives_with book e s.rest
@@ -141,14 +113,14 @@ module _ (book : Book) (shape : Widths) (e : EventRef) (s : SetView) (n : Native
       pub all_in_range : All (λ m. m.allowed < 2 ^ counters) all
       all_in_range = subst (All (λ m. m.allowed < 2 ^ counters)) (sym joins) (joined_all (λ m. m.allowed < 2 ^ counters) s.natives (natives_of_event book e) (before fixed) given_in_range) where
         before : (s.rest.component ≡ None) ⊎ (s.rest.component ≡ Some n.comp) → All (λ m. m.allowed < 2 ^ counters) s.natives
-        before (inl none) = subst (All (λ m. m.allowed < 2 ^ counters)) (sym (no_natives none)) (λ k m below. absurd (omega arith))
+        before (inl none) = subst (All (λ m. m.allowed < 2 ^ counters)) (sym (no_natives s ready.sound none)) (λ k m below. absurd (omega arith))
         before (inr some) = subst (λ c. All (λ m. m.allowed < 2 ^ c) s.natives) (same_counters some) ready.sound.in_range
 
       all_owned : All (λ m. Some n.comp ≡ Some m.comp) all
       all_owned = subst (All (λ m. Some n.comp ≡ Some m.comp)) (sym joins)
           (joined_all (λ m. Some n.comp ≡ Some m.comp) s.natives (natives_of_event book e) (before fixed) (λ k m below. ap Some (sym (one_component book e n ready.held ready.first k m below)))) where
             before : (s.rest.component ≡ None) ⊎ (s.rest.component ≡ Some n.comp) → All (λ m. Some n.comp ≡ Some m.comp) s.natives
-            before (inl none) = subst (All (λ m. Some n.comp ≡ Some m.comp)) (sym (no_natives none)) (λ k m below. absurd (omega arith))
+            before (inl none) = subst (All (λ m. Some n.comp ≡ Some m.comp)) (sym (no_natives s ready.sound none)) (λ k m below. absurd (omega arith))
             before (inr some) = λ k m below. sym some ∙ ready.sound.owned k m below
 
       pub begun_counters : (kept : MatchingView) → IsMatched s kept → (if is_some s.rest.component then kept else record { counters = counters; allowed = [] }).counters ≡ counters
@@ -161,7 +133,7 @@ module _ (book : Book) (shape : Widths) (e : EventRef) (s : SetView) (n : Native
           → (if is_some s.rest.component then kept else record { counters = counters; allowed = [] }).allowed ≡ masks_of s.natives
       begun_allowed kept matched unshared = go s.rest.component refl where
         go : (o : Option ℕ) → s.rest.component ≡ o → (let m : MatchingView = if is_some o then kept else record { counters = counters; allowed = [] } in m.allowed) ≡ masks_of s.natives
-        go None is = ap masks_of (sym (no_natives is))
+        go None is = ap masks_of (sym (no_natives s ready.sound is))
         go (Some c) is = matched.natives unshared
 
       -- each has an allowed counter if no new one is without

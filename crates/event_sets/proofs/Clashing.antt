@@ -1,6 +1,7 @@
 -- Native events that are given counters one after another.
+use Rattle.std.proofs.lemmas.Bool.Decides.{nat_tests}
 use Rattle.std.proofs.Common.{◌≡◌, ℕ, zero, suc, ◌+◌, ◌<◌, ◌≤◌, ◌^◌, true, false, ◌==◌, List, [], ◌∷◌, ◌++◌, take, drop, ap, sym, subst, ◌∙◌, arith, slice_get, Option, Some, None}
-use Rattle.std.specs.Prelude.{All, if◌then◌else◌}
+use Rattle.std.specs.Prelude.{All}
 use Rattle.std.specs.Int.{bit_at}
 use Rattle.std.proofs.lemmas.List.{map-append, take-append-drop, append_assoc}
 use Rattle.papi_base.specs.declared.native.Native.{Native}
@@ -49,8 +50,7 @@ refused_whole natives i n allowed e is refused assignable =
 
 -- nothing stands in the way of natives with counters of their own
 pub no_clash : (slice : Option ℕ) (from : ℕ) (natives : List Native) → slice ≡ None → AreMasks (masks_of natives) → Assignable (masks_of natives) → None ≡ clash_of slice from natives
-no_clash slice from natives e masks assignable =
-    sym (ap (λ s. clash_of s from natives) e ∙ ap (λ b. blamed_unless b natives) (is_assignable_true (masks_of natives) masks assignable))
+no_clash slice from natives e masks assignable = grind (arith, nat_tests, is_assignable_true)
 
 -- and else the natives to blame do
 pub a_clash : (slice : Option ℕ) (from : ℕ) (natives : List Native) (blame : Blame) → slice ≡ None → AreMasks (masks_of natives) → (Assignable (masks_of natives) → ⊥)
@@ -63,15 +63,8 @@ a_clash slice from natives blame e masks isnt is =
 -- one place more that is a member, and one that is not
 pub member_joins : (places i : ℕ) (n : Native) (members natives all : List Native) → slice_get natives i ≡ Some n → (bit_at places i == 1) ≡ true
     → members ++ members_from places i (drop i natives) ≡ all → (members ++ n ∷ []) ++ members_from places (i + 1) (drop (i + 1) natives) ≡ all
-member_joins places i n members natives all e is h =
-    let rest = members_from places (i + 1) (drop (i + 1) natives) in
-    append_assoc members (n ∷ []) rest
-    ∙ (ap (λ b. members ++ ((if b then n ∷ [] else []) ++ rest)) (sym is)
-    ∙ (ap (λ xs. members ++ members_from places i xs) (sym (drop_at natives i n e)) ∙ h))
+member_joins places i n members natives all e is h = grind (arith, nat_tests, append_assoc, drop_at)
 
 pub member_not : (places i : ℕ) (n : Native) (members natives all : List Native) → slice_get natives i ≡ Some n → (bit_at places i == 1) ≡ false
     → members ++ members_from places i (drop i natives) ≡ all → members ++ members_from places (i + 1) (drop (i + 1) natives) ≡ all
-member_not places i n members natives all e isnt h =
-    let rest = members_from places (i + 1) (drop (i + 1) natives) in
-    ap (λ b. members ++ ((if b then n ∷ [] else []) ++ rest)) (sym isnt)
-    ∙ (ap (λ xs. members ++ members_from places i xs) (sym (drop_at natives i n e)) ∙ h)
+member_not places i n members natives all e isnt h = grind (arith, nat_tests, drop_at)

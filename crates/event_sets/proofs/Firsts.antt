@@ -1,4 +1,6 @@
 -- Natives that join a list one by one are those of the whole list at their first mention.
+use Rattle.std.proofs.Common.{arith}
+use Rattle.std.proofs.lemmas.Bool.Decides.{nat_tests}
 use Rattle.std.proofs.Common.{◌≡◌, Bool, true, false, ◌||◌, ◌&&◌, not, List, [], ◌∷◌, ◌++◌, refl, sym, ap, ◌∙◌}
 use Rattle.std.specs.Prelude.{if◌then◌else◌}
 use Rattle.std.specs.List.{filter, flat_map}
@@ -15,13 +17,7 @@ use Rattle.event_sets.specs.Laws.{NativesAreFirsts, firsts}
 -- one filter after another is the filter by both
 filters_join : (p q r : Native → Bool) → ((m : Native) → r m ≡ (q m && p m)) → (xs : List Native) → filter p (filter q xs) ≡ filter r xs
 filters_join p q r both [] = refl
-filters_join p q r both (x ∷ xs) = at (filters_join p q r both xs) (q x) (p x) refl refl ∙ ap (λ b. if b then x ∷ filter r xs else filter r xs) (sym (both x))
-  where
-    at : filter p (filter q xs) ≡ filter r xs → (b d : Bool) → q x ≡ b → p x ≡ d
-        → filter p (if b then x ∷ filter q xs else filter q xs) ≡ (if (b && d) then x ∷ filter r xs else filter r xs)
-    at rest true true e g = ap (λ b. if b then x ∷ filter p (filter q xs) else filter p (filter q xs)) g ∙ ap (λ ys. x ∷ ys) rest
-    at rest true false e g = ap (λ b. if b then x ∷ filter p (filter q xs) else filter p (filter q xs)) g ∙ rest
-    at rest false d e g = rest
+filters_join p q r both (x ∷ xs) = grind (arith, nat_tests, filters_join p q r both xs)
 
 filter_none : (xs : List Native) → filter (λ m. not (among m [])) xs ≡ xs
 filter_none [] = refl

@@ -1,5 +1,6 @@
 -- Native events that join a list.
-use Rattle.std.proofs.Common.{◌≡◌, ℕ, suc, ◌+◌, ◌<◌, ◌≤◌, Bool, true, false, List, [], ◌∷◌, ◌++◌, length, drop, ap, sym, ◌∙◌, arith, slice_get, Some, length-append}
+use Rattle.std.proofs.lemmas.Bool.Decides.{nat_tests}
+use Rattle.std.proofs.Common.{◌≡◌, ℕ, suc, ◌+◌, ◌<◌, ◌≤◌, Bool, true, false, List, [], ◌∷◌, ◌++◌, length, drop, ap, arith, slice_get, Some, length-append}
 use Rattle.std.specs.Prelude.{All, if◌then◌else◌}
 use Rattle.std.proofs.lemmas.List.Elements.{All-push}
 use Rattle.papi_base.specs.declared.native.Native.{Native}
@@ -7,8 +8,7 @@ use Rattle.postfix_rules.specs.Sameness.{among, joined_by}
 use Rattle.papi_base.proofs.Steps.{drop_at}
 
 next_grows : (b : Bool) (n : Native) (seen : List Native) → length seen ≤ length (if b then seen else seen ++ n ∷ [])
-next_grows true n seen = omega arith
-next_grows false n seen = omega (arith, length-append seen (n ∷ []))
+next_grows old n seen = grind (arith, nat_tests, length-append)
 
 -- a list does not shrink
 pub joined_grows : (seen more : List Native) → length seen ≤ length (joined_by seen more)
@@ -18,13 +18,11 @@ joined_grows seen (n ∷ more) = omega (arith, next_grows (among n seen) n seen,
 -- one native more that is new, and one that is there
 pub joins_new : (seen more all : List Native) (i : ℕ) (n : Native) → slice_get more i ≡ Some n → among n seen ≡ false → joined_by seen (drop i more) ≡ all
     → joined_by (seen ++ n ∷ []) (drop (i + 1) more) ≡ all
-joins_new seen more all i n e new h =
-    ap (λ b. joined_by (if b then seen else seen ++ n ∷ []) (drop (i + 1) more)) (sym new) ∙ (ap (joined_by seen) (sym (drop_at more i n e)) ∙ h)
+joins_new seen more all i n e new h = grind (arith, nat_tests, drop_at)
 
 pub joins_old : (seen more all : List Native) (i : ℕ) (n : Native) → slice_get more i ≡ Some n → among n seen ≡ true → joined_by seen (drop i more) ≡ all
     → joined_by seen (drop (i + 1) more) ≡ all
-joins_old seen more all i n e old h =
-    ap (λ b. joined_by (if b then seen else seen ++ n ∷ []) (drop (i + 1) more)) (sym old) ∙ (ap (joined_by seen) (sym (drop_at more i n e)) ∙ h)
+joins_old seen more all i n e old h = grind (arith, nat_tests, drop_at)
 
 -- a new one if there is no room makes too many
 pub joined_over : (seen more all : List Native) (i : ℕ) (n : Native) → slice_get more i ≡ Some n → among n seen ≡ false → joined_by seen (drop i more) ≡ all

@@ -1,5 +1,5 @@
 -- A set without one of its events.
-use Rattle.std.proofs.Common.{◌≡◌, ◌≢◌, ℕ, zero, suc, ◌+◌, ◌<◌, ◌≤◌, ◌^◌, true, List, [], ◌∷◌, ◌++◌, length, remove, take, refl, ap, sym, subst, ◌∙◌, arith, slice_get, Some, None}
+use Rattle.std.proofs.Common.{◌≡◌, ◌≢◌, ℕ, zero, suc, ◌+◌, ◌<◌, ◌≤◌, ◌^◌, true, List, [], ◌∷◌, ◌++◌, length, remove, take, refl, ap, sym, ◌∙◌, arith, slice_get, Some, None}
 use Rattle.std.specs.Prelude.{All}
 use Rattle.papi_base.specs.declared.native.Native.{Native}
 use Rattle.papi_base.specs.declared.native.EventRef.{EventRef}
@@ -10,7 +10,7 @@ use Rattle.postfix_rules.specs.Presets.{Book, natives_after, natives_of, natives
 use Rattle.postfix_rules.proofs.Joined.{each_is_among, is_among, none_twice}
 use Rattle.event_sets.specs.AtRest.{set_natives}
 use Rattle.event_sets.specs.Sets.{IsSound, SetView}
-use Rattle.event_sets.proofs.Agreeing.{by_number, length-remove, natives_each, numbered}
+use Rattle.event_sets.proofs.Agreeing.{by_number, length-remove, natives_all, numbered}
 use Rattle.event_sets.proofs.JoinedNatives.{joined_grows}
 use Rattle.event_sets.proofs.Removing.{get_removed, stood, stood_apart}
 use Rattle.papi_base.proofs.Steps.{take_at}
@@ -59,8 +59,9 @@ module _ (book : Book) (p : ℕ) (s : SetView) (natives : s.natives ≡ set_nati
   left = natives_of book (remove s.rest.events p)
 
   left_among : (i : ℕ) (n : Native) → slice_get left i ≡ Some n → among n s.natives ≡ true
-  left_among i n e = subst (λ ns. among n ns ≡ true) (sym natives) (natives_each (λ m. among m (set_natives book s.rest) ≡ true) book (remove s.rest.events p)
-      (λ k f q j m r. each_is_among book s.rest.events (stood p k) f m (sym (get_removed s.rest.events p k) ∙ q) (is_among m (natives_of_event book f) j r)) i n e)
+  left_among i n e = ap (among n) natives ∙ numbered (λ m. among m (set_natives book s.rest) ≡ true) left (natives_all (λ m. among m (set_natives book s.rest) ≡ true) book (remove s.rest.events p)
+      (λ k f q. by_number (λ m. among m (set_natives book s.rest) ≡ true) (natives_of_event book f)
+      (λ j m r. each_is_among book s.rest.events (stood p k) f m (sym (get_removed s.rest.events p k) ∙ q) (is_among m (natives_of_event book f) j r)))) i n e
 
   left_all : (P : Native → Type 0) → All P s.natives → All P left
   left_all P all = by_number P left (λ i n e. of_among P s.natives n all (left_among i n e))

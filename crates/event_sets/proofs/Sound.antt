@@ -1,13 +1,14 @@
 -- What each set keeps, from the definitions alone.
-use Rattle.std.proofs.Common.{◌≡◌, ℕ, zero, suc, ◌<◌, ◌≤◌, Bool, true, false, List, [], ◌∷◌, length, refl, ap, sym, subst, ◌∙◌, arith, slice_get, Option, Some, None, IsSomeAnd, get_or}
-use Rattle.std.specs.Prelude.{All, if◌then◌else◌, is_some, nat_le, nat_lt, unwrap_or}
+use Rattle.std.proofs.Common.{◌≡◌, ℕ, zero, suc, ◌<◌, ◌≤◌, Bool, true, false, List, [], ◌∷◌, length, refl, ap, sym, subst, ◌∙◌, arith, rules, slice_get, Option, Some, None, IsSomeAnd, get_or}
+use Rattle.std.specs.Prelude.{All, if◌then◌else◌, nat_le, nat_lt, unwrap_or}
 use Rattle.std.specs.Option.{option_map, option_map_or, ForSome}
 use Rattle.std.proofs.lemmas.Bool.Decides.{nat_tests}
 use Rattle.std.proofs.lemmas.Bool.{or_parts}
+use Rattle.papi_base.proofs.Steps.{none_of, passed_over}
 use Rattle.papi_base.specs.declared.bits.Domain.{Domain}
 use Rattle.papi_base.specs.declared.native.Native.{Native}
 use Rattle.papi_base.specs.declared.native.EventRef.TheVariants as event
-use Rattle.papi_base.specs.declared.code.Code.TheVariants.{Einval, Ecombo, Ecount, Enocmp}
+use Rattle.papi_base.specs.declared.code.Code.TheVariants.{Einval, Ecombo, Ecount}
 use Rattle.counter_alloc.specs.Assignments.{Assignable}
 use Rattle.counter_alloc.specs.Listing.{is_assignable}
 use Rattle.counter_alloc.specs.Masks.{masks_of}
@@ -19,8 +20,8 @@ use Rattle.event_sets.specs.declared.refusal.Clash.{Clash}
 use Rattle.event_sets.specs.declared.refusal.Refusal.TheVariants.{Plain, Conflict}
 use Rattle.postfix_rules.specs.Fitting.{Fits}
 use Rattle.event_sets.specs.Assigning.{blamed_unless, clash_of}
-use Rattle.event_sets.specs.AtRest.{Widths, cannot_arm, cannot_take, clash_with, has_event, is_armed, is_bad_domain, is_bad_slice, is_bad_threshold}
-use Rattle.event_sets.specs.AtRest.{is_full, is_other, natives_with, new_set, place_of, shares_native, widths_at}
+use Rattle.event_sets.specs.AtRest.{Widths, cannot_take, clash_with, has_event, is_armed, is_bad_domain, is_bad_slice}
+use Rattle.event_sets.specs.AtRest.{is_full, is_other, natives_with, new_set, place_of, widths_at}
 use Rattle.event_sets.specs.Sets.{IsSound, set_view}
 use Rattle.event_sets.specs.Soundness.{AddedIsSound, ArmedIsSound, AssignedIsSound, EmptiedIsSound, HeldFit, NewIsSound, RemovedIsSound, WithDomainIsSound, WithSliceIsSound}
 use Rattle.event_sets.proofs.Agreeing.{held_have_natives, numbered}
@@ -37,18 +38,7 @@ few_counters shape comp few = go (slice_get shape comp) refl where
 
 -- a set without events, component or slice
 bare_sound : (book : Book) (shape : Widths) (d : Domain) → is_bad_domain d.0 ≡ false → IsSound (set_view book shape (record new_set { domain = d }))
-bare_sound book shape d good = record {
-  few_events = omega arith;
-  few_natives = omega arith;
-  few_counters = omega arith;
-  one_threshold_each = refl;
-  distinct = λ i j e a b. cc;
-  owned = λ k d below. absurd (omega arith);
-  in_range = λ k d below. absurd (omega arith);
-  good_domain = good;
-  assignable = λ unshared. ([], record { one_each = refl; is_allowed = λ i below. absurd (omega arith); distinct = λ i j a b. absurd (omega arith) });
-  shared = λ slice is. cc;
-}
+bare_sound book shape d good = search rules
 
 pub new_is_sound : NewIsSound
 new_is_sound book shape = bare_sound book shape (record { 0 = 1 }) refl
@@ -62,54 +52,34 @@ removed_is_sound book shape e s h = removed_sound book (place_of e s) (set_view 
 pub with_domain_is_sound : WithDomainIsSound
 with_domain_is_sound book shape bits s good h = domain_sound bits (set_view book shape s) good h
 
--- if neither of two refusals comes
-no_two : {X : Type 0} (a b : Bool) (x y : X) → (if a then Some x else if b then Some y else None) ≡ None → (a ≡ false) × (b ≡ false)
-no_two true b x y h = cc
-no_two false true x y h = cc
-no_two false false x y h = (refl, refl)
-
 pub with_slice_is_sound : WithSliceIsSound
 with_slice_is_sound book shape slice s taken h =
-    let tests = no_two (is_bad_slice slice) (is_armed s) Einval Ecombo taken in
-    sliced_sound slice (set_view book shape s) tests.0 tests.1 h
+    let first = passed_over (is_bad_slice slice) Einval (if is_armed s then Some Ecombo else None) taken in
+    sliced_sound slice (set_view book shape s) first.0 (passed_over (is_armed s) Ecombo None first.1).0 h
 
 pub assigned_is_sound : AssignedIsSound
-assigned_is_sound book shape comp s few taken h =
-    let tests = no_two (nat_le (length shape) comp) (is_other s.component (Some comp)) Enocmp Einval taken in
-    assigned_sound comp (length (widths_at shape (Some comp))) (set_view book shape s) tests.1 (few_counters shape comp few) (λ is. ap (λ c. length (widths_at shape c)) is) h
-
--- if a threshold is not refused, the natives do not take turns
-no_turns : {X : Type 0} (a b c : Bool) (o : Option ℕ) (x y : X) → (if a then Some x else if b then Some x else if c then Some x else if is_some o then Some y else None) ≡ None → o ≡ None
-no_turns true b c o x y h = cc
-no_turns false true c o x y h = cc
-no_turns false false true o x y h = cc
-no_turns false false false None x y h = refl
-no_turns false false false (Some slice) x y h = cc
+assigned_is_sound book shape comp s few taken h = grind (arith, nat_tests, passed_over, assigned_sound, few_counters)
 
 pub armed_is_sound : ArmedIsSound
-armed_is_sound book shape e t s taken h =
-    armed_sound (place_of e s) t (set_view book shape s) (no_turns (cannot_arm book e s) (is_bad_threshold shape t s) (shares_native book e t s) s.slice Einval Ecombo taken) h
+armed_is_sound book shape e t s taken h = search (rules, passed_over, armed_sound, none_of)
 
--- if no refusal comes, no row does
-no_rows : (a b : Bool) (c : Option Clash) → (if a then Some (Plain Einval) else if b then Some (Plain Ecount) else option_map Conflict c) ≡ None → (a ≡ false) × (b ≡ false) × (c ≡ None)
-no_rows true b c h = cc
-no_rows false true c h = cc
-no_rows false false None h = (refl, refl, refl)
-no_rows false false (Some clash) h = cc
+-- no clash is refused
+no_conflict : (c : Option Clash) → option_map Conflict c ≡ None → c ≡ None
+no_conflict = grind (arith, nat_tests)
 
 -- natives without a clash have an assignment
 fits_of : (b : Bool) (natives : List Native) → blamed_unless b natives ≡ None → b ≡ true
-fits_of true natives h = refl
-fits_of false natives h = cc
+fits_of fits natives h = grind (arith, nat_tests)
 
 pub added_is_sound : AddedIsSound
 added_is_sound book shape e s held fits few taken sound =
-    let rows = no_rows (cannot_take book e s) (is_full book e s) (clash_with book e s) taken in
+    let takes = passed_over (cannot_take book e s) (Plain Einval) _ taken in
+    let rows = passed_over (is_full book e s) (Plain Ecount) (option_map Conflict (clash_with book e s)) takes.1 in
     let lead = held_have_natives book e held in
     let n = lead.0 in
     let view = set_view book shape s in
     let owner : is_other s.component (Some n.comp) ≡ false = ap (is_other s.component) (sym (ap (option_map (λ (m : Native). m.comp)) lead.1))
-    ∙ (or_parts (is_other s.component _) (has_event e s) rows.0).0 in
+    ∙ (or_parts (is_other s.component _) (has_event e s) takes.0).0 in
     let ready : Ready book shape e view n = record {
       held = held;
       fits = fits;
@@ -118,16 +88,16 @@ added_is_sound book shape e s held fits few taken sound =
       sound = sound;
       first = lead.1;
       own = owner;
-      absent = (or_parts (is_other s.component _) (has_event e s) rows.0).1;
+      absent = (or_parts (is_other s.component _) (has_event e s) takes.0).1;
     } in
     let all = natives_with book e s in
     let joins = one_more_joins book s.events e in
     let counters = length (widths_at shape (Some n.comp)) in
     let size = few_counters shape n.comp few in
-    let room = or_parts (nat_le 32 (length s.events)) (nat_lt 32 (length all)) rows.1 in
+    let room = or_parts (nat_le 32 (length s.events)) (nat_lt 32 (length all)) rows.0 in
     let few_events : length s.events < 32 = grind (arith, nat_tests, room.0) in
     let few_natives : length all ≤ 32 = grind (arith, nat_tests, room.1) in
-    let clear : clash_of s.slice (length view.natives) all ≡ None = sym (clash_is book shape e view n ready all joins) ∙ rows.2 in
+    let clear : clash_of s.slice (length view.natives) all ≡ None = sym (clash_is book shape e view n ready all joins) ∙ no_conflict (clash_with book e s) rows.1 in
     let assignable : s.slice ≡ None → Assignable (masks_of all) = λ unshared.
     assignable_of (masks_of all) (are_masks counters all size (all_in_range book shape e view n ready all joins counters refl))
     (fits_of (is_assignable (masks_of all)) all (ap (λ o. clash_of o (length view.natives) all) (sym unshared) ∙ clear)) in

@@ -1,5 +1,5 @@
 -- Natives that are among others.
-use Rattle.std.proofs.Common.{◌≡◌, ◌≢◌, ◌∙◌, ◌∷◌, ◌+◌, ◌<◌, ◌≤◌, ◌||◌, not, cond, ℕ, zero, suc, Bool, true, false, List, [], length, map, refl, sym, ap, subst, arith, slice_get, slice_index, Some}
+use Rattle.std.proofs.Common.{◌≡◌, ◌≢◌, ◌∙◌, ◌∷◌, ◌<◌, ◌≤◌, ◌||◌, ℕ, zero, suc, Bool, true, false, List, [], length, map, refl, sym, ap, subst, arith, slice_get, slice_index, Some}
 use Rattle.std.specs.Prelude.{All, if◌then◌else◌}
 use Rattle.std.specs.List.{position_or_len}
 use Rattle.std.proofs.lemmas.List.{get_or-map, length-map}
@@ -9,7 +9,7 @@ use Rattle.counter_alloc.specs.Assignments.{Assignable, Has}
 use Rattle.counter_alloc.specs.Masks.{masks_of}
 use Rattle.postfix_rules.specs.Sameness.{among, same_native}
 use Rattle.postfix_rules.proofs.Equal.{native_is}
-use Rattle.event_sets.proofs.Agreeing.{numbered}
+use Rattle.event_sets.proofs.Agreeing.{first_place, numbered}
 
 abbrev pub AreDistinct : List Native → Type 0
 AreDistinct ns = (i j : ℕ) (n : Native) → slice_get ns i ≡ Some n → slice_get ns j ≡ Some n → i ≡ j
@@ -68,14 +68,9 @@ place n all = position_or_len (same_native n) all
 
 place_is : (n : Native) (all : List Native) → among n all ≡ true → slice_get all (place n all) ≡ Some n
 unfolding place
-place_is n [] h = cc h
-place_is n (m ∷ all) h = go (place_is n all) (same_native n m) refl h where
-  go : (among n all ≡ true → slice_get all (position_or_len (same_native n) all) ≡ Some n) → (b : Bool) → same_native n m ≡ b → (b || among n all) ≡ true
-      → slice_get (m ∷ all) (cond (not b) (1 + position_or_len (same_native n) all) 0) ≡ Some n
-  go rest true e k = ap Some (sym (native_is n m e))
-  go rest false e k = ap (slice_get (m ∷ all)) (let s : 1 + position_or_len (same_native n) all ≡ suc (position_or_len (same_native n) all) = omega arith in s) ∙ rest k
+place_is n all h = first_place (same_native n) n (native_is n) all h
 
-mask_at : (ns : List Native) (i : ℕ) (n : Native) → slice_get ns i ≡ Some n → slice_index (masks_of ns) i ≡ n.allowed
+pub mask_at : (ns : List Native) (i : ℕ) (n : Native) → slice_get ns i ≡ Some n → slice_index (masks_of ns) i ≡ n.allowed
 mask_at [] i n e = cc e
 mask_at (m ∷ ns) zero n e = let same : m ≡ n = cc in ap (λ (x : Native). x.allowed) same
 mask_at (m ∷ ns) (suc i) n e = mask_at ns i n e

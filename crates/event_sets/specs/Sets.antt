@@ -20,10 +20,10 @@ abbrev pub set_view : Book → Widths → AtRest → SetView
 set_view book shape s = record { rest = s; natives = set_natives book s; counters = length (widths_at shape s.component) }
 
 -- a set whose natives take turns has a slice, an allowed counter for each native, and no thresholds
-pub record IsShared (slice : ℕ) (s : SetView) : Type 0 where
+pub record IsShared (slice : ℕ) (natives : List Native) (thresholds : List ℕ) : Type 0 where
   pub good_slice : is_bad_slice slice ≡ false
-  pub some_counter : All (λ n. 0 < n.allowed) s.natives
-  pub no_thresholds : All (λ t. t ≡ 0) s.rest.thresholds
+  pub some_counter : All (λ n. 0 < n.allowed) natives
+  pub no_thresholds : All (λ t. t ≡ 0) thresholds
 
 -- What each set keeps: no event stands twice, the natives are of the set's component and allowed only its counters, and not
 -- multiplexed they have counters of their own.
@@ -37,7 +37,7 @@ pub record IsSound (s : SetView) : Type 0 where
   pub in_range : All (λ n. n.allowed < 2 ^ s.counters) s.natives
   pub good_domain : is_bad_domain s.rest.domain.0 ≡ false
   pub assignable : s.rest.slice ≡ None → Assignable (masks_of s.natives)
-  pub shared : (slice : ℕ) → s.rest.slice ≡ Some slice → IsShared slice s
+  pub shared : (slice : ℕ) → s.rest.slice ≡ Some slice → IsShared slice s.natives s.rest.thresholds
 
 -- the matching is over the component's counters, and of the natives, unless these take turns
 pub record IsMatched (s : SetView) (matching : MatchingView) : Type 0 where

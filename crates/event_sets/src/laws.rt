@@ -16,6 +16,7 @@ pub fn agreement_laws()
 
 /// An event that the book holds has a first native event, and the native events of a set that agrees are of its component.
 /// The native events of several events are those of each, one after another, without later repeats.
+#[tactic(auto, using(crate::proofs::Agreeing::held_have_natives, crate::proofs::Agreeing::natives_are_owned, crate::proofs::Firsts::natives_are_firsts))]
 pub fn natives_laws()
     ensures held { HeldHaveNatives }
     ensures owned { NativesAreOwned }

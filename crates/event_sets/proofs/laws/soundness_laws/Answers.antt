@@ -1,15 +1,6 @@
 use Rattle.event_sets.proofs.Sound.{added_is_sound, armed_is_sound, assigned_is_sound, emptied_is_sound, held_fit, new_is_sound, removed_is_sound, with_domain_is_sound, with_slice_is_sound}
+use Rattle.std.proofs.Common.{rules}
 use Rattle.event_sets.proofs.laws.soundness_laws.Goals as goal
 
 pub returns : goal.returns
-returns c = record {
-  new = new_is_sound;
-  added = added_is_sound;
-  emptied = emptied_is_sound;
-  removed = removed_is_sound;
-  assigned = assigned_is_sound;
-  with_domain = with_domain_is_sound;
-  with_slice = with_slice_is_sound;
-  armed = armed_is_sound;
-  fit = held_fit;
-}
+returns c = search (rules, new_is_sound, added_is_sound, emptied_is_sound, removed_is_sound, assigned_is_sound, with_domain_is_sound, with_slice_is_sound, armed_is_sound, held_fit)

@@ -1,16 +1,15 @@
 -- what the code finds is what the definition of the refusals says
-use Rattle.std.proofs.Common.{◌≡◌, false, ℕ, ◌<◌, ◌^◌, [], length, take, arith, refl, sym, ap, ap₂, subst, ◌∙◌, slice_get, Option, Some, None}
-use Rattle.std.specs.Prelude.{All, IsNone, if◌then◌else◌, is_some}
-use Rattle.std.specs.List.{list_any}
-use Rattle.papi_base.specs.declared.native.Native.{Native}
+use Rattle.std.proofs.Common.{rules}
+use Rattle.std.proofs.lemmas.Bool.Decides.{nat_tests}
+use Rattle.std.proofs.Common.{◌≡◌, false, ℕ, ◌<◌, [], length, arith, refl, sym, ap, ap₂, subst, ◌∙◌, slice_get, Option, Some, None}
+use Rattle.std.specs.Prelude.{IsNone, if◌then◌else◌, is_some}
 use Rattle.counter_alloc.specs.Assignments.{Assignable}
 use Rattle.counter_alloc.specs.Masks.{masks_of}
-use Rattle.counter_alloc.specs.Matchings.{MatchingView}
 use Rattle.postfix_rules.specs.Fitting.{Fits}
 use Rattle.postfix_rules.specs.Presets.{natives_of_event}
-use Rattle.postfix_rules.specs.Sameness.{joined_by, same_event}
+use Rattle.postfix_rules.specs.Sameness.{joined_by}
 use Rattle.event_sets.specs.Assigning.{clash_of}
-use Rattle.event_sets.specs.AtRest.{is_full, is_other}
+use Rattle.event_sets.specs.AtRest.{is_full}
 use Rattle.event_sets.specs.Sets.{IsMatched, IsSound, SetView}
 use Rattle.event_sets.proofs.JoinedNatives.{joined_grows}
 use Rattle.event_sets.proofs.Agreeing.{numbered}
@@ -19,8 +18,7 @@ use Rattle.event_sets.proofs.event_set.EventSet.add.Goals as goal
 use Rattle.event_sets.proofs.event_set.EventSet.add.Goals.{After-len, After-begun-matching, In-Some, In_default-clash}
 
 none_left : {X : Type 0} (o : Option X) → ((x : X) → o ≡ Some x → ⊥) → o ≡ None
-none_left None h = refl
-none_left (Some x) h = absurd (h x refl)
+none_left = grind (arith, nat_tests)
 
 pub counters_of-counters-requires : goal.counters_of-counters-requires
 counters_of-counters-requires c =
@@ -29,18 +27,7 @@ counters_of-counters-requires c =
 
 -- the event is of the component and not in the set
 ready : (c : After-len) → Ready c.args.book.now c.args.shape.now c.args.e.now c.args.self.now c.at-comp.result
-ready c =
-    let view = c.self.view_is in
-    record {
-      held = c.requires.held;
-      fits = c.requires.fits;
-      natives = c.requires.natives;
-      known = c.requires.counters;
-      sound = subst IsSound view c.self.invariant.0;
-      first = ap (λ ns. slice_get ns 0) (sym c.natives_of-given.ensures) ∙ c.at-comp.ensures.item;
-      own = ap (λ (v : SetView). is_other v.rest.component (Some c.at-comp.result.comp)) (sym view) ∙ (sym c.is_other.ensures ∙ c.if-is_other.false);
-      absent = ap (λ (v : SetView). list_any (same_event c.args.e.now) v.rest.events) (sym view) ∙ (sym c.has_event.ensures ∙ c.if-has_event.false);
-    }
+ready c = grind (arith, nat_tests)
 
 -- the natives with those of the event
 joins : (c : In-Some) → c.in-Some.natives ≡ joined_by c.args.self.now.natives (natives_of_event c.args.book.now c.args.e.now)
@@ -55,18 +42,14 @@ room c = not_full _ _ _ _ _ (ready (goal.at.In-Some c).After-len) _ (joins c) (f
 -- the matching to which the new natives are added
 begun_is : (c : After-begun-matching) → c.begun-matching.result
     ≡ (if is_some c.args.self.now.rest.component then c.self.inside.matching else record { counters = c.counters_of-counters.result; allowed = [] })
-begun_is c = c.begun-matching.ensures
-    ∙ ap (λ (o : Option ℕ). let m : MatchingView = if is_some o then c.self.inside.matching else record { counters = c.counters_of-counters.result; allowed = [] } in m) (ap (λ (v : SetView). v.rest.component) c.self.view_is)
+begun_is c = grind (arith, nat_tests)
 
 matched : (c : After-begun-matching) → IsMatched c.args.self.now c.self.inside.matching
 matched c = subst (λ (v : SetView). IsMatched v c.self.inside.matching) c.self.view_is c.self.invariant.1
 
 -- it has the counters of the component
 size : (c : After-begun-matching) → c.begun-matching.result.counters ≡ c.counters_of-counters.result
-size c =
-    let w = (goal.at.After-begun-matching c).In-Some in
-    ap (λ (m : MatchingView). m.counters) (begun_is c)
-    ∙ begun_counters _ _ _ _ _ (ready (goal.at.In-Some w).After-len) _ (joins w) _ c.counters_of-counters.ensures.counted _ (matched c)
+size c = grind (arith, nat_tests, begun_is, begun_counters, ready, joins, matched)
 
 -- no native event clashes
 free : (c : In_default-clash) → c.clash.result ≡ None
@@ -78,51 +61,25 @@ clash_at : (c : In-Some) (k : ℕ) → k ≡ length c.self.inside.natives
 clash_at c k e = ap₂ (λ o n. clash_of o n c.in-Some.natives) (ap (λ (v : SetView). v.rest.slice) (sym c.self.view_is)) (ap (λ (v : SetView). length v.natives) (sym c.self.view_is) ∙ sym e)
 
 pub returns-in_default-clause-refused : goal.returns-in_default-clause-refused
-returns-in_default-clause-refused c =
-    let is = ready (goal.at.returns-in_default-clause-refused c).After-len in
-    let same = ap₂ joined_by (ap (λ (v : SetView). v.natives) c.self.view_is) c.natives_of-given.ensures in
-    refused_full _ _ _ _ _ is _ refl (full_of_natives _ _ _ _ _ is _ refl (subst (λ ns. 32 < length ns) same c.in_default.ensures.none))
+returns-in_default-clause-refused c = grind (arith, nat_tests, ready, refused_full, full_of_natives)
 
 pub clash-requires-clause-from : goal.clash-requires-clause-from
-clash-requires-clause-from c =
-    omega (arith, c.len-2.ensures.length, joined_grows c.self.inside.natives c.natives_of-given.result, ap length c.in-Some.ensures.some)
+clash-requires-clause-from c = grind (arith, nat_tests, joined_grows)
 
 pub clash-requires-clause-in_range : goal.clash-requires-clause-in_range
-clash-requires-clause-in_range c =
-    let at = goal.at.clash-requires-clause-in_range c in
-    subst (λ k. All (λ (m : Native). m.allowed < 2 ^ k) c.in-Some.natives) (sym (size at.After-begun-matching))
-    (all_in_range _ _ _ _ _ (ready at.After-len) _ (joins at.In-Some) _ c.counters_of-counters.ensures.counted)
+clash-requires-clause-in_range c = grind (arith, nat_tests, size, all_in_range, ready, joins)
 
 pub clash-requires-clause-before : goal.clash-requires-clause-before
-clash-requires-clause-before c none =
-    let at = goal.at.clash-requires-clause-before c in
-    let is = ready at.After-len in
-    let all = joins at.In-Some in
-    let natives = ap (λ (v : SetView). length v.natives) (sym c.self.view_is) ∙ sym c.len-2.ensures.length in
-    ap (λ (m : MatchingView). m.allowed) (begun_is at.After-begun-matching)
-    ∙ (begun_allowed _ _ _ _ _ is _ all _ c.counters_of-counters.ensures.counted _ (matched at.After-begun-matching) (ap (λ (v : SetView). v.rest.slice) (sym c.self.view_is) ∙ none)
-    ∙ ap masks_of (sym (begins _ _ _ _ _ is _ all) ∙ ap (λ k. take k c.in-Some.natives) natives))
+clash-requires-clause-before c none = grind (arith, nat_tests, ready, joins, begun_is, begun_allowed, matched, begins)
 
 pub returns-in-Some-clash-clause-refused : goal.returns-in-Some-clash-clause-refused
-returns-in-Some-clash-clause-refused c =
-    let at = goal.at.returns-in-Some-clash-clause-refused c in
-    let w = at.In-Some in
-    refused_clash _ _ _ _ _ (ready at.After-len) _ (joins w) c.in-Some-clash.clash (room w) (clash_at w _ c.len-2.ensures.length ∙ sym c.in-Some-clash.ensures.clash)
+returns-in-Some-clash-clause-refused c = search (rules, refused_clash, ready, joins, room, clash_at)
 
 pub returns-clause-taken : goal.returns-clause-taken
-returns-clause-taken c =
-    let at = goal.at.returns-clause-taken c in
-    let w = at.In-Some in
-    taken _ _ _ _ _ (ready at.After-len) _ (joins w) (room w) (clash_at w _ c.len-2.ensures.length ∙ (sym c.clash.ensures.clash ∙ free at.In_default-clash))
+returns-clause-taken c = grind (arith, nat_tests, taken, ready, joins, room, clash_at, free)
 
 pub returns-clause-added : goal.returns-clause-added
-returns-clause-added c =
-    let at = goal.at.returns-clause-added c in
-    let counted = c.counters_of-counters.ensures.counted in
-    rw (c.push.ensures.pushed, c.push-2.ensures.pushed) (
-    ap (λ (v : SetView). pushed v c.args.e.now c.at-comp.result.comp c.in-Some.natives c.counters_of-counters.result) c.self.view_is
-    ∙ added_view _ _ _ _ _ (ready at.After-len) _ (joins at.In-Some) _ counted
-    )
+returns-clause-added c = grind (arith, nat_tests, pushed, added_view, ready, joins)
 
 pub invariant_of-self : goal.invariant_of-self
 invariant_of-self c =

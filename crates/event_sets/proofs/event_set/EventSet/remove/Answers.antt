@@ -1,8 +1,9 @@
 -- the natives of the events that are left are some of those of all
-use Rattle.std.proofs.Common.{◌≡◌, ◌^◌, ◌<◌, ◌≤◌, List, length, ap, sym, subst, ◌∙◌}
-use Rattle.std.specs.Prelude.{All, remove}
+use Rattle.std.proofs.Common.{arith}
+use Rattle.std.proofs.lemmas.Bool.Decides.{nat_tests}
+use Rattle.std.proofs.Common.{◌≡◌, List, ap, sym, subst, ◌∙◌}
+use Rattle.std.specs.Prelude.{remove}
 use Rattle.papi_base.specs.declared.native.Native.{Native}
-use Rattle.papi_base.specs.declared.native.EventRef.{EventRef}
 use Rattle.counter_alloc.specs.Assignments.{Assignable}
 use Rattle.counter_alloc.specs.Masks.{masks_of}
 use Rattle.postfix_rules.specs.Presets.{natives_of}
@@ -23,15 +24,10 @@ after : (c : After-natives_of_all-natives) → c.natives_of_all-natives.result �
 after c = c.natives_of_all-natives.ensures ∙ ap (natives_of c.args.book.now) c.events_without-events.ensures
 
 pub natives_of_all-natives-requires : goal.natives_of_all-natives-requires
-natives_of_all-natives-requires c =
-    let w = (goal.at.natives_of_all-natives-requires c).In-Some in
-    subst (λ (es : List EventRef). length (natives_of c.args.book.now es) ≤ 32) (sym c.events_without-events.ensures) (left_few c.args.book.now c.in-Some.place (was w) (own w) c.self.invariant.0)
+natives_of_all-natives-requires c = grind (arith, nat_tests, left_few, own)
 
 pub matched-self-inside-requires-clause-in_range : goal.matched-self-inside-requires-clause-in_range
-matched-self-inside-requires-clause-in_range c =
-    let at = goal.at.matched-self-inside-requires-clause-in_range c in
-    subst (All (λ (n : Native). n.allowed < 2 ^ c.self.inside.counters)) (sym (after at.After-natives_of_all-natives))
-    (left_in_range c.args.book.now c.in-Some.place (was at.In-Some) (own at.In-Some) c.self.invariant.0)
+matched-self-inside-requires-clause-in_range c = grind (arith, nat_tests, after, left_in_range, own)
 
 pub matched-self-inside-requires-clause-assignable : goal.matched-self-inside-requires-clause-assignable
 matched-self-inside-requires-clause-assignable c unshared =
