@@ -1,4 +1,5 @@
 -- Of each component at most one set runs.
+use Rattle.std.proofs.lemmas.Bool.Decides.{nat_tests}
 use Rattle.std.proofs.Common.{◌≡◌, ℕ, zero, suc, ◌+◌, ◌≤◌, Bool, true, false, List, [], ◌∷◌, refl, ap, sym, subst, ◌∙◌, arith, slice_set, Option, Some, None, Ok}
 use Rattle.std.specs.Prelude.{count_by, if◌then◌else◌, ◌==◌, ◌&&◌}
 use Rattle.std.specs.Option.{option_map, option_map_or}
@@ -19,12 +20,10 @@ use Rattle.session_laws.specs.Keeping.{ApartStays, OpeningApart}
 use Rattle.session_laws.proofs.Sets.{at_map, is_stopped, map_put, performed_sets, row_fails, step_has}
 
 bit_le : (b : Bool) → (if b then 1 else 0) ≤ 1
-bit_le true = omega arith
-bit_le false = omega arith
+bit_le b = grind (arith, nat_tests)
 
 bit_mono : (b c : Bool) → (b ≡ true → c ≡ true) → (if b then 1 else 0) ≤ (if c then 1 else 0)
-bit_mono true c h = rw (h refl) (omega arith)
-bit_mono false c h = omega arith
+bit_mono b c h = grind (arith, nat_tests)
 
 count_cons : {X : Type 0} (p : X → Bool) (x : X) (xs : List X) → count_by p (x ∷ xs) ≡ (if p x then 1 else 0) + count_by p xs
 count_cons p x xs = sum_by-cons (λ y. if p y then 1 else 0) x xs
@@ -81,8 +80,7 @@ put_apart sets k place stopped apart = record { each = each } where
 
 -- a stopped set runs on no component, whatever its component becomes
 stopped_runs : (b d : Bool) → b ≡ false → (b && d) ≡ true → ⊥
-stopped_runs true d e h = cc e
-stopped_runs false d e h = cc h
+stopped_runs b d e h = grind (arith, nat_tests)
 
 -- a set that starts is the only one of its component
 started_apart : (f : Kept → Kept) (sets : List (Option Kept)) (k : ℕ) → ((s : Kept) → (f s).set.component ≡ s.set.component) → component_runs (faces_of sets) k ≡ false → AreApart (faces_of sets) → AreApart (faces_of (change f sets k))
@@ -123,8 +121,7 @@ started_apart f sets k same alone apart = record { each = each } where
 changed_apart : (f : Kept → Kept) (sets : List (Option Kept)) (o : Option ℕ)
     → ((s : Kept) (component : ℕ) → runs_on (Some component) (Some (face_of (f s))) ≡ true → runs_on (Some component) (Some (face_of s)) ≡ true)
     → AreApart (faces_of sets) → AreApart (faces_of (changed_at f o sets))
-changed_apart f sets None given h = h
-changed_apart f sets (Some k) given h = change_apart f sets k (λ s there. given s) h
+changed_apart f sets = grind (arith, nat_tests, change_apart)
 
 sets_apart : (book : Book) (shape : Widths) (a : Account) (c : Call) → account_refusal book shape a c ≡ None → AreApart (faces_of a.sets) → AreApart (faces_of (sets_after new_kept (kept_after book a.past) c a.sets))
 sets_apart book shape a call.Create q h = put_apart a.sets (free a.sets) (Some new_kept) (λ component. refl) h
@@ -139,8 +136,7 @@ sets_apart book shape a (call.Overflow k (Ok x) t) q h = changed_apart (kept_aft
 sets_apart book shape a c q h = changed_apart (kept_after book a.past c) a.sets (changed_by c) (λ s component e. e) h
 
 pub apart_stays : ApartStays
-apart_stays book shape a c h =
-    step_has (λ b. AreApart (faces_of b.sets)) book shape a c h (λ q. subst (λ xs. AreApart (faces_of xs)) (sym (performed_sets book shape a c)) (sets_apart book shape a c q h))
+apart_stays book shape a c h = grind (arith, nat_tests, step_has, performed_sets, sets_apart)
 
 pub opening_apart : OpeningApart
 opening_apart thread rest mark = record { each = λ c. omega arith }

@@ -1,6 +1,7 @@
 -- The world looked at on one thread: by induction on the lines of the script.
-use Rattle.std.proofs.Common.{◌≡◌, ◌≢◌, ℕ, Bool, true, false, ◌==◌, ◌&&◌, if◌then◌else◌, List, [], ◌∷◌, ◌++◌, refl, sym, ◌∙◌, ap, ap₂, subst, arith}
-use Rattle.std.proofs.Common.{append_assoc, append-nil, slice_get, slice_set, slice_index_or, unwrap_or, zero, suc, ◌+◌, ◌<◌, Some}
+use Rattle.std.proofs.Common.{rules}
+use Rattle.std.proofs.Common.{◌≡◌, ◌≢◌, ℕ, Bool, true, false, ◌==◌, ◌&&◌, if◌then◌else◌, List, [], ◌∷◌, ◌++◌, refl, sym, ◌∙◌, ap, ap₂, arith}
+use Rattle.std.proofs.Common.{append_assoc, slice_get, slice_set, slice_index_or, unwrap_or, zero, suc, ◌+◌, ◌<◌, Some}
 use Rattle.std.proofs.lemmas.Bool.Decides.{nat_tests}
 use Rattle.papi_base.specs.declared.limits.TheConstants.{THREADS}
 use Rattle.papi_base.specs.declared.native.Native.{Native}
@@ -8,7 +9,6 @@ use Rattle.postfix_rules.specs.Presets.{Book}
 use Rattle.postfix_rules.proofs.Equal.{nat_is}
 use Rattle.session_model.specs.declared.call.Call.{Call}
 use Rattle.session_model.specs.declared.line.Asked.{Asked}
-use Rattle.session_model.specs.declared.line.Asked.TheVariants as asked
 use Rattle.session_model.specs.declared.reply.Reply.{Reply}
 use Rattle.event_sets.specs.AtRest.{Widths}
 use Rattle.papi_base.specs.Streams.{Coming, Dry}
@@ -35,27 +35,20 @@ found accounts s a e = ap (λ o. unwrap_or o (opening s [] Dry)) e
 
 -- nothing of a thread's own: its account stays
 stays : (book : Book) (shape : Widths) (a : Account) (b : Bool) → Some a ≡ Some (account_after book shape a (if b then [] else []))
-stays book shape a true = refl
-stays book shape a false = refl
+stays book shape a b = grind (arith, nat_tests)
 
 call_account : (at : Setting) (accounts : List Account) (s t : ℕ) (c : Call) (a : Account) → slice_get accounts t ≡ Some a → (b : Bool) → (s == t) ≡ b
     → slice_get (slice_set accounts s (step at.book at.shape (account_at accounts s) c).account) t ≡ Some (account_after at.book at.shape a (if b then c ∷ [] else []))
-call_account at accounts s t c a e true q =
-    subst (λ i. slice_get (slice_set accounts i (step at.book at.shape (account_at accounts i) c).account) t ≡ Some (step at.book at.shape a c).account) (sym (nat_is s t q))
-    (set_same accounts t a (step at.book at.shape (account_at accounts t) c).account e ∙ ap (λ x. Some (step at.book at.shape x c).account) (found accounts t a e))
-call_account at accounts s t c a e false q = set_other accounts s t a (step at.book at.shape (account_at accounts s) c).account e (apart_of s t q)
+call_account at accounts s t c a e b q = grind (arith, nat_tests, nat_is, set_same, found, set_other, apart_of)
 
 -- one line: its thread makes a step, and the others stay
 line_account : (at : Setting) (accounts : List Account) (m : List Native) (s t : ℕ) (x : Asked) (a : Account) → slice_get accounts t ≡ Some a
     → slice_get (turn at accounts m s x).accounts t ≡ Some (account_after at.book at.shape a (own s t x))
-line_account at accounts m s t (asked.Call c) a e = call_account at accounts s t c a e (s == t) refl
-line_account at accounts m s t x a e = e ∙ stays at.book at.shape a (s == t)
+line_account at accounts m s t x a e = grind (arith, nat_tests, call_account, stays)
 
 pub account_by_thread : AccountByThread
 account_by_thread at w [] t a e = e
-account_by_thread at w (l ∷ ls) t a e =
-    account_by_thread at (world_after_line at w l) ls t (account_after at.book at.shape a (own l.thread t l.asked)) (line_account at w.accounts (mentioned_after w.mentioned l) l.thread t l.asked a e)
-    ∙ ap (λ x. Some x) (sym (account-append at.book at.shape a (own l.thread t l.asked) (calls_at t ls)))
+account_by_thread at w (l ∷ ls) t a e = grind (arith, nat_tests, line_account, account-append, account_by_thread at (world_after_line at w l) ls t (account_after at.book at.shape a (own l.thread t l.asked)) (line_account at w.accounts (mentioned_after w.mentioned l) l.thread t l.asked a e))
 
 pub replies-append : (book : Book) (shape : Widths) (a : Account) (xs ys : List Call)
     → replies_to book shape a (xs ++ ys) ≡ replies_to book shape a xs ++ replies_to book shape (account_after book shape a xs) ys
@@ -63,18 +56,15 @@ replies-append book shape a [] ys = refl
 replies-append book shape a (x ∷ xs) ys = ap (λ rs. (step book shape a x).reply ∷ rs) (replies-append book shape (step book shape a x).account xs ys)
 
 none : (book : Book) (shape : Widths) (a : Account) (r : Reply) (b : Bool) → (if (b && false) then r ∷ [] else []) ≡ replies_to book shape a (if b then [] else [])
-none book shape a r true = refl
-none book shape a r false = refl
+none book shape a r b = grind (arith, nat_tests)
 
 call_reply : (at : Setting) (accounts : List Account) (s t : ℕ) (c : Call) (a : Account) → slice_get accounts t ≡ Some a → (b : Bool) → (s == t) ≡ b
     → (if (b && true) then (step at.book at.shape (account_at accounts s) c).reply ∷ [] else []) ≡ replies_to at.book at.shape a (if b then c ∷ [] else [])
-call_reply at accounts s t c a e true q = ap (λ x. (step at.book at.shape x c).reply ∷ []) (ap (account_at accounts) (nat_is s t q) ∙ found accounts t a e)
-call_reply at accounts s t c a e false q = refl
+call_reply at accounts s t c a e b q = grind (arith, nat_tests, nat_is, found)
 
 line_reply : (at : Setting) (accounts : List Account) (m : List Native) (s t : ℕ) (x : Asked) (a : Account) → slice_get accounts t ≡ Some a
     → (if ((s == t) && is_call x) then (turn at accounts m s x).reply ∷ [] else []) ≡ replies_to at.book at.shape a (own s t x)
-line_reply at accounts m s t (asked.Call c) a e = call_reply at accounts s t c a e (s == t) refl
-line_reply at accounts m s t x a e = none at.book at.shape a (turn at accounts m s x).reply (s == t)
+line_reply at accounts m s t x a e = grind (arith, nat_tests, call_reply, none)
 
 pub replies_by_thread : RepliesByThread
 replies_by_thread at w [] t a e = refl
@@ -93,18 +83,15 @@ notes-append book shape a (x ∷ xs) ys =
     ∙ sym (append_assoc (step book shape a x).notes _ _)
 
 no_notes : (book : Book) (shape : Widths) (a : Account) (b : Bool) → (if b then [] else []) ≡ notes_to book shape a (if b then [] else [])
-no_notes book shape a true = refl
-no_notes book shape a false = refl
+no_notes book shape a b = grind (arith, nat_tests)
 
 call_notes : (at : Setting) (accounts : List Account) (s t : ℕ) (c : Call) (a : Account) → slice_get accounts t ≡ Some a → (b : Bool) → (s == t) ≡ b
     → (if b then (step at.book at.shape (account_at accounts s) c).notes else []) ≡ notes_to at.book at.shape a (if b then c ∷ [] else [])
-call_notes at accounts s t c a e true q = ap (λ x. (step at.book at.shape x c).notes) (ap (account_at accounts) (nat_is s t q) ∙ found accounts t a e) ∙ sym (append-nil (step at.book at.shape a c).notes)
-call_notes at accounts s t c a e false q = refl
+call_notes at accounts s t c a e b q = search (rules, nat_is, found)
 
 line_notes : (at : Setting) (accounts : List Account) (m : List Native) (s t : ℕ) (x : Asked) (a : Account) → slice_get accounts t ≡ Some a
     → (if s == t then (turn at accounts m s x).notes else []) ≡ notes_to at.book at.shape a (own s t x)
-line_notes at accounts m s t (asked.Call c) a e = call_notes at accounts s t c a e (s == t) refl
-line_notes at accounts m s t x a e = no_notes at.book at.shape a (s == t)
+line_notes at accounts m s t x a e = grind (arith, nat_tests, call_notes, no_notes)
 
 pub notes_by_thread : NotesByThread
 notes_by_thread at w [] t a e = refl

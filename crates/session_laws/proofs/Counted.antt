@@ -1,5 +1,6 @@
 -- Each thread keeps its places, and each set one value of the caller for each event.
-use Rattle.std.proofs.Common.{◌≡◌, ◌∙◌, ◌∷◌, ℕ, ℤ, pos, List, [], length, refl, sym, ap, arith, Option, Some, None, Ok}
+use Rattle.std.proofs.lemmas.Bool.Decides.{nat_tests}
+use Rattle.std.proofs.Common.{◌≡◌, ◌∙◌, ◌∷◌, ℕ, ℤ, pos, List, [], length, refl, sym, ap, arith, Option, None, Ok}
 use Rattle.std.proofs.Math.ListN.{length-set}
 use Rattle.std.proofs.lemmas.List.{length-map, length-replicate}
 use Rattle.std.proofs.lemmas.List.Elements.{All-replicate}
@@ -12,18 +13,15 @@ use Rattle.session_model.specs.declared.call.Call.TheVariants as call
 use Rattle.session_model.specs.Account.{Kept}
 use Rattle.session_model.specs.Bounds.{IsValued}
 use Rattle.session_model.specs.Values.{measured, sums, values_of}
-use Rattle.session_model.specs.Changes.{changed_at, changed_by, kept_after, new_kept, sets_after}
+use Rattle.session_model.specs.Changes.{changed_at, kept_after, new_kept, sets_after}
 use Rattle.session_laws.specs.Keeping.{OpeningValued, PlacesStay, ValuesStay}
 use Rattle.session_laws.proofs.Sets.{performed_sets, step_each, step_has}
 
 as_many : (f : Kept → Kept) (o : Option ℕ) (sets : List (Option Kept)) → length (changed_at f o sets) ≡ length sets
-as_many f None sets = refl
-as_many f (Some k) sets = length-set sets k _
+as_many f = grind (arith, nat_tests, length-set)
 
 places_after : (book : Book) (past : List Occ) (c : Call) (sets : List (Option Kept)) → length (sets_after new_kept (kept_after book past) c sets) ≡ length sets
-places_after book past call.Create sets = length-set sets _ _
-places_after book past (call.Destroy k) sets = length-set sets k _
-places_after book past c sets = as_many (kept_after book past c) (changed_by c) sets
+places_after book past c sets = grind (arith, nat_tests, length-set, as_many)
 
 pub places_stay : PlacesStay
 places_stay book shape a c = step_has (λ b. length b.sets ≡ length a.sets) book shape a c refl (λ q. ap length (performed_sets book shape a c) ∙ places_after book a.past c a.sets)

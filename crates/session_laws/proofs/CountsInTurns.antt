@@ -1,4 +1,5 @@
 -- Counts in turns and ticks in turns.
+use Rattle.std.proofs.lemmas.Bool.Decides.{nat_tests}
 use Rattle.std.proofs.Common.{◌≡◌, ℕ, zero, suc, ◌+◌, ◌-◌, ◌*◌, ◌/◌, ◌%◌, ◌≤◌, Bool, true, false, cond, ◌==◌, List, [], ◌∷◌, ◌++◌, length}
 use Rattle.std.proofs.Common.{take, drop, refl, ap, ap₂, subst, sym, ◌∙◌, arith, Option, Some, None, take-take}
 use Rattle.std.proofs.lemmas.List.{take-append-drop, drop-take}
@@ -21,18 +22,13 @@ use Rattle.session_laws.specs.Turning.{CountsPerTick, OneGroupCounts}
 
 -- a weight is at most 255 if the amount is
 pub weight_small : (h e b c : Bool) (x : ℕ) → x ≤ 255 → (if h then (if e then (if b then 0 else 1) else (if c then x else 1)) else 0) ≤ 255
-weight_small true true true c x k = omega arith
-weight_small true true false c x k = omega arith
-weight_small true false b true x k = k
-weight_small true false b false x k = omega arith
-weight_small false e b c x k = omega arith
+weight_small h e b c x k = grind (arith, nat_tests)
 
 sum-cons : (x : ℕ) (xs : List ℕ) → sum (x ∷ xs) ≡ x + sum xs
 sum-cons x xs = sum_by-append (λ y. y) (x ∷ []) xs ∙ omega arith
 
 turn_small : (b : Bool) (w : ℕ) → w ≤ 255 → (if b then w else 0) ≤ 255 * cond b 1 0
-turn_small true w h = omega arith
-turn_small false w h = omega arith
+turn_small b w h = grind (arith, nat_tests)
 
 -- the ticks of a range from x on, x the first of them
 count-from : (p : ℕ → Bool) (a x n : ℕ) → a ≤ x → cond (p x) 1 0 + count_by p (range_with_len (x + 1) n) ≤ count_by p (range_with_len a (x + 1 + n - a))
@@ -106,8 +102,7 @@ last-append before (x ∷ xs) ys = last-append (Some x) xs ys
 window-along : (weigh : Option Occ → Occ → ℕ) (b : Bool) (from to : ℕ) (past : List Occ)
     → (if b then drop from (along weigh None past) else take (to - from) (drop from (along weigh None past)))
     ≡ along weigh (last_after None (take from past)) (if b then drop from past else take (to - from) (drop from past))
-window-along weigh true from to past = drop-along weigh None from past
-window-along weigh false from to past = ap (take (to - from)) (drop-along weigh None from past) ∙ take-along weigh (last_after None (take from past)) (to - from) (drop from past)
+window-along weigh b from to past = grind (arith, nat_tests, drop-along, take-along)
 
 -- the occurrences before a window and in it
 window-whole : (b : Bool) (from to : ℕ) (past : List Occ) → from ≤ to → to ≤ length past
@@ -120,8 +115,7 @@ window-whole false from to past h k =
     ∙ take-append-drop from (take to past)
 
 window-rises : (b : Bool) (from to : ℕ) (past : List Occ) → Rises 0 past → Rises (clock past from) (if b then drop from past else take (to - from) (drop from past))
-window-rises true from to past h = rises-drop None from past h
-window-rises false from to past h = rises-take (clock past from) (to - from) (drop from past) (rises-drop None from past h)
+window-rises b from to past h = grind (arith, nat_tests, rises-drop, rises-take)
 
 -- what a set weighs lies between the times of its window's ends
 window-end : (past : List Occ) (s : Kept) → IsWithin (length past) s → after (clock past s.from) (in_window s past) ≡ clock past (end (length past) s)
@@ -135,14 +129,7 @@ weighed-along weigh past s = ap sum (window-along weigh s.running s.from s.to pa
 
 in_turns : (past : List Occ) (s : Kept) (t : Turns) (group : ℕ) (n : Native) → t.start ≡ clock past s.from → Rises 0 past → IsWithin (length past) s
     → weighed (weight_in_turn t group n s.set.domain) past s ≤ 255 * active t group (total past s)
-in_turns past s t group n begun r w =
-    let time = clock past s.from in
-    let p = has_turn t group in
-    let le : sum (along (weight_in_turn t group n s.set.domain) (last_after None (take s.from past)) (in_window s past)) ≤ 255 * count_by p (range_with_len (time - t.start) (after time (in_window s past) - time)) =
-    bound t group n s.set.domain (last_after None (take s.from past)) (in_window s past) time (omega (arith, begun)) (window-rises s.running s.from s.to past r) in
-    let ends : count_by p (range_with_len (time - t.start) (after time (in_window s past) - time)) ≡ active t group (total past s) =
-    ap₂ (λ i k. count_by p (range_with_len i k)) (let e : time - t.start ≡ 0 = omega (arith, begun) in e) (ap (λ k. k - time) (window-end past s w)) in
-    omega (arith, le, ends, weighed-along (weight_in_turn t group n s.set.domain) past s)
+in_turns past s t group n begun r w = grind (arith, nat_tests, bound, window-rises, window-end, weighed-along)
 
 pub counts_per_tick : CountsPerTick
 counts_per_tick past s slice numbers group n r w = in_turns past s (turns_of slice numbers past s) group n refl r w
@@ -161,9 +148,7 @@ along-same v w h before (o ∷ os) = ap₂ ◌∷◌ (h before o) (along-same v 
 
 -- in one group each occurrence is in turn
 one_turn : (past : List Occ) (s : Kept) (t : Turns) (n : Native) → t.count ≡ 1 → weighed (weight_in_turn t 0 n s.set.domain) past s ≡ count past s n
-one_turn past s t n one =
-    ap (λ xs. sum (in_window s xs))
-    (along-same (weight_in_turn t 0 n s.set.domain) (weight_of n s.set.domain) (λ b o. rw (every_tick t (o.stamp - t.start) one) refl) None past)
+one_turn past s t n one = grind (arith, nat_tests, along-same, every_tick)
 
 pub one_group_counts : OneGroupCounts
 one_group_counts past s turns n r w one =

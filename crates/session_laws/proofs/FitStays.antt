@@ -1,4 +1,5 @@
 -- Each good call keeps the fitness of the sets.
+use Rattle.std.proofs.Common.{rules}
 use Rattle.std.proofs.Common.{◌≡◌, ◌∙◌, ◌<◌, ℕ, false, not, List, length, refl, sym, ap, arith, Option, Some, None, Ok, is_some}
 use Rattle.std.specs.Prelude.{nat_le}
 use Rattle.std.specs.Option.{ForSome, option_and_then, option_map}
@@ -60,9 +61,7 @@ are_fit book shape sets h v = record {
 }
 
 pub fit_stays : FitStays
-fit_stays book shape a c is_shape fits good h = are_fit book shape _
-    (step_each (λ s. IsFit book shape s.set) book shape a c (new_fit book shape) (keeps_fit book shape a c is_shape fits good) (each_fit book shape a.sets h))
-    (values_stay book shape a c h.valued)
+fit_stays book shape a c is_shape fits good h = search (rules, are_fit, step_each, new_fit, keeps_fit, each_fit, values_stay)
 
 pub opening_fits : OpeningFits
 opening_fits book shape thread rest mark = are_fit book shape (opening thread rest mark).sets (All-replicate (λ place. ForSome place (λ s. IsFit book shape s.set)) MOST_SETS None (λ x e. cc)) (opening_valued thread rest mark)

@@ -1,9 +1,10 @@
 -- A set goes on to fit, whichever way a call changes it.
-use Rattle.std.proofs.Common.{◌≡◌, ◌∙◌, ◌∷◌, ◌^◌, ◌<◌, ◌≤◌, ◌==◌, ◌&&◌, ◌⊎◌, inl, inr, not, ℕ, zero, suc, Bool, true, false, List, []}
+use Rattle.std.proofs.Common.{rules}
+use Rattle.std.proofs.Common.{◌≡◌, ◌∙◌, ◌∷◌, ◌^◌, ◌<◌, ◌≤◌, ◌==◌, ◌⊎◌, inl, not, ℕ, zero, suc, true, false, List, []}
 use Rattle.std.proofs.Common.{length, refl, sym, ap, subst, arith, slice_get, unwrap_or, Option, Some, None, is_some}
-use Rattle.std.specs.Prelude.{All, IsSomeAnd, nat_le, nat_lt}
+use Rattle.std.specs.Prelude.{All, IsSomeAnd}
 use Rattle.std.specs.Option.{ForSome, option_map, option_map_or}
-use Rattle.std.proofs.lemmas.List.Elements.{All-push, All-set, All-nil}
+use Rattle.std.proofs.lemmas.List.Elements.{All-push}
 use Rattle.std.proofs.lemmas.Bool.Decides.{nat_tests}
 use Rattle.std.proofs.lemmas.Bool.{or_parts}
 use Rattle.papi_base.specs.declared.native.EventRef.{EventRef}
@@ -15,7 +16,7 @@ use Rattle.postfix_rules.specs.Presets.{Book, component_of_event, entry, natives
 use Rattle.event_sets.specs.declared.refusal.Refusal.TheVariants.{Conflict}
 use Rattle.event_sets.specs.Adding.{add_refusal}
 use Rattle.event_sets.specs.AtRest.{AtRest, Widths, cannot_take, clash_with, emptied, has_event, is_armed, is_bad_domain, is_bad_slice}
-use Rattle.event_sets.specs.AtRest.{is_bad_threshold, is_full, is_other, is_plain, least_width, new_set, place_of, shares_native, widths_at}
+use Rattle.event_sets.specs.AtRest.{is_bad_threshold, is_full, is_other, is_plain, least_width, new_set, shares_native, widths_at}
 use Rattle.event_sets.specs.AtRest.{with_event, with_threshold, without_event}
 use Rattle.event_sets.specs.Agreement.{Agrees}
 use Rattle.postfix_rules.specs.Fitting.{BookFits, EventFits, Fits, IsHeld}
@@ -35,20 +36,10 @@ few_each shape h = by_number (λ (widths : List ℕ). length widths ≤ 32) shap
 -- ---- a set without events
 
 pub new_fit : (book : Book) (shape : Widths) → IsFit book shape new_set
-new_fit book shape = record {
-  agrees = emptied_agrees book new_set;
-  sound = new_is_sound book shape;
-  has_component = λ comp e. cc;
-  thresholds = All-nil (Fitting shape None);
-}
+new_fit book shape = grind (arith, nat_tests, emptied_agrees, new_is_sound)
 
 pub emptied_fit : (book : Book) (shape : Widths) (s : AtRest) → IsFit book shape s → IsFit book shape (emptied s)
-emptied_fit book shape s h = record {
-  agrees = emptied_agrees book s;
-  sound = emptied_is_sound book shape s h.sound;
-  has_component = λ comp e. cc;
-  thresholds = All-nil (Fitting shape None);
-}
+emptied_fit book shape s h = grind (arith, nat_tests, emptied_agrees, emptied_is_sound)
 
 -- ---- a component is fixed
 
@@ -69,29 +60,15 @@ no_length [] ys e f = refl
 no_length (x ∷ xs) ys e f = absurd (omega (arith, e, ap length f))
 
 same_test : (f g : ℕ) → not (f == g) ≡ false → f ≡ g
-same_test f g h = go (f == g) refl h where
-  go : (b : Bool) → (f == g) ≡ b → not b ≡ false → f ≡ g
-  go true p q = grind (arith, nat_tests, p)
-  go false p q = cc q
+same_test f g h = grind (arith, nat_tests)
 
 pub assigned_fit : (book : Book) (shape : Widths) (g : ℕ) (s : AtRest) → IsShape shape → g < length shape → is_other s.component (Some g) ≡ false → IsFit book shape s → IsFit book shape (record s { component = Some g })
-assigned_fit book shape g s is_shape below same h = record {
-  agrees = assigned_agrees book g s same h.agrees;
-  sound = assigned_sound g (length (widths_at shape (Some g))) (set_view book shape s) same (few_counters shape g (few_each shape is_shape)) (λ is. ap (λ c. length (widths_at shape c)) is) h.sound;
-  has_component = λ comp e. let is : g ≡ comp = cc e in subst (λ c. c < length shape) is below;
-  thresholds = go s.component refl same;
-} where
-  go : (o : Option ℕ) → s.component ≡ o → is_other o (Some g) ≡ false → All (Fitting shape (Some g)) s.thresholds
-  go (Some f) q k = let to : s.component ≡ Some g = q ∙ ap Some (same_test f g k) in subst (λ c. All (Fitting shape c) s.thresholds) to h.thresholds
-  go None q k =
-      let thresholds : s.thresholds ≡ [] = no_length s.thresholds s.events h.agrees.one_each (no_events book s h.agrees q) in
-      subst (All (Fitting shape (Some g))) (sym thresholds) (All-nil (Fitting shape (Some g)))
+assigned_fit book shape g s is_shape below same h = grind (arith, nat_tests, assigned_agrees, assigned_sound, few_counters, few_each, same_test, no_length, no_events)
 
 -- ---- one event more
 
 pub get_some : {X : Type 0} (o : Option (Option X)) (x : X) → unwrap_or o None ≡ Some x → o ≡ Some (Some x)
-get_some None x e = cc
-get_some (Some p) x e = ap Some e
+get_some = grind (arith, nat_tests)
 
 -- the natives of an event that the book holds fit
 pub event_fits : (book : Book) (shape : Widths) (e : EventRef) → BookFits shape book → IsHeld book e → EventFits shape e → (i : ℕ) (n : Native) → slice_get (natives_of_event book e) i ≡ Some n → Fits shape n
@@ -136,41 +113,19 @@ added_fit book shape e s is_shape book_fits held fits takes full clash h = recor
 -- ---- an event is gone
 
 pub removed_fit : (book : Book) (shape : Widths) (e : EventRef) (s : AtRest) → IsFit book shape s → IsFit book shape (without_event e s)
-removed_fit book shape e s h = record {
-  agrees = removed_agrees book e s h.agrees;
-  sound = removed_is_sound book shape e s h.sound;
-  has_component = h.has_component;
-  thresholds = removed_all (Fitting shape s.component) s.thresholds (place_of e s) h.thresholds;
-}
+removed_fit book shape e s h = search (rules, removed_agrees, removed_is_sound, removed_all)
 
 -- ---- a threshold, a domain, a slice
 
 threshold_of : (shape : Widths) (t : ℕ) (s : AtRest) → is_bad_threshold shape t s ≡ false → Fitting shape s.component t
-threshold_of shape t s h = go (t == 0) refl h where
-  go : (b : Bool) → (t == 0) ≡ b → (not b && not (nat_le 256 t && nat_lt t (2 ^ least_width (widths_at shape s.component)))) ≡ false → Fitting shape s.component t
-  go true p q = inl (grind (arith, nat_tests, p))
-  go false p q = inr (within (nat_le 256 t) (nat_lt t (2 ^ least_width (widths_at shape s.component))) refl refl q) where
-    within : (c d : Bool) → nat_le 256 t ≡ c → nat_lt t (2 ^ least_width (widths_at shape s.component)) ≡ d → not (c && d) ≡ false → (256 ≤ t) × (t < 2 ^ least_width (widths_at shape s.component))
-    within true true u v w = (grind (arith, nat_tests, u), grind (arith, nat_tests, v))
-    within true false u v w = cc w
-    within false d u v w = cc w
+threshold_of shape t s h = grind (arith, nat_tests)
 
 pub armed_fit : (book : Book) (shape : Widths) (e : EventRef) (t : ℕ) (s : AtRest) → has_event e s ≡ true → is_plain (rule_of_event book e) ≡ true → is_bad_threshold shape t s ≡ false → shares_native book e t s ≡ false → is_some s.slice ≡ false
     → IsFit book shape s → IsFit book shape (with_threshold e t s)
-armed_fit book shape e t s has plain good alone whole h = record {
-  agrees = armed_agrees book e t s has plain alone h.agrees;
-  sound = armed_sound (place_of e s) t (set_view book shape s) (none_of s.slice whole) h.sound;
-  has_component = h.has_component;
-  thresholds = All-set (Fitting shape s.component) s.thresholds (place_of e s) t (threshold_of shape t s good) h.thresholds;
-}
+armed_fit book shape e t s has plain good alone whole h = search (rules, armed_agrees, armed_sound, none_of, threshold_of)
 
 pub domain_fit : (book : Book) (shape : Widths) (bits : ℕ) (s : AtRest) → is_bad_domain bits ≡ false → IsFit book shape s → IsFit book shape (record s { domain = record { 0 = bits } })
-domain_fit book shape bits s good h = record {
-  agrees = record { held = h.agrees.held; owned = h.agrees.owned; one_each = h.agrees.one_each; distinct = h.agrees.distinct; plain = h.agrees.plain; apart = h.agrees.apart };
-  sound = with_domain_is_sound book shape bits s good h.sound;
-  has_component = h.has_component;
-  thresholds = h.thresholds;
-}
+domain_fit book shape bits s good h = grind (arith, nat_tests, with_domain_is_sound)
 
 pub multiplexed_fit : (book : Book) (shape : Widths) (slice : ℕ) (s : AtRest) → is_bad_slice slice ≡ false → is_armed s ≡ false → IsFit book shape s → IsFit book shape (record s { slice = Some slice })
 multiplexed_fit book shape slice s good unarmed h = record {

@@ -1,8 +1,7 @@
 -- The replies of the threads, merged in the script's order.
-use Rattle.std.proofs.Common.{◌≡◌, ◌≢◌, ◌∙◌, ◌∷◌, ◌++◌, ◌+◌, ◌*◌, ◌<◌, ◌==◌, inl, inr, ℕ, zero, suc, Bool, true, false, not, List, [], drop, length}
-use Rattle.std.proofs.Common.{map, refl, sym, ap, ap₂, subst, arith, slice_get, slice_index_or, slice_set, unwrap_or, Option, Some, None, Result, Ok}
+use Rattle.std.proofs.Common.{◌≡◌, ◌≢◌, ◌∙◌, ◌∷◌, ◌++◌, ◌+◌, ◌*◌, ◌<◌, ◌==◌, inl, inr, ℕ, zero, suc, Bool, true, false, List, [], drop, length}
+use Rattle.std.proofs.Common.{map, refl, sym, ap, ap₂, subst, arith, slice_get, slice_index_or, slice_set, unwrap_or, Option, Some, Result}
 use Rattle.std.specs.Prelude.{All, if◌then◌else◌}
-use Rattle.std.specs.List.{list_any}
 use Rattle.std.proofs.Math.ListN.{length-set}
 use Rattle.std.proofs.lemmas.Bool.{cases_eq}
 use Rattle.std.proofs.lemmas.Bool.Decides.{nat_tests}
@@ -12,7 +11,6 @@ use Rattle.papi_base.specs.Streams.{Dry}
 use Rattle.papi_base.specs.declared.code.Code.{Code}
 use Rattle.papi_base.specs.declared.code.Code.TheVariants.{Einval, Eisrun}
 use Rattle.papi_base.specs.declared.native.EventRef.{EventRef}
-use Rattle.papi_base.specs.declared.native.EventRef.TheVariants as event
 use Rattle.papi_base.specs.declared.native.Native.{Native}
 use Rattle.papi_base.proofs.Steps.{get_at}
 use Rattle.postfix_rules.specs.Presets.{Book}
@@ -25,10 +23,9 @@ use Rattle.session_model.specs.declared.line.Asked.TheVariants as asked
 use Rattle.session_model.specs.declared.line.Line.{Line}
 use Rattle.session_model.specs.declared.reply.Body.TheVariants as body
 use Rattle.session_model.specs.Account.{Account, opening}
-use Rattle.session_model.specs.Faces.{faces_of, is_running}
 use Rattle.session_model.specs.Refusals.{first_of, row}
 use Rattle.session_model.specs.Replies.{done}
-use Rattle.session_model.specs.Step.{StepOutcome, account_refusal, performed, replies_to, step, unless}
+use Rattle.session_model.specs.Step.{StepOutcome, performed, replies_to, step, unless}
 use Rattle.session_model.specs.World.{Setting, account_at, answer, calls_at, listed_from, mentioned_after, turn, world_after_line}
 use Rattle.session_laws.specs.Worlds.{Ahead, IsAhead, MergesToWorld, RegisteredFollows, ahead_after, bits_from, merged_reply, next_reply, registered_after}
 use Rattle.session_laws.proofs.Sets.{map_put}
@@ -36,19 +33,14 @@ use Rattle.session_laws.proofs.Sets.{map_put}
 -- ---- a thread's registration
 
 keeps : (o : Option Refusal) (a : Account) (made : StepOutcome) → made.account.registered ≡ a.registered → (unless o a made).account.registered ≡ a.registered
-keeps None a made e = e
-keeps (Some r) a made e = refl
+keeps = grind (arith, nat_tests)
 
 unregistered : (book : Book) (shape : Widths) (a : Account) (b c : Bool) → let o = first_of (row b Eisrun ∷ row c Einval ∷ []) in
     (unless o a (performed book shape a call.Unregister)).account.registered ≡ registered_after call.Unregister (unless o a (performed book shape a call.Unregister)).reply.code a.registered
-unregistered book shape a true c = refl
-unregistered book shape a false true = refl
-unregistered book shape a false false = refl
+unregistered book shape a b c = grind (arith, nat_tests)
 
 pub registered_follows : RegisteredFollows
-registered_follows book shape a call.Register = refl
-registered_follows book shape a call.Unregister = unregistered book shape a (list_any is_running (faces_of a.sets)) (not a.registered)
-registered_follows book shape a c = keeps (account_refusal book shape a c) a (performed book shape a c) refl
+registered_follows book shape a c = grind (arith, nat_tests, unregistered, keeps)
 
 pub listed_bits : (bit : ℕ) (accounts : List Account) → bits_from bit (map (λ a. a.registered) accounts) ≡ listed_from bit accounts
 listed_bits bit [] = refl
@@ -81,8 +73,7 @@ apart_test t s h = grind (arith, nat_tests, h)
 
 -- a line that makes no call on the thread's session
 no_calls : (b : Bool) (cs : List Call) → (if b then [] else []) ++ cs ≡ cs
-no_calls true cs = refl
-no_calls false cs = refl
+no_calls b cs = grind (arith, nat_tests)
 
 record Goes (at : Setting) (accounts : List Account) (m : List Native) (t : ℕ) (x : Asked) (ls : List Line) (q : Ahead) : Type 0 where
   replied : merged_reply at m q t x ≡ (turn at accounts m t x).reply
@@ -90,15 +81,10 @@ record Goes (at : Setting) (accounts : List Account) (m : List Native) (t : ℕ)
 
 -- nothing changes for a line that is not a call
 stays : (at : Setting) (accounts : List Account) (m : List Native) (t : ℕ) (ls : List Line) (q : Ahead) (l : Line) → ((s : ℕ) → calls_at s (l ∷ ls) ≡ calls_at s ls) → IsAhead at accounts (l ∷ ls) q → IsAhead at accounts ls q
-stays at accounts m t ls q l none h = record {
-  registered = h.registered;
-  same_length = h.same_length;
-  replies_each = λ s a e. h.replies_each s a e ∙ ap (replies_to at.book at.shape a) (none s);
-}
+stays at accounts m t ls q l none h = grind (arith, nat_tests)
 
 code_answer : (at : Setting) (accounts : List Account) (m : List Native) (e : Result EventRef Code) → answer at [] m (asked.CodeOf e) ≡ answer at accounts m (asked.CodeOf e)
-code_answer at accounts m (Ok (event.Native n)) = refl
-code_answer at accounts m e = refl
+code_answer at accounts m e = grind (arith, nat_tests)
 
 call_goes : (at : Setting) (accounts : List Account) (m : List Native) (t : ℕ) (c : Call) (ls : List Line) (q : Ahead) → t < length accounts → IsAhead at accounts (record { thread = t; asked = asked.Call c } ∷ ls) q → Goes at accounts m t (asked.Call c) ls q
 call_goes at accounts m t c ls q few h =
@@ -145,8 +131,7 @@ line_goes at accounts m t asked.Threads ls q few h = record {
 }
 
 length_kept : (at : Setting) (accounts : List Account) (m : List Native) (t : ℕ) (x : Asked) → length (turn at accounts m t x).accounts ≡ length accounts
-length_kept at accounts m t (asked.Call c) = length-set accounts t _
-length_kept at accounts m t x = refl
+length_kept at accounts m t x = grind (arith, nat_tests, length-set)
 
 pub merges_to_world : MergesToWorld
 merges_to_world at w [] x few h = refl

@@ -1,5 +1,6 @@
 -- One occurrence more: what it does to what sets weigh, and to the time.
-use Rattle.std.proofs.Common.{◌≡◌, ℕ, suc, ◌+◌, ◌-◌, ◌≤◌, true, false, List, [], ◌∷◌, ◌++◌, length, drop, refl, ap, ◌∙◌, arith, Option, Some, None, length-drop}
+use Rattle.std.proofs.lemmas.Bool.Decides.{nat_tests}
+use Rattle.std.proofs.Common.{◌≡◌, ℕ, suc, ◌+◌, ◌≤◌, true, false, List, [], ◌∷◌, ◌++◌, length, refl, ap, ◌∙◌, arith, Option, Some, None, length-drop}
 use Rattle.std.specs.Prelude.{sum}
 use Rattle.std.proofs.lemmas.List.{drop-append-le, take-append-le}
 use Rattle.std.proofs.Math.Seq.{take-length}
@@ -26,19 +27,12 @@ sum-push xs x = sum_by-append (λ y. y) xs (x ∷ []) ∙ omega arith
 -- a running set weighs one occurrence more
 pub weighed_running : (weigh : Option Occ → Occ → ℕ) (past : List Occ) (o : Occ) (s : Kept) → s.running ≡ true → s.from ≤ length past
     → weighed weigh (past ++ o ∷ []) s ≡ weighed weigh past s + weigh (last_after None past) o
-weighed_running weigh past o s runs h =
-    let xs = along weigh None past in
-    let same = length-along weigh None past in
-    rw (runs, along-append weigh None past o, drop-append-le s.from xs (weigh (last_after None past) o ∷ []) (omega arith)) (sum-push (drop s.from xs) (weigh (last_after None past) o))
+weighed_running weigh past o s runs h = grind (arith, nat_tests, length-along, along-append, drop-append-le, sum-push)
 
 -- a stopped set keeps what it weighed
 pub weighed_stopped : (weigh : Option Occ → Occ → ℕ) (past : List Occ) (o : Occ) (s : Kept) → s.running ≡ false → s.from ≤ s.to → s.to ≤ length past
     → weighed weigh (past ++ o ∷ []) s ≡ weighed weigh past s
-weighed_stopped weigh past o s stopped h k =
-    let xs = along weigh None past in
-    let same = length-along weigh None past in
-    let more = weigh (last_after None past) o ∷ [] in
-    rw (stopped, along-append weigh None past o, drop-append-le s.from xs more (omega arith), take-append-le (s.to - s.from) (drop s.from xs) more (omega (arith, length-drop s.from xs))) refl
+weighed_stopped weigh past o s stopped h k = grind (arith, nat_tests, length-along, along-append, drop-append-le, take-append-le, length-drop)
 
 -- the clock of the past stays, and that of now is the time after the last occurrence
 pub clock_stays : (past : List Occ) (o : Occ) (k : ℕ) → k ≤ length past → clock (past ++ o ∷ []) k ≡ clock past k

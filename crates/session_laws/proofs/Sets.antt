@@ -1,4 +1,6 @@
 -- The places of sets, and what holds of each set after a call.
+use Rattle.std.proofs.Common.{arith}
+use Rattle.std.proofs.lemmas.Bool.Decides.{nat_tests}
 use Rattle.std.proofs.Common.{◌≡◌, ℕ, zero, suc, ◌+◌, Bool, false, List, [], ◌∷◌, map, refl, sym, ◌∙◌, ap, subst, slice_get, slice_set, Option, Some, None}
 use Rattle.std.specs.Prelude.{All}
 use Rattle.std.specs.Option.{option_map, option_map_or, ForSome}
@@ -81,8 +83,7 @@ sets_each P book past c sets fresh given h = changed P book past c (changed_by c
 
 -- the sets after a call that is not refused
 pub performed_sets : (book : Book) (shape : Widths) (a : Account) (c : Call) → (performed book shape a c).account.sets ≡ sets_after new_kept (kept_after book a.past) c a.sets
-performed_sets book shape a (call.Run n) = refl
-performed_sets book shape a c = refl
+performed_sets book shape a c = grind (arith, nat_tests)
 
 -- what holds of a refused call's account, and of that of each call that is not refused
 pub step_has : (P : Account → Type 0) (book : Book) (shape : Widths) (a : Account) (c : Call) → P a → (account_refusal book shape a c ≡ None → P (performed book shape a c).account) → P (step book shape a c).account

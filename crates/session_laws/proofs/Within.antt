@@ -1,5 +1,6 @@
 -- Windows lie in the past, and stamps rise.
-use Rattle.std.proofs.Common.{◌≤◌, ◌+◌, ℕ, Bool, true, false, List, [], ◌∷◌, ◌++◌, length, take, drop, min, sym, ◌∙◌, ap, subst, arith, append_assoc, length-append, Option, Some, None, Ok}
+use Rattle.std.proofs.lemmas.Bool.Decides.{nat_tests}
+use Rattle.std.proofs.Common.{◌≤◌, ◌+◌, ℕ, Bool, List, [], ◌∷◌, ◌++◌, length, take, min, arith, append_assoc, length-append, Option, Some, None}
 use Rattle.std.specs.Prelude.{if◌then◌else◌}
 use Rattle.std.specs.Option.{ForSome}
 use Rattle.std.proofs.lemmas.List.{take-append-drop}
@@ -18,28 +19,17 @@ use Rattle.session_laws.specs.Keeping.{OpeningWithin, RiseStays, WithinStays}
 use Rattle.session_laws.proofs.Sets.{sets_each, step_has}
 
 end_bounds : (now : ℕ) (b : Bool) (from to : ℕ) → from ≤ to → to ≤ now → (from ≤ (if b then now else to)) × ((if b then now else to) ≤ now)
-end_bounds now true from to h k = (omega (arith, h, k), omega arith)
-end_bounds now false from to h k = (h, k)
+end_bounds now b from to h k = grind (arith, nat_tests)
 
 zeroed_within : (now : ℕ) (s : Kept) → IsWithin now s → IsWithin now (zeroed now s)
 zeroed_within now s h = record { in_order = omega arith; past = (end_bounds now s.running s.from s.to h.in_order h.past).1 }
 
 kept_within : (book : Book) (past : List Occ) (c : Call) (s : Kept) → IsWithin (length past) s → IsWithin (length past) (kept_after book past c s)
-kept_within book past (call.Stop k) s h =
-    let e = end_bounds (length past) s.running s.from s.to h.in_order h.past in
-    record { in_order = e.0; past = e.1 }
-kept_within book past (call.Add k (Ok e)) s h = let z = zeroed_within (length past) s h in record { in_order = z.in_order; past = z.past }
-kept_within book past (call.Remove k (Ok e)) s h = let z = zeroed_within (length past) s h in record { in_order = z.in_order; past = z.past }
-kept_within book past (call.Overflow k (Ok e) t) s h = let z = zeroed_within (length past) s h in record { in_order = z.in_order; past = z.past }
-kept_within book past c s h =
-    let z = zeroed_within (length past) s h in
-    record { in_order = omega (arith, h.in_order, z.in_order); past = omega (arith, h.past, z.past) }
+kept_within book past c s h = grind (arith, nat_tests, end_bounds, zeroed_within)
 
 -- windows that lie in the past go on to do so
 pub within_more : (now later : ℕ) (sets : List (Option Kept)) → now ≤ later → AllWithin now sets → AllWithin later sets
-within_more now later sets more h = record { each = λ k d below s e. go s (h.each k d below s e) } where
-  go : (s : Kept) → IsWithin now s → IsWithin later s
-  go s w = let p = w.past in record { in_order = w.in_order; past = omega (arith, p, more) }
+within_more now later sets more h = grind (arith, nat_tests)
 
 -- the sets after a call at the same time
 same_time : (book : Book) (a : Account) (c : Call) → AllWithin (length a.past) a.sets → AllWithin (length a.past) (sets_after new_kept (kept_after book a.past) c a.sets)
@@ -64,10 +54,7 @@ rises-push before [] o h late small = (late, small, tt)
 rises-push before (x ∷ past) o h late small = (h.0, h.1, rises-push (Some x) past o h.2 late small)
 
 performed_rises : (book : Book) (shape : Widths) (a : Account) (c : Call) → Rises 0 (a.past ++ a.rest) → Rises 0 ((performed book shape a c).account.past ++ (performed book shape a c).account.rest)
-performed_rises book shape a (call.Run n) h =
-    let k = min n (length a.rest) in
-    subst (Rises 0) (sym (append_assoc a.past (take k a.rest) (drop k a.rest) ∙ ap (λ xs. a.past ++ xs) (take-append-drop k a.rest))) h
-performed_rises book shape a c h = h
+performed_rises book shape a c h = grind (arith, nat_tests, append_assoc, take-append-drop)
 
 pub rise_stays : RiseStays
 rise_stays book shape a c h =
