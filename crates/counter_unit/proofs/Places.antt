@@ -86,12 +86,3 @@ first_added bits counters first is = elim (cases_eq bits 0) [
 pub record Filling (ws rooms : List ℕ) (done : ℕ) : Type 0 where
   pub long : length rooms ≡ 32
   pub each : (k : ℕ) → k < done → get_or rooms k 0 ≡ 2 ^ get_or ws k 0
-
-pub filling_on : (ws rooms : List ℕ) (done room : ℕ) → done < 32 → room ≡ 2 ^ get_or ws done 0 → Filling ws rooms done → Filling ws (set rooms done room) (done + 1)
-filling_on ws rooms done room below is h = record {
-  long = length-set rooms done room ∙ h.long;
-  each = λ k lt. elim (cases_eq k done) [
-    | inl same ↦ rw same (get_or-set_same rooms done room 0 (omega (arith, h.long)) ∙ is)
-    | inr apart ↦ get_or-set_other rooms done k room 0 apart ∙ h.each k (omega arith)
-  ];
-}

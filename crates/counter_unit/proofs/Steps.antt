@@ -104,7 +104,7 @@ unmoved before o w (Some r) sound other = ap (after w r) (weight_of_other r befo
       let same : r.value + 0 ≡ r.value = omega arith in
       rw no (ap (λ v. unchanged (Some (record r { value = v }))) same)
 
--- so much is moved if so much is added
+-- a place moves by what the occurrence adds there
 pub moved_is : (before : Option Occ) (o : Occ) (w : ℕ) (place : Option Register) → added w (weight_at before o place) place ≡ moved_place before o w place
 moved_is before o w None = refl
 moved_is before o w (Some r) = refl

@@ -34,7 +34,7 @@ begun width n d threshold = record { native = n; domain = d; threshold = thresho
 abbrev pub begun_again : ℕ → Register → Register
 begun_again width r = record r { value = beginning width r.threshold; bank = 0 }
 
--- the register carries when so much is added
+-- the register carries when this is added
 abbrev pub carries : ℕ → ℕ → Register → Bool
 carries width more r = nat_le (2 ^ width) (r.value + more)
 
@@ -42,7 +42,7 @@ carries width more r = nat_le (2 ^ width) (r.value + more)
 abbrev pub wrapped : ℕ → ℕ
 wrapped n = n % 2 ^ 64
 
--- the register after so much is added: a carry takes a period away into the bank, and what is over is counted from the beginning
+-- the register after this is added: a carry takes a period away into the bank, and what is over is counted from the beginning
 abbrev pub moved : ℕ → ℕ → Register → Register
 moved width more r = record r {
   value = if carries width more r then beginning width r.threshold + (r.value + more - 2 ^ width) else r.value + more;
@@ -86,6 +86,11 @@ all_carries before o (w ∷ ws) (r ∷ rs) = (moved_place before o w r).carried 
 abbrev pub bits_of : List Bool → ℕ
 bits_of [] = 0
 bits_of (b ∷ bs) = (if b then 1 else 0) + 2 * bits_of bs
+
+-- each register moves by what the occurrence counts for it, and these counters carried, as bits
+pub record Steps (before : Option Occ) (o : Occ) (old new : UnitView) (carried : ℕ) : Type 0 where
+  pub registers : new ≡ record old { registers = all_moved before o old.widths old.registers }
+  pub carries : carried ≡ bits_of (all_carries before o old.widths old.registers)
 
 -- what is programmed has a threshold that fits, and is at its beginning or above
 abbrev pub FitsWidth : ℕ → Option Register → Type 0

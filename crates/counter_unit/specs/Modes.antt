@@ -26,7 +26,7 @@ abbrev pub weight_at : Option Occ → Occ → Option Register → ℕ
 weight_at before o None = 0
 weight_at before o (Some r) = weight_of r.native r.domain before o
 
--- a place after so much is added
+-- a place after this is added
 abbrev pub added : ℕ → ℕ → Option Register → After
 added width more None = record { place = None; carried = false }
 added width more (Some r) = record { place = Some (moved width more r); carried = carries width more r }

@@ -74,9 +74,9 @@ pub(crate) fn with_bit(mask: u32, c: u32, on: bool) -> u32
     if on { mask | 1 << c } else { mask & !(1 << c) }
 }
 
-/// The bits with that of this counter, which is off, as it is told.
+/// The bits with that of this counter, which is off and rarely comes on, on or off.
 #[inline(always)]
-pub(crate) fn with_carry(mask: u32, c: u32, on: bool) -> u32
+pub(crate) fn with_rare_bit(mask: u32, c: u32, on: bool) -> u32
     requires counter { c < MOST_COUNTERS }
     requires off { bit_at mask c ≡ 0 }
     ensures here { bit_at result c ≡ bit_of on }

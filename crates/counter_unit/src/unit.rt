@@ -7,11 +7,11 @@ ghost use Rattle.papi_base.specs.declared.limits.TheConstants.{LEAST_WIDTH, MOST
 ghost use Rattle.counter_unit.specs.Selects.{AreAdmitted, ArePlain};
 ghost use Rattle.counter_unit.specs.Modes.{added};
 ghost use Rattle.counter_unit.specs.Counting.{IsThreshold, FitsWidth, beginning, period, at_place, begun, begun_again, wrapped};
-ghost use Rattle.counter_unit.specs.Counting.{all_moved, all_carries, bits_of, count_on};
+ghost use Rattle.counter_unit.specs.Counting.{Steps, all_moved, all_carries, bits_of, count_on};
 
 use crate::modes::weight_at;
 use crate::registers::Register;
-use crate::selects::{Selects, has_bit, with_carry};
+use crate::selects::{Selects, has_bit, with_rare_bit};
 use papi_base::{CompShape, Domain, MOST_COUNTERS, Native, Occ};
 use std::marker::Model;
 
@@ -71,7 +71,7 @@ fn beginning_of(width: u8, threshold: u64) -> u64
     room(width) - period_of(width, threshold)
 }
 
-/// Adds so much at a place whose register has so much room, and tells whether it carried.
+/// Adds an amount at a place whose register has this room, and tells whether it carried.
 #[inline(always)]
 fn add(place: &mut Option<Register>, width: u8, room: u64, more: u8) -> bool
     requires low { LEAST_WIDTH ≤ width }
@@ -220,6 +220,7 @@ impl Unit {
     /// Adds to each programmed register what the occurrence counts for it, if `before` came just before it. The result
     /// is the counters that carried, as bits.
     #[inline(always)]
+    #[tactic(auto, using(crate::proofs::Steps::plain_by_marks))]
     pub fn step(&mut self, before: Option<&Occ>, o: &Occ) -> u32
         ensures registers { self.new
             ≡ record self.old {
@@ -246,14 +247,7 @@ impl Unit {
     fn step_modified(&mut self, all: u32, modified: u32, before: Option<&Occ>, o: &Occ) -> u32
         requires admitted { AreAdmitted o.now self.old.registers all }
         requires plain { ArePlain self.old.registers all modified }
-        ensures registers { self.new
-            ≡ record self.old {
-              registers = all_moved (option_copied before.entry) o.now
-                  self.old.widths self.old.registers;
-            } }
-        ensures carries { result
-            ≡ bits_of (all_carries (option_copied before.entry) o.now self.old.widths
-            self.old.registers) }
+        ensures { Steps (option_copied before.entry) o.now self.old self.new result }
     {
         self.step_at(all, modified, before, o)
     }
@@ -263,14 +257,7 @@ impl Unit {
     fn step_at(&mut self, all: u32, modified: u32, before: Option<&Occ>, o: &Occ) -> u32
         requires admitted { AreAdmitted o.now self.old.registers all }
         requires plain { ArePlain self.old.registers all modified }
-        ensures registers { self.new
-            ≡ record self.old {
-              registers = all_moved (option_copied before.entry) o.now
-                  self.old.widths self.old.registers;
-            } }
-        ensures carries { result
-            ≡ bits_of (all_carries (option_copied before.entry) o.now self.old.widths
-            self.old.registers) }
+        ensures { Steps (option_copied before.entry) o.now self.old self.new result }
     {
         // The contract speaks of the amount, which fits 8 bits.
         let _amount = o.amount;
@@ -283,7 +270,7 @@ impl Unit {
             let place = &mut self.registers[c as usize];
             let more = weight_at(place, has_bit(modified, c), amount, before, o);
             let carried = add(place, self.shape.width(c), self.rooms[c as usize], more);
-            carry = with_carry(carry, c, carried);
+            carry = with_rare_bit(carry, c, carried);
         }
         carry
     }

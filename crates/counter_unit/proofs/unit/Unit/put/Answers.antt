@@ -5,9 +5,6 @@ use Rattle.counter_unit.specs.Counting.{UnitView}
 use Rattle.counter_unit.proofs.Places.{FitWidths-put}
 use Rattle.counter_unit.proofs.unit.Unit.put.Goals as goal
 
-pub put-requires : goal.put-requires
-put-requires c = let few = c.self.invariant.few in let shape : c.self.inside.shape ≡ c.args.self.now.widths = ap (λ (v : UnitView). v.widths) c.self.view_is in let exists : c.args.c < length c.self.inside.shape = rw shape c.requires.exists in omega arith
-
 pub invariant_of-self : goal.invariant_of-self
 invariant_of-self c =
     let ws = c.self.inside.shape in

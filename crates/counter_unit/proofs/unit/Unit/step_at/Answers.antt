@@ -46,15 +46,8 @@ add-carried-requires-clause-sound c =
     let at = sym (get_or-take (length c.self.inside.shape) c.loop-left.self-inside.registers k None below) ∙ c.loop-left.invariant.stepping.waits k is in
     rw (at, width) (c.self.invariant.sound.each k below)
 
-pub add-carried-requires-clause-room : goal.add-carried-requires-clause-room
-add-carried-requires-clause-room c =
-    let k = lowest c.loop-left.left in
-    let is = (lowest_is c.loop-left.left (omega arith) (omega arith)).1 in
-    let width : c.width.result ≡ get_or c.self.inside.shape k 0 = c.width.ensures.width ∙ ap (λ (ws : List ℕ). get_or ws k 0) c.loop-left.invariant.shape in
-    rw (c.loop-left.invariant.rooms, width) (c.self.invariant.are_rooms.each k (c.loop-left.invariant.stepping.within k is))
-
-pub with_carry-carry-requires-clause-off : goal.with_carry-carry-requires-clause-off
-with_carry-carry-requires-clause-off c = c.loop-left.invariant.stepping.clear (lowest c.loop-left.left) (lowest_is c.loop-left.left (omega arith) (omega arith)).1
+pub with_rare_bit-carry-requires-clause-off : goal.with_rare_bit-carry-requires-clause-off
+with_rare_bit-carry-requires-clause-off c = c.loop-left.invariant.stepping.clear (lowest c.loop-left.left) (lowest_is c.loop-left.left (omega arith) (omega arith)).1
 
 pub loop-left-preserved : goal.loop-left-preserved
 loop-left-preserved c =
@@ -78,7 +71,7 @@ loop-left-preserved c =
       long = length-set now k _ ∙ c.loop-left.invariant.long;
       stepping = rw (take-set-lt n now k c.add-carried.new.place below) (goes_on _ _ _ _ (take n now) _ _ c.loop-left.left c.loop-left.carry _ _ (omega arith) (omega arith) c.self.invariant.few c.loop-left.invariant.stepping
           (c.add-carried.ensures.place ∙ ap (λ (a : After). a.place) after)
-          (c.with_carry-carry.ensures.here ∙ ap bit_of (c.add-carried.ensures.carried ∙ ap (λ (a : After). a.carried) after)) c.with_carry-carry.ensures.there);
+          (c.with_rare_bit-carry.ensures.here ∙ ap bit_of (c.add-carried.ensures.carried ∙ ap (λ (a : After). a.carried) after)) c.with_rare_bit-carry.ensures.there);
     }
 
 pub invariant_of-self : goal.invariant_of-self
@@ -99,13 +92,15 @@ invariant_of-self c =
 pub loop-left-smaller : goal.loop-left-smaller
 loop-left-smaller c = others-lt c.loop-left.left (omega arith) (omega arith)
 
-pub returns-clause-registers : goal.returns-clause-registers
-returns-clause-registers c =
+pub returns : goal.returns
+returns c =
+    let before = option_copied c.args.before in
     let ws = c.self.inside.shape in
-    let done = all_done (option_copied c.args.before) c.args.o.now ws (take (length ws) c.self.inside.registers) (take (length ws) c.loop-left.self-inside.registers) c.args.modified c.amount_of-amount.result c.loop-left.left c.loop-left.carry c.self.invariant.sound.same_length (omega arith) c.loop-left.invariant.stepping in
-    rw (c.loop-left.invariant.shape, done, ← c.self.view_is) refl
-
-pub returns-clause-carries : goal.returns-clause-carries
-returns-clause-carries c =
-    let ws = c.self.inside.shape in
-    rw (← c.self.view_is) (all_carried (option_copied c.args.before) c.args.o.now ws (take (length ws) c.self.inside.registers) (take (length ws) c.loop-left.self-inside.registers) c.args.modified c.amount_of-amount.result c.loop-left.left c.loop-left.carry c.self.invariant.sound.same_length c.self.invariant.few c.loop-left.invariant.fits (omega arith) c.loop-left.invariant.stepping)
+    let rs = take (length ws) c.self.inside.registers in
+    let now = take (length ws) c.loop-left.self-inside.registers in
+    let stepping = c.loop-left.invariant.stepping in
+    let done = all_done before c.args.o.now ws rs now c.args.modified c.amount_of-amount.result c.loop-left.left c.loop-left.carry c.self.invariant.sound.same_length (omega arith) stepping in
+    record {
+      registers = rw (c.loop-left.invariant.shape, done, ← c.self.view_is) refl;
+      carries = rw (← c.self.view_is) (all_carried before c.args.o.now ws rs now c.args.modified c.amount_of-amount.result c.loop-left.left c.loop-left.carry c.self.invariant.sound.same_length c.self.invariant.few c.loop-left.invariant.fits (omega arith) stepping);
+    }
