@@ -6,28 +6,25 @@ use Rattle.tool_words.specs.declared.command.Command.{Command}
 use Rattle.tool_words.specs.declared.command.Command.TheVariants.{Avail, Decode, Encode, EventChooser, NativeAvail, Profil, Regions, Run, Soak}
 use Rattle.tool_words.specs.declared.chooser.EventKind.{EventKind}
 use Rattle.tool_words.specs.declared.chooser.EventKind.TheVariants.{Native, Preset}
-use Rattle.tool_words.specs.AvailForm.{avail_rules, avail_words_in}
-use Rattle.tool_words.specs.ChooserForm.{chooser_rules, chooser_words_in}
-use Rattle.tool_words.specs.EncodeForm.{encode_rules, encode_words_in}
+use Rattle.tool_words.specs.Arguments.{rule}
+use Rattle.tool_words.specs.AvailForm.{avail_form}
+use Rattle.tool_words.specs.ChooserForm.{chooser_form}
+use Rattle.tool_words.specs.EncodeForm.{encode_form}
 use Rattle.tool_words.specs.Form.{form}
 use Rattle.tool_words.specs.declared.presets.PresetWords.{PresetWords}
-use Rattle.tool_words.specs.DecodeForm.{decode_rules, decode_words_in}
-use Rattle.tool_words.specs.NativeAvailForm.{native_avail_rules, native_avail_words_in}
-use Rattle.tool_words.specs.Options.{available_rule, event_rule, list_rule, script_rule, unit_rule}
-use Rattle.tool_words.specs.Numbers.{number_rule}
-use Rattle.tool_words.specs.Presets.{cpu_rule, is_cpu, needed_cpu_rule, needed_presets_rule, presets_rule}
-use Rattle.tool_words.specs.ProfilForm.{profil_rules, profil_words_in}
+use Rattle.tool_words.specs.DecodeForm.{decode_form}
+use Rattle.tool_words.specs.NativeAvailForm.{native_avail_form}
+use Rattle.tool_words.specs.Presets.{is_cpu}
+use Rattle.tool_words.specs.ProfilForm.{profil_form}
 use Rattle.tool_words.specs.EventList.{parts_of}
-use Rattle.tool_words.specs.RegionsForm.{regions_rules, regions_words_in}
-use Rattle.tool_words.specs.RunForm.{run_rules, run_words_in}
+use Rattle.tool_words.specs.RegionsForm.{regions_form}
+use Rattle.tool_words.specs.RunForm.{run_form}
 use Rattle.tool_words.specs.ScriptForm.{script_words_in}
-use Rattle.tool_words.specs.SoakForm.{soak_rules, soak_words_in}
-use Rattle.tool_words.specs.Streams.{streams_rule}
+use Rattle.tool_words.specs.SoakForm.{soak_form}
 use Rattle.tool_words.specs.Words.{read_by}
-use Rattle.tool_words.specs.Workers.{workers_rule}
 
 unfoldable on_words : Unit {0}
-unfolding clap_on_literals read_by unit_rule presets_rule cpu_rule is_cpu script_words_in run_words_in run_rules workers_rule script_rule streams_rule encode_words_in encode_rules decode_words_in decode_rules needed_presets_rule needed_cpu_rule available_rule avail_words_in avail_rules event_rule native_avail_words_in native_avail_rules chooser_words_in chooser_rules soak_words_in soak_rules profil_words_in profil_rules number_rule list_rule regions_words_in regions_rules parts_of
+unfolding clap_on_literals read_by rule is_cpu script_words_in run_form encode_form decode_form avail_form native_avail_form chooser_form soak_form profil_form regions_form parts_of
 on_words = tt
 
 -- what each list of words asks for; none if it is refused

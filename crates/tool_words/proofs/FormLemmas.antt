@@ -2,12 +2,12 @@
 use Rattle.std.proofs.Common.{◌≡◌, ◌⊎◌, inl, inr, Bool, true, false, List, [], ◌∷◌, Option, None, Result, Err, refl, subst}
 use Rattle.std.specs.Prelude.{◌&&◌}
 use Rattle.clap.specs.Kinds.{IsAmong, Kinds}
-use Rattle.clap.specs.Words.{App, Row, Rule, Text, fault_of, is_simple, is_simple_and_free, matches_of}
+use Rattle.clap.specs.Words.{App, Row, Text, fault_of, is_simple, is_simple_and_free, matches_of}
 use Rattle.clap.specs.declared.error.kind.ErrorKind.{ErrorKind}
 use Rattle.clap.specs.declared.error.kind.ErrorKind.TheVariants as kind
 use Rattle.tool_words.specs.declared.fault.WordsFault.{WordsFault}
 use Rattle.tool_words.specs.declared.fault.WordsFault.TheVariants.{BadWords, Memory}
-use Rattle.tool_words.specs.Words.{Answers, AreMatches, HasSomeKind, app_with, fault_by, read_by, unless_refused}
+use Rattle.tool_words.specs.Words.{Answers, AreMatches, HasSomeKind, ToolForm, app_by, fault_by, read_by, unless_refused}
 
 -- a kind of refusal is among those that there are
 pub some_kind : (k : ErrorKind) (kinds : Kinds) → IsAmong k kinds → HasSomeKind kinds
@@ -30,21 +30,21 @@ nothing_asked [] given h = absurd h
 nothing_asked (k ∷ ks) given h = refl
 
 -- a fault of the matches is the answer
-pub answers_fault : {A : Type 0} (rules : List Rule) (own : App) (asked : List Row → Option A) (words : List Text) (fault : WordsFault) → own ≡ app_with rules
-    → AreMatches (Err fault) own words → Answers (Err fault) (read_by rules asked words)
+pub answers_fault : {A : Type 0} (form : ToolForm A) (own : App) (words : List Text) (fault : WordsFault) → own ≡ app_by form
+    → AreMatches (Err fault) own words → Answers (Err fault) (read_by form words)
 unfolding read_by
-answers_fault rules own asked words BadWords e h =
-    nothing_asked (fault_of (app_with rules) words) (asked (matches_of (app_with rules) words)) (subst (λ (a : App). HasSomeKind (fault_of a words)) e h)
-answers_fault rules own asked words Memory e h = tt
+answers_fault form own words BadWords e h =
+    nothing_asked (fault_of (app_by form) words) (form.asked (matches_of (app_by form) words)) (subst (λ (a : App). HasSomeKind (fault_of a words)) e h)
+answers_fault form own words Memory e h = tt
 
 -- what the matches ask for is the answer
-pub answers_matches : {A : Type 0} (rules : List Rule) (own : App) (asked : List Row → Option A) (words : List Text) (rows : List Row) (answer : Result A WordsFault) → own ≡ app_with rules
-    → (fault_of own words ≡ []) × (rows ≡ matches_of own words) → Answers answer (asked rows) → Answers answer (read_by rules asked words)
+pub answers_matches : {A : Type 0} (form : ToolForm A) (own : App) (words : List Text) (rows : List Row) (answer : Result A WordsFault) → own ≡ app_by form
+    → (fault_of own words ≡ []) × (rows ≡ matches_of own words) → Answers answer (form.asked rows) → Answers answer (read_by form words)
 unfolding read_by
-answers_matches rules own asked words rows answer e h a =
-    let fine : fault_of (app_with rules) words ≡ [] = subst (λ (a : App). fault_of a words ≡ []) e h.0 in
-    let same : rows ≡ matches_of (app_with rules) words = subst (λ (a : App). rows ≡ matches_of a words) e h.1 in
-    rw fine (subst (λ (r : List Row). Answers answer (asked r)) same a)
+answers_matches form own words rows answer e h a =
+    let fine : fault_of (app_by form) words ≡ [] = subst (λ (a : App). fault_of a words ≡ []) e h.0 in
+    let same : rows ≡ matches_of (app_by form) words = subst (λ (a : App). rows ≡ matches_of a words) e h.1 in
+    rw fine (subst (λ (r : List Row). Answers answer (form.asked r)) same a)
 
 -- a command whose faults are known is one whose matches are
 pub simple_too : (app : App) → is_simple_and_free app ≡ true → is_simple app ≡ true

@@ -1,8 +1,7 @@
+pub mod Arguments
 pub mod Words
-pub mod Options
 pub mod Numbers
 pub mod Presets
-pub mod Workers
 pub mod Streams
 pub mod ScriptForm
 pub mod RunForm

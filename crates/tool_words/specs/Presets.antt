@@ -1,27 +1,11 @@
--- The presets that the words of a tool ask for, in the words of `clap`: `-P PRESETS -C CPU`. What names a cpu is this project's
+-- The presets that the words of a tool ask for: `-P PRESETS -C CPU`. What names a cpu is this project's
 -- own: docs/FORMATS.md.
-use Rattle.std.specs.Prelude.{◌&&◌, ◌||◌, ◌==◌, ◌-◌, ℕ, Bool, true, false, not}
-use Rattle.std.specs.Prelude.{length, slice_index, nat_le, nat_lt, Option, Some, None, if◌then◌else◌, codes, option_map}
+use Rattle.std.specs.Prelude.{◌&&◌, ◌||◌, ◌==◌, ◌-◌, ℕ, Bool, false, not, List}
+use Rattle.std.specs.Prelude.{length, slice_index, nat_le, nat_lt, Option, Some, None, if◌then◌else◌, codes, option_and_then, option_map}
 use Rattle.std.specs.List.{list_all}
-use Rattle.clap.specs.Words.{Rule, Text, new_rule}
+use Rattle.clap.specs.Words.{Row, Text, first_of}
 use Rattle.tool_words.specs.declared.presets.PresetWords.{PresetWords}
 use Rattle.tool_words.specs.declared.presets.TheConstants.{LONGEST_CPU}
-
--- `-P PRESETS`, a preset file
-unfoldable pub presets_rule : Rule
-presets_rule = record (new_rule (codes "presets")) { short = Some 80 }
-
--- `-C CPU`, the cpu whose presets are read
-unfoldable pub cpu_rule : Rule
-cpu_rule = record (new_rule (codes "cpu")) { short = Some 67 }
-
--- `-P PRESETS`, of a tool that needs it
-unfoldable pub needed_presets_rule : Rule
-needed_presets_rule = record presets_rule { required = true }
-
--- `-C CPU`, of a tool that needs it
-unfoldable pub needed_cpu_rule : Rule
-needed_cpu_rule = record cpu_rule { required = true }
 
 -- a character from a space to `~` that is not a comma
 abbrev pub is_cpu_character : ℕ → Bool
@@ -44,7 +28,10 @@ presets_asked None None = Some None
 presets_asked (Some file) (Some cpu) = option_map Some (presets_of file cpu)
 presets_asked _ _ = None
 
+-- the same by the matches of the words
+abbrev pub presets_asked_in : List Row → Option (Option PresetWords)
+presets_asked_in rows = presets_asked (first_of (codes "presets") rows) (first_of (codes "cpu") rows)
+
 -- the presets of a tool that needs them
-abbrev pub presets_needed : Option Text → Option Text → Option PresetWords
-presets_needed (Some file) (Some cpu) = presets_of file cpu
-presets_needed _ _ = None
+abbrev pub presets_needed_in : List Row → Option PresetWords
+presets_needed_in rows = option_and_then (λ presets. presets) (presets_asked_in rows)

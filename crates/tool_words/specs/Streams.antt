@@ -1,16 +1,7 @@
--- The streams that the words of a tool name, in the words of `clap`: `STREAM..`, none or more.
-use Rattle.std.specs.Prelude.{List, [], length, Option, Some, None, if◌then◌else◌, nat_le, codes}
-use Rattle.clap.specs.Lexer.{usize_max}
-use Rattle.clap.specs.Words.{Rule, Text, new_rule}
-use Rattle.clap.specs.declared.builder.ArgAction.TheVariants.{Append}
+-- The streams that the words of a tool name: `STREAM..`, none or more.
+use Rattle.std.specs.Prelude.{List, [], length, Option, Some, None, if◌then◌else◌, nat_le}
+use Rattle.clap.specs.Words.{Text}
 use Rattle.papi_base.specs.declared.limits.TheConstants.{THREADS}
-
--- `STREAM..`, between which options may stand
-unfoldable pub streams_rule : Rule
-streams_rule = record (new_rule (codes "streams")) {
-  action = Some Append;
-  range = Some (record { start_inclusive = 0; end_inclusive = usize_max });
-}
 
 -- the names of streams, at most one a thread
 abbrev pub streams_of : List Text → Option (List Text)

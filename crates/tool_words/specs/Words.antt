@@ -1,9 +1,11 @@
 -- How a tool's words are read: by the matches that `clap` defines for a simple command.
-use Rattle.std.specs.Prelude.{◌≡◌, List, [], ◌∷◌, Option, None, Some, Result, Ok, Err, codes}
-use Rattle.clap.specs.Words.{App, Kinds, Row, Rule, Text, fault_of, found_of, matches_of, new_app, rows_of}
+use Rattle.std.specs.Prelude.{◌≡◌, true, List, [], ◌∷◌, Option, None, Some, Result, Ok, Err, codes, map}
+use Rattle.clap.specs.Words.{App, Kinds, Row, Rule, Text, fault_of, found_of, is_simple_and_free, matches_of, new_app, rows_of}
 use Rattle.clap.specs.declared.error.kind.ErrorKind.{ErrorKind}
 use Rattle.clap.specs.declared.error.kind.ErrorKind.TheVariants as kind
 use Rattle.clap.specs.declared.parser.matches.ArgMatches.{ArgMatches}
+use Rattle.tool_words.specs.Arguments.{rule}
+use Rattle.tool_words.specs.declared.argument.Argument.{Argument}
 use Rattle.tool_words.specs.declared.fault.WordsFault.{WordsFault}
 use Rattle.tool_words.specs.declared.fault.WordsFault.TheVariants.{BadWords, Memory}
 
@@ -16,9 +18,19 @@ abbrev pub unless_refused : {A : Type 0} → Kinds → Option A → Option A
 unless_refused [] given = given
 unless_refused (k ∷ ks) given = None
 
--- what words ask for, by the rules of their arguments: nothing if these refuse them, else what their matches come to
-unfoldable pub read_by : {A : Type 0} → List Rule → (List Row → Option A) → List Text → Option A
-read_by rules asked words = unless_refused (fault_of (app_with rules) words) (asked (matches_of (app_with rules) words))
+-- the form of a tool's words: its arguments in order, of which `clap` says exactly which words they take, and what their matches ask for
+pub record ToolForm (A : Type 0) : Type 0 where
+  pub arguments : List Argument
+  pub asked : List Row → Option A
+  pub defined : is_simple_and_free (app_with (map rule arguments)) ≡ true
+
+-- the command of a form
+abbrev pub app_by : {A : Type 0} → ToolForm A → App
+app_by form = app_with (map rule form.arguments)
+
+-- what words ask for, by a form: nothing if its arguments refuse them, else what their matches come to
+unfoldable pub read_by : {A : Type 0} → ToolForm A → List Text → Option A
+read_by form words = unless_refused (fault_of (app_by form) words) (form.asked (matches_of (app_by form) words))
 
 -- The answer to words that ask for this, or for nothing. Memory may run out at any words.
 abbrev pub Answers : {A : Type 0} → Result A WordsFault → Option A → Type 0

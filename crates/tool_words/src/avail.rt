@@ -1,15 +1,15 @@
 //! The words of `papi_avail`: `-U UNIT -P PRESETS -C CPU [-a] [-e NAME]`.
 
-ghost use Rattle.tool_words.specs.AvailForm.{avail_rules, avail_rules-defined, avail_words_in};
+ghost use Rattle.tool_words.specs.AvailForm.{avail_form};
 
+use crate::argument::Argument::{self, Available, Event, NeededCpu, NeededPresets, Unit};
 use crate::fault::WordsFault;
-use crate::matches::{in_order, text_asked, text_needed};
-use crate::options::{available_argument, event_argument, is_set, unit_argument};
-use crate::presets::{PresetWords, needed_cpu_argument, needed_presets_argument, presets_needed};
+use crate::matches::{is_set, text_asked, text_needed};
+use crate::presets::{PresetWords, presets_needed};
 use crate::tool::ToolWords;
-use clap::{Arg, ArgMatches};
+use clap::ArgMatches;
 use papi_base::Text;
-use std::alloc::{AllocError, Global};
+use std::alloc::Global;
 
 /// What the words of `papi_avail` ask for: the name of the unit file, the presets, whether the available presets alone are
 /// asked for, and the name of an event, if one is asked for.
@@ -22,27 +22,14 @@ pub struct AvailWords {
 }
 
 impl ToolWords for AvailWords {
-    ghost rules = { avail_rules };
+    ghost form = { avail_form };
 
-    ghost asked = { avail_words_in };
-
-    ghost defined = { avail_rules-defined };
-
-    #[tactic(auto, unfolding(crate::specs::AvailForm::avail_rules))]
-    fn arguments<'a>(alloc: Global) -> Result<Vec<Arg<'a>>, AllocError> {
-        in_order(
-            alloc,
-            [
-                unit_argument(alloc),
-                needed_presets_argument(alloc),
-                needed_cpu_argument(alloc),
-                available_argument(alloc),
-                event_argument(alloc),
-            ],
-        )
+    #[tactic(auto, unfolding(crate::specs::AvailForm::avail_form))]
+    fn arguments() -> &'static [Argument] {
+        &[Unit, NeededPresets, NeededCpu, Available, Event]
     }
 
-    #[tactic(auto, unfolding(crate::specs::AvailForm::avail_words_in))]
+    #[tactic(auto, unfolding(crate::specs::AvailForm::avail_form))]
     fn asked_by(alloc: Global, matches: &ArgMatches<'_>) -> Result<AvailWords, WordsFault> {
         Ok(AvailWords {
             unit: text_needed(alloc, matches, "unit")?,

@@ -3,19 +3,18 @@
 ghost use Rattle.std.specs.Prelude.{codes, option_and_then};
 ghost use Rattle.clap.specs.Words.{all_of, first_of, found_of, rows_of};
 ghost use Rattle.tool_words.specs.ChooserForm as ChooserForm;
-ghost use Rattle.tool_words.specs.ChooserForm.{few_events};
-ghost use Rattle.tool_words.specs.ChooserForm.{chooser_rules, chooser_rules-defined, chooser_words_in};
+ghost use Rattle.tool_words.specs.ChooserForm.{chooser_form, few_events};
 ghost use Rattle.tool_words.specs.Words.{Answers};
 
+use crate::argument::Argument::{self, Cpu, Events, Kind, Presets, Unit};
 use crate::fault::WordsFault;
-use crate::matches::{copied, in_order, text_needed, text_of, texts_of};
-use crate::options::{list_argument, unit_argument};
-use crate::presets::{PresetWords, cpu_argument, presets_argument, presets_asked};
+use crate::matches::{copied, text_needed, text_of, texts_of};
+use crate::presets::{PresetWords, presets_asked};
 use crate::texts::Texts;
 use crate::tool::ToolWords;
-use clap::{Arg, ArgMatches};
+use clap::ArgMatches;
 use papi_base::{MOST_SET_EVENTS, Text};
-use std::alloc::{AllocError, Global};
+use std::alloc::Global;
 
 /// Which events are listed.
 #[derive(Clone, Copy, Debug, PartialEq, Eq)]
@@ -56,9 +55,7 @@ fn events_asked(alloc: Global, matches: &ArgMatches<'_>) -> Result<Texts, WordsF
     ensures { Answers result
         (option_and_then few_events (all_of (codes "events") (rows_of (found_of matches.now)))) }
 {
-    let Some(events) = texts_of(matches, "events") else {
-        return Err(WordsFault::BadWords);
-    };
+    let events = texts_of(matches, "events").ok_or(WordsFault::BadWords)?;
     if events.len() > MOST_SET_EVENTS {
         return Err(WordsFault::BadWords);
     }
@@ -68,37 +65,20 @@ fn events_asked(alloc: Global, matches: &ArgMatches<'_>) -> Result<Texts, WordsF
 // ---- the tool
 
 impl ToolWords for ChooserWords {
-    ghost rules = { chooser_rules };
+    ghost form = { chooser_form };
 
-    ghost asked = { chooser_words_in };
-
-    ghost defined = { chooser_rules-defined };
-
-    #[tactic(auto, unfolding(crate::specs::ChooserForm::chooser_rules))]
-    fn arguments<'a>(alloc: Global) -> Result<Vec<Arg<'a>>, AllocError> {
-        in_order(
-            alloc,
-            [
-                unit_argument(alloc),
-                presets_argument(alloc),
-                cpu_argument(alloc),
-                Arg::new(alloc, "kind").required(true),
-                list_argument(alloc, "events"),
-            ],
-        )
+    #[tactic(auto, unfolding(crate::specs::ChooserForm::chooser_form))]
+    fn arguments() -> &'static [Argument] {
+        &[Unit, Presets, Cpu, Kind, Events]
     }
 
-    #[tactic(auto, unfolding(crate::specs::ChooserForm::chooser_words_in))]
+    #[tactic(auto, unfolding(crate::specs::ChooserForm::chooser_form))]
     fn asked_by(alloc: Global, matches: &ArgMatches<'_>) -> Result<ChooserWords, WordsFault> {
-        let kind = kind_asked(matches)?;
-        let unit = text_needed(alloc, matches, "unit")?;
-        let events = events_asked(alloc, matches)?;
-        let presets = presets_asked(alloc, matches)?;
         Ok(ChooserWords {
-            unit,
-            presets,
-            kind,
-            events,
+            unit: text_needed(alloc, matches, "unit")?,
+            presets: presets_asked(alloc, matches)?,
+            kind: kind_asked(matches)?,
+            events: events_asked(alloc, matches)?,
         })
     }
 }

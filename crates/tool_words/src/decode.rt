@@ -1,15 +1,15 @@
 //! The words of `papi_decode`: `-U UNIT -P PRESETS -C CPU [-a]`.
 
-ghost use Rattle.tool_words.specs.DecodeForm.{decode_rules, decode_rules-defined, decode_words_in};
+ghost use Rattle.tool_words.specs.DecodeForm.{decode_form};
 
+use crate::argument::Argument::{self, Available, NeededCpu, NeededPresets, Unit};
 use crate::fault::WordsFault;
-use crate::matches::{in_order, text_needed};
-use crate::options::{available_argument, is_set, unit_argument};
-use crate::presets::{PresetWords, needed_cpu_argument, needed_presets_argument, presets_needed};
+use crate::matches::{is_set, text_needed};
+use crate::presets::{PresetWords, presets_needed};
 use crate::tool::ToolWords;
-use clap::{Arg, ArgMatches};
+use clap::ArgMatches;
 use papi_base::Text;
-use std::alloc::{AllocError, Global};
+use std::alloc::Global;
 
 /// What the words of `papi_decode` ask for: the name of the unit file, the presets, and whether the available presets
 /// alone are asked for.
@@ -21,26 +21,14 @@ pub struct DecodeWords {
 }
 
 impl ToolWords for DecodeWords {
-    ghost rules = { decode_rules };
+    ghost form = { decode_form };
 
-    ghost asked = { decode_words_in };
-
-    ghost defined = { decode_rules-defined };
-
-    #[tactic(auto, unfolding(crate::specs::DecodeForm::decode_rules))]
-    fn arguments<'a>(alloc: Global) -> Result<Vec<Arg<'a>>, AllocError> {
-        in_order(
-            alloc,
-            [
-                unit_argument(alloc),
-                needed_presets_argument(alloc),
-                needed_cpu_argument(alloc),
-                available_argument(alloc),
-            ],
-        )
+    #[tactic(auto, unfolding(crate::specs::DecodeForm::decode_form))]
+    fn arguments() -> &'static [Argument] {
+        &[Unit, NeededPresets, NeededCpu, Available]
     }
 
-    #[tactic(auto, unfolding(crate::specs::DecodeForm::decode_words_in))]
+    #[tactic(auto, unfolding(crate::specs::DecodeForm::decode_form))]
     fn asked_by(alloc: Global, matches: &ArgMatches<'_>) -> Result<DecodeWords, WordsFault> {
         Ok(DecodeWords {
             unit: text_needed(alloc, matches, "unit")?,

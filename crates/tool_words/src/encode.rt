@@ -1,15 +1,15 @@
 //! The words of `papi_encode`: `-U UNIT NAME..`.
 
-ghost use Rattle.tool_words.specs.EncodeForm.{encode_rules, encode_rules-defined, encode_words_in};
+ghost use Rattle.tool_words.specs.EncodeForm.{encode_form};
 
+use crate::argument::Argument::{self, Names, Unit};
 use crate::fault::WordsFault;
-use crate::matches::{in_order, text_needed, texts_needed};
-use crate::options::{list_argument, unit_argument};
+use crate::matches::{text_needed, texts_needed};
 use crate::texts::Texts;
 use crate::tool::ToolWords;
-use clap::{Arg, ArgMatches};
+use clap::ArgMatches;
 use papi_base::Text;
-use std::alloc::{AllocError, Global};
+use std::alloc::Global;
 
 /// What the words of `papi_encode` ask for: the name of the unit file, and the names of events in their order, of which
 /// there is at least one.
@@ -20,18 +20,14 @@ pub struct EncodeWords {
 }
 
 impl ToolWords for EncodeWords {
-    ghost rules = { encode_rules };
+    ghost form = { encode_form };
 
-    ghost asked = { encode_words_in };
-
-    ghost defined = { encode_rules-defined };
-
-    #[tactic(auto, unfolding(crate::specs::EncodeForm::encode_rules))]
-    fn arguments<'a>(alloc: Global) -> Result<Vec<Arg<'a>>, AllocError> {
-        in_order(alloc, [unit_argument(alloc), list_argument(alloc, "names")])
+    #[tactic(auto, unfolding(crate::specs::EncodeForm::encode_form))]
+    fn arguments() -> &'static [Argument] {
+        &[Unit, Names]
     }
 
-    #[tactic(auto, unfolding(crate::specs::EncodeForm::encode_words_in))]
+    #[tactic(auto, unfolding(crate::specs::EncodeForm::encode_form))]
     fn asked_by(alloc: Global, matches: &ArgMatches<'_>) -> Result<EncodeWords, WordsFault> {
         Ok(EncodeWords {
             unit: text_needed(alloc, matches, "unit")?,

@@ -2,6 +2,7 @@
 
 ghost use Rattle.std.specs.Prelude.{◌≡◌, IfOk, map, option_map, string_bytes, true};
 ghost use Rattle.clap.specs.Words.{all_of, app_of, first_of, found_of, is_simple_and_free, rows_of, rule_of};
+ghost use Rattle.tool_words.specs.Arguments as Arguments;
 ghost use Rattle.tool_words.specs.Numbers as Numbers;
 ghost use Rattle.tool_words.specs.Words.{Answers, AreMatches, app_with};
 
@@ -10,16 +11,6 @@ use crate::texts::Texts;
 use clap::{Arg, ArgMatches};
 use papi_base::Text;
 use std::alloc::{AllocError, Global};
-
-// A list of these items, in order.
-pub(crate) fn in_order<T: Drop, const N: usize>(
-    alloc: Global,
-    items: [T; N],
-) -> Result<Vec<T>, AllocError>
-    ensures { IfOk result (λ all. all.items ≡ items) }
-{
-    Ok(Vec::from_array(alloc, items)?)
-}
 
 // The command with these arguments.
 pub(crate) fn command_with<'a>(
@@ -54,6 +45,16 @@ pub(crate) fn text_of<'a>(matches: &ArgMatches<'a>, id: &str) -> Option<&'a str>
     matches.get_str(id)
 }
 
+// Whether the value of a flag is there, and set.
+pub(crate) fn is_set(matches: &ArgMatches<'_>, id: &str) -> bool
+    ensures { result ≡ Arguments.is_set (first_of id.now (rows_of (found_of matches.now))) }
+{
+    match text_of(matches, id) {
+        Some(value) => value == "true",
+        None => false,
+    }
+}
+
 // The number that is an argument's value.
 pub(crate) fn number_of(matches: &ArgMatches<'_>, id: &str) -> Option<u32>
     ensures { result ≡ Numbers.number_of id.now (rows_of (found_of matches.now)) }
@@ -77,9 +78,7 @@ pub(crate) fn text_needed(
 ) -> Result<Text, WordsFault>
     ensures { Answers result (first_of id.now (rows_of (found_of matches.now))) }
 {
-    let Some(text) = text_of(matches, id) else {
-        return Err(WordsFault::BadWords);
-    };
+    let text = text_of(matches, id).ok_or(WordsFault::BadWords)?;
     Ok(Text::copy_of(alloc, text)?)
 }
 
@@ -105,9 +104,7 @@ pub(crate) fn texts_needed(
 ) -> Result<Texts, WordsFault>
     ensures { Answers result (all_of id.now (rows_of (found_of matches.now))) }
 {
-    let Some(texts) = texts_of(matches, id) else {
-        return Err(WordsFault::BadWords);
-    };
+    let texts = texts_of(matches, id).ok_or(WordsFault::BadWords)?;
     Ok(copied(alloc, texts)?)
 }
 

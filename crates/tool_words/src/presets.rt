@@ -1,15 +1,15 @@
 //! The presets that the words of a tool ask for: `-P PRESETS -C CPU`.
 
-ghost use Rattle.std.specs.Prelude.{◌≡◌, codes};
+ghost use Rattle.std.specs.Prelude.{◌≡◌};
 ghost use Rattle.std.specs.List.{list_all};
-ghost use Rattle.clap.specs.Words.{first_of, found_of, rows_of, rule_of};
-ghost use Rattle.tool_words.specs.Presets.{cpu_rule, is_cpu_character, needed_cpu_rule, needed_presets_rule, presets_rule};
+ghost use Rattle.clap.specs.Words.{found_of, rows_of};
+ghost use Rattle.tool_words.specs.Presets.{presets_asked_in, presets_needed_in};
 ghost use Rattle.tool_words.specs.Presets as Presets;
 ghost use Rattle.tool_words.specs.Words.{Answers};
 
 use crate::fault::WordsFault;
 use crate::matches::text_of;
-use clap::{Arg, ArgMatches};
+use clap::ArgMatches;
 use papi_base::Text;
 use std::alloc::Global;
 
@@ -24,52 +24,17 @@ pub struct PresetWords {
     pub cpu: Text,
 }
 
-// ---- the arguments
-
-// `-P PRESETS`.
-#[tactic(auto, unfolding(crate::specs::Presets::presets_rule))]
-pub(crate) fn presets_argument<'a>(alloc: Global) -> Arg<'a>
-    ensures { rule_of result ≡ presets_rule }
+// Whether a byte may stand in a cpu's name.
+fn is_cpu_character(b: u8) -> bool
+    ensures { result ≡ Presets.is_cpu_character b }
 {
-    Arg::new(alloc, "presets").short('P')
+    b' ' <= b && b <= b'~' && b != b','
 }
 
-// `-C CPU`.
-#[tactic(auto, unfolding(crate::specs::Presets::cpu_rule))]
-pub(crate) fn cpu_argument<'a>(alloc: Global) -> Arg<'a>
-    ensures { rule_of result ≡ cpu_rule }
-{
-    Arg::new(alloc, "cpu").short('C')
-}
-
-// `-P PRESETS`, of a tool that needs it.
-#[tactic(auto, unfolding(crate::specs::Presets::needed_presets_rule))]
-pub(crate) fn needed_presets_argument<'a>(alloc: Global) -> Arg<'a>
-    ensures { rule_of result ≡ needed_presets_rule }
-{
-    presets_argument(alloc).required(true)
-}
-
-// `-C CPU`, of a tool that needs it.
-#[tactic(auto, unfolding(crate::specs::Presets::needed_cpu_rule))]
-pub(crate) fn needed_cpu_argument<'a>(alloc: Global) -> Arg<'a>
-    ensures { rule_of result ≡ needed_cpu_rule }
-{
-    cpu_argument(alloc).required(true)
-}
-
-// ---- the values
-
-// Whether each byte may stand in a cpu's name.
 fn are_cpu_characters(bytes: &[u8]) -> bool
-    ensures { result ≡ list_all is_cpu_character bytes.now }
+    ensures { result ≡ list_all Presets.is_cpu_character bytes.now }
 {
-    for b in bytes {
-        if *b < b' ' || *b > b'~' || *b == b',' {
-            return false;
-        }
-    }
-    true
+    bytes.iter().all(|&b| is_cpu_character(b))
 }
 
 // Whether a text is the name of a cpu.
@@ -106,9 +71,7 @@ pub(crate) fn presets_asked(
     alloc: Global,
     matches: &ArgMatches<'_>,
 ) -> Result<Option<PresetWords>, WordsFault>
-    ensures { let rows = rows_of (found_of matches.now) in
-        Answers result (Presets.presets_asked (first_of (codes "presets") rows)
-        (first_of (codes "cpu") rows)) }
+    ensures { Answers result (presets_asked_in (rows_of (found_of matches.now))) }
 {
     match (text_of(matches, "presets"), text_of(matches, "cpu")) {
         (None, None) => Ok(None),
@@ -122,12 +85,7 @@ pub(crate) fn presets_needed(
     alloc: Global,
     matches: &ArgMatches<'_>,
 ) -> Result<PresetWords, WordsFault>
-    ensures { let rows = rows_of (found_of matches.now) in
-        Answers result (Presets.presets_needed (first_of (codes "presets") rows)
-        (first_of (codes "cpu") rows)) }
+    ensures { Answers result (presets_needed_in (rows_of (found_of matches.now))) }
 {
-    match (text_of(matches, "presets"), text_of(matches, "cpu")) {
-        (Some(file), Some(cpu)) => presets_of(alloc, file, cpu),
-        _ => Err(WordsFault::BadWords),
-    }
+    presets_asked(alloc, matches)?.ok_or(WordsFault::BadWords)
 }

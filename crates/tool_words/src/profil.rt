@@ -1,19 +1,21 @@
 //! The words of `papi_profil`:
 //! `-U UNIT -M MAP [-P PRESETS -C CPU] [--thread T] [--set S] [--index I] [--workers N] SCRIPT [STREAM..]`.
 
-ghost use Rattle.tool_words.specs.ProfilForm.{profil_rules, profil_rules-defined, profil_words_in};
+ghost use Rattle.tool_words.specs.ProfilForm.{profil_form};
 
+use crate::argument::Argument::{
+    self, Cpu, Index, Map, Presets, Script, Set, Streams, Thread, Unit, WorkerCount,
+};
 use crate::fault::WordsFault;
-use crate::matches::{in_order, number_of, text_needed};
-use crate::options::{number_argument, option_argument, script_argument, unit_argument};
-use crate::presets::{PresetWords, cpu_argument, presets_argument};
+use crate::matches::{number_of, text_needed};
+use crate::presets::PresetWords;
 use crate::script::script_asked;
-use crate::streams::{StreamNames, streams_argument};
+use crate::streams::StreamNames;
 use crate::tool::ToolWords;
-use crate::workers::{Workers, workers_argument};
-use clap::{Arg, ArgMatches};
+use crate::workers::Workers;
+use clap::ArgMatches;
 use papi_base::{MOST_SET_EVENTS, MOST_SETS, THREADS, Text};
-use std::alloc::{AllocError, Global};
+use std::alloc::Global;
 
 /// The greatest number of a thread whose notes are counted.
 pub const LAST_THREAD: u32 = THREADS - 1;
@@ -41,48 +43,34 @@ pub struct ProfilWords {
 }
 
 impl ToolWords for ProfilWords {
-    ghost rules = { profil_rules };
+    ghost form = { profil_form };
 
-    ghost asked = { profil_words_in };
-
-    ghost defined = { profil_rules-defined };
-
-    #[tactic(auto, unfolding(crate::specs::ProfilForm::profil_rules))]
-    fn arguments<'a>(alloc: Global) -> Result<Vec<Arg<'a>>, AllocError> {
-        in_order(
-            alloc,
-            [
-                unit_argument(alloc),
-                option_argument(alloc, "map", 'M').required(true),
-                presets_argument(alloc),
-                cpu_argument(alloc),
-                number_argument(alloc, "thread", LAST_THREAD),
-                number_argument(alloc, "set", LAST_SET),
-                number_argument(alloc, "index", LAST_INDEX),
-                workers_argument(alloc),
-                script_argument(alloc),
-                streams_argument(alloc),
-            ],
-        )
+    #[tactic(auto, unfolding(crate::specs::ProfilForm::profil_form))]
+    fn arguments() -> &'static [Argument] {
+        &[
+            Unit,
+            Map,
+            Presets,
+            Cpu,
+            Thread,
+            Set,
+            Index,
+            WorkerCount,
+            Script,
+            Streams,
+        ]
     }
 
-    #[tactic(auto, unfolding(crate::specs::ProfilForm::profil_words_in))]
+    #[tactic(auto, unfolding(crate::specs::ProfilForm::profil_form))]
     fn asked_by(alloc: Global, matches: &ArgMatches<'_>) -> Result<ProfilWords, WordsFault> {
-        let thread = number_of(matches, "thread");
-        let set = number_of(matches, "set");
-        let index = number_of(matches, "index");
-        let (Some(thread), Some(set), Some(index)) = (thread, set, index) else {
-            return Err(WordsFault::BadWords);
-        };
-        let map = text_needed(alloc, matches, "map")?;
         let asked = script_asked(alloc, matches)?;
         Ok(ProfilWords {
             unit: asked.unit,
-            map,
+            map: text_needed(alloc, matches, "map")?,
             presets: asked.presets,
-            thread,
-            set,
-            index,
+            thread: number_of(matches, "thread").ok_or(WordsFault::BadWords)?,
+            set: number_of(matches, "set").ok_or(WordsFault::BadWords)?,
+            index: number_of(matches, "index").ok_or(WordsFault::BadWords)?,
             workers: asked.workers,
             script: asked.script,
             streams: asked.streams,

@@ -3,22 +3,24 @@
 
 ghost use Rattle.std.specs.Prelude.{◌≡◌, ◌≤◌, IfOk, codes, length, map, option_and_then};
 ghost use Rattle.std.specs.List.{list_all};
-ghost use Rattle.clap.specs.Words.{first_of, found_of, rows_of, rule_of};
+ghost use Rattle.clap.specs.Words.{first_of, found_of, rows_of};
 ghost use Rattle.tool_words.specs.EventList as EventList;
-ghost use Rattle.tool_words.specs.EventList.{AreEvents, events_among, events_of, is_event_character};
-ghost use Rattle.tool_words.specs.RegionsForm.{event_list_rule, regions_rules, regions_rules-defined, regions_words_in};
+ghost use Rattle.tool_words.specs.EventList.{AreEvents, events_among, events_of};
+ghost use Rattle.tool_words.specs.RegionsForm.{regions_form};
 ghost use Rattle.tool_words.specs.Words.{Answers};
 
+use crate::argument::Argument::{
+    self, Cpu, EventList, Presets, Script, Streams, Unit, WorkerCount,
+};
 use crate::fault::WordsFault;
-use crate::matches::{copied, in_order, text_of};
-use crate::options::{script_argument, unit_argument};
-use crate::presets::{PresetWords, cpu_argument, presets_argument};
+use crate::matches::{copied, text_of};
+use crate::presets::PresetWords;
 use crate::script::script_asked;
-use crate::streams::{StreamNames, streams_argument};
+use crate::streams::StreamNames;
 use crate::texts::Texts;
 use crate::tool::ToolWords;
-use crate::workers::{Workers, workers_argument};
-use clap::{Arg, ArgMatches};
+use crate::workers::Workers;
+use clap::ArgMatches;
 use papi_base::{MOST_SET_EVENTS, Text};
 use std::alloc::{AllocError, Global};
 use std::marker::Model;
@@ -76,27 +78,19 @@ pub struct RegionsWords {
     pub streams: StreamNames,
 }
 
-// ---- the arguments
-
-// `--events LIST`.
-fn event_list_argument<'a>(alloc: Global) -> Arg<'a>
-    ensures { rule_of result ≡ event_list_rule }
-{
-    Arg::new(alloc, "events").long("events").required(true)
-}
-
 // ---- the values
 
-// Whether each byte may stand in an event's text.
-fn are_event_characters(bytes: &[u8]) -> bool
-    ensures { result ≡ list_all is_event_character bytes.now }
+// Whether a byte may stand in an event's text.
+fn is_event_character(b: u8) -> bool
+    ensures { result ≡ EventList.is_event_character b }
 {
-    for b in bytes {
-        if *b < b'!' || *b > b'~' {
-            return false;
-        }
-    }
-    true
+    b'!' <= b && b <= b'~'
+}
+
+fn are_event_characters(bytes: &[u8]) -> bool
+    ensures { result ≡ list_all EventList.is_event_character bytes.now }
+{
+    bytes.iter().all(|&b| is_event_character(b))
 }
 
 fn is_event(text: &str) -> bool
@@ -129,9 +123,7 @@ fn events_asked(alloc: Global, matches: &ArgMatches<'_>) -> Result<EventTexts, W
     ensures { Answers result
         (option_and_then events_of (first_of (codes "events") (rows_of (found_of matches.now)))) }
 {
-    let Some(list) = text_of(matches, "events") else {
-        return Err(WordsFault::BadWords);
-    };
+    let list = text_of(matches, "events").ok_or(WordsFault::BadWords)?;
     let parts = parts_of(alloc, list)?;
     EventTexts::copy_of(alloc, parts.as_slice())
 }
@@ -139,29 +131,14 @@ fn events_asked(alloc: Global, matches: &ArgMatches<'_>) -> Result<EventTexts, W
 // ---- the tool
 
 impl ToolWords for RegionsWords {
-    ghost rules = { regions_rules };
+    ghost form = { regions_form };
 
-    ghost asked = { regions_words_in };
-
-    ghost defined = { regions_rules-defined };
-
-    #[tactic(auto, unfolding(crate::specs::RegionsForm::regions_rules))]
-    fn arguments<'a>(alloc: Global) -> Result<Vec<Arg<'a>>, AllocError> {
-        in_order(
-            alloc,
-            [
-                unit_argument(alloc),
-                presets_argument(alloc),
-                cpu_argument(alloc),
-                event_list_argument(alloc),
-                workers_argument(alloc),
-                script_argument(alloc),
-                streams_argument(alloc),
-            ],
-        )
+    #[tactic(auto, unfolding(crate::specs::RegionsForm::regions_form))]
+    fn arguments() -> &'static [Argument] {
+        &[Unit, Presets, Cpu, EventList, WorkerCount, Script, Streams]
     }
 
-    #[tactic(auto, unfolding(crate::specs::RegionsForm::regions_words_in))]
+    #[tactic(auto, unfolding(crate::specs::RegionsForm::regions_form))]
     fn asked_by(alloc: Global, matches: &ArgMatches<'_>) -> Result<RegionsWords, WordsFault> {
         let events = events_asked(alloc, matches)?;
         let asked = script_asked(alloc, matches)?;

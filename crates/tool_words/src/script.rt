@@ -4,11 +4,12 @@ ghost use Rattle.clap.specs.Words.{found_of, rows_of};
 ghost use Rattle.tool_words.specs.ScriptForm.{script_words_in};
 ghost use Rattle.tool_words.specs.Words.{Answers};
 
+use crate::count::count_asked;
 use crate::fault::WordsFault;
 use crate::matches::text_needed;
 use crate::presets::{PresetWords, presets_asked};
 use crate::streams::{StreamNames, streams_asked};
-use crate::workers::{Workers, workers_asked};
+use crate::workers::Workers;
 use clap::ArgMatches;
 use papi_base::Text;
 use std::alloc::Global;
@@ -32,16 +33,11 @@ pub(crate) fn script_asked(
 ) -> Result<ScriptWords, WordsFault>
     ensures { Answers result (script_words_in (rows_of (found_of matches.now))) }
 {
-    let workers = workers_asked(matches)?;
-    let unit = text_needed(alloc, matches, "unit")?;
-    let script = text_needed(alloc, matches, "script")?;
-    let streams = streams_asked(alloc, matches)?;
-    let presets = presets_asked(alloc, matches)?;
     Ok(ScriptWords {
-        unit,
-        presets,
-        workers,
-        script,
-        streams,
+        unit: text_needed(alloc, matches, "unit")?,
+        presets: presets_asked(alloc, matches)?,
+        workers: count_asked(matches, "workers")?,
+        script: text_needed(alloc, matches, "script")?,
+        streams: streams_asked(alloc, matches)?,
     })
 }

@@ -1,15 +1,15 @@
 //! The streams that the words of a tool name: `STREAM..`, none or more.
 
 ghost use Rattle.std.specs.Prelude.{◌≡◌, ◌≤◌, [], codes, length, map};
-ghost use Rattle.clap.specs.Words.{all_of, found_of, rows_of, rule_of};
-ghost use Rattle.tool_words.specs.Streams.{streams_of, streams_rule};
+ghost use Rattle.clap.specs.Words.{all_of, found_of, rows_of};
+ghost use Rattle.tool_words.specs.Streams.{streams_of};
 ghost use Rattle.tool_words.specs.Streams as Streams;
 ghost use Rattle.tool_words.specs.Words.{Answers};
 
 use crate::fault::WordsFault;
 use crate::matches::{copied, texts_of};
 use crate::texts::Texts;
-use clap::{Arg, ArgAction, ArgMatches};
+use clap::ArgMatches;
 use papi_base::{THREADS, Text};
 use std::alloc::Global;
 use std::marker::Model;
@@ -61,16 +61,6 @@ impl StreamNames {
     {
         self.names.as_slice()
     }
-}
-
-// `STREAM..`.
-#[tactic(auto, unfolding(crate::specs::Streams::streams_rule))]
-pub(crate) fn streams_argument<'a>(alloc: Global) -> Arg<'a>
-    ensures { rule_of result ≡ streams_rule }
-{
-    Arg::new(alloc, "streams")
-        .action(ArgAction::Append)
-        .num_args(0..)
 }
 
 // The streams that are named.
