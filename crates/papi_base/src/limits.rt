@@ -12,6 +12,9 @@ pub const MOST_SET_EVENTS: usize = 32;
 /// How many native events a set has at most, those of its presets and user events among them.
 pub const MOST_SET_NATIVES: usize = 32;
 
+/// How many items a short list has at most: a set's events, or its native events.
+pub const MOST_ITEMS: usize = 32;
+
 /// How many components a unit has at most.
 pub const MOST_COMPONENTS: usize = 16;
 

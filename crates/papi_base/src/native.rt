@@ -1,7 +1,7 @@
 //! Native events, and what a call names an event by.
 
 /// The modifiers of a native event's name: `u`, `k`, `e`, `i`, and `c`, which is 0 if it is absent. Source: libpfm4(3).
-#[derive(Clone, Copy, Debug, PartialEq, Eq, Hash)]
+#[derive(Clone, Copy, Debug, Default, PartialEq, Eq, Hash)]
 pub struct Mods {
     pub user: bool,
     pub kernel: bool,
@@ -14,7 +14,7 @@ pub struct Mods {
 ///
 /// `event` is its row in component `comp`, `masks` the chosen umask rows as bits, `umask` the OR of their values, and
 /// `allowed` the counters that can count it as bits.
-#[derive(Clone, Copy, Debug, PartialEq, Eq, Hash)]
+#[derive(Clone, Copy, Debug, Default, PartialEq, Eq, Hash)]
 pub struct Native {
     pub comp: u32,
     pub event: u32,
@@ -30,4 +30,10 @@ pub struct Native {
 pub enum EventRef {
     Preset(u32),
     Native(Native),
+}
+
+impl Default for EventRef {
+    fn default() -> EventRef {
+        EventRef::Preset(0)
+    }
 }

@@ -141,7 +141,7 @@ fn no_totals(alloc: Global, events: u32, count: usize) -> Result<Vec<RegionTotal
     for _region in 0..count {
         totals.push(RegionTotal {
             instances: 0,
-            values: Values::zeros(events),
+            values: Values::repeated(0, events),
         })?;
     }
     Ok(totals)

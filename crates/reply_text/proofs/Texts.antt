@@ -4,7 +4,7 @@ use Rattle.std.proofs.lemmas.List.{append-nil, drop_all, map-append, take_all, t
 use Rattle.std.proofs.lemmas.List.Concat.{flat_map-append}
 use Rattle.std.proofs.lemmas.List.FromFn.{filter_of_map_range_with_len_more}
 use Rattle.std.proofs.lemmas.Option.{get_or_from_slice_get, slice_get_within}
-use Rattle.std.specs.Prelude.{◌==◌, slice_get, slice_index, zip}
+use Rattle.std.specs.Prelude.{◌==◌, slice_get, zip}
 use Rattle.std.specs.Int.{bit_at}
 use Rattle.std.specs.List.{range_with_len}
 use Rattle.papi_base.proofs.Steps.{drop_at}
@@ -85,11 +85,11 @@ all_before f xs done rest all so_far =
 -- ---- the pairs of two lists
 
 -- the pair at a place of two lists
-pub get-zip : {X : Type 0} (xs : List X) (ns : List ℕ) (i : ℕ) (x : X) → slice_get xs i ≡ Some x → i < length ns → slice_get (zip xs ns) i ≡ Some (x, slice_index ns i)
-get-zip xs [] i x h lt = absurd (omega arith)
-get-zip [] (n ∷ ns) i x h lt = cc h
-get-zip (y ∷ ys) (n ∷ ns) zero x h lt = let e : y ≡ x = cc h in ap (λ z. Some (z, n)) e
-get-zip (y ∷ ys) (n ∷ ns) (suc i) x h lt = get-zip ys ns i x h (omega arith)
+pub get-zip : {X : Type 0} (xs : List X) (ns : List ℕ) (i : ℕ) (x : X) (n : ℕ) → slice_get xs i ≡ Some x → slice_get ns i ≡ Some n → slice_get (zip xs ns) i ≡ Some (x, n)
+get-zip xs [] i x n h k = cc k
+get-zip [] (m ∷ ns) i x n h k = cc h
+get-zip (y ∷ ys) (m ∷ ns) zero x n h k = let e : y ≡ x = cc h in let f : m ≡ n = cc k in ap (λ z. Some (z, m)) e ∙ ap (λ z. Some (x, z)) f
+get-zip (y ∷ ys) (m ∷ ns) (suc i) x n h k = get-zip ys ns i x n h k
 
 length-zip : {X : Type 0} (xs : List X) (ns : List ℕ) → (length (zip xs ns) ≤ length xs) × (length (zip xs ns) ≤ length ns)
 length-zip [] ns = (omega arith, omega arith)

@@ -48,7 +48,7 @@ impl Slot {
     {
         let natives = self.set.natives().len();
         self.counting = Counting::Stopped {
-            kept: Counts::zeros(natives),
+            kept: Counts::repeated(0, natives),
         };
     }
 
@@ -60,7 +60,7 @@ impl Slot {
         } }
     {
         let events = self.set.events().len();
-        self.values = Values::zeros(events);
+        self.values = Values::repeated(0, events);
         self.recount();
     }
 

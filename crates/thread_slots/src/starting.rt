@@ -127,7 +127,7 @@ impl Slot {
         } }
     {
         let natives = self.set.natives();
-        let kept = Counts::zeros(natives.len());
+        let kept = Counts::repeated(0, natives.len());
         let rotation = Rotation::make(natives, counters, slice);
         self.counting = Counting::InTurns {
             rotation,

@@ -29,11 +29,11 @@ impl Slot {
     {
         let natives = self.set.natives().len();
         match &mut self.counting {
-            Counting::Stopped { kept } => *kept = Counts::zeros(natives),
+            Counting::Stopped { kept } => *kept = Counts::repeated(0, natives),
             Counting::OnUnit { pins, .. } => zero_registers(units, &self.set, pins),
             Counting::InTurns { begun, kept, .. } => {
                 *begun = now;
-                *kept = Counts::zeros(natives);
+                *kept = Counts::repeated(0, natives);
             }
         }
     }

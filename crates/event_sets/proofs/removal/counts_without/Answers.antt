@@ -1,5 +1,4 @@
-use Rattle.std.proofs.Common.{◌≡◌, ◌<◌, ◌∷◌, [], length, take, ap, sym, ◌∙◌, arith, slice_get, Some, length-append, length-take-le}
-use Rattle.papi_base.proofs.InPlace.{number_at}
+use Rattle.std.proofs.Common.{◌≡◌, ◌<◌, ◌∷◌, [], length, take, arith, length-append, length-take-le}
 use Rattle.event_sets.proofs.Removed.{goes_at, stays_at}
 use Rattle.papi_base.proofs.Steps.{get_at}
 use Rattle.event_sets.proofs.removal.counts_without.Goals as goal
@@ -13,10 +12,9 @@ loop-i-preserved c =
     let count : length (take i xs) ≡ i = length-take-le i xs (omega (arith, below)) in
     elim c.if-i-place.branch [
       | then-i-place w ↦
-          let item : slice_get xs i ≡ Some w.at.result = number_at xs i below ∙ ap Some (sym w.at.ensures.item) in
           rw (w.left-is, w.push.ensures.pushed) record {
             few = omega (arith, length-append c.loop-i.left (w.at.result ∷ []), c.loop-i.invariant.few);
-            so_far = stays_at xs c.loop-i.left c.args.place i w.at.result item count w.if-i-place.true c.loop-i.invariant.so_far;
+            so_far = stays_at xs c.loop-i.left c.args.place i w.at.result w.at.ensures.item count w.if-i-place.true c.loop-i.invariant.so_far;
           }
       | else-i-place w ↦
           let at = get_at xs i below in

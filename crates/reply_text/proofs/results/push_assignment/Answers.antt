@@ -1,4 +1,4 @@
-use Rattle.std.proofs.Common.{◌∙◌, ◌<◌, ◌++◌, ◌∷◌, ap, arith, length}
+use Rattle.std.proofs.Common.{◌∙◌, ◌++◌, ◌∷◌, ap, arith}
 use Rattle.std.specs.Prelude.{string_bytes, zip}
 use Rattle.reply_text.specs.Replies.{assigned_text}
 use Rattle.reply_text.proofs.Texts.{get-zip, item_pushed, items_pushed, pushed_none, zip_within}
@@ -11,9 +11,8 @@ pub loop-i-preserved : goal.loop-i-preserved
 loop-i-preserved c =
     let natives = c.args.assigned.now.natives in
     let counters = c.args.assigned.now.counters in
-    let within : c.loop-i.i < length counters = omega (arith, c.loop-i-test.true, c.min-i-end.ensures, c.len.ensures.length, c.len-2.ensures.length) in
-    item_pushed (assigned_text c.args.catalog.now) (zip natives counters) c.loop-i.i _ _ _ _ (get-zip natives counters c.loop-i.i c.at-native.result c.at-native.ensures.item within) c.loop-i.invariant
-    (c.in_ok-push_assigned.ensures ∙ ap (λ k. string_bytes c.loop-i.text ++ 32 ∷ assigned_text c.args.catalog.now (c.at-native.result, k)) (c.from-counter.ensures ∙ c.at.ensures.item))
+    item_pushed (assigned_text c.args.catalog.now) (zip natives counters) c.loop-i.i _ _ _ _ (get-zip natives counters c.loop-i.i c.at-native.result c.at.result c.at-native.ensures.item c.at.ensures.item) c.loop-i.invariant
+    (c.in_ok-push_assigned.ensures ∙ ap (λ k. string_bytes c.loop-i.text ++ 32 ∷ assigned_text c.args.catalog.now (c.at-native.result, k)) c.from-counter.ensures)
 
 pub returns : goal.returns
 returns c = items_pushed (assigned_text c.args.catalog.now) _ c.loop-i.i _ _

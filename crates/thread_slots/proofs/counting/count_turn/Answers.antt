@@ -1,4 +1,4 @@
-use Rattle.thread_slots.proofs.Words.{◌≡◌, ◌+◌, ◌≤◌, ℕ, List, length, refl, ap, ◌∙◌, arith, option_copied, get_or, with_turn, slice_get, slice_get_within, Some, Native}
+use Rattle.thread_slots.proofs.Words.{◌≡◌, ◌+◌, ◌≤◌, ℕ, List, length, refl, ap, sym, ◌∙◌, arith, option_copied, get_or, get_or_from_slice_get, with_turn, slice_get, slice_get_within, Some, Native}
 use Rattle.std.proofs.Common.{◌<◌, ◌-◌}
 use Rattle.std.proofs.lemmas.Grind.{common_steps, elements}
 use Rattle.std.proofs.lemmas.List.{take_all, drop_all, append-nil, length-set}
@@ -31,7 +31,7 @@ pub overflow_add-count : goal.overflow_add-count
 overflow_add-count c =
     let read = c.loop-i.invariant.rest c.loop-i.i (omega arith) in
     let room = c.requires.room c.loop-i.i 0 (omega arith) in
-    let count = c.at-count.ensures.item in
+    let count = get_or_from_slice_get c.loop-i.counts c.loop-i.i c.at-count.result 0 c.at-count.ensures.item in
     grind (arith, common_steps)
 
 pub loop-i-preserved : goal.loop-i-preserved
@@ -42,7 +42,7 @@ loop-i-preserved c =
     record {
       long = ap length c.put.ensures.put ∙ length-set c.loop-i.counts i value ∙ c.loop-i.invariant.long;
       rest = λ k from. ap (λ (xs : List ℕ). get_or xs k 0) c.put.ensures.put ∙ grind (arith, elements, common_steps, c.loop-i.invariant.rest k (omega arith));
-      done = λ numbers group e span. c.put.ensures.put ∙ rw (c.at-count.ensures.item, c.from.ensures, c.weight-w.ensures.weight)
+      done = λ numbers group e span. c.put.ensures.put ∙ rw (sym (get_or_from_slice_get c.loop-i.counts i c.at-count.result 0 c.at-count.ensures.item), c.from.ensures, c.weight-w.ensures.weight)
           (turn_put c.args.domain (option_copied c.args.before) c.args.o.now group c.args.natives.now numbers c.args.counts.now c.loop-i.counts i c.at.result e c.requires.same_length c.at.ensures.item (omega arith)
           (span.own i (omega arith) (omega arith)) (c.loop-i.invariant.done numbers group e span));
     }

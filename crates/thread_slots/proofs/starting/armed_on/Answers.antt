@@ -1,4 +1,5 @@
 use Rattle.std.proofs.Common.{ℕ, ◌<◌, ap, sym, subst, ◌∙◌, arith, Some, None, slice_get, length, get_or}
+use Rattle.std.proofs.lemmas.Option.{get_or_from_slice_get}
 use Rattle.papi_base.proofs.InPlace.{in_place_put, in_place_skip, number_at}
 use Rattle.thread_slots.specs.Pinned.{place_of_lead}
 use Rattle.thread_slots.proofs.Beginning.{all_armed, armed-none, armed-some, armed_whole, at_threshold, length-all_armed, none_armed, none_at}
@@ -13,7 +14,7 @@ at-requires-then-threshold-ne0 c =
     let count = ap length c.events-events.ensures.events in
     let t = at_threshold s.rest.events s.rest.thresholds c.loop-i.i c.threshold.result c.requires.one_each (omega (arith, c.len-i-end.ensures.length)) c.threshold.ensures c.if-threshold-ne0.true in
     let place = c.lead_place-place.ensures ∙ ap (λ ns. place_of_lead c.args.book.now ns c.at.result) c.natives.ensures.natives in
-    record { place = subst (λ (k : ℕ). k < length c.args.counters.now) (sym place) (c.requires.exist c.loop-i.i t.0 c.at.result e t.1) }
+    (omega arith, subst (λ (k : ℕ). k < length c.args.counters.now) (sym place) (c.requires.exist c.loop-i.i t.0 c.at.result e t.1))
 
 pub arm-requires-clause-counter : goal.arm-requires-clause-counter
 arm-requires-clause-counter c =
@@ -22,7 +23,7 @@ arm-requires-clause-counter c =
     let count = ap length c.events-events.ensures.events in
     let t = at_threshold s.rest.events s.rest.thresholds c.loop-i.i c.threshold.result c.requires.one_each (omega (arith, c.len-i-end.ensures.length)) c.threshold.ensures c.if-threshold-ne0.true in
     let place = c.lead_place-place.ensures ∙ ap (λ ns. place_of_lead c.args.book.now ns c.at.result) c.natives.ensures.natives in
-    let reads = c.from.ensures ∙ c.at-then-threshold-ne0.ensures.item ∙ ap (λ (k : ℕ). get_or c.args.counters.now k 0) place in
+    let reads = c.from.ensures ∙ sym (get_or_from_slice_get c.args.counters.now c.lead_place-place.result c.at-then-threshold-ne0.result 0 c.at-then-threshold-ne0.ensures.item) ∙ ap (λ (k : ℕ). get_or c.args.counters.now k 0) place in
     subst (λ (k : ℕ). k < 32) (sym reads) (c.requires.small c.loop-i.i t.0 c.at.result e t.1)
 
 pub loop-i-preserved : goal.loop-i-preserved
@@ -43,7 +44,7 @@ loop-i-preserved c =
       | then-threshold-ne0 w ↦
           let e = sym (ap (λ es. slice_get es c.loop-i.i) same) ∙ w.at.ensures.item in
           let place = w.lead_place-place.ensures ∙ ap (λ ns. place_of_lead book ns w.at.result) w.natives.ensures.natives in
-          let reads = w.from.ensures ∙ w.at-then-threshold-ne0.ensures.item ∙ ap (λ (j : ℕ). get_or cs j 0) place in
+          let reads = w.from.ensures ∙ sym (get_or_from_slice_get cs w.lead_place-place.result w.at-then-threshold-ne0.result 0 w.at-then-threshold-ne0.ensures.item) ∙ ap (λ (j : ℕ). get_or cs j 0) place in
           let at = armed-some book s.natives cs s.rest.events s.rest.thresholds c.loop-i.i c.threshold.result w.at.result e t w.if-threshold-ne0.true in
           rw (w.armed-is, w.arm.ensures, reads) (in_place_put all none_armed c.loop-i.armed c.loop-i.i _ long below c.loop-i.invariant at)
       | else-threshold-ne0 w ↦
