@@ -1,6 +1,7 @@
 -- What is drawn, and what a source that draws it has left.
-use Rattle.std.proofs.Common.{◌≡◌, ◌∙◌, ◌<◌, ◌≤◌, ◌+◌, ◌-◌, ◌*◌, ◌/◌, ◌%◌, ◌∷◌, ◌++◌, ℕ, zero, suc, false, [], Ok, length, take, drop, refl, sym, ap, ap₂, arith, append_assoc, length-append}
+use Rattle.std.proofs.Common.{◌≡◌, ◌∙◌, ◌<◌, ◌≤◌, ◌+◌, ◌-◌, ◌*◌, ◌/◌, ◌%◌, ◌∷◌, ◌++◌, ℕ, zero, suc, false, [], Ok, length, take, drop, sym, ap, ap₂, arith, append_assoc, length-append}
 use Rattle.std.proofs.Math.Nat.{mod-add-mod}
+use Rattle.std.proofs.Math.Seq.{take-append-add, take-append_seam}
 use Rattle.std.proofs.lemmas.List.{drop-drop, drop_all, length-take-le, take-append-drop, take-append-le}
 use Rattle.std.specs.Fmt.{digit_glyph}
 use Rattle.papi_base.specs.Outside.{Gives}
@@ -49,11 +50,6 @@ line_drawn line line' given (suc left) number number' o whole some is next text 
     ∙ ap₂ (λ (t : Text) x. t ++ lines_text (occurrences_after left x)) (text ∙ ap line_text is) next
     ∙ ap (λ (t : Text). t ++ lines_text (occurrences_after (suc left) number)) (sym none)
 
-take_front : (xs ys : Text) (n : ℕ) → length xs ≡ n → take n (xs ++ ys) ≡ xs
-take_front [] ys n e = let z : n ≡ 0 = omega (arith, e) in rw z refl
-take_front (x ∷ xs) ys zero e = absurd (omega arith)
-take_front (x ∷ xs) ys (suc n) e = ap (λ (zs : Text). x ∷ zs) (take_front xs ys n (omega (arith, e)))
-
 -- some bytes of a line are given
 pub front_given : (line room more : Text) (given n : ℕ) → take n room ≡ take n (drop given line) → drop given line ++ more ≡ take n room ++ (drop (given + n) line ++ more)
 front_given line room more given n is =
@@ -61,18 +57,13 @@ front_given line room more given n is =
     ap (λ (t : Text). t ++ more) (sym (take-append-drop n rest)) ∙ append_assoc (take n rest) (drop n rest) more
     ∙ ap₂ (λ (front : Text) (end : Text). front ++ (end ++ more)) (sym is) (drop-drop n given line)
 
-take_past : (xs ys : Text) (m n : ℕ) → length xs ≡ m → take (m + n) (xs ++ ys) ≡ xs ++ take n ys
-take_past [] ys m n e = let z : m + n ≡ n = omega (arith, e) in rw z refl
-take_past (x ∷ xs) ys zero n e = absurd (omega arith)
-take_past (x ∷ xs) ys (suc m) n e = let s : suc m + n ≡ suc (m + n) = omega arith in rw s (ap (λ (zs : Text). x ∷ zs) (take_past xs ys m n (omega (arith, e))))
-
 -- a buffer is filled further
 pub filled_more : (all buf middle room back rest : Text) (filled n : ℕ) → filled ≤ length buf → n ≤ length room → all ≡ take filled buf ++ middle → middle ≡ take n room ++ rest →
     all ≡ take (filled + n) (take filled buf ++ (room ++ back)) ++ rest
 filled_more all buf middle room back rest filled n small some so_far more =
     so_far ∙ ap (λ (t : Text). take filled buf ++ t) more ∙ sym (append_assoc (take filled buf) (take n room) rest)
     ∙ ap (λ (t : Text). take filled buf ++ t ++ rest) (sym (take-append-le n room back some))
-    ∙ ap (λ (t : Text). t ++ rest) (sym (take_past (take filled buf) (room ++ back) filled n (length-take-le filled buf small)))
+    ∙ ap (λ (t : Text). t ++ rest) (sym (take-append-add (take filled buf) (room ++ back) n) ∙ ap (λ k. take (k + n) (take filled buf ++ (room ++ back))) (length-take-le filled buf small))
 
 nothing_in : (buf rest : Text) (n : ℕ) → n ≤ length buf → take n buf ++ rest ≡ [] → n ≡ 0
 nothing_in buf rest n small e = let long : length (take n buf ++ rest) ≡ 0 = ap length e in omega (arith, length-append (take n buf) rest, length-take-le n buf small, long)
@@ -86,7 +77,7 @@ pub filled_gives : (all buf rest : Text) (n : ℕ) → n ≤ length buf → all 
 filled_gives all buf rest n small is end =
     let long : length all ≡ n + length rest = ap length is ∙ length-append (take n buf) rest ∙ ap (λ k. k + length rest) (length-take-le n buf small) in
     record {
-      bytes = (omega (arith, long), sym (ap (take n) is ∙ take_front (take n buf) rest n (length-take-le n buf small)));
+      bytes = (omega (arith, long), sym (ap (take n) is ∙ ap (λ k. take k (take n buf ++ rest)) (sym (length-take-le n buf small)) ∙ take-append_seam (take n buf) rest));
       some = λ some room. some_of all buf rest n is end some room;
       none = λ none. ap Ok (nothing_in buf rest n small (sym is ∙ none));
     }

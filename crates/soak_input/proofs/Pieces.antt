@@ -1,9 +1,8 @@
 -- Texts that grow at their end, piece by piece.
-use Rattle.std.proofs.Common.{◌≡◌, ◌∙◌, ◌<◌, ◌≤◌, ◌+◌, ◌∷◌, ◌++◌, ℕ, ℤ, suc, List, [], Result, Ok, Err, OnOk, length, take, sym, ap, arith, add-zero, append_assoc, get_or}
+use Rattle.std.proofs.Common.{◌≡◌, ◌∙◌, ◌<◌, ◌≤◌, ◌+◌, ◌∷◌, ◌++◌, ℕ, ℤ, suc, List, [], length, take, sym, ap, arith, add-zero, append_assoc, get_or}
 use Rattle.std.proofs.lemmas.List.{append-nil, length-take-le, take_all, take_more}
 use Rattle.std.specs.Fmt.{signed_decimal}
 use Rattle.std.specs.Prelude.{codes, decimal}
-use Rattle.std.specs.List.{flat_map}
 use Rattle.papi_base.proofs.Growing.{both}
 use Rattle.soak_input.specs.Streams.{Text}
 use Rattle.soak_input.specs.Summary.{sum_of, summary_text, thread_line, thread_lines}
@@ -12,22 +11,6 @@ use Rattle.soak_input.specs.declared.summary.ThreadTotal.{ThreadTotal}
 -- three pieces, from nothing on
 pub three : (start a b after u v w : Text) → start ≡ [] → a ≡ start ++ u → b ≡ a ++ v → after ≡ b ++ w → after ≡ u ++ (v ++ w)
 three start a b after u v w none p q r = both start a after u (v ++ w) p (both a b after v w q r) ∙ ap (λ (t : Text). t ++ (u ++ (v ++ w))) none
-
--- six pieces, of which the last is appended if memory is there
-pub six : {T E : Type 0} (answer : Result T E) (start a b c d e f u v w x y z : Text) → a ≡ start ++ u → b ≡ a ++ v → c ≡ b ++ w → d ≡ c ++ x → e ≡ d ++ y → OnOk answer (f ≡ e ++ z) →
-    OnOk answer (f ≡ start ++ (u ++ (v ++ (w ++ (x ++ (y ++ z))))))
-six (Ok value) start a b c d e f u v w x y z p q r s t last =
-    both start a f u (v ++ (w ++ (x ++ (y ++ z)))) p
-    (both a b f v (w ++ (x ++ (y ++ z))) q (both b c f w (x ++ (y ++ z)) r (both c d f x (y ++ z) s (both d e f y z t last))))
-six (Err error) start a b c d e f u v w x y z p q r s t last = tt
-
--- nothing yet
-pub none : (start : Text) → start ≡ start ++ []
-none start = sym (append-nil start)
-
--- the texts of all items
-pub items_all : {X : Type 0} (f : X → Text) (xs : List X) (i : ℕ) (start after : Text) → length xs ≤ i → after ≡ start ++ flat_map f (take i xs) → after ≡ start ++ flat_map f xs
-items_all f xs i start after all so_far = so_far ∙ ap (λ ys. start ++ flat_map f ys) (take_all i xs all)
 
 thread_lines-push : (thread : ℕ) (xs : List ThreadTotal) (x : ThreadTotal) → thread_lines thread (xs ++ x ∷ []) ≡ thread_lines thread xs ++ thread_line (thread + length xs) x
 unfolding thread_lines

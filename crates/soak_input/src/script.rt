@@ -1,6 +1,6 @@
 //! The script.
-ghost use Rattle.std.specs.Prelude.{◌≡◌, ◌++◌, IfOk, OnOk, string_bytes};
-ghost use Rattle.soak_input.specs.Script.{by_thread, call_line, opening_lines, round_lines, rounds_lines, script_text, stop_line};
+ghost use Rattle.std.specs.Prelude.{◌≡◌, ◌++◌, IfOk, OnOk, map, string_bytes};
+ghost use Rattle.soak_input.specs.Script.{by_thread, call_line, call_lines, rounds_lines, script_text};
 
 use crate::limits::SOAK_THREADS;
 use std::alloc::{AllocError, Global};
@@ -13,51 +13,36 @@ fn push_call(text: &mut String, thread: u32, call: &str) -> Result<(), AllocErro
     writeln!(text, "{thread} {call}")
 }
 
-fn push_opening(text: &mut String, thread: u32) -> Result<(), AllocError>
-    ensures { OnOk result (string_bytes text.new ≡ string_bytes text.old ++ opening_lines thread) }
-{
-    push_call(text, thread, "create")?;
-    push_call(text, thread, "add 0 INST_RETIRED")?;
-    push_call(text, thread, "add 0 CYCLES")?;
-    push_call(text, thread, "add 0 BR_INST")?;
-    push_call(text, thread, "overflow 0 INST_RETIRED 1000")?;
-    push_call(text, thread, "start 0")
-}
-
-fn push_openings(text: &mut String) -> Result<(), AllocError>
+// Appends these calls of a thread.
+fn push_calls(text: &mut String, thread: u32, calls: &[&str]) -> Result<(), AllocError>
     ensures { OnOk result (string_bytes text.new
-        ≡ string_bytes text.old ++ by_thread opening_lines) }
+        ≡ string_bytes text.old ++ call_lines (map (λ s. s.now) calls.now) thread) }
 {
-    for thread in 0..SOAK_THREADS {
-        push_opening(text, thread)?;
+    for call in calls {
+        push_call(text, thread, *call)?;
     }
     Ok(())
 }
 
-fn push_round(text: &mut String) -> Result<(), AllocError>
-    ensures { OnOk result (string_bytes text.new ≡ string_bytes text.old ++ by_thread round_lines) }
+// Appends these calls of each thread.
+#[tactic(auto, unfolding(crate::specs::Script::by_thread))]
+fn push_by_thread(text: &mut String, calls: &[&str]) -> Result<(), AllocError>
+    ensures { OnOk result (string_bytes text.new
+        ≡ string_bytes text.old ++ by_thread (map (λ s. s.now) calls.now)) }
 {
     for thread in 0..SOAK_THREADS {
-        push_call(text, thread, "run 100")?;
-        push_call(text, thread, "read 0")?;
+        push_calls(text, thread, calls)?;
     }
     Ok(())
 }
 
+// Appends the lines of n rounds.
+#[tactic(auto, unfolding(crate::specs::Script::rounds_lines))]
 fn push_rounds(text: &mut String, rounds: u32) -> Result<(), AllocError>
     ensures { OnOk result (string_bytes text.new ≡ string_bytes text.old ++ rounds_lines rounds) }
 {
     for _round in 0..rounds {
-        push_round(text)?;
-    }
-    Ok(())
-}
-
-fn push_stops(text: &mut String) -> Result<(), AllocError>
-    ensures { OnOk result (string_bytes text.new ≡ string_bytes text.old ++ by_thread stop_line) }
-{
-    for thread in 0..SOAK_THREADS {
-        push_call(text, thread, "stop 0")?;
+        push_by_thread(text, &["run 100", "read 0"])?;
     }
     Ok(())
 }
@@ -68,8 +53,16 @@ pub fn script_text(alloc: Global, rounds: u32) -> Result<String, AllocError>
     ensures { IfOk result (λ text. string_bytes text ≡ script_text rounds) }
 {
     let mut text = String::new(alloc);
-    push_openings(&mut text)?;
+    let opening = [
+        "create",
+        "add 0 INST_RETIRED",
+        "add 0 CYCLES",
+        "add 0 BR_INST",
+        "overflow 0 INST_RETIRED 1000",
+        "start 0",
+    ];
+    push_by_thread(&mut text, &opening)?;
     push_rounds(&mut text, rounds)?;
-    push_stops(&mut text)?;
+    push_by_thread(&mut text, &["stop 0"])?;
     Ok(text)
 }

@@ -1,8 +1,8 @@
 use Rattle.std.proofs.Common.{◌≡◌, ◌++◌}
 use Rattle.std.specs.Prelude.{string_bytes}
 use Rattle.std.specs.List.{flat_map, range_with_len}
-use Rattle.soak_input.specs.Script.{by_thread, round_lines}
+use Rattle.soak_input.specs.Script.{by_thread, round}
 use Rattle.soak_input.proofs.script.push_rounds.Given as goal
 
 abbrev pub invariant-loop-round : goal.invariant-loop-round
-invariant-loop-round l = string_bytes l.text ≡ string_bytes l.initial.text ++ flat_map (λ round. by_thread round_lines) (range_with_len 0 l._round)
+invariant-loop-round l = string_bytes l.text ≡ string_bytes l.initial.text ++ flat_map (λ _. by_thread round) (range_with_len 0 l._round)

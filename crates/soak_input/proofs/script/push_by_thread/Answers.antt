@@ -1,0 +1,8 @@
+use Rattle.std.proofs.Common.{map}
+use Rattle.papi_base.proofs.Growing.{number_more}
+use Rattle.soak_input.specs.Script.{call_lines}
+use Rattle.soak_input.proofs.script.push_by_thread.Goals as goal
+
+pub loop-thread-preserved : goal.loop-thread-preserved
+loop-thread-preserved c =
+    number_more (call_lines (map (λ s. s.now) c.args.calls.now)) _ _ _ c.loop-thread.thread c.loop-thread.invariant c.in_ok-push_calls.ensures
