@@ -1,4 +1,5 @@
 pub mod Texts
+pub mod Splits
 pub mod Trimming
 pub mod Numerals
 pub mod PlainFields

@@ -2,7 +2,7 @@
 use Rattle.std.proofs.Common.{◌≡◌, ◌+◌, ◌==◌, ◌∷◌, ◌++◌, ℕ, zero, suc, Bool, true, false, List, [], Option, Some, None, length, refl, subst}
 use Rattle.std.specs.Prelude.{⊤, if◌then◌else◌}
 use Rattle.std.specs.List.{AllByRecursion}
-use Rattle.std.proofs.lemmas.Bool.{or_parts}
+use Rattle.std.proofs.lemmas.Bool.{cond_both, or_parts}
 use Rattle.csv.specs.Machine.{Read, after_end, ends_at_end, ends_with, field_after, fields_after, in_field, is_byte, is_end, next_record, start_record, step}
 use Rattle.csv.specs.Reading.{records_from, records_next, strip_bom}
 use Rattle.csv.specs.declared.parser.Action.{Action}
@@ -10,55 +10,39 @@ use Rattle.csv.specs.declared.parser.Action.TheVariants as act
 use Rattle.csv.specs.declared.parser.State.{State}
 use Rattle.csv.specs.declared.parser.State.TheVariants as st
 use Rattle.table_rows.specs.Rows.{IsInner, IsPlainField, IsReadRow, rows_of, table_config}
-use Rattle.table_rows.proofs.Texts.{all-append}
+use Rattle.table_rows.proofs.Texts.{all-append, given}
 
 -- the states that a reader with no quotes has
 abbrev IsOpen : State → Type 0
-IsOpen st.StartRecord = ⊤
-IsOpen st.StartField = ⊤
-IsOpen st.InField = ⊤
 IsOpen st.InQuoted = ⊥
 IsOpen st.AfterQuote = ⊥
 IsOpen st.InEscape = ⊥
-IsOpen st.InComment = ⊤
-IsOpen st.AfterCr = ⊤
+IsOpen s = ⊤
 
 record Fine (c : ℕ) (p : State × Action) : Type 0 where
   open_after : IsOpen p.0
   copies : p.1 ≡ act.Copy → IsInner c
 
-fine-if : (c : ℕ) (b : Bool) (x y : State × Action) → Fine c x → (b ≡ false → Fine c y) → Fine c (if b then x else y)
-fine-if c true x y f g = f
-fine-if c false x y f g = g refl
-
 after-open : (c : ℕ) → IsOpen (after_end table_config.terminator c)
-after-open c = go (c == 13)
-  where
-    go : (b : Bool) → IsOpen (if b then st.AfterCr else st.StartRecord)
-    go true = tt
-    go false = tt
+after-open c = cond_both (c == 13) st.AfterCr st.StartRecord IsOpen (λ b. tt) (λ b. tt)
 
 in_field-fine : (c : ℕ) → Fine c (in_field table_config c)
 in_field-fine c =
-    fine-if c (c == 44) (st.StartField, act.EndField) (if ends_with table_config.terminator c then (after_end table_config.terminator c, act.EndRecord) else (st.InField, act.Copy))
-    (record { open_after = tt; copies = λ e. cc e })
-    (λ no_comma. fine-if c (ends_with table_config.terminator c) (after_end table_config.terminator c, act.EndRecord) (st.InField, act.Copy)
-    (record { open_after = after-open c; copies = λ e. cc e })
+    cond_both (c == 44) (st.StartField, act.EndField) _ (Fine c) (λ b. record { open_after = tt; copies = λ e. cc e })
+    (λ no_comma. cond_both (ends_with table_config.terminator c) (after_end table_config.terminator c, act.EndRecord) (st.InField, act.Copy) (Fine c) (λ b. record { open_after = after-open c; copies = λ e. cc e })
     (λ stays. record { open_after = tt; copies = λ e. let ends = or_parts (c == 13) (c == 10) stays in (no_comma, ends.0, ends.1) }))
 
 start-fine : (c : ℕ) → Fine c (start_record table_config c)
 start-fine c =
-    fine-if c (ends_with table_config.terminator c) (st.StartRecord, act.Skip) (if is_byte table_config.comment c then (st.InComment, act.Skip) else in_field table_config c)
-    (record { open_after = tt; copies = λ e. cc e })
-    (λ stays. fine-if c (is_byte table_config.comment c) (st.InComment, act.Skip) (in_field table_config c) (record { open_after = tt; copies = λ e. cc e }) (λ no_mark. in_field-fine c))
+    cond_both (ends_with table_config.terminator c) (st.StartRecord, act.Skip) _ (Fine c) (λ b. record { open_after = tt; copies = λ e. cc e })
+    (λ stays. cond_both (is_byte table_config.comment c) (st.InComment, act.Skip) (in_field table_config c) (Fine c) (λ b. record { open_after = tt; copies = λ e. cc e }) (λ no_mark. in_field-fine c))
 
 step-fine : (s : State) (c : ℕ) → IsOpen s → Fine c (step table_config s c)
 step-fine st.StartRecord c o = start-fine c
 step-fine st.StartField c o = in_field-fine c
 step-fine st.InField c o = in_field-fine c
-step-fine st.InComment c o = fine-if c (c == 10) (st.StartRecord, act.Skip) (st.InComment, act.Skip) (record { open_after = tt; copies = λ e. cc e })
-    (λ n. record { open_after = tt; copies = λ e. cc e })
-step-fine st.AfterCr c o = fine-if c (c == 10) (st.StartRecord, act.Skip) (start_record table_config c) (record { open_after = tt; copies = λ e. cc e }) (λ n. start-fine c)
+step-fine st.InComment c o = cond_both (c == 10) (st.StartRecord, act.Skip) (st.InComment, act.Skip) (Fine c) (λ b. record { open_after = tt; copies = λ e. cc e }) (λ b. record { open_after = tt; copies = λ e. cc e })
+step-fine st.AfterCr c o = cond_both (c == 10) (st.StartRecord, act.Skip) (start_record table_config c) (Fine c) (λ b. record { open_after = tt; copies = λ e. cc e }) (λ b. start-fine c)
 step-fine s c o = absurd o
 
 fields-fine : (a : Action) (fields : List (List ℕ)) (field : List ℕ) → AllByRecursion IsPlainField fields → IsPlainField field → AllByRecursion IsPlainField (fields_after a fields field)
@@ -77,25 +61,13 @@ IsRead q = AllByRecursion IsPlainField q.0 × IsOpen q.1
 next-fine : (s : State) (fields : List (List ℕ)) (field xs : List ℕ) (q : Read) → IsOpen s → AllByRecursion IsPlainField fields → IsPlainField field
     → next_record table_config s fields field xs ≡ Some q → IsRead q
 unfolding next_record
-next-fine s fields field [] q o h k e = go (ends_at_end s) e
-  where
-    go : (b : Bool) → (if b then Some (fields ++ (field ∷ []), st.StartRecord, []) else None) ≡ Some q → IsRead q
-    go true e = let is : (fields ++ (field ∷ []), st.StartRecord, []) ≡ q = cc e in subst IsRead is (all-append IsPlainField fields (field ∷ []) h (k, tt), tt)
-    go false e = cc e
+next-fine s fields field [] q o h k e = given IsRead (ends_at_end s) (fields ++ (field ∷ []), st.StartRecord, []) None e (λ b. (all-append IsPlainField fields (field ∷ []) h (k, tt), tt)) (λ n. cc n)
 next-fine s fields field (c ∷ rest) q o h k e =
-    go (is_end (step table_config s c).1) e
-    (next-fine (step table_config s c).0 (fields_after (step table_config s c).1 fields field) (field_after (step table_config s c).1 c field) rest q
-    (step-fine s c o).open_after (fields-fine (step table_config s c).1 fields field h k) (field-fine (step table_config s c).1 c field (step-fine s c o).copies k))
-  where
-    go : (b : Bool)
-        → (if b then Some (fields_after (step table_config s c).1 fields field, (step table_config s c).0, rest)
-        else next_record table_config (step table_config s c).0 (fields_after (step table_config s c).1 fields field) (field_after (step table_config s c).1 c field) rest) ≡ Some q
-        → (next_record table_config (step table_config s c).0 (fields_after (step table_config s c).1 fields field) (field_after (step table_config s c).1 c field) rest ≡ Some q → IsRead q)
-        → IsRead q
-    go true e more =
-        let is : (fields_after (step table_config s c).1 fields field, (step table_config s c).0, rest) ≡ q = cc e in
-        subst IsRead is (fields-fine (step table_config s c).1 fields field h k, (step-fine s c o).open_after)
-    go false e more = more e
+    let fine = step-fine s c o in
+    let fs = fields_after (step table_config s c).1 fields field in
+    let more : AllByRecursion IsPlainField fs = fields-fine (step table_config s c).1 fields field h k in
+    given IsRead (is_end (step table_config s c).1) (fs, (step table_config s c).0, rest) (next_record table_config (step table_config s c).0 fs (field_after (step table_config s c).1 c field) rest) e
+    (λ b. (more, fine.open_after)) (next-fine (step table_config s c).0 fs _ rest q fine.open_after more (field-fine (step table_config s c).1 c field fine.copies k))
 
 rows-fine : (n : ℕ) (s : State) (xs : List ℕ) → IsOpen s → AllByRecursion (AllByRecursion IsPlainField) (records_from table_config n s xs)
 unfolding records_from

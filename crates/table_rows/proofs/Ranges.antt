@@ -8,26 +8,21 @@ use Rattle.std.specs.List.{list_all}
 use Rattle.std.specs.Str.Parse.{digits_value}
 use Rattle.table_rows.specs.Texts.{Text, decimal_in, hex_in, is_decimal, is_hex_digit}
 use Rattle.table_rows.proofs.Numerals.{digits-sixteen}
-
-given : {X : Type 0} (P : X → Type 0) (b : Bool) (x y : X) → (b ≡ true → P x) → (if b then Some x else None) ≡ Some y → P y
-given P true x y h e = let same : x ≡ y = cc e in subst P same (h refl)
-given P false x y h e = cc e
+use Rattle.table_rows.proofs.Texts.{given}
 
 pub decimal_in-range : (low high : ℕ) (t : Text) (n : ℕ) → decimal_in low high t ≡ Some n → (low ≤ n) × (n ≤ high)
 unfolding decimal_in
 decimal_in-range low high t n e =
-    let v = digits_value 10 t in
-    given (λ k. (low ≤ k) × (k ≤ high)) (is_decimal t && (nat_le low v && nat_le v high)) v n
-    (λ h. let r = and_parts _ _ (and_parts _ _ h).1 in (leb-true low v r.0, leb-true v high r.1)) e
+    given (λ k. (low ≤ k) × (k ≤ high)) (is_decimal t && (nat_le low (digits_value 10 t) && nat_le (digits_value 10 t) high)) (digits_value 10 t) None e
+    (λ h. let r = and_parts _ _ (and_parts _ _ h).1 in (leb-true _ _ r.0, leb-true _ _ r.1)) (λ n. cc n)
 
 pub hex_in-range : (few many : ℕ) (t : Text) (n : ℕ) → hex_in few many t ≡ Some n → n < 16 ^ many
 unfolding hex_in
 hex_in-range few many t n e =
-    let v = digits_value 16 t in
-    given (λ k. k < 16 ^ many) (list_all is_hex_digit t && (nat_le few (length t) && nat_le (length t) many)) v n
+    given (λ k. k < 16 ^ many) (list_all is_hex_digit t && (nat_le few (length t) && nat_le (length t) many)) (digits_value 16 t) None e
     (λ h.
     let d = and_parts _ _ h in
     let long = leb-true (length t) many (and_parts _ _ d.1).1 in
     let lt = digits_value-lt 16 t (digits-sixteen t d.0) in
     let le : 16 ^ length t ≤ 16 ^ many = pow-le-pow_right {n = 16} (omega arith) long in
-    omega (arith, lt, le)) e
+    omega (arith, lt, le)) (λ n. cc n)

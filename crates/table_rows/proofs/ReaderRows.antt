@@ -1,6 +1,7 @@
 -- What a read of one row leaves of the rows.
 use Rattle.std.proofs.Common.{Bor, ◌≡◌, ◌∙◌, ◌+◌, ◌≤◌, ◌<◌, ◌∷◌, ℕ, zero, suc, List, [], Option, Some, None, Bool, true, false, length, refl, ap, subst, inl, arith}
-use Rattle.std.specs.Prelude.{is_some, not, if◌then◌else◌}
+use Rattle.std.specs.Prelude.{is_some, not}
+use Rattle.std.proofs.lemmas.Bool.{cond_both}
 use Rattle.csv.specs.Machine.{Read, next_record}
 use Rattle.csv.specs.Reading.{Reached, ReadRecord, is_bom, records_from, records_next, strip_bom, took_first}
 use Rattle.csv.specs.declared.parser.State.{State}
@@ -67,14 +68,8 @@ records-few (suc n) s xs b = go (next_record table_config s [] [] xs)
 
 strip-few : (xs : List ℕ) → length (strip_bom xs) ≤ length xs
 unfolding strip_bom
-strip-few [] = omega arith
-strip-few (a ∷ []) = omega arith
-strip-few (a ∷ b ∷ []) = omega arith
-strip-few (a ∷ b ∷ c ∷ rest) = go (is_bom a b c)
-  where
-    go : (d : Bool) → length (if d then rest else a ∷ b ∷ c ∷ rest) ≤ length (a ∷ b ∷ c ∷ rest)
-    go true = omega arith
-    go false = omega arith
+strip-few (a ∷ b ∷ c ∷ rest) = cond_both (is_bom a b c) rest (a ∷ b ∷ c ∷ rest) (λ (t : List ℕ). length t ≤ length (a ∷ b ∷ c ∷ rest)) (λ e. omega arith) (λ e. omega arith)
+strip-few xs = omega arith
 
 pub rows-few : (bytes : List ℕ) → length (rows_of bytes) ≤ length bytes
 unfolding rows_of

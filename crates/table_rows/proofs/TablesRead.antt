@@ -1,7 +1,7 @@
 -- The rows of a table that were taken, and those that are left.
-use Rattle.std.proofs.Common.{◌≡◌, ◌∙◌, ◌+◌, ◌∷◌, ◌++◌, ℕ, List, [], Option, None, length, refl, sym, subst, arith, append_assoc, append-nil, length-append}
+use Rattle.std.proofs.Common.{◌≡◌, ◌∙◌, ◌+◌, ◌∷◌, ◌++◌, ℕ, List, [], Option, None, length, map, refl, sym, subst, arith, append_assoc, append-nil, length-append}
 use Rattle.std.specs.Prelude.{Result, Ok, Err}
-use Rattle.table_rows.specs.Tables.{RefusesRow, RefusesTable, TakesRow, fault_at, first_fault}
+use Rattle.table_rows.specs.Tables.{RefusesTable, TakesRow, fault_at, first_fault}
 use Rattle.table_rows.specs.declared.fault.RowRefusal.{RowRefusal}
 use Rattle.table_rows.specs.declared.fault.RowRefusal.TheVariants as refusal
 
@@ -16,27 +16,35 @@ pub record Taken {L R C : Type 0} (cause : List L → L → Option C) (Gives : L
 pub none-taken : {L R C : Type 0} (cause : List L → L → Option C) (Gives : List L → R → Type 0) (lines : List L) (read : R) → Gives [] read → Taken cause Gives lines 0 lines read
 none-taken cause Gives lines read given = record { above = []; count = refl; whole = refl; fault = refl; given = given }
 
-pub one-taken : {L R C : Type 0} (cause : List L → L → Option C) (Gives : List L → R → Type 0) (lines : List L) (place : ℕ) (line : L) (left : List L) (old new : R)
-    → (t : Taken cause Gives lines place (line ∷ left) old) → cause t.above line ≡ None → Gives (t.above ++ line ∷ []) new → Taken cause Gives lines (place + 1) left new
+-- what a loop over rows has once its table was given one more
+abbrev pub AfterRow : {L R C : Type 0} (cause : List L → L → Option C) (Gives : List L → R → Type 0) (lines : List L) (place : ℕ) (left : List L) (new : R) → Result Unit (RowRefusal C) → Type 0
+AfterRow cause Gives lines place left new (Ok u) = Taken cause Gives lines (place + 1) left new
+AfterRow cause Gives lines place left new (Err why) = RefusesTable (first_fault cause [] lines) (fault_at place why)
+
+one-more : {L R C : Type 0} (cause : List L → L → Option C) (Gives : List L → R → Type 0) (lines : List L) (place : ℕ) (line : L) (left : List L) (old new : R) (result : Result Unit (RowRefusal C))
+    → (t : Taken cause Gives lines place (line ∷ left) old) → TakesRow (cause t.above line) (Gives (t.above ++ line ∷ []) new) result → AfterRow cause Gives lines place left new result
 unfolding first_fault
-one-taken cause Gives lines place line left old new t none given = record {
+one-more cause Gives lines place line left old new (Ok u) t took = record {
   above = t.above ++ line ∷ [];
   count = omega (arith, t.count, length-append t.above (line ∷ []));
   whole = append_assoc t.above (line ∷ []) left ∙ t.whole;
-  fault = t.fault ∙ rw none refl;
-  given = given;
+  fault = t.fault ∙ rw took.0 refl;
+  given = took.1;
 }
+one-more cause Gives lines place line left old new (Err (refusal.Cause why)) t took = t.fault ∙ rw (took, t.count) refl
+one-more cause Gives lines place line left old new (Err refusal.Memory) t took = tt
+
+pub after-row : {F L R C : Type 0} (line_of : F → L) (cause : List L → L → Option C) (Gives : List L → R → Type 0) (lines : List L) (place : ℕ) (rows left : List F) (fields : F) (old new : R)
+    (result : Result Unit (RowRefusal C)) → rows ≡ fields ∷ left → Taken cause Gives lines place (map line_of rows) old
+    → ((above : List L) → Gives above old → TakesRow (cause above (line_of fields)) (Gives (above ++ line_of fields ∷ []) new) result)
+    → AfterRow cause Gives lines place (map line_of left) new result
+after-row line_of cause Gives lines place rows left fields old new result e t takes =
+    let u = rw e at t in one-more cause Gives lines place (line_of fields) (map line_of left) old new result u (takes u.above u.given)
 
 pub all-taken : {L R C : Type 0} (cause : List L → L → Option C) (Gives : List L → R → Type 0) (lines : List L) (place : ℕ) (read : R)
     → Taken cause Gives lines place [] read → (first_fault cause [] lines ≡ None) × Gives lines read
 unfolding first_fault
 all-taken cause Gives lines place read t = (t.fault, subst (λ above. Gives above read) (sym (append-nil t.above) ∙ t.whole) t.given)
-
-pub refused : {L R C : Type 0} (cause : List L → L → Option C) (Gives : List L → R → Type 0) (lines : List L) (place : ℕ) (line : L) (left : List L) (old : R) (why : RowRefusal C)
-    → (t : Taken cause Gives lines place (line ∷ left) old) → RefusesRow (cause t.above line) why → RefusesTable (first_fault cause [] lines) (fault_at place why)
-unfolding first_fault
-refused cause Gives lines place line left old (refusal.Cause why) t is = t.fault ∙ rw (is, t.count) refl
-refused cause Gives lines place line left old refusal.Memory t is = tt
 
 -- what one row gives, said otherwise
 pub takes-as : {C : Type 0} (cause same : Option C) (Given Gives : Type 0) (result : Result Unit (RowRefusal C)) → cause ≡ same → (cause ≡ None → Given → Gives)

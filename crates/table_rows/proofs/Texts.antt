@@ -1,12 +1,14 @@
 -- Texts with no blanks at their ends, and the texts of numbers.
 use Rattle.std.proofs.Common.{◌≡◌, ◌∙◌, ◌<◌, ◌≤◌, ◌^◌, ◌∷◌, ◌++◌, ℕ, Bool, true, false, not, List, [], length, reverse, refl, sym, ap, subst, arith, tests, decimal}
-use Rattle.std.specs.Prelude.{⊤, if◌then◌else◌}
+use Rattle.std.specs.Prelude.{⊤, ◌||◌, Option, Some, None, if◌then◌else◌}
+use Rattle.std.specs.Option.{option_map_or}
 use Rattle.std.proofs.lemmas.List.{reverse-append, reverse-reverse}
-use Rattle.std.proofs.lemmas.Bool.{and_from}
+use Rattle.std.proofs.lemmas.Bool.{and_from, cond_both, or_parts}
 use Rattle.std.proofs.lemmas.Fmt.{decimal_is_IsNumeral}
 use Rattle.std.proofs.lemmas.Str.Parse.{digit_from_value}
-use Rattle.std.specs.List.{AllByRecursion, list_all}
+use Rattle.std.specs.List.{AllByRecursion, list_all, list_any}
 use Rattle.std.specs.Str.Parse.{AllDigits, digits_value}
+use Rattle.table_rows.specs.Tables.{NoTwo}
 use Rattle.table_rows.specs.Texts.{Text, is_blank, is_digit, is_empty, is_numeral, trimmed, without_front}
 
 pub all-append : {X : Type 0} (P : X → Type 0) (xs ys : List X) → AllByRecursion P xs → AllByRecursion P ys → AllByRecursion P (xs ++ ys)
@@ -20,6 +22,25 @@ all-reverse P (x ∷ xs) h = subst (AllByRecursion P) (sym (reverse-append (x �
 pub all-map : {X : Type 0} (P Q : X → Type 0) (xs : List X) → ((x : X) → P x → Q x) → AllByRecursion P xs → AllByRecursion Q xs
 all-map P Q [] f h = h
 all-map P Q (x ∷ xs) f h = (f x h.0, all-map P Q xs f h.1)
+
+pub no_two-more : {X : Type 0} (together : X → X → Bool) (xs : List X) (n : X) → NoTwo together xs → list_any (λ x. together x n) xs ≡ false → NoTwo together (xs ++ n ∷ [])
+no_two-more together [] n h e = (tt, tt)
+no_two-more together (x ∷ xs) n h e =
+    let p = or_parts (together x n) (list_any (λ y. together y n) xs) e in
+    (all-append (λ y. together x y ≡ false) xs (n ∷ []) h.0 (p.0, tt), no_two-more together xs n h.1 p.1)
+
+pub or-false : (b : Bool) → (b || false) ≡ b
+or-false true = refl
+or-false false = refl
+
+-- what holds of a value that a test gives, and of one that the rest gives
+pub given : {X : Type 0} (P : X → Type 0) (b : Bool) (x : X) (o : Option X) {y : X} → (if b then Some x else o) ≡ Some y → (b ≡ true → P x) → (o ≡ Some y → P y) → P y
+given P true x o {y} e h k = let same : x ≡ y = cc e in subst P same (h refl)
+given P false x o e h k = k e
+
+pub option_both : {X Y : Type 0} (P : Y → Type 0) (f : X → Y) (o : Option X) (d : Y) → ((x : X) → o ≡ Some x → P (f x)) → P d → P (option_map_or f o d)
+option_both P f None d h k = k
+option_both P f (Some x) d h k = h x refl
 
 -- no byte is a blank
 abbrev pub NoBlanks : Text → Type 0
@@ -70,11 +91,7 @@ decimal-value n lt = (decimal_is_IsNumeral n lt).1
 front-all : (P : ℕ → Type 0) (t : Text) → AllByRecursion P t → AllByRecursion P (without_front t)
 unfolding without_front
 front-all P [] h = h
-front-all P (b ∷ t) h = go (is_blank b) (front-all P t h.1)
-  where
-    go : (c : Bool) → AllByRecursion P (without_front t) → AllByRecursion P (if c then without_front t else b ∷ t)
-    go true k = k
-    go false k = h
+front-all P (b ∷ t) h = cond_both (is_blank b) (without_front t) (b ∷ t) (AllByRecursion P) (λ e. front-all P t h.1) (λ e. h)
 
 pub trimmed-all : (P : ℕ → Type 0) (t : Text) → AllByRecursion P t → AllByRecursion P (trimmed t)
 unfolding trimmed
@@ -88,11 +105,7 @@ Begins (b ∷ t) = is_blank b ≡ false
 front-begins : (t : Text) → Begins (without_front t)
 unfolding without_front
 front-begins [] = tt
-front-begins (b ∷ t) = go (is_blank b) refl (front-begins t)
-  where
-    go : (c : Bool) → is_blank b ≡ c → Begins (without_front t) → Begins (if c then without_front t else b ∷ t)
-    go true e k = k
-    go false e k = e
+front-begins (b ∷ t) = cond_both (is_blank b) (without_front t) (b ∷ t) Begins (λ e. front-begins t) (λ e. e)
 
 front-same : (t : Text) → Begins t → without_front t ≡ t
 unfolding without_front

@@ -12,12 +12,7 @@ use Rattle.table_rows.specs.Rows.{table_config}
 abbrev pub is_between : State → Bool
 is_between st.StartRecord = true
 is_between st.AfterCr = true
-is_between st.StartField = false
-is_between st.InField = false
-is_between st.InQuoted = false
-is_between st.AfterQuote = false
-is_between st.InEscape = false
-is_between st.InComment = false
+is_between s = false
 
 -- the bytes that a reader over bytes in memory has left
 abbrev pub source : Reader (Bor (List ℕ)) → Option (List ℕ)

@@ -1,10 +1,16 @@
 -- What reading a table row by row gives: what its rows give, or its first faulty row.
-use Rattle.std.specs.Prelude.{⊤, ◌≡◌, ◌+◌, ℕ, List, [], ◌∷◌, ◌++◌, length, Option, Some, None, Result, Ok, Err}
+use Rattle.std.specs.Prelude.{⊤, ◌≡◌, ◌+◌, ℕ, Bool, false, List, [], ◌∷◌, ◌++◌, length, Option, Some, None, Result, Ok, Err}
+use Rattle.std.specs.List.{AllByRecursion}
 use Rattle.std.specs.Option.{option_map_or}
 use Rattle.table_rows.specs.declared.fault.RowRefusal.{RowRefusal}
 use Rattle.table_rows.specs.declared.fault.RowRefusal.TheVariants as refusal
 use Rattle.table_rows.specs.declared.fault.RowFault.{RowFault}
 use Rattle.table_rows.specs.declared.fault.RowFault.TheVariants as fault
+
+-- no two items are together, each taken with those after it
+abbrev pub NoTwo : {X : Type 0} → (X → X → Bool) → List X → Type 0
+NoTwo together [] = ⊤
+NoTwo together (x ∷ xs) = AllByRecursion (λ y. together x y ≡ false) xs × NoTwo together xs
 
 -- the first row below `above` that has a cause in view of the rows above it, counted from 1, and its cause
 unfoldable pub first_fault : {L C : Type 0} → (List L → L → Option C) → List L → List L → Option (ℕ × C)

@@ -5,6 +5,8 @@ ghost use Rattle.std.specs.List.{list_all};
 ghost use Rattle.std.specs.Str.Parse.{digits_value};
 ghost use Rattle.papi_base.specs.Numerals as Numerals;
 
+use crate::word::utf8_text;
+
 fn is_digit(b: u8) -> bool
     ensures { result ≡ Numerals.is_digit b }
 {
@@ -51,10 +53,7 @@ pub fn numeral_value(digits: &[u8]) -> Option<u64>
     ensures { result ≡ (if nat_lt (digits_value 10 digits.now) (2 ^ 64)
         then Some (digits_value 10 digits.now) else None) }
 {
-    match str::from_utf8(digits) {
-        Ok(text) => text.parse::<u64>().ok(),
-        Err(_) => None,
-    }
+    utf8_text(digits).parse::<u64>().ok()
 }
 
 /// The decimal number without leading zeros that bytes are, if it is in the range, and else `None`.
@@ -81,8 +80,5 @@ pub fn hex_in(few: usize, many: usize, bytes: &[u8]) -> Option<u64>
     if !are_hex_digits(bytes) || bytes.len() < few || many < bytes.len() {
         return None;
     }
-    match str::from_utf8(bytes) {
-        Ok(text) => u64::from_str_radix(text, 16).ok(),
-        Err(_) => None,
-    }
+    u64::from_str_radix(utf8_text(bytes), 16).ok()
 }

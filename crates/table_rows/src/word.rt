@@ -1,6 +1,6 @@
 //! Names and printable texts.
 
-ghost use Rattle.std.specs.Prelude.{◌≡◌, if◌then◌else◌, option_map, Some, None};
+ghost use Rattle.std.specs.Prelude.{◌≡◌, if◌then◌else◌, option_map, IsUtf8, Some, None};
 ghost use Rattle.std.specs.List.{list_all};
 ghost use Rattle.table_rows.specs.Texts as Texts;
 
@@ -39,17 +39,23 @@ pub fn is_printable(bytes: &[u8]) -> bool
     bytes.iter().all(|&b| is_printable_byte(b))
 }
 
+// Bytes as the text that they are.
+pub(crate) fn utf8_text(bytes: &[u8]) -> &str
+    requires { IsUtf8 bytes.now }
+    ensures { result.now ≡ bytes.now }
+{
+    str::from_utf8(bytes).unwrap()
+}
+
 /// The text of bytes that are a name, and `None` if they are not.
 pub fn name_text(bytes: &[u8]) -> Option<&str>
     ensures { option_map (λ s. s.now) result
         ≡ (if Texts.is_name bytes.now then Some bytes.now else None) }
 {
-    if !is_name(bytes) {
-        return None;
-    }
-    match str::from_utf8(bytes) {
-        Ok(text) => Some(text),
-        Err(_) => None,
+    if is_name(bytes) {
+        Some(utf8_text(bytes))
+    } else {
+        None
     }
 }
 
@@ -58,11 +64,9 @@ pub fn printable_text(bytes: &[u8]) -> Option<&str>
     ensures { option_map (λ s. s.now) result
         ≡ (if Texts.is_printable bytes.now then Some bytes.now else None) }
 {
-    if !is_printable(bytes) {
-        return None;
-    }
-    match str::from_utf8(bytes) {
-        Ok(text) => Some(text),
-        Err(_) => None,
+    if is_printable(bytes) {
+        Some(utf8_text(bytes))
+    } else {
+        None
     }
 }

@@ -1,4 +1,4 @@
-use Rattle.std.proofs.Common.{◌≡◌, ◌∙◌, true, length, sym, arith, rules}
+use Rattle.std.proofs.Common.{◌≡◌, ◌∙◌, true, length, sym, arith}
 use Rattle.std.specs.Prelude.{nat_le}
 use Rattle.std.proofs.lemmas.Bool.{le-leb}
 use Rattle.std.specs.List.{list_all}
@@ -6,15 +6,14 @@ use Rattle.table_rows.specs.Texts.{hex_in, is_hex_digit}
 use Rattle.table_rows.proofs.Numerals.{hex-utf8, hex-parsed}
 use Rattle.table_rows.proofs.number.hex_in.Goals as goal
 
-pub returns-in-Ok : goal.returns-in-Ok
+pub utf8_text-requires : goal.utf8_text-requires
+utf8_text-requires c = hex-utf8 c.args.bytes.now (sym c.are_hex_digits.ensures ∙ c.if-not-are_hex_digits.false)
+
+pub returns : goal.returns
 unfolding hex_in
-returns-in-Ok c =
+returns c =
     let t = c.args.bytes.now in
     let digits : list_all is_hex_digit t ≡ true = sym c.are_hex_digits.ensures ∙ c.if-not-are_hex_digits.false in
     let few : nat_le c.args.few (length t) ≡ true = le-leb _ _ c.if-bytes-few.false in
     let many : nat_le (length t) c.args.many ≡ true = le-leb _ _ c.if-many-bytes.false in
-    let same : c.in-Ok.text.now ≡ t = search rules in
-    rw (digits, few, many) (c.ok.ensures.value ∙ hex-parsed t c.from_str_radix.result digits (omega arith) (omega arith) (rw same at c.from_str_radix.ensures.value))
-
-pub returns-in-Err : goal.returns-in-Err
-returns-in-Err c = absurd (c.in-Err.ensures.cases.0 (hex-utf8 c.args.bytes.now (sym c.are_hex_digits.ensures ∙ c.if-not-are_hex_digits.false)))
+    rw (digits, few, many) (c.ok.ensures.value ∙ hex-parsed t c.from_str_radix.result digits (omega arith) (omega arith) (rw c.utf8_text.ensures at c.from_str_radix.ensures.value))

@@ -2,7 +2,7 @@ use Rattle.std.proofs.Common.{◌≡◌, ◌∷◌, [], map, ap, arith, length}
 use Rattle.csv.specs.Records.{fields_of}
 use Rattle.table_rows.specs.Rows.{rows_of}
 use Rattle.table_rows.proofs.PlainFields.{rows-plain}
-use Rattle.table_rows.proofs.TablesRead.{all-taken, none-taken, one-taken, refused}
+use Rattle.table_rows.proofs.TablesRead.{after-row, all-taken, none-taken}
 use Rattle.table_rows.proofs.table.read_table.Goals as goal
 
 pub loop-row-init : goal.loop-row-init
@@ -17,17 +17,12 @@ loop-row-init g c =
 
 pub loop-row-preserved : goal.loop-row-preserved
 loop-row-preserved g c =
-    let t = g.T.TableKind in
-    let lines = map t.line_of (rows_of c.args.bytes.now) in
     let inv = c.loop-row.invariant in
-    let fields = fields_of c.read_row.new.row in
-    let read : c.loop-row.reader ≡ fields ∷ c.read_row.new.self = rw c.if-branch.true at c.in_ok-read_row.ensures.next in
-    let taken = rw read at inv.taken in
-    let took = rw c.in-Ok.is at (c.take_row.ensures taken.above taken.given) in
+    let read : c.loop-row.reader ≡ fields_of c.read_row.new.row ∷ c.read_row.new.self = rw c.if-branch.true at c.in_ok-read_row.ensures.next in
     record {
       few = let n = ap length read in omega (arith, n, inv.few);
       plain = (rw read at inv.plain).1;
-      taken = one-taken (t.cause c.args.table.now) (t.gives c.args.table.now) lines c.loop-row.place (t.line_of fields) (map t.line_of c.read_row.new.self) _ _ taken took.0 took.1;
+      taken = rw c.in-Ok.is at (after-row g.T.TableKind.line_of _ _ _ _ _ _ _ _ c.take_row.new.read c.take_row.result read inv.taken c.take_row.ensures);
     }
 
 pub take_row-requires : goal.take_row-requires
@@ -38,14 +33,8 @@ take_row-requires g c =
 
 pub returns-in-Err : goal.returns-in-Err
 returns-in-Err g c =
-    let t = g.T.TableKind in
-    let lines = map t.line_of (rows_of c.args.bytes.now) in
-    let inv = c.loop-row.invariant in
-    let fields = fields_of c.read_row.new.row in
-    let read : c.loop-row.reader ≡ fields ∷ c.read_row.new.self = rw c.if-branch.true at c.in_ok-read_row.ensures.next in
-    let taken = rw read at inv.taken in
-    let took = rw c.in-Err.is at (c.take_row.ensures taken.above taken.given) in
-    rw c.at.ensures (refused (t.cause c.args.table.now) (t.gives c.args.table.now) lines c.loop-row.place (t.line_of fields) (map t.line_of c.read_row.new.self) _ c.in-Err.refusal taken took)
+    let read : c.loop-row.reader ≡ fields_of c.read_row.new.row ∷ c.read_row.new.self = rw c.if-branch.true at c.in_ok-read_row.ensures.next in
+    rw c.at.ensures (rw c.in-Err.is at (after-row g.T.TableKind.line_of _ _ _ _ _ _ _ _ c.take_row.new.read c.take_row.result read c.loop-row.invariant.taken c.take_row.ensures))
 
 pub returns : goal.returns
 returns g c =
