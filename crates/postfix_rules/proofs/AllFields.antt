@@ -1,5 +1,6 @@
 -- Equality as it is derived is the test of all fields.
 use Rattle.std.proofs.Common.{◌≡◌, Bool, true, false, ◌&&◌, ◌==◌, refl, ◌∙◌}
+use Rattle.std.proofs.Math.Bool.{and_assoc}
 use mathlib.Core.Bool.{beq}
 use Rattle.papi_base.specs.declared.native.Native.{Native}
 use Rattle.papi_base.specs.declared.native.EventRef.{EventRef}
@@ -10,16 +11,7 @@ use Rattle.postfix_rules.specs.Sameness.{same_bool, same_event, same_native}
 
 -- the tests in one row, with the modifiers grouped
 in_row : (a b c d e f g h i j k : Bool) → (a && (b && (c && (d && (e && ((f && (g && (h && (i && j)))) && k)))))) ≡ (a && b && c && d && e && f && g && h && i && j && k)
-in_row false b c d e f g h i j k = refl
-in_row true false c d e f g h i j k = refl
-in_row true true false d e f g h i j k = refl
-in_row true true true false e f g h i j k = refl
-in_row true true true true false f g h i j k = refl
-in_row true true true true true false g h i j k = refl
-in_row true true true true true true false h i j k = refl
-in_row true true true true true true true false i j k = refl
-in_row true true true true true true true true false j k = refl
-in_row true true true true true true true true true j k = refl
+in_row a b c d e f g h i j k = simp and_assoc
 
 bools_same : (a b : Bool) → beq a b ≡ same_bool a b
 bools_same true true = refl

@@ -41,30 +41,22 @@ inside-words x rest = ap (λ (ts : List InfixToken). sign.Open ∷ ts) (append_a
 term-summed : (w : Written) → Termed w → (outer : List Frame) (rest : List InfixToken) → Summed outer w rest
 term-summed w t outer rest = record { front = None; last = w; is = refl; runs = t outer None rest }
 
-times-termed : (x y : Written) → Termed x → Factored y → Termed (Two op.Times x y)
-times-termed x y tx fy outer s rest =
-    ap (run (wants outer s None)) (two-words x y op.Times rest) ∙ tx outer s (sign.Token (token.Operator op.Times) ∷ (wording y ++ rest)) ∙ fy outer s (Some (held x op.Times)) rest
+-- an operator of a product after a term, and one of a sum after a sum
+termed-by : (o : Operator) (x y : Written) → ((outer : List Frame) (s : Option Held) (w : Written) → stepped (done outer s w) (sign.Token (token.Operator o)) ≡ wants outer s (Some (held w o)))
+    → Termed x → Factored y → Termed (Two o x y)
+termed-by o x y step tx fy outer s rest =
+    ap (run (wants outer s None)) (two-words x y o rest) ∙ tx outer s (sign.Token (token.Operator o) ∷ (wording y ++ rest))
+    ∙ ap (λ (t : State). run t (wording y ++ rest)) (step outer s x) ∙ fy outer s (Some (held x o)) rest
 
-over-termed : (x y : Written) → Termed x → Factored y → Termed (Two op.Over x y)
-over-termed x y tx fy outer s rest =
-    ap (run (wants outer s None)) (two-words x y op.Over rest) ∙ tx outer s (sign.Token (token.Operator op.Over) ∷ (wording y ++ rest)) ∙ fy outer s (Some (held x op.Over)) rest
-
-plus-summed : (x y : Written) → ((outer : List Frame) (rest : List InfixToken) → Summed outer x rest) → Termed y → (outer : List Frame) (rest : List InfixToken) → Summed outer (Two op.Plus x y) rest
-plus-summed x y sx ty outer rest =
-    let s = sx outer (sign.Token (token.Operator op.Plus) ∷ (wording y ++ rest)) in record {
-      front = Some (held (joined s.front s.last) op.Plus);
+summed-by : (o : Operator) (x y : Written) → ((outer : List Frame) (s : Option Held) (w : Written) → stepped (done outer s w) (sign.Token (token.Operator o)) ≡ wants outer (Some (held (joined s w) o)) None)
+    → ((outer : List Frame) (rest : List InfixToken) → Summed outer x rest) → Termed y → (outer : List Frame) (rest : List InfixToken) → Summed outer (Two o x y) rest
+summed-by o x y step sx ty outer rest =
+    let s = sx outer (sign.Token (token.Operator o) ∷ (wording y ++ rest)) in record {
+      front = Some (held (joined s.front s.last) o);
       last = y;
-      is = ap (λ (v : Written). Two op.Plus v y) s.is;
-      runs = ap (run (wants outer None None)) (two-words x y op.Plus rest) ∙ s.runs ∙ ty outer (Some (held (joined s.front s.last) op.Plus)) rest;
-    }
-
-minus-summed : (x y : Written) → ((outer : List Frame) (rest : List InfixToken) → Summed outer x rest) → Termed y → (outer : List Frame) (rest : List InfixToken) → Summed outer (Two op.Minus x y) rest
-minus-summed x y sx ty outer rest =
-    let s = sx outer (sign.Token (token.Operator op.Minus) ∷ (wording y ++ rest)) in record {
-      front = Some (held (joined s.front s.last) op.Minus);
-      last = y;
-      is = ap (λ (v : Written). Two op.Minus v y) s.is;
-      runs = ap (run (wants outer None None)) (two-words x y op.Minus rest) ∙ s.runs ∙ ty outer (Some (held (joined s.front s.last) op.Minus)) rest;
+      is = ap (λ (v : Written). Two o v y) s.is;
+      runs = ap (run (wants outer None None)) (two-words x y o rest) ∙ s.runs
+          ∙ ap (λ (t : State). run t (wording y ++ rest)) (step outer s.front s.last) ∙ ty outer (Some (held (joined s.front s.last) o)) rest;
     }
 
 inside-factored : (x : Written) → ((outer : List Frame) (rest : List InfixToken) → Summed outer x rest) → Factored (Inside x)
@@ -77,22 +69,18 @@ phrased (Number n) =
     let t : Termed (Number n) = λ outer s rest. refl in record { as_factor = λ h outer s p rest. refl; as_term = λ h. t; as_sum = λ h. term-summed (Number n) t }
 phrased (Native i) =
     let t : Termed (Native i) = λ outer s rest. refl in record { as_factor = λ h outer s p rest. refl; as_term = λ h. t; as_sum = λ h. term-summed (Native i) t }
-phrased (Two op.Plus x y) = let a = phrased x in let b = phrased y in record { as_factor = λ h. absurd h; as_term = λ h. absurd h; as_sum = λ h. plus-summed x y (a.as_sum h.0) (b.as_term h.1) }
-phrased (Two op.Minus x y) = let a = phrased x in let b = phrased y in record { as_factor = λ h. absurd h; as_term = λ h. absurd h; as_sum = λ h. minus-summed x y (a.as_sum h.0) (b.as_term h.1) }
+phrased (Two op.Plus x y) = let a = phrased x in let b = phrased y in record { as_factor = λ h. absurd h; as_term = λ h. absurd h; as_sum = λ h. summed-by op.Plus x y (λ outer s w. refl) (a.as_sum h.0) (b.as_term h.1) }
+phrased (Two op.Minus x y) = let a = phrased x in let b = phrased y in record { as_factor = λ h. absurd h; as_term = λ h. absurd h; as_sum = λ h. summed-by op.Minus x y (λ outer s w. refl) (a.as_sum h.0) (b.as_term h.1) }
 phrased (Two op.Times x y) =
     let a = phrased x in
-    let b = phrased y in record {
-      as_factor = λ h. absurd h;
-      as_term = λ h. times-termed x y (a.as_term h.0) (b.as_factor h.1);
-      as_sum = λ h. term-summed (Two op.Times x y) (times-termed x y (a.as_term h.0) (b.as_factor h.1));
-    }
+    let b = phrased y in
+    let t : IsPhrase term (Two op.Times x y) → Termed (Two op.Times x y) = λ h. termed-by op.Times x y (λ outer s w. refl) (a.as_term h.0) (b.as_factor h.1) in
+    record { as_factor = λ h. absurd h; as_term = t; as_sum = λ h. term-summed (Two op.Times x y) (t h) }
 phrased (Two op.Over x y) =
     let a = phrased x in
-    let b = phrased y in record {
-      as_factor = λ h. absurd h;
-      as_term = λ h. over-termed x y (a.as_term h.0) (b.as_factor h.1);
-      as_sum = λ h. term-summed (Two op.Over x y) (over-termed x y (a.as_term h.0) (b.as_factor h.1));
-    }
+    let b = phrased y in
+    let t : IsPhrase term (Two op.Over x y) → Termed (Two op.Over x y) = λ h. termed-by op.Over x y (λ outer s w. refl) (a.as_term h.0) (b.as_factor h.1) in
+    record { as_factor = λ h. absurd h; as_term = t; as_sum = λ h. term-summed (Two op.Over x y) (t h) }
 phrased (Inside x) =
     let a = phrased x in record {
       as_factor = λ h. inside-factored x (a.as_sum h);

@@ -13,7 +13,6 @@ mod Digits
 mod Pieces
 mod SoFar
 mod Components
-mod Operators
 pub mod InfixParts
 pub mod InfixEnds
 pub mod InfixStates

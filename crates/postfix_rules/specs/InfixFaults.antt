@@ -16,12 +16,9 @@ use Rattle.table_rows.specs.Texts.{Text}
 
 -- a factor must begin after this part: it is an operator or a `(`
 abbrev pub begins_factor : InfixPart → Bool
-begins_factor None = false
-begins_factor (Some (sign.Token (token.Constant n))) = false
-begins_factor (Some (sign.Token (token.Native i))) = false
 begins_factor (Some (sign.Token (token.Operator o))) = true
 begins_factor (Some sign.Open) = true
-begins_factor (Some sign.Close) = false
+begins_factor part = false
 
 -- a factor must begin after these parts: there are none, or it must after the last of them
 abbrev pub must_begin : List InfixPart → Bool
@@ -68,10 +65,7 @@ abbrev pub IsEndFault : List InfixPart → FormulaCause → Type 0
 IsEndFault parts cause.OperandMissing = must_begin parts ≡ true
 IsEndFault parts cause.Unbalanced = (must_begin parts ≡ false) × (0 < open_at_end parts)
 IsEndFault parts cause.TooDeep = (must_begin parts ≡ false) × (open_at_end parts ≡ 0) × ((tree : Tree) × IsInfix parts tree × (MOST_OPERANDS < need tree))
-IsEndFault parts cause.UnknownToken = ⊥
-IsEndFault parts cause.ConstantTooLarge = ⊥
-IsEndFault parts cause.NativeRange = ⊥
-IsEndFault parts cause.OperandsLeft = ⊥
+IsEndFault parts why = ⊥
 
 -- the place is at fault: its part has the cause, or it is one past the last part, and the end is at fault
 abbrev pub HasCauseAt : ℕ → List InfixPart → ℕ → FormulaCause → Option InfixPart → Type 0

@@ -1,11 +1,10 @@
 -- What a text in infix order reads as, in the words of the grammar: laws of the definition that reads from the front.
-use Rattle.std.specs.Prelude.{◌≡◌, ◌<◌, ◌+◌, ◌↔◌, ℕ, Ok, Err}
-use Rattle.postfix_rules.specs.declared.fault.FormulaCause.{FormulaCause}
+use Rattle.std.specs.Prelude.{◌≡◌, ◌↔◌, ℕ, Ok}
 use Rattle.postfix_rules.specs.Faults.{FormulaView}
 use Rattle.postfix_rules.specs.InfixFaults.{IsInfixFault, WritesTree}
 use Rattle.postfix_rules.specs.InfixReading.{infix_of}
 use Rattle.postfix_rules.specs.InfixTokens.{infix_parts}
-use Rattle.postfix_rules.specs.Reading.{RefusedFormula}
+use Rattle.postfix_rules.specs.Reading.{CountsFromOne, RefusesFirst}
 use Rattle.postfix_rules.specs.Trees.{Tree, spelling}
 use Rattle.table_rows.specs.Texts.{Text}
 
@@ -18,10 +17,8 @@ SameTree =
 
 -- a text is refused exactly at its first fault
 abbrev pub FirstInfixFaults : Type 0
-FirstInfixFaults =
-    (natives : ℕ) (text : Text) (k : ℕ) (why : FormulaCause)
-    → (infix_of natives text ≡ Err (record { place = k + 1; cause = why })) ↔ IsInfixFault natives (infix_parts text) k why
+FirstInfixFaults = RefusesFirst infix_of (λ natives text. IsInfixFault natives (infix_parts text))
 
 -- the place of a fault in a text in infix order counts from 1
 abbrev pub FromOneInfix : Type 0
-FromOneInfix = (natives : ℕ) (text : Text) (refused : RefusedFormula) → infix_of natives text ≡ Err refused → 0 < refused.place
+FromOneInfix = CountsFromOne infix_of

@@ -48,15 +48,25 @@ IsTextFault natives text Memory = Unit {0}
 
 -- ---- laws
 
+-- how a text over n natives reads
+abbrev pub Reads : Type 0
+Reads = ℕ → Text → Result FormulaView RefusedFormula
+
 -- a text is refused exactly at its first fault
-abbrev pub FirstFaults : Type 0
-FirstFaults =
-    (natives : ℕ) (text : Text) (k : ℕ) (why : FormulaCause)
-    → (formula_of natives text ≡ Err (record { place = k + 1; cause = why })) ↔ IsFault natives (parts_of text) k why
+abbrev pub RefusesFirst : Reads → (ℕ → Text → ℕ → FormulaCause → Type 0) → Type 0
+RefusesFirst reads IsFirst =
+    (natives : ℕ) (text : Text) (k : ℕ) (why : FormulaCause) → (reads natives text ≡ Err (record { place = k + 1; cause = why })) ↔ IsFirst natives text k why
 
 -- the place of a fault in a text counts from 1
+abbrev pub CountsFromOne : Reads → Type 0
+CountsFromOne reads = (natives : ℕ) (text : Text) (refused : RefusedFormula) → reads natives text ≡ Err refused → 0 < refused.place
+
+-- in postfix order
+abbrev pub FirstFaults : Type 0
+FirstFaults = RefusesFirst formula_of (λ natives text. IsFault natives (parts_of text))
+
 abbrev pub FromOne : Type 0
-FromOne = (natives : ℕ) (text : Text) (refused : RefusedFormula) → formula_of natives text ≡ Err refused → 0 < refused.place
+FromOne = CountsFromOne formula_of
 
 -- a text reads as a formula exactly if its parts are the formula's tokens
 abbrev pub SameTokens : Type 0

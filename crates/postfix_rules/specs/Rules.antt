@@ -20,17 +20,14 @@ rule_value (rule.Postfix f) counts = formula_value counts f.tokens
 
 -- the rule can be given n counts: a formula is over n natives
 abbrev pub TakesCounts : Rule → ℕ → Type 0
-TakesCounts rule.Plain n = ⊤
-TakesCounts rule.Sum n = ⊤
-TakesCounts rule.Sub n = ⊤
 TakesCounts (rule.Postfix f) n = f.natives ≡ n
+TakesCounts r n = ⊤
 
 -- the rule can be over n natives: a plain rule is over one
 abbrev pub CanBeOver : Rule → ℕ → Type 0
 CanBeOver rule.Plain n = n ≡ 1
-CanBeOver rule.Sum n = ⊤
-CanBeOver rule.Sub n = ⊤
 CanBeOver (rule.Postfix f) n = f.natives ≡ n
+CanBeOver r n = ⊤
 
 -- all natives are of one component
 abbrev pub OfOneComponent : List Native → Type 0
