@@ -6,6 +6,7 @@ use Rattle.std.proofs.lemmas.Option.{slice_get-get_or, slice_get-map}
 use Rattle.std.specs.Prelude.{⊤, if◌then◌else◌, nat_le, option_map, slice_get}
 use Rattle.std.specs.List.{AllByRecursion, list_any}
 use Rattle.std.specs.Option.{option_map_or}
+use Rattle.papi_base.proofs.Steps.{passed_over}
 use Rattle.table_rows.specs.Texts.{Text}
 use Rattle.event_tables.specs.Tables.{ComponentText, EventText, same_name}
 use Rattle.event_tables.specs.Lines.{Line, component, event, umask, row_line}
@@ -42,15 +43,11 @@ events-filled : (events : List EventText) (o : EventText → Option RowCause) �
 events-filled [] o e = cc e
 events-filled (x ∷ xs) o e = omega arith
 
-fresh : (a b : Bool) (o : Option RowCause) → (if a then Some cause.OverLimit else if b then Some cause.RepeatedName else o) ≡ None → b ≡ false
-fresh true b o e = cc e
-fresh false true o e = cc e
-fresh false false o e = refl
-
 pub inner-grows : (above : List ComponentText) (line : Line) (c : ComponentText) → last_of above ≡ Some c → cause_in above line ≡ None → CanGrow line c
 unfolding cause_in
 inner-grows above (event n s ns t) c l e =
-    fresh (nat_le MOST_COMPONENT_EVENTS (length c.events)) (list_any (λ (x : EventText). same_name x.name n) c.events) _ (rw l at e)
+    let few = passed_over (nat_le MOST_COMPONENT_EVENTS (length c.events)) cause.OverLimit _ (rw l at e) in
+    (passed_over (list_any (λ (x : EventText). same_name x.name n) c.events) cause.RepeatedName _ few.1).0
 inner-grows above (umask m) c l e = events-filled c.events (λ x. mask_cause x.masks m.name m.preset_choice) (rw l at e)
 inner-grows above line c l e = tt
 

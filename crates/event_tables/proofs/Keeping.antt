@@ -1,19 +1,20 @@
 -- A row with no cause keeps what the tables keep.
 use Rattle.std.proofs.Common.{◌≡◌, ◌∙◌, ◌<◌, ◌^◌, ◌∷◌, ◌++◌, ℕ, List, [], Option, Some, None, Bool, true, false, length, refl, ap, arith, length-append}
 use Rattle.std.proofs.Math.Pow.{pow-lt}
-use Rattle.std.proofs.lemmas.Bool.{leb-false, or_parts}
+use Rattle.std.proofs.lemmas.Bool.{and_parts, leb-false, or_parts}
 use Rattle.std.specs.Prelude.{◌&&◌, ◌||◌, IfSome, is_some, if◌then◌else◌, nat_le, unwrap_or}
 use Rattle.std.specs.List.{AllByRecursion, list_all, list_any}
 use Rattle.std.specs.Str.{bytes_eq}
 use Rattle.papi_base.proofs.Steps.{passed_over}
+use Rattle.table_rows.specs.Tables.{NoTwo}
 use Rattle.table_rows.specs.Texts.{Text, is_empty, is_name}
-use Rattle.table_rows.proofs.Texts.{all-append, all-map}
+use Rattle.table_rows.proofs.Texts.{all-append, all-map, no_two-more}
 use Rattle.event_tables.specs.Tables.{ComponentText, CounterText, EventText, MaskText, same_name}
 use Rattle.event_tables.specs.Lines.{Line, skipped, bad, component, counter, event, umask}
 use Rattle.event_tables.specs.Unit.{bits_of, cause_in, component_cause, component_of, counter_cause, counter_place, counter_row, counters_in, event_cause}
 use Rattle.event_tables.specs.Unit.{event_row, events_in, inner_mask_cause, is_modifier, last_of, mask_cause, modifier_words}
 use Rattle.event_tables.specs.Steps.{grown, on_last, with_counter, with_event, with_inner_mask, with_line, with_mask}
-use Rattle.event_tables.specs.Kept.{IsComponent, IsCounter, IsEvent, IsEventLine, IsLine, IsMask, IsTables, IsWidth, NoRepeats}
+use Rattle.event_tables.specs.Kept.{IsComponent, IsCounter, IsEvent, IsEventLine, IsLine, IsMask, IsTables, IsWidth}
 use Rattle.event_tables.specs.declared.fault.RowCause.TheVariants as cause
 use Rattle.event_tables.specs.declared.limits.TheConstants.{MOST_COMPONENTS, MOST_COMPONENT_EVENTS, MOST_COUNTERS, MOST_UMASKS}
 use Rattle.event_tables.proofs.Bits.{bits_of-lt, bits_of-some}
@@ -35,12 +36,6 @@ either-none p q (x ∷ xs) e =
 
 -- ---- lists with one item more, and with the last one changed
 
-no_repeats-more : {X : Type 0} (same : X → X → Bool) (xs : List X) (n : X) → NoRepeats same xs → list_any (λ x. same x n) xs ≡ false → NoRepeats same (xs ++ n ∷ [])
-no_repeats-more same [] n h e = (tt, tt)
-no_repeats-more same (x ∷ xs) n h e =
-    let p = or_parts (same x n) (list_any (λ y. same y n) xs) e in
-    (all-append (λ y. same x y ≡ false) xs (n ∷ []) h.0 (p.0, tt), no_repeats-more same xs n h.1 p.1)
-
 all-on_last : {X : Type 0} (P : X → Type 0) (f : X → X) (xs : List X) → AllByRecursion P xs → ((x : X) → last_of xs ≡ Some x → P x → P (f x)) → AllByRecursion P (on_last f xs)
 unfolding on_last
 all-on_last P f [] h g = tt
@@ -52,12 +47,12 @@ unfolding on_last
 length-on_last f (x ∷ y ∷ rest) = let more = length-on_last f (y ∷ rest) in omega (arith, more)
 length-on_last f xs = refl
 
-no_repeats-on_last : {X : Type 0} (same : X → X → Bool) (f : X → X) (xs : List X) → ((x y : X) → same x (f y) ≡ same x y) → NoRepeats same xs → NoRepeats same (on_last f xs)
+no_two-on_last : {X : Type 0} (same : X → X → Bool) (f : X → X) (xs : List X) → ((x y : X) → same x (f y) ≡ same x y) → NoTwo same xs → NoTwo same (on_last f xs)
 unfolding on_last
-no_repeats-on_last same f [] e h = tt
-no_repeats-on_last same f (x ∷ []) e h = (tt, tt)
-no_repeats-on_last same f (x ∷ y ∷ rest) e h =
-    (all-on_last (λ z. same x z ≡ false) f (y ∷ rest) h.0 (λ z l k. e x z ∙ k), no_repeats-on_last same f (y ∷ rest) e h.1)
+no_two-on_last same f [] e h = tt
+no_two-on_last same f (x ∷ []) e h = (tt, tt)
+no_two-on_last same f (x ∷ y ∷ rest) e h =
+    (all-on_last (λ z. same x z ≡ false) f (y ∷ rest) h.0 (λ z l k. e x z ∙ k), no_two-on_last same f (y ∷ rest) e h.1)
 
 -- ---- a component
 
@@ -83,8 +78,8 @@ component-kept above name pmu n p e h =
     record {
       few = omega (arith, length-append above (new ∷ []), low);
       each = all-append IsComponent above (new ∷ []) h.each (is, tt);
-      names_distinct = no_repeats-more (λ (a b : ComponentText). same_name a.name b.name) above new h.names_distinct distinct.0;
-      pmus_distinct = no_repeats-more (λ (a b : ComponentText). same_name a.pmu b.pmu) above new h.pmus_distinct distinct.1;
+      names_distinct = no_two-more (λ (a b : ComponentText). same_name a.name b.name) above new h.names_distinct distinct.0;
+      pmus_distinct = no_two-more (λ (a b : ComponentText). same_name a.pmu b.pmu) above new h.pmus_distinct distinct.1;
     }
 
 -- ---- a counter
@@ -126,7 +121,7 @@ counter-kept c name width fixed n w e h =
       few_counters = omega (arith, low, more);
       few_events = h.few_events;
       counters = all-append IsCounter c.counters (counter_row name width fixed ∷ []) h.counters (record { named = n; narrow = range.0; wide = range.1 }, tt);
-      counters_distinct = no_repeats-more (λ (a b : CounterText). bytes_eq a.name b.name) c.counters (counter_row name width fixed) h.counters_distinct fresh.0;
+      counters_distinct = no_two-more (λ (a b : CounterText). bytes_eq a.name b.name) c.counters (counter_row name width fixed) h.counters_distinct fresh.0;
       events = all-map (IsEvent (length c.counters)) (IsEvent (length (c.counters ++ counter_row name width fixed ∷ []))) c.events (event-wider _ _ (omega (arith, more))) h.events;
       events_distinct = h.events_distinct;
     }
@@ -135,11 +130,7 @@ counter-kept c name width fixed n w e h =
 
 some-known : (counters : List CounterText) (names : List Text) → is_empty names ≡ false → list_all (λ n. is_some (counter_place counters n)) names ≡ true → 0 < bits_of counters names
 some-known counters [] e h = cc e
-some-known counters (n ∷ names) e h = bits_of-some counters n names (go (is_some (counter_place counters n)) h)
-  where
-    go : (b : Bool) → (b && list_all (λ n. is_some (counter_place counters n)) names) ≡ true → b ≡ true
-    go true q = refl
-    go false q = cc q
+some-known counters (n ∷ names) e h = bits_of-some counters n names (and_parts (is_some (counter_place counters n)) (list_all (λ n. is_some (counter_place counters n)) names) h).0
 
 all-known : (b : Bool) → (if b then None else Some cause.UnknownCounter) ≡ None → b ≡ true
 all-known true e = refl
@@ -171,7 +162,7 @@ event-kept c name select names text i e h =
       counters = h.counters;
       counters_distinct = h.counters_distinct;
       events = all-append (IsEvent (length c.counters)) c.events (new ∷ []) h.events (is, tt);
-      events_distinct = no_repeats-more (λ (a b : EventText). same_name a.name b.name) c.events new h.events_distinct fresh.0;
+      events_distinct = no_two-more (λ (a b : EventText). same_name a.name b.name) c.events new h.events_distinct fresh.0;
     }
 
 -- ---- a umask
@@ -207,8 +198,8 @@ mask-kept n e m named byte none h =
       within = h.within;
       few = omega (arith, low, length-append e.masks (m ∷ []));
       each = all-append IsMask e.masks (m ∷ []) h.each (record { named = named; no_modifier = none-each (λ w. same_name m.name w) modifier_words names.0; byte = byte }, tt);
-      distinct = no_repeats-more (λ (a b : MaskText). same_name a.name b.name) e.masks m h.distinct names.1;
-      one_default = no_repeats-more (λ (a b : MaskText). a.preset_choice && b.preset_choice) e.masks m h.one_default (no-default m e.masks one.0);
+      distinct = no_two-more (λ (a b : MaskText). same_name a.name b.name) e.masks m h.distinct names.1;
+      one_default = no_two-more (λ (a b : MaskText). a.preset_choice && b.preset_choice) e.masks m h.one_default (no-default m e.masks one.0);
     }
 
 inner_mask-kept : (c : ComponentText) (m : MaskText) → is_name m.name ≡ true → m.bits < 2 ^ 8 → inner_mask_cause c m.name m.preset_choice ≡ None
@@ -221,7 +212,7 @@ inner_mask-kept c m named byte none h = record {
   counters = h.counters;
   counters_distinct = h.counters_distinct;
   events = all-on_last (IsEvent (length c.counters)) (with_mask m) c.events h.events (λ e l k. mask-kept (length c.counters) e m named byte (rw l at none) k);
-  events_distinct = no_repeats-on_last (λ (a b : EventText). same_name a.name b.name) (with_mask m) c.events (λ x y. refl) h.events_distinct;
+  events_distinct = no_two-on_last (λ (a b : EventText). same_name a.name b.name) (with_mask m) c.events (λ x y. refl) h.events_distinct;
 }
 
 -- ---- any row
@@ -245,8 +236,8 @@ inner-kept : (above : List ComponentText) (line : Line) → IsLine line → caus
 inner-kept above line i e h = record {
   few = let l = length-on_last (grown line) above in omega (arith, h.few, l);
   each = all-on_last IsComponent (grown line) above h.each (λ c l k. grown-kept above line c i e l k);
-  names_distinct = no_repeats-on_last (λ (a b : ComponentText). same_name a.name b.name) (grown line) above (λ x y. ap (same_name x.name) (grown-name line y)) h.names_distinct;
-  pmus_distinct = no_repeats-on_last (λ (a b : ComponentText). same_name a.pmu b.pmu) (grown line) above (λ x y. ap (same_name x.pmu) (grown-pmu line y)) h.pmus_distinct;
+  names_distinct = no_two-on_last (λ (a b : ComponentText). same_name a.name b.name) (grown line) above (λ x y. ap (same_name x.name) (grown-name line y)) h.names_distinct;
+  pmus_distinct = no_two-on_last (λ (a b : ComponentText). same_name a.pmu b.pmu) (grown line) above (λ x y. ap (same_name x.pmu) (grown-pmu line y)) h.pmus_distinct;
 }
 
 pub kept : (above : List ComponentText) (line : Line) → IsLine line → cause_in above line ≡ None → IsTables above → IsTables (with_line above line)

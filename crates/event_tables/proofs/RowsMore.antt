@@ -19,33 +19,21 @@ mask_of _ = []
 counters-first : (rows : List Line) (line : Line) → components_in rows ≡ [] → counters_in (rows ++ line ∷ []) ≡ counters_in rows ++ counter_of line
 unfolding components_in counters_in
 counters-first [] skipped e = refl
-counters-first [] bad e = refl
-counters-first [] (component n p) e = refl
-counters-first [] (counter n w f) e = refl
-counters-first [] (event n s ns t) e = refl
-counters-first [] (umask m) e = refl
-counters-first (skipped ∷ rows) line e = counters-first rows line e
-counters-first (bad ∷ rows) line e = counters-first rows line e
+counters-first [] line e = refl
 counters-first (component n p ∷ rows) line e = cc e
 counters-first (counter n w f ∷ rows) line e = ap (λ (t : List CounterText). counter_row n w f ∷ t) (counters-first rows line e)
-counters-first (event n s ns t ∷ rows) line e = counters-first rows line e
-counters-first (umask m ∷ rows) line e = counters-first rows line e
+counters-first (l ∷ rows) line e = counters-first rows line e
 
 -- the umasks of an event that no other follows
 masks-first : (above : List CounterText) (rows : List Line) (line : Line) → components_in rows ≡ [] → events_in above rows ≡ [] → masks_in (rows ++ line ∷ []) ≡ masks_in rows ++ mask_of line
 unfolding components_in events_in masks_in
 masks-first above [] skipped e q = refl
-masks-first above [] bad e q = refl
-masks-first above [] (component n p) e q = refl
-masks-first above [] (counter n w f) e q = refl
-masks-first above [] (event n s ns t) e q = refl
-masks-first above [] (umask m) e q = refl
-masks-first above (skipped ∷ rows) line e q = masks-first above rows line e q
-masks-first above (bad ∷ rows) line e q = masks-first above rows line e q
+masks-first above [] line e q = refl
 masks-first above (component n p ∷ rows) line e q = cc e
 masks-first above (counter n w f ∷ rows) line e q = masks-first _ rows line e q
 masks-first above (event n s ns t ∷ rows) line e q = cc q
 masks-first above (umask m ∷ rows) line e q = ap (λ (t : List MaskText). m ∷ t) (masks-first above rows line e q)
+masks-first above (l ∷ rows) line e q = masks-first above rows line e q
 
 masks-later : (above : List CounterText) (rows more : List Line) (x : EventText) (xs : List EventText) → events_in above rows ≡ x ∷ xs → masks_in (rows ++ more) ≡ masks_in rows
 unfolding events_in masks_in
@@ -76,67 +64,47 @@ front above rows line n s ns t counters e more = go line (events_in above rows) 
     go : (l : Line) (es : List EventText) → events_in above rows ≡ es
         → events_in above (rows ++ l ∷ []) ≡ events_after l counters es
         → row (masks_in (rows ++ l ∷ [])) ∷ events_in above (rows ++ l ∷ []) ≡ events_after l counters (row (masks_in rows) ∷ es)
-    go skipped [] q m = ap₂ (λ (ms : List MaskText) (t : List EventText). row ms ∷ t) (masks-first above rows skipped e q ∙ append-nil _) m
-    go bad [] q m = ap₂ (λ (ms : List MaskText) (t : List EventText). row ms ∷ t) (masks-first above rows bad e q ∙ append-nil _) m
-    go (component n p) [] q m = ap₂ (λ (ms : List MaskText) (t : List EventText). row ms ∷ t) (masks-first above rows (component n p) e q ∙ append-nil _) m
-    go (counter n w f) [] q m = ap₂ (λ (ms : List MaskText) (t : List EventText). row ms ∷ t) (masks-first above rows (counter n w f) e q ∙ append-nil _) m
-    go (event a b c d) [] q m = ap₂ (λ (ms : List MaskText) (t : List EventText). row ms ∷ t) (masks-first above rows (event a b c d) e q ∙ append-nil _) m
     go (umask k) [] q m = ap₂ (λ (ms : List MaskText) (t : List EventText). row ms ∷ t) (masks-first above rows (umask k) e q) m
-    go skipped (x ∷ xs) q m = ap₂ (λ (ms : List MaskText) (t : List EventText). row ms ∷ t) (masks-later above rows _ x xs q) m
-    go bad (x ∷ xs) q m = ap₂ (λ (ms : List MaskText) (t : List EventText). row ms ∷ t) (masks-later above rows _ x xs q) m
-    go (component n p) (x ∷ xs) q m = ap₂ (λ (ms : List MaskText) (t : List EventText). row ms ∷ t) (masks-later above rows _ x xs q) m
-    go (counter n w f) (x ∷ xs) q m = ap₂ (λ (ms : List MaskText) (t : List EventText). row ms ∷ t) (masks-later above rows _ x xs q) m
-    go (event a b c d) (x ∷ xs) q m = ap₂ (λ (ms : List MaskText) (t : List EventText). row ms ∷ t) (masks-later above rows _ x xs q) m
+    go l [] q m = ap₂ (λ (ms : List MaskText) (t : List EventText). row ms ∷ t) (masks-first above rows l e q ∙ append-nil _) m
     go (umask k) (x ∷ xs) q m = ap₂ (λ (ms : List MaskText) (t : List EventText). row ms ∷ t) (masks-later above rows _ x xs q) m
+    go l (x ∷ xs) q m = ap₂ (λ (ms : List MaskText) (t : List EventText). row ms ∷ t) (masks-later above rows _ x xs q) m
 
 events-first : (above : List CounterText) (rows : List Line) (line : Line) → components_in rows ≡ []
     → events_in above (rows ++ line ∷ []) ≡ events_after line (above ++ counters_in rows) (events_in above rows)
 unfolding components_in counters_in events_in masks_in on_last
-events-first above [] skipped e = refl
-events-first above [] bad e = refl
-events-first above [] (component n p) e = refl
-events-first above [] (counter n w f) e = refl
 events-first above [] (event n s ns t) e = ap (λ (cs : List CounterText). event_row cs n s ns t [] ∷ []) (sym (append-nil above))
-events-first above [] (umask m) e = refl
-events-first above (skipped ∷ rows) line e = events-first above rows line e
-events-first above (bad ∷ rows) line e = events-first above rows line e
+events-first above [] line e = refl
 events-first above (component n p ∷ rows) line e = cc e
 events-first above (counter n w f ∷ rows) line e =
     events-first (above ++ counter_row n w f ∷ []) rows line e
     ∙ ap (λ (cs : List CounterText). events_after line cs (events_in (above ++ counter_row n w f ∷ []) rows)) (append_assoc above (counter_row n w f ∷ []) (counters_in rows))
 events-first above (event n s ns t ∷ rows) line e = front above rows line n s ns t (above ++ counters_in rows) e (events-first above rows line e)
-events-first above (umask m ∷ rows) line e = events-first above rows line e
+events-first above (l ∷ rows) line e = events-first above rows line e
 
 -- rows after another component
 counters-later : (rows more : List Line) (c : ComponentText) (cs : List ComponentText) → components_in rows ≡ c ∷ cs → counters_in (rows ++ more) ≡ counters_in rows
 unfolding components_in counters_in
 counters-later [] more c cs e = cc e
-counters-later (skipped ∷ rows) more c cs e = counters-later rows more c cs e
-counters-later (bad ∷ rows) more c cs e = counters-later rows more c cs e
 counters-later (component n p ∷ rows) more c cs e = refl
 counters-later (counter n w f ∷ rows) more c cs e = ap (λ (t : List CounterText). counter_row n w f ∷ t) (counters-later rows more c cs e)
-counters-later (event n s ns t ∷ rows) more c cs e = counters-later rows more c cs e
-counters-later (umask m ∷ rows) more c cs e = counters-later rows more c cs e
+counters-later (l ∷ rows) more c cs e = counters-later rows more c cs e
 
 masks-after : (rows more : List Line) (c : ComponentText) (cs : List ComponentText) → components_in rows ≡ c ∷ cs → masks_in (rows ++ more) ≡ masks_in rows
 unfolding components_in masks_in
 masks-after [] more c cs e = cc e
-masks-after (skipped ∷ rows) more c cs e = masks-after rows more c cs e
-masks-after (bad ∷ rows) more c cs e = masks-after rows more c cs e
-masks-after (counter n w f ∷ rows) more c cs e = masks-after rows more c cs e
+masks-after (component n p ∷ rows) more c cs e = refl
+masks-after (event n s ns t ∷ rows) more c cs e = refl
 masks-after (umask m ∷ rows) more c cs e = ap (λ (t : List MaskText). m ∷ t) (masks-after rows more c cs e)
-masks-after rows more c cs e = refl
+masks-after (l ∷ rows) more c cs e = masks-after rows more c cs e
 
 events-later : (above : List CounterText) (rows more : List Line) (c : ComponentText) (cs : List ComponentText) → components_in rows ≡ c ∷ cs → events_in above (rows ++ more) ≡ events_in above rows
 unfolding components_in events_in
 events-later above [] more c cs e = cc e
-events-later above (skipped ∷ rows) more c cs e = events-later above rows more c cs e
-events-later above (bad ∷ rows) more c cs e = events-later above rows more c cs e
 events-later above (component n p ∷ rows) more c cs e = refl
 events-later above (counter n w f ∷ rows) more c cs e = events-later _ rows more c cs e
 events-later above (event n s ns t ∷ rows) more c cs e =
     ap₂ (λ (ms : List MaskText) (t' : List EventText). event_row above n s ns t ms ∷ t') (masks-after rows more c cs e) (events-later above rows more c cs e)
-events-later above (umask m ∷ rows) more c cs e = events-later above rows more c cs e
+events-later above (l ∷ rows) more c cs e = events-later above rows more c cs e
 
 component_with : Text → Text → List CounterText → List EventText → ComponentText
 component_with n p cs es = record { name = n; pmu = p; counters = cs; events = es }
@@ -154,32 +122,24 @@ grown-later n p rows more c cs e = ap₂ (component_with n p) (counters-later ro
 inner-more : (rows : List Line) (line : Line) → components_in (line ∷ []) ≡ [] → components_in (rows ++ line ∷ []) ≡ on_last (grown line) (components_in rows)
 unfolding components_in on_last
 inner-more [] line k = k
-inner-more (skipped ∷ rows) line k = inner-more rows line k
-inner-more (bad ∷ rows) line k = inner-more rows line k
 inner-more (component n p ∷ rows) line k = go (components_in rows) refl (inner-more rows line k)
   where
     go : (cs : List ComponentText) → components_in rows ≡ cs → components_in (rows ++ line ∷ []) ≡ on_last (grown line) cs
         → component_of n p (rows ++ line ∷ []) ∷ components_in (rows ++ line ∷ []) ≡ on_last (grown line) (component_of n p rows ∷ cs)
     go [] e m = ap₂ (λ (c : ComponentText) (t : List ComponentText). c ∷ t) (grown-first n p rows line e) m
     go (c ∷ cs) e m = ap₂ (λ (c : ComponentText) (t : List ComponentText). c ∷ t) (grown-later n p rows (line ∷ []) c cs e) m
-inner-more (counter n w f ∷ rows) line k = inner-more rows line k
-inner-more (event n s ns t ∷ rows) line k = inner-more rows line k
-inner-more (umask m ∷ rows) line k = inner-more rows line k
+inner-more (l ∷ rows) line k = inner-more rows line k
 
 outer-more : (rows : List Line) (a b : Text) → components_in (rows ++ component a b ∷ []) ≡ components_in rows ++ component_of a b [] ∷ []
 unfolding components_in
 outer-more [] a b = refl
-outer-more (skipped ∷ rows) a b = outer-more rows a b
-outer-more (bad ∷ rows) a b = outer-more rows a b
 outer-more (component n p ∷ rows) a b = go (components_in rows) refl (outer-more rows a b)
   where
     go : (cs : List ComponentText) → components_in rows ≡ cs → components_in (rows ++ component a b ∷ []) ≡ cs ++ component_of a b [] ∷ []
         → component_of n p (rows ++ component a b ∷ []) ∷ components_in (rows ++ component a b ∷ []) ≡ component_of n p rows ∷ (cs ++ component_of a b [] ∷ [])
     go [] e m = ap₂ (λ (c : ComponentText) (t : List ComponentText). c ∷ t) (grown-first n p rows (component a b) e) m
     go (c ∷ cs) e m = ap₂ (λ (c : ComponentText) (t : List ComponentText). c ∷ t) (grown-later n p rows (component a b ∷ []) c cs e) m
-outer-more (counter n w f ∷ rows) a b = outer-more rows a b
-outer-more (event n s ns t ∷ rows) a b = outer-more rows a b
-outer-more (umask m ∷ rows) a b = outer-more rows a b
+outer-more (l ∷ rows) a b = outer-more rows a b
 
 pub components-more : (rows : List Line) (line : Line) → components_in (rows ++ line ∷ []) ≡ with_line (components_in rows) line
 unfolding components_in

@@ -3,6 +3,7 @@ use Rattle.std.proofs.Common.{◌≡◌, ◌+◌, ◌<◌, ◌∷◌, ℕ, List,
 use Rattle.std.specs.Prelude.{◌&&◌, ◌||◌, ◌==◌, not, if◌then◌else◌}
 use Rattle.std.specs.List.{filter, list_all, list_any, position_from, slice_split}
 use Rattle.table_rows.specs.Texts.{Text, is_empty}
+use Rattle.table_rows.proofs.Texts.{given}
 use Rattle.event_tables.specs.Lines.{words_of}
 
 pub position_from-map : {X Y : Type 0} (p : Y → Bool) (h : X → Y) (i : ℕ) (xs : List X) → position_from (λ x. p (h x)) i xs ≡ position_from p i (map h xs)
@@ -35,8 +36,5 @@ all-filled empty p (x ∷ xs) = go (empty x) (all-filled empty p xs)
 -- what is found is in the list
 pub position_from-lt : {X : Type 0} (p : X → Bool) (i : ℕ) (xs : List X) (k : ℕ) → position_from p i xs ≡ Some k → k < i + length xs
 position_from-lt p i [] k e = cc e
-position_from-lt p i (x ∷ xs) k e = go (p x) e (position_from-lt p (i + 1) xs k)
-  where
-    go : (b : Bool) → (if b then Some i else position_from p (i + 1) xs) ≡ Some k → (position_from p (i + 1) xs ≡ Some k → k < i + 1 + length xs) → k < i + length (x ∷ xs)
-    go true e more = let same : i ≡ k = cc e in omega arith
-    go false e more = let lt = more e in omega (arith, lt)
+position_from-lt p i (x ∷ xs) k e =
+    given (λ j. j < i + length (x ∷ xs)) (p x) i (position_from p (i + 1) xs) e (λ b. omega arith) (λ q. let lt = position_from-lt p (i + 1) xs k q in omega (arith, lt))

@@ -1,18 +1,14 @@
 -- What the tables of a unit keep: the limits, the forms of names, and that no name is repeated.
-use Rattle.std.specs.Prelude.{⊤, ◌≡◌, ◌<◌, ◌≤◌, ◌^◌, ◌&&◌, ℕ, Bool, true, false, List, [], ◌∷◌, length, IfSome}
+use Rattle.std.specs.Prelude.{⊤, ◌≡◌, ◌<◌, ◌≤◌, ◌^◌, ◌&&◌, ℕ, Bool, true, false, List, length, IfSome}
 use Rattle.std.specs.List.{AllByRecursion}
 use Rattle.std.specs.Str.{bytes_eq}
 use Rattle.papi_base.specs.declared.limits.TheConstants.{LEAST_WIDTH, MOST_WIDTH}
+use Rattle.table_rows.specs.Tables.{NoTwo}
 use Rattle.table_rows.specs.Texts.{Text, is_empty, is_name}
 use Rattle.event_tables.specs.Tables.{ComponentText, CounterText, EventText, MaskText, same_name}
-use Rattle.event_tables.specs.Lines.{Line, skipped, bad, component, counter, event, umask}
+use Rattle.event_tables.specs.Lines.{Line, component, counter, event, umask}
 use Rattle.event_tables.specs.Unit.{modifier_words}
 use Rattle.event_tables.specs.declared.limits.TheConstants.{MOST_COMPONENTS, MOST_COMPONENT_EVENTS, MOST_COUNTERS, MOST_UMASKS}
-
--- no item repeats an earlier one
-abbrev pub NoRepeats : {X : Type 0} → (X → X → Bool) → List X → Type 0
-NoRepeats same [] = ⊤
-NoRepeats same (x ∷ xs) = AllByRecursion (λ y. same x y ≡ false) xs × NoRepeats same xs
 
 -- a counter with a name, of 16 to 48 bits
 pub record IsCounter (k : CounterText) : Type 0 where
@@ -34,8 +30,8 @@ pub record IsEvent (counters : ℕ) (e : EventText) : Type 0 where
   pub within : e.allowed < 2 ^ counters
   pub few : length e.masks ≤ MOST_UMASKS
   pub each : AllByRecursion IsMask e.masks
-  pub distinct : NoRepeats (λ (a b : MaskText). same_name a.name b.name) e.masks
-  pub one_default : NoRepeats (λ (a b : MaskText). a.preset_choice && b.preset_choice) e.masks
+  pub distinct : NoTwo (λ (a b : MaskText). same_name a.name b.name) e.masks
+  pub one_default : NoTwo (λ (a b : MaskText). a.preset_choice && b.preset_choice) e.masks
 
 -- a component within its limits, with names and no name twice
 pub record IsComponent (c : ComponentText) : Type 0 where
@@ -44,16 +40,16 @@ pub record IsComponent (c : ComponentText) : Type 0 where
   pub few_counters : length c.counters ≤ MOST_COUNTERS
   pub few_events : length c.events ≤ MOST_COMPONENT_EVENTS
   pub counters : AllByRecursion IsCounter c.counters
-  pub counters_distinct : NoRepeats (λ (a b : CounterText). bytes_eq a.name b.name) c.counters
+  pub counters_distinct : NoTwo (λ (a b : CounterText). bytes_eq a.name b.name) c.counters
   pub events : AllByRecursion (IsEvent (length c.counters)) c.events
-  pub events_distinct : NoRepeats (λ (a b : EventText). same_name a.name b.name) c.events
+  pub events_distinct : NoTwo (λ (a b : EventText). same_name a.name b.name) c.events
 
 -- the tables of a unit: its components within the limits, and no name twice
 pub record IsTables (tables : List ComponentText) : Type 0 where
   pub few : length tables ≤ MOST_COMPONENTS
   pub each : AllByRecursion IsComponent tables
-  pub names_distinct : NoRepeats (λ (a b : ComponentText). same_name a.name b.name) tables
-  pub pmus_distinct : NoRepeats (λ (a b : ComponentText). same_name a.pmu b.pmu) tables
+  pub names_distinct : NoTwo (λ (a b : ComponentText). same_name a.name b.name) tables
+  pub pmus_distinct : NoTwo (λ (a b : ComponentText). same_name a.pmu b.pmu) tables
 
 -- ---- what a row by itself keeps
 
@@ -69,9 +65,8 @@ pub record IsEventLine (name : Text) (select : ℕ) (names : List Text) : Type 0
 
 -- what a row says is of its form
 abbrev pub IsLine : Line → Type 0
-IsLine skipped = ⊤
-IsLine bad = ⊤
 IsLine (component name pmu) = (is_name name ≡ true) × (is_name pmu ≡ true)
 IsLine (counter name width fixed) = (is_name name ≡ true) × IfSome width IsWidth
 IsLine (event name select names text) = IsEventLine name select names
 IsLine (umask m) = (is_name m.name ≡ true) × (m.bits < 2 ^ 8)
+IsLine line = ⊤

@@ -1,6 +1,7 @@
 -- What one row of a unit file says, by itself. The file format is this project's own.
-use Rattle.std.specs.Prelude.{◌&&◌, ◌||◌, ◌==◌, ℕ, Bool, true, false, not, List, length, Option, Some, None, if◌then◌else◌, nat_le, codes}
+use Rattle.std.specs.Prelude.{◌&&◌, ◌||◌, ◌==◌, ℕ, Bool, true, false, not, List, length, Option, Some, None, unwrap_or, if◌then◌else◌, nat_le, codes}
 use Rattle.std.specs.List.{filter, list_all, slice_split}
+use Rattle.std.specs.Option.{option_map_or}
 use Rattle.std.specs.Str.{bytes_eq}
 use Rattle.papi_base.specs.declared.limits.TheConstants.{LEAST_WIDTH, MOST_WIDTH}
 use Rattle.table_rows.specs.Texts.{Text, decimal_in, hex_in, is_decimal, is_empty, is_name, is_printable, is_skipped, text_at}
@@ -56,11 +57,8 @@ counter_line name width kind =
 
 -- an EVENT row with these fields
 abbrev pub event_line : Text → Text → Text → Text → Line
-event_line name select counters text = go (hex_in 1 2 select)
-  where
-    go : Option ℕ → Line
-    go None = bad
-    go (Some n) = if is_name name && are_names (words_of counters) && is_description text then event name n (words_of counters) text else bad
+event_line name select counters text =
+    option_map_or (λ n. if is_name name && are_names (words_of counters) && is_description text then event name n (words_of counters) text else bad) (hex_in 1 2 select) bad
 
 -- a umask with this name, these bits and flags
 abbrev pub mask_of : Text → ℕ → Flags → Text → MaskText
@@ -68,12 +66,8 @@ mask_of name bits f text = record { name = name; bits = bits; preset_choice = f.
 
 -- a UMASK row with these fields
 abbrev pub umask_line : Text → Text → Text → Text → Line
-umask_line name bits letters text = go (hex_in 1 2 bits) (flags_of letters)
-  where
-    go : Option ℕ → Option Flags → Line
-    go None f = bad
-    go (Some n) None = bad
-    go (Some n) (Some f) = if is_name name && is_description text then umask (mask_of name n f text) else bad
+umask_line name bits letters text =
+    option_map_or (λ n. option_map_or (λ f. if is_name name && is_description text then umask (mask_of name n f text) else bad) (flags_of letters) bad) (hex_in 1 2 bits) bad
 
 -- what a row with these fields says
 unfoldable pub line_of : List Text → Line
@@ -95,3 +89,7 @@ row_line (row.Component name pmu) = component name.now pmu.now
 row_line (row.Counter name width fixed) = counter name.now width fixed
 row_line (row.Event name select counters text) = event name.now select (words_of counters.now) text.now
 row_line (row.Umask name bits f text) = umask (mask_of name.now bits f text.now)
+
+-- what a row says that has one of the forms or none
+abbrev pub line_or_bad : Option Row → Line
+line_or_bad o = row_line (unwrap_or o row.Bad)

@@ -1,6 +1,6 @@
 -- The tables of some rows and of one row more.
 use Rattle.std.specs.Prelude.{⊤, ◌≡◌, ◌<◌, length, false, List, [], ◌∷◌, ◌++◌}
-use Rattle.event_tables.specs.Lines.{Line, skipped, bad, component, counter, event, umask}
+use Rattle.event_tables.specs.Lines.{Line, component, counter, event, umask}
 use Rattle.std.specs.List.{list_any}
 use Rattle.event_tables.specs.Tables.{ComponentText, CounterText, EventText, MaskText, same_name}
 use Rattle.event_tables.specs.Unit.{component_of, counter_row, event_row}
@@ -29,12 +29,10 @@ with_inner_mask m c = record c { events = on_last (with_mask m) c.events }
 
 -- a component with a row of its own, that is not a component
 abbrev pub grown : Line → ComponentText → ComponentText
-grown skipped c = c
-grown bad c = c
-grown (component name pmu) c = c
 grown (counter name width fixed) c = with_counter (counter_row name width fixed) c
 grown (event name select names text) c = with_event (event_row c.counters name select names text []) c
 grown (umask m) c = with_inner_mask m c
+grown line c = c
 
 -- an event has a new name, and a umask has an event above it
 abbrev pub CanGrow : Line → ComponentText → Type 0

@@ -42,32 +42,25 @@ event_row counters name select names text masks = record { name = name; select =
 -- the umasks of the rows up to the next event or component
 unfoldable pub masks_in : List Line → List MaskText
 masks_in [] = []
-masks_in (skipped ∷ rest) = masks_in rest
-masks_in (bad ∷ rest) = masks_in rest
 masks_in (component name pmu ∷ rest) = []
-masks_in (counter name width fixed ∷ rest) = masks_in rest
 masks_in (event name select names text ∷ rest) = []
 masks_in (umask m ∷ rest) = m ∷ masks_in rest
+masks_in (line ∷ rest) = masks_in rest
 
 -- the counters of the rows up to the next component
 unfoldable pub counters_in : List Line → List CounterText
 counters_in [] = []
-counters_in (skipped ∷ rest) = counters_in rest
-counters_in (bad ∷ rest) = counters_in rest
 counters_in (component name pmu ∷ rest) = []
 counters_in (counter name width fixed ∷ rest) = counter_row name width fixed ∷ counters_in rest
-counters_in (event name select names text ∷ rest) = counters_in rest
-counters_in (umask m ∷ rest) = counters_in rest
+counters_in (line ∷ rest) = counters_in rest
 
 -- the events of the rows up to the next component, if `above` are the counters of the component above them
 unfoldable pub events_in : List CounterText → List Line → List EventText
 events_in above [] = []
-events_in above (skipped ∷ rest) = events_in above rest
-events_in above (bad ∷ rest) = events_in above rest
 events_in above (component name pmu ∷ rest) = []
 events_in above (counter name width fixed ∷ rest) = events_in (above ++ counter_row name width fixed ∷ []) rest
 events_in above (event name select names text ∷ rest) = event_row above name select names text (masks_in rest) ∷ events_in above rest
-events_in above (umask m ∷ rest) = events_in above rest
+events_in above (line ∷ rest) = events_in above rest
 
 -- the component that a row gives, with what the rows below it give
 abbrev pub component_of : Text → Text → List Line → ComponentText
@@ -76,12 +69,8 @@ component_of name pmu rest = record { name = name; pmu = pmu; counters = counter
 -- the components, each with the rows below it up to the next one
 unfoldable pub components_in : List Line → List ComponentText
 components_in [] = []
-components_in (skipped ∷ rest) = components_in rest
-components_in (bad ∷ rest) = components_in rest
 components_in (component name pmu ∷ rest) = component_of name pmu rest ∷ components_in rest
-components_in (counter name width fixed ∷ rest) = components_in rest
-components_in (event name select names text ∷ rest) = components_in rest
-components_in (umask m ∷ rest) = components_in rest
+components_in (line ∷ rest) = components_in rest
 
 -- ---- the cause of a row, in view of the tables of the rows above it; the causes are tried in the order of `RowCause`
 

@@ -30,10 +30,7 @@ impl LowerName {
         ensures { result ≡ (if is_name bytes.now then Some (str_to_ascii_lowercase bytes.now)
             else None) }
     {
-        match name_text(bytes) {
-            Some(name) => Some(LowerName::of_name(name)),
-            None => None,
-        }
+        Some(LowerName::of_name(name_text(bytes)?))
     }
 
     /// A name in lower case.

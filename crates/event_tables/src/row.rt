@@ -7,7 +7,7 @@ ghost use Rattle.csv.specs.Records.{fields_of};
 ghost use Rattle.papi_base.specs.declared.limits.TheConstants.{LEAST_WIDTH, MOST_WIDTH};
 ghost use Rattle.table_rows.specs.Texts as Texts;
 ghost use Rattle.event_tables.specs.Lines as Lines;
-ghost use Rattle.event_tables.specs.Lines.{line_of, row_line, words_of};
+ghost use Rattle.event_tables.specs.Lines.{line_of, line_or_bad, row_line, words_of};
 
 use crate::limits::LONGEST_DESCRIPTION;
 use papi_base::{LEAST_WIDTH, MOST_WIDTH};
@@ -89,36 +89,26 @@ fn description(bytes: &[u8]) -> Option<&str>
 fn byte_of(bytes: &[u8]) -> Option<u8>
     ensures { result ≡ Texts.hex_in 1 2 bytes.now }
 {
-    match hex_in(1, 2, bytes) {
-        Some(n) => Some(n as u8),
-        None => None,
-    }
+    Some(hex_in(1, 2, bytes)? as u8)
 }
 
 // The width that a decimal number says, if it is in its range.
 fn width_of(bytes: &[u8]) -> Option<u8>
     ensures { result ≡ Texts.decimal_in LEAST_WIDTH MOST_WIDTH bytes.now }
 {
-    match decimal_in(LEAST_WIDTH as u64, MOST_WIDTH as u64, bytes) {
-        Some(n) => Some(n as u8),
-        None => None,
-    }
+    Some(decimal_in(LEAST_WIDTH as u64, MOST_WIDTH as u64, bytes)? as u8)
 }
 
 #[tactic(auto, unfolding(crate::specs::Lines::flags_of))]
 fn flags_of(letters: &[u8]) -> Option<Flags>
     ensures { result ≡ Lines.flags_of letters.now }
 {
-    let (preset_choice, alone) = if letters == b"-".as_slice() {
-        (false, false)
-    } else if letters == b"d".as_slice() {
-        (true, false)
-    } else if letters == b"n".as_slice() {
-        (false, true)
-    } else if letters == b"dn".as_slice() || letters == b"nd".as_slice() {
-        (true, true)
-    } else {
-        return None;
+    let (preset_choice, alone) = match letters {
+        b"-" => (false, false),
+        b"d" => (true, false),
+        b"n" => (false, true),
+        b"dn" | b"nd" => (true, true),
+        _ => return None,
     };
     Some(Flags {
         preset_choice,
@@ -126,16 +116,12 @@ fn flags_of(letters: &[u8]) -> Option<Flags>
     })
 }
 
-fn component_row<'r>(name: &'r [u8], pmu: &'r [u8]) -> Row<'r>
-    ensures { row_line result ≡ Lines.component_line name.now pmu.now }
+fn component_row<'r>(name: &'r [u8], pmu: &'r [u8]) -> Option<Row<'r>>
+    ensures { line_or_bad result ≡ Lines.component_line name.now pmu.now }
 {
-    let Some(name) = name_text(name) else {
-        return Row::Bad;
-    };
-    match name_text(pmu) {
-        Some(pmu) => Row::Component { name, pmu },
-        None => Row::Bad,
-    }
+    let name = name_text(name)?;
+    let pmu = name_text(pmu)?;
+    Some(Row::Component { name, pmu })
 }
 
 // Whether a kind of counter is the fixed one, if it is a kind: `F` or `P`.
@@ -143,78 +129,60 @@ fn fixed_of(kind: &[u8]) -> Option<bool>
     ensures { result ≡ (if bytes_eq kind.now (codes "F") then Some true
         else if bytes_eq kind.now (codes "P") then Some false else None) }
 {
-    if kind == b"F".as_slice() {
-        Some(true)
-    } else if kind == b"P".as_slice() {
-        Some(false)
-    } else {
-        None
+    match kind {
+        b"F" => Some(true),
+        b"P" => Some(false),
+        _ => None,
     }
 }
 
-fn counter_row<'r>(name: &'r [u8], width: &'r [u8], kind: &[u8]) -> Row<'r>
-    ensures { row_line result ≡ Lines.counter_line name.now width.now kind.now }
+fn counter_row<'r>(name: &'r [u8], width: &'r [u8], kind: &[u8]) -> Option<Row<'r>>
+    ensures { line_or_bad result ≡ Lines.counter_line name.now width.now kind.now }
 {
-    let Some(fixed) = fixed_of(kind) else {
-        return Row::Bad;
-    };
+    let fixed = fixed_of(kind)?;
     if !is_decimal(width) {
-        return Row::Bad;
+        return None;
     }
-    match name_text(name) {
-        Some(name) => Row::Counter {
-            name,
-            width: width_of(width),
-            fixed,
-        },
-        None => Row::Bad,
-    }
+    let name = name_text(name)?;
+    let width = width_of(width);
+    Some(Row::Counter { name, width, fixed })
 }
 
-fn event_row<'r>(name: &'r [u8], select: &[u8], counters: &'r [u8], text: &'r [u8]) -> Row<'r>
-    ensures { row_line result ≡ Lines.event_line name.now select.now counters.now text.now }
+fn event_row<'r>(
+    name: &'r [u8],
+    select: &[u8],
+    counters: &'r [u8],
+    text: &'r [u8],
+) -> Option<Row<'r>>
+    ensures { line_or_bad result ≡ Lines.event_line name.now select.now counters.now text.now }
 {
-    let Some(select) = byte_of(select) else {
-        return Row::Bad;
-    };
-    let Some(name) = name_text(name) else {
-        return Row::Bad;
-    };
+    let select = byte_of(select)?;
+    let name = name_text(name)?;
     if !are_names(counters) {
-        return Row::Bad;
+        return None;
     }
-    match description(text) {
-        Some(text) => Row::Event {
-            name,
-            select,
-            counters,
-            text,
-        },
-        None => Row::Bad,
-    }
+    let text = description(text)?;
+    Some(Row::Event {
+        name,
+        select,
+        counters,
+        text,
+    })
 }
 
-fn umask_row<'r>(name: &'r [u8], bits: &[u8], letters: &[u8], text: &'r [u8]) -> Row<'r>
-    ensures { row_line result ≡ Lines.umask_line name.now bits.now letters.now text.now }
+fn umask_row<'r>(name: &'r [u8], bits: &[u8], letters: &[u8], text: &'r [u8]) -> Option<Row<'r>>
+    ensures { line_or_bad result ≡ Lines.umask_line name.now bits.now letters.now text.now }
 {
-    let Some(bits) = byte_of(bits) else {
-        return Row::Bad;
-    };
-    let Some(flags) = flags_of(letters) else {
-        return Row::Bad;
-    };
-    let Some(name) = name_text(name) else {
-        return Row::Bad;
-    };
-    match description(text) {
-        Some(text) => Row::Umask {
-            name,
-            bits,
-            flags,
-            text,
-        },
-        None => Row::Bad,
-    }
+    let bits = byte_of(bits)?;
+    let flags = flags_of(letters)?;
+    let name = name_text(name)?;
+    let text = description(text)?;
+    Some(Row::Umask {
+        name,
+        bits,
+        flags,
+        text,
+    })
 }
 
 // Whether a record begins with this word and has as many fields.
@@ -233,27 +201,21 @@ pub fn row_of(row: &ByteRecord) -> Row<'_>
     if is_skipped(text_at(row, 0)) {
         return Row::Skipped;
     }
+    let first = text_at(row, 1);
+    let second = text_at(row, 2);
+    let third = text_at(row, 3);
+    let fourth = text_at(row, 4);
     if has_form(row, b"COMPONENT", 3) {
-        return component_row(text_at(row, 1), text_at(row, 2));
+        return component_row(first, second).unwrap_or(Row::Bad);
     }
     if has_form(row, b"COUNTER", 4) {
-        return counter_row(text_at(row, 1), text_at(row, 2), text_at(row, 3));
+        return counter_row(first, second, third).unwrap_or(Row::Bad);
     }
     if has_form(row, b"EVENT", 5) {
-        return event_row(
-            text_at(row, 1),
-            text_at(row, 2),
-            text_at(row, 3),
-            text_at(row, 4),
-        );
+        return event_row(first, second, third, fourth).unwrap_or(Row::Bad);
     }
     if has_form(row, b"UMASK", 5) {
-        return umask_row(
-            text_at(row, 1),
-            text_at(row, 2),
-            text_at(row, 3),
-            text_at(row, 4),
-        );
+        return umask_row(first, second, third, fourth).unwrap_or(Row::Bad);
     }
     Row::Bad
 }

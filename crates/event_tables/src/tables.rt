@@ -64,20 +64,14 @@ impl Tables {
     pub fn event(&self, comp: u32, row: u32) -> Option<&EventRow>
         ensures { option_map (λ e. event_text e.now) result ≡ Texts.event_at self.now comp row }
     {
-        match self.component(comp) {
-            Some(c) => c.events.as_slice().get(row as usize),
-            None => None,
-        }
+        self.component(comp)?.events.as_slice().get(row as usize)
     }
 
     /// A counter of a component, and `None` if there is none.
     pub fn counter(&self, comp: u32, c: u32) -> Option<&Counter>
         ensures { option_map (λ k. counter_text k.now) result ≡ Texts.counter_at self.now comp c }
     {
-        match self.component(comp) {
-            Some(component) => component.counters.as_slice().get(c as usize),
-            None => None,
-        }
+        self.component(comp)?.counters.as_slice().get(c as usize)
     }
 
     /// The component of this name, without regard to ASCII case, and `None` if there is none.

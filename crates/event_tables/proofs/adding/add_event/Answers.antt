@@ -20,11 +20,6 @@ events_more c =
     ap (map event_text) c.in_ok-push.ensures.items ∙ map-append event_text old.events.items (c.in_ok-event.event ∷ [])
     ∙ ap (λ (e : EventText). map event_text old.events.items ++ e ∷ []) here
 
-pub returns-clause-event : goal.returns-clause-event
-returns-clause-event c =
-    let old = c.args.component.now in
-    ap (λ (es : List EventText). let r : ComponentText = record { name = string_bytes old.name; pmu = string_bytes old.pmu; counters = map counter_text old.counters.items; events = es } in r) (events_more c)
-
 pub returns-clause-indexed : goal.returns-clause-indexed
 returns-clause-indexed c =
     let old = c.args.component.now in
