@@ -3,7 +3,8 @@ use Rattle.std.proofs.Common.{◌≡◌, ◌∙◌, ◌+◌, ◌<◌, ◌≤◌,
 use Rattle.std.proofs.Common.{slice_get, refl, sym, ap, ap₂, subst, arith, codes, decimal, nat_lt, tests}
 use Rattle.std.specs.List.{AllByRecursion}
 use Rattle.std.proofs.lemmas.List.{map-append}
-use Rattle.event_tables.specs.Kept.{IsEvent, IsMask, IsTables, NoRepeats}
+use Rattle.event_tables.specs.Kept.{IsEvent, IsMask, IsTables}
+use Rattle.table_rows.specs.Tables.{NoTwo}
 use Rattle.event_tables.specs.Tables.{ComponentText, MaskText}
 use Rattle.table_rows.specs.Texts.{Text}
 use Rattle.table_rows.proofs.Texts.{Digits, all-append, all-map, decimal-digits}
@@ -61,7 +62,7 @@ mods-plain m lt =
 -- ---- what the attributes of the canonical name are judged as
 
 own-saids : (masks : List MaskText) (flags : List Bool) (mods : Mods) → AllByRecursion IsMask masks
-    → NoRepeats (λ (a b : MaskText). str_eq_ignore_ascii_case a.name b.name) masks → length flags ≡ length masks
+    → NoTwo (λ (a b : MaskText). str_eq_ignore_ascii_case a.name b.name) masks → length flags ≡ length masks
     → saids_of masks (chosen_words flags masks ++ mod_words mods) ≡ mask_saids 0 flags ++ mod_saids mods
 own-saids masks flags mods h d n =
     map-append (λ (a : Text). said_of masks (attribute_of a)) (chosen_words flags masks) (mod_words mods)

@@ -5,10 +5,11 @@ use Rattle.std.proofs.Common.{arith, tests, nat_lt, decimal, inl, inr, unwrap_or
 use Rattle.std.specs.Prelude.{if◌then◌else◌}
 use Rattle.std.specs.List.{AllByRecursion, list_any}
 use Rattle.std.specs.Option.{option_map_or, option_or}
-use Rattle.std.proofs.lemmas.Bool.{eq-eqb, eqb-true, ne_eqb, or_cases, or_left, or_parts, or_right}
+use Rattle.std.proofs.lemmas.Bool.{cond_both, eq-eqb, eqb-true, ne_eqb, or_cases, or_left, or_parts, or_right}
 use Rattle.std.proofs.lemmas.List.{length-append, length-map}
 use Rattle.std.proofs.lemmas.List.Folds.{list_any-append}
-use Rattle.event_tables.specs.Kept.{NoRepeats}
+use Rattle.papi_base.proofs.Steps.{passed_over}
+use Rattle.table_rows.specs.Tables.{NoTwo}
 use Rattle.event_tables.specs.Tables.{MaskText}
 use Rattle.table_rows.specs.Texts.{Text}
 use Rattle.papi_base.specs.declared.native.Mods.{Mods}
@@ -19,7 +20,7 @@ use Rattle.name_encoder.specs.Names.{has_true, invert, kernel, mask, meaning_fau
 use Rattle.name_encoder.specs.Names.{names_alone, names_mask, rank, row_alone, said_fault, same_meaning, set_to, user, value_of}
 use Rattle.name_encoder.proofs.Faultless.{AllFlags, Combine, cmask-back}
 use Rattle.name_encoder.proofs.Saids.{mask_saids, mod_said, mod_saids, said_if}
-use Rattle.name_encoder.proofs.Judging.{or-false}
+use Rattle.table_rows.proofs.Texts.{or-false}
 
 -- ---- the named umasks of a canonical name
 
@@ -99,11 +100,9 @@ flag-set m true e = rw e refl
 flag-set m false e = refl
 
 count-set : (n : ℕ) → n < 256 → option_map_or (λ (s : SaidAttribute). unwrap_or (value_of (modifier cmask) s.value) 0) (if nat_lt 0 n then Some (mod_said cmask (Some (decimal n))) else None) 0 ≡ n
-count-set n lt = go (nat_lt 0 n) refl
-  where
-    go : (b : Bool) → nat_lt 0 n ≡ b → option_map_or (λ (s : SaidAttribute). unwrap_or (value_of (modifier cmask) s.value) 0) (if b then Some (mod_said cmask (Some (decimal n))) else None) 0 ≡ n
-    go true e = rw (cmask-back n lt) refl
-    go false e = grind (arith, tests, e)
+count-set n lt =
+    cond_both (nat_lt 0 n) (Some (mod_said cmask (Some (decimal n)))) None (λ (o : Option SaidAttribute). option_map_or (λ s. unwrap_or (value_of (modifier cmask) s.value) 0) o 0 ≡ n)
+    (λ e. rw (cmask-back n lt) refl) (λ e. grind (arith, tests, e))
 
 pub mods-own : (flags : List Bool) (m : Mods) → m.cmask < 256 → mods_of (mask_saids 0 flags ++ mod_saids m) ≡ m
 unfolding set_to flag_value
@@ -152,14 +151,10 @@ none-alone masks (s ∷ said) i f e =
 
 -- a faultless attribute that names a umask does not clash
 mask-clear : (masks : List MaskText) (above : List SaidAttribute) (s : SaidAttribute) (i : ℕ) → said_fault masks above s ≡ None → s.meaning ≡ Some (mask i) → clashes masks above s ≡ false
-mask-clear masks above s i e is = go (list_any (means (mask i)) above) (is_none (value_of (mask i) s.value)) (clashes masks above s)
-    (subst (λ (o : Option Meaning). option_map_or (meaning_fault masks above s) o (Some name_fault.Attr) ≡ None) is e)
-  where
-    go : (a b c : Bool) → (if a then Some name_fault.AttrSet else if b then Some name_fault.AttrVal else if c then Some name_fault.FeatComb else None) ≡ None → c ≡ false
-    go true b c q = cc q
-    go false true c q = cc q
-    go false false true q = cc q
-    go false false false q = refl
+mask-clear masks above s i e is =
+    let seen = passed_over (list_any (means (mask i)) above) name_fault.AttrSet _ (subst (λ (o : Option Meaning). option_map_or (meaning_fault masks above s) o (Some name_fault.Attr) ≡ None) is e) in
+    let valued = passed_over (is_none (value_of (mask i) s.value)) name_fault.AttrVal _ seen.1 in
+    (passed_over (clashes masks above s) name_fault.FeatComb None valued.1).0
 
 free-after : (masks : List MaskText) (above : List SaidAttribute) (s : SaidAttribute) (i j : ℕ) → said_fault masks above s ≡ None → s.meaning ≡ Some (mask j) → Named above i
     → list_any (names_alone masks) (above ++ s ∷ []) ≡ false
@@ -238,14 +233,14 @@ not-both m [] j h e d = cc d
 not-both m (x ∷ masks) zero h e d = let both : (m.preset_choice && x.preset_choice) ≡ true = rw (e, d) refl in cc (sym h.0 ∙ both)
 not-both m (x ∷ masks) (suc j) h e d = not-both m masks j h.1 e d
 
-one-default : (masks : List MaskText) (i j : ℕ) → NoRepeats (λ (a b : MaskText). a.preset_choice && b.preset_choice) masks → (i == j) ≡ false → Default masks i → Default masks j → ⊥
+one-default : (masks : List MaskText) (i j : ℕ) → NoTwo (λ (a b : MaskText). a.preset_choice && b.preset_choice) masks → (i == j) ≡ false → Default masks i → Default masks j → ⊥
 one-default [] i j h ne a b = cc a
 one-default (m ∷ masks) zero zero h ne a b = cc ne
 one-default (m ∷ masks) zero (suc j) h ne a b = not-both m masks j h.0 a b
 one-default (m ∷ masks) (suc i) zero h ne a b = not-both m masks i h.0 b a
 one-default (m ∷ masks) (suc i) (suc j) h ne a b = one-default masks i j h.1 (ne_eqb i j (λ e. cc (sym (eq-eqb (suc i) (suc j) (ap suc e)) ∙ ne))) a b
 
-pub choice-of : (masks : List MaskText) (said : List SaidAttribute) (flags : List Bool) → NoRepeats (λ (a b : MaskText). a.preset_choice && b.preset_choice) masks → fault_from masks [] said ≡ None
+pub choice-of : (masks : List MaskText) (said : List SaidAttribute) (flags : List Bool) → NoTwo (λ (a b : MaskText). a.preset_choice && b.preset_choice) masks → fault_from masks [] said ≡ None
     → chosen masks (named_from said 0 masks) ≡ Some flags → Choice masks flags
 unfolding AllFlags
 choice-of [] said flags d e c =

@@ -3,6 +3,7 @@ use Rattle.std.proofs.Common.{◌≡◌, ◌∙◌, ◌<◌, ◌≤◌, ◌^◌,
 use Rattle.std.proofs.lemmas.List.{length-map}
 use Rattle.std.proofs.lemmas.Nat.{and_le_l}
 use Rattle.std.proofs.lemmas.Option.{slice_get-map, slice_get_within}
+use Rattle.std.proofs.lemmas.Bool.{cond_both}
 use Rattle.std.specs.Prelude.{IfOk, Result, if◌then◌else◌, option_map}
 use Rattle.std.specs.Int.RustNames.{bit_and}
 use Rattle.table_rows.specs.Texts.{Text}
@@ -39,11 +40,8 @@ pub encoded : (tables : List ComponentText) (text : Text) (s : Split) (f : Found
 encoded tables text s f r is found le e = ap (native_next f) e ∙ named-given f s.attributes le ∙ sym (names-found tables text s f is found)
 
 allowed-less : (mods : Mods) (counters : List CounterText) (allowed : ℕ) → allowed_with mods counters allowed ≤ allowed
-allowed-less mods counters allowed = go (mods.edge || (mods.invert || nat_lt 0 mods.cmask))
-  where
-    go : (b : Bool) → (if b then bit_and allowed (programmable counters) else allowed) ≤ allowed
-    go true = and_le_l allowed (programmable counters)
-    go false = omega arith
+allowed-less mods counters allowed =
+    cond_both (mods.edge || (mods.invert || nat_lt 0 mods.cmask)) (bit_and allowed (programmable counters)) allowed (λ k. k ≤ allowed) (λ b. and_le_l allowed (programmable counters)) (λ b. omega arith)
 
 event-fits : (tables : List ComponentText) (s : Split) (f : Found) (flags : List Bool) (mods : Mods) → IsTables tables → found_from s 0 tables ≡ Some f
     → FitsShape (shape_of tables) (native_of f flags mods)

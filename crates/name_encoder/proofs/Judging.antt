@@ -10,6 +10,7 @@ use Rattle.std.proofs.lemmas.List.Folds.{find-append, list_any-append}
 use Rattle.std.specs.Prelude.{⊤, if◌then◌else◌, is_some}
 use Rattle.std.specs.List.{AllByRecursion, list_any}
 use Rattle.std.specs.Option.{option_map_or, option_or}
+use Rattle.table_rows.proofs.Texts.{or-false}
 use Rattle.table_rows.specs.Texts.{Text}
 use Rattle.event_tables.specs.Tables.{MaskText}
 use Rattle.papi_base.specs.declared.native.Mods.{Mods}
@@ -18,10 +19,10 @@ use Rattle.name_encoder.specs.declared.fault.NameFault.{NameFault}
 use Rattle.name_encoder.specs.declared.fault.NameFault.TheVariants as name_fault
 use Rattle.name_encoder.specs.Names.{Found, Meaning, Modifier, SaidAttribute, chosen, clashes, cmask, edge, fault_from, invert, is_set}
 use Rattle.name_encoder.specs.Names.{kernel, mask, meaning_of, means, mods_of, modifier, named_event, named_from, names_alone}
-use Rattle.name_encoder.specs.Names.{names_mask, native_or, rank, row_alone, said_fault, saids_of, set_to, user, value_of}
+use Rattle.name_encoder.specs.Names.{names_mask, native_chosen, native_or, rank, row_alone, said_fault, saids_of, set_to, user, value_of}
 use Rattle.name_encoder.specs.Split.{attribute_of}
 use Rattle.name_encoder.proofs.Steps.{meaning-row}
-use Rattle.name_encoder.specs.Judged.{all_given, flags_given, given_next, is_named, mask_given, mods_given, modifier_given, native_chosen}
+use Rattle.name_encoder.specs.Judged.{all_given, flags_given, given_next, is_named, mask_given, mods_given, modifier_given}
 use Rattle.name_encoder.specs.Judged.{native_next, nothing, said_given, value_given, with_mask, with_value}
 
 abbrev said : Option Meaning → Option Text → SaidAttribute
@@ -57,10 +58,6 @@ nothing-given : (masks : List MaskText) → length masks ≤ 16 → AreSaid mask
 nothing-given masks le = record { room = refl; named = none-named 0 masks nothing.named (omega (arith, le)) all-false; some = refl; alone = refl; values = no-values }
 
 -- ---- one more
-
-pub or-false : (b : Bool) → (b || false) ≡ b
-or-false true = refl
-or-false false = refl
 
 any-more : (p : SaidAttribute → Bool) (xs : List SaidAttribute) (s : SaidAttribute) → list_any p (xs ++ s ∷ []) ≡ (list_any p xs || p s)
 any-more p xs s = list_any-append p xs (s ∷ []) ∙ ap (λ (b : Bool). list_any p xs || b) (or-false (p s))
@@ -165,30 +162,11 @@ mask-judged masks xs g row v lt le h = go (is_named g row) (is_some v) (g.some &
 
 value-with : (g : Attributes) (m n : Modifier) (v : ℕ) → value_given (with_value g m v) n ≡ (if rank n == rank m then Some v else value_given g n)
 value-with g user user v = refl
-value-with g user kernel v = refl
-value-with g user edge v = refl
-value-with g user invert v = refl
-value-with g user cmask v = refl
 value-with g kernel user v = refl
-value-with g kernel kernel v = refl
-value-with g kernel edge v = refl
-value-with g kernel invert v = refl
-value-with g kernel cmask v = refl
 value-with g edge user v = refl
-value-with g edge kernel v = refl
-value-with g edge edge v = refl
-value-with g edge invert v = refl
-value-with g edge cmask v = refl
 value-with g invert user v = refl
-value-with g invert kernel v = refl
-value-with g invert edge v = refl
-value-with g invert invert v = refl
-value-with g invert cmask v = refl
 value-with g cmask user v = refl
-value-with g cmask kernel v = refl
-value-with g cmask edge v = refl
-value-with g cmask invert v = refl
-value-with g cmask cmask v = refl
+value-with g m n v = refl
 
 abbrev modifier-at : ℕ → Modifier
 modifier-at zero = user
@@ -340,13 +318,8 @@ named-given f texts le = go (all_given masks nothing xs) (all-judged masks [] xs
     xs : List SaidAttribute
     xs = saids_of masks texts
 
-    choose : (m : Mods) (o : Option (List Bool)) → native_chosen f m o ≡ native_or f m None o
-    choose m None = refl
-    choose m (Some flags) = refl
-
     go : (x : Result Attributes NameFault) → AllSays masks [] xs x → native_next f x ≡ named_event f xs
     go (Err fault) e = rw e refl
     go (Ok g) e =
         ap₂ (λ (m : Mods) (flags : List Bool). native_chosen f m (chosen masks flags)) (mods-given masks xs g e.1) e.1.named
-        ∙ choose (mods_of xs) (chosen masks (named_from xs 0 masks))
         ∙ ap (λ (o : Option NameFault). native_or f (mods_of xs) o (chosen masks (named_from xs 0 masks))) (sym e.0)

@@ -5,7 +5,8 @@ use Rattle.std.specs.Prelude.{if◌then◌else◌}
 use Rattle.std.specs.List.{AllByRecursion, position_from}
 use Rattle.std.specs.Str.{str_eq_ignore_ascii_case, str_to_ascii_lowercase}
 use Rattle.std.proofs.lemmas.List.{length-append, map-append}
-use Rattle.event_tables.specs.Kept.{IsMask, NoRepeats}
+use Rattle.event_tables.specs.Kept.{IsMask}
+use Rattle.table_rows.specs.Tables.{NoTwo}
 use Rattle.event_tables.specs.Tables.{MaskText}
 use Rattle.table_rows.specs.Texts.{Text}
 use Rattle.name_encoder.specs.Flags.{bits_of}
@@ -99,19 +100,19 @@ all-middle : {X : Type 0} (P : X → Type 0) (above : List X) (m : X) (rest : Li
 all-middle P [] m rest h = h.0
 all-middle P (x ∷ above) m rest h = all-middle P above m rest h.1
 
-repeats-above : {X : Type 0} (same : X → X → Bool) (above : List X) (m : X) (rest : List X) → NoRepeats same (above ++ m ∷ rest) → AllByRecursion (λ x. same x m ≡ false) above
+repeats-above : {X : Type 0} (same : X → X → Bool) (above : List X) (m : X) (rest : List X) → NoTwo same (above ++ m ∷ rest) → AllByRecursion (λ x. same x m ≡ false) above
 repeats-above same [] m rest h = tt
 repeats-above same (x ∷ above) m rest h = (all-middle (λ y. same x y ≡ false) above m rest h.0, repeats-above same above m rest h.1)
 
-mask-said : (all above rest : List MaskText) (m : MaskText) → all ≡ above ++ m ∷ rest → NoRepeats (λ (a b : MaskText). str_eq_ignore_ascii_case a.name b.name) all → IsMask m
+mask-said : (all above rest : List MaskText) (m : MaskText) → all ≡ above ++ m ∷ rest → NoTwo (λ (a b : MaskText). str_eq_ignore_ascii_case a.name b.name) all → IsMask m
     → said_of all (attribute_of m.name) ≡ record { meaning = Some (mask (length above)); value = None }
 unfolding meaning_of
 mask-said all above rest m is d h =
-    let apart = repeats-above (λ (a b : MaskText). str_eq_ignore_ascii_case a.name b.name) above m rest (subst (NoRepeats (λ (a b : MaskText). str_eq_ignore_ascii_case a.name b.name)) is d) in
+    let apart = repeats-above (λ (a b : MaskText). str_eq_ignore_ascii_case a.name b.name) above m rest (subst (NoTwo (λ (a b : MaskText). str_eq_ignore_ascii_case a.name b.name)) is d) in
     let at = position-at (λ (x : MaskText). str_eq_ignore_ascii_case x.name m.name) 0 (length above) above m rest (omega arith) apart (same-self m.name) in
     rw (attribute-word m.name (name-signs m.name h.named), is, at) refl
 
-pub words-said : (all above rest : List MaskText) (flags : List Bool) → all ≡ above ++ rest → NoRepeats (λ (a b : MaskText). str_eq_ignore_ascii_case a.name b.name) all
+pub words-said : (all above rest : List MaskText) (flags : List Bool) → all ≡ above ++ rest → NoTwo (λ (a b : MaskText). str_eq_ignore_ascii_case a.name b.name) all
     → AllByRecursion IsMask rest → length flags ≡ length rest → saids_of all (chosen_words flags rest) ≡ mask_saids (length above) flags
 unfolding chosen_words mask_saids
 words-said all above [] [] is d h n = refl

@@ -6,6 +6,7 @@ use Rattle.std.specs.Prelude.{◌&&◌, if◌then◌else◌, option_map, slice_g
 use Rattle.std.specs.List.{position_from}
 use Rattle.std.specs.Option.{option_and_then, option_or}
 use Rattle.std.specs.Str.{str_eq_ignore_ascii_case, str_to_ascii_lowercase}
+use Rattle.papi_base.proofs.Steps.{passed_over}
 use Rattle.table_rows.specs.Texts.{Text}
 use Rattle.event_tables.specs.Tables.{ComponentText, EventText, event_at, event_of_lower, row_of_lower}
 use Rattle.name_encoder.specs.Split.{Split}
@@ -42,13 +43,9 @@ event-at comp row k c name (x ∷ es) e = go (str_eq_ignore_ascii_case x.name na
 event-none : (comp k : ℕ) (c : ComponentText) (name : Text) (es : List EventText) → position_from (λ x. str_eq_ignore_ascii_case x.name name) k es ≡ None → event_from comp c name k es ≡ None
 unfolding event_from
 event-none comp k c name [] e = refl
-event-none comp k c name (x ∷ es) e = go (str_eq_ignore_ascii_case x.name name) e (λ q. event-none comp (k + 1) c name es q)
-  where
-    go : (b : Bool) → (if b then Some k else position_from (λ y. str_eq_ignore_ascii_case y.name name) (k + 1) es) ≡ None
-        → (position_from (λ y. str_eq_ignore_ascii_case y.name name) (k + 1) es ≡ None → event_from comp c name (k + 1) es ≡ None)
-        → (if b then Some (found comp k c x) else event_from comp c name (k + 1) es) ≡ None
-    go true q more = cc q
-    go false q more = more q
+event-none comp k c name (x ∷ es) e =
+    let q = passed_over (str_eq_ignore_ascii_case x.name name) k (position_from (λ y. str_eq_ignore_ascii_case y.name name) (k + 1) es) e in
+    rw q.0 (event-none comp (k + 1) c name es q.1)
 
 row-of : (tables : List ComponentText) (comp : ℕ) (c : ComponentText) (lower name : Text) (o : Option ℕ) → slice_get tables comp ≡ Some c → lower ≡ str_to_ascii_lowercase name
     → o ≡ event_of_lower tables comp lower → position_from (λ x. str_eq_ignore_ascii_case x.name name) 0 c.events ≡ o

@@ -1,6 +1,6 @@
 -- A text that is not a name is the name of no event.
 use Rattle.std.proofs.Common.{◌≡◌, ◌∙◌, ◌+◌, ◌<◌, ◌≤◌, ◌∷◌, ℕ, List, [], None, Bool, true, false, length, refl, sym, ap, arith}
-use Rattle.std.proofs.lemmas.Bool.{and_from, le-leb, ltb-false, ltb-true, and_parts}
+use Rattle.std.proofs.lemmas.Bool.{and_from, and_parts, cond_both, false_from_ne_true, le-leb, ltb-false, ltb-true}
 use Rattle.std.proofs.lemmas.List.{length-map}
 use Rattle.std.proofs.lemmas.Slice.Eq.{bytes_eq-Decides}
 use Rattle.std.specs.Char.{to_ascii_lowercase}
@@ -62,13 +62,8 @@ name-lower a b e h =
 -- ---- no event has a name that is not one
 
 apart : (a b : Text) → is_name a ≡ true → is_name b ≡ false → str_eq_ignore_ascii_case a b ≡ false
-apart a b h n = go (str_eq_ignore_ascii_case a b) refl
-  where
-    go : (t : Bool) → str_eq_ignore_ascii_case a b ≡ t → t ≡ false
-    go false e = refl
-    go true e =
-        let named = name-lower a b ((bytes_eq-Decides (str_to_ascii_lowercase a) (str_to_ascii_lowercase b)).0 e) h in
-        cc (named, n)
+apart a b h n = false_from_ne_true (str_eq_ignore_ascii_case a b)
+    (λ e. let named = name-lower a b ((bytes_eq-Decides (str_to_ascii_lowercase a) (str_to_ascii_lowercase b)).0 e) h in cc (named, n))
 
 event-unnamed : (n comp row : ℕ) (c : ComponentText) (name : Text) (es : List EventText) → is_name name ≡ false → AllByRecursion (IsEvent n) es → event_from comp c name row es ≡ None
 unfolding event_from
@@ -76,11 +71,8 @@ event-unnamed n comp row c name [] f h = refl
 event-unnamed n comp row c name (x ∷ es) f h = rw (apart x.name name h.0.named f) (event-unnamed n comp (row + 1) c name es f h.1)
 
 choice-unnamed : (s : Split) (comp : ℕ) (c : ComponentText) → is_name s.event ≡ false → IsComponent c → choice s comp c ≡ None
-choice-unnamed s comp c f h = go (agrees s.comp c.name && agrees s.pmu c.pmu)
-  where
-    go : (b : Bool) → (if b then event_from comp c s.event 0 c.events else None) ≡ None
-    go true = event-unnamed (length c.counters) comp 0 c s.event c.events f h.events
-    go false = refl
+choice-unnamed s comp c f h =
+    cond_both (agrees s.comp c.name && agrees s.pmu c.pmu) (event_from comp c s.event 0 c.events) None (λ o. o ≡ None) (λ b. event-unnamed (length c.counters) comp 0 c s.event c.events f h.events) (λ b. refl)
 
 pub unnamed : (s : Split) (comp : ℕ) (tables : List ComponentText) → is_name s.event ≡ false → AllByRecursion IsComponent tables → found_from s comp tables ≡ None
 unfolding found_from

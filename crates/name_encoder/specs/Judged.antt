@@ -117,14 +117,9 @@ mods_given g = record { user = is_on g.user; kernel = is_on g.kernel; edge = is_
 abbrev pub flags_given : List MaskText → Attributes → List Bool
 flags_given masks g = take (length masks) g.named
 
--- the native event of a found event and of what its attributes give
-abbrev pub native_chosen : Names.Found → Mods → Option (List Bool) → Result Native NameFault
-native_chosen f mods None = Err name_fault.Umask
-native_chosen f mods (Some flags) = Ok (Names.native_of f flags mods)
-
 -- the native of the event with what all attributes give
 abbrev pub native_given : Names.Found → Attributes → Result Native NameFault
-native_given f g = native_chosen f (mods_given g) (Names.chosen f.event.masks (flags_given f.event.masks g))
+native_given f g = Names.native_chosen f (mods_given g) (Names.chosen f.event.masks (flags_given f.event.masks g))
 
 -- that native, or the fault of an attribute
 abbrev pub native_next : Names.Found → Result Attributes NameFault → Result Native NameFault

@@ -73,9 +73,8 @@ rank cmask = 4
 -- two attributes name the same
 abbrev pub same_meaning : Meaning → Meaning → Bool
 same_meaning (mask a) (mask b) = a == b
-same_meaning (mask a) (modifier m) = false
-same_meaning (modifier m) (mask b) = false
 same_meaning (modifier m) (modifier n) = rank m == rank n
+same_meaning m n = false
 
 -- the modifier of a name in lower case
 unfoldable pub modifier_of : Text → Option Modifier
@@ -150,11 +149,8 @@ cmask_value (Some v) = if starts_with nat_eq v (codes "0x") then hex_in 1 2 (dro
 abbrev pub value_of : Meaning → Option Text → Option ℕ
 value_of (mask row) None = Some 1
 value_of (mask row) (Some v) = None
-value_of (modifier user) v = flag_value v
-value_of (modifier kernel) v = flag_value v
-value_of (modifier edge) v = flag_value v
-value_of (modifier invert) v = flag_value v
 value_of (modifier cmask) v = cmask_value v
+value_of (modifier m) v = flag_value v
 
 -- ---- the faults of attributes
 
@@ -204,9 +200,8 @@ chosen (m ∷ rest) named =
 
 -- the values of the chosen umasks, joined by OR
 unfoldable pub values_of : List Bool → List MaskText → ℕ
-values_of [] masks = 0
-values_of (b ∷ flags) [] = 0
 values_of (b ∷ flags) (m ∷ masks) = bit_or (if b then m.bits else 0) (values_of flags masks)
+values_of flags masks = 0
 
 -- the value that the attributes give a modifier, and 0 if they do not name it
 unfoldable pub set_to : List SaidAttribute → Modifier → ℕ
@@ -240,11 +235,15 @@ native_of f flags mods = record {
   allowed = allowed_with mods f.component.counters f.event.allowed;
 }
 
--- the native, or the first fault; without a umask if one is needed it is UMASK
+-- the native; without a umask if one is needed it is UMASK
+abbrev pub native_chosen : Found → Mods → Option (List Bool) → Result Native NameFault
+native_chosen f mods None = Err name_fault.Umask
+native_chosen f mods (Some flags) = Ok (native_of f flags mods)
+
+-- the native, or the first fault
 abbrev pub native_or : Found → Mods → Option NameFault → Option (List Bool) → Result Native NameFault
 native_or f mods (Some fault) flags = Err fault
-native_or f mods None None = Err name_fault.Umask
-native_or f mods None (Some flags) = Ok (native_of f flags mods)
+native_or f mods None flags = native_chosen f mods flags
 
 -- what an event with these attributes names
 abbrev pub named_event : Found → List SaidAttribute → Result Native NameFault
@@ -277,11 +276,8 @@ word_of name_fault.AttrSet = codes "ATTR_SET"
 -- PAPI's code for a fault: PAPI_add_named_event(3)
 abbrev pub fault_code : NameFault → Code
 fault_code name_fault.NotFound = code.Enoevnt
-fault_code name_fault.Umask = code.Eattr
 fault_code name_fault.FeatComb = code.Ecombo
-fault_code name_fault.Attr = code.Eattr
-fault_code name_fault.AttrVal = code.Eattr
-fault_code name_fault.AttrSet = code.Eattr
+fault_code f = code.Eattr
 
 -- ---- what fits a shape
 

@@ -1,6 +1,7 @@
 -- The parts of an event's text: `[component:::][pmu::]event[:attribute]..`.
 use Rattle.std.specs.Prelude.{◌==◌, List, [], ◌∷◌, length, drop, Option, Some, None, if◌then◌else◌, nat_eq, option_map, codes}
 use Rattle.std.specs.List.{slice_split, starts_with}
+use Rattle.std.specs.Option.{option_map_or}
 use Rattle.table_rows.specs.Texts.{Text}
 
 -- the text before the first place where it goes on with the mark, and the text after that mark
@@ -12,11 +13,7 @@ cut_at mark (b ∷ rest) =
 
 -- what stands before the mark, if the text has it, and the rest
 abbrev pub prefix_of : Text → Text → Option Text × Text
-prefix_of mark text = go (cut_at mark text)
-  where
-    go : Option (Text × Text) → Option Text × Text
-    go None = (None, text)
-    go (Some p) = (Some p.0, p.1)
+prefix_of mark text = option_map_or (λ p. (Some p.0, p.1)) (cut_at mark text) (None, text)
 
 -- an event's text in parts
 pub record Split : Type 0 where

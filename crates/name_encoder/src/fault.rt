@@ -49,10 +49,7 @@ pub fn cause_code(f: NameFault) -> Code
 {
     match f {
         NameFault::NotFound => Code::Enoevnt,
-        NameFault::Umask => Code::Eattr,
         NameFault::FeatComb => Code::Ecombo,
-        NameFault::Attr => Code::Eattr,
-        NameFault::AttrVal => Code::Eattr,
-        NameFault::AttrSet => Code::Eattr,
+        NameFault::Umask | NameFault::Attr | NameFault::AttrVal | NameFault::AttrSet => Code::Eattr,
     }
 }
