@@ -15,6 +15,7 @@ use Rattle.stream_reader.specs.declared.line.Judgement.{Judgement}
 use Rattle.stream_reader.specs.declared.line.Judgement.TheVariants.{Bad, Skipped, Version, Occurs}
 use Rattle.stream_reader.specs.Judged.{field, fields_judged, fields_of, given, is_above, is_skipped, judged, line_text, mode_of, occ_of, stamp_of, text_judged, without_return}
 use Rattle.stream_reader.specs.Occurs.{IsStart, after, line_passed}
+use Rattle.stream_reader.proofs.FirstItems.{whole}
 
 -- ---- how long fields are
 
@@ -61,28 +62,16 @@ unfolding mode_of
 mode-size k [] e = cc e
 mode-size k (b ∷ t) e = omega arith
 
-decimal-below : (low high n : ℕ) (t : List ℕ) → decimal_in low high t ≡ Some n → n ≤ high
+decimal-range : (low high n : ℕ) (t : List ℕ) → decimal_in low high t ≡ Some n → (low ≤ n) × (n ≤ high)
 unfolding decimal_in
-decimal-below low high n t e = go (is_decimal t && (nat_le low (digits_value 10 t) && nat_le (digits_value 10 t) high)) refl e
+decimal-range low high n t e = go (is_decimal t && (nat_le low (digits_value 10 t) && nat_le (digits_value 10 t) high)) refl e
   where
-    go : (b : Bool) → (is_decimal t && (nat_le low (digits_value 10 t) && nat_le (digits_value 10 t) high)) ≡ b → (if b then Some (digits_value 10 t) else None) ≡ Some n → n ≤ high
+    go : (b : Bool) → (is_decimal t && (nat_le low (digits_value 10 t) && nat_le (digits_value 10 t) high)) ≡ b → (if b then Some (digits_value 10 t) else None) ≡ Some n → (low ≤ n) × (n ≤ high)
     go true p q =
         let r = and_parts (is_decimal t) (nat_le low (digits_value 10 t) && nat_le (digits_value 10 t) high) p in
         let s = and_parts (nat_le low (digits_value 10 t)) (nat_le (digits_value 10 t) high) r.1 in
         let is : digits_value 10 t ≡ n = cc q in
-        subst (λ (k : ℕ). k ≤ high) is (leb-true (digits_value 10 t) high s.1)
-    go false p q = cc q
-
-decimal-least : (low high n : ℕ) (t : List ℕ) → decimal_in low high t ≡ Some n → low ≤ n
-unfolding decimal_in
-decimal-least low high n t e = go (is_decimal t && (nat_le low (digits_value 10 t) && nat_le (digits_value 10 t) high)) refl e
-  where
-    go : (b : Bool) → (is_decimal t && (nat_le low (digits_value 10 t) && nat_le (digits_value 10 t) high)) ≡ b → (if b then Some (digits_value 10 t) else None) ≡ Some n → low ≤ n
-    go true p q =
-        let r = and_parts (is_decimal t) (nat_le low (digits_value 10 t) && nat_le (digits_value 10 t) high) p in
-        let s = and_parts (nat_le low (digits_value 10 t)) (nat_le (digits_value 10 t) high) r.1 in
-        let is : digits_value 10 t ≡ n = cc q in
-        subst (λ (k : ℕ). low ≤ k) is (leb-true low (digits_value 10 t) s.0)
+        rw (← is) (leb-true low (digits_value 10 t) s.0, leb-true (digits_value 10 t) high s.1)
     go false p q = cc q
 
 -- the ranges of an occurrence
@@ -120,25 +109,22 @@ read-fields stamped count fields o e =
           let comp : a.value ≡ o.comp = ap (λ (x : Option Occ). option_map_or (λ (y : Occ). y.comp) x 0) h.rest in
           let amount : f.value ≡ o.amount = ap (λ (x : Option Occ). option_map_or (λ (y : Occ). y.amount) x 0) h.rest in
           record {
-            comp = rw (← comp) (decimal-below 0 15 a.value (field fields 0) a.there);
-            least = rw (← amount) (decimal-least 1 255 f.value (field fields 4) f.there);
-            greatest = rw (← amount) (decimal-below 1 255 f.value (field fields 4) f.there);
+            comp = rw (← comp) (decimal-range 0 15 a.value (field fields 0) a.there).1;
+            least = rw (← amount) (decimal-range 1 255 f.value (field fields 4) f.there).0;
+            greatest = rw (← amount) (decimal-range 1 255 f.value (field fields 4) f.there).1;
           };
     }
 
 all-size : (two : Bool) (fields : List (List ℕ)) → length fields ≡ 6 + flag_bit two
     → 8 ≤ length (field fields 0) + length (field fields 1) + length (field fields 2) + length (field fields 3) + length (field fields 4) + length (field fields 5) → 14 ≤ parts_size fields
-all-size false (a ∷ b ∷ c ∷ d ∷ e ∷ f ∷ []) n h = omega (arith, h)
-all-size true (a ∷ b ∷ c ∷ d ∷ e ∷ f ∷ g ∷ []) n h = omega (arith, h)
-all-size two [] n h = absurd (omega (arith, h))
-all-size two (a ∷ []) n h = absurd (omega (arith, n))
-all-size two (a ∷ b ∷ []) n h = absurd (omega (arith, n))
-all-size two (a ∷ b ∷ c ∷ []) n h = absurd (omega (arith, n))
-all-size two (a ∷ b ∷ c ∷ d ∷ []) n h = absurd (omega (arith, n))
-all-size two (a ∷ b ∷ c ∷ d ∷ e ∷ []) n h = absurd (omega (arith, n))
-all-size true (a ∷ b ∷ c ∷ d ∷ e ∷ f ∷ []) n h = absurd (omega (arith, n))
-all-size false (a ∷ b ∷ c ∷ d ∷ e ∷ f ∷ g ∷ rest) n h = absurd (omega (arith, n))
-all-size true (a ∷ b ∷ c ∷ d ∷ e ∷ f ∷ g ∷ i ∷ rest) n h = absurd (omega (arith, n))
+all-size two fields n h = go two n
+  where
+    P : List (List ℕ) → Type 0
+    P p = 8 ≤ length (field p 0) + length (field p 1) + length (field p 2) + length (field p 3) + length (field p 4) + length (field p 5) → 14 ≤ parts_size p
+
+    go : (two : Bool) → length fields ≡ 6 + flag_bit two → 14 ≤ parts_size fields
+    go false n = subst P (sym (whole [] 6 fields n)) (λ h. omega (arith, h)) h
+    go true n = subst P (sym (whole [] 7 fields n)) (λ h. omega (arith, h)) h
 
 -- ---- what an occurrence's line keeps
 
@@ -154,7 +140,7 @@ stamp-first true count n fields e q = cc q
 
 stamp-second : (stamped : Bool) (count n : ℕ) (fields : List (List ℕ)) → stamp_of stamped count fields ≡ Some n → stamped ≡ true → n ≤ 4294967294
 stamp-second false count n fields e q = cc q
-stamp-second true count n fields e q = decimal-below 0 4294967294 n (field fields 6) e
+stamp-second true count n fields e q = (decimal-range 0 4294967294 n (field fields 6) e).1
 
 fields-occurrence : (st : LineStart) (text : List ℕ) (o : Occ) → fields_judged st (fields_of text) ≡ Occurs o → IsOccurrence st o text
 unfolding fields_judged

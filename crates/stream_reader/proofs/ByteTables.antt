@@ -1,5 +1,5 @@
 -- The tables of bytes, place by place.
-use Rattle.std.proofs.Common.{◌≡◌, ◌<◌, ◌≤◌, ◌==◌, ◌&&◌, ℕ, zero, suc, Bool, true, false, Some, None, inl, inr, slice_index, refl, arith}
+use Rattle.std.proofs.Common.{◌≡◌, ◌<◌, ◌≤◌, ◌==◌, ◌&&◌, ℕ, zero, suc, Bool, true, false, inl, inr, slice_index, refl, arith}
 use Rattle.std.specs.Prelude.{if◌then◌else◌, nat_le}
 use Rattle.std.specs.Char.{digit_value}
 use Rattle.std.proofs.lemmas.Bool.{and_parts, cases_lt, eqb-true, leb-true, ltb-true}
@@ -56,17 +56,3 @@ mode-most b = go (b == 117) (b == 107)
     go true y = omega arith
     go false true = omega arith
     go false false = omega arith
-
-pub some-digit : (b : ℕ) → digit_or_256 b < 16 → Some (digit_or_256 b) ≡ (if is_hex_digit b then Some (digit_value b) else None)
-some-digit b h = go (is_hex_digit b) h
-  where
-    go : (x : Bool) → (if x then digit_value b else 256) < 16 → Some (if x then digit_value b else 256) ≡ (if x then Some (digit_value b) else None)
-    go true p = refl
-    go false p = absurd (omega arith)
-
-pub no-digit : (b : ℕ) → 16 ≤ digit_or_256 b → None ≡ (if is_hex_digit b then Some (digit_value b) else None)
-no-digit b h = go (is_hex_digit b) refl h
-  where
-    go : (x : Bool) → is_hex_digit b ≡ x → 16 ≤ (if x then digit_value b else 256) → None ≡ (if x then Some (digit_value b) else None)
-    go true p q = absurd (omega (arith, ltb-true (digit_value b) 16 p))
-    go false p q = refl

@@ -65,9 +65,7 @@ holds-line v r b above small =
     let few : b.fields ≤ r.size = b.few in
     let long : length t ≡ r.size = length-take-le r.size v.held (omega arith) in
     record {
-      size = b.within;
-      one = b.one;
-      is = sym (take-append-drop r.size v.held) ∙ ap (λ u. t ++ u) (rw (add-one, ← b.newline) (drop-cons v.held r.size 0 b.within));
+      found = (b.within, b.one, sym (take-append-drop r.size v.held) ∙ ap (λ u. t ++ u) (rw (add-one, ← b.newline) (drop-cons v.held r.size 0 b.within)));
       judged = sym (line-is v.start t (Occurs r.occ) (let s = b.short in omega (arith, long)) (omega (arith, long))
           (ap (text_judged v.start) b.whole ∙ text-is v.start (take b.fields v.held) r.occ (a-line v.held b.fields b.some (omega arith) b.digit) b.occurs above));
     }
@@ -91,8 +89,6 @@ holds-skipped v n found short small begins =
     let within : n < length v.held = found.0 in
     let long : length (take n v.held) ≡ n = length-take-le n v.held (omega arith) in
     record {
-      size = within;
-      one = found.1;
-      is = found.2;
+      found = found;
       judged = sym (line-is v.start (take n v.held) Skipped (omega (arith, long)) (omega (arith, long)) (skipped-text v.start v.held n found.1 begins));
     }

@@ -1,22 +1,13 @@
 -- Bytes that are decimal digits, and those that a text begins with.
-use Rattle.std.proofs.Common.{◌≡◌, ◌+◌, ◌-◌, ◌<◌, ◌≤◌, ◌==◌, ◌∷◌, ℕ, true, false, List, [], length, drop, take, get_or, refl, arith, add-one}
+use Rattle.std.proofs.Common.{◌≡◌, ◌-◌, ◌≤◌, ◌==◌, ◌||◌, ◌∷◌, ℕ, true, false, not, List, [], Some, length, get_or, refl, arith, nat_lt}
+use Rattle.std.specs.List.{list_all}
 use Rattle.std.specs.Char.{digit_value}
-use Rattle.std.proofs.Math.Seq.{drop-cons}
+use Rattle.std.specs.Str.Parse.{digits_value}
+use Rattle.std.proofs.lemmas.Bool.{and_parts, le-leb}
 use Rattle.std.proofs.lemmas.Bool.Decides.{nat_tests}
-use Rattle.papi_base.specs.Numerals.{is_digit}
+use Rattle.papi_base.specs.Numerals.{decimal_in, is_decimal, is_digit, is_numeral}
+use Rattle.stream_reader.specs.Fields.{has_form}
 use Rattle.stream_reader.specs.CommonLines.{is_inner}
-
-pub cut-at : (t : List ℕ) (i : ℕ) → i < length t → drop i t ≡ get_or t i 0 ∷ drop (i + 1) t
-cut-at t i h = rw add-one (drop-cons t i 0 h)
-
-pub take-one : (t : List ℕ) → 1 ≤ length t → take 1 t ≡ get_or t 0 0 ∷ []
-take-one [] h = absurd (omega arith)
-take-one (a ∷ t) h = refl
-
-pub take-two : (t : List ℕ) → 2 ≤ length t → take 2 t ≡ get_or t 0 0 ∷ get_or t 1 0 ∷ []
-take-two [] h = absurd (omega arith)
-take-two (a ∷ []) h = absurd (omega arith)
-take-two (a ∷ b ∷ t) h = refl
 
 pub record IsDigit (b : ℕ) : Type 0 where
   pub test : is_digit b ≡ true
@@ -35,3 +26,16 @@ not-zero b h = grind (arith, nat_tests)
 
 pub digit-inner : (b : ℕ) → is_digit b ≡ true → is_inner b ≡ true
 digit-inner b h = grind (arith, nat_tests)
+
+pub digits-inner : (f : List ℕ) → list_all is_digit f ≡ true → list_all is_inner f ≡ true
+digits-inner [] h = refl
+digits-inner (b ∷ f) h = let p = and_parts (is_digit b) (list_all is_digit f) h in rw (digit-inner b p.0, digits-inner f p.1) refl
+
+-- the number of a field of digits
+pub decimal-of : (low high : ℕ) (f : List ℕ) → list_all is_digit f ≡ true → has_form (length f) (get_or f 0 0) ≡ true → low ≤ digits_value 10 f → digits_value 10 f ≤ high → decimal_in low high f ≡ Some (digits_value 10 f)
+unfolding decimal_in is_decimal is_numeral
+decimal-of low high [] each form least most = cc form
+decimal-of low high (b ∷ f) each form least most =
+    let p = and_parts (nat_lt 0 (length (b ∷ f))) ((length (b ∷ f) == 1) || not (b == 48)) form in
+    let v = digits_value 10 (b ∷ f) in
+    rw (each, p.1, le-leb low v least, le-leb v high most) refl

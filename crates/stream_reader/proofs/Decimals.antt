@@ -1,29 +1,13 @@
 -- The number of a field of digits.
-use Rattle.std.proofs.Common.{◌≡◌, ◌∙◌, ◌+◌, ◌-◌, ◌*◌, ◌<◌, ◌≤◌, ◌==◌, ◌&&◌, ◌||◌, ◌∷◌, ℕ, Bool, true, false, not, List, [], Option, Some}
+use Rattle.std.proofs.Common.{◌≡◌, ◌∙◌, ◌<◌, ◌≤◌, ◌==◌, ◌&&◌, ◌||◌, ◌∷◌, ℕ, Bool, true, false, not, List, [], Option, Some}
 use Rattle.std.proofs.Common.{None, length, get_or, refl, sym, arith, IfSome, nat_le, nat_lt}
 use Rattle.std.specs.Prelude.{if◌then◌else◌, cond, slice_index}
 use Rattle.std.specs.List.{list_all}
-use Rattle.std.specs.Char.{digit_value}
-use Rattle.std.specs.Str.Parse.{digits_value, digits_value_after}
+use Rattle.std.specs.Str.Parse.{digits_value}
 use Rattle.std.proofs.lemmas.Bool.{lt-leb, le-leb, lt-ltb}
-use Rattle.std.proofs.lemmas.Bool.Decides.{nat_tests}
 use Rattle.papi_base.specs.Numerals.{decimal_in, is_decimal, is_digit, is_empty, is_numeral}
 use Rattle.stream_reader.specs.Fields.{digits_on, first_field, has_form}
-
-value-of-digit : (b : ℕ) → is_digit b ≡ true → digit_value b ≡ b - 48
-value-of-digit b h = grind (arith, nat_tests)
-
-pub digits_on-value : (n : ℕ) (t : List ℕ) → digits_on n t ≡ (if list_all is_digit (first_field t) then Some (digits_value_after 10 n (first_field t)) else None)
-unfolding digits_on first_field
-digits_on-value n [] = refl
-digits_on-value n (b ∷ t) = go (b == 32) (is_digit b) refl (digits_on-value (n * 10 + (b - 48)) t)
-  where
-    go : (x y : Bool) → is_digit b ≡ y → digits_on (n * 10 + (b - 48)) t ≡ (if list_all is_digit (first_field t) then Some (digits_value_after 10 (n * 10 + (b - 48)) (first_field t)) else None)
-        → (if x then Some n else if y then digits_on (n * 10 + (b - 48)) t else None)
-        ≡ (if list_all is_digit (cond x [] (b ∷ first_field t)) then Some (digits_value_after 10 n (cond x [] (b ∷ first_field t))) else None)
-    go true y e h = refl
-    go false true e h = rw (e, ← value-of-digit b e) (rw (← value-of-digit b e) at h)
-    go false false e h = rw e refl
+use Rattle.stream_reader.proofs.FieldSteps.{number_on-value}
 
 form-of : (t : List ℕ) → (list_all is_digit (first_field t) ≡ true) → is_decimal (first_field t) ≡ has_form (length (first_field t)) (get_or t 0 0)
 unfolding is_decimal is_numeral first_field
@@ -44,7 +28,7 @@ form-of (b ∷ t) h = go (b == 32) h
 pub decimal-digits : (low high n : ℕ) (t : List ℕ) → digits_on 0 t ≡ Some n
     → decimal_in low high (first_field t) ≡ (if has_form (length (first_field t)) (get_or t 0 0) && (nat_le low n && nat_le n high) then Some n else None)
 unfolding decimal_in
-decimal-digits low high n t e = go (list_all is_digit (first_field t)) refl (sym (digits_on-value 0 t) ∙ e)
+decimal-digits low high n t e = go (list_all is_digit (first_field t)) refl (sym (number_on-value is_digit 10 0 t) ∙ e)
   where
     go : (x : Bool) → list_all is_digit (first_field t) ≡ x → (if x then Some (digits_value 10 (first_field t)) else None) ≡ Some n
         → (if is_decimal (first_field t) && (nat_le low (digits_value 10 (first_field t)) && nat_le (digits_value 10 (first_field t)) high) then Some (digits_value 10 (first_field t)) else None)
@@ -67,7 +51,7 @@ decimal-none low high t h = go (digits_on 0 t) refl h
 
     go : (o : Option ℕ) → digits_on 0 t ≡ o → IfSome o (λ n. high < n) → decimal_in low high (first_field t) ≡ None
     go (Some n) e large = rw (decimal-digits low high n t e, lt-leb n high large) (both (has_form (length (first_field t)) (get_or t 0 0)) (nat_le low n) n)
-    go None e large = not_digits (list_all is_digit (first_field t)) refl (sym (digits_on-value 0 t) ∙ e)
+    go None e large = not_digits (list_all is_digit (first_field t)) refl (sym (number_on-value is_digit 10 0 t) ∙ e)
       where
         not_digits : (x : Bool) → list_all is_digit (first_field t) ≡ x → (if x then Some (digits_value 10 (first_field t)) else None) ≡ None → decimal_in low high (first_field t) ≡ None
         not_digits true p q = cc q

@@ -75,5 +75,5 @@ unfolding HaveValues
 lanes [] fits = tt
 lanes (x ∷ xs) fits = (lane-value x fits.0.fits, lanes xs fits.1)
 
-pub lanes-values : (v : List ℕ) → length v ≡ 16 → Each1 (Fits w8) v → HaveValues v (computed 16 v)
-lanes-values v long fits = subst (λ n. HaveValues v (computed n v)) long (lanes v fits)
+pub lanes_values : (v : List ℕ) → length v ≡ 16 → Each1 (Fits w8) v → HaveValues v (computed 16 v)
+lanes_values v long fits = subst (λ n. HaveValues v (computed n v)) long (lanes v fits)

@@ -1,67 +1,71 @@
--- A field of digits, one byte more.
-use Rattle.std.proofs.Common.{◌≡◌, ◌+◌, ◌-◌, ◌*◌, ◌<◌, ◌≤◌, ◌≢◌, ◌==◌, ◌∷◌, ◌⊎◌, ℕ, Bool, true, false, List, [], Option, Some, None, length, drop, get_or, refl, arith, add-one, IfSome}
-use Rattle.std.specs.Prelude.{if◌then◌else◌}
-use Rattle.std.proofs.Math.Seq.{drop-cons}
+-- The number of a field of digits, byte by byte.
+use Rattle.std.proofs.Common.{◌≡◌, ◌+◌, ◌*◌, ◌<◌, ◌≤◌, ◌≢◌, ◌==◌, ◌∷◌, ℕ, Bool, true, false, List, [], Option, Some, None, length, drop, get_or, refl, arith, IfSome}
+use Rattle.std.specs.Prelude.{if◌then◌else◌, cond}
+use Rattle.std.specs.List.{list_all}
+use Rattle.std.specs.Char.{digit_value}
+use Rattle.std.specs.Str.Parse.{digits_value_after}
 use Rattle.std.proofs.lemmas.List.{drop_all}
-use Rattle.std.proofs.lemmas.Bool.Decides.{nat_tests}
+use Rattle.std.proofs.lemmas.Bool.{ne_eqb}
 use Rattle.papi_base.specs.Numerals.{is_digit}
-use Rattle.stream_reader.specs.Fields.{digits_on, first_field}
+use Rattle.stream_reader.specs.Fields.{digits_on, first_field, number_on}
+use Rattle.stream_reader.proofs.FirstItems.{cut-at}
 
-cut-at : (t : List ℕ) (i : ℕ) → i < length t → drop i t ≡ get_or t i 0 ∷ drop (i + 1) t
-cut-at t i h = rw add-one (drop-cons t i 0 h)
-
--- a space ends the field
-pub record Ends (t : List ℕ) (i v : ℕ) : Type 0 where
-  pub value : digits_on v (drop i t) ≡ Some v
+-- the field has ended here
+pub record Ends (is_one : ℕ → Bool) (base : ℕ) (t : List ℕ) (i v : ℕ) : Type 0 where
+  pub value : number_on is_one base v (drop i t) ≡ Some v
   pub long : length (first_field (drop i t)) ≡ 0
 
-pub at-space : (t : List ℕ) (i v : ℕ) → i < length t → get_or t i 0 ≡ 32 → Ends t i v
-unfolding digits_on first_field
-at-space t i v h e = record { value = rw (cut-at t i h, e) refl; long = rw (cut-at t i h, e) refl }
-
-pub at-end : (t : List ℕ) (i v : ℕ) → length t ≤ i → Ends t i v
-unfolding digits_on first_field
-at-end t i v h = let none = drop_all i t h in record { value = rw none refl; long = rw none refl }
-
-space : (b : ℕ) → b ≢ 32 → (b == 32) ≡ false
-space b h = grind (arith, nat_tests)
-
-digit : (b : ℕ) → 48 ≤ b → b ≤ 57 → is_digit b ≡ true
-digit b low high = grind (arith, nat_tests)
-
-not-digit : (b : ℕ) → (b < 48) ⊎ (57 < b) → is_digit b ≡ false
-not-digit b h = grind (arith, nat_tests)
-
-pub at-other : (t : List ℕ) (i v : ℕ) → i < length t → get_or t i 0 ≢ 32 → (get_or t i 0 < 48) ⊎ (57 < get_or t i 0) → digits_on v (drop i t) ≡ None
-unfolding digits_on
-at-other t i v h e o = rw (cut-at t i h, space (get_or t i 0) e, not-digit (get_or t i 0) o) refl
-
-pub record Goes (t : List ℕ) (i v : ℕ) : Type 0 where
-  pub value : digits_on v (drop i t) ≡ digits_on (v * 10 + (get_or t i 0 - 48)) (drop (i + 1) t)
+-- a byte is in the field
+pub record Goes (is_one : ℕ → Bool) (base : ℕ) (t : List ℕ) (i v : ℕ) : Type 0 where
+  pub value : is_one (get_or t i 0) ≡ true → number_on is_one base v (drop i t) ≡ number_on is_one base (v * base + digit_value (get_or t i 0)) (drop (i + 1) t)
   pub long : length (first_field (drop i t)) ≡ length (first_field (drop (i + 1) t)) + 1
 
-pub at-digit : (t : List ℕ) (i v : ℕ) → i < length t → 48 ≤ get_or t i 0 → get_or t i 0 ≤ 57 → Goes t i v
-unfolding digits_on first_field
-at-digit t i v h low high =
-    let no : get_or t i 0 ≢ 32 = λ e. omega arith in
-    record {
-      value = rw (cut-at t i h, space (get_or t i 0) no, digit (get_or t i 0) low high) refl;
-      long = rw (cut-at t i h, space (get_or t i 0) no) (omega arith);
-    }
+module _ (is_one : ℕ → Bool) (base : ℕ) where
+  pub number_on-value : (n : ℕ) (t : List ℕ) → number_on is_one base n t ≡ (if list_all is_one (first_field t) then Some (digits_value_after base n (first_field t)) else None)
+  unfolding number_on first_field
+  number_on-value n [] = refl
+  number_on-value n (b ∷ t) = go (b == 32) (is_one b) refl (number_on-value (n * base + digit_value b) t)
+    where
+      go : (x y : Bool) → is_one b ≡ y → number_on is_one base (n * base + digit_value b) t ≡ (if list_all is_one (first_field t) then Some (digits_value_after base (n * base + digit_value b) (first_field t)) else None)
+          → (if x then Some n else if y then number_on is_one base (n * base + digit_value b) t else None)
+          ≡ (if list_all is_one (cond x [] (b ∷ first_field t)) then Some (digits_value_after base n (cond x [] (b ∷ first_field t))) else None)
+      go true y e h = refl
+      go false true e h = rw e h
+      go false false e h = rw e refl
+
+  pub at-space : (t : List ℕ) (i v : ℕ) → i < length t → get_or t i 0 ≡ 32 → Ends is_one base t i v
+  unfolding number_on first_field
+  at-space t i v h e = record { value = rw (cut-at 0 t i (omega arith), e) refl; long = rw (cut-at 0 t i (omega arith), e) refl }
+
+  pub at-end : (t : List ℕ) (i v : ℕ) → length t ≤ i → Ends is_one base t i v
+  unfolding number_on first_field
+  at-end t i v h = let none = drop_all i t h in record { value = rw none refl; long = rw none refl }
+
+  pub at-other : (t : List ℕ) (i v : ℕ) → i < length t → get_or t i 0 ≢ 32 → is_one (get_or t i 0) ≡ false → number_on is_one base v (drop i t) ≡ None
+  unfolding number_on
+  at-other t i v h e o = rw (cut-at 0 t i (omega arith), ne_eqb (get_or t i 0) 32 e, o) refl
+
+  pub at-digit : (t : List ℕ) (i v : ℕ) → i < length t → get_or t i 0 ≢ 32 → Goes is_one base t i v
+  unfolding number_on first_field
+  at-digit t i v h other =
+      record {
+        value = λ d. rw (cut-at 0 t i (omega arith), ne_eqb (get_or t i 0) 32 other, d) refl;
+        long = rw (cut-at 0 t i (omega arith), ne_eqb (get_or t i 0) 32 other) (omega arith);
+      }
 
 -- the number grows with each digit
 digits_on-grows : (v : ℕ) (t : List ℕ) → IfSome (digits_on v t) (λ n. v ≤ n)
-unfolding digits_on
+unfolding number_on
 digits_on-grows v [] = omega arith
-digits_on-grows v (b ∷ t) = go (b == 32) (is_digit b) (digits_on-grows (v * 10 + (b - 48)) t)
+digits_on-grows v (b ∷ t) = go (b == 32) (is_digit b) (digits_on-grows (v * 10 + digit_value b) t)
   where
-    larger : (o : Option ℕ) → IfSome o (λ n. v * 10 + (b - 48) ≤ n) → IfSome o (λ n. v ≤ n)
-    larger None h = tt
-    larger (Some n) h = omega (arith, h)
+    larger : (d : ℕ) (o : Option ℕ) → IfSome o (λ n. v * 10 + d ≤ n) → IfSome o (λ n. v ≤ n)
+    larger d None h = tt
+    larger d (Some n) h = omega (arith, h)
 
-    go : (x y : Bool) → IfSome (digits_on (v * 10 + (b - 48)) t) (λ n. v * 10 + (b - 48) ≤ n) → IfSome (if x then Some v else if y then digits_on (v * 10 + (b - 48)) t else None) (λ n. v ≤ n)
+    go : (x y : Bool) → IfSome (digits_on (v * 10 + digit_value b) t) (λ n. v * 10 + digit_value b ≤ n) → IfSome (if x then Some v else if y then digits_on (v * 10 + digit_value b) t else None) (λ n. v ≤ n)
     go true y h = omega arith
-    go false true h = larger (digits_on (v * 10 + (b - 48)) t) h
+    go false true h = larger (digit_value b) (digits_on (v * 10 + digit_value b) t) h
     go false false h = tt
 
 pub too-large : (g v : ℕ) (t : List ℕ) → g < v → IfSome (digits_on v t) (λ n. g < n)

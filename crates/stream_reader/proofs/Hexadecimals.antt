@@ -1,33 +1,19 @@
 -- The number of a field of hexadecimal digits, byte by byte.
-use Rattle.std.proofs.Common.{◌≡◌, ◌∙◌, ◌+◌, ◌*◌, ◌^◌, ◌<◌, ◌≤◌, ◌≢◌, ◌==◌, ◌&&◌, ◌∷◌, ℕ, Bool, true, false, List, [], Option, Some, None}
+use Rattle.std.proofs.Common.{◌≡◌, ◌∙◌, ◌+◌, ◌*◌, ◌^◌, ◌<◌, ◌≤◌, ◌≢◌, ◌&&◌, ℕ, Bool, true, false, List, Option, Some, None}
 use Rattle.std.proofs.Common.{length, drop, get_or, refl, sym, subst, arith, nat_le, add-one, min, ◌⊎◌, inl, inr}
-use Rattle.std.specs.Prelude.{if◌then◌else◌, cond}
+use Rattle.std.specs.Prelude.{if◌then◌else◌}
 use Rattle.std.specs.List.{list_all}
 use Rattle.std.specs.Char.{digit_value}
-use Rattle.std.specs.Str.Parse.{digits_value, digits_value_after}
-use Rattle.std.proofs.Math.Seq.{drop-cons}
+use Rattle.std.specs.Str.Parse.{digits_value}
 use Rattle.std.proofs.Math.Nat.{pow-suc, pow-le-pow_right}
-use Rattle.std.proofs.lemmas.List.{drop_all}
 use Rattle.std.proofs.lemmas.Bool.{cases_eq, cases_lt, lt-leb, le-leb, ltb-true}
-use Rattle.std.proofs.lemmas.Bool.Decides.{nat_tests}
 use Rattle.papi_base.specs.Numerals.{hex_in, is_hex_digit}
 use Rattle.stream_reader.specs.Fields.{first_field, hex_on}
-
-hex_on-value : (n : ℕ) (t : List ℕ) → hex_on n t ≡ (if list_all is_hex_digit (first_field t) then Some (digits_value_after 16 n (first_field t)) else None)
-unfolding hex_on first_field
-hex_on-value n [] = refl
-hex_on-value n (b ∷ t) = go (b == 32) (is_hex_digit b) refl (hex_on-value (n * 16 + digit_value b) t)
-  where
-    go : (x y : Bool) → is_hex_digit b ≡ y → hex_on (n * 16 + digit_value b) t ≡ (if list_all is_hex_digit (first_field t) then Some (digits_value_after 16 (n * 16 + digit_value b) (first_field t)) else None)
-        → (if x then Some n else if y then hex_on (n * 16 + digit_value b) t else None)
-        ≡ (if list_all is_hex_digit (cond x [] (b ∷ first_field t)) then Some (digits_value_after 16 n (cond x [] (b ∷ first_field t))) else None)
-    go true y e h = refl
-    go false true e h = rw e h
-    go false false e h = rw e refl
+use Rattle.stream_reader.proofs.FieldSteps.{Goes, at-digit, at-end, at-other, at-space, number_on-value}
 
 pub hex-none : (few many : ℕ) (t : List ℕ) → hex_on 0 t ≡ None → hex_in few many (first_field t) ≡ None
 unfolding hex_in
-hex-none few many t h = go (list_all is_hex_digit (first_field t)) refl (sym (hex_on-value 0 t) ∙ h)
+hex-none few many t h = go (list_all is_hex_digit (first_field t)) refl (sym (number_on-value is_hex_digit 16 0 t) ∙ h)
   where
     go : (x : Bool) → list_all is_hex_digit (first_field t) ≡ x → (if x then Some (digits_value 16 (first_field t)) else None) ≡ None
         → (if list_all is_hex_digit (first_field t) && (nat_le few (length (first_field t)) && nat_le (length (first_field t)) many) then Some (digits_value 16 (first_field t)) else None) ≡ None
@@ -54,7 +40,7 @@ hex-short few many f h = rw (lt-leb few (length f) h) (none-value (list_all is_h
 
 pub hex-within : (few many n : ℕ) (t : List ℕ) → hex_on 0 t ≡ Some n → few ≤ length (first_field t) → length (first_field t) ≤ many → hex_in few many (first_field t) ≡ Some n
 unfolding hex_in
-hex-within few many n t h low high = go (list_all is_hex_digit (first_field t)) refl (sym (hex_on-value 0 t) ∙ h)
+hex-within few many n t h low high = go (list_all is_hex_digit (first_field t)) refl (sym (number_on-value is_hex_digit 16 0 t) ∙ h)
   where
     go : (x : Bool) → list_all is_hex_digit (first_field t) ≡ x → (if x then Some (digits_value 16 (first_field t)) else None) ≡ Some n
         → (if list_all is_hex_digit (first_field t) && (nat_le few (length (first_field t)) && nat_le (length (first_field t)) many) then Some (digits_value 16 (first_field t)) else None) ≡ Some n
@@ -62,40 +48,6 @@ hex-within few many n t h low high = go (list_all is_hex_digit (first_field t)) 
     go false p q = cc q
 
 -- ---- byte by byte
-
-cut-at : (t : List ℕ) (i : ℕ) → i < length t → drop i t ≡ get_or t i 0 ∷ drop (i + 1) t
-cut-at t i h = rw add-one (drop-cons t i 0 h)
-
-space : (b : ℕ) → b ≢ 32 → (b == 32) ≡ false
-space b h = grind (arith, nat_tests)
-
-pub record Ends (t : List ℕ) (i v : ℕ) : Type 0 where
-  pub value : hex_on v (drop i t) ≡ Some v
-  pub long : length (first_field (drop i t)) ≡ 0
-
-pub at-space : (t : List ℕ) (i v : ℕ) → i < length t → get_or t i 0 ≡ 32 → Ends t i v
-unfolding hex_on first_field
-at-space t i v h e = record { value = rw (cut-at t i h, e) refl; long = rw (cut-at t i h, e) refl }
-
-pub at-end : (t : List ℕ) (i v : ℕ) → length t ≤ i → Ends t i v
-unfolding hex_on first_field
-at-end t i v h = let none = drop_all i t h in record { value = rw none refl; long = rw none refl }
-
-pub at-other : (t : List ℕ) (i v : ℕ) → i < length t → get_or t i 0 ≢ 32 → is_hex_digit (get_or t i 0) ≡ false → hex_on v (drop i t) ≡ None
-unfolding hex_on
-at-other t i v h e o = rw (cut-at t i h, space (get_or t i 0) e, o) refl
-
-pub record Goes (t : List ℕ) (i v : ℕ) : Type 0 where
-  pub value : is_hex_digit (get_or t i 0) ≡ true → hex_on v (drop i t) ≡ hex_on (v * 16 + digit_value (get_or t i 0)) (drop (i + 1) t)
-  pub long : length (first_field (drop i t)) ≡ length (first_field (drop (i + 1) t)) + 1
-
-pub at-digit : (t : List ℕ) (i v : ℕ) → i < length t → get_or t i 0 ≢ 32 → Goes t i v
-unfolding hex_on first_field
-at-digit t i v h other =
-    record {
-      value = λ d. rw (cut-at t i h, space (get_or t i 0) other, d) refl;
-      long = rw (cut-at t i h, space (get_or t i 0) other) (omega arith);
-    }
 
 -- the result of `hex_digit`
 pub record IsDigit (b d : ℕ) : Type 0 where
@@ -129,11 +81,11 @@ pub hex-stops : (few many v i : ℕ) (t : List ℕ) → hex_on 0 t ≡ hex_on v 
     → i < length t → get_or t i 0 ≢ 32 → hex_in few many (first_field t) ≡ None
 hex-stops few many v i t rest long stops h other = go (is_hex_digit (get_or t i 0)) refl
   where
-    g : Goes t i v
-    g = at-digit t i v h other
+    g : Goes is_hex_digit 16 t i v
+    g = at-digit is_hex_digit 16 t i v h other
 
     go : (x : Bool) → is_hex_digit (get_or t i 0) ≡ x → hex_in few many (first_field t) ≡ None
-    go false p = hex-none few many t (rest ∙ at-other t i v h other p)
+    go false p = hex-none few many t (rest ∙ at-other is_hex_digit 16 t i v h other p)
     go true p = elim stops [
       | inl other_byte ↦ cc (sym p ∙ other_byte)
       | inr le ↦ hex-long few many (first_field t) (omega (arith, g.long))
@@ -143,9 +95,9 @@ hex-stops few many v i t rest long stops h other = go (is_hex_digit (get_or t i 
 pub hex-few : (few many v i : ℕ) (t : List ℕ) → hex_on 0 t ≡ hex_on v (drop i t) → length (first_field t) ≡ i + length (first_field (drop i t)) → Stops t many i → i < few
     → hex_in few many (first_field t) ≡ None
 hex-few few many v i t rest long stops less = elim (cases_lt i (length t)) [
-  | inr end ↦ (let e = at-end t i v end in hex-short few many (first_field t) (omega (arith, e.long)))
+  | inr end ↦ (let e = at-end is_hex_digit 16 t i v end in hex-short few many (first_field t) (omega (arith, e.long)))
   | inl h ↦ elim (cases_eq (get_or t i 0) 32) [
-    | inl space ↦ (let e = at-space t i v h space in hex-short few many (first_field t) (omega (arith, e.long)))
+    | inl space ↦ (let e = at-space is_hex_digit 16 t i v h space in hex-short few many (first_field t) (omega (arith, e.long)))
     | inr other ↦ hex-stops few many v i t rest long stops h other
   ]
 ]

@@ -1,11 +1,12 @@
 -- Sixteen digits joined to a number: pairs of them as lanes of 16 bits, and the bytes that these make.
-use Rattle.std.proofs.Common.{◌≡◌, ℕ, zero, suc, ◌+◌, ◌*◌, ◌/◌, ◌%◌, ◌^◌, ◌<◌, List, [], ◌∷◌, length, map, replicate, bit_and, refl, ap, subst, ◌∙◌, arith, w64}
+use Rattle.std.proofs.Common.{◌≡◌, ℕ, zero, suc, ◌+◌, ◌*◌, ◌/◌, ◌%◌, ◌^◌, ◌<◌, List, [], ◌∷◌, length, map, replicate, bit_and, refl, sym, ap, subst, ◌∙◌, arith, w64}
 use Rattle.std.specs.Int.{from_be_bytes}
 use Rattle.std.specs.Simd.Lanes.{zip2, number_l, digits_l}
 use lib.Lanes.{Each1}
 use Rattle.std.proofs.lemmas.Nat.{and_mask}
 use Rattle.std.proofs.lemmas.List.{length-map}
 use Rattle.stream_reader.specs.Digits.{number_after}
+use Rattle.stream_reader.proofs.FirstItems.{whole}
 
 abbrev pub times : ℕ → ℕ → ℕ
 times a b = a * b % 2 ^ 16
@@ -62,27 +63,10 @@ pairs (suc n) (a ∷ b ∷ ys) e h =
 
 sixteen : (ys : List ℕ) → length ys ≡ 16 → from_be_bytes w64 (joins ys) ≡ number_after 0 ys
 unfolding joins number_after
-sixteen [] e = absurd (omega arith)
-sixteen (a0 ∷ []) e = absurd (omega arith)
-sixteen (a0 ∷ a1 ∷ []) e = absurd (omega arith)
-sixteen (a0 ∷ a1 ∷ a2 ∷ []) e = absurd (omega arith)
-sixteen (a0 ∷ a1 ∷ a2 ∷ a3 ∷ []) e = absurd (omega arith)
-sixteen (a0 ∷ a1 ∷ a2 ∷ a3 ∷ a4 ∷ []) e = absurd (omega arith)
-sixteen (a0 ∷ a1 ∷ a2 ∷ a3 ∷ a4 ∷ a5 ∷ []) e = absurd (omega arith)
-sixteen (a0 ∷ a1 ∷ a2 ∷ a3 ∷ a4 ∷ a5 ∷ a6 ∷ []) e = absurd (omega arith)
-sixteen (a0 ∷ a1 ∷ a2 ∷ a3 ∷ a4 ∷ a5 ∷ a6 ∷ a7 ∷ []) e = absurd (omega arith)
-sixteen (a0 ∷ a1 ∷ a2 ∷ a3 ∷ a4 ∷ a5 ∷ a6 ∷ a7 ∷ a8 ∷ []) e = absurd (omega arith)
-sixteen (a0 ∷ a1 ∷ a2 ∷ a3 ∷ a4 ∷ a5 ∷ a6 ∷ a7 ∷ a8 ∷ a9 ∷ []) e = absurd (omega arith)
-sixteen (a0 ∷ a1 ∷ a2 ∷ a3 ∷ a4 ∷ a5 ∷ a6 ∷ a7 ∷ a8 ∷ a9 ∷ a10 ∷ []) e = absurd (omega arith)
-sixteen (a0 ∷ a1 ∷ a2 ∷ a3 ∷ a4 ∷ a5 ∷ a6 ∷ a7 ∷ a8 ∷ a9 ∷ a10 ∷ a11 ∷ []) e = absurd (omega arith)
-sixteen (a0 ∷ a1 ∷ a2 ∷ a3 ∷ a4 ∷ a5 ∷ a6 ∷ a7 ∷ a8 ∷ a9 ∷ a10 ∷ a11 ∷ a12 ∷ []) e = absurd (omega arith)
-sixteen (a0 ∷ a1 ∷ a2 ∷ a3 ∷ a4 ∷ a5 ∷ a6 ∷ a7 ∷ a8 ∷ a9 ∷ a10 ∷ a11 ∷ a12 ∷ a13 ∷ []) e = absurd (omega arith)
-sixteen (a0 ∷ a1 ∷ a2 ∷ a3 ∷ a4 ∷ a5 ∷ a6 ∷ a7 ∷ a8 ∷ a9 ∷ a10 ∷ a11 ∷ a12 ∷ a13 ∷ a14 ∷ []) e = absurd (omega arith)
-sixteen (a0 ∷ a1 ∷ a2 ∷ a3 ∷ a4 ∷ a5 ∷ a6 ∷ a7 ∷ a8 ∷ a9 ∷ a10 ∷ a11 ∷ a12 ∷ a13 ∷ a14 ∷ a15 ∷ []) e = omega arith
-sixteen (a0 ∷ a1 ∷ a2 ∷ a3 ∷ a4 ∷ a5 ∷ a6 ∷ a7 ∷ a8 ∷ a9 ∷ a10 ∷ a11 ∷ a12 ∷ a13 ∷ a14 ∷ a15 ∷ x ∷ more) e = absurd (omega arith)
+sixteen ys e = subst (λ (zs : List ℕ). from_be_bytes w64 (joins zs) ≡ number_after 0 zs) (sym (whole 0 16 ys e)) (omega arith)
 
-pub joined-value : (v : List ℕ) → length v ≡ 16 → from_be_bytes w64 (packed 8 (zip2 bit_and v (replicate 16 15))) ≡ number_after 0 (map low v)
-joined-value v long =
+pub joined_value : (v : List ℕ) → length v ≡ 16 → from_be_bytes w64 (packed 8 (zip2 bit_and v (replicate 16 15))) ≡ number_after 0 (map low v)
+joined_value v long =
     let nibbles : zip2 bit_and v (replicate 16 15) ≡ map low v = subst (λ n. zip2 bit_and v (replicate n 15) ≡ map low v) long (lows v) in
     ap (λ ys. from_be_bytes w64 (packed 8 ys)) nibbles
     ∙ ap (from_be_bytes w64) (pairs 8 (map low v) (length-map v low ∙ long) (small v))

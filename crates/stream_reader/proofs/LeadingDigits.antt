@@ -13,7 +13,7 @@ use Rattle.papi_base.specs.Numerals.{is_hex_digit}
 use Rattle.stream_reader.specs.Digits.{HasValue, HaveValues, IsHexadecimal, is_value, number_after, piece}
 use Rattle.stream_reader.proofs.ByteTables.{at-place}
 use Rattle.stream_reader.proofs.JoinedDigits.{low, small}
-use Rattle.stream_reader.proofs.DigitRuns.{run-le}
+use Rattle.stream_reader.proofs.DigitRuns.{run_le}
 
 -- the first of the lanes up to k
 record Goes (x v k : ℕ) (vs : List ℕ) : Type 0 where
@@ -81,7 +81,7 @@ digits-are t at k joined vs room have e f =
     let ys = map low vs in
     let vs_long : length vs ≡ 16 = sym (as-many xs vs have) ∙ length-chunk at 16 t room in
     let ys_long : length ys ≡ 16 = length-map vs low ∙ vs_long in
-    let most : k ≤ 16 = omega (arith, run-le vs vs_long) in
+    let most : k ≤ 16 = omega (arith, run_le vs vs_long) in
     let within : k ≤ prefix_len is_value vs = omega (arith, e) in
     let same : take k xs ≡ piece at k t = take-take k 16 (drop at t) most in
     record {

@@ -8,6 +8,7 @@ pub mod Decimals
 pub mod DigitLanes
 pub mod DigitRuns
 pub mod FieldSteps
+pub mod FirstItems
 pub mod Giving
 pub mod Hexadecimals
 pub mod JoinedDigits

@@ -66,13 +66,13 @@ mode-field (b ∷ c ∷ u) = go (b == 32) refl ∙ ap (λ x. if x then mode_byte
     go true e = none ∙ nothing (c == 32) (not-space b e)
     go false e = second (c == 32)
 
-pub no-mode : (t : List ℕ) → is_one_byte (length t) (get_or t 1 0) ≡ false → mode_of (first_field t) ≡ None
-no-mode t h = mode-field t ∙ rw h refl
+pub no_mode : (t : List ℕ) → is_one_byte (length t) (get_or t 1 0) ≡ false → mode_of (first_field t) ≡ None
+no_mode t h = mode-field t ∙ rw h refl
 
-pub some-mode : (t : List ℕ) → is_one_byte (length t) (get_or t 1 0) ≡ true → mode_of (first_field t) ≡ mode_byte (get_or t 0 0)
-some-mode t h = mode-field t ∙ rw h refl
+pub some_mode : (t : List ℕ) → is_one_byte (length t) (get_or t 1 0) ≡ true → mode_of (first_field t) ≡ mode_byte (get_or t 0 0)
+some_mode t h = mode-field t ∙ rw h refl
 
-pub mode-one : (f : List ℕ) (k : Bool) → mode_of f ≡ Some k → 1 ≡ length f
-mode-one [] k e = cc (none)
-mode-one (b ∷ []) k e = refl
-mode-one (b ∷ c ∷ u) k e = cc (two b c u)
+pub mode_one : (f : List ℕ) (k : Bool) → mode_of f ≡ Some k → 1 ≡ length f
+mode_one [] k e = cc (none)
+mode_one (b ∷ []) k e = refl
+mode_one (b ∷ c ∷ u) k e = cc (two b c u)

@@ -1,8 +1,9 @@
 -- The fields one by one are the fields of the whole line.
-use Rattle.std.proofs.Common.{◌≡◌, ◌∙◌, ◌==◌, ◌∷◌, ℕ, suc, Bool, true, false, List, [], Option, Some, None, length, refl, sym, ap, arith}
+use Rattle.std.proofs.Common.{◌≡◌, ◌∙◌, ◌+◌, ◌<◌, ◌==◌, ◌∷◌, ℕ, suc, Bool, true, false, List, [], Option, Some, None, length, refl, sym, ap, arith}
 use Rattle.std.specs.Prelude.{if◌then◌else◌}
+use Rattle.std.proofs.lemmas.Bool.{ne_eqb}
 use Rattle.std.proofs.lemmas.Bool.Decides.{nat_tests}
-use Rattle.papi_base.specs.Numerals.{decimal_in, hex_in}
+use Rattle.papi_base.specs.Numerals.{decimal_in, flag_bit, hex_in}
 use Rattle.papi_base.specs.declared.occurrence.Occ.{Occ}
 use Rattle.stream_reader.specs.Judged.{fields_of, given, has_fields, mode_of, occ_of}
 use Rattle.stream_reader.specs.Fields.{after_field, ends_with, event_occurrence_on, first_field, occurrence_on, stamp_after, tail_on}
@@ -91,35 +92,32 @@ more-than-seven n = grind (arith, nat_tests)
 more-than-six : (n : ℕ) → (suc (suc (suc (suc (suc (suc (suc (suc n))))))) == 6) ≡ false
 more-than-six n = grind (arith, nat_tests)
 
+few-fields : (stamped : Bool) (n : ℕ) → n < 6 → (n == (6 + flag_bit stamped)) ≡ false
+few-fields stamped n h = ne_eqb n (6 + flag_bit stamped) (λ e. omega arith)
+
+six-none : {Y : Type 0} (a b c d e f : Text) (k : ℕ → ℕ → ℕ → Bool → ℕ → ℕ → Option Y) → ((u v w : ℕ) (x : Bool) (y z : ℕ) → k u v w x y z ≡ None)
+    → given (decimal_in 0 15 a) (λ u. given (hex_in 2 2 b) (λ v. given (hex_in 2 2 c) (λ w. given (mode_of d) (λ x. given (decimal_in 1 255 e) (λ y. given (hex_in 1 16 f) (λ z. k u v w x y z)))))) ≡ None
+six-none a b c d e f k h =
+    given-none (decimal_in 0 15 a) _ (λ u. given-none (hex_in 2 2 b) _ (λ v. given-none (hex_in 2 2 c) _ (λ w. given-none (mode_of d) _ (λ x. given-none (decimal_in 1 255 e) _ (λ y. given-none (hex_in 1 16 f) _ (λ z. h u v w x y z))))))
+
 all-of : (stamped : Bool) (count : ℕ) (fields : List Text) → occurrence_from stamped count fields ≡ (if has_fields stamped fields then occ_of stamped count fields else None)
 unfolding occurrence_from occ_of
-all-of true count [] = refl
-all-of false count [] = refl
-all-of true count (a ∷ []) = given-none (decimal_in 0 15 a) _ (λ _. refl)
-all-of false count (a ∷ []) = given-none (decimal_in 0 15 a) _ (λ _. refl)
-all-of true count (a ∷ b ∷ []) = given-none (decimal_in 0 15 a) _ (λ _. given-none (hex_in 2 2 b) _ (λ _. refl))
-all-of false count (a ∷ b ∷ []) = given-none (decimal_in 0 15 a) _ (λ _. given-none (hex_in 2 2 b) _ (λ _. refl))
-all-of true count (a ∷ b ∷ c ∷ []) = given-none (decimal_in 0 15 a) _ (λ _. given-none (hex_in 2 2 b) _ (λ _. given-none (hex_in 2 2 c) _ (λ _. refl)))
-all-of false count (a ∷ b ∷ c ∷ []) = given-none (decimal_in 0 15 a) _ (λ _. given-none (hex_in 2 2 b) _ (λ _. given-none (hex_in 2 2 c) _ (λ _. refl)))
-all-of true count (a ∷ b ∷ c ∷ d ∷ []) = given-none (decimal_in 0 15 a) _ (λ _. given-none (hex_in 2 2 b) _ (λ _. given-none (hex_in 2 2 c) _ (λ _. given-none (mode_of d) _ (λ _. refl))))
-all-of false count (a ∷ b ∷ c ∷ d ∷ []) = given-none (decimal_in 0 15 a) _ (λ _. given-none (hex_in 2 2 b) _ (λ _. given-none (hex_in 2 2 c) _ (λ _. given-none (mode_of d) _ (λ _. refl))))
-all-of true count (a ∷ b ∷ c ∷ d ∷ e ∷ []) =
-    given-none (decimal_in 0 15 a) _ (λ _. given-none (hex_in 2 2 b) _ (λ _. given-none (hex_in 2 2 c) _ (λ _. given-none (mode_of d) _ (λ _. given-none (decimal_in 1 255 e) _ (λ _. refl)))))
-all-of false count (a ∷ b ∷ c ∷ d ∷ e ∷ []) =
-    given-none (decimal_in 0 15 a) _ (λ _. given-none (hex_in 2 2 b) _ (λ _. given-none (hex_in 2 2 c) _ (λ _. given-none (mode_of d) _ (λ _. given-none (decimal_in 1 255 e) _ (λ _. refl)))))
-all-of true count (a ∷ b ∷ c ∷ d ∷ e ∷ f ∷ []) =
-    given-none (decimal_in 0 15 a) _ (λ _. given-none (hex_in 2 2 b) _ (λ _. given-none (hex_in 2 2 c) _ (λ _. given-none (mode_of d) _ (λ _. given-none (decimal_in 1 255 e) _ (λ _. given-none (hex_in 1 16 f) _ (λ _. refl))))))
+all-of stamped count [] = rw (few-fields stamped 0 (omega arith)) refl
+all-of stamped count (a ∷ []) = rw (few-fields stamped 1 (omega arith)) (given-none (decimal_in 0 15 a) _ (λ _. refl))
+all-of stamped count (a ∷ b ∷ []) = rw (few-fields stamped 2 (omega arith)) (given-none (decimal_in 0 15 a) _ (λ _. given-none (hex_in 2 2 b) _ (λ _. refl)))
+all-of stamped count (a ∷ b ∷ c ∷ []) = rw (few-fields stamped 3 (omega arith)) (given-none (decimal_in 0 15 a) _ (λ _. given-none (hex_in 2 2 b) _ (λ _. given-none (hex_in 2 2 c) _ (λ _. refl))))
+all-of stamped count (a ∷ b ∷ c ∷ d ∷ []) = rw (few-fields stamped 4 (omega arith)) (
+    given-none (decimal_in 0 15 a) _ (λ _. given-none (hex_in 2 2 b) _ (λ _. given-none (hex_in 2 2 c) _ (λ _. given-none (mode_of d) _ (λ _. refl)))))
+all-of stamped count (a ∷ b ∷ c ∷ d ∷ e ∷ []) = rw (few-fields stamped 5 (omega arith)) (
+    given-none (decimal_in 0 15 a) _ (λ _. given-none (hex_in 2 2 b) _ (λ _. given-none (hex_in 2 2 c) _ (λ _. given-none (mode_of d) _ (λ _. given-none (decimal_in 1 255 e) _ (λ _. refl))))))
+all-of true count (a ∷ b ∷ c ∷ d ∷ e ∷ f ∷ []) = six-none a b c d e f _ (λ _ _ _ _ _ _. refl)
 all-of false count (a ∷ b ∷ c ∷ d ∷ e ∷ f ∷ []) = refl
 all-of true count (a ∷ b ∷ c ∷ d ∷ e ∷ f ∷ g ∷ []) =
     given-same (decimal_in 0 15 a) _ _ (λ comp. given-same (hex_in 2 2 b) _ _ (λ select. given-same (hex_in 2 2 c) _ _ (λ umask. given-same (mode_of d) _ _ (λ kernel. given-same (decimal_in 1 255 e) _ _ (λ amount. given-same (hex_in 1 16 f) _ _ (λ pc.
     ap (λ o. given o (λ stamp. Some (record { comp = comp; select = select; umask = umask; kernel = kernel; amount = amount; pc = pc; stamp = stamp }))) (given-itself (decimal_in 0 4294967294 g))))))))
-all-of false count (a ∷ b ∷ c ∷ d ∷ e ∷ f ∷ g ∷ []) =
-    given-none (decimal_in 0 15 a) _ (λ _. given-none (hex_in 2 2 b) _ (λ _. given-none (hex_in 2 2 c) _ (λ _. given-none (mode_of d) _ (λ _. given-none (decimal_in 1 255 e) _ (λ _. given-none (hex_in 1 16 f) _ (λ _. refl))))))
-all-of true count (a ∷ b ∷ c ∷ d ∷ e ∷ f ∷ g ∷ h ∷ rest) = rw (more-than-seven (length rest)) (
-    given-none (decimal_in 0 15 a) _ (λ _. given-none (hex_in 2 2 b) _ (λ _. given-none (hex_in 2 2 c) _ (λ _. given-none (mode_of d) _ (λ _. given-none (decimal_in 1 255 e) _ (λ _. given-none (hex_in 1 16 f) _ (λ _.
-    stamped-none (decimal_in 0 4294967294 g) _)))))))
-all-of false count (a ∷ b ∷ c ∷ d ∷ e ∷ f ∷ g ∷ h ∷ rest) = rw (more-than-six (length rest)) (
-    given-none (decimal_in 0 15 a) _ (λ _. given-none (hex_in 2 2 b) _ (λ _. given-none (hex_in 2 2 c) _ (λ _. given-none (mode_of d) _ (λ _. given-none (decimal_in 1 255 e) _ (λ _. given-none (hex_in 1 16 f) _ (λ _. refl)))))))
+all-of false count (a ∷ b ∷ c ∷ d ∷ e ∷ f ∷ g ∷ []) = six-none a b c d e f _ (λ _ _ _ _ _ _. refl)
+all-of true count (a ∷ b ∷ c ∷ d ∷ e ∷ f ∷ g ∷ h ∷ rest) = rw (more-than-seven (length rest)) (six-none a b c d e f _ (λ _ _ _ _ _ _. stamped-none (decimal_in 0 4294967294 g) _))
+all-of false count (a ∷ b ∷ c ∷ d ∷ e ∷ f ∷ g ∷ h ∷ rest) = rw (more-than-six (length rest)) (six-none a b c d e f _ (λ _ _ _ _ _ _. refl))
 
 pub occurrence-read : (stamped : Bool) (count : ℕ) (t : Text) → occurrence_on stamped count t ≡ (if has_fields stamped (fields_of t) then occ_of stamped count (fields_of t) else None)
 occurrence-read stamped count t = one-by-one stamped count t ∙ all-of stamped count (fields_of t)

@@ -1,14 +1,16 @@
 -- What a piece says of the source's tape.
 use Rattle.std.proofs.Common.{◌≡◌, ◌∙◌, ◌+◌, ◌-◌, ◌<◌, ◌≤◌, ◌++◌, ◌∷◌, ℕ, Bool, List, [], length, take, drop, refl, sym, ap, subst, arith, IfSome, Option, Some, None, Result, Ok, Err}
+use Rattle.std.specs.Prelude.{IfOk, MatchResult}
+use Rattle.std.specs.Result.{result_unwrap_or}
 use Rattle.std.specs.Option.{is_some, option_and_then, option_map, option_map_or}
-use Rattle.std.proofs.lemmas.List.{append-nil, length-drop, length-take-le, take-append-drop}
+use Rattle.std.proofs.lemmas.List.{length-drop, length-take-le, take-append-drop}
 use Rattle.papi_base.specs.Outside.{Gives, Tape, answer_at, tape_after}
 use Rattle.papi_base.specs.declared.outside.Failed.{Failed}
 use Rattle.papi_base.specs.declared.outside.Ending.{Ending}
 use Rattle.papi_base.specs.declared.outside.Ending.TheVariants.{End, Fault}
 use Rattle.stream_reader.specs.declared.line.LineStart.{LineStart}
 use Rattle.stream_reader.specs.Reader.{ReaderView, SourceView, before_rest}
-use Rattle.stream_reader.specs.Inside.{Refills}
+use Rattle.stream_reader.specs.Inside.{HasEnded, IsReader, Refills}
 use Rattle.stream_reader.proofs.Room.{held-filled}
 
 -- the tape and the count that a source's view shows
@@ -26,13 +28,15 @@ view-some view None = refl
 view-some view (Some x) = refl
 
 -- what was read, and then the rest
-pub tape-ok : (n : ℕ) (buf : List ℕ) (old new : Option Tape) → new ≡ tape_after (Ok n) old → IfSome old (λ t. Gives t (Ok n) buf) → old ≡ option_map (before_rest (take n buf)) new
-tape-ok n buf None new e g = rw e refl
-tape-ok n buf (Some t) new e g = rw e (ap (λ bs. Some (record { bytes = bs; ending = t.ending })) (sym (ap (λ bs. bs ++ drop n t.bytes) g.bytes.1 ∙ take-append-drop n t.bytes)))
+tape-is : (answer : Result ℕ Failed) (buf : List ℕ) (old new : Option Tape) → new ≡ tape_after answer old → IfSome old (λ t. Gives t answer buf) → old ≡ option_map (before_rest (take (result_unwrap_or answer 0) buf)) new
+tape-is (Ok n) buf None new e g = rw e refl
+tape-is (Ok n) buf (Some t) new e g = rw e (ap (λ bs. Some (record { bytes = bs; ending = t.ending })) (sym (ap (λ bs. bs ++ drop n t.bytes) g.bytes.1 ∙ take-append-drop n t.bytes)))
+tape-is (Err f) buf None new e g = rw e refl
+tape-is (Err f) buf (Some t) new e g = rw e refl
 
-pub tape-err : (f : Failed) (old new : Option Tape) → new ≡ tape_after (Err f) old → old ≡ option_map (before_rest []) new
-tape-err f None new e = rw e refl
-tape-err f (Some t) new e = rw e refl
+size-is : (answer : Result ℕ Failed) (buf : List ℕ) → IfOk answer (λ n. n ≤ length buf) → MatchResult answer (λ n. length (take (result_unwrap_or answer 0) buf) ≡ n) (λ _. take (result_unwrap_or answer 0) buf ≡ [])
+size-is (Ok n) buf h = length-take-le n buf h
+size-is (Err f) buf h = refl
 
 no-bytes : (bs : List ℕ) → (0 < length bs → ⊥) → bs ≡ []
 no-bytes [] h = refl
@@ -42,26 +46,18 @@ good : (e : Ending) (n : ℕ) → ◌≡◌ {A = Result ℕ Failed} (Ok n) (answ
 good End n h = refl
 good Fault n h = cc
 
--- after an empty piece the same bytes are held
-pub same-held : (old new : ReaderView) (n : ℕ) → Refills old (Ok n) new → n ≡ 0 → new.held ≡ old.held
-same-held old new n r zero = r.held ∙ ap (λ bs. old.held ++ bs) (no-bytes r.piece (λ some. omega (arith, r.size))) ∙ append-nil old.held
-
 faulty : (e : Ending) (f : Failed) → ◌≡◌ {A = Result ℕ Failed} (Err f) (answer_at e) → e ≡ Fault
 faulty End f h = cc
 faulty Fault f h = refl
 
-abbrev Ended : Ending → Option Tape → Type 0
-Ended e o = IfSome o (λ (t : Tape). (t.bytes ≡ []) × (t.ending ≡ e))
-
-pub ends-ok : (n : ℕ) (buf : List ℕ) (old new : Option Tape) → 0 < length buf → new ≡ tape_after (Ok n) old → IfSome old (λ t. Gives t (Ok n) buf) → n ≡ 0 → Ended End new
-ends-ok n buf None new room e g zero = rw e tt
-ends-ok n buf (Some t) new room e g zero =
+ends : (answer : Result ℕ Failed) (buf : List ℕ) (old new : Option Tape) → 0 < length buf → new ≡ tape_after answer old → IfSome old (λ t. Gives t answer buf)
+    → MatchResult answer (λ n. n ≡ 0 → HasEnded End new) (λ _. HasEnded Fault new)
+ends (Ok n) buf None new room e g = λ zero. rw e tt
+ends (Ok n) buf (Some t) new room e g = λ zero.
     let none : t.bytes ≡ [] = no-bytes t.bytes (λ some. let more : 0 < n = g.some some room in omega arith) in
     rw (e, zero) (none, good t.ending n (g.none none))
-
-pub ends-err : (f : Failed) (buf : List ℕ) (old new : Option Tape) → 0 < length buf → new ≡ tape_after (Err f) old → IfSome old (λ t. Gives t (Err f) buf) → Ended Fault new
-ends-err f buf None new room e g = rw e tt
-ends-err f buf (Some t) new room e g =
+ends (Err f) buf None new room e g = rw e tt
+ends (Err f) buf (Some t) new room e g =
     let none : t.bytes ≡ [] = no-bytes t.bytes (λ some. g.some some room) in
     rw e (none, faulty t.ending f (g.none none))
 
@@ -70,56 +66,30 @@ ends-err f buf (Some t) new room e g =
 abbrev told_by : Option SourceView → Option Tape
 told_by source = option_and_then (λ (s : SourceView). s.tape) source
 
--- the fields of a reader, and what the calls did to them
-pub record IsFilled (from to : ℕ) (bytes moved filled : List ℕ) : Type 0 where
-  pub order : from ≤ to
+-- what the calls did to the bytes of a reader
+pub record IsFilled (from to : ℕ) (bytes filled : List ℕ) : Type 0 where
   pub short : to - from ≤ 128
-  pub within : to ≤ length bytes
-  pub room : length bytes ≡ 4224
-  pub filled_room : length filled ≡ 4224
-  pub moves : take 128 moved ≡ take (128 - (to - from)) bytes ++ take (to - from) (drop from bytes)
-  pub front : take 128 filled ≡ take 128 moved
+  pub room : length filled ≡ 4224
+  pub moves : take 128 filled ≡ take (128 - (to - from)) bytes ++ take (to - from) (drop from bytes)
 
-pub refills-ok : (from to n : ℕ) (bytes moved filled : List ℕ) (start : LineStart) (over asked : Bool) (source later : Option SourceView) (old : ReaderView)
-    → record { start = start; held = take (to - from) (drop from bytes); over = over; asked = asked; source = source } ≡ old
-    → IsFilled from to bytes moved filled → n ≤ 4096
-    → told_by later ≡ tape_after (Ok n) (told_by source) → IfSome (told_by source) (λ t. Gives t (Ok n) (drop 128 filled))
-    → Refills old (Ok n) (record { start = start; held = take ((128 + n) - (128 - (to - from))) (drop (128 - (to - from)) filled); over = over; asked = asked; source = later })
-refills-ok from to n bytes moved filled start over asked source later old is f few tape gives = subst P is (record {
-  piece = take n (drop 128 filled);
-  size = length-take-le n (drop 128 filled) (omega (arith, buf));
-  held = held-filled from to n bytes moved filled f.order f.short f.within (omega (arith, f.room)) f.moves f.front;
+pub refills : {from to : ℕ} {bytes : List ℕ} {start : LineStart} {over asked : Bool} {source : Option SourceView} {old : ReaderView}
+    → IsReader from to bytes start → record { start = start; held = take (to - from) (drop from bytes); over = over; asked = asked; source = source } ≡ old
+    → (answer : Result ℕ Failed) (filled : List ℕ) (later : Option SourceView) → IsFilled from to bytes filled → IfOk answer (λ n. n ≤ 4096)
+    → told_by later ≡ tape_after answer (told_by source) → IfSome (told_by source) (λ t. Gives t answer (drop 128 filled))
+    → Refills old answer (record { start = start; held = take ((128 + result_unwrap_or answer 0) - (128 - (to - from))) (drop (128 - (to - from)) filled); over = over; asked = asked; source = later })
+refills {from = from} {to = to} {bytes = bytes} {start = start} {over = over} {asked = asked} {source = source} r is answer filled later f few tape gives = subst P is (record {
+  piece = take (result_unwrap_or answer 0) (drop 128 filled);
+  size = size-is answer (drop 128 filled) (rw buf few);
+  held = held-filled from to (result_unwrap_or answer 0) bytes filled r.in_order f.short (omega (arith, r.within, r.room)) (omega (arith, r.room)) f.moves;
   start = refl;
   over = refl;
   asked = refl;
-  tape = tape-ok n (drop 128 filled) (told_by source) (told_by later) tape gives;
-  ends = ends-ok n (drop 128 filled) (told_by source) (told_by later) (omega (arith, buf)) tape gives;
+  tape = tape-is answer (drop 128 filled) (told_by source) (told_by later) tape gives;
+  ends = ends answer (drop 128 filled) (told_by source) (told_by later) (omega (arith, buf)) tape gives;
 })
   where
     P : ReaderView → Type 0
-    P v = Refills v (Ok n) (record { start = start; held = take ((128 + n) - (128 - (to - from))) (drop (128 - (to - from)) filled); over = over; asked = asked; source = later })
+    P v = Refills v answer (record { start = start; held = take ((128 + result_unwrap_or answer 0) - (128 - (to - from))) (drop (128 - (to - from)) filled); over = over; asked = asked; source = later })
 
     buf : length (drop 128 filled) ≡ 4096
-    buf = omega (arith, length-drop 128 filled, f.filled_room)
-
-pub refills-err : (from to : ℕ) (e : Failed) (bytes moved filled : List ℕ) (start : LineStart) (over asked : Bool) (source later : Option SourceView) (old : ReaderView)
-    → record { start = start; held = take (to - from) (drop from bytes); over = over; asked = asked; source = source } ≡ old
-    → IsFilled from to bytes moved filled
-    → told_by later ≡ tape_after (Err e) (told_by source) → IfSome (told_by source) (λ t. Gives t (Err e) (drop 128 filled))
-    → Refills old (Err e) (record { start = start; held = take (128 - (128 - (to - from))) (drop (128 - (to - from)) filled); over = over; asked = asked; source = later })
-refills-err from to e bytes moved filled start over asked source later old is f tape gives = subst P is (record {
-  piece = [];
-  size = refl;
-  held = held-filled from to 0 bytes moved filled f.order f.short f.within (omega (arith, f.room)) f.moves f.front;
-  start = refl;
-  over = refl;
-  asked = refl;
-  tape = tape-err e (told_by source) (told_by later) tape;
-  ends = ends-err e (drop 128 filled) (told_by source) (told_by later) (omega (arith, buf)) tape gives;
-})
-  where
-    P : ReaderView → Type 0
-    P v = Refills v (Err e) (record { start = start; held = take (128 - (128 - (to - from))) (drop (128 - (to - from)) filled); over = over; asked = asked; source = later })
-
-    buf : length (drop 128 filled) ≡ 4096
-    buf = omega (arith, length-drop 128 filled, f.filled_room)
+    buf = omega (arith, length-drop 128 filled, f.room)

@@ -24,11 +24,11 @@ after-end (b ∷ t) h = go (b == 32) h (after-end t)
     go true h more = absurd (omega arith)
     go false h more = more (omega arith)
 
-pub after-more : (t : List ℕ) (n : ℕ) → n ≡ length (first_field t) → n < length t → after_field t ≡ Some (drop (n + 1) t)
-after-more t n e h = rw (add-one, e) (after-drop t (rw (← e) h))
+pub after_more : (t : List ℕ) (n : ℕ) → n ≡ length (first_field t) → n < length t → after_field t ≡ Some (drop (n + 1) t)
+after_more t n e h = rw (add-one, e) (after-drop t (rw (← e) h))
 
-pub after-none : (t : List ℕ) (n : ℕ) → n ≡ length (first_field t) → length t ≤ n → after_field t ≡ None
-after-none t n e h = after-end t (rw (← e) h)
+pub after_none : (t : List ℕ) (n : ℕ) → n ≡ length (first_field t) → length t ≤ n → after_field t ≡ None
+after_none t n e h = after-end t (rw (← e) h)
 
 -- ---- all fields
 

@@ -1,9 +1,11 @@
 -- The bytes of a reader: the place of a line, and a piece after it.
-use Rattle.std.proofs.Common.{◌≡◌, ◌∙◌, ◌+◌, ◌-◌, ◌≤◌, ◌++◌, ℕ, List, [], length, take, drop, sym, ap, arith, length-drop, length-append}
+use Rattle.std.proofs.Common.{◌≡◌, ◌∙◌, ◌+◌, ◌-◌, ◌≤◌, ◌++◌, ℕ, Bool, Option, List, [], length, take, drop, sym, ap, arith, length-drop, length-append}
 use Rattle.std.proofs.Math.Seq.{take-add}
 use Rattle.std.proofs.lemmas.List.{append-nil, drop-drop, drop-take, drop_all, drop_at, length-take-le}
 use borrow.Rule.Slice.PartMut.{mid_of, put_mid}
-use Rattle.stream_reader.specs.Reader.{ReaderView}
+use Rattle.stream_reader.specs.declared.line.LineStart.{LineStart}
+use Rattle.stream_reader.specs.Reader.{ReaderView, SourceView}
+use Rattle.stream_reader.specs.Inside.{IsReader}
 
 -- what was written from a on to the end
 pub drop-put_end : (a k : ℕ) (xs ys : List ℕ) → length xs ≡ a + k → drop a (put_mid a k xs ys) ≡ ys
@@ -17,17 +19,16 @@ pub part-front : (k m : ℕ) (xs : List ℕ) → k ≤ m → take k (drop (m - k
 part-front k m xs le = let sum : (m - k) + k ≡ m = omega arith in sym (ap (λ n. drop (m - k) (take n xs)) (sym sum) ∙ drop-take (m - k) k xs)
 
 -- after the rest of a line was moved before the piece, and the piece was filled
-pub held-filled : (from to n : ℕ) (old moved filled : List ℕ) → from ≤ to → to - from ≤ 128 → to ≤ length old → 128 ≤ length old
-    → take 128 moved ≡ take (128 - (to - from)) old ++ take (to - from) (drop from old) → take 128 filled ≡ take 128 moved
+pub held-filled : (from to n : ℕ) (old filled : List ℕ) → from ≤ to → to - from ≤ 128 → to ≤ length old → 128 ≤ length old → take 128 filled ≡ take (128 - (to - from)) old ++ take (to - from) (drop from old)
     → take ((128 + n) - (128 - (to - from))) (drop (128 - (to - from)) filled) ≡ take (to - from) (drop from old) ++ take n (drop 128 filled)
-held-filled from to n old moved filled order short within long moves fills =
+held-filled from to n old filled order short within long moves =
     let k = to - from in
     let size : (128 + n) - (128 - k) ≡ k + n = omega arith in
     let back : (128 - k) + k ≡ 128 = omega arith in
     let over : drop k (drop (128 - k) filled) ≡ drop 128 filled = drop-drop k (128 - k) filled ∙ ap (λ j. drop j filled) back in
     let lead : length (take (128 - k) old) ≡ 128 - k = length-take-le (128 - k) old (omega arith) in
     let rest : take k (drop (128 - k) filled) ≡ take k (drop from old) =
-    part-front k 128 filled short ∙ ap (drop (128 - k)) (fills ∙ moves) ∙ drop_at (take (128 - k) old) (take k (drop from old)) (128 - k) lead in
+    part-front k 128 filled short ∙ ap (drop (128 - k)) moves ∙ drop_at (take (128 - k) old) (take k (drop from old)) (128 - k) lead in
     ap (λ j. take j (drop (128 - k) filled)) size ∙ take-add k n (drop (128 - k) filled) ∙ ap (λ zs. zs ++ take n (drop k (drop (128 - k) filled))) rest ∙ ap (λ zs. take k (drop from old) ++ take n zs) over
 
 -- some bytes of those held are gone
@@ -40,8 +41,9 @@ pub length-held : (from to : ℕ) (bytes : List ℕ) → from ≤ to → to ≤ 
 length-held from to bytes order within = length-take-le (to - from) (drop from bytes) (omega (arith, length-drop from bytes))
 
 -- how many bytes a reader holds
-pub size-held : (from to : ℕ) (bytes : List ℕ) (v : ReaderView) → take (to - from) (drop from bytes) ≡ v.held → from ≤ to → to ≤ length bytes → length v.held ≡ to - from
-size-held from to bytes v is order within = ap (λ (held : List ℕ). length held) (sym is) ∙ length-held from to bytes order within
+pub size_held : {from to : ℕ} {bytes : List ℕ} {start : LineStart} {over asked : Bool} {source : Option SourceView} {v : ReaderView}
+    → IsReader from to bytes start → record { start = start; held = take (to - from) (drop from bytes); over = over; asked = asked; source = source } ≡ v → length v.held ≡ to - from
+size_held {from = from} {to = to} {bytes = bytes} r is = ap (λ (v : ReaderView). length v.held) (sym is) ∙ length-held from to bytes r.in_order (omega (arith, r.within, r.room))
 
 -- a part that was written keeps the length of the whole
 pub length-put_end : (a k : ℕ) (xs ys : List ℕ) → length xs ≡ a + k → length ys ≡ k → length (put_mid a k xs ys) ≡ a + k

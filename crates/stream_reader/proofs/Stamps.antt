@@ -7,14 +7,15 @@ use Rattle.std.proofs.Math.Seq.{take-add}
 use Rattle.std.proofs.lemmas.List.{get_or-take, length-take-le, length-drop}
 use Rattle.std.proofs.lemmas.List.Folds.{list_all_more}
 use Rattle.std.proofs.lemmas.Int.Digits.{digits_value_more}
-use Rattle.std.proofs.lemmas.Bool.{and_parts, le-leb, ltb-true}
-use Rattle.papi_base.specs.Numerals.{decimal_in, is_decimal, is_digit, is_numeral}
+use Rattle.std.proofs.lemmas.Bool.{and_parts, ltb-true}
+use Rattle.papi_base.specs.Numerals.{decimal_in, is_digit}
 use Rattle.stream_reader.specs.declared.field.Field.{Field}
 use Rattle.stream_reader.specs.declared.line.LineStart.{LineStart}
 use Rattle.stream_reader.specs.Digits.{piece}
 use Rattle.stream_reader.specs.Fields.{after_field, first_field, has_form, stamp_after}
-use Rattle.stream_reader.specs.CommonLines.{IsDigits, IsStamp, is_inner, is_plain}
-use Rattle.stream_reader.proofs.DecimalBytes.{digit, digit-inner, take-one}
+use Rattle.stream_reader.specs.CommonLines.{IsDigits, IsStamp, is_plain}
+use Rattle.stream_reader.proofs.DecimalBytes.{decimal-of, digit, digits-inner}
+use Rattle.stream_reader.proofs.FirstItems.{taken}
 use Rattle.stream_reader.proofs.LineFields.{all-plain, last-after, last-first, space-first}
 
 -- ---- one digit more
@@ -35,18 +36,6 @@ grows t i v h low high each value small =
 
 -- ---- a stamp
 
-decimal-of : (high : ℕ) (f : List ℕ) → list_all is_digit f ≡ true → has_form (length f) (get_or f 0 0) ≡ true → digits_value 10 f ≤ high → decimal_in 0 high f ≡ Some (digits_value 10 f)
-unfolding decimal_in is_decimal is_numeral
-decimal-of high [] each form most = cc form
-decimal-of high (b ∷ f) each form most =
-    let p = and_parts (nat_lt 0 (length (b ∷ f))) ((length (b ∷ f) == 1) || not (b == 48)) form in
-    let v = digits_value 10 (b ∷ f) in
-    rw (each, p.1, le-leb 0 v (omega arith), le-leb v high most) refl
-
-digits-inner : (f : List ℕ) → list_all is_digit f ≡ true → list_all is_inner f ≡ true
-digits-inner [] h = refl
-digits-inner (b ∷ f) h = let p = and_parts (is_digit b) (list_all is_digit f) h in rw (digit-inner b p.0, digits-inner f p.1) refl
-
 pub stamp-is : (t : List ℕ) (stamp : Field) → 12 ≤ length t → get_or t 0 0 ≡ 32 → IsDigits (drop 1 t) stamp → has_form stamp.size (get_or (drop 1 t) 0 0) ≡ true
     → stamp.value ≤ 4294967294 → IsStamp t stamp
 stamp-is t stamp long space digits form most =
@@ -60,7 +49,7 @@ stamp-is t stamp long space digits form most =
       few = few;
       within = omega arith;
       space = space;
-      value = decimal-of 4294967294 f digits.each form_of (omega (arith, digits.value)) ∙ ap Some (sym digits.value);
+      value = decimal-of 0 4294967294 f digits.each form_of (omega arith) (omega (arith, digits.value)) ∙ ap Some (sym digits.value);
       inner = record { each = digits-inner f digits.each };
     }
 
@@ -89,7 +78,7 @@ stamp-after count n f first after e = rw (first, e, after) refl
 pub ending-2 : (start : LineStart) (t : List ℕ) (stamp : Field) → start.stamped ≡ true → IsStamp t stamp → IsEnding start t (record { value = stamp.value; size = 1 + stamp.size })
 ending-2 start t stamp stamped s =
     let f = piece 1 stamp.size t in
-    let whole : take (1 + stamp.size) t ≡ 32 ∷ f = take-add 1 stamp.size t ∙ rw (take-one t (let w = s.within in omega arith), s.space) refl in
+    let whole : take (1 + stamp.size) t ≡ 32 ∷ f = take-add 1 stamp.size t ∙ rw (taken 0 1 0 t (let w = s.within in omega arith), s.space) refl in
     record {
       few = let few = s.few in omega arith;
       field = ap first_field whole ∙ space-first f;

@@ -90,11 +90,11 @@ takes-told old new answer on t last = go (tape_of new) refl t.tape
         pick (inr c) = closes-told old new answer (told ∙ ap Some (ends tape is c)) c.over
 
 -- what is to come of a whole tape
-pub new-told : (tape : Option Tape) (faults : ℕ) → coming (new_view (Some (record { tape = tape; faults = faults })) false) ≡ option_map (λ (t : Tape). occurs_of t.ending t.bytes) tape
+pub new_told : (tape : Option Tape) (faults : ℕ) → coming (new_view (Some (record { tape = tape; faults = faults })) false) ≡ option_map (λ (t : Tape). occurs_of t.ending t.bytes) tape
 unfolding coming comes occurs_of
-new-told None faults = refl
-new-told (Some t) faults = refl
+new_told None faults = refl
+new_told (Some t) faults = refl
 
-pub ended-told : coming (new_view None true) ≡ Some nothing
+pub ended_told : coming (new_view None true) ≡ Some nothing
 unfolding coming
-ended-told = refl
+ended_told = refl

@@ -15,6 +15,7 @@ use Rattle.stream_reader.specs.Digits.{IsHexadecimal, piece}
 use Rattle.stream_reader.specs.Fields.{occurrence_on}
 use Rattle.stream_reader.specs.Judged.{without_return}
 use Rattle.stream_reader.specs.CommonLines.{BeginsWith, BeginsWithComponent, EndsAt, HasHeadSpaces, IsAmount, IsFront, IsHead, IsStamp, is_inner, is_plain, occ_with}
+use Rattle.stream_reader.proofs.FirstItems.{taken}
 use Rattle.stream_reader.proofs.LineHeads.{inner-hex}
 use Rattle.stream_reader.proofs.LineFields.{AreInner, fields-plain, line, line-is, plain-one, plain-whole, return-one, return-whole}
 use Rattle.stream_reader.proofs.Stamps.{IsEnding, ending-1, ending-2}
@@ -29,18 +30,6 @@ pc-is h n low high all e = rw (all, le-leb 1 (length h) low, le-leb (length h) 1
 
 -- ---- the text after the component
 
-nine : (t : List ℕ) → 9 ≤ length t → take 9 t ≡ get_or t 0 0 ∷ get_or t 1 0 ∷ get_or t 2 0 ∷ get_or t 3 0 ∷ get_or t 4 0 ∷ get_or t 5 0 ∷ get_or t 6 0 ∷ get_or t 7 0 ∷ get_or t 8 0 ∷ []
-nine [] h = absurd (omega arith)
-nine (t0 ∷ []) h = absurd (omega arith)
-nine (t0 ∷ t1 ∷ []) h = absurd (omega arith)
-nine (t0 ∷ t1 ∷ t2 ∷ []) h = absurd (omega arith)
-nine (t0 ∷ t1 ∷ t2 ∷ t3 ∷ []) h = absurd (omega arith)
-nine (t0 ∷ t1 ∷ t2 ∷ t3 ∷ t4 ∷ []) h = absurd (omega arith)
-nine (t0 ∷ t1 ∷ t2 ∷ t3 ∷ t4 ∷ t5 ∷ []) h = absurd (omega arith)
-nine (t0 ∷ t1 ∷ t2 ∷ t3 ∷ t4 ∷ t5 ∷ t6 ∷ []) h = absurd (omega arith)
-nine (t0 ∷ t1 ∷ t2 ∷ t3 ∷ t4 ∷ t5 ∷ t6 ∷ t7 ∷ []) h = absurd (omega arith)
-nine (t0 ∷ t1 ∷ t2 ∷ t3 ∷ t4 ∷ t5 ∷ t6 ∷ t7 ∷ t8 ∷ rest) h = refl
-
 -- the fields after the component and before the stamp
 abbrev rest : List ℕ → ℕ → ℕ → List ℕ
 rest r a p = 32 ∷ get_or r 1 0 ∷ get_or r 2 0 ∷ 32 ∷ get_or r 4 0 ∷ get_or r 5 0 ∷ 32 ∷ get_or r 7 0 ∷ 32 ∷ (piece 9 a r ++ 32 ∷ piece (9 + a + 1) p r)
@@ -53,7 +42,7 @@ rest-is r a p long spaces space =
     let with_space : take (9 + a + 1) r ≡ (take 9 r ++ amt) ++ 32 ∷ [] = take_more r (9 + a) 0 long ∙ rw (head_part, space) refl in
     let whole : take (9 + a + 1 + p) r ≡ take 9 r ++ (amt ++ 32 ∷ hex) =
     take-add (9 + a + 1) p r ∙ ap (λ x. x ++ hex) with_space ∙ append_assoc (take 9 r ++ amt) (32 ∷ []) hex ∙ append_assoc (take 9 r) amt (32 ∷ hex) in
-    whole ∙ ap (λ x. x ++ (amt ++ 32 ∷ hex)) (nine r (omega arith)) ∙ rw (spaces.first, spaces.second, spaces.third, spaces.fourth) refl
+    whole ∙ ap (λ x. x ++ (amt ++ 32 ∷ hex)) (taken 0 9 0 r (omega arith)) ∙ rw (spaces.first, spaces.second, spaces.third, spaces.fourth) refl
 
 front-is : (t : List ℕ) (n a p : ℕ) → 9 + a < length (drop n t) → HasHeadSpaces (drop n t) → get_or (drop n t) (9 + a) 0 ≡ 32 → take (n + (9 + a + 1) + p) t ≡ take n t ++ rest (drop n t) a p
 front-is t n a p long spaces space =

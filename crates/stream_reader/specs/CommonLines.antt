@@ -1,5 +1,5 @@
 -- Lines of the common form: this project's own stream format, docs/FORMATS.md.
-use Rattle.std.specs.Prelude.{◌-◌, ◌≡◌, ◌≤◌, ◌<◌, ◌+◌, ◌⊎◌, ◌++◌, ◌==◌, ◌||◌, ℕ, Bool, true, not, List, [], ◌∷◌, length, take, drop, slice_index, Some}
+use Rattle.std.specs.Prelude.{◌-◌, ◌≡◌, ◌≤◌, ◌<◌, ◌+◌, ◌⊎◌, ◌++◌, ◌==◌, ◌||◌, ℕ, Bool, true, not, List, [], ◌∷◌, length, take, slice_index, Some}
 use Rattle.std.specs.List.{list_all}
 use Rattle.std.specs.Str.Parse.{digits_value}
 use Rattle.papi_base.specs.Numerals.{decimal_in, hex_in, is_digit}
@@ -17,7 +17,7 @@ use Rattle.stream_reader.specs.Digits.{piece}
 use Rattle.stream_reader.specs.Judged.{judged, mode_of, without_return}
 use Rattle.stream_reader.specs.Lines.{IsOneLine}
 use Rattle.stream_reader.specs.Fields.{after_field, first_field, occurrence_on, stamp_after}
-use Rattle.stream_reader.specs.Inside.{line_at}
+use Rattle.stream_reader.specs.Inside.{FindsNewline, line_at}
 use Rattle.stream_reader.specs.Reader.{ReaderView}
 
 -- a byte that neither ends a line nor is a carriage return
@@ -128,7 +128,5 @@ BeginsSkipped t = (slice_index t 0 ≡ 35) ⊎ (slice_index t 0 ≡ 10)
 
 -- the bytes held begin with a line of this length, which is judged so
 pub record HoldsLine (v : ReaderView) (n : ℕ) (j : Judgement) : Type 0 where
-  pub size : n < length v.held
-  pub one : IsOneLine (take n v.held)
-  pub is : v.held ≡ take n v.held ++ 10 ∷ drop (n + 1) v.held
+  pub found : FindsNewline v.held (Some n)
   pub judged : j ≡ judged v.start (line_at v n true)

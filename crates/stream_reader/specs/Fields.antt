@@ -18,15 +18,16 @@ unfoldable pub after_field : List ℕ → Option (List ℕ)
 after_field [] = None
 after_field (b ∷ t) = if b == 32 then Some t else after_field t
 
--- the number of a field of digits that goes on from a number
-unfoldable pub digits_on : ℕ → List ℕ → Option ℕ
-digits_on n [] = Some n
-digits_on n (b ∷ t) = if b == 32 then Some n else if is_digit b then digits_on (n * 10 + (b - 48)) t else None
+-- the number of a field of such digits in a base that goes on from a number
+unfoldable pub number_on : (ℕ → Bool) → ℕ → ℕ → List ℕ → Option ℕ
+number_on is_one base n [] = Some n
+number_on is_one base n (b ∷ t) = if b == 32 then Some n else if is_one b then number_on is_one base (n * base + digit_value b) t else None
 
--- the number of a field of hexadecimal digits that goes on from a number
-unfoldable pub hex_on : ℕ → List ℕ → Option ℕ
-hex_on n [] = Some n
-hex_on n (b ∷ t) = if b == 32 then Some n else if is_hex_digit b then hex_on (n * 16 + digit_value b) t else None
+abbrev pub digits_on : ℕ → List ℕ → Option ℕ
+digits_on = number_on is_digit 10
+
+abbrev pub hex_on : ℕ → List ℕ → Option ℕ
+hex_on = number_on is_hex_digit 16
 
 -- a field of digits with this length and first byte is not empty and has no leading zero
 abbrev pub has_form : ℕ → ℕ → Bool

@@ -1,8 +1,8 @@
 -- What a reader keeps inside, and what its turns do.
-use Rattle.std.specs.Prelude.{◌≡◌, ◌≤◌, ◌<◌, ◌+◌, ◌-◌, ◌++◌, ℕ, Bool, true, List, [], ◌∷◌, length, take, drop, Option, Some, None, IfSome, Result, MatchResult}
+use Rattle.std.specs.Prelude.{◌≡◌, ◌≤◌, ◌<◌, ◌+◌, ◌-◌, ◌++◌, ℕ, Bool, true, false, List, [], ◌∷◌, length, take, drop, Option, Some, None, IfSome, IfNone, Result, MatchResult, is_some}
 use Rattle.std.specs.Option.{option_map}
 use Rattle.papi_base.specs.Numerals.{flag_bit}
-use Rattle.papi_base.specs.Outside.{Tape}
+use Rattle.papi_base.specs.Outside.{Rose, Tape}
 use Rattle.papi_base.specs.declared.outside.Failed as failed
 use Rattle.papi_base.specs.declared.outside.Ending.{Ending}
 use Rattle.papi_base.specs.declared.outside.Ending.TheVariants as ending
@@ -13,8 +13,9 @@ use Rattle.stream_reader.specs.declared.line.Judgement.TheVariants as judgement
 use Rattle.stream_reader.specs.declared.next.Next.{Next}
 use Rattle.stream_reader.specs.declared.next.Next.TheVariants as next
 use Rattle.stream_reader.specs.Lines.{IsOneLine, Line}
+use Rattle.stream_reader.specs.Judged.{judged}
 use Rattle.stream_reader.specs.Occurs.{IsStart, after}
-use Rattle.stream_reader.specs.Reader.{ReaderView, before_rest, comes, tape_of}
+use Rattle.stream_reader.specs.Reader.{Gave, IsWithinLimits, ReaderView, Takes, before_rest, comes, faults_of, is_last, tape_of}
 
 -- The bytes held lie in the array and end after the place of a line, and the stream was not too large so far.
 pub record IsReader (from to : ℕ) (bytes : List ℕ) (start : LineStart) : Type 0 where
@@ -58,6 +59,28 @@ line_taken v size ended j = record v { start = after v.start (line_at v size end
 -- what is still to be read before the stream is too large
 abbrev pub left_of : ReaderView → ℕ
 left_of v = ((LARGEST_STREAM + 2) - v.start.passed) + ((LARGEST_STREAM + 2 + READER_BYTES) - (v.start.passed + length v.held))
+
+-- A line was taken from the front of the bytes held. If it gives nothing, the reader is nearer to the largest stream.
+pub record TakesLine (old : ReaderView) (size : ℕ) (ended : Bool) (given : Option Next) (new : ReaderView) : Type 0 where
+  pub answer : given ≡ answer_of old.start.number (judged old.start (line_at old size ended))
+  pub after : new ≡ line_taken old size ended (judged old.start (line_at old size ended))
+  pub counts : Gave old.start given new.start
+  pub nearer : IfNone given (left_of new < left_of old)
+  pub within : IsWithinLimits new
+
+-- A line or a piece was taken: this is the answer, or all that was to come is still to come.
+pub record Turns (old : ReaderView) (answer : Option Next) (new : ReaderView) : Type 0 where
+  pub takes : IfSome answer (λ next. Takes old next new)
+  pub passes : IfNone answer (Passes old new)
+  pub counts : Gave old.start answer new.start
+  pub over : IfNone answer (new.over ≡ false)
+  pub last : IfSome answer (λ next. is_last next ≡ true → new.over ≡ true)
+  pub asked : new.asked ≡ old.asked
+  pub kept : is_some new.source ≡ is_some old.source
+  pub within : IsWithinLimits new
+  pub faults : faults_of old ≤ faults_of new
+  pub failed : answer ≡ Some next.ReadFault → Rose (faults_of old) (faults_of new)
+  pub nearer : IfNone answer (left_of new < left_of old)
 
 -- The tape, if it is told, has ended so.
 abbrev pub HasEnded : Ending → Option Tape → Type 0

@@ -12,6 +12,7 @@ use std::simd::prelude::*;
 // `digit` has the values of 0 to 9, by way of 246 to 255 and 240 to 249, and `letter` those of the letters. Both have 16 or more for
 // all other bytes, so the smaller one is the value.
 #[inline(always)]
+#[tactic(auto, using(crate::proofs::DigitLanes::lanes_values))]
 fn digits_or_more(bytes: u8x16) -> u8x16
     ensures { HaveValues bytes result }
 {
@@ -24,6 +25,7 @@ fn digits_or_more(bytes: u8x16) -> u8x16
 
 // How many digits come before the first lane that is not one.
 #[inline(always)]
+#[tactic(auto, using(crate::proofs::DigitRuns::run_all, crate::proofs::DigitRuns::run_some, crate::proofs::DigitRuns::run_most))]
 fn leading_digits(values: u8x16) -> usize
     ensures value { result ≡ prefix_len is_value values }
     ensures most { result ≤ MOST_HEX_DIGITS }
@@ -39,6 +41,7 @@ fn leading_digits(values: u8x16) -> usize
 // The number of sixteen digits, the first of them the highest. Each pair of digits becomes a byte: a lane of 16 bits has the first
 // digit in its low byte, and 4097 is 16 * 256 + 1, so the product has 16 times the first and the second in its high byte.
 #[inline(always)]
+#[tactic(auto, using(crate::proofs::JoinedDigits::joined_value))]
 fn joined(values: u8x16) -> u64
     ensures { result ≡ number_after 0 (map (λ value. value % 16) values) }
 {

@@ -61,7 +61,7 @@ fn read_tail(start: &LineStart, text: &[u8]) -> Option<Tail>
 }
 
 // The occurrence of an event, if this is the text after it.
-#[tactic(auto, unfolding(crate::specs::Fields::event_occurrence_on))]
+#[tactic(auto, using(crate::proofs::Modes::mode_one), unfolding(crate::specs::Fields::event_occurrence_on))]
 #[inline(always)]
 fn event_occurrence(start: &LineStart, event: Event, text: &[u8]) -> Option<Occ>
     ensures { result ≡ event_occurrence_on start.now.stamped start.now.given event text.now }

@@ -72,9 +72,10 @@ impl<S: Source> StreamReader<S> {
     ghost use Rattle.stream_reader.specs.Reader.{ReaderView, Gave, IsWithinLimits, NextGives, Takes, coming, faults_of, has_answer, is_last};
     ghost use Rattle.stream_reader.specs.Reader.{new_view, nothing, tape_of};
     ghost use Rattle.stream_reader.specs.CommonLines.{HoldsLine};
-    ghost use Rattle.stream_reader.specs.Inside.{FindsNewline, Passes, Refills, answer_of, left_of, line_at, line_taken};
+    ghost use Rattle.stream_reader.specs.Inside.{FindsNewline, Refills, TakesLine, Turns, left_of, line_at};
 
     /// A reader of a stream from its first line on.
+    #[tactic(auto, using(crate::proofs::Telling::new_told))]
     pub fn new(source: S) -> StreamReader<S>
         ensures view { result ≡ new_view
             (Some (record { tape = S.tape source; faults = S.faults source })) false }
@@ -85,6 +86,7 @@ impl<S: Source> StreamReader<S> {
     }
 
     /// A reader of a stream with no line.
+    #[tactic(auto, using(crate::proofs::Telling::ended_told))]
     pub fn ended() -> StreamReader<S>
         ensures view { result ≡ new_view None true }
         ensures coming { coming result ≡ Some nothing }
@@ -132,13 +134,7 @@ impl<S: Source> StreamReader<S> {
         requires within { size + flag_bit ended ≤ length self.old.held }
         requires some { 0 < size + flag_bit ended }
         requires judged { judgement.now ≡ judged self.old.start (line_at self.old size ended) }
-        ensures answer { result ≡ answer_of self.old.start.number
-            (judged self.old.start (line_at self.old size ended)) }
-        ensures after { self.new
-            ≡ line_taken self.old size ended (judged self.old.start (line_at self.old size ended)) }
-        ensures counts { Gave self.old.start result self.new.start }
-        ensures nearer { IfNone result (left_of self.new < left_of self.old) }
-        ensures within { IsWithinLimits self.new }
+        ensures { TakesLine self.old size ended result self.new }
     {
         let number = self.start.number;
         if judgement.is_bad() {
@@ -156,13 +152,7 @@ impl<S: Source> StreamReader<S> {
         requires over { self.old.over ≡ false }
         requires within { size + flag_bit ended ≤ length self.old.held }
         requires some { 0 < size + flag_bit ended }
-        ensures answer { result ≡ answer_of self.old.start.number
-            (judged self.old.start (line_at self.old size ended)) }
-        ensures after { self.new
-            ≡ line_taken self.old size ended (judged self.old.start (line_at self.old size ended)) }
-        ensures counts { Gave self.old.start result self.new.start }
-        ensures nearer { IfNone result (left_of self.new < left_of self.old) }
-        ensures within { IsWithinLimits self.new }
+        ensures { TakesLine self.old size ended result self.new }
     {
         let judgement = self.judge_front(size, ended);
         self.take_judged(size, ended, &judgement)
@@ -213,13 +203,9 @@ impl<S: Source> StreamReader<S> {
         move_rest(&mut self.bytes, self.from, self.to);
         self.from = LONGEST_LINE - (self.to - self.from);
         self.to = LONGEST_LINE;
-        match fill(&mut self.source, &mut self.bytes) {
-            Ok(size) => {
-                self.to += size;
-                Ok(size)
-            }
-            Err(failed) => Err(failed),
-        }
+        let read = fill(&mut self.source, &mut self.bytes);
+        self.to += read.unwrap_or(0);
+        read
     }
 
     // How many bytes are held.
@@ -246,6 +232,7 @@ impl<S: Source> StreamReader<S> {
     }
 
     // The last line, if the source has ended.
+    #[tactic(auto, using(crate::proofs::Turning::end_takes, crate::proofs::Turning::last_takes))]
     fn take_last(&mut self) -> Next
         requires over { self.old.over ≡ false }
         requires line { IsOneLine self.old.held }
@@ -270,22 +257,13 @@ impl<S: Source> StreamReader<S> {
     }
 
     // The next piece, or what stands if the source ended or failed.
+    #[tactic(auto, using(crate::proofs::Turning::fault_takes, crate::proofs::Turning::piece_passes, crate::proofs::Turning::takes_after))]
     fn take_piece(&mut self) -> Option<Next>
         requires over { self.old.over ≡ false }
         requires short { length self.old.held ≤ LONGEST_LINE }
         requires line { IsOneLine self.old.held }
-        ensures takes { IfSome result (λ next. Takes self.old next self.new) }
-        ensures passes { IfNone result (Passes self.old self.new) }
-        ensures counts { Gave self.old.start result self.new.start }
-        ensures over { IfNone result (self.new.over ≡ false) }
+        ensures turns { Turns self.old result self.new }
         ensures last { IfSome result (λ _. self.new.over ≡ true) }
-        ensures asked { self.new.asked ≡ self.old.asked }
-        ensures kept { is_some self.new.source ≡ is_some self.old.source }
-        ensures within { IsWithinLimits self.new }
-        ensures faults { faults_of self.old ≤ faults_of self.new }
-        ensures failed { result ≡ Some Next.ReadFault
-            → Rose (faults_of self.old) (faults_of self.new) }
-        ensures nearer { IfNone result (left_of self.new < left_of self.old) }
     {
         match self.refill() {
             Ok(0) => Some(self.take_last()),
@@ -298,22 +276,12 @@ impl<S: Source> StreamReader<S> {
     }
 
     // One turn: the next line if it is whole, else the next piece.
+    #[tactic(auto, using(crate::proofs::Turning::line_turns, crate::proofs::Turning::line_hand, crate::proofs::Turning::no_answer, crate::proofs::Turning::long_takes))]
     fn turn(&mut self) -> Option<Next>
         requires { self.old.over ≡ false }
-        ensures takes { IfSome result (λ next. Takes self.old next self.new) }
-        ensures passes { IfNone result (Passes self.old self.new) }
-        ensures counts { Gave self.old.start result self.new.start }
-        ensures over { IfNone result (self.new.over ≡ false) }
-        ensures last { IfSome result (λ next. is_last next ≡ true → self.new.over ≡ true) }
-        ensures asked { self.new.asked ≡ self.old.asked }
-        ensures kept { is_some self.new.source ≡ is_some self.old.source }
-        ensures within { IsWithinLimits self.new }
-        ensures faults { faults_of self.old ≤ faults_of self.new }
-        ensures failed { result ≡ Some Next.ReadFault
-            → Rose (faults_of self.old) (faults_of self.new) }
+        ensures turns { Turns self.old result self.new }
         ensures at_hand { has_answer self.old ≡ true → (self.new.source ≡ self.old.source)
             × IfNone result (has_answer self.new ≡ true) }
-        ensures nearer { IfNone result (left_of self.new < left_of self.old) }
     {
         if let Some(line) = self.common_line() {
             return self.take_judged(line.size, true, &Judgement::Occurs(line.occ));

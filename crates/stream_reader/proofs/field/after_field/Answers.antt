@@ -1,10 +1,10 @@
 use Rattle.std.proofs.Common.{sym}
 use Rattle.std.proofs.lemmas.List.{take_rest}
-use Rattle.stream_reader.proofs.Rests.{after-more, after-none}
+use Rattle.stream_reader.proofs.Rests.{after_more, after_none}
 use Rattle.stream_reader.proofs.field.after_field.Goals as goal
 
 pub returns-then-size-text : goal.returns-then-size-text
-returns-then-size-text c = rw take_rest (sym (after-more c.args.text.now c.args.size c.requires c.if-size-text.true))
+returns-then-size-text c = rw take_rest (sym (after_more c.args.text.now c.args.size c.requires c.if-size-text.true))
 
 pub returns-else-size-text : goal.returns-else-size-text
-returns-else-size-text c = sym (after-none c.args.text.now c.args.size c.requires c.if-size-text.false)
+returns-else-size-text c = sym (after_none c.args.text.now c.args.size c.requires c.if-size-text.false)

@@ -1,7 +1,9 @@
-use Rattle.std.proofs.Common.{◌≡◌, ◌∙◌, sym, arith, get_or, inl, inr, length}
+use Rattle.std.proofs.Common.{◌≡◌, ◌∙◌, sym, arith, get_or, inl, inr, length, rules}
 use Rattle.std.proofs.lemmas.Bool.{ltb-true}
 use Rattle.std.proofs.lemmas.Bool.Decides.{nat_tests}
-use Rattle.stream_reader.proofs.Hexadecimals.{Ends, Stops, at-space, at-end, at-digit, digit-some, digit-no-space, digit-none, hex-few, hex-small, hex-stops, hex-within}
+use Rattle.papi_base.specs.Numerals.{is_hex_digit}
+use Rattle.stream_reader.proofs.FieldSteps.{Ends, at-digit, at-end, at-space}
+use Rattle.stream_reader.proofs.Hexadecimals.{Stops, digit-some, digit-no-space, digit-none, hex-few, hex-small, hex-stops, hex-within}
 use Rattle.stream_reader.proofs.field.hexadecimal.Goals as goal
 use Rattle.stream_reader.proofs.field.hexadecimal.Goals.{then-size-few-via-then-size-few, then-size-few-via-else-size-few+then-text-size-ne32}
 use Rattle.stream_reader.proofs.field.hexadecimal.Goals.{then-size-text, else-size-text, else-loop-size-test, then-loop-size-test+in-None}
@@ -22,7 +24,7 @@ pub loop-size-preserved : goal.loop-size-preserved
 loop-size-preserved c =
     let d = digit-some (get_or c.args.text.now c.loop-size.size 0) c.in-Some.digit c.in-Some.ensures in
     let s = hex-small c.loop-size.size c.args.many c.loop-size.value c.in-Some.digit (omega arith) c.requires c.loop-size.invariant.small d.small in
-    let g = at-digit c.args.text.now c.loop-size.size c.loop-size.value (omega arith) (digit-no-space (get_or c.args.text.now c.loop-size.size 0) d.test) in
+    let g = at-digit is_hex_digit 16 c.args.text.now c.loop-size.size c.loop-size.value (omega arith) (digit-no-space (get_or c.args.text.now c.loop-size.size 0) d.test) in
     record {
       rest = c.loop-size.invariant.rest ∙ rw d.value (g.value d.test);
       long = omega (arith, g.long);
@@ -44,18 +46,14 @@ returns-then-size-few-clause-value c =
       ]
     ])
 
-pub returns-clause-value : goal.returns-clause-value
-returns-clause-value c =
-    let ends : Ends c.args.text.now c.loop-size.size c.loop-size.value = elim c.if-size-text.branch [
-      | then-size-text w ↦ (let space : get_or c.args.text.now c.loop-size.size 0 ≡ 32 = grind (arith, nat_tests) in at-space c.args.text.now c.loop-size.size c.loop-size.value w.if-size-text.true space)
-      | else-size-text w ↦ at-end c.args.text.now c.loop-size.size c.loop-size.value w.if-size-text.false
+pub returns : goal.returns
+returns c =
+    let ends : Ends is_hex_digit 16 c.args.text.now c.loop-size.size c.loop-size.value = elim c.if-size-text.branch [
+      | then-size-text w ↦ (let space : get_or c.args.text.now c.loop-size.size 0 ≡ 32 = grind (arith, nat_tests) in at-space is_hex_digit 16 c.args.text.now c.loop-size.size c.loop-size.value w.if-size-text.true space)
+      | else-size-text w ↦ at-end is_hex_digit 16 c.args.text.now c.loop-size.size c.loop-size.value w.if-size-text.false
     ] in
-    sym (hex-within c.args.few c.args.many c.loop-size.value c.args.text.now (c.loop-size.invariant.rest ∙ ends.value) (omega (arith, ends.long)) (omega (arith, ends.long)))
-
-pub returns-clause-size : goal.returns-clause-size
-returns-clause-size c =
-    let ends : Ends c.args.text.now c.loop-size.size c.loop-size.value = elim c.if-size-text.branch [
-      | then-size-text w ↦ (let space : get_or c.args.text.now c.loop-size.size 0 ≡ 32 = grind (arith, nat_tests) in at-space c.args.text.now c.loop-size.size c.loop-size.value w.if-size-text.true space)
-      | else-size-text w ↦ at-end c.args.text.now c.loop-size.size c.loop-size.value w.if-size-text.false
-    ] in
-    omega (arith, ends.long)
+    record {
+      value = sym (hex-within c.args.few c.args.many c.loop-size.value c.args.text.now (c.loop-size.invariant.rest ∙ ends.value) (omega (arith, ends.long)) (omega (arith, ends.long)));
+      size = omega (arith, ends.long);
+      most = search rules;
+    }

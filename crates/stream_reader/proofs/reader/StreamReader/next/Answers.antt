@@ -4,7 +4,7 @@ use Rattle.stream_reader.specs.declared.next.Next.TheVariants as next
 use Rattle.stream_reader.specs.Reader.{GaveNothing, NextGives, ReaderView, Takes, coming, faults_of, has_answer}
 use Rattle.stream_reader.specs.Inside.{Passes}
 use Rattle.stream_reader.proofs.Telling.{asked-hand, asked-passes, over-takes, over-told, takes-told}
-use Rattle.stream_reader.proofs.Turning.{passes-after, takes-after}
+use Rattle.stream_reader.proofs.Turning.{passes-after, takes_after}
 use Rattle.stream_reader.proofs.reader.StreamReader.next.Goals as goal
 
 pub returns-then-self-clause-told : goal.returns-then-self-clause-told
@@ -30,19 +30,19 @@ loop-next-init g c = record {
 
 pub loop-next-preserved : goal.loop-next-preserved
 loop-next-preserved g c = record {
-  over = c.in_default.ensures.over;
-  passes = passes-after c.args.self.now c.loop-next.self c.turn.new.self c.loop-next.invariant.passes c.in_default.ensures.passes;
-  counts = record { last = c.in_default.ensures.counts.last ∙ c.loop-next.invariant.counts.last; given = c.in_default.ensures.counts.given ∙ c.loop-next.invariant.counts.given };
+  over = c.in_default.ensures.turns.over;
+  passes = passes-after c.args.self.now c.loop-next.self c.turn.new.self c.loop-next.invariant.passes c.in_default.ensures.turns.passes;
+  counts = record { last = c.in_default.ensures.turns.counts.last ∙ c.loop-next.invariant.counts.last; given = c.in_default.ensures.turns.counts.given ∙ c.loop-next.invariant.counts.given };
   hand = λ h. let k = c.loop-next.invariant.hand h in let t = c.in_default.ensures.at_hand k.1 in (t.0 ∙ k.0, t.1);
-  asked = c.turn.ensures.asked ∙ c.loop-next.invariant.asked;
-  kept = c.turn.ensures.kept ∙ c.loop-next.invariant.kept;
-  faults = omega (arith, c.loop-next.invariant.faults, c.turn.ensures.faults);
+  asked = c.turn.ensures.turns.asked ∙ c.loop-next.invariant.asked;
+  kept = c.turn.ensures.turns.kept ∙ c.loop-next.invariant.kept;
+  faults = omega (arith, c.loop-next.invariant.faults, c.turn.ensures.turns.faults);
 }
 
 pub returns-in-Some-clause-takes : goal.returns-in-Some-clause-takes
-returns-in-Some-clause-takes g c = takes-after c.args.self.now c.loop-next.self c.turn.new.self c.in-Some.next c.loop-next.invariant.passes c.in-Some.ensures.takes
+returns-in-Some-clause-takes g c = takes_after c.args.self.now c.loop-next.self c.turn.new.self c.in-Some.next c.loop-next.invariant.passes c.in-Some.ensures.turns.takes
 
 pub returns-in-Some-clause-told : goal.returns-in-Some-clause-told
 returns-in-Some-clause-told g c =
     let on : c.args.self.now.over ≡ false = ap (λ (v : ReaderView). v.over) (sym c.self.view_is) ∙ c.if-self.false in
-    takes-told c.args.self.now c.turn.new.self c.in-Some.next on (takes-after c.args.self.now c.loop-next.self c.turn.new.self c.in-Some.next c.loop-next.invariant.passes c.in-Some.ensures.takes) c.in-Some.ensures.last
+    takes-told c.args.self.now c.turn.new.self c.in-Some.next on (takes_after c.args.self.now c.loop-next.self c.turn.new.self c.in-Some.next c.loop-next.invariant.passes c.in-Some.ensures.turns.takes) c.in-Some.ensures.turns.last
