@@ -17,6 +17,7 @@ use Rattle.thread_core.specs.Stands.{AgreesWith}
 use Rattle.thread_session.specs.Follows.{Does}
 use Rattle.thread_session.specs.SessionView.{SessionView}
 use Rattle.thread_session.specs.Stands.{IsReady}
+use Rattle.papi_calls.proofs.Known.{armed_mentions}
 
 module _ (catalog : CatalogView) (mentioned : List Native) (book : Book) where
   -- the session is ready for it
@@ -55,18 +56,22 @@ module _ (catalog : CatalogView) (mentioned : List Native) (book : Book) where
       subst (λ (b : Book). IsNamed b session.core.shape named) (sym (is ∙ ap (λ (l : LibraryView). l.catalog.book) view ∙ ap (λ (c : CatalogView). c.book) same_catalog))
       (subst (λ (s : SessionView). IsNamed first.catalog.book s.core.shape named) (sym (ap (λ (l : LibraryView). l.session) view ∙ same_session)) good)
 
-  -- the library may have mentioned it just before
-  pub named_made : (old new : SessionView) (given : Reply) (first before : LibraryView) (call : Result EventRef Code → Call) (named looked_up : Result EventRef Code) → book ≡ catalog.book
-      → Does book old new (call named) given → record { catalog = catalog; mentioned = mentioned; session = old } ≡ before → before.catalog ≡ first.catalog → before.session ≡ first.session
-      → before.mentioned ≡ joined_by first.mentioned (mentions_of_call (call named)) → named ≡ looked_up
-      → Made first (record { catalog = catalog; mentioned = mentioned; session = new }) (call looked_up) given
-  named_made old new given first before call named looked_up is does view same_catalog same_session more found =
+  -- the library may have mentioned it just before, and it is the one that is asked for
+  pub named_made : (old new : SessionView) (given : Reply) (first before : LibraryView) (taken asked : Call) → book ≡ catalog.book
+      → Does book old new taken given → record { catalog = catalog; mentioned = mentioned; session = old } ≡ before → before.catalog ≡ first.catalog → before.session ≡ first.session
+      → before.mentioned ≡ joined_by first.mentioned (mentions_of_call taken) → taken ≡ asked
+      → Made first (record { catalog = catalog; mentioned = mentioned; session = new }) asked given
+  named_made old new given first before taken asked is does view same_catalog same_session more found =
       let own_catalog : catalog ≡ first.catalog = ap (λ (l : LibraryView). l.catalog) view ∙ same_catalog in
       let own_session : old ≡ first.session = ap (λ (l : LibraryView). l.session) view ∙ same_session in
-      subst (λ (e : Result EventRef Code). Made first (record { catalog = catalog; mentioned = mentioned; session = new }) (call e) given) found record {
+      subst (λ (c : Call). Made first (record { catalog = catalog; mentioned = mentioned; session = new }) c given) found record {
         does =
-            subst (λ (b : Book). Does b first.session new (call named) given) (is ∙ ap (λ (c : CatalogView). c.book) own_catalog)
-            (subst (λ (s : SessionView). Does book s new (call named) given) own_session does);
+            subst (λ (b : Book). Does b first.session new taken given) (is ∙ ap (λ (c : CatalogView). c.book) own_catalog)
+            (subst (λ (s : SessionView). Does book s new taken given) own_session does);
         catalog = own_catalog;
         mentioned = ap (λ (l : LibraryView). l.mentioned) view ∙ more;
       }
+
+pub ruleset calling = (may_call, still_whole, made, made_still)
+
+pub ruleset naming = (may_call, may_take, still_whole, named_made, armed_mentions)

@@ -16,21 +16,8 @@ use Rattle.papi_calls.specs.Codes.{IsKnown}
 use Rattle.postfix_rules.proofs.Joined.{is_among}
 use Rattle.std.specs.Prelude.{All}
 
-joined : (mentioned : List Native) (n : Native) → among n mentioned ≡ true → joined_by mentioned (n ∷ []) ≡ mentioned
+pub joined : (mentioned : List Native) (n : Native) → among n mentioned ≡ true → joined_by mentioned (n ∷ []) ≡ mentioned
 joined mentioned n is = ap (λ b. if b then mentioned else mentioned ++ n ∷ []) is
-
-pub known_added : (mentioned : List Native) (set : ℕ) (e : Result EventRef Code) → IfOk e (IsKnown mentioned) → joined_by mentioned (mentions_of_call (call.Add set e)) ≡ mentioned
-known_added mentioned set (Ok (event.Native n)) is = joined mentioned n is
-known_added mentioned set e is = refl
-
-pub known_removed : (mentioned : List Native) (set : ℕ) (e : Result EventRef Code) → IfOk e (IsKnown mentioned) → joined_by mentioned (mentions_of_call (call.Remove set e)) ≡ mentioned
-known_removed mentioned set (Ok (event.Native n)) is = joined mentioned n is
-known_removed mentioned set e is = refl
-
-pub known_armed : (mentioned : List Native) (set : ℕ) (e : Result EventRef Code) (threshold : ℕ) → IfOk e (IsKnown mentioned)
-    → joined_by mentioned (mentions_of_call (call.Overflow set e threshold)) ≡ mentioned
-known_armed mentioned set (Ok (event.Native n)) threshold is = joined mentioned n is
-known_armed mentioned set e threshold is = refl
 
 -- what is mentioned if a threshold is set is what its event's name mentions
 pub armed_mentions : (set : ℕ) (e : Result EventRef Code) (threshold : ℕ) → mentions_of_call (call.Overflow set e threshold) ≡ mentions_of (CodeOf e)

@@ -1,4 +1,6 @@
 //! The calls that take no event, each as the model's step has it.
+#![tactic(auto, using(crate::proofs::Calling::calling))]
+
 ghost use Rattle.std.specs.Prelude.{◌≡◌, ◌≢◌};
 ghost use Rattle.papi_base.specs.declared.code.Code.TheVariants as code;
 ghost use Rattle.papi_calls.specs.Calls.{Made};

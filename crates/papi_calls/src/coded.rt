@@ -1,13 +1,16 @@
 //! The codes of events, and the calls that take an event by its code.
+#![tactic(auto, using(crate::proofs::Calling::naming))]
+
 ghost use Rattle.std.specs.Prelude.{◌≡◌, IfOk, OnErr, OnOk, string_bytes};
 ghost use Rattle.component_table.specs.Catalogs.{looked_up};
 ghost use Rattle.component_table.specs.EventNames.{event_name};
 ghost use Rattle.papi_calls.specs.Calls.{Answered, Made};
 ghost use Rattle.papi_calls.specs.Codes.{IsKnown, code_in_row, coded, event_code, event_coded, map_ok};
 ghost use Rattle.postfix_rules.specs.Fitting.{EventFits, IsNamed};
+ghost use Rattle.postfix_rules.specs.Sameness.{joined_by};
 ghost use Rattle.event_tables.specs.Tables.{shape_of};
 ghost use Rattle.session_model.specs.Replies.{plain};
-ghost use Rattle.session_model.specs.World.{answer};
+ghost use Rattle.session_model.specs.World.{answer, mentions_of};
 ghost use Rattle.session_model.specs.declared.call.Call.TheVariants as call;
 ghost use Rattle.session_model.specs.declared.line.Asked.TheVariants as asked;
 ghost use Rattle.session_model.specs.declared.reply.Body.TheVariants as body;
@@ -92,7 +95,8 @@ impl Library {
 
     // The event of a code, if it can be added.
     fn coded(&self, code: u32) -> Named
-        ensures known { IfOk result (IsKnown self.now.mentioned) }
+        ensures known { self.now.mentioned
+            ≡ joined_by self.now.mentioned (mentions_of (asked.CodeOf result)) }
         ensures coded { result ≡ coded self.now.catalog self.now.mentioned code }
         ensures good { IsNamed self.now.catalog.book self.now.session.core.shape result }
     {

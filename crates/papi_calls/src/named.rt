@@ -1,4 +1,6 @@
 //! The calls that take an event by its name.
+#![tactic(auto, using(crate::proofs::Calling::naming))]
+
 ghost use Rattle.std.specs.Prelude.{◌≡◌, [], ◌∷◌, IfOk, OnErr, OnOk};
 ghost use Rattle.component_table.specs.Catalogs.{looked_up};
 ghost use Rattle.papi_calls.specs.Calls.{Made};

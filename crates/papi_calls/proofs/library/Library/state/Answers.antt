@@ -1,9 +1,0 @@
-use Rattle.std.proofs.Common.{refl}
-use Rattle.papi_calls.proofs.Calling.{made_still, may_call}
-use Rattle.papi_calls.proofs.library.Library.state.Goals as goal
-
-pub state-requires : goal.state-requires
-state-requires c = record { ready = may_call _ _ _ _ c.book.ensures.book c.self.invariant }
-
-pub returns : goal.returns
-returns c = record { made = made_still _ _ _ _ _ _ c.book.ensures.book c.state.ensures _ c.self.view_is refl }
