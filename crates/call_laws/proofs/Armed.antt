@@ -1,6 +1,7 @@
 -- Thresholds that the history of a thread shows: those of sets with a number, at or above the least one.
+use Rattle.std.proofs.Common.{rules}
 use Rattle.std.proofs.Common.{◌≡◌, ℕ, zero, suc, ◌<◌, ◌≤◌, ◌⊎◌, inl, inr, Bool, true, false, List, [], ◌∷◌, length, refl, sym, ap, subst, ◌∙◌, arith, Option, Some, None, Ok}
-use Rattle.std.specs.Prelude.{◌&&◌, ◌==◌, All, nat_le, slice_index_or}
+use Rattle.std.specs.Prelude.{All, slice_index_or}
 use Rattle.std.proofs.lemmas.Bool.{both_ways, cases_lt}
 use Rattle.std.proofs.lemmas.Bool.Decides.{eqb_tells, nat_tests}
 use Rattle.std.proofs.lemmas.List.Elements.{All-nil, All-push, All-set}
@@ -18,7 +19,7 @@ use Rattle.session_model.specs.Faces.{at}
 use Rattle.session_model.specs.Replies.{refused}
 use Rattle.session_model.specs.Step.{account_refusal, performed, replies_to, step, unless}
 use Rattle.session_laws.proofs.Sets.{test_fails}
-use Rattle.call_laws.specs.History.{CallReply, Thread, answered, begun, history, is_number, is_ok, makes}
+use Rattle.call_laws.specs.History.{CallReply, Thread, answered, history, makes}
 use Rattle.call_laws.specs.Passings.{first_native, threshold_at}
 use Rattle.call_laws.specs.SetCalls.{changed, holds_after, set_now, set_of_call}
 use Rattle.call_laws.proofs.Histories.{set_now-changed, set_now-made, set_now-other}
@@ -48,32 +49,14 @@ at_below (p ∷ places) (suc k) x e = omega (arith, at_below places k x e)
 
 -- the set that a call changed is the one that it names
 names : (k : ℕ) (x : CallReply) → changed k x ≡ true → set_of_call x.call ≡ Some k
-names k x on = go (set_of_call x.call) (is_ok x.reply.code) on where
-  go : (o : Option ℕ) (ok : Bool) → (is_number k o && ok) ≡ true → o ≡ Some k
-  go None ok e = cc
-  go (Some j) ok e = elim (eqb_tells j k) [ inl s ↦ ap Some s.1 | inr s ↦ absurd (both_ways (is_number k (Some j) && ok) (rw (s.0) refl) e) ]
+names k x on = grind (arith, nat_tests, eqb_tells, both_ways)
 
 is_threshold : (shape : Widths) (t : ℕ) (s : AtRest) → is_bad_threshold shape t s ≡ false → IsThreshold t
-is_threshold shape t s h = go (t == 0) refl (nat_le LEAST_THRESHOLD t) refl h where
-  go : (none : Bool) → (t == 0) ≡ none → (high : Bool) → nat_le LEAST_THRESHOLD t ≡ high → is_bad_threshold shape t s ≡ false → IsThreshold t
-  go true e high f h = inl (grind (arith, nat_tests, e))
-  go false e true f h = inr (grind (arith, nat_tests, f))
-  go false e false f h = absurd (both_ways (is_bad_threshold shape t s) h (rw (e, f) refl))
+is_threshold shape t s h = grind (arith, nat_tests, both_ways)
 
 performed_seen : (t : Thread) (log : List CallReply) (a : Account) (c : Call) → Belongs t log a → account_refusal t.book t.shape a c ≡ None
     → IsSeen (said c (performed t.book t.shape a c).reply)
-performed_seen t log a c h q = record {
-  few = λ k on.
-      let p = present t.book t.shape a c k q (first_row t.book t.shape a c k (names k (said c (performed t.book t.shape a c).reply) on)) in
-      subst (λ n. k < n) h.places (at_below a.sets k p.0 p.1);
-  high = λ k e threshold is on. over k e threshold is;
-} where
-  over : (k : ℕ) (e : EventRef) (threshold : ℕ) → c ≡ call.Overflow k (Ok e) threshold → IsThreshold threshold
-  over k e threshold is =
-      let x : Call = call.Overflow k (Ok e) threshold in
-      let taken = subst (λ d. account_refusal t.book t.shape a d ≡ None) is q in
-      let p = present t.book t.shape a x k taken refl in
-      is_threshold t.shape threshold p.0.set (test_fails t.book t.shape a x 3 k (is_bad_threshold t.shape threshold) p.0 taken p.1 refl)
+performed_seen t log a c h q = grind (arith, nat_tests, present, first_row, names, said, at_below, is_threshold, test_fails)
 
 step_seen : (t : Thread) (log : List CallReply) (a : Account) (c : Call) → Belongs t log a → IsSeen (said c (step t.book t.shape a c).reply)
 step_seen t log a c h = go (account_refusal t.book t.shape a c) refl where
@@ -139,7 +122,4 @@ above ts i h some = elim (cases_lt i (length ts)) [
 pub is_armed : (t : Thread) (calls : List Call) (k i : ℕ) (n : Native)
     → 0 < threshold_at (set_now t.book k (answered t calls)) i → first_native t.book (set_now t.book k (answered t calls)) i ≡ Some n
     → (k < MOST_SETS) × (LEAST_THRESHOLD ≤ threshold_at (set_now t.book k (answered t calls)) i)
-is_armed t calls k i n some leads =
-    let log = answered t calls in
-    let seen = all_seen t [] (begun t) calls (opening_belongs t) tt in
-    (set_few t.book log k i n seen leads, above (set_now t.book k log).thresholds i (set_high t.book log k seen) some)
+is_armed t calls k i n some leads = search (rules, all_seen, opening_belongs, set_few, above, set_high)

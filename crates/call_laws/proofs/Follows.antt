@@ -1,5 +1,7 @@
 -- An account follows the history of its calls: what the history says of a set is what the account keeps of it.
-use Rattle.std.proofs.Common.{◌≡◌, ◌≢◌, ℕ, ◌+◌, inl, inr, Bool, true, false, List, [], ◌∷◌, ◌++◌, length, take, drop, map, refl, sym, ap, ap₂, subst, ◌∙◌, arith, Option, Some, None, Ok, Err}
+use Rattle.std.proofs.Common.{rules}
+use Rattle.std.proofs.lemmas.Bool.Decides.{nat_tests}
+use Rattle.std.proofs.Common.{◌≡◌, ◌≢◌, ℕ, ◌+◌, inl, inr, Bool, true, false, List, [], ◌∷◌, ◌++◌, length, take, drop, refl, sym, ap, ap₂, subst, ◌∙◌, arith, Option, Some, None, Ok}
 use Rattle.std.proofs.Common.{slice_set}
 use Rattle.std.specs.Prelude.{if◌then◌else◌}
 use Rattle.std.specs.Option.{option_map, option_map_or}
@@ -7,8 +9,7 @@ use Rattle.std.proofs.lemmas.Bool.Decides.{eqb_tells}
 use Rattle.std.proofs.lemmas.List.{drop-drop}
 use Rattle.std.proofs.Math.Seq.{take-add}
 use Rattle.papi_base.specs.declared.occurrence.Occ.{Occ}
-use Rattle.postfix_rules.specs.Presets.{Book, event_value}
-use Rattle.event_sets.specs.AtRest.{AtRest}
+use Rattle.postfix_rules.specs.Presets.{Book}
 use Rattle.session_model.specs.declared.call.Call.{Call}
 use Rattle.session_model.specs.declared.call.Call.TheVariants as call
 use Rattle.session_model.specs.declared.reply.Reply.{Reply}
@@ -17,14 +18,13 @@ use Rattle.session_model.specs.Bounds.{AllWithin, IsWithin}
 use Rattle.session_model.specs.Changes.{kept_after, new_kept}
 use Rattle.session_model.specs.Counts.{in_window}
 use Rattle.session_model.specs.Faces.{at, change}
-use Rattle.session_model.specs.Values.{measured, sums, values_of}
+use Rattle.session_model.specs.Values.{values_of}
 use Rattle.session_laws.proofs.Sets.{each_at}
-use Rattle.call_laws.specs.History.{CallReply, OccAfter, is_ok, makes, newly_taken, placed_after, taken, taken_by}
-use Rattle.call_laws.specs.SetCalls.{changed, set_now, holds_after, is_accum, is_clearing, is_zeroing, runs_now, runs_after, set_of_call, zeroes}
+use Rattle.call_laws.specs.History.{CallReply, OccAfter, is_ok, makes, placed_after, taken, taken_by}
+use Rattle.call_laws.specs.SetCalls.{changed, set_now, holds_after, is_accum, is_clearing, is_zeroing, runs_now, runs_after, set_of_call}
 use Rattle.call_laws.specs.Measures.{values_over}
-use Rattle.call_laws.specs.Values.{added, column_sums, plus, values_now, window, wrapped_sums}
+use Rattle.call_laws.specs.Values.{added, values_now, window, wrapped_sums}
 use Rattle.call_laws.proofs.Measured.{values_are}
-use Rattle.postfix_rules.specs.Values.{wrapped}
 use Rattle.call_laws.proofs.Histories.{added-changed, added-made, added-other, set_now-changed, set_now-made, set_now-other, runs_now-changed, runs_now-other, window-made, window-running, window-same, window-stays, window-zeroing, zeroes-changed, zeroes-other}
 use Rattle.call_laws.proofs.Places.{at-change_same, at-put_none, at-put_other, at-put_same}
 use Rattle.call_laws.proofs.Windows.{length-placed, placed-take, window-kept, window-more, window-stopped, window-zeroed}
@@ -58,16 +58,10 @@ values_follow book stream log past k s inside h = values_are book past s inside 
 -- ---- a call that changed the set
 
 kept_holds : (book : Book) (past : List Occ) (c : Call) (s : Kept) → (kept_after book past c s).set ≡ holds_after book c s.set
-kept_holds book past (call.Add k (Ok e)) s = refl
-kept_holds book past (call.Remove k (Ok e)) s = refl
-kept_holds book past (call.Overflow k (Ok e) t) s = refl
-kept_holds book past c s = refl
+kept_holds book past c s = grind (arith, nat_tests)
 
 kept_runs : (book : Book) (past : List Occ) (c : Call) (s : Kept) → (kept_after book past c s).running ≡ runs_after c s.running
-kept_runs book past (call.Add k (Ok e)) s = refl
-kept_runs book past (call.Remove k (Ok e)) s = refl
-kept_runs book past (call.Overflow k (Ok e) t) s = refl
-kept_runs book past c s = refl
+kept_runs book past c s = grind (arith, nat_tests)
 
 kept_window : (book : Book) (past : List Occ) (c : Call) (k : ℕ) (s : Kept) (xs : List OccAfter) → set_of_call c ≡ Some k → length xs ≡ length past → IsWithin (length past) s
     → in_window (kept_after book past c s) xs ≡ (if is_zeroing c then [] else in_window s xs)
@@ -87,47 +81,18 @@ kept_window book past c k s xs q same h = cc
 kept_values : (book : Book) (stream : List Occ) (log : List CallReply) (past : List Occ) (c : Call) (k : ℕ) (s : Kept) → set_of_call c ≡ Some k → IsWithin (length past) s → SetFollows book stream log past k s
     → (kept_after book past c s).values
     ≡ wrapped_sums (length (holds_after book c s.set).events) (if is_clearing c then [] else (if is_accum c then values_now book stream k log ∷ [] else []) ++ added book stream k log)
-kept_values book stream log past (call.Cleanup j) k s q inside h = sym (wrapped_zeros 0)
-kept_values book stream log past (call.Add j (Ok e)) k s q inside h = sym (wrapped_zeros _)
-kept_values book stream log past (call.Remove j (Ok e)) k s q inside h = sym (wrapped_zeros _)
-kept_values book stream log past (call.Accum j) k s q inside h =
-    let n = length s.set.events in
-    let rows = added book stream k log in
-    ap (λ vs. sums vs (values_of book past s)) h.valued
-    ∙ sums_more (event_value book (measured s.set.slice book past s)) (value_addable book (measured s.set.slice book past s)) (column_sums n rows) s.set.events
-    ∙ ap (λ row. map wrapped (plus row (column_sums n rows))) (values_follow book stream log past k s inside h)
-kept_values book stream log past (call.Overflow j (Ok e) t) k s q inside h = h.valued
-kept_values book stream log past (call.Add j (Err e)) k s q inside h = cc
-kept_values book stream log past (call.Remove j (Err e)) k s q inside h = cc
-kept_values book stream log past c k s q inside h = h.valued
+kept_values book stream log past c k s q inside h = grind (arith, nat_tests, wrapped_zeros, sums_more, value_addable, values_follow)
 
 -- what is kept of the set that a call changed
 changed_set : (book : Book) (stream : List Occ) (log : List CallReply) (past : List Occ) (c : Call) (r : Reply) (k : ℕ) (s : Kept)
     → set_of_call c ≡ Some k → is_ok r.code ≡ true → IsQuiet r.body → IsWithin (length past) s → SetFollows book stream log past k s
     → SetFollows book stream (said c r ∷ log) past k (kept_after book past c s)
-changed_set book stream log past c r k s q ok quiet inside h =
-    let x = said c r in
-    let m = quiet_makes c r k quiet in
-    let on = changes_same c r k q ok in
-    let same = kept_holds book past c s in
-    record {
-      holds = same ∙ ap (holds_after book c) h.holds ∙ sym (set_now-changed book k x log m on);
-      windowed = kept_window book past c k s (placed_after None past) q (length-placed None past) inside ∙ go (is_zeroing c) (zeroes-changed k x m on);
-      valued = kept_values book stream log past c k s q inside h
-          ∙ ap₂ wrapped_sums (ap (λ (t : AtRest). length t.events) (sym same)) (sym (added-changed book stream k x log m on));
-    } where
-      go : (b : Bool) → zeroes k (said c r) ≡ b → (if b then [] else in_window s (placed_after None past)) ≡ window stream k (said c r ∷ log)
-      go true z = sym (window-zeroing stream k (said c r) log z)
-      go false z = h.windowed ∙ sym (window-same stream k (said c r) log z quiet.takes_none)
+changed_set book stream log past c r k s q ok quiet inside h = search (rules, said, quiet_makes, changes_same, kept_holds, set_now-changed, kept_window, length-placed, zeroes-changed, kept_values, added-changed, window-zeroing, window-same)
 
 -- what is kept of a set that a call did not change
 other_set : (book : Book) (stream : List Occ) (log : List CallReply) (past : List Occ) (x : CallReply) (k : ℕ) (s : Kept)
     → makes k x ≡ false → changed k x ≡ false → taken_by x.reply.body ≡ 0 → SetFollows book stream log past k s → SetFollows book stream (x ∷ log) past k s
-other_set book stream log past x k s m off none h = record {
-  holds = h.holds ∙ sym (set_now-other book k x log m off);
-  windowed = h.windowed ∙ sym (window-same stream k x log (zeroes-other k x m off) none);
-  valued = h.valued ∙ ap (wrapped_sums (length s.set.events)) (sym (added-other book stream k x log m off));
-}
+other_set book stream log past x k s m off none h = grind (arith, nat_tests, set_now-other, window-same, zeroes-other, added-other)
 
 -- ---- all sets
 
@@ -180,15 +145,10 @@ changed_follows book stream log past rest sets c r k s q ok quiet there inside h
 
 -- a new set
 new_set_follows : (book : Book) (stream : List Occ) (log : List CallReply) (past : List Occ) (x : CallReply) (k : ℕ) → makes k x ≡ true → SetFollows book stream (x ∷ log) past k new_kept
-new_set_follows book stream log past x k m = record {
-  holds = sym (set_now-made book k x log m);
-  windowed = sym (window-made stream k x log m);
-  valued = sym (ap (wrapped_sums 0) (added-made book stream k x log m));
-}
+new_set_follows book stream log past x k m = grind (arith, nat_tests, set_now-made, window-made, added-made)
 
 not_running : (o : Option Kept) → ((s : Kept) → o ≡ Some s → new_kept ≡ s) → running o ≡ false
-not_running None h = refl
-not_running (Some s) h = ap (λ (t : Kept). t.running) (sym (h s refl))
+not_running = grind (arith, nat_tests)
 
 -- a call that made a set
 pub made_follows : (book : Book) (stream : List Occ) (log : List CallReply) (past rest : List Occ) (sets : List (Option Kept)) (x : CallReply) (k : ℕ)
@@ -230,30 +190,7 @@ gone_follows book stream log past rest sets x k m off none stopped inside h = re
 ran_set : (book : Book) (stream : List Occ) (log : List CallReply) (past later : List Occ) (x : CallReply) (k : ℕ) (s : Kept)
     → makes k x ≡ false → changed k x ≡ false → past ≡ take (taken log) stream → later ≡ take (taken (x ∷ log)) stream
     → s.running ≡ runs_now k log → IsWithin (length past) s → SetFollows book stream log past k s → SetFollows book stream (x ∷ log) later k s
-ran_set book stream log past later x k s m off old new on inside h = record {
-  holds = h.holds ∙ sym (set_now-other book k x log m off);
-  windowed = ap (in_window s) (ap (placed_after None) new ∙ placed-take None (taken log + taken_by x.reply.body) stream) ∙ go s.running refl;
-  valued = h.valued ∙ ap (wrapped_sums (length s.set.events)) (sym (added-other book stream k x log m off));
-} where
-  before : take (taken log) (placed_after None stream) ≡ placed_after None past
-  before = sym (placed-take None (taken log) stream) ∙ ap (placed_after None) (sym old)
-
-  size : length (take (taken log) (placed_after None stream)) ≡ length past
-  size = ap length before ∙ length-placed None past
-
-  go : (b : Bool) → s.running ≡ b → in_window s (take (taken log + taken_by x.reply.body) (placed_after None stream)) ≡ window stream k (x ∷ log)
-  go true runs_now =
-      let a = inside.in_order in
-      let b = inside.past in
-      window-more s (placed_after None stream) (taken log) (taken_by x.reply.body) runs_now (omega (arith, a, b, size))
-      ∙ ap (λ os. os ++ newly_taken stream x log) (ap (in_window s) before ∙ h.windowed)
-      ∙ sym (window-running stream k x log (zeroes-other k x m off) (sym on ∙ runs_now))
-  go false stopped_now =
-      let a = inside.in_order in
-      let b = inside.past in
-      window-kept s (placed_after None stream) (taken log) (taken_by x.reply.body) stopped_now a (omega (arith, b, size))
-      ∙ ap (in_window s) before ∙ h.windowed
-      ∙ sym (window-stays stream k x log (zeroes-other k x m off) (sym on ∙ stopped_now))
+ran_set book stream log past later x k s m off old new on inside h = grind (arith, nat_tests, set_now-other, placed-take, added-other, length-placed, window-more, window-running, zeroes-other, window-kept, window-stays)
 
 -- a run
 pub ran_follows : (book : Book) (stream : List Occ) (log : List CallReply) (past rest : List Occ) (sets : List (Option Kept)) (x : CallReply)

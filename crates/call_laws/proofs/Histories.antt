@@ -1,4 +1,6 @@
 -- What one more call does to what a history says of a set.
+use Rattle.std.proofs.Common.{arith}
+use Rattle.std.proofs.lemmas.Bool.Decides.{nat_tests}
 use Rattle.std.proofs.Common.{◌≡◌, ℕ, Bool, true, false, List, [], ◌∷◌, ◌++◌, refl}
 use Rattle.std.specs.Prelude.{if◌then◌else◌}
 use Rattle.std.proofs.lemmas.List.{append-nil}
@@ -56,8 +58,7 @@ added-made book stream k x log m = rw m refl
 -- ---- windows
 
 none_more : {X : Type 0} (b : Bool) (xs : List X) → xs ++ (if b then [] else []) ≡ xs
-none_more true xs = append-nil xs
-none_more false xs = append-nil xs
+none_more b xs = grind (arith, nat_tests, append-nil)
 
 pub window-zeroing : (stream : List Occ) (k : ℕ) (x : CallReply) (log : List CallReply) → zeroes k x ≡ true → window stream k (x ∷ log) ≡ []
 window-zeroing stream k x log z = rw z refl

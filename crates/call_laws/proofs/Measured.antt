@@ -1,6 +1,7 @@
 -- What the model counts and estimates over a set's window is what the law does over its occurrences.
-use Rattle.std.proofs.Common.{◌≡◌, ℕ, ◌+◌, ◌-◌, ◌*◌, ◌/◌, pos, Bool, true, false, List, [], ◌∷◌, ◌++◌, length, take, drop, map, refl, sym, ap, ap₂, ◌∙◌, arith, Option, Some, None}
-use Rattle.std.specs.Prelude.{◌==◌, if◌then◌else◌, slice_index, sum}
+use Rattle.std.proofs.lemmas.Bool.Decides.{nat_tests}
+use Rattle.std.proofs.Common.{◌≡◌, ℕ, ◌+◌, ◌-◌, Bool, true, false, List, [], ◌∷◌, ◌++◌, length, take, drop, map, refl, sym, ap, ap₂, ◌∙◌, arith, Option, Some, None}
+use Rattle.std.specs.Prelude.{if◌then◌else◌, slice_index, sum}
 use Rattle.std.specs.List.{position_or_len}
 use Rattle.std.proofs.Math.Nat.{zero-div, zero-mul}
 use Rattle.std.proofs.Math.Seq.{take-add, take-length}
@@ -12,8 +13,7 @@ use Rattle.papi_base.specs.Weight.{weight_of}
 use Rattle.counter_alloc.specs.Masks.{masks_of}
 use Rattle.multiplex.specs.Groups.{groups}
 use Rattle.multiplex.specs.Turns.{Turns, active, estimate, weight_in_turn}
-use Rattle.postfix_rules.specs.Presets.{Book, event_value, natives_of_event, rule_of_event}
-use Rattle.postfix_rules.specs.Rules.{rule_value}
+use Rattle.postfix_rules.specs.Presets.{Book}
 use Rattle.postfix_rules.specs.Sameness.{same_native}
 use Rattle.event_sets.specs.AtRest.{AtRest, set_natives}
 use Rattle.session_model.specs.Account.{Kept, end, last_after, time_after}
@@ -37,11 +37,7 @@ before_window past s = last_after None (take s.from past)
 
 -- the occurrences of a window, each with the one before it
 placed_window : (past : List Occ) (s : Kept) → in_window s (placed_after None past) ≡ placed_after (before_window past s) (in_window s past)
-placed_window past s = go s.running where
-  go : (b : Bool) → (if b then drop s.from (placed_after None past) else take (s.to - s.from) (drop s.from (placed_after None past)))
-      ≡ placed_after (last_after None (take s.from past)) (if b then drop s.from past else take (s.to - s.from) (drop s.from past))
-  go true = placed-drop None s.from past
-  go false = ap (take (s.to - s.from)) (placed-drop None s.from past) ∙ sym (placed-take (last_after None (take s.from past)) (s.to - s.from) (drop s.from past))
+placed_window past s = grind (arith, nat_tests, placed-drop, placed-take)
 
 -- the past up to the window's end is what came before it, and then the window
 to_end : (past : List Occ) (s : Kept) → IsWithin (length past) s → take (end (length past) s) past ≡ take s.from past ++ in_window s past
@@ -54,17 +50,12 @@ to_end past s h = go s.running where
 
 total_is : (past : List Occ) (s : Kept) → IsWithin (length past) s
     → total past s ≡ time_after (last_after (before_window past s) (in_window s past)) - time_after (before_window past s)
-total_is past s h =
-    ap (λ os. time_after (last_after None os) - time_after (before_window past s)) (to_end past s h)
-    ∙ ap (λ b. time_after b - time_after (before_window past s)) (last-append None (take s.from past) (in_window s past))
+total_is past s h = grind (arith, nat_tests, to_end, last-append)
 
 -- ---- estimates
 
 estimate-none : (total active : ℕ) → estimate 0 total active ≡ 0
-estimate-none total active = go (active == 0) where
-  go : (b : Bool) → (if b then 0 else 0 * total / active) ≡ 0
-  go true = refl
-  go false = rw (zero-mul total) (zero-div active)
+estimate-none total active = grind (arith, nat_tests, zero-mul, zero-div)
 
 -- the estimate of one native event, if the window and the one before it are given
 estimate_placed : (s : AtRest) (before : Option Occ) (os : List Occ) (n : Native) (slice count group : ℕ)
@@ -104,8 +95,4 @@ measured_is book past s (Some slice) n h = estimated_is book past s slice n h
 
 -- the values of a set are those over its window
 pub values_are : (book : Book) (past : List Occ) (s : Kept) → IsWithin (length past) s → values_of book past s ≡ values_over book s.set (in_window s (placed_after None past))
-values_are book past s h =
-    let os = in_window s (placed_after None past) in
-    map-same (event_value book (measured s.set.slice book past s)) (event_value book (measure_over s.set.slice book s.set os)) s.set.events (λ e.
-    ap (rule_value (rule_of_event book e)) (map-same (λ n. pos (measured s.set.slice book past s n)) (λ n. pos (measure_over s.set.slice book s.set os n)) (natives_of_event book e)
-    (λ n. ap pos (measured_is book past s s.set.slice n h))))
+values_are book past s h = grind (arith, nat_tests, map-same, measured_is)

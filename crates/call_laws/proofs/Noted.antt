@@ -1,13 +1,12 @@
 -- The notes of a thread's calls are the passings that their history shows.
+use Rattle.std.proofs.lemmas.Bool.Decides.{nat_tests}
 use Rattle.std.proofs.Common.{◌≡◌, ℕ, ◌≤◌, Bool, true, false, List, [], ◌∷◌, ◌++◌, length, take, drop, map, refl, sym, ap, ap₂, subst, ◌∙◌, arith, Option, Some, None}
 use Rattle.std.specs.Prelude.{filter, if◌then◌else◌, min}
 use Rattle.std.specs.List.{flat_map, range_with_len}
 use Rattle.std.proofs.lemmas.List.{append-nil, append_assoc, length-append, length-replicate}
 use Rattle.papi_base.specs.declared.limits.TheConstants.{MOST_SETS}
 use Rattle.papi_base.specs.declared.occurrence.Occ.{Occ}
-use Rattle.overflow_dispatch.specs.declared.handler.Note.{Note}
 use Rattle.postfix_rules.specs.Presets.{Book}
-use Rattle.event_sets.specs.declared.refusal.Refusal.{Refusal}
 use Rattle.event_sets.specs.AtRest.{AtRest, Widths}
 use Rattle.session_model.specs.declared.call.Call.{Call}
 use Rattle.session_model.specs.declared.call.Call.TheVariants as call
@@ -15,8 +14,8 @@ use Rattle.session_model.specs.Account.{Account, Kept, last_after}
 use Rattle.session_model.specs.Bounds.{IsWithin}
 use Rattle.session_model.specs.Counts.{in_window}
 use Rattle.session_model.specs.Faces.{at}
-use Rattle.session_model.specs.Replies.{refused, sight_of_kept}
-use Rattle.session_model.specs.Step.{account_refusal, notes_to, performed, replies_to, step, unless}
+use Rattle.session_model.specs.Replies.{sight_of_kept}
+use Rattle.session_model.specs.Step.{notes_to, performed, replies_to, step}
 use Rattle.session_model.specs.Thresholds.{notes_at, notes_of_place, notes_over, passed_in}
 use Rattle.session_laws.proofs.Counted.{places_stay}
 use Rattle.session_laws.proofs.Sets.{each_at, step_has}
@@ -84,9 +83,7 @@ occ_noted t log before past o sets h =
 run_noted : (t : Thread) (log : List CallReply) (before : List OccAfter) (past os : List Occ) (sets : List (Option Kept)) → Stands t log before past sets
     → notes_over t.book t.number sets past os ≡ notes_of_run t log before (placed_after (last_after None past) os)
 run_noted t log before past [] sets h = refl
-run_noted t log before past (o ∷ os) sets h = ap₂ (λ (a b : List Note). a ++ b) (occ_noted t log before past o sets h)
-    (run_noted t log (before ++ next past o ∷ []) (past ++ o ∷ []) os sets (stands_next t log before past o sets h)
-    ∙ ap (λ b. notes_of_run t log (before ++ next past o ∷ []) (placed_after b os)) (last-append None past (o ∷ [])))
+run_noted t log before past (o ∷ os) sets h = grind (arith, nat_tests, occ_noted, next, stands_next, last-append, run_noted t log (before ++ next past o ∷ []) (past ++ o ∷ []) os sets (stands_next t log before past o sets h))
 
 -- ---- one call
 
@@ -114,9 +111,7 @@ stands t log a h = record {
 -- the occurrences that a run took come after the past
 taken_next : (t : Thread) (log : List CallReply) (a : Account) (k : ℕ) → Belongs t log a
     → placed_after (last_after None a.past) (take k a.rest) ≡ take k (drop (taken log) (placed_after None t.stream))
-taken_next t log a k h =
-    placed-take (last_after None a.past) k a.rest
-    ∙ ap (take k) (ap₂ (λ (past rest : List Occ). placed_after (last_after None past) rest) h.follows.past_is h.follows.rest_is ∙ sym (placed-drop None (taken log) t.stream))
+taken_next t log a k h = grind (arith, nat_tests, placed-take, placed-drop)
 
 -- a call that took nothing has no notes
 none_taken : (t : Thread) (log : List CallReply) (x : CallReply) → taken_by x.reply.body ≡ 0 → [] ≡ notes_of_call t x log
@@ -135,19 +130,12 @@ performed_noted t log a c h =
 
 step_noted : (t : Thread) (log : List CallReply) (a : Account) (c : Call) → Belongs t log a
     → (step t.book t.shape a c).notes ≡ notes_of_call t (said c (step t.book t.shape a c).reply) log
-step_noted t log a c h = go (account_refusal t.book t.shape a c) refl where
-  go : (o : Option Refusal) → account_refusal t.book t.shape a c ≡ o
-      → (unless o a (performed t.book t.shape a c)).notes ≡ notes_of_call t (said c (unless o a (performed t.book t.shape a c)).reply) log
-  go (Some r) q = none_taken t log (said c (refused r)) (quiet_refused r).takes_none
-  go None q = performed_noted t log a c h
+step_noted t log a c h = grind (arith, nat_tests, said, none_taken, quiet_refused, performed_noted)
 
 -- ---- all calls
 
 performed_thread : (book : Book) (shape : Widths) (a : Account) (c : Call) → (performed book shape a c).account.thread ≡ a.thread
-performed_thread book shape a (call.Run n) = refl
-performed_thread book shape a call.Register = refl
-performed_thread book shape a call.Unregister = refl
-performed_thread book shape a c = refl
+performed_thread book shape a c = grind (arith, nat_tests)
 
 pub step_belongs : (t : Thread) (log : List CallReply) (a : Account) (c : Call) → Belongs t log a → Belongs t (said c (step t.book t.shape a c).reply ∷ log) (step t.book t.shape a c).account
 step_belongs t log a c h = record {

@@ -1,6 +1,8 @@
 -- How many notes there are of an event.
+use Rattle.std.proofs.Common.{rules}
+use Rattle.std.proofs.lemmas.Bool.Decides.{nat_tests}
 use Rattle.std.proofs.Common.{◌≡◌, ◌≢◌, ℕ, zero, suc, ◌+◌, ◌/◌, ◌<◌, ◌≤◌, inl, inr, Bool, true, false, List, [], ◌∷◌, ◌++◌, length, drop, map, refl, sym, ap, subst, ◌∙◌, arith, Option, Some, None, slice_get}
-use Rattle.std.specs.Prelude.{◌&&◌, All, filter, if◌then◌else◌, nat_lt, sum}
+use Rattle.std.specs.Prelude.{◌&&◌, All, filter, if◌then◌else◌, nat_lt}
 use Rattle.std.specs.List.{flat_map, range_with_len}
 use Rattle.std.specs.Option.{option_and_then, option_map_or}
 use Rattle.std.proofs.Math.Nat.{add-mul, div-mul-le_self, lt-div-mul-add, zero-add, zero-div}
@@ -114,21 +116,11 @@ in_all t log before p k i few = only_at (is_note_of k i) (notes_of_set t log bef
 -- ---- counts
 
 count-append : (s : AtRest) (n : Native) (xs ys : List OccAfter) → count_over s (xs ++ ys) n ≡ count_over s xs n + count_over s ys n
-count-append s n xs ys =
-    let weigh : OccAfter → ℕ = λ p. weight_of n s.domain p.before p.occ in
-    ap sum (map-append weigh xs ys) ∙ sum_by-append (λ w. w) (map weigh xs) (map weigh ys)
+count-append s n xs ys = grind (arith, nat_tests, map-append, sum_by-append)
 
 -- the multiples of a threshold that one occurrence takes a count past
 one_more : (t c d w : ℕ) → d ≡ c + w → w < t → (if nat_lt (c / t) (d / t) then 1 else 0) + c / t ≡ d / t
-one_more t c d w e small = elim (cases_lt (c / t) (d / t)) [ inl h ↦ rw (lt-ltb (c / t) (d / t) h) (omega (arith, h, most)) | inr h ↦ rw (le-ltb (c / t) (d / t) h) (omega (arith, h, least)) ] where
-  some : 0 < t
-  some = omega (arith, small)
-
-  least : c / t ≤ d / t
-  least = le-div (c / t) d t some (omega (arith, e, div-mul-le_self c t))
-
-  most : d / t < c / t + 2
-  most = div_below d t (c / t + 2) some (let c_below = lt-div-mul-add {a = c} some in let parts = add-mul (c / t) 2 t in omega (arith, e, small, c_below, parts))
+one_more t c d w e small = search (rules, cases_lt, lt-ltb, le-ltb, le-div, div-mul-le_self, div_below, lt-div-mul-add, add-mul)
 
 -- no amount is above the largest one
 abbrev AmountFits : Occ → Type 0
@@ -201,9 +193,7 @@ run_often t log before (p ∷ ps) k i n h runs small =
 -- a set that does not run has no notes
 run_without : (t : Thread) (log : List CallReply) (before ps : List OccAfter) (k i : ℕ) → k < MOST_SETS → runs_now k log ≡ false → how_many (is_note_of k i) (notes_of_run t log before ps) ≡ 0
 run_without t log before [] k i few stopped = refl
-run_without t log before (p ∷ ps) k i few stopped =
-    let none = in_all t log before p k i few ∙ ap (λ b. if b then how_many (is_note_of k i) (notes_of_set t log before p k) else 0) stopped in
-    omega (arith, how_many-append (is_note_of k i) (notes_of_occ t log before p) (notes_of_run t log (before ++ p ∷ []) ps), none, run_without t log (before ++ p ∷ []) ps k i few stopped)
+run_without t log before (p ∷ ps) k i few stopped = grind (arith, nat_tests, in_all, how_many-append, run_without t log (before ++ p ∷ []) ps k i few stopped)
 
 -- ---- calls
 

@@ -1,4 +1,5 @@
 -- What the model notes of sets at an occurrence is what the law does.
+use Rattle.std.proofs.lemmas.Bool.Decides.{nat_tests}
 use Rattle.std.proofs.Common.{◌≡◌, ℕ, zero, suc, ◌+◌, ◌/◌, ◌≤◌, Bool, true, false, List, [], ◌∷◌, ◌++◌, length, refl, sym, ap, ap₂, subst, ◌∙◌, arith, Option, Some, None, slice_get}
 use Rattle.std.specs.Prelude.{◌&&◌, filter, if◌then◌else◌, nat_lt, slice_index_or}
 use Rattle.std.specs.List.{flat_map, range_with_len}
@@ -17,7 +18,7 @@ use Rattle.session_model.specs.Faces.{at}
 use Rattle.session_model.specs.Thresholds.{notes_at, notes_of_place, passed_from, passes as model_passes}
 use Rattle.call_laws.specs.History.{OccAfter, placed_after}
 use Rattle.call_laws.specs.Measures.{count_over}
-use Rattle.call_laws.specs.Passings.{Moment, passes, passing_indexes, reaches_more}
+use Rattle.call_laws.specs.Passings.{Moment, passing_indexes, reaches_more}
 use Rattle.call_laws.proofs.Windows.{length-placed, weighed_is}
 
 -- ---- one more occurrence
@@ -58,8 +59,7 @@ none_at test i (suc n) h = rw first (none_at test (i + 1) n (λ j. subst (λ k. 
 
 -- one place of a list that is tested place by place
 tested : {X : Type 0} (b : Bool) (x : X) (xs : List X) → (if b then x ∷ [] else []) ++ xs ≡ (if b then x ∷ xs else xs)
-tested true x xs = refl
-tested false x xs = refl
+tested b x xs = grind (arith, nat_tests)
 
 passed_is : (book : Book) (past : List Occ) (s : Kept) (o : Occ) (test : ℕ → Bool) (i : ℕ) (es : List EventRef) (ts : List ℕ)
     → ((j : ℕ) → test (i + j) ≡ model_passes past s o (option_and_then (lead book) (slice_get es j)) (slice_index_or ts j 0))
@@ -77,10 +77,7 @@ passed_is book past s o test i (e ∷ es) (t ∷ ts) h =
 -- the events of a running set whose thresholds are passed
 pub passed_here : (book : Book) (past : List Occ) (s : Kept) (o : Occ) → s.running ≡ true → s.from ≤ length past
     → passed_from book past s o 0 s.set.events s.set.thresholds ≡ passing_indexes book (moment_of s past o)
-passed_here book past s o runs from_in = passed_is book past s o (passes book (moment_of s past o)) 0 s.set.events s.set.thresholds (λ j.
-    let native = option_and_then (lead book) (slice_get s.set.events j) in
-    let t = slice_index_or s.set.thresholds j 0 in
-    subst (λ k. passes book (moment_of s past o) k ≡ model_passes past s o native t) (omega arith) (passes_is past s o native t runs from_in))
+passed_here book past s o runs from_in = grind (arith, nat_tests, passed_is, passes_is)
 
 -- ---- the places of all sets
 

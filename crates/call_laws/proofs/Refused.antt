@@ -1,6 +1,8 @@
 -- A refused call leaves all as it was, but for the mentioned codes.
-use Rattle.std.proofs.Common.{◌≡◌, ℕ, zero, suc, ◌+◌, ◌-◌, Bool, true, false, not, ◌||◌, cond, List, [], ◌∷◌, ◌++◌, filter, refl, sym, ap, ◌∙◌, slice_get, slice_set, unwrap_or, Option, Some, None}
-use Rattle.std.specs.Prelude.{if◌then◌else◌, nat_le}
+use Rattle.std.proofs.Common.{arith}
+use Rattle.std.proofs.lemmas.Bool.Decides.{nat_tests}
+use Rattle.std.proofs.Common.{◌≡◌, ℕ, zero, suc, ◌+◌, Bool, true, false, not, cond, List, [], ◌∷◌, ◌++◌, filter, refl, sym, ap, ◌∙◌, slice_get, slice_set, unwrap_or, Some}
+use Rattle.std.specs.Prelude.{if◌then◌else◌}
 use Rattle.std.specs.List.{list_any, position_or_len}
 use Rattle.std.proofs.Math.Bool.{and-false}
 use Rattle.papi_base.specs.declared.native.Native.{Native}
@@ -9,33 +11,23 @@ use Rattle.postfix_rules.specs.NativeCodes.{native_code, native_named}
 use Rattle.postfix_rules.specs.Presets.{Book}
 use Rattle.postfix_rules.specs.Sameness.{among, joined_by, same_native}
 use Rattle.event_sets.specs.AtRest.{Widths}
-use Rattle.event_sets.specs.declared.refusal.Refusal.{Refusal}
 use Rattle.session_model.specs.declared.call.Call.{Call}
-use Rattle.session_model.specs.declared.call.Call.TheVariants as call
-use Rattle.session_model.specs.declared.line.Asked.{Asked}
-use Rattle.session_model.specs.declared.line.Asked.TheVariants as asked
 use Rattle.session_model.specs.declared.line.Line.{Line}
 use Rattle.session_model.specs.Account.{Account}
-use Rattle.session_model.specs.Step.{account_after, account_refusal, notes_to, performed, replies_to, step, unless}
-use Rattle.session_model.specs.World.{Setting, World, account_at, mentioned_after, mentions_of, turn, world_after, world_after_line}
-use Rattle.call_laws.specs.History.{is_ok}
+use Rattle.session_model.specs.Step.{account_after, notes_to, performed, replies_to, step}
+use Rattle.session_model.specs.World.{Setting, World, mentions_of, world_after, world_after_line}
 use Rattle.call_laws.specs.Refusing.{CodesStay, NamesStay, RefusedLineStays, SameAccount, SameNotes, SameReplies, is_refusal, without_refused}
 
 -- ---- one call
 
 -- the reply to a call that is carried out is no refusal
 not_refused : (book : Book) (shape : Widths) (a : Account) (c : Call) → is_refusal (performed book shape a c).reply ≡ false
-not_refused book shape a (call.Run n) = and-false (not (is_ok (performed book shape a (call.Run n)).reply.code))
-not_refused book shape a c = refl
+not_refused book shape a c = grind (arith, nat_tests, and-false)
 
 -- a refused call leaves the account, and notes nothing
 refused_step : (book : Book) (shape : Widths) (a : Account) (c : Call) → is_refusal (step book shape a c).reply ≡ true
     → ((step book shape a c).account ≡ a) × ((step book shape a c).notes ≡ [])
-refused_step book shape a c refuses = go (account_refusal book shape a c) refuses where
-  go : (o : Option Refusal) → is_refusal (unless o a (performed book shape a c)).reply ≡ true
-      → ((unless o a (performed book shape a c)).account ≡ a) × ((unless o a (performed book shape a c)).notes ≡ [])
-  go (Some r) e = (refl, refl)
-  go None e = let fine = not_refused book shape a c in cc
+refused_step book shape a c refuses = grind (arith, nat_tests, not_refused)
 
 -- ---- all calls
 
@@ -81,19 +73,12 @@ put_again (x ∷ xs) zero d = refl
 put_again (x ∷ xs) (suc i) d = ap (λ ys. x ∷ ys) (put_again xs i d)
 
 pub refused_line_stays : RefusedLineStays
-refused_line_stays at w l = go l.asked where
-  go : (x : Asked) → is_refusal (turn at w.accounts (mentioned_after w.mentioned l) l.thread x).reply ≡ true
-      → (turn at w.accounts (mentioned_after w.mentioned l) l.thread x).accounts ≡ w.accounts
-  go (asked.Call c) e = ap (slice_set w.accounts l.thread) (refused_step at.book at.shape (account_at w.accounts l.thread) c e).0 ∙ put_again w.accounts l.thread _
-  go x e = refl
+refused_line_stays at w l = grind (arith, nat_tests, refused_step, put_again)
 
 -- ---- mentions
 
 named_front : (xs ys : List Native) (c : ℕ) (n : Native) → native_named xs c ≡ Some n → native_named (xs ++ ys) c ≡ Some n
-named_front xs ys c n = go (nat_le 0x40000000 c) where
-  go : (b : Bool) → (if b then slice_get xs (c - 0x40000000) else None) ≡ Some n → (if b then slice_get (xs ++ ys) (c - 0x40000000) else None) ≡ Some n
-  go true e = get_front xs ys (c - 0x40000000) n e
-  go false e = cc
+named_front xs ys c n = grind (arith, nat_tests, get_front)
 
 -- a list that is kept, or longer by one
 joined_keeps : (P : List Native → Type 0) (seen more : List Native) → ((xs : List Native) (m : Native) → P xs → P (xs ++ m ∷ [])) → P seen → P (joined_by seen more)
@@ -113,12 +98,7 @@ names_stay at w ls c n h = lines_keep (λ ns. native_named ns c ≡ Some n) at w
 -- the first place that passes, if one does, is the same in a longer list
 place_front : {X : Type 0} (p : X → Bool) (xs ys : List X) → list_any p xs ≡ true → (position_or_len p (xs ++ ys) ≡ position_or_len p xs) × (list_any p (xs ++ ys) ≡ true)
 place_front p [] ys e = cc
-place_front p (x ∷ xs) ys e = go (p x) e (place_front p xs ys) where
-  go : (b : Bool) → (b || list_any p xs) ≡ true
-      → (list_any p xs ≡ true → (position_or_len p (xs ++ ys) ≡ position_or_len p xs) × (list_any p (xs ++ ys) ≡ true))
-      → (cond (not b) (1 + position_or_len p (xs ++ ys)) 0 ≡ cond (not b) (1 + position_or_len p xs) 0) × ((b || list_any p (xs ++ ys)) ≡ true)
-  go true e later = (refl, refl)
-  go false e later = (ap (λ k. 1 + k) (later e).0, (later e).1)
+place_front p (x ∷ xs) ys e = grind (arith, nat_tests, place_front p xs ys)
 
 pub codes_stay : CodesStay
 codes_stay at w ls n h =

@@ -1,12 +1,11 @@
 -- What the replies of the model show: a call that is carried out has PAPI_OK, and a call that is refused has not.
-use Rattle.std.proofs.Common.{◌≡◌, ◌≢◌, ℕ, Bool, true, false, List, [], ◌∷◌, refl, arith, Option, Some, None, Ok, Err, slice_get}
-use Rattle.std.specs.Prelude.{if◌then◌else◌}
+use Rattle.std.proofs.lemmas.Bool.Decides.{nat_tests}
+use Rattle.std.proofs.Common.{◌≡◌, ◌≢◌, ℕ, Bool, true, false, List, [], ◌∷◌, refl, arith, Option, Some, None, slice_get}
 use Rattle.std.specs.Option.{option_map_or}
 use Rattle.std.proofs.Math.Bool.{and-false}
 use Rattle.postfix_rules.specs.Presets.{Book}
 use Rattle.event_sets.specs.declared.refusal.Clash.{Clash}
 use Rattle.event_sets.specs.declared.refusal.Refusal.{Refusal}
-use Rattle.event_sets.specs.declared.refusal.Refusal.TheVariants.{Plain, Conflict}
 use Rattle.event_sets.specs.AtRest.{Widths}
 use Rattle.session_model.specs.declared.call.Call.{Call}
 use Rattle.session_model.specs.declared.call.Call.TheVariants as call
@@ -14,12 +13,12 @@ use Rattle.session_model.specs.declared.reply.Body.{Body}
 use Rattle.session_model.specs.declared.reply.Body.TheVariants as body
 use Rattle.session_model.specs.declared.reply.Reply.{Reply}
 use Rattle.session_model.specs.Account.{Account, Kept}
-use Rattle.session_model.specs.Faces.{Face, at, faces_of}
-use Rattle.session_model.specs.Refusals.{clash_at, conflict_of, first_of, rows}
+use Rattle.session_model.specs.Faces.{Face, faces_of}
+use Rattle.session_model.specs.Refusals.{conflict_of, first_of, rows}
 use Rattle.session_model.specs.Replies.{Sight, refused, reply_over}
 use Rattle.session_model.specs.Step.{account_refusal}
 use Rattle.session_laws.proofs.Sets.{row_fails}
-use Rattle.call_laws.specs.History.{CallReply, is_number, is_ok, makes, set_made, taken_by}
+use Rattle.call_laws.specs.History.{CallReply, is_ok, makes, set_made, taken_by}
 use Rattle.call_laws.specs.SetCalls.{changed, set_of_call}
 use Rattle.call_laws.proofs.Places.{is_number-other, is_number-same}
 
@@ -48,30 +47,19 @@ changes_none c r j e = rw e refl
 -- ---- calls that are carried out
 
 quiet_shown : (f : Kept → Body) → ((s : Kept) → IsQuiet (f s)) → (o : Option Kept) → IsQuiet (option_map_or f o body.Nothing)
-quiet_shown f h None = record { takes_none = refl; makes_none = refl }
-quiet_shown f h (Some s) = h s
+quiet_shown f h = grind (arith, nat_tests)
 
 -- the results of a call other than a run or `create`
 pub quiet_reply : (book : Book) (sight : Sight Kept) (sets : List (Option Kept)) (c : Call) → c ≢ call.Create → IsQuiet (reply_over book sight sets c).body
-quiet_reply book sight sets call.Create other = absurd (other refl)
-quiet_reply book sight sets (call.Stop k) other = quiet_shown _ (λ s. record { takes_none = refl; makes_none = refl }) (at sets k)
-quiet_reply book sight sets (call.Read k) other = quiet_shown _ (λ s. record { takes_none = refl; makes_none = refl }) (at sets k)
-quiet_reply book sight sets (call.Accum k) other = quiet_shown _ (λ s. record { takes_none = refl; makes_none = refl }) (at sets k)
-quiet_reply book sight sets (call.State k) other = quiet_shown _ (λ s. record { takes_none = refl; makes_none = refl }) (at sets k)
-quiet_reply book sight sets (call.ListEvents k) other = quiet_shown _ (λ s. record { takes_none = refl; makes_none = refl }) (at sets k)
-quiet_reply book sight sets (call.Assign k) other = quiet_shown _ (λ s. record { takes_none = refl; makes_none = refl }) (at sets k)
-quiet_reply book sight sets (call.Raw k i) other = quiet_shown _ (λ s. record { takes_none = refl; makes_none = refl }) (at sets k)
-quiet_reply book sight sets c other = record { takes_none = refl; makes_none = refl }
+quiet_reply book sight sets c other = grind (arith, nat_tests, quiet_shown)
 
 pub ok_reply : (book : Book) (sight : Sight Kept) (sets : List (Option Kept)) (c : Call) → is_ok (reply_over book sight sets c).code ≡ true
-ok_reply book sight sets call.Create = refl
-ok_reply book sight sets c = refl
+ok_reply book sight sets c = grind (arith, nat_tests)
 
 -- ---- calls that are refused
 
 pub quiet_refused : (r : Refusal) → IsQuiet (refused r).body
-quiet_refused (Plain c) = record { takes_none = refl; makes_none = refl }
-quiet_refused (Conflict clash) = record { takes_none = refl; makes_none = refl }
+quiet_refused r = grind (arith, nat_tests)
 
 -- no row of the table replies with PAPI_OK
 abbrev pub NoneOk : List (Bool × Refusal) → Type 0
@@ -80,31 +68,18 @@ NoneOk (r ∷ rest) = (is_ok (refused r.1).code ≡ false) × NoneOk rest
 
 pub first_not_ok : (rs : List (Bool × Refusal)) (r : Refusal) → NoneOk rs → first_of rs ≡ Some r → is_ok (refused r).code ≡ false
 first_not_ok [] r h e = cc
-first_not_ok (x ∷ rest) r h e = go x.0 e (first_not_ok rest r h.1) where
-  go : (b : Bool) → (if b then Some x.1 else first_of rest) ≡ Some r → (first_of rest ≡ Some r → is_ok (refused r).code ≡ false) → is_ok (refused r).code ≡ false
-  go true q later = let same : x.1 ≡ r = cc in rw (← same) h.0
-  go false q later = later q
+first_not_ok (x ∷ rest) r h e = grind (arith, nat_tests, first_not_ok rest r h.1)
 
 conflict_not_ok : (o : Option Clash) → is_ok (refused (conflict_of o)).code ≡ false
-conflict_not_ok None = refl
-conflict_not_ok (Some clash) = refl
+conflict_not_ok = grind (arith, nat_tests)
 
 -- the rows of a call whose set the law's tables speak of
 none_ok : (book : Book) (shape : Widths) (on : Bool) (faces : List (Option Face)) (c : Call) (k : ℕ) → set_of_call c ≡ Some k → NoneOk (rows book shape on faces c)
-none_ok book shape on faces (call.Add j (Ok e)) k q = (refl, (refl, (refl, (refl, (conflict_not_ok (clash_at book e faces j), tt)))))
-none_ok book shape on faces (call.Add j (Err e)) k q = cc
-none_ok book shape on faces (call.Remove j (Ok e)) k q = (refl, (refl, (refl, tt)))
-none_ok book shape on faces (call.Remove j (Err e)) k q = cc
-none_ok book shape on faces (call.Overflow j (Ok e) t) k q = (refl, (refl, (refl, (refl, (refl, (refl, tt))))))
-none_ok book shape on faces (call.Overflow j (Err e) t) k q = cc
-none_ok book shape on faces c k q = grind arith
+none_ok book shape on faces c k q = grind (arith, nat_tests, conflict_not_ok)
 
 -- a refused call changed no set
 pub refused_changes : (book : Book) (shape : Widths) (a : Account) (c : Call) (r : Refusal) (j : ℕ) → account_refusal book shape a c ≡ Some r → changed j (said c (refused r)) ≡ false
-refused_changes book shape a c r j q = go (set_of_call c) refl where
-  go : (o : Option ℕ) → set_of_call c ≡ o → changed j (said c (refused r)) ≡ false
-  go None e = changes_none c (refused r) j e
-  go (Some k) e = rw (e, first_not_ok (rows book shape a.registered (faces_of a.sets) c) r (none_ok book shape a.registered (faces_of a.sets) c k e) q) (and-false (is_number j (Some k)))
+refused_changes book shape a c r j q = grind (arith, nat_tests, changes_none, first_not_ok, none_ok, and-false)
 
 -- a call whose event was not looked up is refused
 pub unknown_refused : {P : Type 0} (book : Book) (shape : Widths) (a : Account) (c : Call) (i : ℕ) → account_refusal book shape a c ≡ None

@@ -1,10 +1,10 @@
 -- What calls reply of the values of a set.
-use Rattle.std.proofs.Common.{◌≡◌, ℕ, ℤ, true, false, List, length, map, refl, ap, ◌∙◌, slice_get, Option, Some, None}
+use Rattle.std.proofs.Common.{arith}
+use Rattle.std.proofs.lemmas.Bool.Decides.{nat_tests}
+use Rattle.std.proofs.Common.{◌≡◌, ℕ, ℤ, true, false, List, length, refl, ap, ◌∙◌, slice_get, Some}
 use Rattle.std.specs.Option.{option_map_or}
-use Rattle.postfix_rules.specs.Presets.{Book, event_value}
-use Rattle.postfix_rules.specs.Values.{wrapped}
-use Rattle.event_sets.specs.declared.refusal.Refusal.{Refusal}
-use Rattle.event_sets.specs.AtRest.{AtRest, Widths}
+use Rattle.postfix_rules.specs.Presets.{Book}
+use Rattle.event_sets.specs.AtRest.{Widths}
 use Rattle.session_model.specs.declared.call.Call.{Call}
 use Rattle.session_model.specs.declared.call.Call.TheVariants as call
 use Rattle.session_model.specs.declared.reply.Body.TheVariants as body
@@ -14,10 +14,10 @@ use Rattle.session_laws.proofs.Sets.{each_at}
 use Rattle.session_model.specs.Faces.{at, faces_of, is_absent}
 use Rattle.session_model.specs.Refusals.{rows}
 use Rattle.session_model.specs.Replies.{done}
-use Rattle.session_model.specs.Step.{account_after, account_refusal, performed, step, unless}
-use Rattle.session_model.specs.Values.{accumulated, measured, sums, values_of}
+use Rattle.session_model.specs.Step.{account_after, performed, step}
+use Rattle.session_model.specs.Values.{accumulated, values_of}
 use Rattle.call_laws.specs.History.{Thread, answered, begun, is_ok}
-use Rattle.call_laws.specs.Values.{AccumShows, ReadShows, StopShows, added, column_sums, plus, sums_now, values_now}
+use Rattle.call_laws.specs.Values.{AccumShows, ReadShows, StopShows, sums_now}
 use Rattle.call_laws.proofs.Follows.{SetFollows, values_follow}
 use Rattle.call_laws.proofs.Replied.{NoneOk, first_not_ok}
 use Rattle.call_laws.proofs.Steps.{present, thread_follows}
@@ -30,13 +30,7 @@ shown_of : (book : Book) (shape : Widths) (a : Account) (c : Call) (k : ℕ) (f 
     → (performed book shape a c).reply ≡ done (option_map_or (λ s. body.Values (f s)) (at a.sets k) body.Nothing)
     → is_ok (step book shape a c).reply.code ≡ true
     → (s : Kept) × (at a.sets k ≡ Some s) × ((step book shape a c).reply ≡ done (body.Values (f s)))
-shown_of book shape a c k f bad same gives ok = go (account_refusal book shape a c) refl ok where
-  go : (o : Option Refusal) → account_refusal book shape a c ≡ o → is_ok (unless o a (performed book shape a c)).reply.code ≡ true
-      → (s : Kept) × (at a.sets k ≡ Some s) × ((unless o a (performed book shape a c)).reply ≡ done (body.Values (f s)))
-  go (Some r) q fine = let not_ok = first_not_ok (rows book shape a.registered (faces_of a.sets) c) r bad q in cc
-  go None q fine =
-      let p = present book shape a c k q same in
-      (p.0, p.1, gives ∙ ap (λ o. done (option_map_or (λ (s : Kept). body.Values (f s)) o body.Nothing)) p.1)
+shown_of book shape a c k f bad same gives ok = grind (arith, nat_tests, first_not_ok, present)
 
 -- the window of a set of the thread lies in the past
 inside_past : (t : Thread) (calls : List Call) (k : ℕ) (s : Kept) → at (account_after t.book t.shape (begun t) calls).sets k ≡ Some s
@@ -63,15 +57,7 @@ stop_shows t calls k ok =
 accumulated_follow : (t : Thread) (calls : List Call) (k : ℕ) (s : Kept) → IsWithin (length (account_after t.book t.shape (begun t) calls).past) s
     → SetFollows t.book t.stream (answered t calls) (account_after t.book t.shape (begun t) calls).past k s
     → accumulated t.book (account_after t.book t.shape (begun t) calls).past s ≡ sums_now t.book t.stream k (answered t calls)
-accumulated_follow t calls k s inside h =
-    let past = (account_after t.book t.shape (begun t) calls).past in
-    let count = measured s.set.slice t.book past s in
-    let n = length s.set.events in
-    let rows = added t.book t.stream k (answered t calls) in
-    ap (λ vs. sums vs (values_of t.book past s)) h.valued
-    ∙ sums_more (event_value t.book count) (value_addable t.book count) (column_sums n rows) s.set.events
-    ∙ ap (λ row. map wrapped (plus row (column_sums n rows))) (values_follow t.book t.stream (answered t calls) past k s inside h)
-    ∙ ap (λ (x : AtRest). map wrapped (plus (values_now t.book t.stream k (answered t calls)) (column_sums (length x.events) rows))) h.holds
+accumulated_follow t calls k s inside h = grind (arith, nat_tests, sums_more, value_addable, values_follow)
 
 pub accum_shows : AccumShows
 accum_shows t calls k ok =

@@ -1,5 +1,7 @@
 -- Each call keeps an account that follows its history.
-use Rattle.std.proofs.Common.{◌≡◌, ◌≢◌, ℕ, zero, suc, false, List, [], ◌∷◌, length, refl, sym, ap, ◌∙◌, slice_get, Option, Some, None, Ok, Err}
+use Rattle.std.proofs.Common.{arith}
+use Rattle.std.proofs.lemmas.Bool.Decides.{nat_tests}
+use Rattle.std.proofs.Common.{◌≡◌, ◌≢◌, ℕ, zero, suc, false, List, [], ◌∷◌, length, refl, sym, ap, ◌∙◌, slice_get, Option, Some, None, Err}
 use Rattle.std.specs.Prelude.{replicate}
 use Rattle.std.proofs.lemmas.Bool.{both_ways}
 use Rattle.std.specs.Option.{option_map, option_map_or}
@@ -31,10 +33,7 @@ use Rattle.call_laws.proofs.Replied.{changes_none, ok_reply, quiet_makes, quiet_
 -- the first row of a call that changes a set is that there is none
 pub first_row : (book : Book) (shape : Widths) (a : Account) (c : Call) (k : ℕ) → set_of_call c ≡ Some k
     → option_map_or (λ r. r.0) (slice_get (rows book shape a.registered (faces_of a.sets) c) 0) false ≡ is_absent (faces_of a.sets) k
-first_row book shape a (call.Add j (Ok x)) k q = cc
-first_row book shape a (call.Remove j (Ok x)) k q = cc
-first_row book shape a (call.Overflow j (Ok x) t) k q = cc
-first_row book shape a c k q = cc
+first_row book shape a c k q = grind (arith, nat_tests)
 
 -- the set that it names
 pub present : (book : Book) (shape : Widths) (a : Account) (c : Call) (k : ℕ) → account_refusal book shape a c ≡ None

@@ -1,5 +1,6 @@
 -- Occurrences with those before them, and the windows of sets over them.
-use Rattle.std.proofs.Common.{◌≡◌, ℕ, zero, suc, ◌+◌, ◌-◌, ◌≤◌, Bool, true, false, List, [], ◌∷◌, ◌++◌, length, take, drop, map, refl, ap, ◌∙◌, arith, length-drop, Option, Some, None}
+use Rattle.std.proofs.lemmas.Bool.Decides.{nat_tests}
+use Rattle.std.proofs.Common.{◌≡◌, ℕ, zero, suc, ◌+◌, ◌≤◌, true, false, List, [], ◌∷◌, ◌++◌, length, take, drop, map, refl, ap, arith, length-drop, Option, Some, None}
 use Rattle.std.specs.Prelude.{if◌then◌else◌, sum}
 use Rattle.std.proofs.lemmas.List.{drop-append-le, drop-map, drop_all, take_all, take-append-le, take-map}
 use Rattle.std.proofs.Math.Seq.{take-add}
@@ -27,16 +28,11 @@ along-placed weigh before [] = refl
 along-placed weigh before (o ∷ os) = ap (λ ws. weigh before o ∷ ws) (along-placed weigh (Some o) os)
 
 window-map : {X Y : Type 0} (f : X → Y) (s : Kept) (xs : List X) → in_window s (map f xs) ≡ map f (in_window s xs)
-window-map f s xs = go s.running where
-  go : (b : Bool) → (if b then drop s.from (map f xs) else take (s.to - s.from) (drop s.from (map f xs))) ≡ map f (if b then drop s.from xs else take (s.to - s.from) (drop s.from xs))
-  go true = drop-map f s.from xs
-  go false = ap (take (s.to - s.from)) (drop-map f s.from xs) ∙ take-map f (s.to - s.from) (drop s.from xs)
+window-map f s xs = grind (arith, nat_tests, drop-map, take-map)
 
 -- what is weighed is the sum over the occurrences of the window
 pub weighed_is : (weigh : Option Occ → Occ → ℕ) (past : List Occ) (s : Kept) → weighed weigh past s ≡ sum (map (λ (p : OccAfter). weigh p.before p.occ) (in_window s (placed_after None past)))
-weighed_is weigh past s =
-    ap (λ ws. sum (in_window s ws)) (along-placed weigh None past)
-    ∙ ap sum (window-map (λ (p : OccAfter). weigh p.before p.occ) s (placed_after None past))
+weighed_is weigh past s = grind (arith, nat_tests, along-placed, window-map)
 
 -- ---- windows over more occurrences
 
@@ -48,27 +44,15 @@ window-more s all n k runs from_in = rw (runs, take-add n k all) (drop-append-le
 -- a stopped set has not
 pub window-kept : {X : Type 0} (s : Kept) (all : List X) (n k : ℕ) → s.running ≡ false → s.from ≤ s.to → s.to ≤ length (take n all)
     → in_window s (take (n + k) all) ≡ in_window s (take n all)
-window-kept s all n k stopped in_order to_in =
-    let have = take n all in
-    let more = take k (drop n all) in
-    rw (stopped, take-add n k all, drop-append-le s.from have more (omega arith), take-append-le (s.to - s.from) (drop s.from have) more (omega (arith, length-drop s.from have))) refl
+window-kept s all n k stopped in_order to_in = grind (arith, nat_tests, take-add, drop-append-le, take-append-le, length-drop)
 
 -- ---- windows after calls
 
 -- a set that is zeroed has an empty window
 pub window-zeroed : {X : Type 0} (now : ℕ) (s : Kept) (xs : List X) → length xs ≡ now → in_window (zeroed now s) xs ≡ []
-window-zeroed now s xs same = go s.running where
-  none : {X : Type 0} (n m : ℕ) (ys : List X) → n ≡ 0 → take n ys ≡ []
-  none n m ys e = rw e refl
-
-  go : (b : Bool) → (if b then drop (if b then now else s.to) xs else take ((if b then now else s.to) - (if b then now else s.to)) (drop (if b then now else s.to) xs)) ≡ []
-  go true = drop_all now xs (omega arith)
-  go false = none (s.to - s.to) 0 (drop s.to xs) (omega arith)
+window-zeroed now s xs same = grind (arith, nat_tests, drop_all)
 
 -- a set that is stopped keeps its window
 pub window-stopped : {X : Type 0} (s : Kept) (xs : List X) (now : ℕ) → length xs ≡ now → s.from ≤ s.to → s.to ≤ now
     → in_window (record s { running = false; to = if s.running then now else s.to }) xs ≡ in_window s xs
-window-stopped s xs now same in_order past = go s.running where
-  go : (b : Bool) → take ((if b then now else s.to) - s.from) (drop s.from xs) ≡ (if b then drop s.from xs else take (s.to - s.from) (drop s.from xs))
-  go true = take_all (now - s.from) (drop s.from xs) (omega (arith, length-drop s.from xs))
-  go false = refl
+window-stopped s xs now same in_order past = grind (arith, nat_tests, take_all, length-drop)

@@ -6,26 +6,6 @@ use Rattle.postfix_rules.specs.Trees.{pile_from}
 use Rattle.postfix_rules.specs.Values.{divided, signed_sum, tree_value}
 use Rattle.call_laws.proofs.rows.allocation_rows.Goals as goal
 
-pub returns-clause-two_on_one_counter : goal.returns-clause-two_on_one_counter
+pub returns : goal.returns
 unfolding members choices assigns shortest_prefix deficient_sets blame_of lib.Count.ones pile_from tree_value divided signed_sum int_wrap
-returns-clause-two_on_one_counter c = refl
-
-pub returns-clause-earlier_moves : goal.returns-clause-earlier_moves
-unfolding members choices assigns shortest_prefix deficient_sets blame_of lib.Count.ones pile_from tree_value divided signed_sum int_wrap
-returns-clause-earlier_moves c = refl
-
-pub returns-clause-blame_is_least : goal.returns-clause-blame_is_least
-unfolding members choices assigns shortest_prefix deficient_sets blame_of lib.Count.ones pile_from tree_value divided signed_sum int_wrap
-returns-clause-blame_is_least c = refl
-
-pub returns-clause-placing : goal.returns-clause-placing
-unfolding members choices assigns shortest_prefix deficient_sets blame_of lib.Count.ones pile_from tree_value divided signed_sum int_wrap
-returns-clause-placing c = refl
-
-pub returns-clause-preset_that_conflicts : goal.returns-clause-preset_that_conflicts
-unfolding members choices assigns shortest_prefix deficient_sets blame_of lib.Count.ones pile_from tree_value divided signed_sum int_wrap
-returns-clause-preset_that_conflicts c = refl
-
-pub returns-clause-thirty_two_natives : goal.returns-clause-thirty_two_natives
-unfolding members choices assigns shortest_prefix deficient_sets blame_of lib.Count.ones pile_from tree_value divided signed_sum int_wrap
-returns-clause-thirty_two_natives c = refl
+returns c = record { two_on_one_counter = refl; earlier_moves = refl; blame_is_least = refl; placing = refl; preset_that_conflicts = refl; thirty_two_natives = refl }

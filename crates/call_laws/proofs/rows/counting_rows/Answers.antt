@@ -6,30 +6,6 @@ use Rattle.postfix_rules.specs.Trees.{pile_from}
 use Rattle.postfix_rules.specs.Values.{divided, signed_sum, tree_value}
 use Rattle.call_laws.proofs.rows.counting_rows.Goals as goal
 
-pub returns-clause-first_run : goal.returns-clause-first_run
+pub returns : goal.returns
 unfolding members choices assigns shortest_prefix deficient_sets blame_of lib.Count.ones pile_from tree_value divided signed_sum int_wrap
-returns-clause-first_run c = refl
-
-pub returns-clause-register_wraps : goal.returns-clause-register_wraps
-unfolding members choices assigns shortest_prefix deficient_sets blame_of lib.Count.ones pile_from tree_value divided signed_sum int_wrap
-returns-clause-register_wraps c = refl
-
-pub returns-clause-read_accum_reset : goal.returns-clause-read_accum_reset
-unfolding members choices assigns shortest_prefix deficient_sets blame_of lib.Count.ones pile_from tree_value divided signed_sum int_wrap
-returns-clause-read_accum_reset c = refl
-
-pub returns-clause-privilege : goal.returns-clause-privilege
-unfolding members choices assigns shortest_prefix deficient_sets blame_of lib.Count.ones pile_from tree_value divided signed_sum int_wrap
-returns-clause-privilege c = refl
-
-pub returns-clause-masks_and_inversion : goal.returns-clause-masks_and_inversion
-unfolding members choices assigns shortest_prefix deficient_sets blame_of lib.Count.ones pile_from tree_value divided signed_sum int_wrap
-returns-clause-masks_and_inversion c = refl
-
-pub returns-clause-edges : goal.returns-clause-edges
-unfolding members choices assigns shortest_prefix deficient_sets blame_of lib.Count.ones pile_from tree_value divided signed_sum int_wrap
-returns-clause-edges c = refl
-
-pub returns-clause-edges_from_before : goal.returns-clause-edges_from_before
-unfolding members choices assigns shortest_prefix deficient_sets blame_of lib.Count.ones pile_from tree_value divided signed_sum int_wrap
-returns-clause-edges_from_before c = refl
+returns c = record { first_run = refl; register_wraps = refl; read_accum_reset = refl; privilege = refl; masks_and_inversion = refl; edges = refl; edges_from_before = refl }

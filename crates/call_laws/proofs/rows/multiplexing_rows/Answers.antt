@@ -6,18 +6,6 @@ use Rattle.postfix_rules.specs.Trees.{pile_from}
 use Rattle.postfix_rules.specs.Values.{divided, signed_sum, tree_value}
 use Rattle.call_laws.proofs.rows.multiplexing_rows.Goals as goal
 
-pub returns-clause-take_turns : goal.returns-clause-take_turns
+pub returns : goal.returns
 unfolding members choices assigns shortest_prefix deficient_sets blame_of lib.Count.ones pile_from tree_value divided signed_sum int_wrap
-returns-clause-take_turns c = refl
-
-pub returns-clause-estimate_of_five : goal.returns-clause-estimate_of_five
-unfolding members choices assigns shortest_prefix deficient_sets blame_of lib.Count.ones pile_from tree_value divided signed_sum int_wrap
-returns-clause-estimate_of_five c = refl
-
-pub returns-clause-stamps : goal.returns-clause-stamps
-unfolding members choices assigns shortest_prefix deficient_sets blame_of lib.Count.ones pile_from tree_value divided signed_sum int_wrap
-returns-clause-stamps c = refl
-
-pub returns-clause-no_stamps : goal.returns-clause-no_stamps
-unfolding members choices assigns shortest_prefix deficient_sets blame_of lib.Count.ones pile_from tree_value divided signed_sum int_wrap
-returns-clause-no_stamps c = refl
+returns c = record { take_turns = refl; estimate_of_five = refl; stamps = refl; no_stamps = refl }

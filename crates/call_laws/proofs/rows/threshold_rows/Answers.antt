@@ -6,26 +6,6 @@ use Rattle.postfix_rules.specs.Trees.{pile_from}
 use Rattle.postfix_rules.specs.Values.{divided, signed_sum, tree_value}
 use Rattle.call_laws.proofs.rows.threshold_rows.Goals as goal
 
-pub returns-clause-threshold_passed : goal.returns-clause-threshold_passed
+pub returns : goal.returns
 unfolding members choices assigns shortest_prefix deficient_sets blame_of lib.Count.ones pile_from tree_value divided signed_sum int_wrap
-returns-clause-threshold_passed c = refl
-
-pub returns-clause-threshold_notes : goal.returns-clause-threshold_notes
-unfolding members choices assigns shortest_prefix deficient_sets blame_of lib.Count.ones pile_from tree_value divided signed_sum int_wrap
-returns-clause-threshold_notes c = refl
-
-pub returns-clause-second_threshold : goal.returns-clause-second_threshold
-unfolding members choices assigns shortest_prefix deficient_sets blame_of lib.Count.ones pile_from tree_value divided signed_sum int_wrap
-returns-clause-second_threshold c = refl
-
-pub returns-clause-second_threshold_notes : goal.returns-clause-second_threshold_notes
-unfolding members choices assigns shortest_prefix deficient_sets blame_of lib.Count.ones pile_from tree_value divided signed_sum int_wrap
-returns-clause-second_threshold_notes c = refl
-
-pub returns-clause-narrow_register : goal.returns-clause-narrow_register
-unfolding members choices assigns shortest_prefix deficient_sets blame_of lib.Count.ones pile_from tree_value divided signed_sum int_wrap
-returns-clause-narrow_register c = refl
-
-pub returns-clause-narrow_register_notes : goal.returns-clause-narrow_register_notes
-unfolding members choices assigns shortest_prefix deficient_sets blame_of lib.Count.ones pile_from tree_value divided signed_sum int_wrap
-returns-clause-narrow_register_notes c = refl
+returns c = record { threshold_passed = refl; threshold_notes = refl; second_threshold = refl; second_threshold_notes = refl; narrow_register = refl; narrow_register_notes = refl }
