@@ -36,14 +36,9 @@ record Begins (f : Text) (r : Option Read) : Type 0 where
 
 -- the states inside a record
 abbrev InRow : State → Type 0
-InRow st.StartRecord = ⊥
 InRow st.StartField = ⊤
 InRow st.InField = ⊤
-InRow st.InQuoted = ⊥
-InRow st.AfterQuote = ⊥
-InRow st.InEscape = ⊥
-InRow st.InComment = ⊥
-InRow st.AfterCr = ⊥
+InRow s = ⊥
 
 -- the record after one byte more
 abbrev after : List Text → List ℕ → ℕ → List ℕ → State × Action → Option Read

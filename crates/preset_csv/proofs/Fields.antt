@@ -3,7 +3,7 @@ use Rattle.std.proofs.Common.{◌≡◌, ◌≤◌, ◌<◌, ◌^◌, ◌==◌, 
 use Rattle.std.specs.Prelude.{◌&&◌, ◌||◌}
 use Rattle.std.specs.Str.{bytes_eq}
 use Rattle.std.specs.List.{AllByRecursion, list_all, list_any, onto_first, slice_split}
-use Rattle.std.proofs.lemmas.Bool.{and_parts, eqb-true, not-true}
+use Rattle.std.proofs.lemmas.Bool.{and_parts, cond_both, eqb-true, not-true}
 use Rattle.std.proofs.lemmas.Slice.Eq.{bytes_eq-Decides}
 use Rattle.table_rows.specs.Rows.{IsInner, IsPlainField}
 use Rattle.table_rows.specs.Texts.{Text, is_blank, is_printable, trimmed}
@@ -153,11 +153,9 @@ onto-ink b (p ∷ parts) h k = ((h, k.0), k.1)
 
 parts-ink : (t : Text) → AllByRecursion IsInk t → AllInk (slice_split (λ b. b == 124) t)
 parts-ink [] h = (tt, tt)
-parts-ink (b ∷ t) h = go (b == 124) (parts-ink t h.1)
-  where
-    go : (c : Bool) → AllInk (slice_split (λ b. b == 124) t) → AllInk (cond c ([] ∷ slice_split (λ b. b == 124) t) (onto_first b (slice_split (λ b. b == 124) t)))
-    go true k = (tt, k)
-    go false k = onto-ink b _ h.0 k
+parts-ink (b ∷ t) h =
+    let k = parts-ink t h.1 in
+    cond_both (b == 124) ([] ∷ slice_split (λ b. b == 124) t) (onto_first b (slice_split (λ b. b == 124) t)) AllInk (λ e. (tt, k)) (λ e. onto-ink b _ h.0 k)
 
 no-mark : (t : Text) → AllByRecursion IsInk t → bytes_eq (trimmed t) (codes "#") ≡ false
 no-mark t h = rw ((ink-good t h).1) (go t h)

@@ -1,67 +1,55 @@
 -- The group of some rows and of one more.
 use Rattle.std.proofs.Common.{◌≡◌, ◌∙◌, ◌∷◌, ◌++◌, ◌||◌, Bool, true, false, List, [], refl}
 use Rattle.std.specs.Prelude.{if◌then◌else◌}
-use Rattle.std.proofs.lemmas.Bool.{or_right}
+use Rattle.std.proofs.lemmas.Bool.{cond_both, or_right}
 use Rattle.table_rows.specs.Texts.{Text}
+use Rattle.table_rows.proofs.Texts.{or-false}
 use Rattle.preset_csv.specs.Lines.{Line, other, cpu, gives}
 use Rattle.preset_csv.specs.Presets.{cuts_off, group, has_cpu}
 use Rattle.preset_csv.specs.Steps.{is_closed}
 
 abbrev pub is_cpu : Line → Bool
-is_cpu other = false
 is_cpu (cpu n) = true
-is_cpu (gives w r) = false
+is_cpu line = false
 
 pub has_cpu-more : (above : List Line) (line : Line) → has_cpu (above ++ line ∷ []) ≡ (has_cpu above || is_cpu line)
 unfolding has_cpu
 has_cpu-more [] other = refl
-has_cpu-more [] (cpu n) = refl
-has_cpu-more [] (gives w r) = refl
-has_cpu-more (other ∷ rest) line = has_cpu-more rest line
+has_cpu-more [] line = refl
 has_cpu-more (cpu n ∷ rest) line = refl
-has_cpu-more (gives w r ∷ rest) line = has_cpu-more rest line
-
-pub or-false : (b : Bool) → (b || false) ≡ b
-or-false true = refl
-or-false false = refl
+has_cpu-more (l ∷ rest) line = has_cpu-more rest line
 
 -- a row of another kind than CPU
 cuts-same : (above : List Line) (line : Line) → is_cpu line ≡ false → cuts_off (above ++ line ∷ []) ≡ cuts_off above
 unfolding cuts_off has_cpu
 cuts-same [] other e = refl
-cuts-same [] (cpu n) e = refl
-cuts-same [] (gives w r) e = refl
-cuts-same (other ∷ rest) line e = cuts-same rest line e
-cuts-same (cpu n ∷ rest) line e = cuts-same rest line e
+cuts-same [] line e = refl
 cuts-same (gives w r ∷ rest) line e = has_cpu-more rest line ∙ rw e (or-false (has_cpu rest))
+cuts-same (l ∷ rest) line e = cuts-same rest line e
 
 group-same : (above : List Line) (line : Line) → is_cpu line ≡ false → group (above ++ line ∷ []) ≡ group above
 unfolding group cuts_off
-group-same [] other e = refl
 group-same [] (cpu n) e = cc e
-group-same [] (gives w r) e = refl
-group-same (other ∷ rest) line e = group-same rest line e
-group-same (gives w r ∷ rest) line e = group-same rest line e
+group-same [] line e = refl
 group-same (cpu n ∷ rest) line e = rw (cuts-same rest line e, group-same rest line e) refl
+group-same (l ∷ rest) line e = group-same rest line e
 
 -- a CPU row: a closed group is cut off
 has_preset-cuts : (above : List Line) (n : Text) → is_closed above ≡ true → cuts_off (above ++ cpu n ∷ []) ≡ true
 unfolding is_closed cuts_off has_cpu
 has_preset-cuts [] n e = cc e
-has_preset-cuts (other ∷ rest) n e = has_preset-cuts rest n e
-has_preset-cuts (cpu m ∷ rest) n e = has_preset-cuts rest n e
 has_preset-cuts (gives w r ∷ rest) n e = has_cpu-more rest (cpu n) ∙ or_right (has_cpu rest) true refl
+has_preset-cuts (l ∷ rest) n e = has_preset-cuts rest n e
 
 cuts-open : (above : List Line) (n : Text) → is_closed above ≡ false → cuts_off (above ++ cpu n ∷ []) ≡ cuts_off above
 unfolding is_closed cuts_off has_cpu
 cuts-open [] n e = refl
-cuts-open (other ∷ rest) n e = cuts-open rest n e
-cuts-open (cpu m ∷ rest) n e = cuts-open rest n e
 cuts-open (gives w r ∷ rest) n e = go (has_cpu rest) e (has_cpu-more rest (cpu n) ∙ or_right (has_cpu rest) true refl)
   where
     go : (b : Bool) → (if b then is_closed rest else true) ≡ false → has_cpu (rest ++ cpu n ∷ []) ≡ true → has_cpu (rest ++ cpu n ∷ []) ≡ b
     go true q t = t
     go false q t = cc q
+cuts-open (l ∷ rest) n e = cuts-open rest n e
 
 group-open : (above : List Line) (n : Text) → is_closed above ≡ false → group (above ++ cpu n ∷ []) ≡ group above ++ n ∷ []
 unfolding group cuts_off is_closed
@@ -89,9 +77,8 @@ group-closed (gives w r ∷ rest) n e = go (has_cpu rest) refl e (λ q. group-cl
   where
     none : (xs : List Line) → has_cpu xs ≡ false → group (xs ++ cpu n ∷ []) ≡ n ∷ []
     none [] q = refl
-    none (other ∷ xs) q = none xs q
     none (cpu m ∷ xs) q = cc q
-    none (gives v s ∷ xs) q = none xs q
+    none (l ∷ xs) q = none xs q
 
     go : (b : Bool) → has_cpu rest ≡ b → (if b then is_closed rest else true) ≡ true → (is_closed rest ≡ true → group (rest ++ cpu n ∷ []) ≡ n ∷ []) → group (rest ++ cpu n ∷ []) ≡ n ∷ []
     go true h q more = more q
@@ -99,9 +86,8 @@ group-closed (gives w r ∷ rest) n e = go (has_cpu rest) refl e (λ q. group-cl
 
 -- the group with one row more
 abbrev pub names_more : List Line → Line → List Text
-names_more above other = group above
-names_more above (gives w r) = group above
 names_more above (cpu n) = if is_closed above then n ∷ [] else group above ++ n ∷ []
+names_more above line = group above
 
 abbrev pub closed_more : List Line → Line → Bool
 closed_more above other = is_closed above
@@ -120,18 +106,9 @@ names-more above (cpu n) = go (is_closed above) refl
 pub closed-more : (above : List Line) (line : Line) → is_closed (above ++ line ∷ []) ≡ closed_more above line
 unfolding is_closed has_cpu
 closed-more [] other = refl
-closed-more [] (cpu n) = refl
-closed-more [] (gives w r) = refl
-closed-more (other ∷ rest) other = closed-more rest other
-closed-more (other ∷ rest) (cpu n) = closed-more rest (cpu n)
-closed-more (other ∷ rest) (gives w r) = closed-more rest (gives w r)
-closed-more (cpu m ∷ rest) other = closed-more rest other
-closed-more (cpu m ∷ rest) (cpu n) = closed-more rest (cpu n)
-closed-more (cpu m ∷ rest) (gives w r) = closed-more rest (gives w r)
+closed-more [] line = refl
 closed-more (gives v s ∷ rest) other = rw (has_cpu-more rest other, or-false (has_cpu rest), closed-more rest other) refl
 closed-more (gives v s ∷ rest) (cpu n) = rw (has_cpu-more rest (cpu n), or_right (has_cpu rest) true refl, closed-more rest (cpu n)) refl
-closed-more (gives v s ∷ rest) (gives w r) = rw (has_cpu-more rest (gives w r), or-false (has_cpu rest), closed-more rest (gives w r)) (go (has_cpu rest))
-  where
-    go : (b : Bool) → (if b then true else true) ≡ true
-    go true = refl
-    go false = refl
+closed-more (gives v s ∷ rest) (gives w r) = rw (has_cpu-more rest (gives w r), or-false (has_cpu rest), closed-more rest (gives w r)) (cond_both (has_cpu rest) true true (λ b. b ≡ true) (λ e. refl) (λ e. refl))
+closed-more (l ∷ rest) other = closed-more rest other
+closed-more (l ∷ rest) line = closed-more rest line

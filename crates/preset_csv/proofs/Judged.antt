@@ -2,14 +2,14 @@
 use Rattle.std.proofs.Common.{◌≡◌, ◌≤◌, ◌==◌, ◌∷◌, ℕ, Bool, true, false, List, [], length, refl, sym, subst, arith, IfOk, Option, Some, None, Result, Ok, Err}
 use Rattle.std.specs.Prelude.{⊤, if◌then◌else◌}
 use Rattle.std.specs.List.{AllByRecursion}
-use Rattle.std.proofs.lemmas.Bool.{eqb-true}
+use Rattle.std.proofs.lemmas.Bool.{cond_both, eqb-true}
 use Rattle.table_rows.specs.Texts.{Text, is_empty, is_printable}
 use Rattle.postfix_rules.specs.declared.derived.TheConstants.{MOST_NATIVES}
 use Rattle.postfix_rules.specs.Faults.{FormulaView, IsFormula}
 use Rattle.postfix_rules.specs.Reading.{RefusedFormula, formula_of}
 use Rattle.postfix_rules.proofs.Refusals.{same_tokens}
 use Rattle.preset_csv.specs.Defs.{FitsKind, IsDef, IsNativeText}
-use Rattle.preset_csv.specs.Entries.{InfixJudging, formula_entry, has_rate, judged_as, judged_by, kept_entry, kept_natives, typed_entry}
+use Rattle.preset_csv.specs.Entries.{InfixJudging, def_entry, formula_entry, has_rate, judged_as, judged_by, kept_entry, kept_natives, typed_entry}
 use Rattle.preset_csv.specs.Lines.{Derivation}
 use Rattle.preset_csv.specs.Tables.{IsEntry}
 use Rattle.preset_csv.specs.declared.entry.Entry.{Entry}
@@ -41,34 +41,25 @@ abbrev pub Keeps : Result Entry PresetCause → Type 0
 Keeps (Ok e) = IsEntry e
 Keeps (Err why) = ⊤
 
-formula-kept : (natives : List Text) (text : Text) → Ready natives → Keeps (formula_entry natives (formula_of (length natives) text))
-formula-kept natives text ready = go (formula_of (length natives) text) refl
-  where
-    go : (o : Result FormulaView RefusedFormula) → formula_of (length natives) text ≡ o → Keeps (formula_entry natives o)
-    go (Ok f) e = def-kept natives kind.Postfix (Some f) ready (read-agrees natives text f e)
-    go (Err refused) e = tt
+-- the entry of a formula that agrees with the natives
+pub formula-kept : (natives : List Text) (o : Result FormulaView RefusedFormula) → Ready natives → ((f : FormulaView) → o ≡ Ok f → FitsKind kind.Postfix (Some f) natives) → Keeps (formula_entry natives o)
+formula-kept natives (Ok f) ready agrees = def-kept natives kind.Postfix (Some f) ready (agrees f refl)
+formula-kept natives (Err refused) ready agrees = tt
 
 -- the entries of formulas in infix order can stand in a table
 abbrev pub InfixKept : InfixJudging → Type 0
 InfixKept judge = (formula : Text) (natives : List Text) → Ready natives → Keeps (judge formula natives)
 
 typed-kept : (judge : InfixJudging) → InfixKept judge → (t : DerivedType) (formula : Text) (natives : List Text) → Ready natives → Keeps (typed_entry judge t formula natives)
-typed-kept judge k derived.NotDerived formula natives ready = go (length natives == 1) refl
-  where
-    go : (b : Bool) → (length natives == 1) ≡ b → Keeps (if b then Ok (entry.Def (record { kind = kind.NotDerived; formula = None; natives = natives })) else Ok entry.Uncomputed)
-    go true e = def-kept natives kind.NotDerived None ready (eqb-true (length natives) 1 e)
-    go false e = tt
+typed-kept judge k derived.NotDerived formula natives ready =
+    cond_both (length natives == 1) (Ok (def_entry kind.NotDerived None natives)) (Ok entry.Uncomputed) Keeps (λ e. def-kept natives kind.NotDerived None ready (eqb-true (length natives) 1 e)) (λ e. tt)
 typed-kept judge k derived.Add formula natives ready = def-kept natives kind.Add None ready tt
 typed-kept judge k derived.Sub formula natives ready = def-kept natives kind.Sub None ready tt
-typed-kept judge k derived.Postfix formula natives ready = go (has_rate formula)
-  where
-    go : (b : Bool) → Keeps (if b then Ok entry.Uncomputed else formula_entry natives (formula_of (length natives) formula))
-    go true = tt
-    go false = formula-kept natives formula ready
+typed-kept judge k derived.Postfix formula natives ready =
+    cond_both (has_rate formula) (Ok entry.Uncomputed) (formula_entry natives (formula_of (length natives) formula)) Keeps (λ b. tt)
+    (λ b. formula-kept natives (formula_of (length natives) formula) ready (read-agrees natives formula))
 typed-kept judge k derived.Infix formula natives ready = k formula natives ready
-typed-kept judge k derived.Ps formula natives ready = tt
-typed-kept judge k derived.AddPs formula natives ready = tt
-typed-kept judge k derived.Cmpd formula natives ready = tt
+typed-kept judge k t formula natives ready = tt
 
 some-natives : (natives : List Text) → is_empty natives ≡ false → 1 ≤ length natives
 some-natives [] e = cc e
@@ -76,24 +67,19 @@ some-natives (t ∷ rest) e = omega arith
 
 entry-kept : (judge : InfixJudging) → InfixKept judge → (t : DerivedType) (formula : Text) (natives : Result (List Text) PresetCause)
     → IfOk natives (λ kept. AllByRecursion IsNativeText kept × (length kept ≤ MOST_NATIVES)) → Keeps (kept_entry judge t formula natives)
-entry-kept judge k t formula (Ok natives) h = go (is_empty natives) refl
-  where
-    go : (b : Bool) → is_empty natives ≡ b → Keeps (if b then Ok entry.Uncomputed else typed_entry judge t formula natives)
-    go true e = tt
-    go false e = typed-kept judge k t formula natives (record { each = h.0; some = some-natives natives e; few = h.1 })
+entry-kept judge k t formula (Ok natives) h =
+    cond_both (is_empty natives) (Ok entry.Uncomputed) (typed_entry judge t formula natives) Keeps (λ e. tt)
+    (λ e. typed-kept judge k t formula natives (record { each = h.0; some = some-natives natives e; few = h.1 }))
 entry-kept judge k t formula (Err why) h = tt
 
 as-kept : (judge : InfixJudging) → InfixKept judge → (t : Option DerivedType) (formula : Text) (natives : List Text) → AllByRecursion IsNative natives → Keeps (judged_as judge t formula natives)
 as-kept judge k None formula natives h = tt
-as-kept judge k (Some t) formula natives h = go (is_printable formula)
+as-kept judge k (Some t) formula natives h =
+    cond_both (is_printable formula) (kept_entry judge t formula (kept_natives natives)) (Err cause.BadField) Keeps (λ b. entry-kept judge k t formula (kept_natives natives) (texts (kept_natives natives) refl)) (λ b. tt)
   where
     texts : (o : Result (List Text) PresetCause) → kept_natives natives ≡ o → IfOk o (λ kept. AllByRecursion IsNativeText kept × (length kept ≤ MOST_NATIVES))
     texts (Ok kept) e = let i = kept-is natives kept e in (subst (AllByRecursion IsNativeText) i.0 (texts-kept natives h i.1), i.2)
     texts (Err why) e = tt
-
-    go : (b : Bool) → Keeps (if b then kept_entry judge t formula (kept_natives natives) else Err cause.BadField)
-    go true = entry-kept judge k t formula (kept_natives natives) (texts (kept_natives natives) refl)
-    go false = tt
 
 -- the entry of a row whose natives are fields
 pub judged-kept : (judge : InfixJudging) → InfixKept judge → (r : Derivation) → AllByRecursion IsNative r.natives → Keeps (judged_by judge r)

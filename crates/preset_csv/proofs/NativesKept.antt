@@ -2,7 +2,7 @@
 use Rattle.std.proofs.Common.{◌≡◌, ◌≤◌, ◌==◌, ◌∷◌, ℕ, zero, suc, Bool, true, false, not, List, [], map, drop, length, refl, subst, nat_lt, Result, Ok, Err}
 use Rattle.std.specs.Prelude.{if◌then◌else◌}
 use Rattle.std.specs.List.{AllByRecursion, list_all}
-use Rattle.std.proofs.lemmas.Bool.{and_parts, ltb-false}
+use Rattle.std.proofs.lemmas.Bool.{and_parts, cond_both, ltb-false}
 use Rattle.table_rows.specs.Rows.{IsInner, IsPlainField, IsReadRow}
 use Rattle.table_rows.specs.Texts.{Text, is_printable, text_at, trimmed}
 use Rattle.table_rows.proofs.Texts.{trimmed-all, trimmed-once}
@@ -28,11 +28,7 @@ cut-trimmed (t ∷ fields) h = ((trimmed-all IsInner t h.0, trimmed-once t), cut
 pub cut-natives : (fields : List Text) → AllByRecursion IsCut fields → AllByRecursion IsNative (natives_in fields)
 unfolding natives_in
 cut-natives [] h = tt
-cut-natives (t ∷ fields) h = go (ends_natives t) refl (cut-natives fields h.1)
-  where
-    go : (b : Bool) → ends_natives t ≡ b → AllByRecursion IsNative (natives_in fields) → AllByRecursion IsNative (if b then [] else t ∷ natives_in fields)
-    go true e k = tt
-    go false e k = ((h.0, e), k)
+cut-natives (t ∷ fields) h = cond_both (ends_natives t) [] (t ∷ natives_in fields) (AllByRecursion IsNative) (λ b. tt) (λ b. ((h.0, b), cut-natives fields h.1))
 
 pub read-drop : (n : ℕ) (fields : List Text) → IsReadRow fields → IsReadRow (drop n fields)
 read-drop zero fields h = h
@@ -74,14 +70,4 @@ found-kept fields first natives h e = let k = kept-is (natives_from fields first
 -- the symbol of a row stands in its second field
 pub symbol-there : (fields : List Text) → (derivation_of fields).symbol ≡ text_at fields 1
 unfolding derivation_of
-symbol-there fields = go (has_formula (type_of (text_at fields 2)))
-  where
-    row : Bool → Derivation
-    row b =
-        if b
-        then record { symbol = text_at fields 1; derived_type = type_of (text_at fields 2); formula = text_at fields 3; natives = natives_from fields 4 }
-        else record { symbol = text_at fields 1; derived_type = type_of (text_at fields 2); formula = []; natives = natives_from fields 3 }
-
-    go : (b : Bool) → (row b).symbol ≡ text_at fields 1
-    go true = refl
-    go false = refl
+symbol-there fields = refl

@@ -15,7 +15,8 @@ use Rattle.preset_csv.specs.Tables.{symbols}
 use Rattle.preset_csv.specs.declared.entry.Entry.{Entry}
 use Rattle.preset_csv.specs.declared.fault.PresetCause.{PresetCause}
 use Rattle.preset_csv.specs.declared.group.Group.{Group}
-use Rattle.preset_csv.proofs.Groups.{closed-more, has_cpu-more, names-more, or-false}
+use Rattle.preset_csv.proofs.Groups.{closed-more, has_cpu-more, names-more}
+use Rattle.table_rows.proofs.Texts.{or-false}
 use Rattle.preset_csv.proofs.SymbolRows.{changed-at, set_at}
 
 -- ---- the group

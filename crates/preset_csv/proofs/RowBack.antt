@@ -56,10 +56,8 @@ text-good f natives few agrees = ink-good (formula_text f.tokens) (formula-ink f
 pub formula-good : (k : Kind) (f : Option FormulaView) (natives : List Text) → AllByRecursion IsNativeText natives → length natives ≤ MOST_NATIVES
     → FitsKind k f natives → AllByRecursion IsGood (formula_fields f ++ natives)
 formula-good k None natives each few agrees = natives-good natives each
-formula-good kind.NotDerived (Some f) natives each few agrees = absurd agrees
-formula-good kind.Add (Some f) natives each few agrees = absurd agrees
-formula-good kind.Sub (Some f) natives each few agrees = absurd agrees
 formula-good kind.Postfix (Some f) natives each few agrees = (text-good f natives few agrees, natives-good natives each)
+formula-good k (Some f) natives each few agrees = absurd agrees
 
 pub def-good : (s : Text) (d : DefView) → IsGood s → IsDef d → AllByRecursion IsGood (row_fields s d.kind d.formula d.natives)
 def-good s d g h = (word-good (codes "PRESET") refl, (g, (kind-good d.kind, formula-good d.kind d.formula d.natives h.each h.few h.agrees)))
@@ -109,12 +107,6 @@ natives-read natives each = ap natives_in (trims natives (natives-good natives e
 
 typed-row : (s : Text) (k : Kind) (f : Option FormulaView) (natives : List Text) → IsGood s → AllByRecursion IsNativeText natives → length natives ≤ MOST_NATIVES → FitsKind k f natives
     → derivation (row_fields s k f natives) (Some (kind_type k)) ≡ def_row s k f natives
-typed-row s kind.NotDerived None natives g each few agrees = rw (second-good (codes "PRESET") s (codes "NOT_DERIVED" ∷ natives) g, natives-read natives each) refl
-typed-row s kind.NotDerived (Some f) natives g each few agrees = absurd agrees
-typed-row s kind.Add None natives g each few agrees = rw (second-good (codes "PRESET") s (codes "DERIVED_ADD" ∷ natives) g, natives-read natives each) refl
-typed-row s kind.Add (Some f) natives g each few agrees = absurd agrees
-typed-row s kind.Sub None natives g each few agrees = rw (second-good (codes "PRESET") s (codes "DERIVED_SUB" ∷ natives) g, natives-read natives each) refl
-typed-row s kind.Sub (Some f) natives g each few agrees = absurd agrees
 typed-row s kind.Postfix None natives g each few agrees = absurd agrees
 typed-row s kind.Postfix (Some f) natives g each few agrees =
     rw (
@@ -122,6 +114,8 @@ typed-row s kind.Postfix (Some f) natives g each few agrees =
       fourth-good (codes "PRESET") s (codes "DERIVED_POSTFIX") (formula_text f.tokens) natives (text-good f natives few agrees),
       natives-read natives each,
     ) refl
+typed-row s k None natives g each few agrees = rw (second-good (codes "PRESET") s (kind_text k ∷ natives) g, natives-read natives each) refl
+typed-row s k (Some f) natives g each few agrees = absurd agrees
 
 pub def-line : (s : Text) (d : DefView) → IsGood s → IsDef d → line_of (row_fields s d.kind d.formula d.natives) ≡ gives preset (def_row s d.kind d.formula d.natives)
 unfolding derivation_of
@@ -168,10 +162,8 @@ def-judged judge s d h = go d.kind d.formula d.natives h.each h.some h.few h.agr
     go : (k : Kind) (f : Option FormulaView) (natives : List Text) → AllByRecursion IsNativeText natives → 1 ≤ length natives → length natives ≤ MOST_NATIVES → FitsKind k f natives
         → judged_by judge (def_row s k f natives) ≡ Ok (entry.Def (record { kind = k; formula = f; natives = natives }))
     go k None natives each some few agrees = judged-plain judge s k natives each some few agrees
-    go kind.NotDerived (Some f) natives each some few agrees = absurd agrees
-    go kind.Add (Some f) natives each some few agrees = absurd agrees
-    go kind.Sub (Some f) natives each some few agrees = absurd agrees
     go kind.Postfix (Some f) natives each some few agrees = judged-postfix judge s f natives each some few agrees
+    go k (Some f) natives each some few agrees = absurd agrees
 
 pub rest-judged : (judge : InfixJudging) (s : Text) → judged_by judge (rest_row s) ≡ Ok entry.Uncomputed
 unfolding judged_by

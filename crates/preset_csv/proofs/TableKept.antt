@@ -4,14 +4,14 @@ use Rattle.std.specs.Prelude.{⊤, if◌then◌else◌, slice_get, unwrap_or}
 use Rattle.std.specs.Bool.{Decides}
 use Rattle.std.specs.List.{AllByRecursion, list_all, list_any}
 use Rattle.std.specs.Str.{bytes_eq, str_eq_ignore_ascii_case}
-use Rattle.std.proofs.lemmas.Bool.{and_from}
+use Rattle.std.proofs.lemmas.Bool.{and_from, cond_both, false_from_ne_true}
 use Rattle.std.proofs.lemmas.Slice.Eq.{bytes_eq-Decides}
 use Rattle.table_rows.specs.Rows.{IsInner, IsPlainField, IsReadRow, rows_of}
 use Rattle.table_rows.specs.Texts.{Text, text_at, trimmed}
 use Rattle.table_rows.proofs.Texts.{all-append, trimmed-all, trimmed-once}
 use Rattle.preset_table.specs.Table.{preset_rows}
 use Rattle.preset_csv.specs.Kinds.{has_formula, type_of}
-use Rattle.preset_csv.specs.Lines.{Derivation, Line, cpu, derivation_of, event, gives, line_of, natives_in, other, preset}
+use Rattle.preset_csv.specs.Lines.{Derivation, Line, cpu, derivation_of, event, gives, line_of, natives_from, natives_in, other, preset}
 use Rattle.preset_csv.specs.Presets.{Judging, cuts_off, entry_of, entry_or, group, holds, is_read, preset_read, presets, presets_read, read_from, rows_if}
 use Rattle.preset_csv.specs.Tables.{IsEntry, IsMissing, IsTable, is_field, is_field_byte, symbols}
 use Rattle.preset_csv.specs.declared.entry.Entry.{Entry}
@@ -32,17 +32,8 @@ natives-cut fields first h = cut-natives _ (cut-trimmed (drop first fields) (rea
 
 pub derivation-kept : (fields : List Text) → IsReadRow fields → IsKept (derivation_of fields)
 unfolding derivation_of
-derivation-kept fields h = go (has_formula (type_of (text_at fields 2)))
-  where
-    row : Bool → Derivation
-    row b =
-        if b
-        then record { symbol = text_at fields 1; derived_type = type_of (text_at fields 2); formula = text_at fields 3; natives = natives_in (map trimmed (drop 4 fields)) }
-        else record { symbol = text_at fields 1; derived_type = type_of (text_at fields 2); formula = []; natives = natives_in (map trimmed (drop 3 fields)) }
-
-    go : (b : Bool) → IsKept (row b)
-    go true = natives-cut fields 4 h
-    go false = natives-cut fields 3 h
+derivation-kept fields h =
+    cond_both (has_formula (type_of (text_at fields 2))) (natives_from fields 4) (natives_from fields 3) (AllByRecursion IsNative) (λ b. natives-cut fields 4 h) (λ b. natives-cut fields 3 h)
 
 plain-at : (fields : List Text) (i : ℕ) → IsReadRow fields → IsPlainField (unwrap_or (slice_get fields i) [])
 plain-at [] i h = tt
@@ -66,12 +57,9 @@ IsLine (gives w r) = IsKept r
 
 pub line-kept : (fields : List Text) → IsReadRow fields → IsLine (line_of fields)
 unfolding line_of
-line-kept fields h = go (str_eq_ignore_ascii_case (text_at fields 0) (codes "CPU")) (str_eq_ignore_ascii_case (text_at fields 0) (codes "PRESET"))
-  where
-    go : (b c : Bool) → IsLine (if b then cpu (text_at fields 1) else if c then gives preset (derivation_of fields) else other)
-    go true c = text-field fields 1 h
-    go false true = derivation-kept fields h
-    go false false = tt
+line-kept fields h =
+    cond_both (str_eq_ignore_ascii_case (text_at fields 0) (codes "CPU")) (cpu (text_at fields 1)) _ IsLine (λ b. text-field fields 1 h)
+    (λ b. cond_both (str_eq_ignore_ascii_case (text_at fields 0) (codes "PRESET")) (gives preset (derivation_of fields)) other IsLine (λ c. derivation-kept fields h) (λ c. tt))
 
 -- the rows of any bytes, by what each of them says
 pub lines-plain : (of : List Text → Line) → ((fields : List Text) → IsReadRow fields → IsLine (of fields)) → (bytes : List ℕ) → AllByRecursion IsLine (map of (rows_of bytes))
@@ -82,14 +70,8 @@ lines-plain of kept bytes = go (rows_of bytes) (rows-plain bytes)
     go (row ∷ rows) h = (kept row h.0, go rows h.1)
 
 one-kept : (name : Text) (above : List Line) (line : Line) → IsLine line → AllByRecursion IsKept (preset_read name above line)
-one-kept name above other h = tt
-one-kept name above (cpu n) h = tt
-one-kept name above (gives preset r) h = go (is_read name above r)
-  where
-    go : (b : Bool) → AllByRecursion IsKept (rows_if b r)
-    go true = (h, tt)
-    go false = tt
-one-kept name above (gives event r) h = tt
+one-kept name above (gives preset r) h = cond_both (is_read name above r) (r ∷ []) [] (AllByRecursion IsKept) (λ b. (h, tt)) (λ b. tt)
+one-kept name above line h = tt
 
 read-kept : (name : Text) (above lines : List Line) → AllByRecursion IsLine lines → AllByRecursion IsKept (read_from (preset_read name) above lines)
 unfolding read_from
@@ -124,22 +106,16 @@ each-kept judge keeps rows (s ∷ ss) h = (fold-kept judge keeps s entry.Missing
 -- ---- a name that can stand in no field
 
 pub other-name : (name n : Text) → is_field name ≡ false → is_field n ≡ true → bytes_eq name n ≡ false
-other-name name n e k = go (bytes_eq name n) (bytes_eq-Decides name n)
-  where
-    go : (b : Bool) → Decides b (name ≡ n) → b ≡ false
-    go true d = let same : is_field n ≡ false = subst (λ (t : Text). is_field t ≡ false) (d.0 refl) e in cc (same, k)
-    go false d = refl
+other-name name n e k = false_from_ne_true (bytes_eq name n)
+    (λ q. let same : is_field n ≡ false = subst (λ (t : Text). is_field t ≡ false) ((bytes_eq-Decides name n).0 q) e in cc (same, k))
 
 pub not-in-group : (name : Text) (above : List Line) → is_field name ≡ false → AllByRecursion IsLine above → holds name above ≡ false
 unfolding group
 not-in-group name [] e h = refl
-not-in-group name (other ∷ rest) e h = not-in-group name rest e h.1
-not-in-group name (gives w r ∷ rest) e h = not-in-group name rest e h.1
-not-in-group name (cpu n ∷ rest) e h = go (cuts_off rest) (not-in-group name rest e h.1)
-  where
-    go : (b : Bool) → list_any (λ n. bytes_eq name n) (group rest) ≡ false → list_any (λ n. bytes_eq name n) (if b then group rest else n ∷ group rest) ≡ false
-    go true k = k
-    go false k = rw (other-name name n e h.0) k
+not-in-group name (cpu n ∷ rest) e h =
+    let more = not-in-group name rest e h.1 in
+    cond_both (cuts_off rest) (group rest) (n ∷ group rest) (λ (g : List Text). list_any (λ m. bytes_eq name m) g ≡ false) (λ b. more) (λ b. rw (other-name name n e h.0) more)
+not-in-group name (l ∷ rest) e h = not-in-group name rest e h.1
 
 -- a row that is read only if the group above it holds the cpu
 pub none-read : (adds : List Line → Line → List Derivation) (name : Text) → ((above : List Line) (line : Line) → holds name above ≡ false → adds above line ≡ []) → (above lines : List Line)

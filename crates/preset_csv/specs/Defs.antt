@@ -29,13 +29,10 @@ pub record IsNativeText (t : Text) : Type 0 where
 -- a formula stands exactly if the kind is `Postfix`, read with this number of natives; what is not derived has one native
 abbrev pub FitsKind : Kind → Option FormulaView → List Text → Type 0
 FitsKind kind.NotDerived None natives = length natives ≡ 1
-FitsKind kind.NotDerived (Some f) natives = ⊥
-FitsKind kind.Add None natives = Unit {0}
-FitsKind kind.Add (Some f) natives = ⊥
-FitsKind kind.Sub None natives = Unit {0}
-FitsKind kind.Sub (Some f) natives = ⊥
 FitsKind kind.Postfix None natives = ⊥
 FitsKind kind.Postfix (Some f) natives = (f.natives ≡ length natives) × IsFormula f.natives f.tokens
+FitsKind k None natives = Unit {0}
+FitsKind k (Some f) natives = ⊥
 
 -- from 1 to MOST_NATIVES natives, which agree with the kind and the formula
 pub record IsDef (d : DefView) : Type 0 where

@@ -44,9 +44,7 @@ typed_entry judge derived.Add formula natives = Ok (def_entry kind.Add None nati
 typed_entry judge derived.Sub formula natives = Ok (def_entry kind.Sub None natives)
 typed_entry judge derived.Postfix formula natives = if has_rate formula then Ok entry.Uncomputed else formula_entry natives (formula_of (length natives) formula)
 typed_entry judge derived.Infix formula natives = judge formula natives
-typed_entry judge derived.Ps formula natives = Ok entry.Uncomputed
-typed_entry judge derived.AddPs formula natives = Ok entry.Uncomputed
-typed_entry judge derived.Cmpd formula natives = Ok entry.Uncomputed
+typed_entry judge t formula natives = Ok entry.Uncomputed
 
 -- the natives of a row, if each is printable and there are not too many; a field that is refused takes precedence over the limit
 abbrev pub kept_natives : List Text → Result (List Text) PresetCause

@@ -29,12 +29,6 @@ kind_text kind.Postfix = codes "DERIVED_POSTFIX"
 
 -- a row of this type has a formula before its natives
 abbrev pub has_formula : Option DerivedType → Bool
-has_formula None = false
-has_formula (Some derived.NotDerived) = false
-has_formula (Some derived.Add) = false
-has_formula (Some derived.Sub) = false
 has_formula (Some derived.Postfix) = true
 has_formula (Some derived.Infix) = true
-has_formula (Some derived.Ps) = false
-has_formula (Some derived.AddPs) = false
-has_formula (Some derived.Cmpd) = false
+has_formula t = false

@@ -39,10 +39,12 @@ natives_from fields first = natives_in (map trimmed (drop first fields))
 
 -- what a row of this derived type derives; a field that is not there is taken as an empty one
 abbrev pub derivation : List Text → Option DerivedType → Derivation
-derivation fields t =
-    if has_formula t
-    then record { symbol = text_at fields 1; derived_type = t; formula = text_at fields 3; natives = natives_from fields 4 }
-    else record { symbol = text_at fields 1; derived_type = t; formula = []; natives = natives_from fields 3 }
+derivation fields t = record {
+  symbol = text_at fields 1;
+  derived_type = t;
+  formula = if has_formula t then text_at fields 3 else [];
+  natives = if has_formula t then natives_from fields 4 else natives_from fields 3;
+}
 
 -- what a PRESET row with these fields says
 unfoldable pub derivation_of : List Text → Derivation

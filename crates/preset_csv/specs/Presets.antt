@@ -7,7 +7,7 @@ use Rattle.table_rows.specs.Tables.{ReadsTable, first_fault}
 use Rattle.table_rows.specs.Texts.{Text}
 use Rattle.preset_table.specs.Table.{row_of}
 use Rattle.preset_csv.specs.Entries.{judged}
-use Rattle.preset_csv.specs.Lines.{Derivation, Line, cpu, event, gives, lines_of, other, preset}
+use Rattle.preset_csv.specs.Lines.{Derivation, Line, cpu, event, gives, lines_of, preset}
 use Rattle.preset_csv.specs.Tables.{TableView, symbols}
 use Rattle.preset_csv.specs.declared.entry.Entry.{Entry}
 use Rattle.preset_csv.specs.declared.entry.Entry.TheVariants as entry
@@ -21,23 +21,20 @@ use Rattle.preset_csv.specs.declared.table.PresetTable.{PresetTable}
 -- a CPU row is among these
 unfoldable pub has_cpu : List Line → Bool
 has_cpu [] = false
-has_cpu (other ∷ rest) = has_cpu rest
 has_cpu (cpu name ∷ rest) = true
-has_cpu (gives w r ∷ rest) = has_cpu rest
+has_cpu (line ∷ rest) = has_cpu rest
 
 -- a row that gives an entry stands in the rows, and a CPU row below it: what stands above the rows is cut off
 unfoldable pub cuts_off : List Line → Bool
 cuts_off [] = false
-cuts_off (other ∷ rest) = cuts_off rest
-cuts_off (cpu name ∷ rest) = cuts_off rest
 cuts_off (gives w r ∷ rest) = has_cpu rest
+cuts_off (line ∷ rest) = cuts_off rest
 
 -- the names of the CPU rows that are not cut off from the end of the rows
 unfoldable pub group : List Line → List Text
 group [] = []
-group (other ∷ rest) = group rest
 group (cpu name ∷ rest) = if cuts_off rest then group rest else name ∷ group rest
-group (gives w r ∷ rest) = group rest
+group (line ∷ rest) = group rest
 
 -- ---- the rows that are read
 
@@ -55,10 +52,8 @@ rows_if read r = if read then r ∷ [] else []
 
 -- what one row below these adds to the PRESET rows that are read
 abbrev pub preset_read : Text → List Line → Line → List Derivation
-preset_read name above other = []
-preset_read name above (cpu n) = []
 preset_read name above (gives preset r) = rows_if (is_read name above r) r
-preset_read name above (gives event r) = []
+preset_read name above line = []
 
 -- the rows that are read of some rows below `above`, if one row adds these
 unfoldable pub read_from : (List Line → Line → List Derivation) → List Line → List Line → List Derivation
@@ -101,12 +96,11 @@ cause_if read judgement = if read then judged_cause judgement else None
 
 -- the cause of a row below these rows, but for what an EVENT row says
 abbrev pub line_cause : Judging → Text → List Line → Line → Option PresetCause
-line_cause judge name above other = None
-line_cause judge name above (cpu n) = None
 line_cause judge name above (gives preset r) =
     if not (has_cpu above) then Some cause.NoCpu
     else cause_if (is_read name above r) (judge r)
 line_cause judge name above (gives event r) = if not (has_cpu above) then Some cause.NoCpu else None
+line_cause judge name above line = None
 
 -- ---- what a caller gets
 

@@ -23,9 +23,8 @@ use Rattle.preset_csv.specs.declared.row.Row.TheVariants as row
 -- a row that gives an entry stands below the last CPU row, so that the next CPU row begins a new group
 unfoldable pub is_closed : List Line → Bool
 is_closed [] = false
-is_closed (other ∷ rest) = is_closed rest
-is_closed (cpu name ∷ rest) = is_closed rest
 is_closed (gives w r ∷ rest) = if has_cpu rest then is_closed rest else true
+is_closed (line ∷ rest) = is_closed rest
 
 -- the group at the end of the rows: whether there is one, whether it is closed, and whether it holds a cpu
 abbrev pub group_at : Text → List Line → Group
@@ -39,9 +38,8 @@ group_more name g (gives w r) = record { begun = g.begun; closed = true; holds =
 
 -- entries with one put in its row
 abbrev pub placed : List Entry → Option ℕ → Result Entry PresetCause → List Entry
-placed entries None judgement = entries
 placed entries (Some row) (Ok e) = set entries row e
-placed entries (Some row) (Err why) = entries
+placed entries row judgement = entries
 
 -- the entries with what one row more derives, if its group holds the cpu
 abbrev pub entries_with : Judging → Bool → List Entry → Derivation → List Entry
@@ -49,10 +47,8 @@ entries_with judge holds entries r = if holds then placed entries (row_of r.symb
 
 -- the entries with one row more
 abbrev pub entries_more : Judging → Group → List Entry → Line → List Entry
-entries_more judge g entries other = entries
-entries_more judge g entries (cpu n) = entries
 entries_more judge g entries (gives preset r) = entries_with judge g.holds entries r
-entries_more judge g entries (gives event r) = entries
+entries_more judge g entries line = entries
 
 -- the cause of what one row more derives, if its group holds the cpu
 abbrev pub read_cause : Judging → Bool → Derivation → Option PresetCause
@@ -60,10 +56,9 @@ read_cause judge holds r = cause_if (holds && is_some (row_of r.symbol)) (judge 
 
 -- why one row more is refused, if it is, but for what an EVENT row says
 abbrev pub cause_more : Judging → Group → Line → Option PresetCause
-cause_more judge g other = None
-cause_more judge g (cpu n) = None
 cause_more judge g (gives preset r) = if not g.begun then Some cause.NoCpu else read_cause judge g.holds r
 cause_more judge g (gives event r) = if not g.begun then Some cause.NoCpu else None
+cause_more judge g line = None
 
 -- the group and the entries with one row more
 abbrev pub IsMore : Judging → Text → Line → Group → List Entry → Group → List Entry → Type 0
@@ -71,10 +66,9 @@ IsMore judge name line g old h new = (h ≡ group_more name g line) × (new ≡ 
 
 -- no byte of a field of this row ends a field or a row
 abbrev pub IsPlainRow : Row → Type 0
-IsPlainRow row.Other = Unit {0}
-IsPlainRow (row.Cpu name) = Unit {0}
 IsPlainRow (row.Preset r) = IsReadRow (fields_of r.now)
 IsPlainRow (row.Event r) = IsReadRow (fields_of r.now)
+IsPlainRow r = Unit {0}
 
 -- why a row with a broken formula is refused
 abbrev pub formula_refusal : FormulaFault → RowRefusal PresetCause

@@ -19,9 +19,8 @@ pub record TableView : Type 0 where
 
 -- what each entry keeps
 abbrev pub IsEntry : Entry → Type 0
-IsEntry entry.Missing = Unit {0}
-IsEntry entry.Uncomputed = Unit {0}
 IsEntry (entry.Def d) = IsDef d
+IsEntry e = Unit {0}
 
 -- the file has no row for the preset
 abbrev pub IsMissing : Entry → Type 0

@@ -43,9 +43,8 @@ impl Group {
         ensures { result ≡ record { begun = self.begun; closed = true; holds = self.holds } }
     {
         Group {
-            begun: self.begun,
             closed: true,
-            holds: self.holds,
+            ..self
         }
     }
 }

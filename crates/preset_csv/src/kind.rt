@@ -68,8 +68,5 @@ pub fn type_of(name: &[u8]) -> Option<DerivedType>
 pub fn has_formula(derived_type: DerivedType) -> bool
     ensures { result ≡ Kinds.has_formula (Some derived_type) }
 {
-    match derived_type {
-        DerivedType::Postfix | DerivedType::Infix => true,
-        _ => false,
-    }
+    matches!(derived_type, DerivedType::Postfix | DerivedType::Infix)
 }
