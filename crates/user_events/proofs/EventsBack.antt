@@ -5,7 +5,7 @@ use Rattle.std.specs.Prelude.{◌&&◌, if◌then◌else◌}
 use Rattle.std.specs.List.{AllByRecursion}
 use Rattle.std.specs.Str.{bytes_eq}
 use Rattle.std.proofs.lemmas.List.{length-append, map-append}
-use Rattle.std.proofs.lemmas.Bool.{or_parts}
+use Rattle.std.proofs.lemmas.Bool.{cond_both, or_parts}
 use Rattle.table_rows.specs.Texts.{Text}
 use Rattle.preset_csv.specs.Lines.{Derivation, Line, event, gives, preset}
 use Rattle.preset_csv.specs.Presets.{read_from}
@@ -63,11 +63,8 @@ named-clear : (names : List Text) (r : Derivation) (e : Entry) → is_event_name
 named-clear names r e form few j = rw (form, not-many (not (among r.symbol names)) (length names) few, j) refl
 
 one-name : (ns : List Text) (r : Derivation) → length (name_added ns r) ≤ length ns + 1
-one-name ns r = go (among r.symbol ns)
-  where
-    go : (b : Bool) → length (if b then ns else ns ++ r.symbol ∷ []) ≤ length ns + 1
-    go true = omega arith
-    go false = omega (arith, length-append ns (r.symbol ∷ []))
+one-name ns r =
+    cond_both (among r.symbol ns) ns (ns ++ r.symbol ∷ []) (λ (t : List Text). length t ≤ length ns + 1) (λ b. omega arith) (λ b. omega (arith, length-append ns (r.symbol ∷ [])))
 
 few-names : (ns : List Text) (rows : List Derivation) → length (fold name_added ns rows) ≤ length ns + length rows
 few-names ns [] = omega arith

@@ -1,9 +1,10 @@
 -- A written table reads back, also if the cpu's name can stand in no field: then no row is written, and none is read.
 use Rattle.std.proofs.Common.{◌≡◌, ◌∙◌, ◌+◌, ◌≤◌, ◌∷◌, ◌++◌, Bool, true, false, List, [], length, map, refl, sym, ap, ap₂, arith, None}
+use Rattle.std.proofs.lemmas.List.{length-map}
 use Rattle.table_rows.specs.Rows.{rows_text}
 use Rattle.table_rows.specs.Tables.{first_fault}
 use Rattle.table_rows.specs.Texts.{Text}
-use Rattle.preset_csv.specs.Lines.{Derivation, Line, cpu, event, gives, other, preset}
+use Rattle.preset_csv.specs.Lines.{Derivation, Line, cpu, event, gives, preset}
 use Rattle.preset_csv.specs.Presets.{presets, read_from}
 use Rattle.preset_csv.specs.Tables.{is_field, symbols}
 use Rattle.preset_csv.specs.Written.{rows_of_entries, table_text}
@@ -40,16 +41,12 @@ none-above : (name : Text) → events_read name (cpu name ∷ []) ≡ []
 unfolding read_from
 none-above name = refl
 
-length-map-row : (es : List EventView) → length (map event_row es) ≡ length es
-length-map-row [] = refl
-length-map-row (e ∷ es) = omega (arith, length-map-row es)
-
 good-fault : (x : ExtendedView) → IsExtended x → is_field x.presets.cpu ≡ true → first_fault (line_cause x.presets.cpu) [] (lines_of (extended_text x)) ≡ None
 good-fault x h e =
     let n = x.presets.cpu in
     let rs = rows_back symbols x.presets.rows in
     let es = map event_row x.events in
-    let few : length (events_read n (cpu n ∷ [])) + length es ≤ MOST_USER_EVENTS = omega (arith, ap length (none-above n), length-map-row x.events, h.few) in
+    let few : length (events_read n (cpu n ∷ [])) + length es ≤ MOST_USER_EVENTS = omega (arith, ap length (none-above n), length-map x.events event_row, h.few) in
     ap (first_fault (line_cause n) []) (written-lines x (field-good n e) h.table.each h.each)
     ∙ first-fault n (both rs es) (no-fault n (cpu n ∷ []) rs es (first-stands n) (table-taken event_judged (written-back infix_entry) x.presets.rows h.table.each) (named x.events h.each) few)
 
@@ -69,10 +66,9 @@ good-back x h e =
 -- ---- a cpu whose name can stand in no field
 
 spares : (name : Text) → Spares name (line_cause name)
-spares name above other c h = refl
-spares name above (cpu n) c h = refl
 spares name above (gives preset r) c h = rw (c, h) refl
 spares name above (gives event r) c h = rw (c, h) refl
+spares name above line c h = refl
 
 says : Says line_of
 says = record { kept = event-line-kept; begins = λ rest. plain-cpu rest ∙ cpu-begins rest }

@@ -1,5 +1,6 @@
 -- No row gives a missing entry.
 use Rattle.std.proofs.Common.{Bool, true, false, List, length, Option, Some, None, Result, Ok, Err}
+use Rattle.std.proofs.lemmas.Bool.{cond_both}
 use Rattle.std.specs.Prelude.{⊤, ◌==◌, if◌then◌else◌}
 use Rattle.table_rows.specs.Texts.{Text, is_empty, is_printable}
 use Rattle.postfix_rules.specs.Faults.{FormulaView}
@@ -22,30 +23,26 @@ abbrev pub Gives : Result Entry PresetCause → Type 0
 Gives (Ok e) = IsPresent e
 Gives (Err why) = ⊤
 
-either : (b : Bool) (x y : Result Entry PresetCause) → Gives x → Gives y → Gives (if b then x else y)
-either true x y h k = h
-either false x y h k = k
-
 formula-gives : (natives : List Text) (o : Result FormulaView RefusedFormula) → Gives (formula_entry natives o)
 formula-gives natives (Ok f) = tt
 formula-gives natives (Err refused) = tt
 
 typed-gives : (t : DerivedType) (formula : Text) (natives : List Text) → Gives (typed_entry infix_entry t formula natives)
-typed-gives derived.NotDerived formula natives = either (length natives == 1) (Ok (def_entry kind.NotDerived None natives)) (Ok entry.Uncomputed) tt tt
+typed-gives derived.NotDerived formula natives = cond_both (length natives == 1) (Ok (def_entry kind.NotDerived None natives)) (Ok entry.Uncomputed) Gives (λ b. tt) (λ b. tt)
 typed-gives derived.Postfix formula natives =
-    either (Presets.has_rate formula) (Ok entry.Uncomputed) (formula_entry natives (formula_of (length natives) formula)) tt (formula-gives natives (formula_of (length natives) formula))
+    cond_both (Presets.has_rate formula) (Ok entry.Uncomputed) (formula_entry natives (formula_of (length natives) formula)) Gives (λ b. tt) (λ b. formula-gives natives (formula_of (length natives) formula))
 typed-gives derived.Infix formula natives =
-    either (has_rate formula) (Ok entry.Uncomputed) (formula_entry natives (infix_of (length natives) formula)) tt (formula-gives natives (infix_of (length natives) formula))
+    cond_both (has_rate formula) (Ok entry.Uncomputed) (formula_entry natives (infix_of (length natives) formula)) Gives (λ b. tt) (λ b. formula-gives natives (infix_of (length natives) formula))
 typed-gives t formula natives = tt
 
 natives-give : (t : DerivedType) (formula : Text) (natives : Result (List Text) PresetCause) → Gives (kept_entry infix_entry t formula natives)
-natives-give t formula (Ok natives) = either (is_empty natives) (Ok entry.Uncomputed) (typed_entry infix_entry t formula natives) tt (typed-gives t formula natives)
+natives-give t formula (Ok natives) = cond_both (is_empty natives) (Ok entry.Uncomputed) (typed_entry infix_entry t formula natives) Gives (λ b. tt) (λ b. typed-gives t formula natives)
 natives-give t formula (Err why) = tt
 
 type-gives : (t : Option DerivedType) (formula : Text) (natives : List Text) → Gives (judged_as infix_entry t formula natives)
 type-gives None formula natives = tt
 type-gives (Some t) formula natives =
-    either (is_printable formula) (kept_entry infix_entry t formula (kept_natives natives)) (Err cause.BadField) (natives-give t formula (kept_natives natives)) tt
+    cond_both (is_printable formula) (kept_entry infix_entry t formula (kept_natives natives)) (Err cause.BadField) Gives (λ b. natives-give t formula (kept_natives natives)) (λ b. tt)
 
 pub event-gives : (r : Derivation) → Gives (event_judged r)
 unfolding judged_by

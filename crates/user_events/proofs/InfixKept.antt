@@ -2,6 +2,7 @@
 use Rattle.std.proofs.Common.{◌≡◌, ◌+◌, ◌∷◌, ℕ, Bool, true, false, List, [], Option, Some, None, length, map, refl, sym, subst}
 use Rattle.std.specs.Prelude.{Ok, Err, Result, is_some, if◌then◌else◌, nat_lt, ⊤}
 use Rattle.std.specs.Option.{option_map_or}
+use Rattle.std.proofs.lemmas.Bool.{cond_both}
 use Rattle.table_rows.specs.Texts.{Text}
 use Rattle.postfix_rules.specs.declared.fault.FormulaCause.{FormulaCause}
 use Rattle.postfix_rules.specs.declared.fault.FormulaCause.TheVariants as cause
@@ -13,7 +14,7 @@ use Rattle.preset_csv.specs.Defs.{FitsKind}
 use Rattle.preset_csv.specs.Entries.{formula_entry}
 use Rattle.preset_csv.specs.declared.entry.Entry.TheVariants as entry
 use Rattle.preset_csv.specs.declared.kind.Kind.TheVariants as kind
-use Rattle.preset_csv.proofs.Judged.{InfixKept, Keeps, Ready, def-kept}
+use Rattle.preset_csv.proofs.Judged.{InfixKept, Keeps, formula-kept}
 use Rattle.user_events.specs.Entries.{has_rate, infix_entry}
 
 abbrev IsOne : ℕ → Result FormulaView RefusedFormula → Type 0
@@ -47,16 +48,7 @@ infix-agrees natives text f e =
     let one = subst (IsOne (length natives)) e (all-one (length natives) 0 order_begun (infix_parts text)) in
     (one.0, subst (λ (n : ℕ). IsFormula n f.tokens) (sym one.0) one.1)
 
-formula-kept : (natives : List Text) (text : Text) → Ready natives → Keeps (formula_entry natives (infix_of (length natives) text))
-formula-kept natives text ready = go (infix_of (length natives) text) refl
-  where
-    go : (o : Result FormulaView RefusedFormula) → infix_of (length natives) text ≡ o → Keeps (formula_entry natives o)
-    go (Ok f) e = def-kept natives kind.Postfix (Some f) ready (infix-agrees natives text f e)
-    go (Err refused) e = tt
-
 pub infix-kept : InfixKept infix_entry
-infix-kept text natives ready = go (has_rate text)
-  where
-    go : (b : Bool) → Keeps (if b then Ok entry.Uncomputed else formula_entry natives (infix_of (length natives) text))
-    go true = tt
-    go false = formula-kept natives text ready
+infix-kept text natives ready =
+    cond_both (has_rate text) (Ok entry.Uncomputed) (formula_entry natives (infix_of (length natives) text)) Keeps (λ b. tt)
+    (λ b. formula-kept natives (infix_of (length natives) text) ready (infix-agrees natives text))

@@ -125,10 +125,8 @@ same-events rows = ap events_of (append-nil rows)
 
 -- an EVENT row that is read has no cause
 abbrev pub events_more_cause : Text → List Line → Line → Type 0
-events_more_cause name above other = Unit {0}
-events_more_cause name above (cpu n) = Unit {0}
-events_more_cause name above (gives preset r) = Unit {0}
 events_more_cause name above (gives event r) = cause_if (holds name above) (named_entry (names_in (events_read name above)) r) ≡ None
+events_more_cause name above line = Unit {0}
 
 pub events-more : (name : Text) (above : List Line) (line : Line) → events_more_cause name above line
     → events_of (events_read name (above ++ line ∷ [])) ≡ events_more (group_at name above) (events_of (events_read name above)) line

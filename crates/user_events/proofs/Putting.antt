@@ -3,7 +3,7 @@ use Rattle.std.proofs.Common.{◌≡◌, ◌∙◌, ◌+◌, ◌<◌, ◌≤◌,
 use Rattle.std.specs.Prelude.{◌||◌, not, nat_lt, position}
 use Rattle.std.specs.List.{position_or_len}
 use Rattle.std.specs.Str.{bytes_eq}
-use Rattle.std.proofs.lemmas.Bool.{ltb-false}
+use Rattle.std.proofs.lemmas.Bool.{ltb-false, or_right}
 use Rattle.std.proofs.lemmas.List.{length-map, map-append}
 use Rattle.std.proofs.lemmas.List.Quantifiers.{position-Some}
 use Rattle.table_rows.specs.Texts.{Text}
@@ -56,11 +56,7 @@ is-among xs name p e = let f = position-Some (is_named name) xs p nothing e in f
     found : (ys : List EventView) (k : ℕ) → k < length ys → is_named name (get_or ys k nothing) ≡ true → among name (names_of ys) ≡ true
     found [] k lt h = absurd (omega arith)
     found (y ∷ ys) zero lt h = rw h refl
-    found (y ∷ ys) (suc k) lt h = go (bytes_eq name y.name) (found ys k (omega arith) h)
-      where
-        go : (b : Bool) → among name (names_of ys) ≡ true → (b || among name (names_of ys)) ≡ true
-        go true m = refl
-        go false m = m
+    found (y ∷ ys) (suc k) lt h = or_right (bytes_eq name y.name) (among name (names_of ys)) (found ys k (omega arith) h)
 
 pub put-last : (xs : List EventView) (name : Text) (e : Entry) → among name (names_of xs) ≡ false → put_event xs name e ≡ xs ++ record { name = name; entry = e } ∷ []
 put-last [] name e h = refl
@@ -76,9 +72,9 @@ pub put-new : (events : List UserEvent) (name : Text) (e : Entry) (u : UserEvent
 put-new events name e u none is =
     map-append event_view events (u ∷ []) ∙ ap (λ (x : EventView). map event_view events ++ x ∷ []) is ∙ sym (put-last (map event_view events) name e (not-among (map event_view events) name none))
 
-pub position-map : (p : EventView → Bool) (xs : List UserEvent) → position (λ x. p (event_view x)) xs ≡ position p (map event_view xs)
-position-map p xs = rw (length-map xs event_view, len-map xs) refl
+pub position-map : {X Y : Type 0} (f : X → Y) (p : Y → Bool) (xs : List X) → position (λ x. p (f x)) xs ≡ position p (map f xs)
+position-map {X = X} f p xs = rw (length-map xs f, places xs) refl
   where
-    len-map : (ys : List UserEvent) → position_or_len p (map event_view ys) ≡ position_or_len (λ x. p (event_view x)) ys
-    len-map [] = refl
-    len-map (y ∷ ys) = ap (λ (n : ℕ). cond (not (p (event_view y))) (1 + n) 0) (len-map ys)
+    places : (ys : List X) → position_or_len p (map f ys) ≡ position_or_len (λ y. p (f y)) ys
+    places [] = refl
+    places (y ∷ ys) = ap (λ (k : ℕ). cond (not (p (f y))) (1 + k) 0) (places ys)

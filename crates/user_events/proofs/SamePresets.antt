@@ -1,6 +1,7 @@
 -- A file without EVENT rows and formulas in infix order is read as one of presets alone.
 use Rattle.std.proofs.Common.{◌≡◌, ◌∙◌, ◌+◌, ◌∷◌, ◌++◌, ℕ, Bool, true, false, not, List, [], map, fold, length, refl, ap, ap₂, Option, Some, None, Result, Ok, Err}
 use Rattle.std.specs.Prelude.{if◌then◌else◌, codes}
+use Rattle.std.proofs.lemmas.Bool.{cond_both}
 use Rattle.std.specs.List.{AllByRecursion}
 use Rattle.std.specs.Option.{option_map_or}
 use Rattle.std.specs.Str.{bytes_eq, str_eq_ignore_ascii_case}
@@ -44,12 +45,9 @@ same-judged r h = go r.derived_type h
 same-lines : (rows : List (List Text)) → AllByRecursion IsOfPresets (map line_of rows) → map line_of rows ≡ map Presets.line_of rows
 unfolding line_of
 same-lines [] h = refl
-same-lines (fields ∷ rows) h = ap₂ (λ (x : Line) (xs : List Line). x ∷ xs) (go (str_eq_ignore_ascii_case (text_at fields 0) (codes "EVENT")) h.0) (same-lines rows h.1)
-  where
-    go : (b : Bool) → IsOfPresets (if b then gives event (derivation_of fields) else Presets.line_of fields)
-        → (if b then gives event (derivation_of fields) else Presets.line_of fields) ≡ Presets.line_of fields
-    go true k = absurd k
-    go false k = refl
+same-lines (fields ∷ rows) h = ap₂ (λ (x : Line) (xs : List Line). x ∷ xs) (
+    cond_both (str_eq_ignore_ascii_case (text_at fields 0) (codes "EVENT")) (gives event (derivation_of fields)) (Presets.line_of fields) (λ (x : Line). IsOfPresets x → x ≡ Presets.line_of fields)
+    (λ b k. absurd k) (λ b k. refl) h.0) (same-lines rows h.1)
 
 -- ---- the faults
 
@@ -69,14 +67,9 @@ same-fault name above (x ∷ lines) h =
 -- ---- the rows that are read
 
 one-ordinary : (name : Text) (above : List Line) (x : Line) → IsOfPresets x → AllByRecursion IsOrdinary (preset_read name above x) × (event_read name above x ≡ [])
-one-ordinary name above other h = (tt, refl)
-one-ordinary name above (cpu n) h = (tt, refl)
-one-ordinary name above (gives preset r) h = (go (is_read name above r), refl)
-  where
-    go : (b : Bool) → AllByRecursion IsOrdinary (rows_if b r)
-    go true = (h, tt)
-    go false = tt
+one-ordinary name above (gives preset r) h = (cond_both (is_read name above r) (r ∷ []) [] (AllByRecursion IsOrdinary) (λ b. (h, tt)) (λ b. tt), refl)
 one-ordinary name above (gives event r) h = absurd h
+one-ordinary name above x h = (tt, refl)
 
 all-ordinary : (name : Text) (above lines : List Line) → AllByRecursion IsOfPresets lines
     → AllByRecursion IsOrdinary (read_from (preset_read name) above lines) × (read_from (event_read name) above lines ≡ [])

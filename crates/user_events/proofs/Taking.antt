@@ -4,6 +4,7 @@ use Rattle.std.proofs.Common.{replicate, refl, sym, ap, subst, arith, tests, Opt
 use Rattle.std.specs.Prelude.{◌&&◌, ◌||◌, if◌then◌else◌, codes}
 use Rattle.std.specs.List.{AllByRecursion}
 use Rattle.std.specs.Str.{bytes_eq, str_eq_ignore_ascii_case}
+use Rattle.std.proofs.lemmas.Bool.{cond_both}
 use Rattle.std.proofs.lemmas.List.{length-map}
 use Rattle.table_rows.specs.Rows.{IsReadRow}
 use Rattle.table_rows.specs.Tables.{TakesRow}
@@ -39,38 +40,28 @@ use Rattle.user_events.proofs.MoreRows.{events-more, events_more_cause, named-ok
 
 pub event-line-kept : (fields : List Text) → IsReadRow fields → IsLine (line_of fields)
 unfolding line_of
-event-line-kept fields h = go (str_eq_ignore_ascii_case (text_at fields 0) (codes "EVENT"))
-  where
-    go : (b : Bool) → IsLine (if b then gives event (derivation_of fields) else Presets.line_of fields)
-    go true = derivation-kept fields h
-    go false = line-kept fields h
+event-line-kept fields h =
+    cond_both (str_eq_ignore_ascii_case (text_at fields 0) (codes "EVENT")) (gives event (derivation_of fields)) (Presets.line_of fields) IsLine (λ b. derivation-kept fields h) (λ b. line-kept fields h)
 
 -- ---- what is kept
 
 all-put : (xs : List EventView) (name : Text) (e : Entry) → AllByRecursion IsEvent xs → is_event_name name ≡ true → IsEntry e × IsPresent e → AllByRecursion IsEvent (put_event xs name e)
 all-put [] name e h n k = ((n, k.0, k.1), tt)
-all-put (x ∷ xs) name e h n k = go (bytes_eq name x.name) (all-put xs name e h.1 n k)
-  where
-    go : (b : Bool) → AllByRecursion IsEvent (put_event xs name e) → AllByRecursion IsEvent (if b then record { name = x.name; entry = e } ∷ xs else x ∷ put_event xs name e)
-    go true r = ((h.0.0, k.0, k.1), h.1)
-    go false r = (h.0, r)
+all-put (x ∷ xs) name e h n k =
+    cond_both (bytes_eq name x.name) (record { name = x.name; entry = e } ∷ xs) (x ∷ put_event xs name e) (AllByRecursion IsEvent)
+    (λ b. ((h.0.0, k.0, k.1), h.1)) (λ b. (h.0, all-put xs name e h.1 n k))
 
 put-known : (xs : List EventView) (name : Text) (e : Entry) → among name (names_of xs) ≡ true → length (put_event xs name e) ≡ length xs
 put-known [] name e h = cc h
-put-known (x ∷ xs) name e h = go (bytes_eq name x.name) h (put-known xs name e)
-  where
-    go : (b : Bool) → (b || among name (names_of xs)) ≡ true → (among name (names_of xs) ≡ true → length (put_event xs name e) ≡ length xs)
-        → length (if b then record { name = x.name; entry = e } ∷ xs else x ∷ put_event xs name e) ≡ length (x ∷ xs)
-    go true p r = omega arith
-    go false p r = omega (arith, r p)
+put-known (x ∷ xs) name e h =
+    cond_both (bytes_eq name x.name) (record { name = x.name; entry = e } ∷ xs) (x ∷ put_event xs name e) (λ (ys : List EventView). length ys ≡ length (x ∷ xs))
+    (λ b. omega arith) (λ b. let r = put-known xs name e (rw b at h) in omega (arith, r))
 
 put-longer : (xs : List EventView) (name : Text) (e : Entry) → length (put_event xs name e) ≤ length xs + 1
 put-longer [] name e = omega arith
-put-longer (x ∷ xs) name e = go (bytes_eq name x.name) (put-longer xs name e)
-  where
-    go : (b : Bool) → length (put_event xs name e) ≤ length xs + 1 → length (if b then record { name = x.name; entry = e } ∷ xs else x ∷ put_event xs name e) ≤ length (x ∷ xs) + 1
-    go true r = omega arith
-    go false r = omega arith
+put-longer (x ∷ xs) name e =
+    cond_both (bytes_eq name x.name) (record { name = x.name; entry = e } ∷ xs) (x ∷ put_event xs name e) (λ (ys : List EventView). length ys ≤ length (x ∷ xs) + 1)
+    (λ b. omega arith) (λ b. let r = put-longer xs name e in omega (arith, r))
 
 put-few : (xs : List EventView) (name : Text) (e : Entry) → length xs ≤ MOST_USER_EVENTS → is_too_many (names_of xs) name ≡ false → length (put_event xs name e) ≤ MOST_USER_EVENTS
 put-few xs name e le m = go (among name (names_of xs)) (nat_le MOST_USER_EVENTS (length (names_of xs))) refl refl m

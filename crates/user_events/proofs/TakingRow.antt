@@ -101,13 +101,3 @@ event-taken fields true old new x h e m j is =
     let n : named_entry (names_of old) (derivation_of fields) ≡ Ok x = judged-by fields (names_of old) false e m ∙ j in
     (ap (cause_if true) n, is ∙ ap (λ (t : Text). put_event old t x) (sym (symbol-there fields)) ∙ sym (ap (put_judged old (row_name fields)) n))
 event-taken fields false old new x h e m j is = cc h
-
-pub not-printed : (t : Text) → ◌≡◌ {A = Option Text} None (if is_printable t then Some t else None) → is_printable t ≡ true → ⊥
-not-printed t e p = let bad : ◌≡◌ {A = Option Text} None (Some t) = e ∙ ap (λ (b : Bool). if b then Some t else None) p in cc bad
-
-pub printed-some : (a t : Text) → Some a ≡ (if is_printable t then Some t else None) → a ≡ t
-printed-some a t e = go (is_printable t) e
-  where
-    go : (b : Bool) → Some a ≡ (if b then Some t else None) → a ≡ t
-    go true p = cc p
-    go false p = cc p

@@ -14,10 +14,9 @@ IsOrdinary r = r.derived_type ≡ Some derived.Infix → ⊥
 
 -- a row that is not an EVENT row and has no formula in infix order
 abbrev pub IsOfPresets : Line → Type 0
-IsOfPresets other = ⊤
-IsOfPresets (cpu n) = ⊤
 IsOfPresets (gives preset r) = IsOrdinary r
 IsOfPresets (gives event r) = ⊥
+IsOfPresets line = ⊤
 
 -- such a file has the same first fault, the same presets, and no events
 abbrev pub ReadsAsPresets : Type 0

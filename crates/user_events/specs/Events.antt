@@ -2,6 +2,7 @@
 use Rattle.std.specs.Prelude.{◌≡◌, ◌≤◌, true, false, ⊤, List, [], ◌∷◌, length, map, string_bytes}
 use Rattle.std.specs.List.{AllByRecursion}
 use Rattle.std.specs.Str.{bytes_eq}
+use Rattle.table_rows.specs.Tables.{NoTwo}
 use Rattle.table_rows.specs.Texts.{Text}
 use Rattle.preset_csv.specs.Tables.{IsEntry, IsTable, TableView, is_field}
 use Rattle.preset_csv.specs.declared.entry.Entry.{Entry}
@@ -27,8 +28,7 @@ pub record ExtendedView : Type 0 where
 -- an entry that a row gives; none gives a missing one
 abbrev pub IsPresent : Entry → Type 0
 IsPresent entry.Missing = ⊥
-IsPresent entry.Uncomputed = ⊤
-IsPresent (entry.Def d) = ⊤
+IsPresent e = ⊤
 
 -- what each event of a table keeps
 abbrev pub IsEvent : EventView → Type 0
@@ -40,8 +40,7 @@ names_of events = map (λ e. e.name) events
 
 -- no text is one of those after it
 abbrev pub Distinct : List Text → Type 0
-Distinct [] = ⊤
-Distinct (t ∷ rest) = AllByRecursion (λ u. bytes_eq t u ≡ false) rest × Distinct rest
+Distinct texts = NoTwo bytes_eq texts
 
 -- At most MOST_USER_EVENTS user events, none of them missing, of names that have their form and differ pairwise. None is read for a cpu whose name can
 -- stand in no field.

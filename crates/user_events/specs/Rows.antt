@@ -23,10 +23,8 @@ use Rattle.user_events.specs.declared.extended.Extended.{Extended}
 
 -- what one row below these adds to the EVENT rows that are read
 abbrev pub event_read : Text → List Line → Line → List Derivation
-event_read name above other = []
-event_read name above (cpu n) = []
-event_read name above (gives preset r) = []
 event_read name above (gives event r) = rows_if (holds name above) r
+event_read name above line = []
 
 -- the EVENT rows that are read for a cpu
 abbrev pub events_read : Text → List Line → List Derivation
@@ -59,11 +57,9 @@ events_of rows = map (event_of rows) (names_in rows)
 -- one name too many takes precedence over a broken formula, and a bad field over both
 abbrev pub limited : Bool → Result Entry PresetCause → Result Entry PresetCause
 limited false judgement = judgement
-limited true (Ok e) = Err cause.OverLimit
 limited true (Err cause.NoCpu) = Err cause.NoCpu
 limited true (Err cause.BadField) = Err cause.BadField
-limited true (Err cause.OverLimit) = Err cause.OverLimit
-limited true (Err (cause.BadFormula why)) = Err cause.OverLimit
+limited true judged = Err cause.OverLimit
 
 -- the name is new, and there are as many as there may be
 abbrev pub is_too_many : List Text → Text → Bool
@@ -75,12 +71,11 @@ named_entry names r = if is_event_name r.symbol then limited (is_too_many names 
 
 -- the cause of a row below these rows
 abbrev pub line_cause : Text → List Line → Line → Option PresetCause
-line_cause name above other = None
-line_cause name above (cpu n) = None
 line_cause name above (gives preset r) = Presets.line_cause event_judged name above (gives preset r)
 line_cause name above (gives event r) =
     if not (has_cpu above) then Some cause.NoCpu
     else cause_if (holds name above) (named_entry (names_in (events_read name above)) r)
+line_cause name above line = None
 
 -- ---- what a caller gets
 

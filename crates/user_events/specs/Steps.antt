@@ -35,17 +35,14 @@ event_cause held events r = cause_if held (named_entry (names_of events) r)
 
 -- the events with one row more
 abbrev pub events_more : Group → List EventView → Line → List EventView
-events_more g events other = events
-events_more g events (cpu n) = events
-events_more g events (gives preset r) = events
 events_more g events (gives event r) = events_with g.holds events r
+events_more g events line = events
 
 -- why one row more is refused, if it is
 abbrev pub cause_more : Group → List EventView → Line → Option PresetCause
-cause_more g events other = None
-cause_more g events (cpu n) = None
 cause_more g events (gives preset r) = Presets.cause_more event_judged g (gives preset r)
 cause_more g events (gives event r) = if not g.begun then Some cause.NoCpu else event_cause g.holds events r
+cause_more g events line = None
 
 -- what the rows so far gave: the group of CPU rows at their end, the entries of the presets, and the user events
 pub record Taking : Type 0 where
@@ -60,9 +57,7 @@ IsMore name line old new =
 
 -- the refusal of a row that adds one name too many, whatever it is judged
 abbrev pub IsOverLimit : Result Entry (RowRefusal PresetCause) → RowRefusal PresetCause → Type 0
-IsOverLimit (Ok e) refused = refused ≡ refusal.Cause cause.OverLimit
 IsOverLimit (Err (refusal.Cause cause.NoCpu)) refused = refused ≡ refusal.Cause cause.NoCpu
 IsOverLimit (Err (refusal.Cause cause.BadField)) refused = refused ≡ refusal.Cause cause.BadField
-IsOverLimit (Err (refusal.Cause cause.OverLimit)) refused = refused ≡ refusal.Cause cause.OverLimit
-IsOverLimit (Err (refusal.Cause (cause.BadFormula why))) refused = refused ≡ refusal.Cause cause.OverLimit
 IsOverLimit (Err refusal.Memory) refused = refused ≡ refusal.Memory
+IsOverLimit judged refused = refused ≡ refusal.Cause cause.OverLimit

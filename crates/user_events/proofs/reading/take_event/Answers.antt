@@ -1,6 +1,7 @@
 use Rattle.std.proofs.Common.{◌≡◌, ◌∙◌, true, List, map, sym, ap, subst}
 use Rattle.std.proofs.lemmas.Result.{err_from_is_err_and}
 use Rattle.csv.specs.Records.{fields_of}
+use Rattle.papi_base.proofs.Steps.{is_given, not_given}
 use Rattle.table_rows.specs.Texts.{Text, text_at}
 use Rattle.preset_csv.specs.Lines.{derivation_of}
 use Rattle.preset_csv.specs.Steps.{Judges}
@@ -10,7 +11,7 @@ use Rattle.user_events.specs.Names.{is_event_name}
 use Rattle.user_events.specs.Rows.{is_too_many}
 use Rattle.user_events.specs.Steps.{put_event}
 use Rattle.user_events.specs.declared.event.UserEvent.{UserEvent}
-use Rattle.user_events.proofs.TakingRow.{bad-name, event-refused, event-taken, name-printable, not-printed, over-taken, printed-some}
+use Rattle.user_events.proofs.TakingRow.{bad-name, event-refused, event-taken, name-printable, over-taken}
 use Rattle.user_events.proofs.reading.take_event.Goals as goal
 use Rattle.user_events.proofs.reading.take_event.Goals.{After-is_too_many}
 
@@ -18,7 +19,7 @@ name : (c : After-is_too_many) → is_event_name (text_at (fields_of c.args.row.
 name c = ap is_event_name (sym c.text_at-name.ensures) ∙ sym c.is_event_name.ensures ∙ c.if-not-is_event_name.false
 
 is : (c : After-is_too_many) → c.in-Some.name.now ≡ text_at (fields_of c.args.row.now) 1
-is c = printed-some c.in-Some.name.now c.text_at-name.result.now c.in-Some.ensures ∙ c.text_at-name.ensures
+is c = (is_given _ c.text_at-name.result.now c.in-Some.name.now c.in-Some.ensures).1 ∙ c.text_at-name.ensures
 
 -- whether the event would be one too many
 many : (c : After-is_too_many) → is_too_many (names_of (map event_view c.args.events.now.items)) (text_at (fields_of c.args.row.now) 1) ≡ c.is_too_many.result
@@ -31,7 +32,8 @@ returns-then-not-is_event_name c =
     (ap is_event_name (sym c.text_at-name.ensures) ∙ sym c.is_event_name.ensures ∙ c.if-not-is_event_name.true)
 
 pub returns-in_default : goal.returns-in_default
-returns-in_default c = absurd (not-printed c.text_at-name.result.now c.in_default.ensures (name-printable c.text_at-name.result.now (sym c.is_event_name.ensures ∙ c.if-not-is_event_name.false)))
+returns-in_default c =
+    cc (not_given _ c.text_at-name.result.now c.in_default.ensures, name-printable c.text_at-name.result.now (sym c.is_event_name.ensures ∙ c.if-not-is_event_name.false))
 
 pub returns-then-is_too_many : goal.returns-then-is_too_many
 returns-then-is_too_many c =
