@@ -3,6 +3,7 @@ use Rattle.std.proofs.Common.{◌≡◌, ◌∙◌, ◌≤◌, ◌+◌, ℕ, Boo
 use Rattle.std.specs.Prelude.{not, position}
 use Rattle.std.specs.List.{position_or_len, AllByRecursion}
 use Rattle.std.specs.Str.{bytes_eq}
+use Rattle.std.proofs.lemmas.Bool.{cond_both}
 use Rattle.std.proofs.lemmas.List.{append-nil, length-map}
 use Rattle.postfix_rules.specs.Presets.{Book}
 use Rattle.preset_csv.specs.Tables.{IsTable, TableView, is_field}
@@ -42,19 +43,15 @@ kept-more book r (x ∷ events) e n at =
 
 fewer : (book : Book) (r : ℕ) (events : List EventView) → length (events_from book r events) ≤ length events
 fewer book r [] = rw (none book r) (omega arith)
-fewer book r (e ∷ rest) = rw (step book r e rest) (go (is_available book r) (fewer book (r + 1) rest))
-  where
-    go : (b : Bool) → length (events_from book (r + 1) rest) ≤ length rest → length (kept_if b e ++ events_from book (r + 1) rest) ≤ length (e ∷ rest)
-    go true le = omega (arith, le)
-    go false le = omega (arith, le)
+fewer book r (e ∷ rest) = rw (step book r e rest) (
+    let le = fewer book (r + 1) rest in
+    cond_both (is_available book r) (e ∷ []) [] (λ (es : List EventView). length (es ++ events_from book (r + 1) rest) ≤ length (e ∷ rest)) (λ b. omega (arith, le)) (λ b. omega (arith, le)))
 
 each-kept : (P : EventView → Type 0) (book : Book) (r : ℕ) (events : List EventView) → AllByRecursion P events → AllByRecursion P (events_from book r events)
 each-kept P book r [] all = rw (none book r) tt
-each-kept P book r (e ∷ rest) all = rw (step book r e rest) (go (is_available book r) (each-kept P book (r + 1) rest all.1))
-  where
-    go : (b : Bool) → AllByRecursion P (events_from book (r + 1) rest) → AllByRecursion P (kept_if b e ++ events_from book (r + 1) rest)
-    go true more = (all.0, more)
-    go false more = more
+each-kept P book r (e ∷ rest) all = rw (step book r e rest) (
+    let more = each-kept P book (r + 1) rest all.1 in
+    cond_both (is_available book r) (e ∷ []) [] (λ (es : List EventView). AllByRecursion P (es ++ events_from book (r + 1) rest)) (λ b. (all.0, more)) (λ b. more))
 
 names_each : (Q : Text → Type 0) (events : List EventView) → AllByRecursion (λ e. Q e.name) events → AllByRecursion Q (names_of events)
 names_each Q [] all = tt
@@ -121,10 +118,3 @@ rows-out x rows entries events done of taken all is =
 pub names-out : (x : ExtendedView) (names : List Text) (events done : List UserEvent) → map event_view events ≡ x.events → done ≡ events
     → names ≡ map (λ u. string_bytes u.name) done → names ≡ names_of x.events
 names-out x names events done taken all is = is ∙ ap (map (λ (u : UserEvent). string_bytes u.name)) all ∙ sym (names_out events) ∙ ap names_of taken
-
-pub position-names : {X : Type 0} (f : X → Text) (p : Text → Bool) (xs : List X) → position (λ x. p (f x)) xs ≡ position p (map f xs)
-position-names {X = X} f p xs = rw (length-map xs f, places xs) refl
-  where
-    places : (ys : List X) → position_or_len p (map f ys) ≡ position_or_len (λ y. p (f y)) ys
-    places [] = refl
-    places (y ∷ ys) = ap (λ (k : ℕ). cond (not (p (f y))) (1 + k) 0) (places ys)

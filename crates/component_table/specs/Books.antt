@@ -22,8 +22,7 @@ use Rattle.user_events.specs.Events.{EventView, ExtendedView}
 -- one more native before some, if its text names one and theirs do
 abbrev pub with_first : Result Native NameFault → Option (List Native) → Option (List Native)
 with_first (Ok native) (Some natives) = Some (native ∷ natives)
-with_first (Ok native) None = None
-with_first (Err fault) natives = None
+with_first first natives = None
 
 -- the native events that some texts name, in their order, if each text names one
 unfoldable pub natives_named : List ComponentText → List Text → Option (List Native)
@@ -37,11 +36,10 @@ are_together (first ∷ others) = list_all (λ n. n.comp == first.comp) others
 
 -- how the value of a preset of this kind comes from its counts; the formula stands if the kind is `Postfix`
 abbrev pub rule_of : Kind → Option FormulaView → Rule
-rule_of kind.NotDerived formula = rule.Plain
 rule_of kind.Add formula = rule.Sum
 rule_of kind.Sub formula = rule.Sub
-rule_of kind.Postfix None = rule.Plain
 rule_of kind.Postfix (Some formula) = rule.Postfix formula
+rule_of k formula = rule.Plain
 
 -- what is derived of natives of one component; an event set counts on one alone, so of others nothing is derived
 abbrev pub derived_if : Bool → List Native → Rule → Option DerivedView
@@ -58,9 +56,8 @@ derived_of tables d = derived_by (natives_named tables d.natives) (rule_of d.kin
 
 -- what is derived by an entry of a preset file, if the event is available
 abbrev pub derived_from : List ComponentText → Entry → Option DerivedView
-derived_from tables row.Missing = None
-derived_from tables row.Uncomputed = None
 derived_from tables (row.Def d) = derived_of tables d
+derived_from tables e = None
 
 -- the book of the events that are available over a unit, in the order of these entries
 abbrev pub book_of : List ComponentText → List Entry → Book
@@ -77,9 +74,7 @@ is_available book r = is_some (entry book r)
 -- the value is computed, and is not the count of one native event
 abbrev pub is_derived_rule : Rule → Bool
 is_derived_rule rule.Plain = false
-is_derived_rule rule.Sum = true
-is_derived_rule rule.Sub = true
-is_derived_rule (rule.Postfix formula) = true
+is_derived_rule r = true
 
 -- papi_avail(1) lists the event as derived: it is available, and its value is computed
 abbrev pub is_derived_event : Option DerivedView → Bool

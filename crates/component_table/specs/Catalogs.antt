@@ -10,8 +10,8 @@ use Rattle.papi_base.specs.declared.native.EventRef.{EventRef}
 use Rattle.papi_base.specs.declared.native.EventRef.TheVariants as event
 use Rattle.papi_base.specs.declared.limits.TheConstants.{FIRST_USER_EVENT_CODE}
 use Rattle.papi_base.specs.declared.native.Native.{Native}
-use Rattle.event_tables.specs.Tables as Tables
 use Rattle.event_tables.specs.Tables.{ComponentText}
+pub use Rattle.event_tables.specs.Tables.{shape_of}
 use Rattle.name_encoder.specs.declared.fault.NameFault.{NameFault}
 use Rattle.name_encoder.specs.Names.{fault_code, names}
 use Rattle.postfix_rules.specs.Fitting.{BookFits}
@@ -34,10 +34,6 @@ pub record CatalogView : Type 0 where
 abbrev pub catalog_of : List ComponentText → Option ExtendedView → CatalogView
 catalog_of tables None = record { tables = tables; book = []; names = [] }
 catalog_of tables (Some x) = record { tables = tables; book = book_of tables (rows_in x); names = names_of x.events }
-
--- the components' counters, by their widths
-abbrev pub shape_of : List ComponentText → List (List ℕ)
-shape_of tables = Tables.shape_of tables
 
 -- The book fits the counters. The user events' names are as many as there may be, have their form and differ pairwise.
 pub record IsCatalog (c : CatalogView) : Type 0 where

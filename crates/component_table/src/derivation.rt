@@ -33,14 +33,11 @@ fn natives_named(tables: &Tables, texts: &[String]) -> Option<Natives>
 fn rule_of(kind: Kind, formula: Option<Formula>) -> Rule
     ensures { result ≡ Books.rule_of kind formula }
 {
-    match kind {
-        Kind::NotDerived => Rule::Plain,
-        Kind::Add => Rule::Sum,
-        Kind::Sub => Rule::Sub,
-        Kind::Postfix => match formula {
-            Some(formula) => Rule::Postfix(formula),
-            None => Rule::Plain,
-        },
+    match (kind, formula) {
+        (Kind::Add, _) => Rule::Sum,
+        (Kind::Sub, _) => Rule::Sub,
+        (Kind::Postfix, Some(formula)) => Rule::Postfix(formula),
+        _ => Rule::Plain,
     }
 }
 

@@ -4,10 +4,10 @@ use Rattle.std.specs.Str.{bytes_eq}
 use Rattle.std.proofs.lemmas.Iterator.{YieldsList-from_slice}
 use Rattle.std.proofs.lemmas.Iterator.Search.{position_from_yields_List}
 use Rattle.table_rows.specs.Texts.{Text}
-use Rattle.component_table.proofs.KeptEvents.{position-names}
+use Rattle.user_events.proofs.Putting.{position-map}
 use Rattle.component_table.proofs.looking_up.rank_of.Goals as goal
 
 pub returns-clause-rank : goal.returns-clause-rank
 returns-clause-rank c =
     position_from_yields_List (λ x. bytes_eq c.args.text.now (string_bytes x)) _ _ _ c.position.ensures.ran (YieldsList-from_slice c.args.names.now cc) (λ x b q k. search (rules, tests))
-    ∙ position-names string_bytes (λ (n : Text). bytes_eq c.args.text.now n) c.args.names.now
+    ∙ position-map string_bytes (λ (n : Text). bytes_eq c.args.text.now n) c.args.names.now
