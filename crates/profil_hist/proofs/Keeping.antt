@@ -7,19 +7,13 @@ use Rattle.std.specs.Prelude.{◌||◌, nat_le, nat_lt}
 use Rattle.std.specs.List.{list_any}
 use Rattle.std.specs.Str.{bytes_eq}
 use Rattle.papi_base.proofs.Steps.{passed_over}
-use Rattle.table_rows.proofs.Texts.{all-append}
+use Rattle.table_rows.proofs.Texts.{all-append, no_two-more}
 use Rattle.profil_hist.specs.Lines.{IsLine, Line, range}
 use Rattle.profil_hist.specs.Maps.{cause_in, range_cause}
-use Rattle.profil_hist.specs.Ranges.{IsMap, IsRange, NoTwo, RangeText, buckets_in_all, overlaps}
+use Rattle.profil_hist.specs.Ranges.{IsMap, IsRange, RangeText, buckets_in_all, overlaps}
 use Rattle.profil_hist.specs.Steps.{with_line}
 use Rattle.profil_hist.specs.declared.fault.MapCause.TheVariants as cause
 use Rattle.profil_hist.specs.declared.limits.TheConstants.{MOST_BUCKETS, MOST_RANGES}
-
-no_two-more : {X : Type 0} (together : X → X → Bool) (xs : List X) (n : X) → NoTwo together xs → list_any (λ x. together x n) xs ≡ false → NoTwo together (xs ++ n ∷ [])
-no_two-more together [] n h e = (tt, tt)
-no_two-more together (x ∷ xs) n h e =
-    let p = or_parts (together x n) (list_any (λ y. together y n) xs) e in
-    (all-append (λ y. together x y ≡ false) xs (n ∷ []) h.0 (p.0, tt), no_two-more together xs n h.1 p.1)
 
 range-kept : (above : List RangeText) (r : RangeText) → IsRange r → range_cause above r ≡ None → IsMap above → IsMap (above ++ r ∷ [])
 range-kept above r is e h =

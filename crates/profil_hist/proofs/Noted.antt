@@ -14,7 +14,8 @@ use Rattle.papi_base.proofs.Steps.{all_at, none_any}
 use Rattle.profil_hist.specs.Counts.{IsThere, RowText, met, with_hit, with_note}
 use Rattle.profil_hist.specs.Histograms.{HistText, IsHist, IsHistogram, bucket_count, range_count}
 use Rattle.profil_hist.specs.Places.{IsPlaceOf}
-use Rattle.profil_hist.specs.Ranges.{NoTwo, RangeText, end_of, in_bucket, in_range, overlaps}
+use Rattle.table_rows.specs.Tables.{NoTwo}
+use Rattle.profil_hist.specs.Ranges.{RangeText, end_of, in_bucket, in_range, overlaps}
 use Rattle.profil_hist.specs.declared.placing.Place.{Place}
 
 -- ---- tests and numbers

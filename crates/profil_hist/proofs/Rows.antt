@@ -2,7 +2,7 @@
 use Rattle.std.proofs.Common.{◌≡◌, ◌∙◌, ◌<◌, ◌≤◌, ◌∷◌, ℕ, zero, suc, List, [], Option, Some, None, true, map, length, get_or, refl, sym, ap, arith}
 use Rattle.std.proofs.Math.ListN.{set}
 use Rattle.std.proofs.lemmas.Bool.{ltb-true}
-use Rattle.std.proofs.lemmas.List.{get_or-map, length-map}
+use Rattle.std.proofs.lemmas.List.{get_or-map, length-map, map-set}
 use Rattle.std.proofs.lemmas.List.Sums.{get_or-le-sum_by}
 use Rattle.std.proofs.lemmas.Option.{slice_get-get_or, slice_get-map, slice_get_within}
 use Rattle.std.specs.Prelude.{nat_lt, option_map, slice_get, sum_by}
@@ -10,11 +10,6 @@ use Rattle.profil_hist.specs.Counts.{IsThere, RowText, counts_text, with_hit, wi
 use Rattle.profil_hist.specs.declared.counts.RangeCounts.{RangeCounts}
 use Rattle.profil_hist.specs.declared.placing.Place.{Place}
 use Rattle.profil_hist.proofs.Noted.{noted-rows}
-
-map-set : {X Y : Type 0} (f : X → Y) (xs : List X) (k : ℕ) (v : X) → map f (set xs k v) ≡ set (map f xs) k (f v)
-map-set f [] k v = refl
-map-set f (x ∷ xs) zero v = refl
-map-set f (x ∷ xs) (suc k) v = ap (λ ys. f x ∷ ys) (map-set f xs k v)
 
 pub record There (items : List RangeCounts) (p : Place) (x : RangeCounts) : Type 0 where
   pub inside : p.range < length items

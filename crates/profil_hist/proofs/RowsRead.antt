@@ -4,7 +4,7 @@ use Rattle.std.specs.Prelude.{Result}
 use Rattle.table_rows.specs.Tables.{TakesRow}
 use Rattle.table_rows.proofs.TablesRead.{takes-as}
 use Rattle.table_rows.specs.declared.fault.RowRefusal.{RowRefusal}
-use Rattle.profil_hist.specs.Lines.{IsLine, Line, bad, range, skipped}
+use Rattle.profil_hist.specs.Lines.{IsLine, Line, range, skipped}
 use Rattle.profil_hist.specs.Maps.{cause_in, ranges_in, row_cause}
 use Rattle.profil_hist.specs.Ranges.{IsMap, RangeText}
 use Rattle.profil_hist.specs.Steps.{GiveRanges, with_line}
@@ -14,13 +14,10 @@ use Rattle.profil_hist.proofs.Keeping.{kept}
 one-more : (lines : List Line) (line : Line) → ranges_in (lines ++ line ∷ []) ≡ with_line (ranges_in lines) line
 unfolding ranges_in
 one-more [] skipped = refl
-one-more [] bad = refl
-one-more [] (range r) = refl
-one-more (skipped ∷ rest) line = one-more rest line
-one-more (bad ∷ rest) line = one-more rest line
+one-more [] line = refl
 one-more (range r ∷ rest) skipped = ap (λ (rs : List RangeText). r ∷ rs) (one-more rest skipped)
-one-more (range r ∷ rest) bad = ap (λ (rs : List RangeText). r ∷ rs) (one-more rest bad)
-one-more (range r ∷ rest) (range s) = ap (λ (rs : List RangeText). r ∷ rs) (one-more rest (range s))
+one-more (range r ∷ rest) line = ap (λ (rs : List RangeText). r ∷ rs) (one-more rest line)
+one-more (l ∷ rest) line = one-more rest line
 
 pub none-read : GiveRanges [] []
 unfolding ranges_in

@@ -1,6 +1,7 @@
 -- What one row of a map says, by itself. The file format is this project's own.
-use Rattle.std.specs.Prelude.{⊤, ◌&&◌, ◌==◌, ◌+◌, ◌*◌, ◌^◌, ℕ, Bool, List, length, drop, Option, Some, None, if◌then◌else◌, nat_eq, nat_le, codes}
+use Rattle.std.specs.Prelude.{⊤, ◌&&◌, ◌==◌, ◌+◌, ◌*◌, ◌^◌, ℕ, Bool, List, length, drop, Option, Some, None, unwrap_or, if◌then◌else◌, nat_eq, nat_le, codes}
 use Rattle.std.specs.List.{starts_with}
+use Rattle.std.specs.Option.{option_map_or}
 use Rattle.std.specs.Str.{bytes_eq}
 use Rattle.table_rows.specs.Texts.{Text, decimal_in, hex_in, is_name, is_skipped, text_at}
 use Rattle.profil_hist.specs.Ranges.{RangeText, IsRange}
@@ -28,13 +29,9 @@ range_of name start width buckets = record { name = name; start = start; width =
 
 -- a RANGE row with these fields
 abbrev pub range_line : Text → Text → Text → Text → Line
-range_line name start width buckets = go (address_in start) (decimal_in 1 MOST_BUCKET_ADDRESSES width) (decimal_in 1 MOST_BUCKETS buckets)
-  where
-    go : Option ℕ → Option ℕ → Option ℕ → Line
-    go None w b = bad
-    go (Some s) None b = bad
-    go (Some s) (Some w) None = bad
-    go (Some s) (Some w) (Some b) = if fits s w b && is_name name then range (range_of name s w b) else bad
+range_line name start width buckets =
+    option_map_or (λ s. option_map_or (λ w. option_map_or (λ b. if fits s w b && is_name name then range (range_of name s w b) else bad)
+    (decimal_in 1 MOST_BUCKETS buckets) bad) (decimal_in 1 MOST_BUCKET_ADDRESSES width) bad) (address_in start) bad
 
 -- what a row with these fields says
 unfoldable pub line_of : List Text → Line
@@ -46,12 +43,15 @@ line_of fields =
 
 -- what a row keeps, by itself
 abbrev pub IsLine : Line → Type 0
-IsLine skipped = ⊤
-IsLine bad = ⊤
 IsLine (range r) = IsRange r
+IsLine line = ⊤
 
 -- what a row that was read says
 abbrev pub row_line : Row → Line
 row_line row.Skipped = skipped
 row_line row.Bad = bad
 row_line (row.Range name start width buckets) = range (range_of name.now start width buckets)
+
+-- what a row says that has the form of a range or not
+abbrev pub line_or_bad : Option Row → Line
+line_or_bad o = row_line (unwrap_or o row.Bad)

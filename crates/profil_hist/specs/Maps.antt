@@ -16,9 +16,8 @@ use Rattle.profil_hist.specs.declared.limits.TheConstants.{MOST_BUCKETS, MOST_RA
 -- the ranges of some rows
 unfoldable pub ranges_in : List Line → List RangeText
 ranges_in [] = []
-ranges_in (skipped ∷ rest) = ranges_in rest
-ranges_in (bad ∷ rest) = ranges_in rest
 ranges_in (range r ∷ rest) = r ∷ ranges_in rest
+ranges_in (line ∷ rest) = ranges_in rest
 
 -- the cause of a row, in view of the ranges above it; the causes are tried in the order of `MapCause`
 abbrev pub range_cause : List RangeText → RangeText → Option MapCause

@@ -1,7 +1,8 @@
 -- Ranges of program counters in buckets of one width: the offset, the scale and the size of the buffer of PAPI_profil(3).
-use Rattle.std.specs.Prelude.{⊤, ◌&&◌, ◌+◌, ◌*◌, ◌^◌, ◌≡◌, ◌≤◌, ℕ, Bool, true, false, List, [], ◌∷◌, length, nat_le, nat_lt, sum_by}
+use Rattle.std.specs.Prelude.{⊤, ◌&&◌, ◌+◌, ◌*◌, ◌^◌, ◌≡◌, ◌≤◌, ℕ, Bool, true, List, length, nat_le, nat_lt, sum_by}
 use Rattle.std.specs.List.{AllByRecursion}
 use Rattle.std.specs.Str.{bytes_eq}
+use Rattle.table_rows.specs.Tables.{NoTwo}
 use Rattle.table_rows.specs.Texts.{Text, is_name}
 use Rattle.profil_hist.specs.declared.limits.TheConstants.{MOST_BUCKETS, MOST_BUCKET_ADDRESSES, MOST_RANGES}
 
@@ -33,11 +34,6 @@ abbrev pub buckets_in_all : List RangeText → ℕ
 buckets_in_all ranges = sum_by (λ r. r.buckets) ranges
 
 -- ---- what a map keeps
-
--- no item goes with an earlier one
-abbrev pub NoTwo : {X : Type 0} → (X → X → Bool) → List X → Type 0
-NoTwo together [] = ⊤
-NoTwo together (x ∷ xs) = AllByRecursion (λ y. together x y ≡ false) xs × NoTwo together xs
 
 -- a range within the limits
 pub record IsRange (r : RangeText) : Type 0 where

@@ -88,10 +88,7 @@ impl Hist {
         ensures count { result ≡ Histograms.hits_at self.now range }
         ensures there { is_some result ≡ Histograms.has_range self.now.map range }
     {
-        match self.rows.as_slice().get(range as usize) {
-            Some(row) => Some(row.hits),
-            None => None,
-        }
+        Some(self.rows.as_slice().get(range as usize)?.hits)
     }
 
     /// How many program counters were in no range.

@@ -88,11 +88,7 @@ pub fn place_in(ranges: &[MapRange], order: &[RangeStart], pc: u64) -> Option<Pl
     requires ordered { IsOrder (map range_text ranges.now) order.now }
     ensures { IsPlaceOf (map range_text ranges.now) pc result }
 {
-    match range_of(ranges, order, pc) {
-        Some(range) => {
-            let bucket = bucket_of(&ranges[range], pc);
-            Some(Place { range, bucket })
-        }
-        None => None,
-    }
+    let range = range_of(ranges, order, pc)?;
+    let bucket = bucket_of(&ranges[range], pc);
+    Some(Place { range, bucket })
 }

@@ -3,7 +3,7 @@
 ghost use Rattle.std.specs.Prelude.{◌≡◌};
 ghost use Rattle.csv.specs.Records.{fields_of};
 ghost use Rattle.profil_hist.specs.Lines as Lines;
-ghost use Rattle.profil_hist.specs.Lines.{line_of, row_line};
+ghost use Rattle.profil_hist.specs.Lines.{line_of, line_or_bad, row_line};
 ghost use Rattle.table_rows.specs.Texts as Texts;
 ghost use Rattle.profil_hist.specs.declared.limits.TheConstants.{MOST_BUCKETS, MOST_BUCKET_ADDRESSES};
 
@@ -38,19 +38,13 @@ fn address_in(text: &[u8]) -> Option<u64>
 fn width_in(text: &[u8]) -> Option<u32>
     ensures { result ≡ Texts.decimal_in 1 MOST_BUCKET_ADDRESSES text.now }
 {
-    match decimal_in(1, MOST_BUCKET_ADDRESSES as u64, text) {
-        Some(n) => Some(n as u32),
-        None => None,
-    }
+    Some(decimal_in(1, MOST_BUCKET_ADDRESSES as u64, text)? as u32)
 }
 
 fn buckets_in(text: &[u8]) -> Option<u32>
     ensures { result ≡ Texts.decimal_in 1 MOST_BUCKETS text.now }
 {
-    match decimal_in(1, MOST_BUCKETS as u64, text) {
-        Some(n) => Some(n as u32),
-        None => None,
-    }
+    Some(decimal_in(1, MOST_BUCKETS as u64, text)? as u32)
 }
 
 // Whether a range that starts here and has n addresses, one or more, ends at 2^64 or below.
@@ -61,30 +55,22 @@ fn fits(start: u64, width: u32, buckets: u32) -> bool
     span == 0 || span - 1 <= u64::MAX - start
 }
 
-fn range_row<'r>(name: &'r [u8], start: &[u8], width: &[u8], buckets: &[u8]) -> Row<'r>
-    ensures { row_line result ≡ Lines.range_line name.now start.now width.now buckets.now }
+fn range_row<'r>(name: &'r [u8], start: &[u8], width: &[u8], buckets: &[u8]) -> Option<Row<'r>>
+    ensures { line_or_bad result ≡ Lines.range_line name.now start.now width.now buckets.now }
 {
-    let Some(start) = address_in(start) else {
-        return Row::Bad;
-    };
-    let Some(width) = width_in(width) else {
-        return Row::Bad;
-    };
-    let Some(buckets) = buckets_in(buckets) else {
-        return Row::Bad;
-    };
+    let start = address_in(start)?;
+    let width = width_in(width)?;
+    let buckets = buckets_in(buckets)?;
     if !fits(start, width, buckets) {
-        return Row::Bad;
+        return None;
     }
-    match name_text(name) {
-        Some(name) => Row::Range {
-            name,
-            start,
-            width,
-            buckets,
-        },
-        None => Row::Bad,
-    }
+    let name = name_text(name)?;
+    Some(Row::Range {
+        name,
+        start,
+        width,
+        buckets,
+    })
 }
 
 /// What a record says, by itself.
@@ -102,7 +88,8 @@ pub fn row_of(row: &ByteRecord) -> Row<'_>
             text_at(row, 2),
             text_at(row, 3),
             text_at(row, 4),
-        );
+        )
+        .unwrap_or(Row::Bad);
     }
     Row::Bad
 }

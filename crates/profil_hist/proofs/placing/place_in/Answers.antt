@@ -14,5 +14,5 @@ bucket_of-bucket-requires-clause-wide c = grind (arith, elements)
 pub bucket_of-bucket-requires-clause-inside : goal.bucket_of-bucket-requires-clause-inside
 bucket_of-bucket-requires-clause-inside c = grind (arith, elements)
 
-pub returns-in-Some : goal.returns-in-Some
-returns-in-Some c = grind (arith, elements)
+pub returns : goal.returns
+returns c = grind (arith, elements)

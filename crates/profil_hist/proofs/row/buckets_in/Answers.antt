@@ -5,5 +5,5 @@ use Rattle.profil_hist.proofs.row.buckets_in.Goals as goal
 
 pub overflow_cast-result : goal.overflow_cast-result
 overflow_cast-result c =
-    let r = decimal_in-range 1 MOST_BUCKETS c.args.text.now c.in-Some.n (sym c.decimal_in.ensures ∙ c.in-Some.is) in
+    let r = decimal_in-range 1 MOST_BUCKETS c.args.text.now c.in_ok-decimal_in.field-0 (sym c.decimal_in.ensures ∙ c.in_ok-decimal_in.was) in
     omega (arith, r.1)
