@@ -28,12 +28,12 @@ pub record Made (book : Book) (first now : CoreView) (made : List Call) (given :
   pub taken : now.taken ≡ first.taken
   pub last : now.last ≡ first.last
 
-pub none_made : (book : Book) (k : CoreView) → Made book k k [] []
-none_made book k = record { account = λ a h. h; replies = λ a h. refl; shape = refl; taken = refl; last = refl }
+pub none_made : {book : Book} {k : CoreView} → Made book k k [] []
+none_made = record { account = λ a h. h; replies = λ a h. refl; shape = refl; taken = refl; last = refl }
 
 -- a call before them
-pub made_before : (book : Book) (k l m : CoreView) (c : Call) (r : Reply) (made : List Call) (given : List Reply) → Follows book k l c r → Made book l m made given → Made book k m (c ∷ made) (r ∷ given)
-made_before book k l m c r made given f rest = record {
+pub made_before : {book : Book} {k l m : CoreView} {c : Call} {r : Reply} {made : List Call} {given : List Reply} → Follows book k l c r → Made book l m made given → Made book k m (c ∷ made) (r ∷ given)
+made_before {book} {k} {l} {m} {c} {r} {made} {given} f rest = record {
   account = λ a h. subst (λ (s : Widths). CoreStands book m (account_after book s (step book k.shape a c).account made)) f.shape (rest.account (step book k.shape a c).account (f.account a h));
   replies = λ a h. ap₂ (λ (x : Reply) (xs : List Reply). x ∷ xs) (sym (f.reply a h))
       (subst (λ (s : Widths). replies_to book s (step book k.shape a c).account made ≡ given) f.shape (rest.replies (step book k.shape a c).account (f.account a h)));
@@ -55,29 +55,6 @@ among_replies book k l made rest given r m there a h = subst (λ (rs : List Repl
 -- if each reply has PAPI_OK
 pub all_done : (replies given : List Reply) → replies ≡ given → AllByRecursion (λ (r : Reply). r.code ≡ code.Ok) given → All (λ (r : Reply). r.code ≡ code.Ok) replies
 all_done replies given e h = subst (All (λ (r : Reply). r.code ≡ code.Ok)) (sym e) (All-from_recursion (λ (r : Reply). r.code ≡ code.Ok) given h)
-
-module _ (book : Book) (k l m : CoreView) (n : Native) (r₁ r₂ : Reply) where
-  pub two_made : Follows book k l call.Create r₁ → Follows book l m (call.Add 0 (Ok (event.Native n))) r₂ → Made book k m (call.Create ∷ call.Add 0 (Ok (event.Native n)) ∷ []) (r₁ ∷ r₂ ∷ [])
-  two_made create add =
-      made_before book k l m call.Create r₁ (call.Add 0 (Ok (event.Native n)) ∷ []) (r₂ ∷ []) create
-      (made_before book l m m (call.Add 0 (Ok (event.Native n))) r₂ [] [] add (none_made book m))
-
-module _ (book : Book) (k l m o : CoreView) (n : Native) (t : ℕ) (r₁ r₂ r₃ : Reply) where
-  pub three_made : Follows book k l call.Create r₁ → Follows book l m (call.Add 0 (Ok (event.Native n))) r₂ → Follows book m o (call.Overflow 0 (Ok (event.Native n)) t) r₃
-      → Made book k o (call.Create ∷ call.Add 0 (Ok (event.Native n)) ∷ call.Overflow 0 (Ok (event.Native n)) t ∷ []) (r₁ ∷ r₂ ∷ r₃ ∷ [])
-  three_made create add overflow =
-      made_before book k l o call.Create r₁ (call.Add 0 (Ok (event.Native n)) ∷ call.Overflow 0 (Ok (event.Native n)) t ∷ []) (r₂ ∷ r₃ ∷ []) create
-      (made_before book l m o (call.Add 0 (Ok (event.Native n))) r₂ (call.Overflow 0 (Ok (event.Native n)) t ∷ []) (r₃ ∷ []) add
-      (made_before book m o o (call.Overflow 0 (Ok (event.Native n)) t) r₃ [] [] overflow (none_made book o)))
-
-module _ (book : Book) (k l m o p : CoreView) (n : Native) (t : ℕ) (r₁ r₂ r₃ r₄ : Reply) where
-  pub all_made : Follows book k l call.Create r₁ → Follows book l m (call.Add 0 (Ok (event.Native n))) r₂ → Follows book m o (call.Overflow 0 (Ok (event.Native n)) t) r₃ → Follows book o p (call.Start 0) r₄
-      → Made book k p (calls n t) (r₁ ∷ r₂ ∷ r₃ ∷ r₄ ∷ [])
-  all_made create add overflow start =
-      made_before book k l p call.Create r₁ (call.Add 0 (Ok (event.Native n)) ∷ call.Overflow 0 (Ok (event.Native n)) t ∷ call.Start 0 ∷ []) (r₂ ∷ r₃ ∷ r₄ ∷ []) create
-      (made_before book l m p (call.Add 0 (Ok (event.Native n))) r₂ (call.Overflow 0 (Ok (event.Native n)) t ∷ call.Start 0 ∷ []) (r₃ ∷ r₄ ∷ []) add
-      (made_before book m o p (call.Overflow 0 (Ok (event.Native n)) t) r₃ (call.Start 0 ∷ []) (r₄ ∷ []) overflow
-      (made_before book o p p (call.Start 0) r₄ [] [] start (none_made book p))))
 
 -- the code of a reply that gives something of its own
 pub reply_ok : {X : Type 0} (f : X → Body) (r : Result X Code) → is_ok r ≡ true → (reply_of f r).code ≡ code.Ok
