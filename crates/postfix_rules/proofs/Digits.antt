@@ -3,6 +3,7 @@ use Rattle.std.proofs.Common.{◌≡◌, ◌<◌, ◌≤◌, ◌^◌, ℕ, Some,
 use Rattle.std.proofs.lemmas.Bool.{le-ltb}
 use Rattle.std.specs.Prelude.{if◌then◌else◌}
 use Rattle.std.specs.Str.Parse.{digits_value}
+use Rattle.papi_base.proofs.Steps.{is_given, not_given}
 use Rattle.papi_base.specs.Numerals.{is_numeral}
 use Rattle.postfix_rules.specs.declared.fault.FormulaCause.TheVariants as cause
 use Rattle.postfix_rules.specs.Faults.{token_cause}
@@ -11,19 +12,11 @@ use Rattle.table_rows.specs.Texts.{Text}
 
 -- a number that needs more than 64 bits
 pub wide : (n : ℕ) → None ≡ (if nat_lt n (2 ^ 64) then Some n else None) → 2 ^ 64 ≤ n
-wide n e = go (nat_lt n (2 ^ 64)) refl e
-  where
-    go : (b : Bool) → nat_lt n (2 ^ 64) ≡ b → None ≡ (if b then Some n else None) → 2 ^ 64 ≤ n
-    go true p q = cc q
-    go false p q = grind (arith, tests, p)
+wide n e = let p = not_given (nat_lt n (2 ^ 64)) n e in grind (arith, tests, p)
 
 -- a number that 64 bits hold
 pub held : (n i : ℕ) → Some i ≡ (if nat_lt n (2 ^ 64) then Some n else None) → i ≡ n
-held n i e = go (nat_lt n (2 ^ 64)) e
-  where
-    go : (b : Bool) → Some i ≡ (if b then Some n else None) → i ≡ n
-    go true q = cc q
-    go false q = cc q
+held n i e = (is_given (nat_lt n (2 ^ 64)) n i e).1
 
 pub constant-large : (t : Text) (natives height : ℕ) → 2 ^ 63 ≤ digits_value 10 t → token_cause natives height (constant_part t) ≡ Some cause.ConstantTooLarge
 unfolding token_cause

@@ -1,8 +1,9 @@
 -- The places of a stack that the value of a tree needs.
 use Rattle.std.proofs.Common.{◌≡◌, ◌∙◌, ◌+◌, ◌<◌, ◌≤◌, ◌^◌, ◌∷◌, ◌++◌, ℕ, Bool, true, false, List, [], Some, None, map, refl, sym, ap, subst, arith, tests, ◌-◌, append_assoc, append-nil, nat_le}
 use Rattle.std.specs.Prelude.{if◌then◌else◌}
-use Rattle.std.proofs.lemmas.Bool.{le-ltb, lt-ltb}
+use Rattle.std.proofs.lemmas.Bool.{cond_both, le-ltb, lt-ltb}
 use Rattle.std.proofs.lemmas.List.{map-append}
+use Rattle.postfix_rules.specs.declared.fault.FormulaCause.TheVariants as cause
 use Rattle.postfix_rules.specs.declared.token.Operator.{Operator}
 use Rattle.postfix_rules.specs.declared.token.Token.{Token}
 use Rattle.postfix_rules.specs.declared.token.Token.TheVariants as token
@@ -14,11 +15,7 @@ use Rattle.postfix_rules.proofs.Spelled.{clear-first, constant-ok, native-ok}
 use Rattle.postfix_rules.proofs.SoFar.{fault-next}
 
 free-place : (h : ℕ) → h + 1 ≤ 16 → operand_cause h ≡ None
-free-place h le = go (nat_le 16 h) refl
-  where
-    go : (b : Bool) → nat_le 16 h ≡ b → operand_cause h ≡ None
-    go true e = absurd (grind (arith, tests, e))
-    go false e = rw e refl
+free-place h le = cond_both (nat_le 16 h) (Some cause.TooDeep) None (λ o. o ≡ None) (λ e. absurd (grind (arith, tests, e))) (λ e. refl)
 
 free-constant : (natives h n : ℕ) → n < 2 ^ 63 → h + 1 ≤ 16 → token_cause natives h (Some (token.Constant n)) ≡ None
 unfolding token_cause
@@ -39,11 +36,10 @@ record Greater (a b c : ℕ) : Type 0 where
   least : (m : ℕ) → a ≤ m → b ≤ m → c ≤ m
 
 greater : (x y : ℕ) → Greater x (1 + y) (if nat_le (1 + y) x then x else 1 + y)
-greater x y = go (nat_le (1 + y) x) refl
-  where
-    go : (b : Bool) → nat_le (1 + y) x ≡ b → Greater x (1 + y) (if b then x else 1 + y)
-    go true e = let le : 1 + y ≤ x = grind (arith, tests, e) in record { first = omega arith; second = le; least = λ m p q. p }
-    go false e = let le : x ≤ 1 + y = grind (arith, tests, e) in record { first = le; second = omega arith; least = λ m p q. q }
+greater x y =
+    cond_both (nat_le (1 + y) x) x (1 + y) (Greater x (1 + y))
+    (λ e. let le : 1 + y ≤ x = grind (arith, tests, e) in record { first = omega arith; second = le; least = λ m p q. p })
+    (λ e. let le : x ≤ 1 + y = grind (arith, tests, e) in record { first = le; second = omega arith; least = λ m p q. q })
 
 node-parts : (x y : List Token) (o : Operator) (rest : List Part) → map Some (x ++ (y ++ (token.Operator o ∷ []))) ++ rest ≡ map Some x ++ (map Some y ++ (Some (token.Operator o) ∷ rest))
 node-parts x y o rest =

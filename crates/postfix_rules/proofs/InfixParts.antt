@@ -2,7 +2,7 @@
 use Rattle.std.proofs.Common.{◌≡◌, ◌∙◌, ◌<◌, ◌≤◌, ◌+◌, ◌^◌, ◌∷◌, ℕ, suc, Bool, true, false, List, [], Some, None, cond, length, take, drop, refl, sym, ap, subst, arith}
 use Rattle.std.specs.Prelude.{◌&&◌, ◌||◌, ◌==◌, not, nat_lt, slice_index, if◌then◌else◌}
 use Rattle.std.specs.List.{list_all, prefix_len, take_while}
-use Rattle.std.proofs.lemmas.Bool.{eq-eqb, eqb-true, ne_eqb, and_from, and_left, and_right}
+use Rattle.std.proofs.lemmas.Bool.{and_from, and_left, and_right, cond_both, eq-eqb, eqb-true, ne_eqb}
 use Rattle.std.proofs.lemmas.List.Sums.{take_while-cons}
 use Rattle.std.proofs.lemmas.List.{drop_all, drop_more}
 use Rattle.papi_base.specs.Numerals.{is_digit, is_empty, is_numeral}
@@ -101,11 +101,10 @@ inside-digits (b ∷ rest) = go (is_digit b) refl (inside-digits rest)
 
 all-digits : (text : Text) → list_all is_digit (take_while is_digit text) ≡ true
 all-digits [] = refl
-all-digits (b ∷ rest) = ap (list_all is_digit) (take_while-cons is_digit b rest) ∙ go (is_digit b) refl (all-digits rest)
-  where
-    go : (d : Bool) → is_digit b ≡ d → list_all is_digit (take_while is_digit rest) ≡ true → list_all is_digit (cond d (b ∷ take_while is_digit rest) []) ≡ true
-    go true e h = and_from (is_digit b) (list_all is_digit (take_while is_digit rest)) e h
-    go false e h = refl
+all-digits (b ∷ rest) =
+    ap (list_all is_digit) (take_while-cons is_digit b rest)
+    ∙ cond_both (is_digit b) (b ∷ take_while is_digit rest) [] (λ (t : Text). list_all is_digit t ≡ true)
+    (λ e. and_from (is_digit b) (list_all is_digit (take_while is_digit rest)) e (all-digits rest)) (λ e. refl)
 
 filled : (text : Text) → 0 < length text → is_empty text ≡ false
 filled [] lt = absurd (omega arith)

@@ -14,6 +14,7 @@ use Rattle.postfix_rules.specs.Infix.{Written, Number, Native, Inside, tree_of, 
 use Rattle.postfix_rules.specs.InfixFaults.{begins_factor, infix_cause, open_after, place_of_operand}
 use Rattle.postfix_rules.specs.InfixReading.{OrderView, operator_tokens, order_cause, order_moved}
 use Rattle.postfix_rules.specs.Trees.{spelling}
+use Rattle.postfix_rules.proofs.Spelled.{kept_if}
 use Rattle.postfix_rules.proofs.InfixStates.{Frame, Held, IsFine, State, by, done, frame, held, held_tokens, held_words, joined, joined-sum, joined-term}
 use Rattle.postfix_rules.proofs.InfixStates.{joined-tokens, joined-words, order_of, outer_tokens, outer_words, state_words, stepped, waits, wants}
 
@@ -97,24 +98,15 @@ pub record Moves (natives : ℕ) (s : State) (t : InfixToken) : Type 0 where
   pub depth : open_after (length (order_of s).outer) (Some t) ≡ length (order_of (stepped s t)).outer
 
 operand-free : (b : Bool) → place_of_operand b ≡ None → b ≡ true
-operand-free true e = refl
-operand-free false e = cc e
+operand-free b e = (kept_if b None cause.OperandsLeft e).0
 
 small-number : (natives n : ℕ) (must : Bool) (depth : ℕ) → infix_cause natives must depth (Some (sign.Token (token.Constant n))) ≡ None → (n < 2 ^ 63) × (must ≡ true)
 unfolding infix_cause
-small-number natives n must depth e = go (nat_lt n (2 ^ 63)) refl e
-  where
-    go : (b : Bool) → nat_lt n (2 ^ 63) ≡ b → (if b then place_of_operand must else Some cause.ConstantTooLarge) ≡ None → (n < 2 ^ 63) × (must ≡ true)
-    go true p q = (ltb-true n (2 ^ 63) p, operand-free must q)
-    go false p q = cc q
+small-number natives n must depth e = let k = kept_if (nat_lt n (2 ^ 63)) (place_of_operand must) cause.ConstantTooLarge e in (ltb-true n (2 ^ 63) k.0, operand-free must k.1)
 
 small-native : (natives i : ℕ) (must : Bool) (depth : ℕ) → infix_cause natives must depth (Some (sign.Token (token.Native i))) ≡ None → (i < natives) × (must ≡ true)
 unfolding infix_cause
-small-native natives i must depth e = go (nat_lt i natives) refl e
-  where
-    go : (b : Bool) → nat_lt i natives ≡ b → (if b then place_of_operand must else Some cause.NativeRange) ≡ None → (i < natives) × (must ≡ true)
-    go true p q = (ltb-true i natives p, operand-free must q)
-    go false p q = cc q
+small-native natives i must depth e = let k = kept_if (nat_lt i natives) (place_of_operand must) cause.NativeRange e in (ltb-true i natives k.0, operand-free must k.1)
 
 after-operand : (natives : ℕ) (o : Operator) (depth : ℕ) → infix_cause natives true depth (Some (sign.Token (token.Operator o))) ≡ None → ⊥
 unfolding infix_cause

@@ -1,7 +1,9 @@
 -- Tokens without a fault spell one tree.
 use Rattle.std.proofs.Common.{◌≡◌, ◌∙◌, ◌+◌, ◌-◌, ◌<◌, ◌≤◌, ◌^◌, ◌∷◌, ℕ, Bool, true, false, List, [], Option, Some, None, length, map, refl, sym, arith, tests, nat_lt, nat_le}
+use Rattle.std.proofs.lemmas.Bool.{ltb-true}
 use Rattle.std.specs.Prelude.{if◌then◌else◌}
 use Rattle.std.specs.Option.{option_map_or}
+use Rattle.papi_base.proofs.Steps.{passed_over}
 use Rattle.postfix_rules.specs.declared.fault.FormulaCause.{FormulaCause}
 use Rattle.postfix_rules.specs.declared.fault.FormulaCause.TheVariants as cause
 use Rattle.postfix_rules.specs.declared.token.Operator.{Operator}
@@ -12,37 +14,26 @@ use Rattle.postfix_rules.specs.Faults.{Part, end_cause, fault_from, height_after
 use Rattle.postfix_rules.specs.Laws.{FormulasSpell}
 use Rattle.postfix_rules.proofs.Piles.{one-made}
 
+-- a test passes if the cause is what is left of it
+pub kept_if : {X : Type 0} (b : Bool) (o : Option X) (x : X) → (if b then o else Some x) ≡ None → (b ≡ true) × (o ≡ None)
+kept_if true o x e = (refl, e)
+kept_if false o x e = cc e
+
 -- an operand finds a free place
 pub room : (height : ℕ) → operand_cause height ≡ None → height + 1 ≤ 16
-room height e = go (nat_le 16 height) refl e
-  where
-    go : (b : Bool) → nat_le 16 height ≡ b → (if b then Some cause.TooDeep else None) ≡ None → height + 1 ≤ 16
-    go true t h = cc h
-    go false t h = grind (arith, tests)
+room height e = let t = (passed_over (nat_le 16 height) cause.TooDeep None e).0 in grind (arith, tests, t)
 
 pub constant-ok : (natives h n : ℕ) → token_cause natives h (Some (token.Constant n)) ≡ None → (n < 2 ^ 63) × (h + 1 ≤ 16)
 unfolding token_cause
-constant-ok natives h n e = go (nat_lt n (2 ^ 63)) refl e
-  where
-    go : (b : Bool) → nat_lt n (2 ^ 63) ≡ b → (if b then operand_cause h else Some cause.ConstantTooLarge) ≡ None → (n < 2 ^ 63) × (h + 1 ≤ 16)
-    go true p q = (grind (arith, tests, p), room h q)
-    go false p q = cc q
+constant-ok natives h n e = let k = kept_if (nat_lt n (2 ^ 63)) (operand_cause h) cause.ConstantTooLarge e in (ltb-true n (2 ^ 63) k.0, room h k.1)
 
 pub native-ok : (natives h i : ℕ) → token_cause natives h (Some (token.Native i)) ≡ None → (i < natives) × (h + 1 ≤ 16)
 unfolding token_cause
-native-ok natives h i e = go (nat_lt i natives) refl e
-  where
-    go : (b : Bool) → nat_lt i natives ≡ b → (if b then operand_cause h else Some cause.NativeRange) ≡ None → (i < natives) × (h + 1 ≤ 16)
-    go true p q = (grind (arith, tests, p), room h q)
-    go false p q = cc q
+native-ok natives h i e = let k = kept_if (nat_lt i natives) (operand_cause h) cause.NativeRange e in (ltb-true i natives k.0, room h k.1)
 
 pub operator-ok : (natives h : ℕ) (o : Operator) → token_cause natives h (Some (token.Operator o)) ≡ None → 2 ≤ h
 unfolding token_cause
-operator-ok natives h o e = go (nat_lt h 2) refl e
-  where
-    go : (b : Bool) → nat_lt h 2 ≡ b → (if b then Some cause.OperandMissing else None) ≡ None → 2 ≤ h
-    go true p q = cc q
-    go false p q = grind (arith, tests, p)
+operator-ok natives h o e = let p = (passed_over (nat_lt h 2) cause.OperandMissing None e).0 in grind (arith, tests, p)
 
 -- a token without a cause leaves a pile of at most 16
 pub few-after : (natives h : ℕ) (t : Token) → h ≤ 16 → token_cause natives h (Some t) ≡ None → height_after h (Some t) ≤ 16
@@ -52,12 +43,10 @@ few-after natives h (token.Operator o) few e = omega (arith, few)
 
 pub one-tree : (height : ℕ) → end_cause height ≡ None → height ≡ 1
 unfolding end_cause
-one-tree height e = go (nat_lt height 1) (nat_lt height 2) refl refl e
-  where
-    go : (b c : Bool) → nat_lt height 1 ≡ b → nat_lt height 2 ≡ c → (if b then Some cause.OperandMissing else if c then None else Some cause.OperandsLeft) ≡ None → height ≡ 1
-    go true c p q h = cc h
-    go false true p q h = grind (arith, tests)
-    go false false p q h = cc h
+one-tree height e =
+    let p = passed_over (nat_lt height 1) cause.OperandMissing _ e in
+    let q = (kept_if (nat_lt height 2) None cause.OperandsLeft p.1).0 in
+    grind (arith, tests, p.0, q)
 
 -- a part without a cause, and no fault after it
 pub record Clear (natives place height : ℕ) (part : Part) (rest : List Part) : Type 0 where

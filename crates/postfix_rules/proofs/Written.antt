@@ -1,5 +1,6 @@
 -- The written text of a formula.
 use Rattle.std.proofs.Common.{◌≡◌, ◌∙◌, ◌+◌, ◌<◌, ◌≤◌, ◌^◌, ◌∷◌, ◌++◌, ℕ, Bool, true, false, List, [], length, map, refl, ap, ap₂, arith, tests, nat_eq, nat_le, decimal, Some, None, length-append}
+use Rattle.std.proofs.lemmas.List.Folds.{list_all-append}
 use Rattle.std.specs.Prelude.{⊤, ◌&&◌}
 use Rattle.std.specs.List.{AllByRecursion, list_all, slice_split}
 use Rattle.std.specs.Str.Parse.{digits_value}
@@ -123,13 +124,7 @@ token-bytes (token.Operator op.Plus) h = refl
 token-bytes t h = refl
 
 bytes-append : (a b : Text) → list_all is_formula_byte a ≡ true → list_all is_formula_byte b ≡ true → list_all is_formula_byte (a ++ b) ≡ true
-bytes-append [] b h k = k
-bytes-append (x ∷ a) b h k = go (is_formula_byte x) refl h (λ q. bytes-append a b q k)
-  where
-    go : (c : Bool) → is_formula_byte x ≡ c → (c && list_all is_formula_byte a) ≡ true → (list_all is_formula_byte a ≡ true → list_all is_formula_byte (a ++ b) ≡ true)
-        → (is_formula_byte x && list_all is_formula_byte (a ++ b)) ≡ true
-    go true e q more = rw e (more q)
-    go false e q more = cc q
+bytes-append a b h k = list_all-append is_formula_byte a b ∙ and_from (list_all is_formula_byte a) (list_all is_formula_byte b) h k
 
 tokens-bytes : (tokens : List Token) → AllByRecursion IsWritten tokens → list_all is_formula_byte (formula_text tokens) ≡ true
 unfolding formula_text
