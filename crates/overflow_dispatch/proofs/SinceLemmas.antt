@@ -1,5 +1,5 @@
 -- Lists from a place on, one place more at a time.
-use Rattle.std.proofs.Common.{◌≡◌, ◌≤◌, ◌+◌, ℕ, zero, suc, List, [], ◌∷◌, ◌++◌, length, drop, map, refl, ap, sym, subst, ◌∙◌, arith, append_assoc, append-nil, Some, None, slice_get}
+use Rattle.std.proofs.Common.{◌≡◌, ◌≤◌, ◌+◌, ℕ, zero, suc, List, [], ◌∷◌, ◌++◌, length, drop, map, refl, ap, sym, subst, ◌∙◌, arith, append_assoc, Some, None, slice_get}
 use Rattle.std.proofs.Math.Seq.{drop-append_seam}
 use Rattle.std.proofs.lemmas.Option.{slice_get-map}
 use Rattle.std.specs.Option.{option_map}
@@ -23,9 +23,6 @@ pub none_more : {X : Type 0} (done told : List X) (i : ℕ) → slice_get told i
 none_more done told i e =
     let past = none_past told i e in
     ap (λ xs. done ++ xs) (drop_all (i + 1) told (omega (arith, past)) ∙ sym (drop_all i told past))
-
-pub all_done : {X : Type 0} (done told : List X) (i : ℕ) → length told ≤ i → done ≡ done ++ drop i told
-all_done done told i h = sym (ap (λ xs. done ++ xs) (drop_all i told h) ∙ append-nil done)
 
 pub one_list_more : {X : Type 0} (told : X → List Note) (done all : List Note) (counts : List ℕ) (xs : List X) (i k : ℕ) (x : X) → slice_get counts i ≡ Some k
     → slice_get xs i ≡ Some x → done ++ told_since (drop i counts) (drop i (map told xs)) ≡ all

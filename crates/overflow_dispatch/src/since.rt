@@ -69,6 +69,7 @@ pub fn notes_since(
 }
 
 /// What was told since is what was given, if each handler has the notes of its place appended.
+#[tactic(auto, using(crate::proofs::SinceLemmas::added_is_told))]
 pub fn notes_laws()
     ensures { AddedIsTold }
 {}

@@ -1,5 +1,5 @@
-use Rattle.std.proofs.Common.{arith, sym, ◌∙◌}
-use Rattle.overflow_dispatch.proofs.SinceLemmas.{all_done, none_more, one_more}
+use Rattle.std.proofs.Common.{sym, ◌∙◌}
+use Rattle.overflow_dispatch.proofs.SinceLemmas.{none_more, one_more}
 use Rattle.overflow_dispatch.proofs.since.add_from.Goals as goal
 use Rattle.overflow_dispatch.proofs.since.add_from.Goals.{in-Some+in_ok-push, in_default}
 
@@ -13,9 +13,3 @@ loop-i-preserved g c =
       | in_default w ↦
           rw w.all-is (none_more c.loop-i.all.items told c.loop-i.i (sym c.note_of.ensures ∙ w.in_default.is) ∙ c.loop-i.invariant)
     ]
-
-pub returns : goal.returns
-returns g c =
-    let handler = c.args.handler.now in
-    let told = (goal.Handler-dyn g (handler.vtable, handler.value)).notes handler.value in
-    all_done c.loop-i.all.items told c.loop-i.i (omega (arith, c.count_of-i-end.ensures, c.loop-i-test.false)) ∙ c.loop-i.invariant

@@ -1,4 +1,3 @@
-use Rattle.std.proofs.lemmas.Grind.{elements}
 use Rattle.std.proofs.Common.{List, ℕ, slice_get, ap, sym, ◌∙◌, arith}
 use Rattle.std.proofs.lemmas.Nat.Bits.{shr_and_one}
 use Rattle.overflow_dispatch.proofs.Places.{found, not_found, passed_none, passed_one}
@@ -24,6 +23,3 @@ loop-index-preserved c =
 
 pub returns : goal.returns
 returns c = not_found c.self.inside.bits c.args.i c.loop-index.place c.loop-index.index (omega arith) c.loop-index.invariant ∙ ap (λ (places : List ℕ). slice_get places c.args.i) c.self.view_is
-
-pub loop-index-init : goal.loop-index-init
-loop-index-init c = grind (arith, elements)
