@@ -5,12 +5,6 @@ use Rattle.parallel_tasks.specs.Cut.{GivesEachOne, busy, unevenness}
 use Rattle.parallel_tasks.proofs.cut.cut.Goals.{then-count-most+then-uneven-least, else-count-most, else-count-most-via-then-count-most+else-uneven-least, else-count-most-via-else-count-most}
 use Rattle.parallel_tasks.proofs.cut.cut.Goals as goal
 
-pub overflow_add-front : goal.overflow_add-front
-overflow_add-front g c = grind (arith, common_steps)
-
-pub overflow_mul-from-in-loop-place : goal.overflow_mul-from-in-loop-place
-overflow_mul-from-in-loop-place g c = grind (arith, common_steps)
-
 pub loop-place-preserved : goal.loop-place-preserved
 loop-place-preserved g c =
     let load = g.T.Task.load in
