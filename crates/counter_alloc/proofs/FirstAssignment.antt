@@ -5,7 +5,7 @@ use Rattle.counter_alloc.proofs.Sets.{has_below}
 use Rattle.std.proofs.lemmas.Bool.{cases_eq, cases_lt}
 use Rattle.std.proofs.lemmas.Nat.Bits.{bit_at-pow_same, bit_at-pow_other}
 use Rattle.std.proofs.Math.Pow.{pow-lt}
-use Rattle.counter_alloc.specs.Assignments.{Has, IsAssignment, Assignable, IsLeast, IsLeastDeficient}
+use Rattle.counter_alloc.specs.Assignments.{Has, IsAssignment, Assignable, IsLeastDeficient}
 use Rattle.counter_alloc.specs.Settling.{Settles}
 use Rattle.counter_alloc.specs.Masks.{AreMasks}
 use Rattle.counter_alloc.proofs.Hall.{deficient_not_assignable}
@@ -36,9 +36,6 @@ assigned_alone allowed chosen place c place_in is assigned =
 pub record Tried (first allowed : List ℕ) (place counter : ℕ) : Type 0 where
   pub others : (mask : ℕ) → set allowed place mask ≡ set first place mask
   pub none : (c : ℕ) → c < counter → Has (get_or first place 0) c → Assignable (set first place (2 ^ c)) → ⊥
-
-pub tried_none : (first : List ℕ) (place : ℕ) → Tried first first place 0
-tried_none first place = record { others = λ mask. refl; none = λ c below. absurd (omega arith) }
 
 module _ (first allowed : List ℕ) (place counter : ℕ) (tried : Tried first allowed place counter) where
   pub tried_skip : (Has (get_or first place 0) counter → ⊥) → Tried first allowed place (counter + 1)
@@ -104,30 +101,6 @@ pub record Settled (first allowed chosen : List ℕ) (place : ℕ) : Type 0 wher
   pub was_allowed : (i : ℕ) → i < place → Has (get_or first i 0) (get_or chosen i 0)
   pub lowest : (other : List ℕ) → IsAssignment first other → (k : ℕ) → k < place
       → ((i : ℕ) → i < k → get_or chosen i 0 ≡ get_or other i 0) → get_or chosen k 0 ≤ get_or other k 0
-
-pub settled_none : (allowed chosen : List ℕ) → IsAssignment allowed chosen → Settled allowed allowed chosen 0
-settled_none allowed chosen assigned = record {
-  assigned = assigned;
-  same_length = refl;
-  rest = λ i h. refl;
-  fixed = λ i h. absurd (omega arith);
-  was_allowed = λ i h. absurd (omega arith);
-  lowest = λ other is k below. absurd (omega arith);
-}
-
-pub settled_all : (first allowed chosen : List ℕ) (place : ℕ) → length first ≤ place → Settled first allowed chosen place → IsLeast first chosen
-settled_all first allowed chosen place past settled =
-    let same = settled.same_length in
-    let assigned = settled.assigned in
-    let one = assigned.one_each in
-    record {
-      is_assignment = record {
-        one_each = omega arith;
-        is_allowed = λ i below. settled.was_allowed i (omega arith);
-        distinct = λ i j i_in j_in. assigned.distinct i j (omega arith) (omega arith);
-      };
-      comes_first = λ other is k below. settled.lowest other is k (omega arith);
-    }
 
 module _ (first allowed chosen after later : List ℕ) (place : ℕ) (within : place < length first) (settled : Settled first allowed chosen place)
     (settles : Settles allowed after later place) where
