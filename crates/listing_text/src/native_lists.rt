@@ -82,32 +82,6 @@ fn push_event(
     push_umasks(text, umasks, event.masks.as_slice())
 }
 
-// Appends the events of a component that are listed, and gives their number.
-fn push_events(
-    text: &mut String,
-    component: &Component,
-    selection: &Selection,
-) -> Result<usize, AllocError>
-    ensures text { OnOk result (string_bytes text.new ≡ string_bytes text.old
-        ++ NativeLists.listed_lines (option_copied selection.now.included)
-        (option_copied selection.now.excluded)
-        selection.now.umasks (component_text component.now)) }
-    ensures count { IfOk result (λ count.
-        count ≡ length (NativeLists.listed_events (option_copied selection.now.included)
-        (option_copied selection.now.excluded)
-        (component_text component.now))) }
-{
-    let mut listed = 0;
-    for event in component.events.as_slice() {
-        let name = format!(in *text.allocator(); "{}::{}", component.pmu, event.name)?;
-        if is_chosen(name.as_str(), selection) {
-            push_event(text, name.as_str(), event, selection.umasks)?;
-            listed += 1;
-        }
-    }
-    Ok(listed)
-}
-
 // Appends a component with its events that are listed, and gives their number.
 fn push_component(
     text: &mut String,
@@ -126,7 +100,15 @@ fn push_component(
     let counters = component.counters.len();
     let Component { name, pmu, .. } = component;
     writeln!(text, "Component {name}: pmu {pmu}, {counters} counters")?;
-    push_events(text, component, selection)
+    let mut listed = 0;
+    for event in component.events.as_slice() {
+        let name = format!(in *text.allocator(); "{pmu}::{}", event.name)?;
+        if is_chosen(name.as_str(), selection) {
+            push_event(text, name.as_str(), event, selection.umasks)?;
+            listed += 1;
+        }
+    }
+    Ok(listed)
 }
 
 // Appends the components with their events that are listed, and gives the number of these.

@@ -5,8 +5,8 @@ use Rattle.event_tables.specs.declared.component.EventRow.{EventRow}
 use Rattle.listing_text.specs.Lines.{Text}
 use Rattle.listing_text.specs.NativeLists.{full_name, is_chosen, named_lines}
 use Rattle.listing_text.proofs.ListedEvents.{none_listed, one_listed}
-use Rattle.listing_text.proofs.native_lists.push_events.Goals as goal
-use Rattle.listing_text.proofs.native_lists.push_events.Goals.{then-is_chosen+in_ok-push_event, else-is_chosen}
+use Rattle.listing_text.proofs.native_lists.push_component.Goals as goal
+use Rattle.listing_text.proofs.native_lists.push_component.Goals.{then-is_chosen+in_ok-push_event, else-is_chosen}
 
 pub loop-event-preserved : goal.loop-event-preserved
 loop-event-preserved c =
