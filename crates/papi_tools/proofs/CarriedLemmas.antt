@@ -6,10 +6,9 @@ use Rattle.overflow_dispatch.specs.declared.handler.Note.{Note}
 use Rattle.overflow_dispatch.specs.Notes.{EachGrown}
 use Rattle.tool_words.specs.Form.{form}
 use Rattle.papi_tools.specs.Carried.{CarriesOut, CarriesOutAndTells, CarriesOutOver}
-use Rattle.papi_tools.specs.Causes.{SaysNo, Shows}
+use Rattle.papi_tools.specs.Looking.{FilesSeen, SaysNo, Shows, SinkSeen}
 use Rattle.papi_tools.specs.Openings.{ForSome, Openings}
 use Rattle.papi_tools.specs.Saying.{HasSinkCause, IsJudged, Says, SaysAll}
-use Rattle.papi_tools.specs.Seen.{FilesSeen, SinkSeen}
 use Rattle.papi_tools.specs.Status.{status_of}
 use Rattle.papi_tools.specs.Verdict.{IsSettledAs, verdict, verdict_for}
 use Rattle.papi_tools.specs.declared.said.Said.{Said}
@@ -22,28 +21,20 @@ use Rattle.papi_tools.proofs.TellingLemmas.{all_told, none_begun, none_grown}
 
 -- a no may be said, and a failed read shows in the counts
 may_by : (MaySayNo : Type 0) (before after : ℕ) (o : Outcome) → status.No ≡ status_of o → Shows MaySayNo before after o → MaySayNo
-may_by MaySayNo before after outcome.Whole e h = cc
 may_by MaySayNo before after outcome.No e h = h
-may_by MaySayNo before after outcome.Refused e h = cc
-may_by MaySayNo before after outcome.ReadFault e h = cc
+may_by MaySayNo before after other e h = cc
 
 rose_by : (MaySayNo : Type 0) (before after : ℕ) (o : Outcome) → status.ReadFault ≡ status_of o → Shows MaySayNo before after o → Rose before after
-rose_by MaySayNo before after outcome.Whole e h = cc
-rose_by MaySayNo before after outcome.No e h = cc
-rose_by MaySayNo before after outcome.Refused e h = cc
 rose_by MaySayNo before after outcome.ReadFault e h = h
+rose_by MaySayNo before after other e h = cc
 
 stay : (out out' err err' : ℕ) → out' ≡ out → err' ≡ err → (out < out') ⊎ (err < err') → ⊥
 stay out out' err err' o e (inl r) = omega arith
 stay out out' err err' o e (inr r) = omega arith
 
 rises_by : (s : Status) (out out' err err' : ℕ) → HasSinkCause s out out' err err' → (out < out') ⊎ (err < err') → s ≡ status.WriteFault
-rises_by status.Whole out out' err err' h r = absurd (stay out out' err err' h.0 h.1 r)
-rises_by status.No out out' err err' h r = absurd (stay out out' err err' h.0 h.1 r)
-rises_by status.Refused out out' err err' h r = absurd (stay out out' err err' h.0 h.1 r)
-rises_by status.ReadFault out out' err err' h r = absurd (stay out out' err err' h.0 h.1 r)
-rises_by status.Memory out out' err err' h r = absurd (stay out out' err err' h.0 h.1 r)
 rises_by status.WriteFault out out' err err' h r = refl
+rises_by other out out' err err' h r = absurd (stay out out' err err' h.0 h.1 r)
 
 -- a count that is the next one rose
 next_rose : (old new : ℕ) → new ≡ next_count old → Rose old new
@@ -54,20 +45,14 @@ neither out out' err err' no_o no_e (inl h) = no_o (next_rose out out' h.0)
 neither out out' err err' no_o no_e (inr h) = no_e (next_rose err err' h.1)
 
 judged : (s : Status) (f f' out out' err err' : ℕ) → (s ≡ status.ReadFault → Rose f f') → HasSinkCause s out out' err err' → ¬ (Rose f f') → ¬ (Rose out out') → ¬ (Rose err err') → IsJudged s
-judged status.Whole f f' out out' err err' r h no_f no_o no_e = tt
-judged status.No f f' out out' err err' r h no_f no_o no_e = tt
-judged status.Refused f f' out out' err err' r h no_f no_o no_e = tt
-judged status.Memory f f' out out' err err' r h no_f no_o no_e = tt
 judged status.ReadFault f f' out out' err err' r h no_f no_o no_e = absurd (no_f (r refl))
 judged status.WriteFault f f' out out' err err' r h no_f no_o no_e = absurd (neither out out' err err' no_o no_e h)
+judged other f f' out out' err err' r h no_f no_o no_e = tt
 
 all_said : (s : Status) (said : Said) (o o' e e' : Option (List ℕ)) (f f' g g' : ℕ) → Says s said o o' e e' → HasSinkCause s f f' g g' → ¬ (Rose f f') → ¬ (Rose g g') → SaysAll s said o o' e e'
-all_said status.Whole said o o' e e' f f' g g' h c no_o no_e = inl h
-all_said status.No said o o' e e' f f' g g' h c no_o no_e = inl h
-all_said status.Refused said o o' e e' f f' g g' h c no_o no_e = inl h
-all_said status.ReadFault said o o' e e' f f' g g' h c no_o no_e = inl h
 all_said status.Memory said o o' e e' f f' g g' h c no_o no_e = inr refl
 all_said status.WriteFault said o o' e e' f f' g g' h c no_o no_e = absurd (neither f f' g g' no_o no_e c)
+all_said other said o o' e e' f f' g g' h c no_o no_e = inl h
 
 -- what the words come to has been said, whole or up to where it ended, and handlers have been told their notes
 pub carried_out : {E : Type 0} (words : List (List ℕ)) (s : Status) (files files' : FilesSeen) (out out' err err' : SinkSeen) (before after : List (List Note)) (said : Said) →

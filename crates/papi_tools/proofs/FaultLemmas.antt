@@ -26,23 +26,12 @@ there : (l : ReplyLine) (ls : List ReplyLine) → SomeFault ls → SomeFault (l 
 there l ls (k, x, small, is, h) = (suc k, x, omega arith, is, h)
 
 ended_fault : (e : Ended) → met_by e ≡ Some Fault → e ≡ Fault
-ended_fault Going h = cc
-ended_fault (Bad line cause) h = cc
 ended_fault Fault h = refl
+ended_fault other h = cc
 
 met_fault : (b : Body) → met_in b ≡ Some Fault → IsFaultBody b
 met_fault (body.Ran r) h = ended_fault r.ended h
-met_fault body.Nothing h = cc
-met_fault (body.SetNumber n) h = cc
-met_fault (body.Values v) h = cc
-met_fault (body.State n) h = cc
-met_fault (body.Events e) h = cc
-met_fault (body.Assigned a) h = cc
-met_fault (body.Clash c) h = cc
-met_fault (body.Register n) h = cc
-met_fault (body.EventCode n) h = cc
-met_fault (body.EventName e) h = cc
-met_fault (body.Threads n) h = cc
+met_fault other h = cc
 
 by_first : (l : ReplyLine) (ls : List ReplyLine) (m rest : Option Ended) → met_in l.reply.body ≡ m → first_met m rest ≡ Some Fault → (rest ≡ Some Fault → SomeFault ls) → SomeFault (l ∷ ls)
 by_first l ls None rest is e later = there l ls (later e)
@@ -60,10 +49,8 @@ fault_of_thread [] t e = cc
 fault_of_thread (l ∷ ls) t e = by_thread l ls t (l.thread == t) refl e (fault_of_thread ls t)
 
 is_fault-some : (m : Option Ended) → is_fault m ≡ true → m ≡ Some Fault
-is_fault-some None e = cc
-is_fault-some (Some Going) e = cc
-is_fault-some (Some (Bad line cause)) e = cc
 is_fault-some (Some Fault) e = refl
+is_fault-some other e = cc
 
 fault_among : (lines : List ReplyLine) → list_any is_fault (marks_in lines) ≡ true → SomeFault lines
 unfolding marks_in mark_at

@@ -5,9 +5,7 @@ use Rattle.papi_base.specs.Outside as Outside
 use Rattle.papi_base.specs.Outside.{AnswersOpening, Tape, Held, fails_next, tape_of}
 use Rattle.papi_base.specs.declared.outside.OpenFail.{OpenFail}
 use Rattle.papi_base.specs.declared.outside.OpenFail.TheVariants as open_fail
-use Rattle.papi_tools.specs.Answers.{Answers}
-use Rattle.papi_tools.specs.Openings.{Absent, ByName, CanGive, CanOpen, Ends, Failing, First, ForSome, Is, Leads, Open, Openings, Stops, found, opened, tape_under}
-use Rattle.papi_tools.specs.Steps.{and_then}
+use Rattle.papi_tools.specs.Openings.{Absent, Answers, ByName, CanGive, CanOpen, Ends, Failing, First, ForSome, Is, Leads, Open, Openings, Stops, and_then, found, opened, tape_under}
 use Rattle.papi_tools.specs.declared.refusal.Refusal.{Refusal}
 use Rattle.papi_tools.specs.declared.refusal.Refusal.TheVariants.{NoSuchFile, CannotRead}
 use Rattle.papi_tools.specs.declared.refusal.Stop.{Stop}
@@ -131,10 +129,7 @@ refused stop.Memory gives before one =
     let (o, can) = some_openings before in
     (o, can, tt)
 
--- a tool's last step that opens a file
-pub answers_of : {C : Type 0} (answer : Result C Stop) (gives : Openings → Result C Refusal) (rest : Openings → Openings) (before after : Option Held) → Leads Is answer gives rest before after → ForSome before (λ o. Answers answer (gives o))
-answers_of (Ok value) gives rest before after one =
-    let (later, can) = some_openings after in
-    let (o, o_can, (gave, r)) = one value refl later can in
-    (o, o_can, gave)
-answers_of (Err s) gives rest before after one = refused s gives before one
+-- also the first of several steps
+pub refused_first : {A C : Type 0} (answer : Result C Stop) (s : Stop) (gives : Openings → Result A Refusal) (next : Openings → A → Result C Refusal) (before : Option Held) → answer ≡ Err s →
+    Stops s gives before → ForSome before (λ o. Answers answer (and_then (gives o) (next o)))
+refused_first answer s gives next before same one = rw same (refused s (λ o. and_then (gives o) (next o)) before (failed s gives next before one))

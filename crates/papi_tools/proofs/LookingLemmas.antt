@@ -1,10 +1,9 @@
 -- What is looked at after a step that ends the call.
 use Rattle.std.proofs.Common.{◌≤◌, ℕ, Err, inl}
 use Rattle.papi_base.specs.Outside.{Rose}
-use Rattle.papi_tools.specs.Looking.{HasFileCause, Looked, StopsByFile}
-use Rattle.papi_tools.specs.Seen.{FilesSeen}
+use Rattle.papi_tools.specs.Looking.{FilesSeen, HasFileCause, Looked, StopsByFile}
 use Rattle.papi_tools.specs.declared.refusal.Refusal.{Refusal}
-use Rattle.papi_tools.specs.declared.refusal.Refusal.TheVariants.{BadWords, NoSuchFile, CannotRead, TooLarge, Row, PresetRow, MapRow, Line, RegionLine}
+use Rattle.papi_tools.specs.declared.refusal.Refusal.TheVariants.{NoSuchFile, CannotRead}
 use Rattle.papi_tools.specs.declared.refusal.Stop.{Stop}
 use Rattle.papi_tools.specs.declared.refusal.Stop.TheVariants.{Refused, Memory}
 use Rattle.papi_tools.proofs.StreamLemmas.{by_either}
@@ -16,15 +15,9 @@ rose_then m n k h a b = by_either {A = Rose m n} {B = Rose n k} m n k (inl h) (�
 -- what ended the call did so also if more is looked at
 caused_then : (refusal : Refusal) (before mid after : FilesSeen) → HasFileCause before mid refusal → before.misses ≤ mid.misses → before.faults ≤ mid.faults → mid.misses ≤ after.misses → mid.faults ≤ after.faults
     → HasFileCause before after refusal
-caused_then BadWords before mid after h a b c d = h
 caused_then (NoSuchFile name) before mid after h a b c d = rose_then before.misses mid.misses after.misses h a c
 caused_then (CannotRead name) before mid after h a b c d = rose_then before.faults mid.faults after.faults h b d
-caused_then (TooLarge name) before mid after h a b c d = h
-caused_then (Row name row cause) before mid after h a b c d = h
-caused_then (PresetRow name row cause) before mid after h a b c d = h
-caused_then (MapRow name row cause) before mid after h a b c d = h
-caused_then (Line name line cause) before mid after h a b c d = h
-caused_then (RegionLine name line cause) before mid after h a b c d = h
+caused_then other before mid after h a b c d = h
 
 pub stopped_then : {A : Type 0} (s : Stop) (out : ℕ) (before mid after : FilesSeen) → Looked {A = A} (Err s) out before mid → mid.misses ≤ after.misses → mid.faults ≤ after.faults → StopsByFile {A = A} (Err s) before after
 stopped_then (Refused refusal) out before mid after h c d = caused_then refusal before mid after h.cause h.misses_stay h.faults_stay c d

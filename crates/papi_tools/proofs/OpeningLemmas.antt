@@ -7,9 +7,7 @@ use Rattle.plan_runner.specs.Runs.{CanEachCome}
 use Rattle.stream_reader.specs.Occurs.{occurs_of}
 use Rattle.stream_reader.specs.Reader.{ReaderView, SourceView, comes, new_view, tape_of}
 use Rattle.thread_session.specs.Prospects.{CanCome}
-use Rattle.papi_tools.specs.Opening.{tapes_under}
-use Rattle.papi_tools.specs.Openings.{CanGive, CanOpen, Ends, ForSome, Leads, Openings, Stops, opened, tape_under}
-use Rattle.papi_tools.specs.Steps.{and_then}
+use Rattle.papi_tools.specs.Openings.{CanGive, CanOpen, Ends, ForSome, Leads, Openings, Stops, and_then, opened, tape_under, tapes_under}
 use Rattle.papi_tools.specs.Streams.{CanEachGive, IsUnread, empty_stream, stream_of, streams_of, streams_under}
 use Rattle.papi_tools.specs.declared.refusal.Refusal.{Refusal}
 use Rattle.papi_tools.specs.declared.refusal.Stop.{Stop}

@@ -13,7 +13,7 @@ use Rattle.plan_runner.specs.Marks.{marks_in}
 use Rattle.profil_hist.specs.Histograms.{HistText, IsHistogram}
 use Rattle.profil_hist.specs.Ranges.{RangeText}
 use Rattle.tool_words.specs.declared.profil.ProfilWords.{ProfilWords}
-use Rattle.papi_tools.specs.Answers.{Answers}
+use Rattle.papi_tools.specs.Openings.{Answers}
 use Rattle.papi_tools.specs.Profiling.{counted_in, is_counted, profile_said, profiled_verdict}
 use Rattle.papi_tools.specs.Running.{GivenRun, note_counts, ran_notes, ran_replies}
 use Rattle.papi_tools.specs.Verdict.{AnswersSaid}

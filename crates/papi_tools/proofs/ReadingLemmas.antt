@@ -7,9 +7,7 @@ use Rattle.papi_base.specs.declared.outside.Ending.TheVariants.{End, Fault}
 use Rattle.papi_base.specs.Whole.{AnswersWhole}
 use Rattle.papi_base.specs.declared.whole.WholeFault.{WholeFault}
 use Rattle.papi_base.specs.declared.whole.WholeFault.TheVariants as whole
-use Rattle.papi_tools.specs.Answers.{Answers}
-use Rattle.papi_tools.specs.Opening.{bytes_of, bytes_until, file_bytes}
-use Rattle.papi_tools.specs.Openings.{CanGive, Is, Leads, opened, tape_under}
+use Rattle.papi_tools.specs.Openings.{Answers, CanGive, Is, Leads, bytes_of, bytes_until, file_bytes, opened, tape_under}
 use Rattle.papi_tools.specs.declared.refusal.Refusal.TheVariants.{CannotRead, TooLarge}
 use Rattle.papi_tools.specs.declared.refusal.Stop.{Stop}
 use Rattle.papi_tools.specs.declared.refusal.Stop.TheVariants as stop

@@ -26,13 +26,13 @@ use Rattle.script_lines.specs.declared.script.ScriptLine.{ScriptLine}
 use Rattle.session_model.specs.declared.reply.Ended.{Ended}
 use Rattle.stream_reader.specs.Reader.{ReaderView}
 use Rattle.tool_words.specs.EventList as Words
-use Rattle.papi_tools.specs.Answers.{Answers, IsExpected}
+use Rattle.papi_tools.specs.Openings.{Answers, IsExpected}
 use Rattle.papi_tools.specs.Contents.{lines_unless, regions_in}
 use Rattle.papi_tools.specs.Marks.{marked_said}
 use Rattle.papi_tools.specs.RegionCounts.{GivenRegions, calls_of, counted_said, readings_in, regions_said, said_with, values_in}
 use Rattle.papi_tools.specs.Running.{CanBeGivenRun, GivenRun, ran_replies}
 use Rattle.papi_tools.specs.Texts.{text_said}
-use Rattle.papi_tools.specs.declared.refusal.Refusal.TheVariants as refusal
+use Rattle.papi_tools.specs.declared.refusal.FileCause.TheVariants as cause
 use Rattle.papi_tools.specs.declared.refusal.Stop.{Stop}
 use Rattle.papi_tools.specs.declared.refusal.Stop.TheVariants as stop
 use Rattle.papi_tools.specs.declared.said.Said.{Said}
@@ -118,6 +118,6 @@ out_of_memory stop.Memory x y h = tt
 pub begun_of : ScriptsAreBegun → (lines : List RegionLine) → (name bytes : List ℕ) × (regions_in name bytes ≡ Ok lines) → AreBegun lines
 begun_of law lines (name, bytes, is) = by_lines (regions_of bytes) refl is
   where
-    by_lines : (read : Result (List RegionLine) (Refused RegionCause)) → regions_of bytes ≡ read → lines_unless refusal.RegionLine name read ≡ Ok lines → AreBegun lines
+    by_lines : (read : Result (List RegionLine) (Refused RegionCause)) → regions_of bytes ≡ read → lines_unless cause.RegionLine name read ≡ Ok lines → AreBegun lines
     by_lines (Ok some) e h = let same : some ≡ lines = cc h in law bytes lines (e ∙ ap Ok same)
     by_lines (Err refused) e h = absurd cc

@@ -22,8 +22,8 @@ use Rattle.plan_runner.specs.Plans.{IsPlanOf}
 use Rattle.plan_runner.specs.Runs.{AllKept, IsPlannedAndTold, IsPlannedFrom, reply_lines}
 use Rattle.plan_runner.proofs.Worlds.{some-streams}
 use Rattle.script_runner.specs.Resolving.{lines_of, reply_lines_of, setting_of}
-use Rattle.papi_tools.specs.Answers.{Answers}
-use Rattle.papi_tools.specs.Causes.{Shows}
+use Rattle.papi_tools.specs.Openings.{Answers}
+use Rattle.papi_tools.specs.Looking.{Shows}
 use Rattle.papi_tools.specs.Marks.{marked_said, outcome_at}
 use Rattle.papi_tools.specs.Run.{ran_verdict, run_said, shown_notes}
 use Rattle.papi_tools.specs.Running.{CanBeGivenRun, GivenOf, GivenRun, IsGivenRun, note_counts, ran_notes, ran_replies, told_in}
@@ -33,7 +33,7 @@ use Rattle.papi_tools.specs.declared.refusal.Stop.{Stop}
 use Rattle.papi_tools.specs.declared.refusal.Stop.TheVariants as stop
 use Rattle.papi_tools.specs.declared.said.Said.{Said}
 use Rattle.papi_tools.specs.declared.status.Outcome.{Outcome}
-use Rattle.papi_tools.specs.declared.status.Outcome.TheVariants.{Whole, No, Refused, ReadFault}
+use Rattle.papi_tools.specs.declared.status.Outcome.TheVariants.{No, ReadFault}
 use Rattle.papi_tools.proofs.FaultLemmas.{SomeFault, fault_replied, never_no}
 use Rattle.papi_tools.proofs.StreamLemmas.{sources_in-append}
 use Rattle.papi_tools.proofs.StepLemmas.{says_same}
@@ -159,10 +159,9 @@ said_told told handlers after given catalog wanted lines marks counts answer n k
 -- what runs met shows in how a call ends
 shows_met : (MaySayNo : Type 0) (lines : List ReplyLine) (marks : List (Option Ended)) (before after : ℕ) → marks ≡ marks_in lines →
     (SomeFault lines → Rose before after) → (o : Outcome) → outcome_at marks ≡ o → Shows MaySayNo before after o
-shows_met MaySayNo lines marks before after m h Whole e = tt
 shows_met MaySayNo lines marks before after m h No e = absurd (never_no marks e)
-shows_met MaySayNo lines marks before after m h Refused e = tt
 shows_met MaySayNo lines marks before after m h ReadFault e = h (fault_replied lines (rw m at e))
+shows_met MaySayNo lines marks before after m h other e = tt
 
 pub run_shows : (MaySayNo : Type 0) (lines : List ReplyLine) (marks : List (Option Ended)) (text : List ℕ) (before after : ℕ) (answer : Result Said Stop) → Answers answer (Ok (marked_said marks text)) →
     marks ≡ marks_in lines → (SomeFault lines → Rose before after) → IfOk answer (λ said. Shows MaySayNo before after said.outcome)
@@ -172,10 +171,8 @@ run_shows MaySayNo lines marks text before after (Ok said) e m h =
 run_shows MaySayNo lines marks text before after (Err s) e m h = tt
 
 later : (MaySayNo : Type 0) (before between after : ℕ) (o : Outcome) → before ≤ between → between ≤ after → Shows MaySayNo between after o → Shows MaySayNo before after o
-later MaySayNo before between after Whole small big h = tt
-later MaySayNo before between after No small big h = h
-later MaySayNo before between after Refused small big h = tt
 later MaySayNo before between after ReadFault small big h = let r : Rose between after = h in grind arith
+later MaySayNo before between after other small big h = h
 
 -- also if more was looked at before
 pub shows_later : (MaySayNo : Type 0) (before between after : ℕ) (answer : Result Said Stop) → before ≤ between → between ≤ after → IfOk answer (λ said. Shows MaySayNo between after said.outcome) →

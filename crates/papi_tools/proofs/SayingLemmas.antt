@@ -5,7 +5,7 @@ use Rattle.papi_base.specs.Outside.{appended}
 use Rattle.papi_tools.specs.Status.{status_of}
 use Rattle.papi_tools.specs.Saying.{Wrote, WroteAll, Says, HasSinkCause}
 use Rattle.papi_tools.specs.declared.status.Outcome.{Outcome}
-use Rattle.papi_tools.specs.declared.status.Outcome.TheVariants.{Whole, No, Refused, ReadFault}
+use Rattle.papi_tools.specs.declared.status.Outcome.TheVariants.{Whole}
 use Rattle.papi_tools.specs.declared.said.Said.{Said}
 
 -- the whole output and a prefix of the lines
@@ -21,15 +21,11 @@ out_whole said out out' err err' o (k, small, e) =
 
 by_outcome : (outcome : Outcome) (said : Said) (out out' err err' : Option (List ℕ)) → outcome ≡ said.outcome → WroteAll said out out' err err' → Says (status_of outcome) said out out' err err'
 by_outcome Whole said out out' err err' e w = (ap status_of e, w)
-by_outcome No said out out' err err' e w = (ap status_of e, w)
-by_outcome Refused said out out' err err' e w = (ap status_of e, w)
-by_outcome ReadFault said out out' err err' e w = (ap status_of e, w)
+by_outcome other said out out' err err' e w = (ap status_of e, w)
 
 pub all_said : (said : Said) (out out' err err' : Option (List ℕ)) → WroteAll said out out' err err' → Says (status_of said.outcome) said out out' err err'
 all_said said out out' err err' w = by_outcome said.outcome said out out' err err' refl w
 
 pub no_fault : (outcome : Outcome) (out out' err err' : ℕ) → out' ≡ out → err' ≡ err → HasSinkCause (status_of outcome) out out' err err'
 no_fault Whole out out' err err' o e = (o, e)
-no_fault No out out' err err' o e = (o, e)
-no_fault Refused out out' err err' o e = (o, e)
-no_fault ReadFault out out' err err' o e = (o, e)
+no_fault other out out' err err' o e = (o, e)

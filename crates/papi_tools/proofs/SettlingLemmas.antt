@@ -4,15 +4,12 @@ use Rattle.papi_base.specs.Outside.{Held}
 use Rattle.overflow_dispatch.specs.declared.handler.Note.{Note}
 use Rattle.overflow_dispatch.specs.Notes.{EachBegun}
 use Rattle.tool_words.specs.declared.command.Command.{Command}
-use Rattle.papi_tools.specs.Looking.{HasFileCause, Looked, StopsByFile}
+use Rattle.papi_tools.specs.Looking.{FilesSeen, HasFileCause, IsTextual, Looked, SaysNo, Shows, StopsByFile}
 use Rattle.papi_tools.specs.ErrorLines.{outcome_of}
-use Rattle.papi_tools.specs.Openings.{ForSome, Openings}
-use Rattle.papi_tools.specs.Seen.{FilesSeen}
-use Rattle.papi_tools.specs.Causes.{IsTextual, SaysNo, Shows}
-use Rattle.papi_tools.specs.Steps.{Verdict}
+use Rattle.papi_tools.specs.Openings.{ForSome, Openings, Verdict}
 use Rattle.papi_tools.specs.Verdict.{ComesTo, IsSettled, IsSettledAs, TellsBy, command_verdict, ended, notes_in, refused_said, verdict_for}
 use Rattle.papi_tools.specs.declared.refusal.Refusal.{Refusal}
-use Rattle.papi_tools.specs.declared.refusal.Refusal.TheVariants.{BadWords, NoSuchFile, CannotRead, TooLarge, Row, PresetRow, MapRow, Line, RegionLine}
+use Rattle.papi_tools.specs.declared.refusal.Refusal.TheVariants.{BadWords, NoSuchFile, CannotRead, TooLarge, Faulty}
 use Rattle.papi_tools.specs.declared.refusal.Stop.{Stop}
 use Rattle.papi_tools.specs.declared.refusal.Stop.TheVariants as stop
 use Rattle.papi_tools.specs.declared.said.Said.{Said}
@@ -81,28 +78,19 @@ starved_as held expected files files' lists error =
 
 -- ---- its cause
 
-by_text : (MaySayNo : Type 0) (before after : ℕ) (o : Outcome) → IsTextual o → (o ≡ outcome.No → MaySayNo) → Shows MaySayNo before after o
-by_text MaySayNo before after outcome.Whole h may = tt
-by_text MaySayNo before after outcome.No h may = may refl
-by_text MaySayNo before after outcome.Refused h may = tt
-by_text MaySayNo before after outcome.ReadFault h may = absurd h
+by_text : (MaySayNo : Type 0) (before after : ℕ) (o : Outcome) → IsTextual MaySayNo o → Shows MaySayNo before after o
+by_text MaySayNo before after outcome.No h = h
+by_text MaySayNo before after outcome.ReadFault h = absurd h
+by_text MaySayNo before after other h = tt
 
 -- a text has no other cause than its own
-pub text_shows : (MaySayNo : Type 0) (answer : Result Said Stop) (before after : ℕ) → IfOk answer (λ said. IsTextual said.outcome) → IfOk answer (λ said. said.outcome ≡ outcome.No → MaySayNo) →
-    IfOk answer (λ said. Shows MaySayNo before after said.outcome)
-text_shows MaySayNo (Ok said) before after h may = by_text MaySayNo before after said.outcome h may
-text_shows MaySayNo (Err stop) before after h may = tt
+pub text_shows : (MaySayNo : Type 0) (answer : Result Said Stop) (before after : ℕ) → IfOk answer (λ said. IsTextual MaySayNo said.outcome) → IfOk answer (λ said. Shows MaySayNo before after said.outcome)
+text_shows MaySayNo (Ok said) before after h = by_text MaySayNo before after said.outcome h
+text_shows MaySayNo (Err stop) before after h = tt
 
 by_refusal : (MaySayNo : Type 0) (before after : FilesSeen) (refusal : Refusal) → HasFileCause before after refusal → Shows MaySayNo before.faults after.faults (outcome_of refusal)
-by_refusal MaySayNo before after BadWords h = tt
-by_refusal MaySayNo before after (NoSuchFile name) h = tt
 by_refusal MaySayNo before after (CannotRead name) h = h
-by_refusal MaySayNo before after (TooLarge name) h = tt
-by_refusal MaySayNo before after (Row name row cause) h = tt
-by_refusal MaySayNo before after (PresetRow name row cause) h = tt
-by_refusal MaySayNo before after (MapRow name row cause) h = tt
-by_refusal MaySayNo before after (Line name line cause) h = tt
-by_refusal MaySayNo before after (RegionLine name line cause) h = tt
+by_refusal MaySayNo before after other h = tt
 
 -- what is said by steps has its cause
 settled_by_steps : {E : Type 0} (MaySayNo : Type 0) (answer : Result Said Stop) (result : Result Said E) (before after : FilesSeen) → IfOk answer (λ said. Shows MaySayNo before.faults after.faults said.outcome) → StopsByFile answer before after →

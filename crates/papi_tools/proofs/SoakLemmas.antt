@@ -13,10 +13,9 @@ use Rattle.script_lines.specs.declared.script.ScriptLine.{ScriptLine}
 use Rattle.plan_runner.specs.declared.result.ReplyLine.{ReplyLine}
 use Rattle.soak_input.specs.declared.summary.ThreadTotal.{ThreadTotal}
 use Rattle.tool_words.specs.declared.soak.SoakWords.{SoakWords}
-use Rattle.papi_tools.specs.Answers.{Answers, AnswersBy}
+use Rattle.papi_tools.specs.Openings.{Answers, AnswersBy, and_then}
 use Rattle.papi_tools.specs.Running.{GivenRun, IsGivenRun, note_counts, ran_notes, ran_replies}
 use Rattle.papi_tools.specs.Soaking.{soak_given, soak_tape, soak_tapes, soak_verdict, soaked, stop_values, summary_said, thread_total, thread_totals, total_between, totals_between}
-use Rattle.papi_tools.specs.Steps.{and_then}
 use Rattle.papi_tools.specs.Streams.{empty_stream, stream_of, streams_of}
 use Rattle.papi_tools.specs.Verdict.{AnswersSaid, ComesTo, notes_in}
 use Rattle.papi_tools.specs.declared.refusal.Refusal.{Refusal}

@@ -1,33 +1,45 @@
 -- A tool whose verdict is made of what its steps gave: what is said and told is what is expected.
-use Rattle.std.proofs.Common.{◌≡◌, ◌∙◌, List, [], Option, Result, Ok, Err, refl}
+use Rattle.std.proofs.Common.{◌≡◌, ◌∙◌, ℕ, List, [], Option, IfOk, Result, Ok, Err, refl}
 use Rattle.overflow_dispatch.specs.declared.handler.Note.{Note}
 use Rattle.overflow_dispatch.specs.Notes.{EachAdded}
 use Rattle.papi_base.specs.Outside.{Held}
-use Rattle.papi_tools.specs.Answers.{Answers}
-use Rattle.papi_tools.specs.Openings.{Ends, ForSome, Is, Leads, Openings, Stops}
-use Rattle.papi_tools.specs.Steps.{Verdict, and_then, quiet}
-use Rattle.papi_tools.specs.Verdict.{AnswersSaid, ComesTo, TellsBy, notes_in}
+use Rattle.component_table.specs.Catalogs.{CatalogView}
+use Rattle.tool_words.specs.declared.presets.PresetWords.{PresetWords}
+use Rattle.papi_tools.specs.Openings.{Answers, Ends, ForSome, Is, Leads, Openings, Stops, Verdict, and_then, quiet}
+use Rattle.papi_tools.specs.Looking.{Shows}
+use Rattle.papi_tools.specs.Contents.{after_tables, catalog_under}
+use Rattle.papi_tools.specs.Verdict.{AnswersSaid, ComesTo, TellsBy, ToolTells, notes_in}
 use Rattle.papi_tools.specs.declared.refusal.Refusal.{Refusal}
 use Rattle.papi_tools.specs.declared.refusal.Stop.{Stop}
 use Rattle.papi_tools.specs.declared.refusal.Stop.TheVariants as stop
 use Rattle.papi_tools.specs.declared.said.Said.{Said}
 use Rattle.papi_tools.proofs.FindingLemmas.{so_after, so_at_end, some_openings}
-use Rattle.papi_tools.proofs.TellingLemmas.{added_begun, none_added, none_begun}
+use Rattle.papi_tools.proofs.TellingLemmas.{added_begun, none_added, none_begun, none_grown}
 
--- a step that failed ends the call, and nothing is told
-pub stopped : (s : Stop) (gives : Openings → Result Verdict Refusal) (held : Option Held) (lists : List (List Note)) → Stops s gives held → ForSome held (λ o. ComesTo (Err s) (gives o) lists lists)
-stopped (stop.Refused refusal) gives held lists one =
+stops_at : (s : Stop) (gives : Openings → Result Verdict Refusal) (held : Option Held) (lists : List (List Note)) → Stops s gives held → ForSome held (λ o. ComesTo (Err s) (gives o) lists lists)
+stops_at (stop.Refused refusal) gives held lists one =
     let (o, can, gave) = one in
     (o, can, rw gave (record { said = refl; told = none_added lists [] refl }))
-stopped stop.Memory gives held lists one =
+stops_at stop.Memory gives held lists one =
     let (o, can) = some_openings held in
     (o, can, record { said = tt; told = none_begun lists (notes_in (gives o)) })
 
--- what is said and told after a step that gave a value
-pub comes_after : {A : Type 0} (value : A) (answer : Result Said Stop) (gives : Openings → Result A Refusal) (next : A → Openings → Result Verdict Refusal) (rest : Openings → Openings) (held mid : Option Held)
-    (before after : List (List Note)) → Leads Is (Ok value) gives rest held mid → ForSome mid (λ o. ComesTo answer (next value o) before after) →
-    ForSome held (λ o. ComesTo answer (and_then (gives o) (λ v. next v (rest o))) before after)
-comes_after value answer gives next rest held mid before after one two = so_after (λ e. ComesTo answer e before after) value gives next rest held mid one two
+-- a step that failed ends the call, and nothing is told
+pub stopped : (s : Stop) (gives : Openings → Result Verdict Refusal) (held : Option Held) (faults faults' : ℕ) (MaySayNo : Type 0) (lists : List (List Note)) → Stops s gives held → ToolTells held faults faults' (Err s) gives MaySayNo lists lists
+stopped s gives held faults faults' MaySayNo lists one = record { ran = stops_at s gives held lists one; grown = none_grown lists; shows = tt }
+
+-- what is told after a step that gave a value
+pub tells_after : {A : Type 0} (value : A) (answer : Result Said Stop) (gives : Openings → Result A Refusal) (next : A → Openings → Result Verdict Refusal) (rest : Openings → Openings) (held mid : Option Held)
+    (faults faults' : ℕ) (MaySayNo : Type 0) (before after : List (List Note)) → Leads Is (Ok value) gives rest held mid → ToolTells mid faults faults' answer (next value) MaySayNo before after →
+    ToolTells held faults faults' answer (λ o. and_then (gives o) (λ v. next v (rest o))) MaySayNo before after
+tells_after value answer gives next rest held mid faults faults' MaySayNo before after one two =
+    record { ran = so_after (λ e. ComesTo answer e before after) value gives next rest held mid one two.ran; grown = two.grown; shows = two.shows }
+
+-- after the tables
+pub with_catalog : (unit : List ℕ) (presets : Option PresetWords) (catalog : CatalogView) (answer : Result Said Stop) (next : CatalogView → Openings → Result Verdict Refusal) (held mid : Option Held) (faults faults' : ℕ)
+    (MaySayNo : Type 0) (before after : List (List Note)) → Leads Is (Ok catalog) (λ o. catalog_under o unit presets) (after_tables presets) held mid → ToolTells mid faults faults' answer (next catalog) MaySayNo before after →
+    ToolTells held faults faults' answer (λ o. and_then (catalog_under o unit presets) (λ k. next k (after_tables presets o))) MaySayNo before after
+with_catalog unit presets catalog answer next = tells_after catalog answer (λ o. catalog_under o unit presets) next (after_tables presets)
 
 -- and after the last step that opens files
 pub comes_at_end : {I X : Type 0} (CanBe : I → X → Type 0) (input : I) (gives : Openings → Result X Refusal) (verdict : X → Verdict) (held : Option Held) (before after : List (List Note)) (answer : Result Said Stop) →
@@ -59,7 +71,11 @@ no_notes : (expected : Result Said Refusal) → notes_in (quiet expected) ≡ []
 no_notes (Ok said) = refl
 no_notes (Err refusal) = refl
 
-pub quiet_comes : (held : Option Held) (answer : Result Said Stop) (expected : Openings → Result Said Refusal) (lists : List (List Note)) →
+quiet_comes : (held : Option Held) (answer : Result Said Stop) (expected : Openings → Result Said Refusal) (lists : List (List Note)) →
     ForSome held (λ o. Answers answer (expected o)) → ForSome held (λ o. ComesTo answer (quiet (expected o)) lists lists)
 quiet_comes held answer expected lists (o, can, h) =
     (o, can, record { said = by_answer answer (expected o) h; told = tells_all answer (notes_in (quiet (expected o))) lists lists (none_added lists (notes_in (quiet (expected o))) (no_notes (expected o))) })
+
+pub quiet_tells : (held : Option Held) (faults faults' : ℕ) (answer : Result Said Stop) (expected : Openings → Result Said Refusal) (MaySayNo : Type 0) (lists : List (List Note)) → ForSome held (λ o. Answers answer (expected o)) →
+    IfOk answer (λ said. Shows MaySayNo faults faults' said.outcome) → ToolTells held faults faults' answer (λ o. quiet (expected o)) MaySayNo lists lists
+quiet_tells held faults faults' answer expected MaySayNo lists said shows = record { ran = quiet_comes held answer expected lists said; grown = none_grown lists; shows = shows }

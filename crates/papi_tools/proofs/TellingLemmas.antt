@@ -4,11 +4,11 @@ use Rattle.std.proofs.lemmas.List.{take_all}
 use Rattle.overflow_dispatch.specs.declared.handler.Note.{Note}
 use Rattle.overflow_dispatch.specs.Notes.{EachAdded, EachBegun, EachGrown}
 use Rattle.papi_tools.specs.Saying.{TellsNotes}
-use Rattle.papi_tools.specs.Steps.{Verdict}
+use Rattle.papi_tools.specs.Openings.{Verdict}
 use Rattle.papi_tools.specs.Verdict.{ended, notes_in}
 use Rattle.papi_tools.specs.declared.refusal.Refusal.{Refusal}
 use Rattle.papi_tools.specs.declared.status.Status.{Status}
-use Rattle.papi_tools.specs.declared.status.Status.TheVariants.{Whole, No, Refused, ReadFault, Memory, WriteFault}
+use Rattle.papi_tools.specs.declared.status.Status.TheVariants.{Memory}
 
 -- all notes are a prefix of them
 pub added_begun : (before given after : List (List Note)) → EachAdded before given after → EachBegun before given after
@@ -23,12 +23,8 @@ added_begun before given after h = record {
 
 -- all notes are told, whatever was written
 pub all_told : (s : Status) (before given after : List (List Note)) → EachAdded before given after → TellsNotes s given before after
-all_told Whole before given after h = h
-all_told No before given after h = h
-all_told Refused before given after h = h
-all_told ReadFault before given after h = h
 all_told Memory before given after h = added_begun before given after h
-all_told WriteFault before given after h = h
+all_told other before given after h = h
 
 -- the notes of what is expected
 pub same_notes : (expected : Result Verdict Refusal) → notes_in expected ≡ (ended expected).notes

@@ -1,13 +1,13 @@
 -- The contract of a tool: what a call with these words writes, how it ends, and what it tells the handlers.
-use Rattle.std.specs.Prelude.{◌≡◌, ◌≢◌, ◌<◌, ◌⊎◌, ℕ, List, Option, Err}
+use Rattle.std.specs.Prelude.{◌≡◌, ◌≢◌, ◌<◌, ◌⊎◌, ◌∷◌, ℕ, List, Option, String, Err, map, string_bytes}
+use Rattle.std.specs.declared.alloc.Global.{Global}
 use Rattle.papi_base.specs.Outside.{Held, Rose}
 use Rattle.overflow_dispatch.specs.declared.handler.Note.{Note}
 use Rattle.overflow_dispatch.specs.Notes.{EachGrown}
 use Rattle.tool_words.specs.Form.{form}
-use Rattle.papi_tools.specs.Causes.{SaysNo, Shows}
+use Rattle.papi_tools.specs.Looking.{FilesSeen, SaysNo, Shows, SinkSeen, files_seen, sink_seen}
 use Rattle.papi_tools.specs.Openings.{ForSome, Openings}
 use Rattle.papi_tools.specs.Saying.{HasSinkCause, IsJudged, Says, SaysAll, TellsNotes}
-use Rattle.papi_tools.specs.Seen.{FilesSeen, SinkSeen, files_seen, sink_seen}
 use Rattle.papi_tools.specs.Verdict.{verdict, verdict_for}
 use Rattle.papi_tools.specs.declared.refusal.Refusal.TheVariants.{NoSuchFile}
 use Rattle.papi_tools.specs.declared.status.Status.{Status}
@@ -44,14 +44,14 @@ abbrev pub CarriesOutAndTells : List (List ℕ) → Status → FilesSeen → Fil
 CarriesOutAndTells words s files files' out out' err err' before after =
     ForSome files.held (λ openings. CarriesOutOver openings words s files files' out out' err err' × TellsOver openings words s before after)
 
--- The same two, by what types of files and of sinks say of values.
-abbrev pub CarriesOutBy : {F K : Type 0} → (F → Option Held) → (F → ℕ) → (F → ℕ) → (F → ℕ) → (K → Option (List ℕ)) → (K → ℕ) → List (List ℕ) → Status → F → F → K → K → K → K → Type 0
-CarriesOutBy held misses faults lent taken failed words s files files' out out' err err' =
-    CarriesOut words s (files_seen held misses faults lent files) (files_seen held misses faults lent files')
+-- The same two of the tool of this name over the words after it, by what types of files and of sinks say of values.
+abbrev pub CarriesOutBy : {F K : Type 0} → (F → Option Held) → (F → ℕ) → (F → ℕ) → (F → ℕ) → (K → Option (List ℕ)) → (K → ℕ) → Status → List ℕ → List (String Global) → F → F → K → K → K → K → Type 0
+CarriesOutBy held misses faults lent taken failed s tool words files files' out out' err err' =
+    CarriesOut (tool ∷ map string_bytes words) s (files_seen held misses faults lent files) (files_seen held misses faults lent files')
     (sink_seen taken failed out) (sink_seen taken failed out') (sink_seen taken failed err) (sink_seen taken failed err')
 
-abbrev pub CarriesOutAndTellsBy : {F K : Type 0} → (F → Option Held) → (F → ℕ) → (F → ℕ) → (F → ℕ) → (K → Option (List ℕ)) → (K → ℕ) → List (List ℕ) → Status → F → F → K → K → K → K →
+abbrev pub CarriesOutAndTellsBy : {F K : Type 0} → (F → Option Held) → (F → ℕ) → (F → ℕ) → (F → ℕ) → (K → Option (List ℕ)) → (K → ℕ) → Status → List ℕ → List (String Global) → F → F → K → K → K → K →
     List (List Note) → List (List Note) → Type 0
-CarriesOutAndTellsBy held misses faults lent taken failed words s files files' out out' err err' before after =
-    CarriesOutAndTells words s (files_seen held misses faults lent files) (files_seen held misses faults lent files')
+CarriesOutAndTellsBy held misses faults lent taken failed s tool words files files' out out' err err' before after =
+    CarriesOutAndTells (tool ∷ map string_bytes words) s (files_seen held misses faults lent files) (files_seen held misses faults lent files')
     (sink_seen taken failed out) (sink_seen taken failed out') (sink_seen taken failed err) (sink_seen taken failed err') before after

@@ -8,9 +8,8 @@ use Rattle.component_table.specs.Catalogs.{CatalogView}
 use Rattle.tool_words.specs.declared.chooser.ChooserWords.{ChooserWords}
 use Rattle.tool_words.specs.declared.chooser.EventKind.{EventKind}
 use Rattle.tool_words.specs.declared.chooser.EventKind.TheVariants as kind
-use Rattle.papi_tools.specs.Openings.{Openings}
-use Rattle.papi_tools.specs.Steps.{and_then}
-use Rattle.papi_tools.specs.Tables.{catalog_under}
+use Rattle.papi_tools.specs.Openings.{Openings, and_then}
+use Rattle.papi_tools.specs.Contents.{catalog_under}
 use Rattle.papi_tools.specs.Texts.{text_said}
 use Rattle.papi_tools.specs.declared.refusal.Refusal.{Refusal}
 use Rattle.papi_tools.specs.declared.said.Said.{Said}

@@ -5,11 +5,9 @@ use Rattle.event_tables.specs.Tables.{ComponentText}
 use Rattle.tool_words.specs.declared.decode.DecodeWords.{DecodeWords}
 use Rattle.user_events.specs.Events.{ExtendedView}
 use Rattle.user_events.specs.Written.{extended_text}
-use Rattle.papi_tools.specs.Opening.{file_bytes}
+use Rattle.papi_tools.specs.Openings.{Openings, and_then, file_bytes, opened}
 use Rattle.papi_tools.specs.Contents.{presets_of, unit_under}
 use Rattle.papi_tools.specs.declared.limits.TheConstants.{TABLE_BYTES}
-use Rattle.papi_tools.specs.Openings.{Openings, opened}
-use Rattle.papi_tools.specs.Steps.{and_then}
 use Rattle.papi_tools.specs.Texts.{text_said}
 use Rattle.papi_tools.specs.declared.refusal.Refusal.{Refusal}
 use Rattle.papi_tools.specs.declared.said.Said.{Said}

@@ -9,8 +9,7 @@ use Rattle.name_encoder.specs.Canonical.{canonical, code64}
 use Rattle.name_encoder.specs.Names.{names, word_of}
 use Rattle.name_encoder.specs.declared.fault.NameFault.{NameFault}
 use Rattle.tool_words.specs.declared.encode.EncodeWords.{EncodeWords}
-use Rattle.papi_tools.specs.Openings.{Openings}
-use Rattle.papi_tools.specs.Steps.{and_then}
+use Rattle.papi_tools.specs.Openings.{Openings, and_then}
 use Rattle.papi_tools.specs.Texts.{text_said}
 use Rattle.papi_tools.specs.Contents.{unit_under}
 use Rattle.papi_tools.specs.declared.refusal.Refusal.{Refusal}

@@ -1,6 +1,4 @@
-pub mod Answers
 pub mod Carried
-pub mod Causes
 pub mod Choosing
 pub mod Contents
 pub mod Decoding
@@ -9,8 +7,6 @@ pub mod ErrorLines
 pub mod Looking
 pub mod Marks
 pub mod NativeListing
-pub mod NoFiles
-pub mod Opening
 pub mod Openings
 pub mod Outputs
 pub mod PresetListing
@@ -19,24 +15,8 @@ pub mod RegionCounts
 pub mod Run
 pub mod Running
 pub mod Saying
-pub mod Seen
 pub mod Soaking
 pub mod Status
-pub mod Steps
 pub mod Streams
-pub mod Tables
 pub mod Texts
 pub mod Verdict
-pub use Rattle.component_table.specs.Catalogs
-pub use Rattle.event_tables.specs.Unit
-pub use Rattle.name_encoder.specs.Canonical
-pub use Rattle.name_encoder.specs.Names
-pub use Rattle.overflow_dispatch.specs.Notes
-pub use Rattle.papi_base.specs.Outside
-pub use Rattle.papi_base.specs.Streams as PapiStreams
-pub use Rattle.plan_runner.specs.Runs
-pub use Rattle.script_lines.specs.Scripts
-pub use Rattle.script_runner.specs.Replies
-pub use Rattle.script_runner.specs.Resolving
-pub use Rattle.stream_reader.specs.Occurs
-pub use Rattle.tool_words.specs.Form

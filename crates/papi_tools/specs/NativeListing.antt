@@ -6,8 +6,7 @@ use Rattle.listing_text.specs.NativeEvents.{native_event}
 use Rattle.listing_text.specs.NativeLists.{native_list}
 use Rattle.name_encoder.specs.Names.{names}
 use Rattle.tool_words.specs.declared.native_avail.NativeAvailWords.{NativeAvailWords}
-use Rattle.papi_tools.specs.Openings.{Openings}
-use Rattle.papi_tools.specs.Steps.{and_then}
+use Rattle.papi_tools.specs.Openings.{Openings, and_then}
 use Rattle.papi_tools.specs.Texts.{text_said}
 use Rattle.papi_tools.specs.Contents.{unit_under}
 use Rattle.papi_tools.specs.declared.refusal.Refusal.{Refusal}

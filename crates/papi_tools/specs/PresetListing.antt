@@ -4,9 +4,8 @@ use Rattle.component_table.specs.Catalogs.{CatalogView, row_named}
 use Rattle.listing_text.specs.PresetEvents.{preset_event}
 use Rattle.listing_text.specs.PresetLists.{preset_list}
 use Rattle.tool_words.specs.declared.avail.AvailWords.{AvailWords}
-use Rattle.papi_tools.specs.Openings.{Openings}
-use Rattle.papi_tools.specs.Steps.{and_then}
-use Rattle.papi_tools.specs.Tables.{catalog_under}
+use Rattle.papi_tools.specs.Openings.{Openings, and_then}
+use Rattle.papi_tools.specs.Contents.{catalog_under}
 use Rattle.papi_tools.specs.Texts.{text_said}
 use Rattle.papi_tools.specs.declared.refusal.Refusal.{Refusal}
 use Rattle.papi_tools.specs.declared.said.Said.{Said}

@@ -7,12 +7,10 @@ use Rattle.plan_runner.specs.Marks.{marks_in}
 use Rattle.profil_hist.specs.Profiles.{profile_text}
 use Rattle.profil_hist.specs.Ranges.{RangeText}
 use Rattle.tool_words.specs.declared.profil.ProfilWords.{ProfilWords}
-use Rattle.papi_tools.specs.Contents.{map_under, script_under}
+use Rattle.papi_tools.specs.Contents.{after_tables, catalog_under, map_under, script_under}
 use Rattle.papi_tools.specs.Marks.{marked_said}
 use Rattle.papi_tools.specs.Running.{GivenRun, given_of, ran_notes, ran_replies}
-use Rattle.papi_tools.specs.Openings.{Openings, opened}
-use Rattle.papi_tools.specs.Steps.{Verdict, and_then}
-use Rattle.papi_tools.specs.Tables.{after_tables, catalog_under}
+use Rattle.papi_tools.specs.Openings.{Openings, Verdict, and_then, opened}
 use Rattle.papi_tools.specs.declared.refusal.Refusal.{Refusal}
 use Rattle.papi_tools.specs.declared.said.Said.{Said}
 

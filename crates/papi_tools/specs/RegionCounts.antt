@@ -16,11 +16,9 @@ use Rattle.session_model.specs.declared.reply.Body.{Body}
 use Rattle.session_model.specs.declared.reply.Body.TheVariants.{Values}
 use Rattle.tool_words.specs.declared.regions.RegionsWords.{RegionsWords}
 use Rattle.papi_tools.specs.Marks.{marked_said}
-use Rattle.papi_tools.specs.Contents.{regions_under}
+use Rattle.papi_tools.specs.Contents.{after_tables, catalog_under, regions_under}
 use Rattle.papi_tools.specs.Running.{GivenOf, GivenRun, given_of, ran_replies}
-use Rattle.papi_tools.specs.Openings.{Openings}
-use Rattle.papi_tools.specs.Steps.{and_then}
-use Rattle.papi_tools.specs.Tables.{after_tables, catalog_under}
+use Rattle.papi_tools.specs.Openings.{Openings, and_then}
 use Rattle.papi_tools.specs.Texts.{text_said}
 use Rattle.papi_tools.specs.declared.refusal.Refusal.{Refusal}
 use Rattle.papi_tools.specs.declared.said.Said.{Said}

@@ -11,10 +11,8 @@ use Rattle.script_runner.specs.Replies.{notes_text, replies_text}
 use Rattle.tool_words.specs.declared.run.RunWords.{RunWords}
 use Rattle.papi_tools.specs.Marks.{marked_said}
 use Rattle.papi_tools.specs.Running.{GivenRun, given_of, ran_notes, ran_replies}
-use Rattle.papi_tools.specs.Contents.{script_under}
-use Rattle.papi_tools.specs.Openings.{Openings}
-use Rattle.papi_tools.specs.Steps.{Verdict, and_then}
-use Rattle.papi_tools.specs.Tables.{after_tables, catalog_under}
+use Rattle.papi_tools.specs.Contents.{after_tables, catalog_under, script_under}
+use Rattle.papi_tools.specs.Openings.{Openings, Verdict, and_then}
 use Rattle.papi_tools.specs.declared.refusal.Refusal.{Refusal}
 use Rattle.papi_tools.specs.declared.said.Said.{Said}
 

@@ -10,8 +10,7 @@ use Rattle.script_lines.specs.declared.script.ScriptLine.{ScriptLine}
 use Rattle.plan_runner.specs.Runs.{CanEachCome, notes_by_thread, world_told}
 use Rattle.plan_runner.specs.declared.result.ReplyLine.{ReplyLine}
 use Rattle.script_runner.specs.Resolving.{lines_of, reply_lines_of, setting_of}
-use Rattle.papi_tools.specs.Openings.{Openings, opened}
-use Rattle.papi_tools.specs.Steps.{and_then}
+use Rattle.papi_tools.specs.Openings.{Openings, and_then, opened}
 use Rattle.papi_tools.specs.Streams.{TellStreams, streams_under}
 use Rattle.papi_tools.specs.declared.refusal.Refusal.{Refusal}
 use Rattle.papi_tools.specs.declared.script_run.RanScript.{RanScript}

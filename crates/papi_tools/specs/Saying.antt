@@ -40,9 +40,6 @@ HasSinkCause s out out' err err' = (out' ≡ out) × (err' ≡ err)
 
 -- a status that stands for a judgment, or for out of memory
 abbrev pub IsJudged : Status → Type 0
-IsJudged status.Whole = Unit {0}
-IsJudged status.No = Unit {0}
-IsJudged status.Refused = Unit {0}
-IsJudged status.Memory = Unit {0}
 IsJudged status.ReadFault = ⊥
 IsJudged status.WriteFault = ⊥
+IsJudged _ = Unit {0}

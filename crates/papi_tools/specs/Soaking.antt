@@ -21,7 +21,7 @@ use Rattle.soak_input.specs.declared.summary.ThreadTotal.{ThreadTotal}
 use Rattle.tool_words.specs.declared.soak.SoakWords.{SoakWords}
 use Rattle.papi_tools.specs.Running.{GivenRun, ran_notes, ran_replies}
 use Rattle.papi_tools.specs.Contents.{script_in, unit_of}
-use Rattle.papi_tools.specs.Steps.{Verdict, and_then}
+use Rattle.papi_tools.specs.Openings.{Verdict, and_then}
 use Rattle.papi_tools.specs.Streams.{streams_of}
 use Rattle.papi_tools.specs.Texts.{text_said}
 use Rattle.papi_tools.specs.declared.refusal.Refusal.{Refusal}

@@ -6,9 +6,7 @@ use Rattle.papi_base.specs.Streams.{Coming, Dry}
 use Rattle.papi_base.specs.declared.limits.TheConstants.{THREADS}
 use Rattle.stream_reader.specs.Occurs.{occurs_of}
 use Rattle.stream_reader.specs.Reader.{ReaderView, comes, coming, faults_of, tape_of}
-use Rattle.papi_tools.specs.Opening.{tapes_under}
-use Rattle.papi_tools.specs.Openings.{CanGive, Openings}
-use Rattle.papi_tools.specs.Steps.{and_then}
+use Rattle.papi_tools.specs.Openings.{CanGive, Openings, and_then, tapes_under}
 use Rattle.papi_tools.specs.declared.refusal.Refusal.{Refusal}
 
 -- the stream of a tape

@@ -1,12 +1,13 @@
 -- What a call of the program comes to, as a function of its words and of what its openings find.
 use Rattle.std.specs.Prelude.{◌≡◌, ℕ, List, [], Option, Some, None, IfOk, IsOkAnd, OnErr, OnOk, Result, Ok, Err}
-use Rattle.papi_base.specs.Outside.{Rose}
+use Rattle.papi_base.specs.Outside.{Held, Rose}
 use Rattle.overflow_dispatch.specs.declared.handler.Note.{Note}
-use Rattle.overflow_dispatch.specs.Notes.{EachAdded, EachBegun}
+use Rattle.overflow_dispatch.specs.Notes.{EachAdded, EachBegun, EachGrown}
 use Rattle.tool_words.specs.Form.{form}
 use Rattle.tool_words.specs.declared.command.Command.{Command}
 use Rattle.tool_words.specs.declared.command.Command.TheVariants.{Run, Avail, NativeAvail, Decode, EventChooser, Encode, Soak, Profil, Regions}
-use Rattle.papi_tools.specs.Answers.{AnswersBy}
+use Rattle.papi_tools.specs.Openings.{AnswersBy, ForSome, Openings, Verdict, quiet}
+use Rattle.papi_tools.specs.Looking.{FilesSeen, Shows}
 use Rattle.papi_tools.specs.Choosing.{chooser_verdict}
 use Rattle.papi_tools.specs.Decoding.{decode_verdict}
 use Rattle.papi_tools.specs.Encoding.{encode_verdict}
@@ -17,9 +18,6 @@ use Rattle.papi_tools.specs.Profiling.{profil_verdict}
 use Rattle.papi_tools.specs.RegionCounts.{regions_verdict}
 use Rattle.papi_tools.specs.Run.{run_verdict}
 use Rattle.papi_tools.specs.Soaking.{soak_verdict}
-use Rattle.papi_tools.specs.Openings.{Openings}
-use Rattle.papi_tools.specs.Seen.{FilesSeen}
-use Rattle.papi_tools.specs.Steps.{Verdict, quiet}
 use Rattle.papi_tools.specs.declared.refusal.Refusal.{Refusal}
 use Rattle.papi_tools.specs.declared.refusal.Refusal.TheVariants.{BadWords, NoSuchFile}
 use Rattle.papi_tools.specs.declared.refusal.Stop.{Stop}
@@ -85,6 +83,13 @@ TellsBy (Err stop.Memory) given before after = EachBegun before given after
 pub record ComesTo (answer : Result Said Stop) (expected : Result Verdict Refusal) (before after : List (List Note)) : Type 0 where
   pub said : AnswersSaid answer expected
   pub told : TellsBy answer (notes_in expected) before after
+
+-- A tool with this answer came to its verdict for some openings of files that hold this, each list of notes has grown at its end, and the
+-- outcome shows what it must of the count of the files' faults.
+pub record ToolTells (held : Option Held) (faults faults' : ℕ) (answer : Result Said Stop) (verdict : Openings → Result Verdict Refusal) (MaySayNo : Type 0) (before after : List (List Note)) : Type 0 where
+  pub ran : ForSome held (λ openings. ComesTo answer (verdict openings) before after)
+  pub grown : EachGrown before after
+  pub shows : IfOk answer (λ said. Shows MaySayNo faults faults' said.outcome)
 
 -- What is to be said is what is expected, and its notes are told; if memory ran out, a prefix of them. A file is missing only if the misses rose.
 pub record IsSettledAs {E : Type 0} (result : Result Said E) (expected : Result Verdict Refusal) (files files' : FilesSeen) (before after : List (List Note)) : Type 0 where

@@ -1,12 +1,9 @@
 //! `papi_event_chooser`: lists the events that can be added to given ones.
 ghost use Rattle.std.specs.Prelude.{◌≡◌, IfOk, Ok};
-ghost use Rattle.papi_tools.specs.Answers.{Answers};
-ghost use Rattle.papi_tools.specs.Causes.{IsTextual};
+ghost use Rattle.papi_tools.specs.Openings.{Answers, ToolSays};
+ghost use Rattle.papi_tools.specs.Looking.{FilesSeen, IsTextual, LookedBy, StopsByFile};
 ghost use Rattle.papi_tools.specs.Choosing as Choosing;
 ghost use Rattle.papi_tools.specs.Choosing.{chooser_verdict, choice_said};
-ghost use Rattle.papi_tools.specs.Looking.{Looked, StopsByFile};
-ghost use Rattle.papi_tools.specs.Openings.{ForSome};
-ghost use Rattle.papi_tools.specs.Seen.{FilesSeen, files_seen};
 
 use crate::tables::read_catalog;
 use crate::{Said, Stop};
@@ -29,7 +26,7 @@ fn candidates_of(kind: EventKind) -> Candidates
 // What is said of the given events.
 fn said_of(alloc: Global, catalog: &Catalog, kind: EventKind, events: &[Text]) -> Result<Said, Stop>
     ensures said { Answers result (Ok (choice_said catalog.now kind events.now)) }
-    ensures textual { IfOk result (λ said. IsTextual said.outcome) }
+    ensures textual { IfOk result (λ said. IsTextual (Unit {0}) said.outcome) }
     ensures cause { (before after : FilesSeen) → StopsByFile result before after }
 {
     let choice = choose(alloc, catalog, candidates_of(kind), events)?;
@@ -43,11 +40,9 @@ pub fn choose_events<F: Files>(
     files: &mut F,
     words: &ChooserWords,
 ) -> Result<Said, Stop>
-    ensures said { ForSome (F.held files.old)
-        (λ openings. Answers result (chooser_verdict openings words.now)) }
-    ensures textual { IfOk result (λ said. IsTextual said.outcome) }
-    ensures looked { Looked result 0 (files_seen F.held F.misses F.faults F.lent files.old)
-        (files_seen F.held F.misses F.faults F.lent files.new) }
+    ensures said { ToolSays (F.held files.old) result chooser_verdict words.now }
+    ensures textual { IfOk result (λ said. IsTextual (Unit {0}) said.outcome) }
+    ensures looked { LookedBy F.held F.misses F.faults F.lent result 0 files.old files.new }
 {
     let catalog = read_catalog(alloc, files, &words.unit, words.presets.as_ref())?;
     said_of(alloc, &catalog, words.kind, words.events.as_slice())

@@ -1,14 +1,13 @@
 //! What files by name hold: units, maps, scripts and region scripts.
-ghost use Rattle.std.specs.Prelude.{◌≡◌, ℕ, IfOk, List, Ok, Result};
-ghost use Rattle.papi_tools.specs.Answers.{Answers};
+ghost use Rattle.std.specs.Prelude.{◌≡◌, ℕ, Err, IfOk, List, Ok, Result};
+ghost use Rattle.papi_tools.specs.Openings.{Answers, Is, Leads, opened};
 ghost use Rattle.papi_tools.specs.Contents.{content_under, map_of, regions_in, script_in, unit_of};
-ghost use Rattle.papi_tools.specs.Looking.{Looked, StopsByFile};
-ghost use Rattle.papi_tools.specs.Openings.{Is, Leads, opened};
-ghost use Rattle.papi_tools.specs.Seen.{FilesSeen, files_seen};
+ghost use Rattle.papi_tools.specs.Looking.{FilesSeen, LookedBy, StopsByFile};
 ghost use Rattle.papi_tools.specs.declared.refusal.Refusal.{Refusal};
+ghost use Rattle.papi_tools.specs.declared.refusal.Refusal.TheVariants.{Faulty};
 
 use crate::opening::whole_file;
-use crate::{Refusal, Stop};
+use crate::{FileCause, Refusal, Stop};
 use event_tables::{TableFault, Tables, read_unit};
 use papi_base::{Files, Text};
 use profil_hist::{Map, MapFault, read_map};
@@ -27,6 +26,24 @@ pub(crate) trait FileContent: Drop {
         ensures cause { (before after : FilesSeen) → StopsByFile result before after };
 }
 
+/// The end of a call at the first faulty row or line of a file.
+pub(crate) fn faulty<T: Drop>(
+    alloc: Global,
+    name: &str,
+    number: u64,
+    cause: FileCause,
+) -> Result<T, Stop>
+    ensures told { Answers result (Err (Faulty name.now number cause)) }
+    ensures cause { (before after : FilesSeen) → StopsByFile result before after }
+{
+    let name = Text::copy_of(alloc, name)?;
+    Err(Stop::Refused(Refusal::Faulty {
+        name,
+        number,
+        cause,
+    }))
+}
+
 /// Reads a file of at most `limit` bytes whole, and gives what it holds, or says why not.
 pub(crate) fn read_file<T: FileContent, F: Files>(
     alloc: Global,
@@ -37,8 +54,7 @@ pub(crate) fn read_file<T: FileContent, F: Files>(
     ensures found { Leads Is result (λ openings. content_under limit T.content openings name.now)
         opened (F.held files.old) (F.held files.new) }
     ensures read { IfOk result (λ value. (bytes : List ℕ) × (T.content name.now bytes ≡ Ok value)) }
-    ensures looked { Looked result 0 (files_seen F.held F.misses F.faults F.lent files.old)
-        (files_seen F.held F.misses F.faults F.lent files.new) }
+    ensures looked { LookedBy F.held F.misses F.faults F.lent result 0 files.old files.new }
 {
     let bytes = whole_file(alloc, files, name, limit)?;
     T::parse(alloc, name, bytes.as_slice())
@@ -49,14 +65,9 @@ impl FileContent for Tables {
 
     #[tactic(auto, unfolding(crate::specs::Contents::unit_of))]
     fn parse(alloc: Global, name: &str, bytes: &[u8]) -> Result<Tables, Stop> {
-        let answer = read_unit(alloc, bytes);
-        match answer {
+        match read_unit(alloc, bytes) {
             Ok(tables) => Ok(tables),
-            Err(TableFault::Row { row, cause }) => Err(Stop::Refused(Refusal::Row {
-                name: Text::copy_of(alloc, name)?,
-                row,
-                cause,
-            })),
+            Err(TableFault::Row { row, cause }) => faulty(alloc, name, row, FileCause::Row(cause)),
             Err(TableFault::Memory) => Err(Stop::Memory),
         }
     }
@@ -67,14 +78,9 @@ impl FileContent for Map {
 
     #[tactic(auto, unfolding(crate::specs::Contents::map_of))]
     fn parse(alloc: Global, name: &str, bytes: &[u8]) -> Result<Map, Stop> {
-        let answer = read_map(alloc, bytes);
-        match answer {
+        match read_map(alloc, bytes) {
             Ok(map) => Ok(map),
-            Err(MapFault::Row { row, cause }) => Err(Stop::Refused(Refusal::MapRow {
-                name: Text::copy_of(alloc, name)?,
-                row,
-                cause,
-            })),
+            Err(MapFault::Row { row, cause }) => faulty(alloc, name, row, FileCause::MapRow(cause)),
             Err(MapFault::Memory) => Err(Stop::Memory),
         }
     }
@@ -84,14 +90,14 @@ impl FileContent for Script {
     ghost content = { script_in };
 
     fn parse(alloc: Global, name: &str, bytes: &[u8]) -> Result<Script, Stop> {
-        let answer = read_script(alloc, bytes);
-        match answer {
+        match read_script(alloc, bytes) {
             Ok(script) => Ok(script),
-            Err(ScriptFault::Line { line, cause }) => Err(Stop::Refused(Refusal::Line {
-                name: Text::copy_of(alloc, name)?,
+            Err(ScriptFault::Line { line, cause }) => faulty(
+                alloc,
+                name,
                 line,
-                cause,
-            })),
+                FileCause::Line(cause),
+            ),
             Err(ScriptFault::Memory) => Err(Stop::Memory),
         }
     }
@@ -101,14 +107,14 @@ impl FileContent for Regions {
     ghost content = { regions_in };
 
     fn parse(alloc: Global, name: &str, bytes: &[u8]) -> Result<Regions, Stop> {
-        let answer = read_regions(alloc, bytes);
-        match answer {
+        match read_regions(alloc, bytes) {
             Ok(regions) => Ok(regions),
-            Err(RegionFault::Line { line, cause }) => Err(Stop::Refused(Refusal::RegionLine {
-                name: Text::copy_of(alloc, name)?,
+            Err(RegionFault::Line { line, cause }) => faulty(
+                alloc,
+                name,
                 line,
-                cause,
-            })),
+                FileCause::RegionLine(cause),
+            ),
             Err(RegionFault::Memory) => Err(Stop::Memory),
         }
     }

@@ -1,12 +1,8 @@
 //! `papi_decode`: gives the presets and user events of a cpu.
-ghost use Rattle.std.specs.Prelude.{◌≢◌, IfOk, Ok};
-ghost use Rattle.papi_tools.specs.Answers.{Answers};
-ghost use Rattle.papi_tools.specs.Causes.{IsTextual};
+ghost use Rattle.std.specs.Prelude.{IfOk, Ok};
+ghost use Rattle.papi_tools.specs.Openings.{Answers, ToolSays};
+ghost use Rattle.papi_tools.specs.Looking.{FilesSeen, IsTextual, LookedBy, StopsByFile};
 ghost use Rattle.papi_tools.specs.Decoding.{decode_verdict, decoded_said, shown_in};
-ghost use Rattle.papi_tools.specs.Looking.{Looked, StopsByFile};
-ghost use Rattle.papi_tools.specs.Openings.{ForSome};
-ghost use Rattle.papi_tools.specs.Seen.{FilesSeen, files_seen};
-ghost use Rattle.papi_tools.specs.declared.status.Outcome.TheVariants as outcome;
 
 use crate::contents::read_file;
 use crate::limits::TABLE_BYTES;
@@ -43,8 +39,7 @@ fn shown_of(
 // What is said of presets and user events.
 fn said_of(alloc: Global, presets: &Extended) -> Result<Said, Stop>
     ensures said { Answers result (Ok (decoded_said presets.now)) }
-    ensures textual { IfOk result (λ said. IsTextual said.outcome) }
-    ensures yes { IfOk result (λ said. said.outcome ≢ outcome.No) }
+    ensures textual { IfOk result (λ said. IsTextual ⊥ said.outcome) }
     ensures cause { (before after : FilesSeen) → StopsByFile result before after }
 {
     let text = write_extended(alloc, presets)?;
@@ -58,12 +53,9 @@ pub fn decode_presets<F: Files>(
     files: &mut F,
     words: &DecodeWords,
 ) -> Result<Said, Stop>
-    ensures said { ForSome (F.held files.old)
-        (λ openings. Answers result (decode_verdict openings words.now)) }
-    ensures textual { IfOk result (λ said. IsTextual said.outcome) }
-    ensures yes { IfOk result (λ said. said.outcome ≢ outcome.No) }
-    ensures looked { Looked result 0 (files_seen F.held F.misses F.faults F.lent files.old)
-        (files_seen F.held F.misses F.faults F.lent files.new) }
+    ensures said { ToolSays (F.held files.old) result decode_verdict words.now }
+    ensures textual { IfOk result (λ said. IsTextual ⊥ said.outcome) }
+    ensures looked { LookedBy F.held F.misses F.faults F.lent result 0 files.old files.new }
 {
     let tables: Tables = read_file(alloc, files, words.unit.as_str(), TABLE_BYTES)?;
     let bytes = read_preset_bytes(alloc, files, &words.presets)?;

@@ -1,11 +1,8 @@
 //! `papi_encode`: gives the codes of events.
 ghost use Rattle.std.specs.Prelude.{◌≡◌, IfOk, Ok, string_bytes};
-ghost use Rattle.papi_tools.specs.Answers.{Answers};
-ghost use Rattle.papi_tools.specs.Causes.{IsTextual};
+ghost use Rattle.papi_tools.specs.Openings.{Answers, ToolSays};
+ghost use Rattle.papi_tools.specs.Looking.{FilesSeen, IsTextual, LookedBy, StopsByFile};
 ghost use Rattle.papi_tools.specs.Encoding.{answer_line, encode_verdict, encoded_said};
-ghost use Rattle.papi_tools.specs.Looking.{Looked, StopsByFile};
-ghost use Rattle.papi_tools.specs.Openings.{ForSome};
-ghost use Rattle.papi_tools.specs.Seen.{FilesSeen, files_seen};
 
 use crate::contents::read_file;
 use crate::limits::TABLE_BYTES;
@@ -42,7 +39,7 @@ fn line_of(
 #[tactic(auto, unfolding(crate::specs::Encoding::encoded_said))]
 fn said_of(alloc: Global, tables: &Tables, names: &[Text]) -> Result<Said, Stop>
     ensures said { Answers result (Ok (encoded_said tables.now names.now)) }
-    ensures textual { IfOk result (λ said. IsTextual said.outcome) }
+    ensures textual { IfOk result (λ said. IsTextual (Unit {0}) said.outcome) }
     ensures cause { (before after : FilesSeen) → StopsByFile result before after }
 {
     let mut all_encode = true;
@@ -64,11 +61,9 @@ pub fn encode_names<F: Files>(
     files: &mut F,
     words: &EncodeWords,
 ) -> Result<Said, Stop>
-    ensures said { ForSome (F.held files.old)
-        (λ openings. Answers result (encode_verdict openings words.now)) }
-    ensures textual { IfOk result (λ said. IsTextual said.outcome) }
-    ensures looked { Looked result 0 (files_seen F.held F.misses F.faults F.lent files.old)
-        (files_seen F.held F.misses F.faults F.lent files.new) }
+    ensures said { ToolSays (F.held files.old) result encode_verdict words.now }
+    ensures textual { IfOk result (λ said. IsTextual (Unit {0}) said.outcome) }
+    ensures looked { LookedBy F.held F.misses F.faults F.lent result 0 files.old files.new }
 {
     let tables: Tables = read_file(alloc, files, words.unit.as_str(), TABLE_BYTES)?;
     said_of(alloc, &tables, words.names.as_slice())

@@ -3,10 +3,9 @@ ghost use Rattle.std.specs.Prelude.{◌≡◌, ◌≤◌, ℕ, All, IfOk, List, 
 ghost use Rattle.component_table.specs.Catalogs.{CatalogView};
 ghost use Rattle.thread_session.specs.SessionView.{IsFresh};
 ghost use Rattle.papi_tools.specs.Contents.{content_under};
-ghost use Rattle.papi_tools.specs.Looking.{Looked, out_with};
+ghost use Rattle.papi_tools.specs.Looking.{LookedBy, out_with};
 ghost use Rattle.papi_tools.specs.Openings.{Ends};
 ghost use Rattle.papi_tools.specs.Running.{CanBeGivenRun, given_of};
-ghost use Rattle.papi_tools.specs.Seen.{files_seen};
 ghost use Rattle.papi_tools.specs.Streams.{sources_in};
 
 use crate::Stop;
@@ -40,9 +39,8 @@ pub(crate) fn open_input<T: FileContent, F: Files>(
         (λ input. (bytes : List ℕ) × (T.content script.now bytes ≡ Ok input.script)) }
     ensures len { IfOk result (λ input. vec_len input.readers ≡ THREADS) }
     ensures fresh { IfOk result (λ input. All IsFresh input.readers.items) }
-    ensures looked { Looked result (out_with (λ input. sources_in input.readers.items) result)
-        (files_seen F.held F.misses F.faults F.lent files.old)
-        (files_seen F.held F.misses F.faults F.lent files.new) }
+    ensures looked { LookedBy F.held F.misses F.faults F.lent result
+        (out_with (λ input. sources_in input.readers.items) result) files.old files.new }
 {
     let script: T = read_file(alloc, files, script.as_str(), SCRIPT_BYTES)?;
     let readers = open_readers(alloc, files, streams)?;

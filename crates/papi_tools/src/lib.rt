@@ -32,7 +32,7 @@ mod top;
 
 pub use limits::{SCRIPT_BYTES, TABLE_BYTES};
 pub use output::Output;
-pub use refusal::{Refusal, Stop};
+pub use refusal::{FileCause, Refusal, Stop};
 pub use said::Said;
 pub use status::{Outcome, Status, status_number};
 pub use tool::{

@@ -1,9 +1,9 @@
 //! What is said of the marks that runs met, thread by thread.
 ghost use Rattle.std.specs.Prelude.{◌≡◌, IfOk, string_bytes};
 ghost use Rattle.std.specs.List.{list_any};
-ghost use Rattle.papi_tools.specs.Marks.{cause_words, is_bad, is_fault, mark_line, mark_lines, outcome_at};
+ghost use Rattle.papi_tools.specs.Marks.{cause_words, is_bad, is_fault, mark_line, mark_lines, marked_said, outcome_at};
 
-use crate::Outcome;
+use crate::{Outcome, Output, Said};
 use papi_base::{Bytes, LineCause};
 use session_model::Ended;
 use std::alloc::{AllocError, Global};
@@ -22,8 +22,8 @@ fn has_bad_line(marks: &[Option<Ended>]) -> bool
     marks.iter().any(|mark| matches!(mark, Some(Ended::Bad { line: _, cause: _ })))
 }
 
-/// How a call ends whose runs met these marks.
-pub fn outcome_of(marks: &[Option<Ended>]) -> Outcome
+// How a call ends whose runs met these marks.
+fn outcome_of(marks: &[Option<Ended>]) -> Outcome
     ensures { result ≡ outcome_at marks.now }
 {
     if has_fault(marks) {
@@ -62,8 +62,8 @@ fn line_of(alloc: Global, t: usize, mark: Option<Ended>) -> Result<String, Alloc
     }
 }
 
-/// The lines on standard error of these marks, in the order of their threads.
-pub fn lines_of(alloc: Global, marks: &[Option<Ended>]) -> Result<Bytes, AllocError>
+// The lines on standard error of these marks, in the order of their threads.
+fn lines_of(alloc: Global, marks: &[Option<Ended>]) -> Result<Bytes, AllocError>
     ensures { IfOk result (λ lines. lines ≡ mark_lines 0 marks.now) }
 {
     let mut lines = Bytes::new(Vec::new(alloc));
@@ -72,4 +72,13 @@ pub fn lines_of(alloc: Global, marks: &[Option<Ended>]) -> Result<Bytes, AllocEr
         lines.append(line.as_bytes())?;
     }
     Ok(lines)
+}
+
+/// What is said of a run that met these marks: this output, and the lines of the marks.
+pub fn marked(alloc: Global, marks: &[Option<Ended>], out: Output) -> Result<Said, AllocError>
+    ensures { IfOk result (λ said. said ≡ marked_said marks.now out) }
+{
+    let err = lines_of(alloc, marks)?;
+    let outcome = outcome_of(marks);
+    Ok(Said { outcome, out, err })
 }

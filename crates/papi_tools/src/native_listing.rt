@@ -1,12 +1,8 @@
 //! `papi_native_avail`: lists the native events of a unit, or says what one of them is.
 ghost use Rattle.std.specs.Prelude.{◌≡◌, IfOk, IsSome, Ok, option_map};
-ghost use Rattle.papi_tools.specs.Answers.{Answers};
-ghost use Rattle.papi_tools.specs.Causes.{IsTextual};
-ghost use Rattle.papi_tools.specs.Looking.{Looked, StopsByFile};
+ghost use Rattle.papi_tools.specs.Openings.{Answers, ToolSays};
+ghost use Rattle.papi_tools.specs.Looking.{FilesSeen, IsTextual, LookedBy, StopsByFile};
 ghost use Rattle.papi_tools.specs.NativeListing.{native_avail_verdict, natives_said};
-ghost use Rattle.papi_tools.specs.Openings.{ForSome};
-ghost use Rattle.papi_tools.specs.Seen.{FilesSeen, files_seen};
-ghost use Rattle.papi_tools.specs.declared.status.Outcome.TheVariants as outcome;
 
 use crate::contents::read_file;
 use crate::limits::TABLE_BYTES;
@@ -30,8 +26,7 @@ fn str_of(text: &Option<Text>) -> Option<&str>
 // What is said of the native events of a unit.
 fn said_of(alloc: Global, tables: &Tables, words: &NativeAvailWords) -> Result<Said, Stop>
     ensures said { Answers result (Ok (natives_said tables.now words.now words.now.event)) }
-    ensures textual { IfOk result (λ said. IsTextual said.outcome) }
-    ensures no { IfOk result (λ said. said.outcome ≡ outcome.No → IsSome words.now.event) }
+    ensures textual { IfOk result (λ said. IsTextual (IsSome words.now.event) said.outcome) }
     ensures cause { (before after : FilesSeen) → StopsByFile result before after }
 {
     match &words.event {
@@ -55,12 +50,9 @@ pub fn list_natives<F: Files>(
     files: &mut F,
     words: &NativeAvailWords,
 ) -> Result<Said, Stop>
-    ensures said { ForSome (F.held files.old)
-        (λ openings. Answers result (native_avail_verdict openings words.now)) }
-    ensures textual { IfOk result (λ said. IsTextual said.outcome) }
-    ensures no { IfOk result (λ said. said.outcome ≡ outcome.No → IsSome words.now.event) }
-    ensures looked { Looked result 0 (files_seen F.held F.misses F.faults F.lent files.old)
-        (files_seen F.held F.misses F.faults F.lent files.new) }
+    ensures said { ToolSays (F.held files.old) result native_avail_verdict words.now }
+    ensures textual { IfOk result (λ said. IsTextual (IsSome words.now.event) said.outcome) }
+    ensures looked { LookedBy F.held F.misses F.faults F.lent result 0 files.old files.new }
 {
     let tables: Tables = read_file(alloc, files, words.unit.as_str(), TABLE_BYTES)?;
     said_of(alloc, &tables, words)

@@ -1,9 +1,7 @@
 //! Files by name: opened, or read whole.
 ghost use Rattle.std.specs.Prelude.{◌≡◌, ◌≤◌, IfOk, length};
-ghost use Rattle.papi_tools.specs.Looking.{Looked, out_with};
-ghost use Rattle.papi_tools.specs.Opening.{file_bytes};
-ghost use Rattle.papi_tools.specs.Openings.{CanGive, Is, Leads, opened, tape_under};
-ghost use Rattle.papi_tools.specs.Seen.{files_seen};
+ghost use Rattle.papi_tools.specs.Looking.{LookedBy, out_with};
+ghost use Rattle.papi_tools.specs.Openings.{CanGive, Is, Leads, file_bytes, opened, tape_under};
 
 use crate::{Refusal, Stop};
 use papi_base::{Bytes, Files, OpenFail, Text, WholeFault, read_whole};
@@ -15,9 +13,8 @@ pub fn open_named<F: Files>(alloc: Global, files: &mut F, name: &str) -> Result<
         (λ openings. tape_under openings name.now) opened
         (F.held files.old) (F.held files.new) }
     ensures fresh { IfOk result (λ source. F.S.faults source ≡ 0) }
-    ensures looked { Looked result (out_with (λ _. 1) result)
-        (files_seen F.held F.misses F.faults F.lent files.old)
-        (files_seen F.held F.misses F.faults F.lent files.new) }
+    ensures looked { LookedBy F.held F.misses F.faults F.lent result
+        (out_with (λ _. 1) result) files.old files.new }
 {
     let answer = files.open_source(name);
     match answer {
@@ -42,8 +39,7 @@ pub fn whole_file<F: Files>(
     ensures found { Leads Is result (λ openings. file_bytes limit openings name.now) opened
         (F.held files.old) (F.held files.new) }
     ensures small { IfOk result (λ bytes. length bytes ≤ limit) }
-    ensures looked { Looked result 0 (files_seen F.held F.misses F.faults F.lent files.old)
-        (files_seen F.held F.misses F.faults F.lent files.new) }
+    ensures looked { LookedBy F.held F.misses F.faults F.lent result 0 files.old files.new }
 {
     let mut source = open_named(alloc, files, name)?;
     let answer = read_whole(alloc, &mut source, limit);

@@ -1,16 +1,14 @@
 //! Preset files by name.
 ghost use Rattle.std.specs.Option.{option_copied};
-ghost use Rattle.papi_tools.specs.Answers.{Answers};
+ghost use Rattle.papi_tools.specs.Openings.{Answers, Is, Leads, file_bytes, opened};
 ghost use Rattle.papi_tools.specs.Contents.{after_presets, presets_asked, presets_of};
-ghost use Rattle.papi_tools.specs.Looking.{Looked, StopsByFile};
-ghost use Rattle.papi_tools.specs.Opening.{file_bytes};
-ghost use Rattle.papi_tools.specs.Openings.{Is, Leads, opened};
-ghost use Rattle.papi_tools.specs.Seen.{FilesSeen, files_seen};
+ghost use Rattle.papi_tools.specs.Looking.{FilesSeen, LookedBy, StopsByFile};
 
+use crate::contents::faulty;
 use crate::limits::TABLE_BYTES;
 use crate::opening::whole_file;
-use crate::{Refusal, Stop};
-use papi_base::{Bytes, Files, Text};
+use crate::{FileCause, Stop};
+use papi_base::{Bytes, Files};
 use preset_csv::PresetFault;
 use std::alloc::Global;
 use tool_words::PresetWords;
@@ -22,14 +20,11 @@ pub fn presets_in(alloc: Global, words: &PresetWords, bytes: &[u8]) -> Result<Ex
     ensures told { Answers result (presets_of words.now bytes.now) }
     ensures cause { (before after : FilesSeen) → StopsByFile result before after }
 {
-    let answer = read_extended(alloc, bytes, words.cpu.as_str());
-    match answer {
+    match read_extended(alloc, bytes, words.cpu.as_str()) {
         Ok(presets) => Ok(presets),
-        Err(PresetFault::Row { row, cause }) => Err(Stop::Refused(Refusal::PresetRow {
-            name: Text::copy_of(alloc, words.file.as_str())?,
-            row,
-            cause,
-        })),
+        Err(PresetFault::Row { row, cause }) => {
+            faulty(alloc, words.file.as_str(), row, FileCause::PresetRow(cause))
+        }
         Err(PresetFault::Memory) => Err(Stop::Memory),
     }
 }
@@ -43,8 +38,7 @@ pub fn read_preset_bytes<F: Files>(
     ensures found { Leads Is result
         (λ openings. file_bytes TABLE_BYTES openings words.now.file) opened (F.held files.old)
         (F.held files.new) }
-    ensures looked { Looked result 0 (files_seen F.held F.misses F.faults F.lent files.old)
-        (files_seen F.held F.misses F.faults F.lent files.new) }
+    ensures looked { LookedBy F.held F.misses F.faults F.lent result 0 files.old files.new }
 {
     whole_file(alloc, files, words.file.as_str(), TABLE_BYTES)
 }
@@ -57,8 +51,7 @@ pub fn read_presets_asked<F: Files>(
 ) -> Result<Option<Extended>, Stop>
     ensures found { Leads Is result (λ openings. presets_asked openings (option_copied words.entry))
         (after_presets (option_copied words.entry)) (F.held files.old) (F.held files.new) }
-    ensures looked { Looked result 0 (files_seen F.held F.misses F.faults F.lent files.old)
-        (files_seen F.held F.misses F.faults F.lent files.new) }
+    ensures looked { LookedBy F.held F.misses F.faults F.lent result 0 files.old files.new }
 {
     match words {
         Some(words) => {

@@ -1,12 +1,8 @@
 //! `papi_avail`: lists the presets and user events of a cpu, or says what one of them is.
-ghost use Rattle.std.specs.Prelude.{◌≡◌, IfOk, IsSome, Ok};
-ghost use Rattle.papi_tools.specs.Answers.{Answers};
-ghost use Rattle.papi_tools.specs.Causes.{IsTextual};
-ghost use Rattle.papi_tools.specs.Looking.{Looked, StopsByFile};
-ghost use Rattle.papi_tools.specs.Openings.{ForSome};
+ghost use Rattle.std.specs.Prelude.{IfOk, IsSome, Ok};
+ghost use Rattle.papi_tools.specs.Openings.{Answers, ToolSays};
+ghost use Rattle.papi_tools.specs.Looking.{FilesSeen, IsTextual, LookedBy, StopsByFile};
 ghost use Rattle.papi_tools.specs.PresetListing.{avail_verdict, presets_said};
-ghost use Rattle.papi_tools.specs.Seen.{FilesSeen, files_seen};
-ghost use Rattle.papi_tools.specs.declared.status.Outcome.TheVariants as outcome;
 
 use crate::tables::read_catalog;
 use crate::{Said, Stop};
@@ -24,8 +20,7 @@ fn said_of(
     event: &Option<Text>,
 ) -> Result<Said, Stop>
     ensures said { Answers result (Ok (presets_said catalog.now available event.now)) }
-    ensures textual { IfOk result (λ said. IsTextual said.outcome) }
-    ensures no { IfOk result (λ said. said.outcome ≡ outcome.No → IsSome event.now) }
+    ensures textual { IfOk result (λ said. IsTextual (IsSome event.now) said.outcome) }
     ensures cause { (before after : FilesSeen) → StopsByFile result before after }
 {
     match event {
@@ -47,12 +42,9 @@ pub fn list_presets<F: Files>(
     files: &mut F,
     words: &AvailWords,
 ) -> Result<Said, Stop>
-    ensures said { ForSome (F.held files.old)
-        (λ openings. Answers result (avail_verdict openings words.now)) }
-    ensures textual { IfOk result (λ said. IsTextual said.outcome) }
-    ensures no { IfOk result (λ said. said.outcome ≡ outcome.No → IsSome words.now.event) }
-    ensures looked { Looked result 0 (files_seen F.held F.misses F.faults F.lent files.old)
-        (files_seen F.held F.misses F.faults F.lent files.new) }
+    ensures said { ToolSays (F.held files.old) result avail_verdict words.now }
+    ensures textual { IfOk result (λ said. IsTextual (IsSome words.now.event) said.outcome) }
+    ensures looked { LookedBy F.held F.misses F.faults F.lent result 0 files.old files.new }
 {
     let catalog = read_catalog(alloc, files, &words.unit, Some(&words.presets))?;
     said_of(alloc, &catalog, words.available, &words.event)

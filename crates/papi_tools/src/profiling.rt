@@ -1,20 +1,16 @@
 //! `papi_profil`: counts where in a program the thresholds of an event were passed.
 ghost use Rattle.std.specs.Prelude.{◌≡◌, ◌≤◌, ◌<◌, ◌+◌, ◌^◌, ◌∷◌, ◌++◌, IfOk};
 ghost use Rattle.std.specs.Prelude.{OnOk, ℕ, [], List, drop, length, map, slice_get, slice_index_or, vec_len};
-ghost use Rattle.overflow_dispatch.specs.Notes.{EachGrown};
 ghost use Rattle.profil_hist.specs.Histograms.{IsHistogram};
-ghost use Rattle.papi_tools.specs.Answers.{Answers};
-ghost use Rattle.papi_tools.specs.Causes.{Shows};
-ghost use Rattle.papi_tools.specs.Looking.{Looked, StopsByFile};
-ghost use Rattle.papi_tools.specs.Openings.{ForSome};
+ghost use Rattle.papi_tools.specs.Openings.{Answers};
+ghost use Rattle.papi_tools.specs.Looking.{FilesSeen, LookedBy, StopsByFile};
 ghost use Rattle.papi_tools.specs.Profiling.{counted_in, is_counted, profil_verdict, profile_said};
-ghost use Rattle.papi_tools.specs.Seen.{FilesSeen, files_seen};
-ghost use Rattle.papi_tools.specs.Verdict.{ComesTo};
+ghost use Rattle.papi_tools.specs.Verdict.{ToolTells};
 
 use crate::contents::read_file;
 use crate::input::{Input, open_input};
 use crate::limits::TABLE_BYTES;
-use crate::marks::{lines_of, outcome_of};
+use crate::marks::marked;
 use crate::script_run::{RanScript, run_and_close};
 use crate::tables::read_catalog;
 use crate::{Output, Said, Stop};
@@ -136,12 +132,8 @@ fn said_of(
 {
     let hist = hist_of(alloc, ranges, words, ran.noted.as_slice(), handlers)?;
     let text = profile_text(alloc, &hist)?;
-    let err = lines_of(alloc, &ran.marks)?;
-    Ok(Said {
-        outcome: outcome_of(&ran.marks),
-        out: Output::text(Bytes::new(text.into_bytes())),
-        err,
-    })
+    let out = Output::text(Bytes::new(text.into_bytes()));
+    Ok(marked(alloc, &ran.marks, out)?)
 }
 
 // ---- the tool
@@ -158,15 +150,10 @@ pub fn profile<R: Threads + Sync, F: Files>(
 ) -> Result<Said, Stop>
     requires handlers { vec_len handlers.old ≡ THREADS }
     ensures len { vec_len handlers.new ≡ THREADS }
-    ensures ran { ForSome (F.held files.old)
-        (λ openings. ComesTo result (profil_verdict openings words.now)
-        (map (λ b. notes b) handlers.old.items) (map (λ b. notes b) handlers.new.items)) }
-    ensures grown { EachGrown (map (λ b. notes b) handlers.old.items)
-        (map (λ b. notes b) handlers.new.items) }
-    ensures shows { IfOk result
-        (λ said. Shows ⊥ (F.faults files.old) (F.faults files.new) said.outcome) }
-    ensures looked { Looked result 0 (files_seen F.held F.misses F.faults F.lent files.old)
-        (files_seen F.held F.misses F.faults F.lent files.new) }
+    ensures tells { ToolTells (F.held files.old) (F.faults files.old) (F.faults files.new) result
+        (λ openings. profil_verdict openings words.now) ⊥
+        (map (λ b. notes b) handlers.old.items) (map (λ b. notes b) handlers.new.items) }
+    ensures looked { LookedBy F.held F.misses F.faults F.lent result 0 files.old files.new }
 {
     let catalog = read_catalog(alloc, files, &words.unit, words.presets.as_ref())?;
     let map: Map = read_file(alloc, files, words.map.as_str(), TABLE_BYTES)?;

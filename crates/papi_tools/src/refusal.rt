@@ -1,6 +1,6 @@
 //! Why a call ends before its output.
 ghost use Rattle.std.specs.Prelude.{◌≡◌, IfOk, string_bytes};
-ghost use Rattle.papi_tools.specs.ErrorLines.{line_of, numbered_line, outcome_of};
+ghost use Rattle.papi_tools.specs.ErrorLines.{line_of, outcome_of, place_of, words_of};
 ghost use Rattle.papi_tools.specs.declared.refusal.Stop.TheVariants as stop;
 
 use crate::Outcome;
@@ -11,6 +11,45 @@ use profil_hist::{MapCause, cause_text as map_text};
 use region_report::{RegionCause, cause_text as region_text};
 use script_lines::{ScriptCause, cause_text as line_text};
 use std::alloc::{AllocError, AllocFailed, Global};
+
+/// What is wrong with a row or a line of a file.
+#[derive(Clone, Copy, Debug)]
+pub enum FileCause {
+    /// A row of a unit file.
+    Row(RowCause),
+    /// A row of a preset file.
+    PresetRow(PresetCause),
+    /// A row of a map of program counters.
+    MapRow(MapCause),
+    /// A line of a script.
+    Line(ScriptCause),
+    /// A line of a region script.
+    RegionLine(RegionCause),
+}
+
+impl FileCause {
+    // What such a file has: rows or lines.
+    fn place(self) -> &'static str
+        ensures { result.now ≡ place_of self }
+    {
+        match self {
+            FileCause::Line(_) | FileCause::RegionLine(_) => "line",
+            _ => "row",
+        }
+    }
+
+    fn words(self) -> &'static str
+        ensures { result.now ≡ words_of self }
+    {
+        match self {
+            FileCause::Row(cause) => row_text(cause),
+            FileCause::PresetRow(cause) => preset_text(cause),
+            FileCause::MapRow(cause) => map_text(cause),
+            FileCause::Line(cause) => line_text(cause),
+            FileCause::RegionLine(cause) => region_text(cause),
+        }
+    }
+}
 
 /// Why a call is refused.
 #[derive(Debug, Drop)]
@@ -23,35 +62,11 @@ pub enum Refusal {
     CannotRead(Text),
     /// The file of this name passes its size.
     TooLarge(Text),
-    /// A row of a unit file, counted from 1.
-    Row {
+    /// A row or a line of the file of this name, counted from 1.
+    Faulty {
         name: Text,
-        row: u64,
-        cause: RowCause,
-    },
-    /// A row of a preset file, counted from 1.
-    PresetRow {
-        name: Text,
-        row: u64,
-        cause: PresetCause,
-    },
-    /// A row of a map of program counters, counted from 1.
-    MapRow {
-        name: Text,
-        row: u64,
-        cause: MapCause,
-    },
-    /// A line of a script, counted from 1.
-    Line {
-        name: Text,
-        line: u64,
-        cause: ScriptCause,
-    },
-    /// A line of a region script, counted from 1.
-    RegionLine {
-        name: Text,
-        line: u64,
-        cause: RegionCause,
+        number: u64,
+        cause: FileCause,
     },
 }
 
@@ -75,53 +90,17 @@ impl Refusal {
             Refusal::NoSuchFile(name) => format!(in alloc; "papi: no such file: {name}\n"),
             Refusal::CannotRead(name) => format!(in alloc; "papi: cannot read: {name}\n"),
             Refusal::TooLarge(name) => format!(in alloc; "papi: {name}: too large\n"),
-            Refusal::Row { name, row, cause } => numbered(
-                alloc,
+            Refusal::Faulty {
                 name,
-                "row",
-                *row,
-                row_text(*cause),
-            ),
-            Refusal::PresetRow { name, row, cause } => numbered(
-                alloc,
-                name,
-                "row",
-                *row,
-                preset_text(*cause),
-            ),
-            Refusal::MapRow { name, row, cause } => {
-                numbered(alloc, name, "row", *row, map_text(*cause))
+                number,
+                cause,
+            } => {
+                let place = cause.place();
+                let words = cause.words();
+                format!(in alloc; "papi: {name}: {place} {number}: {words}\n")
             }
-            Refusal::Line { name, line, cause } => numbered(
-                alloc,
-                name,
-                "line",
-                *line,
-                line_text(*cause),
-            ),
-            Refusal::RegionLine { name, line, cause } => numbered(
-                alloc,
-                name,
-                "line",
-                *line,
-                region_text(*cause),
-            ),
         }
     }
-}
-
-// The line that names a place in a file and its cause.
-fn numbered(
-    alloc: Global,
-    name: &Text,
-    place: &str,
-    number: u64,
-    words: &str,
-) -> Result<String, AllocError>
-    ensures { IfOk result (λ line.
-        string_bytes line ≡ numbered_line name.now place.now number words.now) }
-{
-    format!(in alloc; "papi: {name}: {place} {number}: {words}\n")
 }
 
 /// The end of a call before its output: a refusal, or memory ran out.

@@ -7,20 +7,17 @@ ghost use Rattle.region_report.specs.CallLines.{AreEvents, asked, numbered};
 ghost use Rattle.region_report.specs.Reports.{report_text};
 ghost use Rattle.region_report.specs.Spans.{reading_values, spans_from};
 ghost use Rattle.thread_session.specs.SessionView.{IsFresh};
-ghost use Rattle.papi_tools.specs.Answers.{Answers};
-ghost use Rattle.papi_tools.specs.Causes.{Shows};
+ghost use Rattle.papi_tools.specs.Openings.{Answers, ToolSays};
+ghost use Rattle.papi_tools.specs.Looking.{FilesSeen, LookedBy, Shows, StopsByFile};
 ghost use Rattle.papi_tools.specs.Contents.{regions_in};
-ghost use Rattle.papi_tools.specs.Looking.{Looked, StopsByFile};
 ghost use Rattle.papi_tools.specs.Marks.{marked_said};
-ghost use Rattle.papi_tools.specs.Openings.{ForSome};
 ghost use Rattle.papi_tools.specs.RegionCounts.{GivenRegions, readings_in, regions_said, regions_verdict};
 ghost use Rattle.papi_tools.specs.Running.{CanBeGivenRun};
-ghost use Rattle.papi_tools.specs.Seen.{FilesSeen, files_seen};
 ghost use Rattle.papi_tools.specs.Streams.{SomeFailed, sources_in};
 
 use crate::contents::FileContent;
 use crate::input::{Input, open_input};
-use crate::marks::{lines_of, outcome_of};
+use crate::marks::marked;
 use crate::script_run::{RanScript, run_script};
 use crate::streams::close_readers;
 use crate::tables::read_catalog;
@@ -80,12 +77,8 @@ fn said_of(alloc: Global, regions: &Regions, events: &[Text], ran: &RanScript) -
     let read = readings.as_slice();
     readings_fit(read);
     let text = report(alloc, regions, events.len() as u32, read)?;
-    let err = lines_of(alloc, &ran.marks)?;
-    Ok(Said {
-        outcome: outcome_of(&ran.marks),
-        out: Output::text(Bytes::new(text.into_bytes())),
-        err,
-    })
+    let out = Output::text(Bytes::new(text.into_bytes()));
+    Ok(marked(alloc, &ran.marks, out)?)
 }
 
 // ---- the run
@@ -162,12 +155,10 @@ pub fn count_regions<R: Threads + Sync, F: Files>(
     files: &mut F,
     words: &RegionsWords,
 ) -> Result<Said, Stop>
-    ensures said { ForSome (F.held files.old)
-        (λ openings. Answers result (regions_verdict openings words.now)) }
+    ensures said { ToolSays (F.held files.old) result regions_verdict words.now }
     ensures shows { IfOk result
         (λ said. Shows (Unit {0}) (F.faults files.old) (F.faults files.new) said.outcome) }
-    ensures looked { Looked result 0 (files_seen F.held F.misses F.faults F.lent files.old)
-        (files_seen F.held F.misses F.faults F.lent files.new) }
+    ensures looked { LookedBy F.held F.misses F.faults F.lent result 0 files.old files.new }
 {
     let catalog = read_catalog(alloc, files, &words.unit, words.presets.as_ref())?;
     let input = open_input::<Regions, F>(alloc, files, &words.script, words.streams.as_slice())?;

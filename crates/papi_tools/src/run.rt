@@ -1,16 +1,13 @@
 //! `papi_run`: carries out a script.
 ghost use Rattle.std.specs.Prelude.{◌≡◌, IfOk, if◌then◌else◌, [], length, map, vec_len};
-ghost use Rattle.overflow_dispatch.specs.Notes.{EachGrown, told_since};
-ghost use Rattle.papi_tools.specs.Answers.{Answers};
-ghost use Rattle.papi_tools.specs.Causes.{Shows};
-ghost use Rattle.papi_tools.specs.Looking.{Looked, StopsByFile};
-ghost use Rattle.papi_tools.specs.Openings.{ForSome};
+ghost use Rattle.overflow_dispatch.specs.Notes.{told_since};
+ghost use Rattle.papi_tools.specs.Openings.{Answers};
+ghost use Rattle.papi_tools.specs.Looking.{FilesSeen, LookedBy, StopsByFile};
 ghost use Rattle.papi_tools.specs.Run.{run_said, run_verdict};
-ghost use Rattle.papi_tools.specs.Seen.{FilesSeen, files_seen};
-ghost use Rattle.papi_tools.specs.Verdict.{ComesTo};
+ghost use Rattle.papi_tools.specs.Verdict.{ToolTells};
 
 use crate::input::{Input, open_input};
-use crate::marks::{lines_of, outcome_of};
+use crate::marks::marked;
 use crate::script_run::{RanScript, run_and_close};
 use crate::tables::read_catalog;
 use crate::{Output, Said, Stop};
@@ -58,12 +55,8 @@ fn said_of(
     ensures cause { (before after : FilesSeen) → StopsByFile result before after }
 {
     let shown = shown_notes(alloc, wanted, ran.noted.as_slice(), handlers)?;
-    let err = lines_of(alloc, &ran.marks)?;
-    Ok(Said {
-        outcome: outcome_of(&ran.marks),
-        out: Output::replies(ran.lines, catalog, shown),
-        err,
-    })
+    let out = Output::replies(ran.lines, catalog, shown);
+    Ok(marked(alloc, &ran.marks, out)?)
 }
 
 /// `papi_run`: reads the unit, the presets and the script, opens the streams, and carries out the script, each thread's calls on a
@@ -78,15 +71,10 @@ pub fn run<R: Threads + Sync, F: Files>(
 ) -> Result<Said, Stop>
     requires handlers { vec_len handlers.old ≡ THREADS }
     ensures len { vec_len handlers.new ≡ THREADS }
-    ensures ran { ForSome (F.held files.old)
-        (λ openings. ComesTo result (run_verdict openings words.now)
-        (map (λ b. notes b) handlers.old.items) (map (λ b. notes b) handlers.new.items)) }
-    ensures grown { EachGrown (map (λ b. notes b) handlers.old.items)
-        (map (λ b. notes b) handlers.new.items) }
-    ensures shows { IfOk result
-        (λ said. Shows ⊥ (F.faults files.old) (F.faults files.new) said.outcome) }
-    ensures looked { Looked result 0 (files_seen F.held F.misses F.faults F.lent files.old)
-        (files_seen F.held F.misses F.faults F.lent files.new) }
+    ensures tells { ToolTells (F.held files.old) (F.faults files.old) (F.faults files.new) result
+        (λ openings. run_verdict openings words.now) ⊥
+        (map (λ b. notes b) handlers.old.items) (map (λ b. notes b) handlers.new.items) }
+    ensures looked { LookedBy F.held F.misses F.faults F.lent result 0 files.old files.new }
 {
     let catalog = read_catalog(alloc, files, &words.unit, words.presets.as_ref())?;
     let input = open_input::<Script, F>(alloc, files, &words.script, words.streams.as_slice())?;

@@ -1,6 +1,6 @@
 //! What a call is to write, and how it ends then.
 ghost use Rattle.std.specs.Prelude.{◌≡◌};
-ghost use Rattle.papi_tools.specs.Causes.{IsTextual};
+ghost use Rattle.papi_tools.specs.Looking.{IsTextual};
 ghost use Rattle.papi_tools.specs.Texts.{text_said};
 
 use crate::{Outcome, Output};
@@ -19,7 +19,7 @@ impl Said {
     /// The text of a tool that looks at files alone, which says yes or no.
     pub fn text(alloc: Global, is_yes: bool, text: Bytes) -> Said
         ensures said { result ≡ text_said is_yes text }
-        ensures textual { IsTextual result.outcome }
+        ensures textual { IsTextual (Unit {0}) result.outcome }
     {
         let outcome = if is_yes { Outcome::Whole } else { Outcome::No };
         Said {

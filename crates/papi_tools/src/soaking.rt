@@ -1,19 +1,16 @@
 //! `papi_soak`: counts a large input that it makes out of a number.
-ghost use Rattle.std.specs.Prelude.{◌≡◌, ◌≢◌, All, IfOk, IsOkAnd, codes, length, map, vec_len};
-ghost use Rattle.overflow_dispatch.specs.Notes.{EachGrown};
+ghost use Rattle.std.specs.Prelude.{◌≡◌, ℕ, All, IfOk, IsOkAnd, Option, codes, length, map, vec_len};
+ghost use Rattle.papi_base.specs.Outside.{Held};
 ghost use Rattle.soak_input.specs.Script as soak_script;
 ghost use Rattle.soak_input.specs.Unit as soak_unit;
 ghost use Rattle.thread_session.specs.SessionView.{IsFresh};
-ghost use Rattle.papi_tools.specs.Answers.{Answers, AnswersBy};
-ghost use Rattle.papi_tools.specs.Causes.{IsTextual};
+ghost use Rattle.papi_tools.specs.Openings.{Answers, AnswersBy};
+ghost use Rattle.papi_tools.specs.Looking.{FilesSeen, IsTextual, StopsByFile};
 ghost use Rattle.papi_tools.specs.Contents.{script_in, unit_of};
-ghost use Rattle.papi_tools.specs.Looking.{StopsByFile};
-ghost use Rattle.papi_tools.specs.Running.{GivenRun, IsGivenRun};
-ghost use Rattle.papi_tools.specs.Seen.{FilesSeen};
-ghost use Rattle.papi_tools.specs.Soaking.{soak_given, soak_tapes, soak_verdict, soaked, summary_said, totals_between};
+ghost use Rattle.papi_tools.specs.Running.{IsGivenRun};
+ghost use Rattle.papi_tools.specs.Soaking.{soak_given, soak_tapes, soak_verdict, summary_said, totals_between};
 ghost use Rattle.papi_tools.specs.Streams.{TellStreams, streams_of};
-ghost use Rattle.papi_tools.specs.Verdict.{ComesTo};
-ghost use Rattle.papi_tools.specs.declared.status.Outcome.TheVariants as outcome;
+ghost use Rattle.papi_tools.specs.Verdict.{ToolTells};
 
 use crate::contents::FileContent;
 use crate::script_run::{RanScript, run_script};
@@ -104,8 +101,7 @@ fn said_of(
     ensures said { Answers result (Ok (summary_said
         (totals_between ran.now.lines.items ran.now.noted.items
         (map (λ b. length (notes b)) handlers.now.items)) (length ran.now.lines.items))) }
-    ensures textual { IfOk result (λ said. IsTextual said.outcome) }
-    ensures yes { IfOk result (λ said. said.outcome ≢ outcome.No) }
+    ensures textual { IfOk result (λ said. IsTextual ⊥ said.outcome) }
     ensures cause { (before after : FilesSeen) → StopsByFile result before after }
 {
     let noted = counts_of(alloc, handlers)?;
@@ -119,47 +115,6 @@ fn said_of(
     Ok(Said::text(alloc, true, Bytes::new(text.into_bytes())))
 }
 
-// Runs the script over the streams, and says what came of it.
-fn carry_out<R: Threads + Sync>(
-    rt: &R,
-    alloc: Global,
-    words: &SoakWords,
-    run: SoakRun,
-    handlers: &mut Vec<Box<dyn Handler + Send>>,
-) -> Result<Said, Stop>
-    requires readers { vec_len run.readers ≡ THREADS }
-    requires fresh { All IsFresh run.readers.items }
-    requires handlers { vec_len handlers.old ≡ THREADS }
-    ensures len { vec_len handlers.new ≡ THREADS }
-    ensures comes { (given : GivenRun) → IsGivenRun run.catalog run.script run.readers.items given
-        → ComesTo result (Ok (soaked given)) (map (λ b. notes b) handlers.old.items)
-        (map (λ b. notes b) handlers.new.items) }
-    ensures grown { EachGrown (map (λ b. notes b) handlers.old.items)
-        (map (λ b. notes b) handlers.new.items) }
-    ensures textual { IfOk result (λ said. IsTextual said.outcome) }
-    ensures yes { IfOk result (λ said. said.outcome ≢ outcome.No) }
-    ensures cause { (before after : FilesSeen) → StopsByFile result before after }
-{
-    let SoakRun {
-        catalog,
-        script,
-        mut readers,
-    } = run;
-    let answer = run_script(
-        rt,
-        alloc,
-        &script,
-        &catalog,
-        &mut readers,
-        handlers,
-        words.workers.get(),
-    );
-    match answer {
-        Ok(ran) => said_of(alloc, &ran, handlers),
-        Err(_) => Err(Stop::Memory),
-    }
-}
-
 /// `papi_soak`: makes a unit, a script and four streams out of the number of rounds, carries out the script as `papi_run` does, and
 /// gives a summary. The handlers of the first four threads are told the thresholds that were passed.
 pub fn soak<R: Threads + Sync>(
@@ -170,16 +125,25 @@ pub fn soak<R: Threads + Sync>(
 ) -> Result<Said, Stop>
     requires handlers { vec_len handlers.old ≡ THREADS }
     ensures len { vec_len handlers.new ≡ THREADS }
-    ensures comes { ComesTo result (soak_verdict words.now) (map (λ b. notes b) handlers.old.items)
-        (map (λ b. notes b) handlers.new.items) }
-    ensures grown { EachGrown (map (λ b. notes b) handlers.old.items)
-        (map (λ b. notes b) handlers.new.items) }
-    ensures textual { IfOk result (λ said. IsTextual said.outcome) }
-    ensures yes { IfOk result (λ said. said.outcome ≢ outcome.No) }
+    ensures tells { (held : Option Held) (before after : ℕ) → ToolTells held before after result
+        (λ _. soak_verdict words.now) ⊥
+        (map (λ b. notes b) handlers.old.items) (map (λ b. notes b) handlers.new.items) }
     ensures cause { (before after : FilesSeen) → StopsByFile result before after }
 {
-    match make_run(alloc, words.rounds.get()) {
-        Ok(run) => carry_out(rt, alloc, words, run, handlers),
-        Err(stop) => Err(stop),
-    }
+    let run = make_run(alloc, words.rounds.get())?;
+    let SoakRun {
+        catalog,
+        script,
+        mut readers,
+    } = run;
+    let ran = run_script(
+        rt,
+        alloc,
+        &script,
+        &catalog,
+        &mut readers,
+        handlers,
+        words.workers.get(),
+    )?;
+    said_of(alloc, &ran, handlers)
 }

@@ -4,10 +4,8 @@ ghost use Rattle.papi_base.specs.Outside.{Rose};
 ghost use Rattle.plan_runner.specs.Runs.{CanEachCome};
 ghost use Rattle.stream_reader.specs.Reader.{coming, faults_of, new_view};
 ghost use Rattle.thread_session.specs.SessionView.{IsFresh};
-ghost use Rattle.papi_tools.specs.Looking.{Looked, out_with};
-ghost use Rattle.papi_tools.specs.Opening.{tapes_under};
-ghost use Rattle.papi_tools.specs.Openings.{Ends};
-ghost use Rattle.papi_tools.specs.Seen.{files_seen};
+ghost use Rattle.papi_tools.specs.Looking.{LookedBy, out_with};
+ghost use Rattle.papi_tools.specs.Openings.{Ends, tapes_under};
 ghost use Rattle.papi_tools.specs.Streams.{CanEachGive, IsUnread, SomeFailed, empty_stream, sources_in, streams_under};
 
 use crate::Stop;
@@ -31,9 +29,8 @@ fn open_into<F: Files>(
     ensures few { vec_len readers.new ≤ length names.now }
     ensures room { vec_capacity readers.new ≡ vec_capacity readers.old }
     ensures fresh { All IsFresh readers.new.items }
-    ensures looked { Looked result (sources_in readers.new.items)
-        (files_seen F.held F.misses F.faults F.lent files.old)
-        (files_seen F.held F.misses F.faults F.lent files.new) }
+    ensures looked { LookedBy F.held F.misses F.faults F.lent result
+        (sources_in readers.new.items) files.old files.new }
 {
     for name in names {
         match open_named(alloc, files, name.as_str()) {
@@ -74,9 +71,8 @@ pub fn open_readers<F: Files>(
         (λ openings. streams_under openings names.now) (F.held files.old) }
     ensures len { IfOk result (λ readers. vec_len readers ≡ THREADS) }
     ensures fresh { IfOk result (λ readers. All IsFresh readers.items) }
-    ensures looked { Looked result (out_with (λ readers. sources_in readers.items) result)
-        (files_seen F.held F.misses F.faults F.lent files.old)
-        (files_seen F.held F.misses F.faults F.lent files.new) }
+    ensures looked { LookedBy F.held F.misses F.faults F.lent result
+        (out_with (λ readers. sources_in readers.items) result) files.old files.new }
 {
     let mut readers = Vec::with_capacity(alloc, THREADS as usize)?;
     match open_into(alloc, files, names, &mut readers) {

@@ -1,9 +1,8 @@
 //! The tables of a tool: the unit, and then the presets and user events if they are asked for.
 ghost use Rattle.std.specs.Option.{option_copied};
-ghost use Rattle.papi_tools.specs.Looking.{Looked};
+ghost use Rattle.papi_tools.specs.Looking.{LookedBy};
 ghost use Rattle.papi_tools.specs.Openings.{Is, Leads};
-ghost use Rattle.papi_tools.specs.Seen.{files_seen};
-ghost use Rattle.papi_tools.specs.Tables.{after_tables, catalog_under};
+ghost use Rattle.papi_tools.specs.Contents.{after_tables, catalog_under};
 
 use crate::Stop;
 use crate::contents::read_file;
@@ -25,8 +24,7 @@ pub fn read_catalog<F: Files>(
     ensures found { Leads Is result
         (λ openings. catalog_under openings unit.now (option_copied presets.entry))
         (after_tables (option_copied presets.entry)) (F.held files.old) (F.held files.new) }
-    ensures looked { Looked result 0 (files_seen F.held F.misses F.faults F.lent files.old)
-        (files_seen F.held F.misses F.faults F.lent files.new) }
+    ensures looked { LookedBy F.held F.misses F.faults F.lent result 0 files.old files.new }
 {
     let tables: Tables = read_file(alloc, files, unit.as_str(), TABLE_BYTES)?;
     let presets = read_presets_asked(alloc, files, presets)?;

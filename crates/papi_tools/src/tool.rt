@@ -1,8 +1,7 @@
 //! The tools by themselves, each over the words after its name.
 ghost use Rattle.std.specs.Prelude.{◌≡◌, ◌∷◌, IfOk, codes, map, string_bytes, vec_len};
 ghost use Rattle.papi_tools.specs.Carried.{CarriesOutAndTells, CarriesOutAndTellsBy, CarriesOutBy};
-ghost use Rattle.papi_tools.specs.NoFiles.{no_files};
-ghost use Rattle.papi_tools.specs.Seen.{sink_seen};
+ghost use Rattle.papi_tools.specs.Looking.{no_files, sink_seen};
 
 use crate::no_files::NoFiles;
 use crate::{Status, papi_main};
@@ -39,8 +38,7 @@ fn telling_tool<R: Threads + Sync, F: Files, K: Sink>(
     requires handlers { vec_len handlers.old ≡ THREADS }
     ensures len { vec_len handlers.new ≡ THREADS }
     ensures carries_out { CarriesOutAndTellsBy F.held F.misses F.faults F.lent K.taken K.faults
-        (tool.now ∷ map string_bytes words.now) result files.old files.new
-        out.old out.new err.old err.new
+        result tool.now words.now files.old files.new out.old out.new err.old err.new
         (map (λ b. notes b) handlers.old.items) (map (λ b. notes b) handlers.new.items) }
 {
     match named(alloc, tool, words) {
@@ -62,8 +60,7 @@ pub fn run_tool<R: Threads + Sync, F: Files, K: Sink>(
     requires handlers { vec_len handlers.old ≡ THREADS }
     ensures len { vec_len handlers.new ≡ THREADS }
     ensures carries_out { CarriesOutAndTellsBy F.held F.misses F.faults F.lent K.taken K.faults
-        (codes "papi_run" ∷ map string_bytes words.now) result files.old files.new
-        out.old out.new err.old err.new
+        result (codes "papi_run") words.now files.old files.new out.old out.new err.old err.new
         (map (λ b. notes b) handlers.old.items) (map (λ b. notes b) handlers.new.items) }
 {
     telling_tool(rt, alloc, "papi_run", words, files, out, err, handlers)
@@ -82,8 +79,7 @@ pub fn profil_tool<R: Threads + Sync, F: Files, K: Sink>(
     requires handlers { vec_len handlers.old ≡ THREADS }
     ensures len { vec_len handlers.new ≡ THREADS }
     ensures carries_out { CarriesOutAndTellsBy F.held F.misses F.faults F.lent K.taken K.faults
-        (codes "papi_profil" ∷ map string_bytes words.now) result files.old files.new
-        out.old out.new err.old err.new
+        result (codes "papi_profil") words.now files.old files.new out.old out.new err.old err.new
         (map (λ b. notes b) handlers.old.items) (map (λ b. notes b) handlers.new.items) }
 {
     telling_tool(rt, alloc, "papi_profil", words, files, out, err, handlers)
@@ -99,13 +95,9 @@ fn quiet_tool<R: Threads + Sync, F: Files, K: Sink>(
     out: &mut K,
     err: &mut K,
 ) -> Status
-    ensures { CarriesOutBy F.held F.misses F.faults F.lent K.taken K.faults
-        (tool.now ∷ map string_bytes words.now) result files.old files.new
-        out.old out.new err.old err.new }
+    ensures { CarriesOutBy F.held F.misses F.faults F.lent K.taken K.faults result
+        tool.now words.now files.old files.new out.old out.new err.old err.new }
 {
-    let Ok(all) = named(alloc, tool, words) else {
-        return Status::Memory;
-    };
     let mut handlers: Vec<Box<dyn Handler + Send>> = Vec::new(alloc);
     for _thread in 0..THREADS {
         let Ok(recorder) = Box::new(alloc, Recorder::new(alloc)) else {
@@ -115,7 +107,7 @@ fn quiet_tool<R: Threads + Sync, F: Files, K: Sink>(
             return Status::Memory;
         }
     }
-    papi_main(rt, alloc, &all, files, out, err, &mut handlers)
+    telling_tool(rt, alloc, tool, words, files, out, err, &mut handlers)
 }
 
 /// `papi_avail` over the words after its name, as `papi_main` does it.
@@ -127,9 +119,8 @@ pub fn avail<R: Threads + Sync, F: Files, K: Sink>(
     out: &mut K,
     err: &mut K,
 ) -> Status
-    ensures { CarriesOutBy F.held F.misses F.faults F.lent K.taken K.faults
-        (codes "papi_avail" ∷ map string_bytes words.now) result files.old files.new
-        out.old out.new err.old err.new }
+    ensures { CarriesOutBy F.held F.misses F.faults F.lent K.taken K.faults result
+        (codes "papi_avail") words.now files.old files.new out.old out.new err.old err.new }
 {
     quiet_tool(rt, alloc, "papi_avail", words, files, out, err)
 }
@@ -143,9 +134,8 @@ pub fn native_avail<R: Threads + Sync, F: Files, K: Sink>(
     out: &mut K,
     err: &mut K,
 ) -> Status
-    ensures { CarriesOutBy F.held F.misses F.faults F.lent K.taken K.faults
-        (codes "papi_native_avail" ∷ map string_bytes words.now) result files.old files.new
-        out.old out.new err.old err.new }
+    ensures { CarriesOutBy F.held F.misses F.faults F.lent K.taken K.faults result
+        (codes "papi_native_avail") words.now files.old files.new out.old out.new err.old err.new }
 {
     quiet_tool(rt, alloc, "papi_native_avail", words, files, out, err)
 }
@@ -159,9 +149,8 @@ pub fn decode<R: Threads + Sync, F: Files, K: Sink>(
     out: &mut K,
     err: &mut K,
 ) -> Status
-    ensures { CarriesOutBy F.held F.misses F.faults F.lent K.taken K.faults
-        (codes "papi_decode" ∷ map string_bytes words.now) result files.old files.new
-        out.old out.new err.old err.new }
+    ensures { CarriesOutBy F.held F.misses F.faults F.lent K.taken K.faults result
+        (codes "papi_decode") words.now files.old files.new out.old out.new err.old err.new }
 {
     quiet_tool(rt, alloc, "papi_decode", words, files, out, err)
 }
@@ -175,9 +164,8 @@ pub fn event_chooser<R: Threads + Sync, F: Files, K: Sink>(
     out: &mut K,
     err: &mut K,
 ) -> Status
-    ensures { CarriesOutBy F.held F.misses F.faults F.lent K.taken K.faults
-        (codes "papi_event_chooser" ∷ map string_bytes words.now) result files.old files.new
-        out.old out.new err.old err.new }
+    ensures { CarriesOutBy F.held F.misses F.faults F.lent K.taken K.faults result
+        (codes "papi_event_chooser") words.now files.old files.new out.old out.new err.old err.new }
 {
     quiet_tool(rt, alloc, "papi_event_chooser", words, files, out, err)
 }
@@ -191,9 +179,8 @@ pub fn encode_tool<R: Threads + Sync, F: Files, K: Sink>(
     out: &mut K,
     err: &mut K,
 ) -> Status
-    ensures { CarriesOutBy F.held F.misses F.faults F.lent K.taken K.faults
-        (codes "papi_encode" ∷ map string_bytes words.now) result files.old files.new
-        out.old out.new err.old err.new }
+    ensures { CarriesOutBy F.held F.misses F.faults F.lent K.taken K.faults result
+        (codes "papi_encode") words.now files.old files.new out.old out.new err.old err.new }
 {
     quiet_tool(rt, alloc, "papi_encode", words, files, out, err)
 }
@@ -207,9 +194,8 @@ pub fn regions_tool<R: Threads + Sync, F: Files, K: Sink>(
     out: &mut K,
     err: &mut K,
 ) -> Status
-    ensures { CarriesOutBy F.held F.misses F.faults F.lent K.taken K.faults
-        (codes "papi_regions" ∷ map string_bytes words.now) result files.old files.new
-        out.old out.new err.old err.new }
+    ensures { CarriesOutBy F.held F.misses F.faults F.lent K.taken K.faults result
+        (codes "papi_regions") words.now files.old files.new out.old out.new err.old err.new }
 {
     quiet_tool(rt, alloc, "papi_regions", words, files, out, err)
 }
@@ -231,8 +217,14 @@ pub fn soak<R: Threads + Sync, K: Sink>(
         (sink_seen K.taken K.faults err.old) (sink_seen K.taken K.faults err.new)
         (map (λ b. notes b) handlers.old.items) (map (λ b. notes b) handlers.new.items) }
 {
-    match named(alloc, "papi_soak", words) {
-        Ok(all) => papi_main(rt, alloc, &all, &mut NoFiles, out, err, handlers),
-        Err(_) => Status::Memory,
-    }
+    telling_tool(
+        rt,
+        alloc,
+        "papi_soak",
+        words,
+        &mut NoFiles,
+        out,
+        err,
+        handlers,
+    )
 }

@@ -3,11 +3,9 @@ ghost use Rattle.std.specs.Prelude.{◌≡◌, IfOk, Some, map, string_bytes, ve
 ghost use Rattle.overflow_dispatch.specs.Notes.{EachGrown};
 ghost use Rattle.tool_words.specs.Form.{form};
 ghost use Rattle.papi_tools.specs.Carried.{CarriesOutAndTells};
-ghost use Rattle.papi_tools.specs.Causes.{SaysNo, Shows};
-ghost use Rattle.papi_tools.specs.Looking.{Looked};
+ghost use Rattle.papi_tools.specs.Looking.{LookedBy, SaysNo, Shows, files_seen, sink_seen};
 ghost use Rattle.papi_tools.specs.Openings.{ForSome};
-ghost use Rattle.papi_tools.specs.Seen.{files_seen, sink_seen};
-ghost use Rattle.papi_tools.specs.Verdict.{ComesTo, IsSettledAs, command_verdict, verdict_for};
+ghost use Rattle.papi_tools.specs.Verdict.{IsSettledAs, ToolTells, command_verdict, verdict_for};
 
 use crate::choosing::choose_events;
 use crate::decoding::decode_presets;
@@ -38,15 +36,10 @@ fn carried_out<R: Threads + Sync, F: Files>(
 ) -> Result<Said, Stop>
     requires handlers { vec_len handlers.old ≡ THREADS }
     ensures len { vec_len handlers.new ≡ THREADS }
-    ensures ran { ForSome (F.held files.old)
-        (λ openings. ComesTo result (command_verdict openings command.now)
-        (map (λ b. notes b) handlers.old.items) (map (λ b. notes b) handlers.new.items)) }
-    ensures grown { EachGrown (map (λ b. notes b) handlers.old.items)
-        (map (λ b. notes b) handlers.new.items) }
-    ensures shows { IfOk result (λ said. Shows (SaysNo (Some command.now))
-        (F.faults files.old) (F.faults files.new) said.outcome) }
-    ensures looked { Looked result 0 (files_seen F.held F.misses F.faults F.lent files.old)
-        (files_seen F.held F.misses F.faults F.lent files.new) }
+    ensures tells { ToolTells (F.held files.old) (F.faults files.old) (F.faults files.new) result
+        (λ openings. command_verdict openings command.now) (SaysNo (Some command.now))
+        (map (λ b. notes b) handlers.old.items) (map (λ b. notes b) handlers.new.items) }
+    ensures looked { LookedBy F.held F.misses F.faults F.lent result 0 files.old files.new }
 {
     match command {
         Command::Run(words) => run(rt, alloc, files, words, handlers),

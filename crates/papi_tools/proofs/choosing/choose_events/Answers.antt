@@ -1,16 +1,14 @@
 use Rattle.std.proofs.Common.{◌≡◌, Err, Ok, rules}
 use Rattle.papi_tools.specs.Choosing.{choice_said, chooser_verdict}
-use Rattle.papi_tools.specs.Tables.{after_tables, catalog_under}
-use Rattle.papi_tools.proofs.FindingLemmas.{answered, failed, refused}
+use Rattle.papi_tools.specs.Contents.{after_tables, catalog_under}
+use Rattle.papi_tools.proofs.FindingLemmas.{answered, refused_first}
 use Rattle.papi_tools.proofs.choosing.choose_events.Goals as goal
 
 pub returns-in_err-catalog-clause-said : goal.returns-in_err-catalog-clause-said
 unfolding chooser_verdict
 returns-in_err-catalog-clause-said g c =
-    let same : c.from_residual.result ≡ Err c.in_err-catalog.field-0.0 = search rules in
-    rw same (refused c.in_err-catalog.field-0.0 (λ o. chooser_verdict o c.args.words.now) _
-    (failed c.in_err-catalog.field-0.0 (λ o. catalog_under o c.args.words.now.unit c.args.words.now.presets) (λ o catalog. Ok (choice_said catalog c.args.words.now.kind c.args.words.now.events)) _
-    (rw c.as_ref.ensures.value at c.in_err-catalog.ensures.found)))
+    refused_first c.from_residual.result c.in_err-catalog.field-0.0 (λ o. catalog_under o c.args.words.now.unit c.args.words.now.presets) (λ o catalog. Ok (choice_said catalog c.args.words.now.kind c.args.words.now.events)) _ (search rules)
+    (rw c.as_ref.ensures.value at c.in_err-catalog.ensures.found)
 
 pub returns-clause-said : goal.returns-clause-said
 unfolding chooser_verdict

@@ -1,7 +1,5 @@
 use Rattle.std.proofs.Common.{◌≡◌, Err, IfOk, List, Ok, Result, refl, rules, ℕ}
-use Rattle.papi_tools.specs.Answers.{Answers}
-use Rattle.papi_tools.specs.Opening.{file_bytes}
-use Rattle.papi_tools.specs.Openings.{Is, opened}
+use Rattle.papi_tools.specs.Openings.{Answers, Is, file_bytes, opened}
 use Rattle.papi_tools.specs.declared.refusal.Refusal.{Refusal}
 use Rattle.papi_tools.specs.declared.refusal.Stop.{Stop}
 use Rattle.papi_tools.proofs.FindingLemmas.{failed, leads_on, plain}

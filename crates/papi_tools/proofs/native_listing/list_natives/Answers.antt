@@ -2,15 +2,13 @@ use Rattle.std.proofs.Common.{◌≡◌, Err, Ok, rules}
 use Rattle.papi_tools.specs.Contents.{unit_under}
 use Rattle.papi_tools.specs.NativeListing.{native_avail_verdict, natives_said}
 use Rattle.papi_tools.specs.Openings.{opened}
-use Rattle.papi_tools.proofs.FindingLemmas.{answered, failed, refused}
+use Rattle.papi_tools.proofs.FindingLemmas.{answered, refused_first}
 use Rattle.papi_tools.proofs.native_listing.list_natives.Goals as goal
 
 pub returns-in_err-tables-clause-said : goal.returns-in_err-tables-clause-said
 unfolding native_avail_verdict
 returns-in_err-tables-clause-said g c =
-    let same : c.from_residual.result ≡ Err c.in_err-tables.field-0.0 = search rules in
-    rw same (refused c.in_err-tables.field-0.0 (λ o. native_avail_verdict o c.args.words.now) _
-    (failed c.in_err-tables.field-0.0 (λ o. unit_under o c.args.words.now.unit) (λ o tables. Ok (natives_said tables c.args.words.now c.args.words.now.event)) _ (rw c.as_str.ensures at c.in_err-tables.ensures.found)))
+    refused_first c.from_residual.result c.in_err-tables.field-0.0 (λ o. unit_under o c.args.words.now.unit) (λ o tables. Ok (natives_said tables c.args.words.now c.args.words.now.event)) _ (search rules) (rw c.as_str.ensures at c.in_err-tables.ensures.found)
 
 pub returns-clause-said : goal.returns-clause-said
 unfolding native_avail_verdict

@@ -1,15 +1,13 @@
 use Rattle.std.proofs.Common.{◌≡◌, Err, Ok, Some, rules}
 use Rattle.papi_tools.specs.PresetListing.{avail_verdict, presets_said}
-use Rattle.papi_tools.specs.Tables.{after_tables, catalog_under}
-use Rattle.papi_tools.proofs.FindingLemmas.{answered, failed, refused}
+use Rattle.papi_tools.specs.Contents.{after_tables, catalog_under}
+use Rattle.papi_tools.proofs.FindingLemmas.{answered, refused_first}
 use Rattle.papi_tools.proofs.preset_listing.list_presets.Goals as goal
 
 pub returns-in_err-catalog-clause-said : goal.returns-in_err-catalog-clause-said
 unfolding avail_verdict
 returns-in_err-catalog-clause-said g c =
-    let same : c.from_residual.result ≡ Err c.in_err-catalog.field-0.0 = search rules in
-    rw same (refused c.in_err-catalog.field-0.0 (λ o. avail_verdict o c.args.words.now) _
-    (failed c.in_err-catalog.field-0.0 (λ o. catalog_under o c.args.words.now.unit (Some c.args.words.now.presets)) (λ o catalog. Ok (presets_said catalog c.args.words.now.available c.args.words.now.event)) _ c.in_err-catalog.ensures.found))
+    refused_first c.from_residual.result c.in_err-catalog.field-0.0 (λ o. catalog_under o c.args.words.now.unit (Some c.args.words.now.presets)) (λ o catalog. Ok (presets_said catalog c.args.words.now.available c.args.words.now.event)) _ (search rules) c.in_err-catalog.ensures.found
 
 pub returns-clause-said : goal.returns-clause-said
 unfolding avail_verdict

@@ -1,12 +1,10 @@
 use Rattle.std.proofs.Common.{◌≡◌, Err, List, Ok, arith, refl, rules, ℕ}
 use Rattle.region_report.specs.declared.regions.RegionLine.{RegionLine}
-use Rattle.papi_tools.specs.Contents.{regions_in, regions_under}
-use Rattle.papi_tools.specs.Openings.{Is}
+use Rattle.papi_tools.specs.Contents.{after_tables, catalog_under, regions_in, regions_under}
+use Rattle.papi_tools.specs.Openings.{Answers, Is}
 use Rattle.papi_tools.specs.RegionCounts.{counted_of, regions_said, regions_verdict}
 use Rattle.papi_tools.specs.Running.{CanBeGivenRun, given_of}
-use Rattle.papi_tools.specs.Tables.{after_tables, catalog_under}
-use Rattle.papi_tools.specs.Answers.{Answers}
-use Rattle.papi_tools.proofs.FindingLemmas.{failed, failed_after, refused, so_after, so_at_end}
+use Rattle.papi_tools.proofs.FindingLemmas.{failed, failed_after, refused, refused_first, so_after, so_at_end}
 use Rattle.papi_tools.proofs.RunLemmas.{shows_later}
 use Rattle.papi_tools.proofs.regions.count_regions.Goals as goal
 
@@ -20,9 +18,7 @@ pub returns-in_err-catalog-clause-said : goal.returns-in_err-catalog-clause-said
 unfolding regions_verdict
 returns-in_err-catalog-clause-said g c =
     let words = c.args.words.now in
-    let same : c.from_residual.result ≡ Err c.in_err-catalog.field-0.0 = search rules in
-    rw same (refused c.in_err-catalog.field-0.0 (λ o. regions_verdict o words) _
-    (failed c.in_err-catalog.field-0.0 (λ o. catalog_under o words.unit words.presets) (λ o catalog. counted_of words catalog (after_tables words.presets o)) _ (rw c.as_ref.ensures.value at c.in_err-catalog.ensures.found)))
+    refused_first c.from_residual.result c.in_err-catalog.field-0.0 (λ o. catalog_under o words.unit words.presets) (λ o catalog. counted_of words catalog (after_tables words.presets o)) _ (search rules) (rw c.as_ref.ensures.value at c.in_err-catalog.ensures.found)
 
 pub returns-in_err-input-clause-said : goal.returns-in_err-input-clause-said
 unfolding regions_verdict

@@ -13,27 +13,11 @@ loop-reader-preserved g c = record {
   faults_stay = omega arith;
 }
 
-pub returns-clause-faulty : goal.returns-clause-faulty
-returns-clause-faulty g c =
+pub returns : goal.returns
+returns g c =
     let end =
     YieldsList-end (YieldsList-from_vec {s = c.into_iter-reader-iterator.result} c.args.readers.items (search rules) (search rules))
     c.loop-reader.yielded c.loop-reader.reader-iterator c.loop-reader.yielded_by c.next.result c.next.new.self c.in-None.is c.next.ensures.steps in
     let all : c.loop-reader.yielded ≡ c.args.readers.items = sym (map-id c.loop-reader.yielded) ∙ end.0 in
-    rw (sym all) c.loop-reader.invariant.faulty
-
-pub returns-clause-lent : goal.returns-clause-lent
-returns-clause-lent g c =
-    let end =
-    YieldsList-end (YieldsList-from_vec {s = c.into_iter-reader-iterator.result} c.args.readers.items (search rules) (search rules))
-    c.loop-reader.yielded c.loop-reader.reader-iterator c.loop-reader.yielded_by c.next.result c.next.new.self c.in-None.is c.next.ensures.steps in
-    let all : c.loop-reader.yielded ≡ c.args.readers.items = sym (map-id c.loop-reader.yielded) ∙ end.0 in
-    rw (sym all) c.loop-reader.invariant.lent
-
-pub returns-clause-held : goal.returns-clause-held
-returns-clause-held g c = c.loop-reader.invariant.held
-
-pub returns-clause-misses_stay : goal.returns-clause-misses_stay
-returns-clause-misses_stay g c = c.loop-reader.invariant.misses_stay
-
-pub returns-clause-faults_stay : goal.returns-clause-faults_stay
-returns-clause-faults_stay g c = c.loop-reader.invariant.faults_stay
+    let closed = c.loop-reader.invariant in
+    record { faulty = rw (sym all) closed.faulty; lent = rw (sym all) closed.lent; held = closed.held; misses_stay = closed.misses_stay; faults_stay = closed.faults_stay }

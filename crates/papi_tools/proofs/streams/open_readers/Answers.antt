@@ -1,5 +1,5 @@
 use Rattle.std.proofs.Common.{Ok, arith, vec_len}
-use Rattle.papi_tools.specs.Opening.{tapes_under}
+use Rattle.papi_tools.specs.Openings.{tapes_under}
 use Rattle.papi_tools.specs.Streams.{streams_of}
 use Rattle.papi_tools.proofs.FindingLemmas.{failed}
 use Rattle.papi_tools.proofs.LookingLemmas.{stopped_then}

@@ -6,11 +6,11 @@ use Rattle.papi_tools.proofs.top.said_of.Goals as goal
 
 pub returns-clause-said : goal.returns-clause-said
 returns-clause-said g c =
-    settled_as _ _ c.in-Ok.command _ _ _ _ c.carried_out-answer.result _ (rw c.as_slice.ensures.value at c.in-Ok.ensures) c.carried_out-answer.ensures.ran c.carried_out-answer.ensures.looked c.settled.ensures
+    settled_as _ _ c.in-Ok.command _ _ _ _ c.carried_out-answer.result _ (rw c.as_slice.ensures.value at c.in-Ok.ensures) c.carried_out-answer.ensures.tells.ran c.carried_out-answer.ensures.looked c.settled.ensures
 
 pub returns-clause-shows : goal.returns-clause-shows
 returns-clause-shows g c =
-    settled_shows _ c.in-Ok.command c.carried_out-answer.result _ _ _ (rw c.as_slice.ensures.value at c.in-Ok.ensures) c.carried_out-answer.ensures.shows c.carried_out-answer.ensures.looked c.settled.ensures
+    settled_shows _ c.in-Ok.command c.carried_out-answer.result _ _ _ (rw c.as_slice.ensures.value at c.in-Ok.ensures) c.carried_out-answer.ensures.tells.shows c.carried_out-answer.ensures.looked c.settled.ensures
 
 pub returns-in-Err-BadWords-clause-said : goal.returns-in-Err-BadWords-clause-said
 returns-in-Err-BadWords-clause-said g c =
