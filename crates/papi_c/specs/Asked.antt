@@ -28,10 +28,10 @@ abbrev pub info_asked : ℕ → Option InfoPart → LibraryView → Result (List
 info_asked code (Some p) l = map_ok (info_of l.catalog p) (event_coded l.catalog l.mentioned code)
 info_asked code None l = Err Einval
 
--- a text, or PAPI_ENOEVNT if there is no such row
-abbrev pub where_listed : Option (List ℕ) → Result (List ℕ) Code
-where_listed (Some text) = Ok text
-where_listed None = Err Enoevnt
+-- what there is, or PAPI_ENOEVNT if there is no such row
+abbrev pub or_no_event : {X : Type 0} → Option X → Result X Code
+or_no_event (Some x) = Ok x
+or_no_event None = Err Enoevnt
 
 -- the part of a component that a number stands for, as kistalub.h has them; a counter is that in this place
 abbrev pub component_part_numbered : ℕ → ℕ → Option ComponentPart
@@ -43,7 +43,7 @@ component_part_numbered number place =
 
 -- a part of what the unit's file says of a component: PAPI_get_component_info(3)
 abbrev pub component_asked : ℕ → Option ComponentPart → LibraryView → Result (List ℕ) Code
-component_asked comp (Some p) l = where_listed (component_text l.catalog.tables p comp)
+component_asked comp (Some p) l = or_no_event (component_text l.catalog.tables p comp)
 component_asked comp None l = Err Einval
 
 -- the part of a native event that a number stands for, as kistalub.h has them; a umask is that in this place
@@ -57,5 +57,5 @@ native_part_numbered number place =
 
 -- a part of what the unit's file says of a native event by its row, in the order of papi_native_avail(1)
 abbrev pub native_asked : ℕ → ℕ → Option NativePart → LibraryView → Result (List ℕ) Code
-native_asked comp row (Some p) l = where_listed (native_text l.catalog.tables p comp row)
+native_asked comp row (Some p) l = or_no_event (native_text l.catalog.tables p comp row)
 native_asked comp row None l = Err Einval

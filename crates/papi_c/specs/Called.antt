@@ -1,5 +1,5 @@
 -- What the calls from C do.
-use Rattle.std.specs.Prelude.{ℕ, ℤ, ◌≡◌, ◌≢◌, ◌++◌, ◌⊎◌, drop, length, negsuc, pos, take, IsUtf8, List, [], Option, Some, None, Result}
+use Rattle.std.specs.Prelude.{ℕ, ℤ, ◌≡◌, ◌≢◌, ◌++◌, ◌⊎◌, drop, length, negsuc, take, IsUtf8, List, [], Option, Result}
 use Rattle.papi_base.specs.declared.code.Code.{Code}
 use Rattle.papi_base.specs.declared.code.Code.TheVariants as papi
 use Rattle.papi_base.specs.declared.native.EventRef.{EventRef}
@@ -14,10 +14,11 @@ use Rattle.session_model.specs.declared.reply.Reply.{Reply}
 use Rattle.thread_core.specs.Following.{reply_of, values_reply}
 use Rattle.papi_calls.specs.Calls as Calls
 use Rattle.papi_calls.specs.Calls.{Made}
-use Rattle.papi_calls.specs.Codes.{code_in_row, coded}
+use Rattle.papi_calls.specs.Codes.{coded}
 use Rattle.papi_calls.specs.Libraries.{LibraryView}
 use Rattle.papi_c.specs.Numbers.{AnswersNumber}
 use Rattle.papi_c.specs.Placed.{IsRefused}
+use Rattle.papi_c.specs.Through.{Through}
 
 -- the call is made as the model's step has it, and its number is that of the step's code
 pub record MadeWithCode (old new : LibraryView) (made : Call) (number : ℤ) : Type 0 where
@@ -27,9 +28,7 @@ pub record MadeWithCode (old new : LibraryView) (made : Call) (number : ℤ) : T
 
 -- the same through a handle, and a shut one stays as it is: PAPI_ENOINIT
 abbrev pub Called : Option LibraryView → Option LibraryView → (LibraryView → Call) → ℤ → Type 0
-Called None None made number = number ≡ negsuc 15
-Called (Some old) (Some new) made number = MadeWithCode old new (made old) number
-Called old new made number = ⊥
+Called old new made number = Through old new (λ o n. MadeWithCode o n (made o) number) (number ≡ negsuc 15)
 
 -- the name is not a text, PAPI_EINVAL, or memory is refused, PAPI_ENOMEM
 abbrev pub IsUnmade : List ℕ → ℤ → Type 0
@@ -51,9 +50,8 @@ pub record GaveNumber (old new : LibraryView) (made : Call) (shown : ℕ → Bod
 
 -- the same through a handle
 abbrev pub GivesNumber : Option LibraryView → Option LibraryView → Call → (ℕ → Body) → ℤ → ℕ → ℕ → Type 0
-GivesNumber None None made shown number before after = (number ≡ negsuc 15) × (after ≡ before)
-GivesNumber (Some old) (Some new) made shown number before after = GaveNumber old new made shown number before after
-GivesNumber old new made shown number before after = ⊥
+GivesNumber old new made shown number before after =
+    Through old new (λ o n. GaveNumber o n made shown number before after) ((number ≡ negsuc 15) × (after ≡ before))
 
 -- the values stand at the first places, as far as there is room, and what is past them stays
 abbrev pub AreGiven : List ℤ → List ℤ → List ℤ → Type 0
@@ -71,9 +69,8 @@ pub record GaveValues (old new : LibraryView) (made : Call) (n : ℤ) (count : �
 
 -- the same through a handle, and a shut one gives nothing
 abbrev pub GivesValues : Option LibraryView → Option LibraryView → Call → ℤ → ℕ → ℕ → List ℤ → List ℤ → Type 0
-GivesValues None None made number counted count before after = IsRefused (negsuc 15) number counted count before after
-GivesValues (Some old) (Some new) made number counted count before after = GaveValues old new made number count before after
-GivesValues old new made number counted count before after = ⊥
+GivesValues old new made number counted count before after =
+    Through old new (λ o n. GaveValues o n made number count before after) (IsRefused (negsuc 15) number counted count before after)
 
 -- the code of an event is asked as the model has it, and is given, or the reply's code refuses it
 pub record Coded (old new : LibraryView) (made : Asked) (number : ℤ) (before after : ℕ) : Type 0 where
@@ -83,22 +80,11 @@ pub record Coded (old new : LibraryView) (made : Asked) (number : ℤ) (before a
 
 -- the same through a handle
 abbrev pub Codes : Option LibraryView → Option LibraryView → (LibraryView → Asked) → ℤ → ℕ → ℕ → Type 0
-Codes None None made number before after = (number ≡ negsuc 15) × (after ≡ before)
-Codes (Some old) (Some new) made number before after = Coded old new (made old) number before after
-Codes old new made number before after = ⊥
+Codes old new made number before after =
+    Through old new (λ o n. Coded o n (made o) number before after) ((number ≡ negsuc 15) × (after ≡ before))
 
 -- the same of the event that a text names, unless it is not asked
 abbrev pub CodesName : List ℕ → Option LibraryView → Option LibraryView → ℤ → ℕ → ℕ → Type 0
 CodesName name old new number before after =
     Codes old new (λ l. asked.CodeOf (looked_up l.catalog name)) number before after
     ⊎ ((new ≡ old) × (after ≡ before) × IsUnmade name number)
-
--- the code in a row of the catalog is given, PAPI_OK; past the last row nothing is, PAPI_ENOEVNT
-abbrev pub GivesCode : Option ℕ → ℤ → ℕ → ℕ → Type 0
-GivesCode (Some code) number before after = (number ≡ pos 0) × (after ≡ code)
-GivesCode None number before after = (number ≡ negsuc 6) × (after ≡ before)
-
--- the same through a handle
-abbrev pub IsCodeInRow : Option LibraryView → ℕ → ℤ → ℕ → ℕ → Type 0
-IsCodeInRow None row number before after = (number ≡ negsuc 15) × (after ≡ before)
-IsCodeInRow (Some l) row number before after = GivesCode (code_in_row l.catalog row) number before after

@@ -1,4 +1,5 @@
 pub mod Held
+pub mod Through
 pub mod Opened
 pub mod Called
 pub mod Placed

@@ -2,9 +2,10 @@
 use Rattle.std.specs.Prelude.{ℕ, ℤ, ◌≡◌, length, min, negsuc, option_map, pos, slice_get, Option, Some, None, Result, Ok, Err}
 use Rattle.papi_base.specs.Codes.{number_of}
 use Rattle.papi_base.specs.declared.code.Code.{Code}
-use Rattle.papi_calls.specs.Codes.{event_coded}
+use Rattle.papi_calls.specs.Codes.{code_in_row, event_coded}
 use Rattle.papi_calls.specs.Libraries.{LibraryView}
 use Rattle.papi_calls.specs.Rows.{component_of, of_event, row_of}
+use Rattle.papi_c.specs.Asked.{or_no_event}
 use Rattle.papi_c.specs.declared.codes.TheConstants.{MOST_ANSWERED}
 
 -- the number is given, PAPI_OK, or it is refused by a code, and nothing is written
@@ -16,6 +17,10 @@ AnswersNumber (Err code) number before after = (number ≡ number_of code) × (a
 abbrev pub Answers : Option LibraryView → (LibraryView → Result ℕ Code) → ℤ → ℕ → ℕ → Type 0
 Answers None asked number before after = (number ≡ negsuc 15) × (after ≡ before)
 Answers (Some l) asked number before after = AnswersNumber (asked l) number before after
+
+-- the code in a row of the catalog, and PAPI_ENOEVNT past the last
+abbrev pub code_listed : ℕ → LibraryView → Result ℕ Code
+code_listed row l = or_no_event (code_in_row l.catalog row)
 
 -- the component of the event of a code
 abbrev pub component_coded : ℕ → LibraryView → Result ℕ Code

@@ -1,8 +1,9 @@
 -- Runs from C: PAPI_overflow(3).
-use Rattle.std.specs.Prelude.{ℕ, ℤ, ◌≡◌, ◌<◌, ◌+◌, ◌⊎◌, Bool, true, if◌then◌else◌, List, [], drop, length, map, negsuc, take, Option, Some, None}
+use Rattle.std.specs.Prelude.{ℕ, ℤ, ◌≡◌, ◌<◌, ◌+◌, ◌⊎◌, Bool, true, if◌then◌else◌, List, [], drop, length, map, negsuc, take, Option}
 use Rattle.overflow_dispatch.specs.declared.handler.Note.{Note}
 use Rattle.papi_base.specs.Codes.{number_of}
 use Rattle.papi_c.specs.Faults.{fault_of}
+use Rattle.papi_c.specs.Through.{Through}
 use Rattle.papi_c.specs.declared.faults.StreamFault.{StreamFault}
 use Rattle.papi_c.specs.declared.running.Passing.{Passing}
 use Rattle.papi_calls.specs.Libraries.{LibraryView}
@@ -50,7 +51,6 @@ IsUnrun number = (number ≡ negsuc 15) ⊎ (number ≡ negsuc 1)
 
 -- the same through a handle
 abbrev pub Runs : Option LibraryView → Option LibraryView → ℕ → ℤ → ℕ → ℕ → StreamFault → List Passing → List Passing → Type 0
-Runs None None n number consumed told fault before after = (number ≡ negsuc 15) × (after ≡ before)
-Runs (Some old) (Some new) n number consumed told fault before after =
-    Went old new n number consumed told fault before after ⊎ IsRefusedRun old new number before after
-Runs old new n number consumed told fault before after = ⊥
+Runs old new n number consumed told fault before after =
+    Through old new (λ o l. Went o l n number consumed told fault before after ⊎ IsRefusedRun o l number before after)
+    ((number ≡ negsuc 15) × (after ≡ before))

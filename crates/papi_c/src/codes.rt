@@ -1,10 +1,11 @@
 //! Events by their codes, and the counters of the unit.
 ghost use Rattle.std.specs.Prelude.{◌≡◌};
-ghost use Rattle.papi_c.specs.Called.{CodesName, IsCodeInRow};
-ghost use Rattle.papi_c.specs.Numbers.{Answers, AnswersCount, AnswersNumber, TellsCount, component_coded, counter_count, native_count, row_coded};
+ghost use Rattle.papi_c.specs.Called.{CodesName};
+ghost use Rattle.papi_c.specs.Numbers.{Answers, AnswersCount, TellsCount, code_listed, component_coded, counter_count, native_count, row_coded};
 ghost use Rattle.papi_c.specs.Placed.{ArePlaced, Listed, Lists, codes_of};
 
-use crate::handle::{EINVAL, ENOINIT, ENOMEM, Handle};
+use crate::handle::{EINVAL, ENOMEM, Handle, on_library};
+use crate::numbers::give;
 use papi_base::{Code, Events, code_number};
 use papi_calls::Library;
 use std::alloc::Global;
@@ -26,17 +27,8 @@ pub extern "C" fn kistalub_name_to_code(
     let Ok(name) = std::str::from_utf8(name) else {
         return EINVAL;
     };
-    let Some(mut library) = h.take(alloc) else {
-        return ENOINIT;
-    };
-    let answer = library.code_of(name);
-    h.put(library);
-    match answer {
-        Ok(Ok(event)) => {
-            *code = event;
-            0
-        }
-        Ok(Err(code)) => code_number(code),
+    match on_library!(alloc, h, |library| library.code_of(name)) {
+        Ok(answer) => give(answer, code),
         Err(_) => ENOMEM,
     }
 }
@@ -79,12 +71,7 @@ pub extern "C" fn kistalub_list_events(
     ensures lists { Lists h.old.library set result count.old count.new out.old out.new }
     ensures kept { h.new.library ≡ h.old.library }
 {
-    let Some(library) = h.take(alloc) else {
-        return ENOINIT;
-    };
-    let number = list_set(&library, set, out, count);
-    h.put(library);
-    number
+    on_library!(alloc, h, |library| list_set(&library, set, out, count))
 }
 
 /// The code of the preset or user event in a row from 0, the presets first, in the order of their table. PAPI_ENOEVNT past the last.
@@ -95,34 +82,11 @@ pub extern "C" fn kistalub_code_in_row(
     row: u32,
     code: &mut u32,
 ) -> i32
-    ensures code { IsCodeInRow h.old.library row result code.old code.new }
+    ensures code { Answers h.old.library (code_listed row) result code.old code.new }
     ensures kept { h.new.library ≡ h.old.library }
 {
-    let Some(library) = h.take(alloc) else {
-        return ENOINIT;
-    };
-    let answer = library.code_in_row(row);
-    h.put(library);
-    match answer {
-        Some(event) => {
-            *code = event;
-            0
-        }
-        None => code_number(Code::Enoevnt),
-    }
-}
-
-// A number that is answered, or the code that refuses it.
-fn give(answer: Result<u32, Code>, number: &mut u32) -> i32
-    ensures { AnswersNumber answer result number.old number.new }
-{
-    match answer {
-        Ok(found) => {
-            *number = found;
-            0
-        }
-        Err(code) => code_number(code),
-    }
+    let answer = on_library!(alloc, h, |library| library.code_in_row(row));
+    give(answer.ok_or(Code::Enoevnt), code)
 }
 
 /// PAPI_get_event_component(3). PAPI_ENOEVNT if it is the code of no event that is available.
@@ -136,12 +100,10 @@ pub extern "C" fn kistalub_component_of(
     ensures answers { Answers h.old.library (component_coded code) result comp.old comp.new }
     ensures kept { h.new.library ≡ h.old.library }
 {
-    let Some(library) = h.take(alloc) else {
-        return ENOINIT;
-    };
-    let answer = library.component_of(code);
-    h.put(library);
-    give(answer, comp)
+    give(
+        on_library!(alloc, h, |library| library.component_of(code)),
+        comp,
+    )
 }
 
 /// The row in its component of the native event of a code. PAPI_ENOEVNT if it is the code of no native event.
@@ -150,22 +112,15 @@ pub extern "C" fn kistalub_row_of(alloc: Global, h: &mut Handle, code: u32, row:
     ensures answers { Answers h.old.library (row_coded code) result row.old row.new }
     ensures kept { h.new.library ≡ h.old.library }
 {
-    let Some(library) = h.take(alloc) else {
-        return ENOINIT;
-    };
-    let answer = library.row_of(code);
-    h.put(library);
-    give(answer, row)
+    give(on_library!(alloc, h, |library| library.row_of(code)), row)
 }
 
 // How many counters a component has.
 fn counters_of(library: &Library, comp: u32) -> Option<usize>
     ensures { result ≡ counter_count comp library.now }
 {
-    match library.catalog().tables().component(comp) {
-        Some(component) => Some(component.counters.len()),
-        None => None,
-    }
+    let component = library.catalog().tables().component(comp)?;
+    Some(component.counters.len())
 }
 
 // A number as an answer, as far as one has room for it.
@@ -184,22 +139,15 @@ pub extern "C" fn kistalub_counters(alloc: Global, h: &mut Handle, comp: u32) ->
     ensures counts { TellsCount h.old.library (counter_count comp) result }
     ensures kept { h.new.library ≡ h.old.library }
 {
-    let Some(library) = h.take(alloc) else {
-        return ENOINIT;
-    };
-    let count = counters_of(&library, comp);
-    h.put(library);
-    counted(count)
+    counted(on_library!(alloc, h, |library| counters_of(&library, comp)))
 }
 
 // How many native events a component has.
 fn natives_of(library: &Library, comp: u32) -> Option<usize>
     ensures { result ≡ native_count comp library.now }
 {
-    match library.catalog().tables().component(comp) {
-        Some(component) => Some(component.events.len()),
-        None => None,
-    }
+    let component = library.catalog().tables().component(comp)?;
+    Some(component.events.len())
 }
 
 /// How many native events a component has: `num_native_events` of PAPI_get_component_info(3). PAPI_ENOCMP if there is no such component.
@@ -208,10 +156,5 @@ pub extern "C" fn kistalub_natives(alloc: Global, h: &mut Handle, comp: u32) -> 
     ensures counts { TellsCount h.old.library (native_count comp) result }
     ensures kept { h.new.library ≡ h.old.library }
 {
-    let Some(library) = h.take(alloc) else {
-        return ENOINIT;
-    };
-    let count = natives_of(&library, comp);
-    h.put(library);
-    counted(count)
+    counted(on_library!(alloc, h, |library| natives_of(&library, comp)))
 }

@@ -32,6 +32,7 @@ impl Model for Handle {
 }
 
 impl Handle {
+    #[inline(always)]
     pub(crate) fn shut(alloc: Global) -> Handle
         ensures { result.library ≡ None }
     {
@@ -41,6 +42,7 @@ impl Handle {
         }
     }
 
+    #[inline(always)]
     fn of_parts(parts: Parts<Library, Global>) -> Handle
         ensures { result.library ≡ Some parts.value }
     {
@@ -51,6 +53,7 @@ impl Handle {
         }
     }
 
+    #[inline(always)]
     fn into_parts(self) -> Option<Parts<Library, Global>>
         ensures { option_map (λ p. p.value) result ≡ self.library }
     {
@@ -65,6 +68,7 @@ impl Handle {
     }
 
     // Takes the library out of a handle.
+    #[inline(always)]
     pub(crate) fn take(&mut self, alloc: Global) -> Option<Box<Library>>
         ensures taken { option_map (λ b. b.value) result ≡ self.old.library }
         ensures left { self.new.library ≡ None }
@@ -73,26 +77,42 @@ impl Handle {
     }
 
     // Puts a library into a handle; one that was open in it is closed.
+    #[inline(always)]
     pub(crate) fn put(&mut self, library: Box<Library>)
         ensures { self.new.library ≡ Some library.value }
     {
         *self = Handle::of_parts(Parts::of(library));
     }
 
+    #[inline(always)]
     pub(crate) fn into_box(self) -> Option<Box<Library>>
         ensures { option_map (λ p. p.value) result ≡ self.library }
     {
-        match self.into_parts() {
-            Some(parts) => Some(parts.into_box()),
-            None => None,
-        }
+        let parts = self.into_parts()?;
+        Some(parts.into_box())
     }
 }
 
 impl Drop for Handle {
+    #[inline(always)]
     fn drop(self) {
         if let Some(library) = self.into_box() {
             drop(library);
         }
     }
 }
+
+/// What a call on the library of a handle gives: the library is taken out for it, and put back. If the handle is shut the function ends with
+/// PAPI_ENOINIT.
+macro_rules! on_library {
+    ($alloc:ident, $h:ident, |$library:ident| $call:expr) => {{
+        let Some(mut $library) = $h.take($alloc) else {
+            return $crate::handle::ENOINIT;
+        };
+        let answer = $call;
+        $h.put($library);
+        answer
+    }};
+}
+
+pub(crate) use on_library;

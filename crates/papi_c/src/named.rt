@@ -2,7 +2,7 @@
 ghost use Rattle.papi_c.specs.Called.{CalledByName};
 ghost use Rattle.session_model.specs.declared.call.Call.TheVariants as call;
 
-use crate::handle::{EINVAL, ENOINIT, ENOMEM, Handle};
+use crate::handle::{EINVAL, ENOMEM, Handle, on_library};
 use crate::refusals::refusal_code;
 use papi_base::code_number;
 use std::alloc::Global;
@@ -15,12 +15,7 @@ pub extern "C" fn kistalub_add_named(alloc: Global, h: &mut Handle, set: u32, na
     let Ok(name) = std::str::from_utf8(name) else {
         return EINVAL;
     };
-    let Some(mut library) = h.take(alloc) else {
-        return ENOINIT;
-    };
-    let answer = library.add_named(set, name);
-    h.put(library);
-    match answer {
+    match on_library!(alloc, h, |library| library.add_named(set, name)) {
         Ok(Ok(())) => 0,
         Ok(Err(refusal)) => code_number(refusal_code(refusal)),
         Err(_) => ENOMEM,
@@ -35,12 +30,7 @@ pub extern "C" fn kistalub_remove_named(alloc: Global, h: &mut Handle, set: u32,
     let Ok(name) = std::str::from_utf8(name) else {
         return EINVAL;
     };
-    let Some(mut library) = h.take(alloc) else {
-        return ENOINIT;
-    };
-    let answer = library.remove_named(set, name);
-    h.put(library);
-    match answer {
+    match on_library!(alloc, h, |library| library.remove_named(set, name)) {
         Ok(code) => code_number(code),
         Err(_) => ENOMEM,
     }
@@ -62,12 +52,11 @@ pub extern "C" fn kistalub_overflow_named(
     let Ok(name) = std::str::from_utf8(name) else {
         return EINVAL;
     };
-    let Some(mut library) = h.take(alloc) else {
-        return ENOINIT;
-    };
-    let answer = library.overflow_named(set, name, threshold);
-    h.put(library);
-    match answer {
+    match on_library!(
+        alloc,
+        h,
+        |library| library.overflow_named(set, name, threshold)
+    ) {
         Ok(code) => code_number(code),
         Err(_) => ENOMEM,
     }

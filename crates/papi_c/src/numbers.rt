@@ -1,24 +1,33 @@
 //! The calls that take numbers and answer a code.
 ghost use Rattle.papi_c.specs.Called.{Called, CalledByCode, GivesNumber};
+ghost use Rattle.papi_c.specs.Numbers.{AnswersNumber};
 ghost use Rattle.session_model.specs.declared.call.Call.TheVariants as call;
 ghost use Rattle.session_model.specs.declared.reply.Body.TheVariants as body;
 
-use crate::handle::{ENOINIT, Handle};
+use crate::handle::{Handle, on_library};
 use crate::refusals::refusal_code;
-use papi_base::code_number;
+use papi_base::{Code, code_number};
 use std::alloc::Global;
+
+// A number that is answered, or the code that refuses it.
+pub(crate) fn give(answer: Result<u32, Code>, number: &mut u32) -> i32
+    ensures { AnswersNumber answer result number.old number.new }
+{
+    match answer {
+        Ok(found) => {
+            *number = found;
+            0
+        }
+        Err(code) => code_number(code),
+    }
+}
 
 /// PAPI_register_thread(3).
 #[unsafe(no_mangle)]
 pub extern "C" fn kistalub_register(alloc: Global, h: &mut Handle) -> i32
     ensures { Called h.old.library h.new.library (λ l. call.Register) result }
 {
-    let Some(mut library) = h.take(alloc) else {
-        return ENOINIT;
-    };
-    let code = library.register();
-    h.put(library);
-    code_number(code)
+    code_number(on_library!(alloc, h, |library| library.register()))
 }
 
 /// PAPI_unregister_thread(3).
@@ -26,12 +35,7 @@ pub extern "C" fn kistalub_register(alloc: Global, h: &mut Handle) -> i32
 pub extern "C" fn kistalub_unregister(alloc: Global, h: &mut Handle) -> i32
     ensures { Called h.old.library h.new.library (λ l. call.Unregister) result }
 {
-    let Some(mut library) = h.take(alloc) else {
-        return ENOINIT;
-    };
-    let code = library.unregister();
-    h.put(library);
-    code_number(code)
+    code_number(on_library!(alloc, h, |library| library.unregister()))
 }
 
 /// PAPI_destroy_eventset(3).
@@ -39,12 +43,7 @@ pub extern "C" fn kistalub_unregister(alloc: Global, h: &mut Handle) -> i32
 pub extern "C" fn kistalub_destroy(alloc: Global, h: &mut Handle, set: u32) -> i32
     ensures { Called h.old.library h.new.library (λ l. call.Destroy set) result }
 {
-    let Some(mut library) = h.take(alloc) else {
-        return ENOINIT;
-    };
-    let code = library.destroy(set);
-    h.put(library);
-    code_number(code)
+    code_number(on_library!(alloc, h, |library| library.destroy(set)))
 }
 
 /// PAPI_cleanup_eventset(3).
@@ -52,12 +51,7 @@ pub extern "C" fn kistalub_destroy(alloc: Global, h: &mut Handle, set: u32) -> i
 pub extern "C" fn kistalub_cleanup(alloc: Global, h: &mut Handle, set: u32) -> i32
     ensures { Called h.old.library h.new.library (λ l. call.Cleanup set) result }
 {
-    let Some(mut library) = h.take(alloc) else {
-        return ENOINIT;
-    };
-    let code = library.cleanup(set);
-    h.put(library);
-    code_number(code)
+    code_number(on_library!(alloc, h, |library| library.cleanup(set)))
 }
 
 /// PAPI_assign_eventset_component(3).
@@ -70,12 +64,7 @@ pub extern "C" fn kistalub_assign_component(
 ) -> i32
     ensures { Called h.old.library h.new.library (λ l. call.AssignComponent set comp) result }
 {
-    let Some(mut library) = h.take(alloc) else {
-        return ENOINIT;
-    };
-    let code = library.assign_component(set, comp);
-    h.put(library);
-    code_number(code)
+    code_number(on_library!(alloc, h, |library| library.assign_component(set, comp)))
 }
 
 /// PAPI_set_domain(3).
@@ -83,12 +72,7 @@ pub extern "C" fn kistalub_assign_component(
 pub extern "C" fn kistalub_set_domain(alloc: Global, h: &mut Handle, set: u32, bits: u32) -> i32
     ensures { Called h.old.library h.new.library (λ l. call.SetDomain set bits) result }
 {
-    let Some(mut library) = h.take(alloc) else {
-        return ENOINIT;
-    };
-    let code = library.set_domain(set, bits);
-    h.put(library);
-    code_number(code)
+    code_number(on_library!(alloc, h, |library| library.set_domain(set, bits)))
 }
 
 /// PAPI_set_multiplex(3), by slices of n ticks.
@@ -96,12 +80,7 @@ pub extern "C" fn kistalub_set_domain(alloc: Global, h: &mut Handle, set: u32, b
 pub extern "C" fn kistalub_set_multiplex(alloc: Global, h: &mut Handle, set: u32, slice: u32) -> i32
     ensures { Called h.old.library h.new.library (λ l. call.SetMultiplex set slice) result }
 {
-    let Some(mut library) = h.take(alloc) else {
-        return ENOINIT;
-    };
-    let code = library.set_multiplex(set, slice);
-    h.put(library);
-    code_number(code)
+    code_number(on_library!(alloc, h, |library| library.set_multiplex(set, slice)))
 }
 
 /// PAPI_start(3).
@@ -109,12 +88,7 @@ pub extern "C" fn kistalub_set_multiplex(alloc: Global, h: &mut Handle, set: u32
 pub extern "C" fn kistalub_start(alloc: Global, h: &mut Handle, set: u32) -> i32
     ensures { Called h.old.library h.new.library (λ l. call.Start set) result }
 {
-    let Some(mut library) = h.take(alloc) else {
-        return ENOINIT;
-    };
-    let code = library.start(set);
-    h.put(library);
-    code_number(code)
+    code_number(on_library!(alloc, h, |library| library.start(set)))
 }
 
 /// PAPI_reset(3).
@@ -122,12 +96,7 @@ pub extern "C" fn kistalub_start(alloc: Global, h: &mut Handle, set: u32) -> i32
 pub extern "C" fn kistalub_reset(alloc: Global, h: &mut Handle, set: u32) -> i32
     ensures { Called h.old.library h.new.library (λ l. call.Reset set) result }
 {
-    let Some(mut library) = h.take(alloc) else {
-        return ENOINIT;
-    };
-    let code = library.reset(set);
-    h.put(library);
-    code_number(code)
+    code_number(on_library!(alloc, h, |library| library.reset(set)))
 }
 
 /// PAPI_create_eventset(3). `set` is written if the code is PAPI_OK.
@@ -136,18 +105,7 @@ pub extern "C" fn kistalub_create(alloc: Global, h: &mut Handle, set: &mut u32) 
     ensures { GivesNumber h.old.library h.new.library call.Create (λ n. body.SetNumber n) result
         set.old set.new }
 {
-    let Some(mut library) = h.take(alloc) else {
-        return ENOINIT;
-    };
-    let answer = library.create();
-    h.put(library);
-    match answer {
-        Ok(number) => {
-            *set = number;
-            0
-        }
-        Err(code) => code_number(code),
-    }
+    give(on_library!(alloc, h, |library| library.create()), set)
 }
 
 /// PAPI_state(3). `bits` is written if the code is PAPI_OK.
@@ -156,18 +114,7 @@ pub extern "C" fn kistalub_state(alloc: Global, h: &mut Handle, set: u32, bits: 
     ensures { GivesNumber h.old.library h.new.library (call.State set) (λ b. body.State b) result
         bits.old bits.new }
 {
-    let Some(library) = h.take(alloc) else {
-        return ENOINIT;
-    };
-    let answer = library.state(set);
-    h.put(library);
-    match answer {
-        Ok(now) => {
-            *bits = now;
-            0
-        }
-        Err(code) => code_number(code),
-    }
+    give(on_library!(alloc, h, |library| library.state(set)), bits)
 }
 
 /// PAPI_add_event(3).
@@ -175,12 +122,7 @@ pub extern "C" fn kistalub_state(alloc: Global, h: &mut Handle, set: u32, bits: 
 pub extern "C" fn kistalub_add(alloc: Global, h: &mut Handle, set: u32, event: u32) -> i32
     ensures { CalledByCode event h.old.library h.new.library (λ e. call.Add set e) result }
 {
-    let Some(mut library) = h.take(alloc) else {
-        return ENOINIT;
-    };
-    let answer = library.add_coded(set, event);
-    h.put(library);
-    match answer {
+    match on_library!(alloc, h, |library| library.add_coded(set, event)) {
         Ok(()) => 0,
         Err(refusal) => code_number(refusal_code(refusal)),
     }
@@ -191,12 +133,7 @@ pub extern "C" fn kistalub_add(alloc: Global, h: &mut Handle, set: u32, event: u
 pub extern "C" fn kistalub_remove(alloc: Global, h: &mut Handle, set: u32, event: u32) -> i32
     ensures { CalledByCode event h.old.library h.new.library (λ e. call.Remove set e) result }
 {
-    let Some(mut library) = h.take(alloc) else {
-        return ENOINIT;
-    };
-    let code = library.remove_coded(set, event);
-    h.put(library);
-    code_number(code)
+    code_number(on_library!(alloc, h, |library| library.remove_coded(set, event)))
 }
 
 /// PAPI_overflow(3), and a threshold of 0 clears it.
@@ -211,10 +148,9 @@ pub extern "C" fn kistalub_overflow(
     ensures { CalledByCode event h.old.library h.new.library
         (λ e. call.Overflow set e threshold) result }
 {
-    let Some(mut library) = h.take(alloc) else {
-        return ENOINIT;
-    };
-    let code = library.overflow_coded(set, event, threshold);
-    h.put(library);
-    code_number(code)
+    code_number(on_library!(
+        alloc,
+        h,
+        |library| library.overflow_coded(set, event, threshold)
+    ))
 }

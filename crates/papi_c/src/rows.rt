@@ -4,7 +4,7 @@ ghost use Rattle.papi_c.specs.Asked.{component_asked, component_part_numbered, n
 ghost use Rattle.papi_c.specs.Placed.{Spells};
 ghost use Rattle.papi_calls.specs.Codes.{map_ok};
 
-use crate::handle::{ENOINIT, Handle};
+use crate::handle::{Handle, on_library};
 use crate::texts::give;
 use papi_base::Code;
 use papi_calls::{ComponentPart, Library, NativePart};
@@ -35,10 +35,11 @@ fn component_text(
     let Some(part) = part else {
         return Ok(Err(Code::Einval));
     };
-    match library.component_text(alloc, comp, part)? {
-        Some(text) => Ok(Ok(text)),
-        None => Ok(Err(Code::Enoevnt)),
-    }
+    Ok(
+        library
+            .component_text(alloc, comp, part)?
+            .ok_or(Code::Enoevnt),
+    )
 }
 
 /// A part of what the unit's file says of a component, from 0: 0 its name, 1 the name of its pmu, 2 the name of the counter in this place
@@ -58,12 +59,15 @@ pub extern "C" fn kistalub_component(
         length.new out.old out.new }
     ensures kept { h.new.library ≡ h.old.library }
 {
-    let Some(library) = h.take(alloc) else {
-        return ENOINIT;
-    };
-    let answer = component_text(alloc, &library, comp, component_part_of(number, place));
-    h.put(library);
-    give(answer, out, length)
+    give(
+        on_library!(
+            alloc,
+            h,
+            |library| component_text(alloc, &library, comp, component_part_of(number, place))
+        ),
+        out,
+        length,
+    )
 }
 
 // The part of a native event that a number stands for.
@@ -93,10 +97,11 @@ fn native_text(
     let Some(part) = part else {
         return Ok(Err(Code::Einval));
     };
-    match library.native_text(alloc, comp, row, part)? {
-        Some(text) => Ok(Ok(text)),
-        None => Ok(Err(Code::Enoevnt)),
-    }
+    Ok(
+        library
+            .native_text(alloc, comp, row, part)?
+            .ok_or(Code::Enoevnt),
+    )
 }
 
 /// A part of what the unit's file says of the native event in a row of a component, both from 0, in the order of papi_native_avail: 0 its
@@ -118,10 +123,13 @@ pub extern "C" fn kistalub_native(
         length.new out.old out.new }
     ensures kept { h.new.library ≡ h.old.library }
 {
-    let Some(library) = h.take(alloc) else {
-        return ENOINIT;
-    };
-    let answer = native_text(alloc, &library, comp, row, native_part_of(number, place));
-    h.put(library);
-    give(answer, out, length)
+    give(
+        on_library!(
+            alloc,
+            h,
+            |library| native_text(alloc, &library, comp, row, native_part_of(number, place))
+        ),
+        out,
+        length,
+    )
 }

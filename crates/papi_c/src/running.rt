@@ -5,7 +5,7 @@ ghost use Rattle.session_model.specs.Step.{code_of};
 ghost use Rattle.thread_session.specs.declared.filling.TheConstants.{MOST_PASSED};
 
 use crate::faults::{StreamFault, fault_of};
-use crate::handle::{ENOINIT, ENOMEM, Handle};
+use crate::handle::{ENOMEM, Handle, on_library};
 use overflow_dispatch::Note;
 use papi_base::{Code, code_number};
 use papi_calls::{Filled, Library};
@@ -140,10 +140,9 @@ pub extern "C" fn kistalub_run(
         → (consumed.new ≡ consumed.old) × (told.new ≡ told.old) × (fault.new ≡ fault.old) }
     ensures lean { length out.old ≤ MOST_PASSED → result ≢ negsuc 1 }
 {
-    let Some(mut library) = h.take(alloc) else {
-        return ENOINIT;
-    };
-    let number = run(alloc, &mut library, n, consumed, out, told, fault);
-    h.put(library);
-    number
+    on_library!(
+        alloc,
+        h,
+        |library| run(alloc, &mut library, n, consumed, out, told, fault)
+    )
 }

@@ -5,7 +5,7 @@ ghost use Rattle.papi_c.specs.Asked.{info_asked, part_numbered};
 ghost use Rattle.papi_c.specs.Placed.{AnswersItems, ArePlaced, IsRefused, Spells};
 ghost use Rattle.papi_calls.specs.Codes.{event_coded, map_ok};
 
-use crate::handle::{EINVAL, ENOINIT, ENOMEM, Handle};
+use crate::handle::{EINVAL, ENOMEM, Handle, on_library};
 use papi_base::{Code, code_number};
 use papi_calls::{InfoPart, Library};
 use std::alloc::{AllocError, Global};
@@ -59,12 +59,11 @@ pub extern "C" fn kistalub_code_to_name(
         length.old length.new out.old out.new }
     ensures kept { h.new.library ≡ h.old.library }
 {
-    let Some(library) = h.take(alloc) else {
-        return ENOINIT;
-    };
-    let answer = library.name_of(alloc, code);
-    h.put(library);
-    give(answer, out, length)
+    give(
+        on_library!(alloc, h, |library| library.name_of(alloc, code)),
+        out,
+        length,
+    )
 }
 
 // The part of a number.
@@ -112,10 +111,13 @@ pub extern "C" fn kistalub_info(
         length.old length.new out.old out.new }
     ensures kept { h.new.library ≡ h.old.library }
 {
-    let Some(library) = h.take(alloc) else {
-        return ENOINIT;
-    };
-    let answer = info_text(alloc, &library, code, part_of(number, place));
-    h.put(library);
-    give(answer, out, length)
+    give(
+        on_library!(
+            alloc,
+            h,
+            |library| info_text(alloc, &library, code, part_of(number, place))
+        ),
+        out,
+        length,
+    )
 }

@@ -1,15 +1,16 @@
 //! The calls that give values.
 ghost use Rattle.std.specs.Prelude.{◌≡◌, length};
-ghost use Rattle.papi_c.specs.Called.{AreGiven, GaveValues, GivesValues};
+ghost use Rattle.papi_base.specs.Codes.{number_of};
+ghost use Rattle.papi_c.specs.Called.{AreGiven, GivesValues};
 ghost use Rattle.session_model.specs.declared.call.Call.TheVariants as call;
 
-use crate::handle::{ENOINIT, Handle};
-use papi_base::{Values, code_number};
-use papi_calls::Library;
+use crate::handle::{Handle, on_library};
+use papi_base::{Code, Values, code_number};
 use std::alloc::Global;
 
-// The values, as far as there is room.
-fn give(values: &Values, out: &mut [i64], count: &mut u32)
+// The values of a call, as far as there is room, and the number of its code.
+fn give(code: Code, values: &Values, out: &mut [i64], count: &mut u32) -> i32
+    ensures number { result ≡ number_of code }
     ensures count { count.new ≡ length values.now }
     ensures given { AreGiven values.now out.old out.new }
 {
@@ -18,16 +19,6 @@ fn give(values: &Values, out: &mut [i64], count: &mut u32)
         out[i] = values.at(i as u32);
     }
     *count = values.len();
-}
-
-// Reads a set of a library.
-fn read(library: &Library, set: u32, out: &mut [i64], count: &mut u32) -> i32
-    ensures gave { GaveValues library.now library.now (call.Read set) result count.new out.old
-        out.new }
-{
-    let mut values = Values::new();
-    let code = library.read(set, &mut values);
-    give(&values, out, count);
     code_number(code)
 }
 
@@ -43,12 +34,9 @@ pub extern "C" fn kistalub_read(
     ensures gives { GivesValues h.old.library h.new.library (call.Read set) result count.old
         count.new out.old out.new }
 {
-    let Some(library) = h.take(alloc) else {
-        return ENOINIT;
-    };
-    let number = read(&library, set, out, count);
-    h.put(library);
-    number
+    let mut values = Values::new();
+    let code = on_library!(alloc, h, |library| library.read(set, &mut values));
+    give(code, &values, out, count)
 }
 
 /// PAPI_stop(3). The values go into `out` as far as there is room, and `count` has their number.
@@ -63,14 +51,9 @@ pub extern "C" fn kistalub_stop(
     ensures gives { GivesValues h.old.library h.new.library (call.Stop set) result count.old
         count.new out.old out.new }
 {
-    let Some(mut library) = h.take(alloc) else {
-        return ENOINIT;
-    };
     let mut values = Values::new();
-    let code = library.stop(set, &mut values);
-    h.put(library);
-    give(&values, out, count);
-    code_number(code)
+    let code = on_library!(alloc, h, |library| library.stop(set, &mut values));
+    give(code, &values, out, count)
 }
 
 /// PAPI_accum(3) as the model has it: the sums are kept in the set. The values go into `out` as far as there is room, and `count` has their number.
@@ -85,12 +68,7 @@ pub extern "C" fn kistalub_accum(
     ensures gives { GivesValues h.old.library h.new.library (call.Accum set) result count.old
         count.new out.old out.new }
 {
-    let Some(mut library) = h.take(alloc) else {
-        return ENOINIT;
-    };
     let mut values = Values::new();
-    let code = library.accum(set, &mut values);
-    h.put(library);
-    give(&values, out, count);
-    code_number(code)
+    let code = on_library!(alloc, h, |library| library.accum(set, &mut values));
+    give(code, &values, out, count)
 }
