@@ -52,8 +52,8 @@ static int own_handler(int code) {
     return code;
 }
 
-int kl_answer(int code) {
-    if (code >= PAPI_OK || !message_of(code) || kl_is_nested()) return code;
+int kl_refuse(int code) {
+    if (!message_of(code) || kl_is_nested()) return code;
     last_error = code;
     PAPI_debug_handler_t given = atomic_load(&handler);
     if (!given) return own_handler(code);

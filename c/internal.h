@@ -85,7 +85,8 @@ void kl_call_ends(const int *number);
 
 /* Ends each function of papi.h that answers a code: one below 0 is the thread's last error, and the error handler is told of it. */
 #define RETURN(code) return kl_answer(code)
-int kl_answer(int code);
+int kl_refuse(int code);
+static inline int kl_answer(int code) { return code >= PAPI_OK ? code : kl_refuse(code); }
 
 /* The thread's state, or the code why there is none is what the function answers. */
 #define HERE(t) \
@@ -114,7 +115,7 @@ thread_state *kl_here(int *code);
 thread_state *kl_known(void);
 int kl_enters(const uint32_t *number, unsigned begun);
 void kl_leaves(void);
-void kl_hold(thread_state *t);
+static inline void kl_hold(thread_state *t) { t->held++; }
 int kl_let_go(thread_state *t);
 int kl_prepare(void);
 static inline int kl_is_open(void) { return atomic_load(&kl_generation) != 0; }

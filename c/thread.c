@@ -52,8 +52,6 @@ static void thread_ends(void *state) {
     leave(t);
 }
 
-void kl_hold(thread_state *t) { t->held++; }
-
 /* PAPI_ENOINIT if the library has ended in the meantime. */
 int kl_let_go(thread_state *t) {
     int ended = t->left || t->generation != atomic_load(&kl_generation);
@@ -158,14 +156,17 @@ static int open_state(thread_state *t) {
 }
 
 /* A thread is listed before its stream is read. The function that gives its id may make calls, which then open the library. */
-thread_state *kl_here(int *code) {
-    thread_state *t = kl_known();
-    *code = PAPI_OK;
-    if (t && t->opened && t->has_id) return t;
-    if (!t) *code = kl_enters(NULL, 0);
+static __attribute__((noinline)) thread_state *begin_thread(int *code) {
+    if (!kl_known()) *code = kl_enters(NULL, 0);
     if (*code == PAPI_OK && !own->has_id) *code = kl_name_thread(own);
     if (*code == PAPI_OK && !own->opened) *code = open_state(own);
     return *code == PAPI_OK ? own : NULL;
+}
+
+thread_state *kl_here(int *code) {
+    thread_state *t = kl_known();
+    *code = PAPI_OK;
+    return t && t->opened && t->has_id ? t : begin_thread(code);
 }
 
 int kistalub_thread(uint32_t number) {
