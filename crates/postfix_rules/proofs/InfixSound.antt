@@ -163,10 +163,10 @@ pub text-says : (natives : ℕ) (text : Text) → Says natives (infix_parts text
 unfolding infix_of
 text-says natives text = says natives 0 [] (infix_parts text) order_begun (wants [] None None) refl (follows-none natives) (λ j part lt at. absurd (omega arith))
 
-pub answer-infix : (natives : ℕ) (text : Text) (r : Result FormulaView FormulaFault) → AnswersInfix r (infix_of natives text) → ReadsInfix r natives text
-answer-infix natives text (Err Memory) e = tt
-answer-infix natives text r e = subst (Says natives (infix_parts text)) e (text-says natives text)
+pub answer_infix : (natives : ℕ) (text : Text) (r : Result FormulaView FormulaFault) → AnswersInfix r (infix_of natives text) → ReadsInfix r natives text
+answer_infix natives text (Err Memory) e = tt
+answer_infix natives text r e = subst (Says natives (infix_parts text)) e (text-says natives text)
 
-pub answer-natives : (natives : ℕ) (text : Text) (r : Result FormulaView FormulaFault) → AnswersInfix r (infix_of natives text) → IfOk r (λ f. f.natives ≡ natives)
-answer-natives natives text (Ok f) e = let s = subst (Says natives (infix_parts text)) e (text-says natives text) in s.3
-answer-natives natives text (Err fault) e = tt
+pub answer_natives : (natives : ℕ) (text : Text) (r : Result FormulaView FormulaFault) → AnswersInfix r (infix_of natives text) → IfOk r (λ f. f.natives ≡ natives)
+answer_natives natives text (Ok f) e = let s = subst (Says natives (infix_parts text)) e (text-says natives text) in s.3
+answer_natives natives text (Err fault) e = tt

@@ -92,9 +92,9 @@ tree-of natives text f e =
     let r = (same_tokens natives text f).0 e in
     (r.0, formulas_spell natives f.tokens r.2)
 
-pub answer-tree : (natives : ℕ) (text : Text) (r : Result FormulaView FormulaFault) → ReadsFormula r natives text → IfOk r (λ f. IsTreeText text f.tokens)
-answer-tree natives text (Ok f) e = tree-of natives text f e
-answer-tree natives text (Err fault) e = tt
+pub answer_tree : (natives : ℕ) (text : Text) (r : Result FormulaView FormulaFault) → ReadsFormula r natives text → IfOk r (λ f. IsTreeText text f.tokens)
+answer_tree natives text (Ok f) e = tree-of natives text f e
+answer_tree natives text (Err fault) e = tt
 
 text-fault : (natives : ℕ) (text : Text) (place : ℕ) (cause : FormulaCause) → formula_of natives text ≡ Err (record { place = place; cause = cause }) → IsTextFault natives text (At place cause)
 unfolding formula_of
@@ -102,6 +102,6 @@ text-fault natives text place cause e =
     let f = refused-fault natives (parts_of text) (fault_from natives 0 0 (parts_of text)) (record { place = place; cause = cause }) e in
     (f.0.0, f.2, subst (IsFault natives (parts_of text) f.0.0) (sym f.3) (fault-of natives (parts_of text) f.0 f.1))
 
-pub answer-fault : (natives : ℕ) (text : Text) (r : Result FormulaView FormulaFault) → ReadsFormula r natives text → IfErr r (λ fault. IsTextFault natives text fault)
-answer-fault natives text (Err (At place cause)) e = text-fault natives text place cause e
-answer-fault natives text r e = tt
+pub answer_fault : (natives : ℕ) (text : Text) (r : Result FormulaView FormulaFault) → ReadsFormula r natives text → IfErr r (λ fault. IsTextFault natives text fault)
+answer_fault natives text (Err (At place cause)) e = text-fault natives text place cause e
+answer_fault natives text r e = tt

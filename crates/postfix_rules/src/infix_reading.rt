@@ -69,6 +69,7 @@ fn formula_in(alloc: Global, text: &str, natives: u32) -> Result<Formula, Formul
 /// A token is a constant in decimal, `N` and the number of a native event, one of `+ - * /`, or a parenthesis, with spaces
 /// and tabs between them. `*` and `/` bind more tightly than `+` and `-`, and operators of one rank group to the left.
 /// Parentheses lie at most 16 deep. Source: papi_events.csv; the stack has 16 places, and a constant is at most 2^63 - 1.
+#[tactic(auto, using(crate::proofs::InfixSound::answer_natives, crate::proofs::InfixSound::answer_infix))]
 pub fn read_infix(alloc: Global, text: &str, natives: u32) -> Result<Formula, FormulaFault>
     ensures read { AnswersInfix result (infix_of natives text.now) }
     ensures natives { IfOk result (λ f. f.natives ≡ natives) }

@@ -5,12 +5,14 @@ ghost use Rattle.postfix_rules.specs.Laws.{EachIsAmong, EarlierStay, FormulasSpe
 ghost use Rattle.postfix_rules.specs.Reading.{FirstFaults, FromOne, SameTokens, WrittenBytes, WrittenRead};
 
 /// The tests for equal events mean equality.
+#[tactic(auto, using(crate::proofs::Equal::same_natives, crate::proofs::Equal::same_events))]
 pub fn sameness_laws()
     ensures natives { SameNatives }
     ensures events { SameEvents }
 {}
 
 /// The native events of a list of events: first mentions, in order.
+#[tactic(auto, using(crate::proofs::Joined::one_more_joins, crate::proofs::Joined::earlier_stay, crate::proofs::Joined::each_is_among, crate::proofs::Joined::none_twice))]
 pub fn natives_laws()
     ensures joins { OneMoreJoins }
     ensures stay { EarlierStay }
@@ -19,6 +21,7 @@ pub fn natives_laws()
 {}
 
 /// The tokens of a formula spell a tree, and their value is that of every tree that they spell.
+#[tactic(auto, using(crate::proofs::Spelled::formulas_spell, crate::proofs::TreeValues::trees_valued))]
 pub fn formula_laws()
     ensures spell { FormulasSpell }
     ensures valued { TreesValued }

@@ -48,6 +48,7 @@ fn formula_in(alloc: Global, text: &str, natives: u32) -> Result<Formula, Formul
 /// Tokens are ended by `|`, the last one perhaps by nothing, with spaces and tabs round them: a constant in decimal, `N`
 /// and the number of a native event, or one of `+ - * /`. Source: papi_events.csv; the stack has 16 places, and a
 /// constant is at most 2^63 - 1.
+#[tactic(auto, using(crate::proofs::Refusals::answer_tree, crate::proofs::Refusals::answer_fault))]
 pub fn read_postfix(alloc: Global, text: &str, natives: u32) -> Result<Formula, FormulaFault>
     ensures read { ReadsFormula result natives text.now }
     ensures natives { IfOk result (λ f. f.natives ≡ natives) }
