@@ -97,11 +97,7 @@ closed_more above (cpu n) = false
 pub names-more : (above : List Line) (line : Line) → group (above ++ line ∷ []) ≡ names_more above line
 names-more above other = group-same above other refl
 names-more above (gives w r) = group-same above (gives w r) refl
-names-more above (cpu n) = go (is_closed above) refl
-  where
-    go : (b : Bool) → is_closed above ≡ b → group (above ++ cpu n ∷ []) ≡ (if b then n ∷ [] else group above ++ n ∷ [])
-    go true e = group-closed above n e
-    go false e = group-open above n e
+names-more above (cpu n) = cond_both (is_closed above) (n ∷ []) (group above ++ n ∷ []) (λ (g : List Text). group (above ++ cpu n ∷ []) ≡ g) (λ e. group-closed above n e) (λ e. group-open above n e)
 
 pub closed-more : (above : List Line) (line : Line) → is_closed (above ++ line ∷ []) ≡ closed_more above line
 unfolding is_closed has_cpu

@@ -4,7 +4,7 @@ use Rattle.std.specs.Prelude.{⊤, ◌&&◌, not, nat_lt, if◌then◌else◌}
 use Rattle.std.specs.Bool.{Decides}
 use Rattle.std.specs.List.{AllByRecursion, list_all, position_or_len}
 use Rattle.std.specs.Str.{bytes_eq}
-use Rattle.std.proofs.lemmas.Bool.{and_from, and_parts, ltb-false, ltb-true, not-true}
+use Rattle.std.proofs.lemmas.Bool.{and_from, and_parts, cond_both, ltb-false, ltb-true, not-true}
 use Rattle.std.proofs.lemmas.Slice.Eq.{bytes_eq-Decides}
 use Rattle.table_rows.specs.Texts.{Text, is_printable}
 use Rattle.table_rows.proofs.Texts.{all-map}
@@ -66,11 +66,9 @@ place t rows = position_or_len (λ r. bytes_eq r.symbol t) rows
 
 place-within : (t : Text) (rows : List PresetRow) → place t rows ≤ length rows
 place-within t [] = omega arith
-place-within t (r ∷ rows) = go (bytes_eq r.symbol t) (place-within t rows)
-  where
-    go : (b : Bool) → place t rows ≤ length rows → cond (not b) (1 + place t rows) 0 ≤ length (r ∷ rows)
-    go true le = omega arith
-    go false le = omega (arith, le)
+place-within t (r ∷ rows) =
+    let le = place-within t rows in
+    cond_both (not (bytes_eq r.symbol t)) (1 + place t rows) 0 (λ k. k ≤ length (r ∷ rows)) (λ b. omega (arith, le)) (λ b. omega arith)
 
 place-end : (t : Text) (rows : List PresetRow) → length rows ≤ place t rows → place t rows ≡ length rows
 place-end t rows le = let within = place-within t rows in omega (arith, le, within)
@@ -111,12 +109,10 @@ set_at xs (Some row) x = set xs row x
 
 pub changed-at : {X : Type 0} (f : Text → X) (t : Text) (x : X) → map (changed f t x) symbols ≡ set_at (map f symbols) (row_of t) x
 unfolding symbols row_of
-changed-at f t x = go (nat_lt (place t preset_rows) (length preset_rows)) refl
-  where
-    go : (b : Bool) → nat_lt (place t preset_rows) (length preset_rows) ≡ b
-        → map (changed f t x) (map symbol_of preset_rows) ≡ set_at (map f (map symbol_of preset_rows)) (cond b (Some (place t preset_rows)) None) x
-    go true e = changed-set f t x preset_rows symbols-apart (ltb-true _ _ e)
-    go false e = changed-none f t x preset_rows (place-end t preset_rows (ltb-false _ _ e))
+changed-at f t x =
+    cond_both (nat_lt (place t preset_rows) (length preset_rows)) (Some (place t preset_rows)) None
+    (λ (o : Option ℕ). map (changed f t x) (map symbol_of preset_rows) ≡ set_at (map f (map symbol_of preset_rows)) o x)
+    (λ e. changed-set f t x preset_rows symbols-apart (ltb-true _ _ e)) (λ e. changed-none f t x preset_rows (place-end t preset_rows (ltb-false _ _ e)))
 
 -- ---- the row of a text that is a symbol
 
@@ -135,8 +131,6 @@ symbols-printed = all-test (λ r. is_printable r.symbol) preset_rows refl
 -- a text that is not printable is not a symbol
 pub no-symbol : (t : Text) → is_printable t ≡ false → None ≡ row_of t
 unfolding row_of
-no-symbol t e = go (nat_lt (place t preset_rows) (length preset_rows)) refl
-  where
-    go : (b : Bool) → nat_lt (place t preset_rows) (length preset_rows) ≡ b → None ≡ cond b (Some (place t preset_rows)) None
-    go true lt = let p = among-printed t preset_rows symbols-printed (ltb-true _ _ lt) in cc (e, p)
-    go false lt = refl
+no-symbol t e =
+    cond_both (nat_lt (place t preset_rows) (length preset_rows)) (Some (place t preset_rows)) None (λ (o : Option ℕ). None ≡ o)
+    (λ lt. let p = among-printed t preset_rows symbols-printed (ltb-true _ _ lt) in cc (e, p)) (λ lt. refl)
