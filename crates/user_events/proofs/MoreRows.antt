@@ -6,7 +6,7 @@ use Rattle.std.specs.List.{AllByRecursion}
 use Rattle.std.specs.Str.{bytes_eq}
 use Rattle.std.proofs.lemmas.List.Sums.{fold-append}
 use Rattle.std.proofs.lemmas.Slice.Eq.{bytes_eq-Decides}
-use Rattle.std.proofs.lemmas.Bool.{or_parts}
+use Rattle.std.proofs.lemmas.Bool.{cond_both, false_from_ne_true, or_parts}
 use Rattle.table_rows.specs.Texts.{Text}
 use Rattle.table_rows.proofs.Texts.{all-append}
 use Rattle.preset_csv.specs.Lines.{Derivation, Line, cpu, event, gives, other, preset}
@@ -26,11 +26,8 @@ use Rattle.user_events.specs.Steps.{events_more, events_with, put_event, put_jud
 -- ---- the names of the user events differ
 
 pub same-order : (s t : Text) → bytes_eq s t ≡ false → bytes_eq t s ≡ false
-same-order s t e = go (bytes_eq t s) (bytes_eq-Decides t s) (bytes_eq-Decides s t)
-  where
-    go : (b : Bool) → Decides b (t ≡ s) → Decides (bytes_eq s t) (s ≡ t) → b ≡ false
-    go true d k = let yes : bytes_eq s t ≡ true = k.1 (sym (d.0 refl)) in cc (e, yes)
-    go false d k = refl
+same-order s t e = false_from_ne_true (bytes_eq t s)
+    (λ q. let yes : bytes_eq s t ≡ true = (bytes_eq-Decides s t).1 (sym ((bytes_eq-Decides t s).0 q)) in cc (e, yes))
 
 distinct-last : (ns : List Text) (s : Text) → among s ns ≡ false → Distinct ns → Distinct (ns ++ s ∷ [])
 distinct-last [] s e d = (tt, tt)
@@ -39,11 +36,7 @@ distinct-last (n ∷ ns) s e d =
     (all-append (λ (u : Text). bytes_eq n u ≡ false) ns (s ∷ []) d.0 (same-order s n p.0, tt), distinct-last ns s p.1 d.1)
 
 distinct-added : (ns : List Text) (r : Derivation) → Distinct ns → Distinct (name_added ns r)
-distinct-added ns r d = go (among r.symbol ns) refl
-  where
-    go : (b : Bool) → among r.symbol ns ≡ b → Distinct (if b then ns else ns ++ r.symbol ∷ [])
-    go true e = d
-    go false e = distinct-last ns r.symbol e d
+distinct-added ns r d = cond_both (among r.symbol ns) ns (ns ++ r.symbol ∷ []) Distinct (λ e. d) (λ e. distinct-last ns r.symbol e d)
 
 distinct-all : (ns : List Text) (rows : List Derivation) → Distinct ns → Distinct (fold name_added ns rows)
 distinct-all ns [] d = d

@@ -1,9 +1,9 @@
 -- The entry of a name is put at its place.
-use Rattle.std.proofs.Common.{◌≡◌, ◌∙◌, ◌+◌, ◌<◌, ◌≤◌, ◌∷◌, ◌++◌, ℕ, zero, suc, Bool, true, false, cond, List, [], Some, None, map, set, length, get_or, refl, sym, ap, arith}
+use Rattle.std.proofs.Common.{◌≡◌, ◌∙◌, ◌+◌, ◌<◌, ◌≤◌, ◌∷◌, ◌++◌, ℕ, zero, suc, Bool, true, false, cond, List, [], Option, Some, None, map, set, length, get_or, refl, sym, ap, arith}
 use Rattle.std.specs.Prelude.{◌||◌, not, nat_lt, position}
 use Rattle.std.specs.List.{position_or_len}
 use Rattle.std.specs.Str.{bytes_eq}
-use Rattle.std.proofs.lemmas.Bool.{ltb-false, or_right}
+use Rattle.std.proofs.lemmas.Bool.{cond_both, ltb-false, or_parts, or_right}
 use Rattle.std.proofs.lemmas.List.{length-map, map-append}
 use Rattle.std.proofs.lemmas.List.Quantifiers.{position-Some}
 use Rattle.table_rows.specs.Texts.{Text}
@@ -44,11 +44,9 @@ none-named (x ∷ xs) name le = go (bytes_eq name x.name) refl (none-named xs na
     go false e more h = rw e (more (omega arith))
 
 pub not-among : (xs : List EventView) (name : Text) → position (is_named name) xs ≡ None → among name (names_of xs) ≡ false
-not-among xs name e = go (nat_lt (position_or_len (is_named name) xs) (length xs)) refl e
-  where
-    go : (b : Bool) → nat_lt (position_or_len (is_named name) xs) (length xs) ≡ b → cond b (Some (position_or_len (is_named name) xs)) None ≡ None → among name (names_of xs) ≡ false
-    go true p q = cc q
-    go false p q = none-named xs name (ltb-false _ _ p)
+not-among xs name e =
+    cond_both (nat_lt (position_or_len (is_named name) xs) (length xs)) (Some (position_or_len (is_named name) xs)) None (λ (o : Option ℕ). o ≡ None → among name (names_of xs) ≡ false)
+    (λ p q. cc q) (λ p q. none-named xs name (ltb-false _ _ p)) e
 
 pub is-among : (xs : List EventView) (name : Text) (p : ℕ) → position (is_named name) xs ≡ Some p → among name (names_of xs) ≡ true
 is-among xs name p e = let f = position-Some (is_named name) xs p nothing e in found xs p f.0 f.1
@@ -60,12 +58,9 @@ is-among xs name p e = let f = position-Some (is_named name) xs p nothing e in f
 
 pub put-last : (xs : List EventView) (name : Text) (e : Entry) → among name (names_of xs) ≡ false → put_event xs name e ≡ xs ++ record { name = name; entry = e } ∷ []
 put-last [] name e h = refl
-put-last (x ∷ xs) name e h = go (bytes_eq name x.name) refl h (put-last xs name e)
-  where
-    go : (b : Bool) → bytes_eq name x.name ≡ b → (b || among name (names_of xs)) ≡ false → (among name (names_of xs) ≡ false → put_event xs name e ≡ xs ++ record { name = name; entry = e } ∷ [])
-        → put_event (x ∷ xs) name e ≡ x ∷ (xs ++ record { name = name; entry = e } ∷ [])
-    go true p q more = cc q
-    go false p q more = rw p (ap (λ (ys : List EventView). x ∷ ys) (more q))
+put-last (x ∷ xs) name e h =
+    let o = or_parts (bytes_eq name x.name) (among name (names_of xs)) h in
+    rw o.0 (ap (λ (ys : List EventView). x ∷ ys) (put-last xs name e o.1))
 
 pub put-new : (events : List UserEvent) (name : Text) (e : Entry) (u : UserEvent) → position (is_named name) (map event_view events) ≡ None → event_view u ≡ record { name = name; entry = e }
     → map event_view (events ++ u ∷ []) ≡ put_event (map event_view events) name e
