@@ -53,8 +53,8 @@ encoded text = go (names lab text)
 abbrev encodes : List (Text × (Text × ℕ)) → Type 0
 encodes rows = map (λ (r : Text × (Text × ℕ)). encoded r.0) rows ≡ map (λ (r : Text × (Text × ℕ)). Ok r.1) rows
 
-abbrev refuses : NameFault → List Text → Type 0
-refuses fault texts = map encoded texts ≡ map (λ text. Err fault) texts
+abbrev refuses : List (NameFault × List Text) → Type 0
+refuses rows = map (λ (r : NameFault × List Text). map encoded r.1) rows ≡ map (λ (r : NameFault × List Text). map (λ text. Err r.0) r.1) rows
 
 given : encodes ((codes "lab::INST_RETIRED", (codes "lab::INST_RETIRED", 0x5300c0))
     ∷ (codes "lab::INST_RETIRED:u", (codes "lab::INST_RETIRED:u", 0x5100c0))
@@ -68,29 +68,15 @@ given : encodes ((codes "lab::INST_RETIRED", (codes "lab::INST_RETIRED", 0x5300c
 unfolding on_names
 given = refl
 
-refused_umask : refuses name_fault.Umask (codes "MEM" ∷ [])
+refused : refuses ((name_fault.Umask, codes "MEM" ∷ [])
+    ∷ (name_fault.AttrVal, codes "INST_RETIRED:c=256" ∷ codes "BR_INST:ALL=" ∷ codes "BR_INST:all=1" ∷ codes "REF:c=01" ∷ codes "REF:c=0X1" ∷ [])
+    ∷ (name_fault.AttrSet, codes "INST_RETIRED:u:u" ∷ codes "INST_RETIRED:u=0:u" ∷ [])
+    ∷ (name_fault.FeatComb, codes "BR_INST:ALL:TAKEN" ∷ [])
+    ∷ (name_fault.Attr, codes "INST_RETIRED:x" ∷ codes "INST_RETIRED:" ∷ codes "INST_RETIRED:=1" ∷ [])
+    ∷ (name_fault.NotFound, codes "NOPE" ∷ codes "cpu::::CYCLES" ∷ codes "lab::PACKETS" ∷ codes "" ∷ [])
+    ∷ [])
 unfolding on_names
-refused_umask = refl
-
-refused_attr_val : refuses name_fault.AttrVal (codes "INST_RETIRED:c=256" ∷ codes "BR_INST:ALL=" ∷ codes "BR_INST:all=1" ∷ codes "REF:c=01" ∷ codes "REF:c=0X1" ∷ [])
-unfolding on_names
-refused_attr_val = refl
-
-refused_attr_set : refuses name_fault.AttrSet (codes "INST_RETIRED:u:u" ∷ codes "INST_RETIRED:u=0:u" ∷ [])
-unfolding on_names
-refused_attr_set = refl
-
-refused_feat_comb : refuses name_fault.FeatComb (codes "BR_INST:ALL:TAKEN" ∷ [])
-unfolding on_names
-refused_feat_comb = refl
-
-refused_attr : refuses name_fault.Attr (codes "INST_RETIRED:x" ∷ codes "INST_RETIRED:" ∷ codes "INST_RETIRED:=1" ∷ [])
-unfolding on_names
-refused_attr = refl
-
-refused_not_found : refuses name_fault.NotFound (codes "NOPE" ∷ codes "cpu::::CYCLES" ∷ codes "lab::PACKETS" ∷ codes "" ∷ [])
-unfolding on_names
-refused_not_found = refl
+refused = refl
 
 -- ---- names by chance, as a separate program answers them
 
@@ -102,28 +88,26 @@ chance_given : encodes ((codes "wire::PACKETS", (codes "wire::PACKETS", 5439504)
 unfolding on_names
 chance_given = refl
 
-chance_not_found : refuses name_fault.NotFound (codes "net:::BR_INST:x:k" ∷ codes "net:::INST_RETIRED:c=0xFf:k" ∷ codes "NOPE:e:c=0x" ∷ codes "::cycles:x" ∷
-    codes "cpu:::wire::INST_RETIRED:STORES:u=N" ∷ codes ":::BR_INST:i=y" ∷ codes "::REF:i=f:" ∷ codes ":::cycles:k:LOADS=1" ∷
-    codes "wire:::loads:i=y:K=t" ∷ codes "net::::e=2:u=0" ∷ codes "wire::cycles:C=255:TAKEN" ∷ codes "x::PACKETS:e=2:C=255:LOADS=1" ∷
-    codes "net:::BR_INST:i=y:k" ∷ codes "cpu:::wire::cycles:STORES:c=1=2" ∷ codes "::" ∷ codes ":::=" ∷ codes "CPU:::LAB::PACKETS" ∷
-    codes "x::PACKETS:LOADS=1" ∷ codes "wire::REF:u=" ∷ codes "wire::NOPE:ALL:e" ∷ codes "lab:::loads:c=007" ∷ codes "lab::NOPE:c=007:=" ∷
-    codes "CPU:::LAB::PACKETS:u=N:c=0x:c=2" ∷ codes "cpu:::wire::MEM" ∷ codes "x::BR_INST:C=255" ∷ codes "::PACKETS:=" ∷
-    codes ":::INST_RETIRED:K=t:" ∷ codes ":::NOPE:u=N:u=N" ∷ codes ":u=N:k:c=0xFf" ∷ codes "net:::INST_RETIRED" ∷ codes "::INST_RETIRED" ∷
-    codes "wire::NOPE:x" ∷ codes "cpu:::PACKETS:u=0:ALL" ∷ codes "x::REF" ∷ codes "x::BR_INST:u:c=0xFf" ∷ codes ":::PACKETS:=" ∷
-    codes ":::INST_RETIRED:C=255:x" ∷ codes "net:::MEM:loads:K=t" ∷ codes ":::PACKETS:c=0x:LOADS=1:c=1=2" ∷ codes "wire::MEM:u=:c=1=2" ∷
-    codes "wire::MEM:ALL:u=0" ∷ [])
+chance_refused : refuses ((
+  name_fault.NotFound,
+  codes "net:::BR_INST:x:k" ∷ codes "net:::INST_RETIRED:c=0xFf:k" ∷ codes "NOPE:e:c=0x" ∷ codes "::cycles:x" ∷
+      codes "cpu:::wire::INST_RETIRED:STORES:u=N" ∷ codes ":::BR_INST:i=y" ∷ codes "::REF:i=f:" ∷ codes ":::cycles:k:LOADS=1" ∷
+      codes "wire:::loads:i=y:K=t" ∷ codes "net::::e=2:u=0" ∷ codes "wire::cycles:C=255:TAKEN" ∷ codes "x::PACKETS:e=2:C=255:LOADS=1" ∷
+      codes "net:::BR_INST:i=y:k" ∷ codes "cpu:::wire::cycles:STORES:c=1=2" ∷ codes "::" ∷ codes ":::=" ∷ codes "CPU:::LAB::PACKETS" ∷
+      codes "x::PACKETS:LOADS=1" ∷ codes "wire::REF:u=" ∷ codes "wire::NOPE:ALL:e" ∷ codes "lab:::loads:c=007" ∷ codes "lab::NOPE:c=007:=" ∷
+      codes "CPU:::LAB::PACKETS:u=N:c=0x:c=2" ∷ codes "cpu:::wire::MEM" ∷ codes "x::BR_INST:C=255" ∷ codes "::PACKETS:=" ∷
+      codes ":::INST_RETIRED:K=t:" ∷ codes ":::NOPE:u=N:u=N" ∷ codes ":u=N:k:c=0xFf" ∷ codes "net:::INST_RETIRED" ∷ codes "::INST_RETIRED" ∷
+      codes "wire::NOPE:x" ∷ codes "cpu:::PACKETS:u=0:ALL" ∷ codes "x::REF" ∷ codes "x::BR_INST:u:c=0xFf" ∷ codes ":::PACKETS:=" ∷
+      codes ":::INST_RETIRED:C=255:x" ∷ codes "net:::MEM:loads:K=t" ∷ codes ":::PACKETS:c=0x:LOADS=1:c=1=2" ∷ codes "wire::MEM:u=:c=1=2" ∷
+      codes "wire::MEM:ALL:u=0" ∷ [],
+)
+    ∷ (name_fault.Umask, codes "mem" ∷ codes "mem:k:i=f" ∷ codes "lab::mem" ∷ codes "MEM:c=0:i" ∷ [])
+    ∷ (
+      name_fault.Attr,
+      codes "lab::cycles:STORES:x" ∷ codes "cpu:::MEM:=" ∷ codes "net:::PACKETS:u=0:LOADS=1:ALL" ∷ codes "REF:=:" ∷
+          codes "INST_RETIRED:=:C=255:x" ∷ codes "BR_INST:loads:u=0" ∷ [],
+    )
+    ∷ (name_fault.AttrVal, codes "BR_INST:c=0x" ∷ codes "cycles:e=2:ALL" ∷ codes "lab::cycles:c:u=:c=007" ∷ [])
+    ∷ [])
 unfolding on_names
-chance_not_found = refl
-
-chance_umask : refuses name_fault.Umask (codes "mem" ∷ codes "mem:k:i=f" ∷ codes "lab::mem" ∷ codes "MEM:c=0:i" ∷ [])
-unfolding on_names
-chance_umask = refl
-
-chance_attr : refuses name_fault.Attr (codes "lab::cycles:STORES:x" ∷ codes "cpu:::MEM:=" ∷ codes "net:::PACKETS:u=0:LOADS=1:ALL" ∷ codes "REF:=:" ∷
-    codes "INST_RETIRED:=:C=255:x" ∷ codes "BR_INST:loads:u=0" ∷ [])
-unfolding on_names
-chance_attr = refl
-
-chance_attr_val : refuses name_fault.AttrVal (codes "BR_INST:c=0x" ∷ codes "cycles:e=2:ALL" ∷ codes "lab::cycles:c:u=:c=007" ∷ [])
-unfolding on_names
-chance_attr_val = refl
+chance_refused = refl
