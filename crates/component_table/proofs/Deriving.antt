@@ -2,7 +2,7 @@
 use Rattle.std.proofs.Common.{◌≡◌, ◌∙◌, ◌<◌, ℕ, zero, suc, Bool, true, false, List, [], ◌∷◌, ◌++◌, Option, Some, None, IfSome, All, length, get_or, refl, sym, subst, ap, arith}
 use Rattle.std.specs.Prelude.{◌==◌}
 use Rattle.std.specs.Option.{ForSome}
-use Rattle.std.proofs.lemmas.Bool.{eq-eqb, eqb-true}
+use Rattle.std.proofs.lemmas.Bool.{eq-eqb, eqb-true, false_from_ne_true}
 use Rattle.std.proofs.lemmas.List.Sums.{AllPass-from_list_all, list_all-from_AllPass}
 use Rattle.std.proofs.lemmas.List.Elements.{All-append}
 use Rattle.postfix_rules.specs.Fitting.{BookFits, Fits, Widths}
@@ -76,11 +76,7 @@ pub derives-none : (tables : List ComponentText) (d : DefView) (natives : List N
     → derived_of tables d ≡ None
 derives-none tables d natives r def named is apart =
     ap (λ o. derived_by o (rule_of d.kind d.formula)) named
-    ∙ ap (λ b. derived_if b natives (rule_of d.kind d.formula)) (go (are_together natives) refl)
-  where
-    go : (b : Bool) → are_together natives ≡ b → b ≡ false
-    go true e = absurd (apart (rw is (derivable tables d natives def named e)))
-    go false e = refl
+    ∙ ap (λ b. derived_if b natives (rule_of d.kind d.formula)) (false_from_ne_true (are_together natives) (λ e. apart (rw is (derivable tables d natives def named e))))
 
 fit_one : (shape : Widths) (n : Native) → FitsShape shape n → All (Fits shape) (n ∷ [])
 fit_one shape n fits zero d small = record { has_component = fits.has_component; has_counters = fits.has_counters }

@@ -4,6 +4,7 @@ use Rattle.std.proofs.Common.{length, refl, sym, ap, arith, option_map, if◌the
 use Rattle.std.specs.List.{list_any, position_or_len}
 use Rattle.std.proofs.Math.Dec.{ltb}
 use Rattle.std.proofs.lemmas.Bool.{eqb-true}
+use Rattle.std.proofs.lemmas.Option.{cond_some}
 use Rattle.std.proofs.lemmas.List.Folds.{position_or_len_push}
 use Rattle.papi_base.specs.declared.native.Native.{Native}
 use Rattle.papi_base.specs.contracts.native.NativePartialEq.TheImpl.{eq-value}
@@ -27,12 +28,8 @@ ranked : (natives : List Native) (n : Native) (rank : Option ℕ) → rank ≡ p
     → option_map (λ k. 0x40000000 + k) rank ≡ code_in natives n
 ranked natives n None is found = ap (λ b. if b then Some (native_code natives n) else None) (found ∙ among_same natives n)
 ranked natives n (Some k) is found =
-    ap (λ m. Some (0x40000000 + m)) (go (ltb (position_or_len (eq-value.it n) natives) (length natives)) (sym is) ∙ first_same natives n)
+    ap (λ m. Some (0x40000000 + m)) (sym (cond_some (ltb (position_or_len (eq-value.it n) natives) (length natives)) (position_or_len (eq-value.it n) natives) k (sym is)).1 ∙ first_same natives n)
     ∙ ap (λ b. if b then Some (native_code natives n) else None) (found ∙ among_same natives n)
-  where
-    go : (b : Bool) → cond b (Some (position_or_len (eq-value.it n) natives)) None ≡ Some k → k ≡ position_or_len (eq-value.it n) natives
-    go true e = cc
-    go false e = cc e
 
 pub code-at : (keys natives : List Native) (n : Native) (rank : Option ℕ) → keys ≡ natives → rank ≡ position (eq-value.it n) keys → is_some rank ≡ list_any (eq-value.it n) keys
     → option_map (λ k. 0x40000000 + k) rank ≡ code_in natives n
