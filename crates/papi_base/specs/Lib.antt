@@ -2,14 +2,10 @@ pub mod Adapter
 pub mod CallNames
 pub mod Codes
 pub mod Entries
-pub mod MemFiles
 pub mod Memory
 pub mod Numerals
 pub mod Outside
 pub mod Streams
-pub mod Sure
-pub mod SureFiles
-pub mod SureSource
 pub mod Weight
 pub mod Whole
 pub mod Widths

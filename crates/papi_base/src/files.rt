@@ -2,11 +2,10 @@
 ghost use Rattle.std.specs.Prelude.{◌≡◌, ◌<◌, ◌≤◌, ◌+◌, ◌-◌, ◌==◌, ℕ, List, [], length, map, filter, not, find, Some, IfOk, IsOk, IsErr, option_copied, All};
 ghost use Rattle.std.specs.Str.{bytes_eq};
 ghost use Rattle.std.specs.List.{list_any};
-ghost use Rattle.papi_base.specs.Outside.{renumbered, tape_of, Held, Tape};
-ghost use Rattle.papi_base.specs.Memory.{IsSourceOf, source_faults};
+ghost use Rattle.papi_base.specs.Outside.{renumbered, tape_of, IsSourceOf, Held, Tape};
 ghost use Rattle.papi_base.specs.Entries.{entries_of};
 
-use crate::{Ending, Files, MemSource, OpenFail};
+use crate::{Ending, Files, MemSource, OpenFail, Source};
 use std::alloc::{AllocError, Global};
 
 /// Files in memory, of which some openings fail. The first file of a name counts.
@@ -23,8 +22,6 @@ pub struct MemFiles {
 }
 
 impl MemFiles {
-    ghost use Rattle.papi_base.specs.MemFiles.{files_held, files_misses, files_faults, files_lent};
-
     /// Files with these contents, each given in pieces of at most `largest` bytes. The openings with the numbers
     /// `failing` fail, the first opening having number 1.
     pub fn new(
@@ -34,11 +31,11 @@ impl MemFiles {
         failing: Vec<u64>,
     ) -> Self
         requires { 0 < largest }
-        ensures held { files_held result
-            ≡ record { tapes = entries_of tapes.items; refused = failing.items } }
-        ensures misses { files_misses result ≡ 0 }
-        ensures faults { files_faults result ≡ 0 }
-        ensures lent { files_lent result ≡ 0 }
+        ensures held { ⟦<MemFiles as Files>⟧.held result
+            ≡ Some (record { tapes = entries_of tapes.items; refused = failing.items }) }
+        ensures misses { ⟦<MemFiles as Files>⟧.misses result ≡ 0 }
+        ensures faults { ⟦<MemFiles as Files>⟧.faults result ≡ 0 }
+        ensures lent { ⟦<MemFiles as Files>⟧.lent result ≡ 0 }
     {
         MemFiles {
             alloc,
@@ -91,8 +88,9 @@ fn source_at(
     largest: usize,
 ) -> Result<MemSource, OpenFail>
     requires { 0 < largest }
-    ensures answer { IsSourceOf result (tape_of (entries_of tapes.now) name.now) }
-    ensures fresh { IfOk result (λ source. source_faults source ≡ 0) }
+    ensures answer { IsSourceOf ⟦<MemSource as Source>⟧.tape result
+        (tape_of (entries_of tapes.now) name.now) }
+    ensures fresh { IfOk result (λ source. ⟦<MemSource as Source>⟧.faults source ≡ 0) }
 {
     for (held, bytes, ending) in tapes {
         if held.as_str() == name {

@@ -1,6 +1,6 @@
 //! The outside in memory. All of these tell their bytes.
 ghost use Rattle.std.specs.Prelude.{◌≡◌, ◌<◌, ◌≤◌, ◌+◌, ◌-◌, ◌↔◌, IsTrue, IfOk, OnOk, OnErr, IsErrOf, ℕ, List, [], length, take, drop, min, Some};
-ghost use Rattle.papi_base.specs.Outside.{Rose, appended, next_count};
+ghost use Rattle.papi_base.specs.Outside.{CountsFaults, appended};
 
 use crate::{Ending, Failed, Sink, Source, WriteFail};
 use std::alloc::{AllocError, Global};
@@ -18,13 +18,12 @@ pub struct MemSource {
 }
 
 impl MemSource {
-    ghost use Rattle.papi_base.specs.Memory.{source_tape, source_faults};
-
     /// A source of these bytes, in pieces of at most `largest` bytes.
     pub fn new(bytes: Vec<u8>, ending: Ending, largest: usize) -> Self
         requires { 0 < largest }
-        ensures tape { source_tape result ≡ record { bytes = bytes.items; ending = ending } }
-        ensures faults { source_faults result ≡ 0 }
+        ensures tape { ⟦<MemSource as Source>⟧.tape result
+            ≡ Some (record { bytes = bytes.items; ending = ending }) }
+        ensures faults { ⟦<MemSource as Source>⟧.faults result ≡ 0 }
     {
         MemSource {
             bytes,
@@ -37,7 +36,7 @@ impl MemSource {
 
     /// Whether a read has failed.
     pub fn has_failed(&self) -> bool
-        ensures { IsTrue result ↔ (0 < source_faults self.now) }
+        ensures { IsTrue result ↔ (0 < ⟦<MemSource as Source>⟧.faults self.now) }
     {
         self.faults != 0
     }
@@ -83,13 +82,13 @@ pub struct MemSink {
 }
 
 impl MemSink {
-    ghost use Rattle.papi_base.specs.Memory.{sink_bytes, sink_faults, sink_room};
+    ghost use Rattle.papi_base.specs.Memory.{sink_room};
 
     /// A sink that takes `room` bytes.
     pub fn new(alloc: Global, room: u64) -> Self
-        ensures bytes { sink_bytes result ≡ [] }
+        ensures bytes { ⟦<MemSink as Sink>⟧.taken result ≡ Some [] }
         ensures room { sink_room result ≡ room }
-        ensures faults { sink_faults result ≡ 0 }
+        ensures faults { ⟦<MemSink as Sink>⟧.faults result ≡ 0 }
     {
         MemSink {
             bytes: Vec::new(alloc),
@@ -100,14 +99,14 @@ impl MemSink {
 
     /// The bytes that it has taken.
     pub fn bytes(&self) -> &[u8]
-        ensures { result.now ≡ sink_bytes self.now }
+        ensures { ⟦<MemSink as Sink>⟧.taken self.now ≡ Some result.now }
     {
         &self.bytes
     }
 }
 
 impl Sink for MemSink {
-    ghost use Rattle.papi_base.specs.Memory.{sink_bytes, sink_faults, sink_room};
+    ghost use Rattle.papi_base.specs.Memory.{sink_room};
 
     ghost faults = { λ s. s.faults };
 
@@ -118,17 +117,12 @@ impl Sink for MemSink {
         ensures bound { IfOk result (λ n. n ≤ length piece.now) }
         ensures some { 0 < length piece.now → IfOk result (λ n. 0 < n) }
         ensures ok { IfOk result
-            (λ n. Some (sink_bytes self.new)
-            ≡ appended (Some (sink_bytes self.old)) (take n piece.now)) }
-        ensures err { OnErr result (Some (sink_bytes self.new) ≡ Some (sink_bytes self.old)) }
-        ensures failed { IsErrOf result WriteFail.Failed
-            → Rose (sink_faults self.old) (sink_faults self.new) }
-        ensures once { IsErrOf result WriteFail.Failed
-            → sink_faults self.new ≡ next_count (sink_faults self.old) }
-        ensures quiet { OnOk result (sink_faults self.new ≡ sink_faults self.old) }
-        ensures memory { IsErrOf result WriteFail.Memory
-            → sink_faults self.new ≡ sink_faults self.old }
-        ensures falls_never { sink_faults self.old ≤ sink_faults self.new }
+            (λ n. ⟦<MemSink as Sink>⟧.taken self.new
+            ≡ appended (⟦<MemSink as Sink>⟧.taken self.old) (take n piece.now)) }
+        ensures err { OnErr result
+            (⟦<MemSink as Sink>⟧.taken self.new ≡ ⟦<MemSink as Sink>⟧.taken self.old) }
+        ensures counted { CountsFaults result (⟦<MemSink as Sink>⟧.faults self.old)
+            (⟦<MemSink as Sink>⟧.faults self.new) }
         // It fails exactly if no room is left for a piece that is not empty.
         ensures full { IsErrOf result WriteFail.Failed
             ↔ ((0 < length piece.now) × (sink_room self.old ≡ 0)) }

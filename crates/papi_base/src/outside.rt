@@ -1,7 +1,7 @@
 //! What the program asks of its outside: sources that give bytes, sinks that take them, and files by name.
 ghost use Rattle.std.specs.Prelude.{◌≡◌, ◌<◌, ◌≤◌, ◌-◌, ℕ, List, length, take, IfOk, IfErr, IfSome, OnOk, OnErr, IsErr, IsErrOf, Option};
 ghost use Rattle.std.specs.Option.{option_map};
-ghost use Rattle.papi_base.specs.Outside.{Tape, Gives, Rose, next_count, tape_after, appended, Held, lent_after, opened, AnswersOpening};
+ghost use Rattle.papi_base.specs.Outside.{Tape, Gives, Rose, CountsFaults, tape_after, appended, Held, lent_after, opened, AnswersOpening};
 
 use thiserror::Error;
 
@@ -70,13 +70,7 @@ pub trait Sink {
         ensures ok { IfOk result
             (λ n. taken self.new ≡ appended (taken self.old) (take n piece.now)) }
         ensures err { OnErr result (taken self.new ≡ taken self.old) }
-        ensures failed { IsErrOf result WriteFail.Failed
-            → Rose (faults self.old) (faults self.new) }
-        ensures once { IsErrOf result WriteFail.Failed
-            → faults self.new ≡ next_count (faults self.old) }
-        ensures quiet { OnOk result (faults self.new ≡ faults self.old) }
-        ensures memory { IsErrOf result WriteFail.Memory → faults self.new ≡ faults self.old }
-        ensures falls_never { faults self.old ≤ faults self.new };
+        ensures counted { CountsFaults result (faults self.old) (faults self.new) };
 }
 
 /// An opening that gave no source.

@@ -3,26 +3,25 @@ ghost use Rattle.std.specs.Prelude.{◌≡◌, ◌+◌, ◌<◌, ◌≤◌, List
 ghost use Rattle.papi_base.specs.Widths.{AreWidths};
 ghost use Rattle.papi_base.specs.declared.limits.TheConstants.{LEAST_WIDTH, MOST_COMPONENTS, MOST_COUNTERS, MOST_WIDTH};
 
+use crate::ShortList;
 use crate::limits::{MOST_COMPONENTS, MOST_COUNTERS};
 use std::marker::Model;
 
 /// The counters of a component, at most [`MOST_COUNTERS`], by their widths, each from [`LEAST_WIDTH`] to [`MOST_WIDTH`] bits.
 #[derive(Drop)]
 pub struct CompShape {
-    counters: u32,
-    widths: [u8; MOST_COUNTERS],
+    widths: ShortList<u8>,
 }
 
 impl Model for CompShape {
-    ghost use Rattle.std.specs.Prelude.{List, ℕ, take, ◌≤◌};
+    ghost use Rattle.std.specs.Prelude.{List, ℕ};
     ghost use Rattle.papi_base.specs.Widths.{AreWidths};
-    ghost use Rattle.papi_base.specs.declared.limits.TheConstants.{MOST_COUNTERS};
 
     ghost Value = { List ℕ };
 
-    ghost view = { λ s. take s.counters s.widths };
+    ghost view = { λ s. s.widths };
 
-    ghost invariant = { λ s. (s.counters ≤ MOST_COUNTERS) × AreWidths (take s.counters s.widths) };
+    ghost invariant = { λ s. AreWidths s.widths };
 }
 
 impl CompShape {
@@ -31,8 +30,7 @@ impl CompShape {
         ensures empty { result ≡ [] }
     {
         CompShape {
-            counters: 0,
-            widths: [0; MOST_COUNTERS],
+            widths: ShortList::new(),
         }
     }
 
@@ -43,8 +41,7 @@ impl CompShape {
         requires high { width ≤ MOST_WIDTH }
         ensures pushed { self.new ≡ self.old ++ width ∷ [] }
     {
-        self.widths[self.counters as usize] = width;
-        self.counters += 1;
+        self.widths.push(width);
     }
 
     /// How many counters it has.
@@ -54,7 +51,7 @@ impl CompShape {
         ensures short { length self.now ≤ MOST_COUNTERS }
         ensures widths { AreWidths self.now }
     {
-        self.counters
+        self.widths.len()
     }
 
     /// The width of a counter that is there, in bits.
@@ -65,7 +62,7 @@ impl CompShape {
         ensures low { LEAST_WIDTH ≤ result }
         ensures high { result ≤ MOST_WIDTH }
     {
-        self.widths[c as usize]
+        self.widths.at(c)
     }
 
     /// The same counters once more.
@@ -73,9 +70,14 @@ impl CompShape {
         ensures same { result ≡ self.now }
     {
         CompShape {
-            counters: self.counters,
-            widths: self.widths,
+            widths: self.widths.copy(),
         }
+    }
+}
+
+impl Default for CompShape {
+    fn default() -> CompShape {
+        CompShape::new()
     }
 }
 
@@ -104,24 +106,7 @@ impl Shape {
     {
         Shape {
             comps: 0,
-            comp: [
-                CompShape::new(),
-                CompShape::new(),
-                CompShape::new(),
-                CompShape::new(),
-                CompShape::new(),
-                CompShape::new(),
-                CompShape::new(),
-                CompShape::new(),
-                CompShape::new(),
-                CompShape::new(),
-                CompShape::new(),
-                CompShape::new(),
-                CompShape::new(),
-                CompShape::new(),
-                CompShape::new(),
-                CompShape::new(),
-            ],
+            comp: Default::default(),
         }
     }
 

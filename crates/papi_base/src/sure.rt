@@ -17,12 +17,11 @@ pub struct SureSource {
 }
 
 impl SureSource {
-    ghost use Rattle.papi_base.specs.Sure.{sure_tape};
-
     /// A source of these bytes, in pieces of at most `largest` bytes.
     pub fn new(bytes: Vec<u8>, largest: usize) -> Self
         requires { 0 < largest }
-        ensures tape { sure_tape result ≡ record { bytes = bytes.items; ending = End } }
+        ensures tape { ⟦<SureSource as Source>⟧.tape result
+            ≡ Some (record { bytes = bytes.items; ending = End }) }
     {
         SureSource {
             bytes,
@@ -51,11 +50,9 @@ pub struct SureSink {
 }
 
 impl SureSink {
-    ghost use Rattle.papi_base.specs.Sure.{sure_bytes};
-
     /// A sink that has taken nothing.
     pub fn new(alloc: Global) -> Self
-        ensures { sure_bytes result ≡ [] }
+        ensures { ⟦<SureSink as Sink>⟧.taken result ≡ Some [] }
     {
         SureSink {
             bytes: Vec::new(alloc),
@@ -64,7 +61,7 @@ impl SureSink {
 
     /// The bytes that it has taken.
     pub fn bytes(&self) -> &[u8]
-        ensures { result.now ≡ sure_bytes self.now }
+        ensures { ⟦<SureSink as Sink>⟧.taken self.now ≡ Some result.now }
     {
         &self.bytes
     }

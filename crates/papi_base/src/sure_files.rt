@@ -1,10 +1,9 @@
 //! Files in memory that never fail.
 ghost use Rattle.std.specs.Prelude.{◌≡◌, ◌<◌, [], Some};
 ghost use Rattle.papi_base.specs.Entries.{sure_entries};
-ghost use Rattle.papi_base.specs.Outside.{tape_of};
-ghost use Rattle.papi_base.specs.SureSource.{IsSureSourceOf};
+ghost use Rattle.papi_base.specs.Outside.{tape_of, IsSourceOf};
 
-use crate::{Files, OpenFail, SureSource};
+use crate::{Files, OpenFail, Source, SureSource};
 use std::alloc::Global;
 
 /// Files in memory of which no opening fails and each ends well. The first file of a name counts.
@@ -19,15 +18,13 @@ pub struct SureFiles {
 }
 
 impl SureFiles {
-    ghost use Rattle.papi_base.specs.SureFiles.{sure_held, sure_lent, sure_misses};
-
     /// Files with these contents, each given in pieces of at most `largest` bytes.
     pub fn new(alloc: Global, tapes: Vec<(String, Vec<u8>)>, largest: usize) -> Self
         requires { 0 < largest }
-        ensures held { sure_held result
-            ≡ record { tapes = sure_entries tapes.items; refused = [] } }
-        ensures misses { sure_misses result ≡ 0 }
-        ensures lent { sure_lent result ≡ 0 }
+        ensures held { ⟦<SureFiles as Files>⟧.held result
+            ≡ Some (record { tapes = sure_entries tapes.items; refused = [] }) }
+        ensures misses { ⟦<SureFiles as Files>⟧.misses result ≡ 0 }
+        ensures lent { ⟦<SureFiles as Files>⟧.lent result ≡ 0 }
     {
         SureFiles {
             alloc,
@@ -47,7 +44,8 @@ fn sure_source_at(
     largest: usize,
 ) -> Result<SureSource, OpenFail>
     requires { 0 < largest }
-    ensures { IsSureSourceOf result (tape_of (sure_entries tapes.now) name.now) }
+    ensures { IsSourceOf ⟦<SureSource as Source>⟧.tape result
+        (tape_of (sure_entries tapes.now) name.now) }
 {
     for (held, bytes) in tapes {
         if held.as_str() == name {

@@ -1,6 +1,6 @@
 //! Reading a source to its end, and writing bytes to their end.
 ghost use Rattle.std.specs.Prelude.{◌≡◌, ◌<◌, ◌≤◌, ℕ, List, length, take, IfOk, IfSome, OnOk, OnErr, IsErrOf, IfErr};
-ghost use Rattle.papi_base.specs.Outside.{Rose, appended, next_count};
+ghost use Rattle.papi_base.specs.Outside.{CountsFaults, Rose, appended};
 ghost use Rattle.papi_base.specs.Whole.{AnswersWhole};
 ghost use Rattle.papi_base.specs.declared.whole.WholeFault.TheVariants.{Memory};
 
@@ -66,13 +66,7 @@ pub fn write_whole<K: Sink>(sink: &mut K, bytes: &[u8]) -> Result<(), WriteFail>
     ensures part { OnErr result
         ((k : ℕ) × (k ≤ length bytes.now)
         × (K.taken sink.new ≡ appended (K.taken sink.old) (take k bytes.now))) }
-    ensures failed { IsErrOf result WriteFail.Failed
-        → Rose (K.faults sink.old) (K.faults sink.new) }
-    ensures once { IsErrOf result WriteFail.Failed
-        → K.faults sink.new ≡ next_count (K.faults sink.old) }
-    ensures quiet { OnOk result (K.faults sink.new ≡ K.faults sink.old) }
-    ensures memory { IsErrOf result WriteFail.Memory → K.faults sink.new ≡ K.faults sink.old }
-    ensures falls_never { K.faults sink.old ≤ K.faults sink.new }
+    ensures counted { CountsFaults result (K.faults sink.old) (K.faults sink.new) }
 {
     let mut done = 0;
     while done < bytes.len() {
