@@ -25,9 +25,9 @@ fn in_large_pieces(rt: &HostRuntime, file: File) -> io::Result<BufReader<File>>
 }
 
 impl Source for DiskSource {
-    ghost use Rattle.papi_base.specs.Adapter.{reader_faults};
+    ghost use Rattle.papi_base.specs.Adapter.{faults_of};
 
-    ghost faults = { λ s. reader_faults s.reader };
+    ghost faults = { λ s. faults_of s.reader };
 
     ghost tape = { λ _. None };
 

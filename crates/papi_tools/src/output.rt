@@ -1,6 +1,6 @@
 //! What a tool writes on standard output.
-ghost use Rattle.std.specs.Prelude.{◌≡◌, ◌≤◌, ◌++◌, ℕ, length, take, OnOk, OnErr, IsErrOf};
-ghost use Rattle.papi_base.specs.Outside.{Rose, appended, next_count};
+ghost use Rattle.std.specs.Prelude.{◌≡◌, ◌≤◌, ◌++◌, ℕ, length, take, OnOk, OnErr};
+ghost use Rattle.papi_base.specs.Outside.{CountsFaults, appended};
 ghost use Rattle.script_runner.specs.Replies.{notes_text, replies_text};
 
 use component_table::Catalog;
@@ -48,12 +48,7 @@ fn write_both<K: Sink>(
         ((k : ℕ) × (k ≤ length (replies_text catalog.now lines.now ++ notes_text shown.now))
         × (K.taken out.new ≡ appended (K.taken out.old)
         (take k (replies_text catalog.now lines.now ++ notes_text shown.now)))) }
-    ensures failed { IsErrOf result WriteFail.Failed → Rose (K.faults out.old) (K.faults out.new) }
-    ensures once { IsErrOf result WriteFail.Failed
-        → K.faults out.new ≡ next_count (K.faults out.old) }
-    ensures quiet { OnOk result (K.faults out.new ≡ K.faults out.old) }
-    ensures memory { IsErrOf result WriteFail.Memory → K.faults out.new ≡ K.faults out.old }
-    ensures falls_never { K.faults out.old ≤ K.faults out.new }
+    ensures counted { CountsFaults result (K.faults out.old) (K.faults out.new) }
 {
     write_replies(alloc, lines, catalog, out)?;
     write_notes(alloc, shown, out)?;
@@ -85,13 +80,7 @@ impl Output {
         ensures part { OnErr result
             ((k : ℕ) × (k ≤ length self.now)
             × (K.taken out.new ≡ appended (K.taken out.old) (take k self.now))) }
-        ensures failed { IsErrOf result WriteFail.Failed
-            → Rose (K.faults out.old) (K.faults out.new) }
-        ensures once { IsErrOf result WriteFail.Failed
-            → K.faults out.new ≡ next_count (K.faults out.old) }
-        ensures quiet { OnOk result (K.faults out.new ≡ K.faults out.old) }
-        ensures memory { IsErrOf result WriteFail.Memory → K.faults out.new ≡ K.faults out.old }
-        ensures falls_never { K.faults out.old ≤ K.faults out.new }
+        ensures counted { CountsFaults result (K.faults out.old) (K.faults out.new) }
     {
         match &self.content {
             Content::Text(text) => write_whole(out, text.as_slice()),

@@ -1,7 +1,7 @@
 //! Text that is gathered to pieces before it is written, so that few writes carry many lines.
 
-ghost use Rattle.std.specs.Prelude.{◌≡◌, ◌<◌, ◌≤◌, OnOk, OnErr, IsErrOf, string_bytes, string_len};
-ghost use Rattle.papi_base.specs.Outside.{Rose, next_count};
+ghost use Rattle.std.specs.Prelude.{◌≡◌, ◌<◌, ◌≤◌, OnOk, OnErr, string_bytes, string_len};
+ghost use Rattle.papi_base.specs.Outside.{CountsFaults};
 ghost use Rattle.script_runner.specs.Pieces.{IsPartWritten, IsWrittenSoFar};
 
 use papi_base::{Sink, WriteFail, write_whole};
@@ -18,12 +18,7 @@ pub(crate) fn write_piece<K: Sink>(gathered: &mut String, out: &mut K) -> Result
         (IsPartWritten (K.taken out.old) (K.taken out.new) (string_bytes gathered.old)) }
     ensures waits { string_len gathered.old < PIECE → out.new ≡ out.old }
     ensures small { OnOk result (string_len gathered.new < PIECE) }
-    ensures failed { IsErrOf result WriteFail.Failed → Rose (K.faults out.old) (K.faults out.new) }
-    ensures once { IsErrOf result WriteFail.Failed
-        → K.faults out.new ≡ next_count (K.faults out.old) }
-    ensures quiet { OnOk result (K.faults out.new ≡ K.faults out.old) }
-    ensures memory { IsErrOf result WriteFail.Memory → K.faults out.new ≡ K.faults out.old }
-    ensures falls_never { K.faults out.old ≤ K.faults out.new }
+    ensures counted { CountsFaults result (K.faults out.old) (K.faults out.new) }
 {
     if gathered.len() < PIECE {
         return Ok(());

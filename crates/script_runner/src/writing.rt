@@ -1,7 +1,7 @@
 //! Replies and notes, written as text.
 
 ghost use Rattle.std.specs.Prelude.{◌≡◌, ◌≤◌, ◌++◌, OnOk, OnErr, IsErrOf, string_bytes};
-ghost use Rattle.papi_base.specs.Outside.{Rose, appended, next_count};
+ghost use Rattle.papi_base.specs.Outside.{CountsFaults, appended};
 ghost use Rattle.reply_text.specs.Notes.{note_text};
 ghost use Rattle.script_runner.specs.Pieces.{IsPartWritten};
 ghost use Rattle.script_runner.specs.Replies.{notes_text, replies_text, reply_line_text};
@@ -46,12 +46,7 @@ pub fn write_replies<K: Sink>(
         (K.taken out.new ≡ appended (K.taken out.old) (replies_text catalog.now lines.now)) }
     ensures part { OnErr result
         (IsPartWritten (K.taken out.old) (K.taken out.new) (replies_text catalog.now lines.now)) }
-    ensures failed { IsErrOf result WriteFail.Failed → Rose (K.faults out.old) (K.faults out.new) }
-    ensures once { IsErrOf result WriteFail.Failed
-        → K.faults out.new ≡ next_count (K.faults out.old) }
-    ensures quiet { OnOk result (K.faults out.new ≡ K.faults out.old) }
-    ensures memory { IsErrOf result WriteFail.Memory → K.faults out.new ≡ K.faults out.old }
-    ensures falls_never { K.faults out.old ≤ K.faults out.new }
+    ensures counted { CountsFaults result (K.faults out.old) (K.faults out.new) }
 {
     let mut gathered = String::new(alloc);
     for line in lines {
@@ -77,12 +72,7 @@ pub fn write_notes<K: Sink>(alloc: Global, notes: &[Note], out: &mut K) -> Resul
     ensures ok { OnOk result (K.taken out.new ≡ appended (K.taken out.old) (notes_text notes.now)) }
     ensures part { OnErr result
         (IsPartWritten (K.taken out.old) (K.taken out.new) (notes_text notes.now)) }
-    ensures failed { IsErrOf result WriteFail.Failed → Rose (K.faults out.old) (K.faults out.new) }
-    ensures once { IsErrOf result WriteFail.Failed
-        → K.faults out.new ≡ next_count (K.faults out.old) }
-    ensures quiet { OnOk result (K.faults out.new ≡ K.faults out.old) }
-    ensures memory { IsErrOf result WriteFail.Memory → K.faults out.new ≡ K.faults out.old }
-    ensures falls_never { K.faults out.old ≤ K.faults out.new }
+    ensures counted { CountsFaults result (K.faults out.old) (K.faults out.new) }
 {
     let mut gathered = String::new(alloc);
     for note in notes {

@@ -18,4 +18,4 @@ returns-clause-says g c =
 
 pub returns-clause-cause : goal.returns-clause-cause
 returns-clause-cause g c =
-    rw c.status.ensures (no_fault c.args.said.now.outcome _ _ _ _ c.in-Ok.ensures.quiet c.in-Ok-write_whole.ensures.quiet)
+    rw c.status.ensures (no_fault c.args.said.now.outcome _ _ _ _ c.in-Ok.ensures.counted.quiet c.in-Ok-write_whole.ensures.counted.quiet)
