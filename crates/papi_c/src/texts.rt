@@ -19,9 +19,7 @@ pub(crate) fn spell(text: &str, out: &mut [u8], length: &mut u64) -> i32
     if bytes.len() > out.len() {
         return EINVAL;
     }
-    for i in 0..bytes.len() {
-        out[i] = bytes[i];
-    }
+    out[..bytes.len()].copy_from_slice(bytes);
     0
 }
 
