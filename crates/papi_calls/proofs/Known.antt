@@ -1,5 +1,5 @@
 -- Calls on events that were mentioned mention nothing new.
-use Rattle.std.proofs.Common.{◌≡◌, ℕ, true, List, [], ◌∷◌, ◌++◌, refl, ap, if◌then◌else◌, Some, None, IfOk, slice_get, nat_le, Bool, ◌-◌, false, get_or, zero, suc, subst, take, length, sym, ◌∙◌}
+use Rattle.std.proofs.Common.{◌≡◌, ℕ, true, List, [], ◌∷◌, ◌++◌, refl, ap, if◌then◌else◌, Some, None, slice_get, nat_le, Bool, ◌-◌, false, get_or, zero, suc, subst, take, length, sym, ◌∙◌}
 use Rattle.std.proofs.Math.Seq.{take-length}
 use Rattle.std.proofs.lemmas.Option.{slice_get_within}
 use Rattle.std.specs.Prelude.{Result, Ok}
@@ -12,7 +12,6 @@ use Rattle.postfix_rules.specs.NativeCodes.{native_named}
 use Rattle.session_model.specs.World.{mentions_of, mentions_of_call}
 use Rattle.session_model.specs.declared.line.Asked.TheVariants.{CodeOf}
 use Rattle.session_model.specs.declared.call.Call.TheVariants as call
-use Rattle.papi_calls.specs.Codes.{IsKnown}
 use Rattle.postfix_rules.proofs.Joined.{is_among}
 use Rattle.std.specs.Prelude.{All}
 
