@@ -225,8 +225,9 @@ impl Rotation {
     }
 }
 
-/// What a native event would have counted over `total` ticks, if it counted so much in the `active` ones, rounded
+/// What a native event would have counted over `total` ticks, if it counted `count` in the `active` ones, rounded
 /// down; 0 if none was active.
+#[tactic(auto, using(crate::proofs::Estimates::estimate_some))]
 pub fn estimate(count: u64, total: u64, active: u64) -> u64
     requires within { active ≤ total }
     requires total { total < 2 ^ 32 }

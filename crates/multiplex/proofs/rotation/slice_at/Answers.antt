@@ -10,6 +10,3 @@ runs c = rw (c.from-ticks.ensures, c.from.ensures) at c.places_of.ensures
 
 pub returns-clause-slice : goal.returns-clause-slice
 returns-clause-slice c = rw c.from-ticks.ensures (slice_is c.args.numbers.now c.args.slice c.args.groups c.args.time c.places_of.result.first c.places_of.result.end c.requires.some_slice (runs c))
-
-pub returns-clause-places : goal.returns-clause-places
-returns-clause-places c = runs c

@@ -1,6 +1,5 @@
 -- a place joins the last group or begins the next one
 use Rattle.std.proofs.Common.{◌≡◌, ◌+◌, ◌<◌, ◌^◌, true, false, ◌++◌, ◌∷◌, [], arith, refl, ap, sym, ◌∙◌, option_map, Some, slice_get, length-append}
-use Rattle.std.proofs.lemmas.Grind.{common_steps, elements}
 use Rattle.std.proofs.lemmas.Option.{slice_get-map}
 use Rattle.papi_base.specs.declared.native.Native.{Native}
 use Rattle.counter_alloc.specs.Listing.{is_assignable}
@@ -50,15 +49,3 @@ loop-i-preserved c =
             rest = turn_joins numbers group c.loop-i.number c.loop-i.i masks _ m at fits inv.rest;
           }
     ]
-
-pub group_of_one-group-requires-clause-in_range : goal.group_of_one-group-requires-clause-in_range
-group_of_one-group-requires-clause-in_range c = grind (arith, elements)
-
-pub group_of_one-group-requires-clause-some : goal.group_of_one-group-requires-clause-some
-group_of_one-group-requires-clause-some c = grind (arith, elements)
-
-pub joins-requires-clause-in_range : goal.joins-requires-clause-in_range
-joins-requires-clause-in_range c = grind (arith, elements)
-
-pub returns : goal.returns
-returns c = grind (arith, common_steps)
