@@ -1,11 +1,12 @@
 -- A text that is cut at a mark.
-use Rattle.std.proofs.Common.{◌≡◌, ◌∙◌, ◌+◌, ◌<◌, ◌≤◌, ◌∷◌, ◌++◌, ℕ, List, [], Option, Some, None, Bool, true, false, length, get_or}
+use Rattle.std.proofs.Common.{◌≡◌, ◌∙◌, ◌+◌, ◌-◌, ◌<◌, ◌≤◌, ◌∷◌, ◌++◌, ℕ, List, [], Option, Some, None, Bool, true, false, length, get_or}
 use Rattle.std.proofs.Common.{drop, take, refl, sym, ap, nat_eq, option_map, append_assoc, append-nil}
 use Rattle.std.proofs.lemmas.List.{drop_more, drop_all, take_more}
 use Rattle.std.specs.Prelude.{◌==◌, if◌then◌else◌}
 use Rattle.std.proofs.lemmas.Bool.{eq-eqb, eqb-true, ne_eqb}
 use Rattle.std.specs.List.{onto_first, slice_split, starts_with}
 use Rattle.table_rows.specs.Texts.{Text}
+use Rattle.table_rows.proofs.Splits.{rest-whole}
 use Rattle.name_encoder.specs.Split.{cut_at}
 
 -- the parts of a text after a front
@@ -20,20 +21,20 @@ pub with_front-none : (o : Option (Text × Text)) → with_front [] o ≡ o
 with_front-none None = refl
 with_front-none (Some p) = refl
 
-pub cut-here : (mark text : Text) (i : ℕ) → i < length text → starts_with nat_eq (drop i text) mark ≡ true
+pub cut-here : (mark text : Text) (i : ℕ) → i < length text → starts_with nat_eq (take (length text - i) (drop i text)) mark ≡ true
     → with_front (take i text) (cut_at mark (drop i text)) ≡ Some (take i text, drop (length mark) (drop i text))
 unfolding cut_at
 cut-here mark text i lt e =
     let d = drop_more text i 0 lt in
-    let here : starts_with nat_eq (get_or text i 0 ∷ drop (i + 1) text) mark ≡ true = rw d at e in
+    let here : starts_with nat_eq (get_or text i 0 ∷ drop (i + 1) text) mark ≡ true = rw (rest-whole text i, d) at e in
     rw (d, here) (ap (λ (t : Text). Some (t, drop (length mark) (get_or text i 0 ∷ drop (i + 1) text))) (append-nil (take i text)))
 
-pub cut-later : (mark text : Text) (i : ℕ) → i < length text → starts_with nat_eq (drop i text) mark ≡ false
+pub cut-later : (mark text : Text) (i : ℕ) → i < length text → starts_with nat_eq (take (length text - i) (drop i text)) mark ≡ false
     → with_front (take i text) (cut_at mark (drop i text)) ≡ with_front (take (i + 1) text) (cut_at mark (drop (i + 1) text))
 unfolding cut_at
 cut-later mark text i lt e =
     let d = drop_more text i 0 lt in
-    let here : starts_with nat_eq (get_or text i 0 ∷ drop (i + 1) text) mark ≡ false = rw d at e in
+    let here : starts_with nat_eq (get_or text i 0 ∷ drop (i + 1) text) mark ≡ false = rw (rest-whole text i, d) at e in
     let t = take_more text i 0 lt in
     rw (d, here, t) (with_front-byte (take i text) (get_or text i 0) (cut_at mark (drop (i + 1) text)))
 
