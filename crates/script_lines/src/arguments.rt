@@ -61,6 +61,7 @@ pub fn one_number(arguments: &[&[u8]]) -> Result<u32, ScriptCause>
 }
 
 // Two numbers.
+#[tactic(auto, using(std::proofs::lemmas::Grind::common_steps))]
 pub(crate) fn two_numbers(arguments: &[&[u8]]) -> Result<(u32, u32), ScriptCause>
     ensures { result ≡ Arguments.two_numbers (map (λ w. w.now) arguments.now) }
 {
@@ -102,6 +103,7 @@ pub(crate) fn one_event<'a>(arguments: &[&'a [u8]]) -> Result<&'a str, ScriptCau
 }
 
 // The number of a set, and an event.
+#[tactic(auto, using(std::proofs::lemmas::Grind::common_steps))]
 pub(crate) fn set_and_event<'a>(arguments: &[&'a [u8]]) -> Result<(u32, &'a str), ScriptCause>
     ensures { made_of (λ p. (p.0, p.1.now)) result
         ≡ Arguments.set_and_event (map (λ w. w.now) arguments.entry.now) }
@@ -114,6 +116,7 @@ pub(crate) fn set_and_event<'a>(arguments: &[&'a [u8]]) -> Result<(u32, &'a str)
 }
 
 // The number of a set, an event and a threshold.
+#[tactic(auto, using(std::proofs::lemmas::Grind::common_steps))]
 pub(crate) fn set_event_and_threshold<'a>(
     arguments: &[&'a [u8]],
 ) -> Result<(u32, &'a str, u64), ScriptCause>

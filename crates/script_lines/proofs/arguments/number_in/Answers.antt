@@ -1,6 +1,6 @@
-use Rattle.std.proofs.Common.{arith}
-use Rattle.script_lines.proofs.CallLemmas.{decimal-most}
+use Rattle.std.proofs.Common.{arith, sym}
+use Rattle.table_rows.proofs.Ranges.{decimal_in-range}
 use Rattle.script_lines.proofs.arguments.number_in.Goals as goal
 
 pub overflow_cast-result : goal.overflow_cast-result
-overflow_cast-result c = omega (arith, decimal-most _ _ _ _ c.in-Some.ensures)
+overflow_cast-result c = omega (arith, (decimal_in-range _ _ _ _ (sym c.in-Some.ensures)).1)
