@@ -5,6 +5,7 @@
 pub mod fault;
 mod line;
 mod opened;
+mod pairing;
 pub mod regions;
 pub mod reports;
 pub mod script;

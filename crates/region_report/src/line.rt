@@ -17,6 +17,7 @@ use std::alloc::Global;
 use table_rows::{RowRefusal, name_text};
 
 // The one name of these arguments.
+#[tactic(auto, using(std::proofs::lemmas::Grind::common_steps))]
 fn one_name(alloc: Global, arguments: &[&[u8]]) -> Result<Text, RowRefusal<RegionCause>>
     ensures { Answers result (Lines.one_name (map (λ w. w.now) arguments.now)) }
 {
@@ -107,6 +108,7 @@ fn region_call(
 }
 
 // The line of the words after its thread.
+#[tactic(auto, using(std::proofs::lemmas::Grind::common_steps))]
 fn line_of_thread(
     alloc: Global,
     number: u64,
@@ -134,6 +136,7 @@ fn line_of_thread(
 }
 
 // The line of some words.
+#[tactic(auto, using(std::proofs::lemmas::Grind::common_steps))]
 fn line_of_words(
     alloc: Global,
     number: u64,

@@ -40,6 +40,7 @@ impl Model for OpenRegions {
 }
 
 // No open regions yet, for each thread.
+#[tactic(auto, using(std::proofs::lemmas::Grind::common_steps))]
 fn none_yet(alloc: Global) -> Result<Vec<Vec<OpenRegion>>, AllocError>
     ensures none { IfOk result (λ threads. stacks_text threads.items ≡ Scripts.none_open) }
     ensures all { IfOk result (λ threads. vec_len threads ≡ THREADS) }

@@ -1,10 +1,10 @@
 //! What was counted in a region from its begin on.
 
-ghost use Rattle.std.specs.Prelude.{◌≡◌, ◌++◌, length, map, min, IfOk, OnOk};
-ghost use Rattle.std.specs.Int.{int_wrapping_sub, w64};
+ghost use Rattle.std.specs.Prelude.{◌≡◌, ◌++◌, length, map, IfOk, OnOk};
 ghost use Rattle.region_report.specs.Spans as Spans;
 ghost use Rattle.region_report.specs.Spans.{reading_values, span_text, spans_from};
 
+use crate::pairing::{Difference, pairwise};
 use crate::regions::RegionLine;
 use crate::reports::Reading;
 use papi_base::Values;
@@ -15,31 +15,6 @@ use std::alloc::{AllocError, Global};
 pub(crate) struct LineSpan<'a> {
     pub(crate) line: &'a RegionLine,
     pub(crate) values: Values,
-}
-
-fn less(later: i64, earlier: i64) -> i64
-    ensures { result ≡ int_wrapping_sub w64 later earlier }
-{
-    later.wrapping_sub(earlier)
-}
-
-// The lesser of two numbers.
-pub(crate) fn fewer(a: u32, b: u32) -> u32
-    ensures { result ≡ min a b }
-{
-    if a < b { a } else { b }
-}
-
-// The values of a later reading less those of an earlier one.
-fn difference(later: &Values, earlier: &Values) -> Values
-    ensures { result ≡ Spans.difference later.now earlier.now }
-{
-    let mut values = Values::new();
-    let count = fewer(later.len(), earlier.len());
-    for i in 0..count {
-        values.push(less(later.at(i), earlier.at(i)));
-    }
-    values
 }
 
 // The values of the reading of a number, from 0.
@@ -57,7 +32,7 @@ fn values_since(readings: &[Reading], i: usize, line: &RegionLine) -> Values
     ensures { result ≡ Spans.difference (Spans.values_at (reading_values readings.now) i)
         (Spans.values_at (reading_values readings.now) line.now.begun) }
 {
-    difference(&values_at(readings, i), &values_at(readings, line.begun))
+    pairwise::<Difference>(&values_at(readings, i), &values_at(readings, line.begun))
 }
 
 // One line more, if it reads the counters.

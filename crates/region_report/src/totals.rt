@@ -2,19 +2,19 @@
 
 ghost use Rattle.std.specs.Prelude.{◌≡◌, ◌<◌, ◌≤◌, ◌^◌, ◌++◌, All, IfOk, IfSome, OnOk};
 ghost use Rattle.std.specs.Prelude.{length, map, pos, position, replicate, slice_get, string_bytes, vec_len, Some};
-ghost use Rattle.std.specs.Int.{int_wrapping_add, w64};
 ghost use Rattle.std.specs.Str.{bytes_eq};
 ghost use Rattle.papi_base.specs.declared.limits.TheConstants.{MOST_SET_EVENTS};
 ghost use Rattle.indexmap.specs.IndexSet.{index_set_len};
 ghost use Rattle.region_report.specs.Reports as Reports;
 ghost use Rattle.region_report.specs.Reports.{names_of, thread_text, total_text, with_begin, with_name};
-ghost use Rattle.region_report.specs.Spans.{pairwise, span_text};
+ghost use Rattle.region_report.specs.Spans.{span_text};
 ghost use Rattle.region_report.specs.Totals as Totals;
 ghost use Rattle.region_report.specs.Totals.{total_of, totals_text, with_instance, with_instance_at};
 
+use crate::pairing::{Sum, pairwise};
 use crate::regions::RegionCall;
 use crate::reports::{name_in, push_values};
-use crate::spans::{LineSpan, fewer};
+use crate::spans::LineSpan;
 use indexmap::IndexSet;
 use papi_base::Values;
 use std::alloc::{AllocError, Global};
@@ -92,31 +92,13 @@ fn place_of(names: &IndexSet<&str>, thread: u32, span: &LineSpan<'_>) -> Option<
 
 // ---- the totals
 
-fn wrapped_sum(sum: i64, value: i64) -> i64
-    ensures { result ≡ int_wrapping_add w64 sum value }
-{
-    sum.wrapping_add(value)
-}
-
-// The sums at each place.
-fn sums_of(first: &Values, second: &Values) -> Values
-    ensures { result ≡ pairwise (int_wrapping_add w64) first.now second.now }
-{
-    let mut sums = Values::new();
-    let count = fewer(first.len(), second.len());
-    for i in 0..count {
-        sums.push(wrapped_sum(first.at(i), second.at(i)));
-    }
-    sums
-}
-
 // One instance more, which counted these values.
 fn add_instance(total: &mut RegionTotal, values: &Values)
     requires { total.old.instances < 2 ^ 63 }
     ensures { total.new ≡ with_instance values.now total.old }
 {
     total.instances += 1;
-    total.values = sums_of(&total.values, values);
+    total.values = pairwise::<Sum>(&total.values, values);
 }
 
 // One instance more of the region at a place, if there is one.
@@ -131,6 +113,7 @@ fn add_at(totals: &mut Vec<RegionTotal>, place: Option<usize>, values: &Values)
 }
 
 // As many totals of no instances.
+#[tactic(auto, using(std::proofs::lemmas::Grind::common_steps))]
 fn no_totals(alloc: Global, events: u32, count: usize) -> Result<Vec<RegionTotal>, AllocError>
     requires { events ≤ MOST_SET_EVENTS }
     ensures { IfOk result (λ totals.
