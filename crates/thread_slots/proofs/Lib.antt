@@ -8,3 +8,4 @@ pub mod Telling
 pub mod Searching
 pub mod Beginning
 pub mod Keyed
+pub mod Reading

@@ -41,10 +41,10 @@ turns_show past s t u group (n ∷ ns) (g ∷ gs) same e h =
     (turns_show past s t u group ns gs same (omega arith) (λ i m f. h (suc i) m f))
 
 -- the counts of a set on its unit are what is shown
-pub shown_on : (units : List UnitView) (slot : Slot) (time comp : ℕ) (unit : UnitView) (pins : List Pin) (armed : List (Option ℕ))
-    → slot.counting ≡ counting.OnUnit pins armed → slot.set.rest.component ≡ Some comp → slice_get units comp ≡ Some unit
+pub shown_on : (units : List UnitView) (slot : Slot) (time comp : ℕ) (unit : UnitView) (pins : List Pin) (armed : List (Option ℕ)) (places : List ℕ)
+    → slot.counting ≡ counting.OnUnit pins armed places → slot.set.rest.component ≡ Some comp → slice_get units comp ≡ Some unit
     → pin_numbers unit pins ≡ numbers_shown units time slot
-shown_on units slot time comp unit pins armed is on at = sym (
+shown_on units slot time comp unit pins armed places is on at = sym (
     ap (numbers_in units time slot) is
     ∙ ap (λ (c : Option ℕ). unit_numbers (option_and_then (slice_get units) c) pins) on
     ∙ ap (λ (u : Option UnitView). unit_numbers u pins) at)

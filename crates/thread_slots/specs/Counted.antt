@@ -35,7 +35,7 @@ with_turn d before o group (n ∷ ns) (g ∷ gs) (k ∷ ks) = (k + (if group == 
 -- a stopped set counts nothing, another on the unit, or in its turns
 abbrev pub counted_in : Option Occ → Occ → UnitView → Slot → Counting → Counted
 counted_in before o unit slot (counting.Stopped kept) = record { unit = unit; slot = slot; passed = [] }
-counted_in before o unit slot (counting.OnUnit pins armed) = record {
+counted_in before o unit slot (counting.OnUnit pins armed places) = record {
   unit = record unit { registers = all_moved before o unit.widths unit.registers };
   slot = slot;
   passed = carried_from 0 (carry_of before o unit) armed;

@@ -12,3 +12,4 @@ pub mod Accumulated
 pub mod RawRegister
 pub mod Altering
 pub mod FirstPlaces
+pub mod EventPlaces

@@ -68,4 +68,4 @@ pub record AreOnUnit (units : List UnitView) (component : Option ℕ) (pins : Li
 
 -- a set on its unit is on counters of it
 abbrev pub HasUnit : List UnitView → Slot → Type 0
-HasUnit units slot = (pins : List Pin) (armed : List (Option ℕ)) → slot.counting ≡ counting.OnUnit pins armed → AreOnUnit units slot.set.rest.component pins
+HasUnit units slot = (pins : List Pin) (armed : List (Option ℕ)) (places : List ℕ) → slot.counting ≡ counting.OnUnit pins armed places → AreOnUnit units slot.set.rest.component pins

@@ -15,6 +15,7 @@ use Rattle.thread_slots.specs.declared.pins.Pin.{Pin}
 use Rattle.thread_slots.specs.declared.slot.Counting.{Counting}
 use Rattle.thread_slots.specs.declared.slot.Counting.TheVariants as counting
 use Rattle.thread_slots.specs.declared.slot.Slot.{Slot}
+use Rattle.thread_slots.specs.EventPlaces.{places_of}
 use Rattle.thread_slots.specs.Pinned.{HasUnit}
 
 -- the count on each pin's counter
@@ -35,7 +36,7 @@ unit_numbers (Some unit) pins = pin_numbers unit pins
 -- what was kept, the counts on the unit, or the estimates
 abbrev pub numbers_in : List UnitView → ℕ → Slot → Counting → List ℕ
 numbers_in units time slot (counting.Stopped kept) = kept
-numbers_in units time slot (counting.OnUnit pins armed) = unit_numbers (option_and_then (slice_get units) slot.set.rest.component) pins
+numbers_in units time slot (counting.OnUnit pins armed places) = unit_numbers (option_and_then (slice_get units) slot.set.rest.component) pins
 numbers_in units time slot (counting.InTurns r begun kept) = turn_numbers r.turns (time - begun) r.numbers kept
 
 -- what each native counted, or is estimated to have, at this time
@@ -49,6 +50,10 @@ number_in natives numbers n = slice_index numbers (position_or_len (same_native 
 -- the value of each event
 abbrev pub values_shown : Book → List UnitView → ℕ → Slot → List ℤ
 values_shown book units time slot = map (event_value book (number_in slot.set.natives (numbers_shown units time slot))) slot.set.rest.events
+
+-- a set on its unit keeps the places of its events
+abbrev pub IsPlaced : Book → Slot → Type 0
+IsPlaced book slot = (pins : List Pin) (armed : List (Option ℕ)) (places : List ℕ) → slot.counting ≡ counting.OnUnit pins armed places → places ≡ places_of book slot.set.natives slot.set.rest.events
 
 -- natives that take turns: none counted more than its ticks allow
 pub record IsInTurns (time : ℕ) (r : RotationView) (begun : ℕ) (kept : List ℕ) : Type 0 where
@@ -68,3 +73,4 @@ pub record IsTellable (book : Book) (units : List UnitView) (time : ℕ) (slot :
   pub same_length : length (numbers_shown units time slot) ≡ length slot.set.natives
   pub small : All (λ t. t < 2 ^ 48) (numbers_shown units time slot)
   pub held : All (IsHeld book) slot.set.rest.events
+  pub placed : IsPlaced book slot

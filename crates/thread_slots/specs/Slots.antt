@@ -32,7 +32,7 @@ rotation_of numbers slice = record { numbers = numbers; turns = record { slice =
 -- a set counts unless it is stopped
 abbrev pub is_counting : Counting → Bool
 is_counting (counting.Stopped kept) = false
-is_counting (counting.OnUnit pins armed) = true
+is_counting (counting.OnUnit pins armed places) = true
 is_counting (counting.InTurns rotation begun kept) = true
 
 -- what refusals look at

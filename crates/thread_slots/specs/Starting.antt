@@ -13,6 +13,7 @@ use Rattle.papi_base.specs.declared.limits.TheConstants.{MOST_COUNTERS, MOST_SET
 use Rattle.event_sets.specs.Assigning.{counters_for}
 use Rattle.event_sets.specs.AtRest.{set_natives}
 use Rattle.thread_slots.specs.Pinned.{ArePinned, armed_of, pins_of, place_of_lead, programs}
+use Rattle.thread_slots.specs.EventPlaces.{places_of}
 use Rattle.thread_slots.specs.Slots.{rotation_of}
 
 -- a unit and a set that started on it
@@ -24,7 +25,7 @@ pub record Started : Type 0 where
 abbrev pub begun_by : Book → ℕ → UnitView → Slot → Option ℕ → Started
 begun_by book now unit slot None = record {
   unit = record unit { registers = programs unit.widths slot.set.rest.domain (λ n. 0) (pins_of book slot.set.rest) unit.registers };
-  slot = record slot { counting = counting.OnUnit (pins_of book slot.set.rest) (armed_of book slot.set.rest) };
+  slot = record slot { counting = counting.OnUnit (pins_of book slot.set.rest) (armed_of book slot.set.rest) (places_of book slot.set.natives slot.set.rest.events) };
 }
 begun_by book now unit slot (Some slice) = record {
   unit = unit;

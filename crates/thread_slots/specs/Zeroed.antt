@@ -12,7 +12,7 @@ use Rattle.thread_slots.specs.Pinned.{programs}
 -- nothing has been counted by n natives; turns begin at this time
 abbrev pub zeroed_in : ℕ → ℕ → Counting → Counting
 zeroed_in now natives (counting.Stopped kept) = at_zero natives
-zeroed_in now natives (counting.OnUnit pins armed) = counting.OnUnit pins armed
+zeroed_in now natives (counting.OnUnit pins armed places) = counting.OnUnit pins armed places
 zeroed_in now natives (counting.InTurns r begun kept) = counting.InTurns r now (replicate natives 0)
 
 -- the set, which has counted nothing
@@ -36,7 +36,7 @@ zeroed_on domain pins units (Some comp) = zeroed_at domain pins units comp (slic
 -- the unit of a set that is on it changes
 abbrev pub zeroed_units_in : Slot → List UnitView → Counting → List UnitView
 zeroed_units_in slot units (counting.Stopped kept) = units
-zeroed_units_in slot units (counting.OnUnit pins armed) = zeroed_on slot.set.rest.domain pins units slot.set.rest.component
+zeroed_units_in slot units (counting.OnUnit pins armed places) = zeroed_on slot.set.rest.domain pins units slot.set.rest.component
 zeroed_units_in slot units (counting.InTurns r begun kept) = units
 
 -- all units, of which no other changes

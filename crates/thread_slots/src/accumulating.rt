@@ -7,35 +7,35 @@ use crate::slot::Slot;
 use papi_base::Values;
 
 /// The sum, wrapped to signed 64 bits.
+#[inline(always)]
 fn wrapped_sum(value: i64, more: i64) -> i64
     ensures { result ≡ int_wrapping_add w64 value more }
 {
     value.wrapping_add(more)
 }
 
-/// Each value with what is added to it.
-fn sums(values: &Values, more: &Values) -> Values
-    requires { length more.now ≡ length values.now }
-    ensures { result ≡ sums values.now more.now }
+/// Adds these values, one to each.
+#[inline(always)]
+fn add(values: &mut Values, more: &Values)
+    requires { length more.now ≡ length values.old }
+    ensures { values.new ≡ sums values.old more.now }
 {
-    let mut added = Values::new();
     for i in 0..values.len() {
-        added.push(wrapped_sum(values.at(i), more.at(i)));
+        let sum = wrapped_sum(values.at(i), more.at(i));
+        values.put(i, sum);
     }
-    added
 }
 
 impl Slot {
     ghost use Rattle.thread_slots.specs.Accumulated.{slot_with_sums};
 
-    /// Adds these values to the caller's, and gives the sums.
-    pub fn accumulate(&mut self, more: &Values) -> Values
-        requires { length more.now ≡ length self.old.values }
-        ensures sums { result ≡ sums self.old.values more.now }
-        ensures slot { self.new ≡ slot_with_sums more.now self.old }
+    /// Adds these values to the caller's, and writes the sums in their place.
+    pub fn accumulate(&mut self, more: &mut Values)
+        requires { length more.old ≡ length self.old.values }
+        ensures sums { more.new ≡ sums self.old.values more.old }
+        ensures slot { self.new ≡ slot_with_sums more.old self.old }
     {
-        let added = sums(&self.values, more);
-        self.values = added.copy();
-        added
+        add(&mut self.values, more);
+        *more = self.values.copy();
     }
 }

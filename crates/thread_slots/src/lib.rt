@@ -4,12 +4,14 @@
 
 pub use changing::{Change, lacks_component};
 pub use counting::{Taken, count_all};
+pub use event_places::EventPlaces;
 pub use pins::Pin;
 pub use slot::{Counting, Slot, empty_places, free_number};
 
 mod accumulating;
 pub mod changing;
 pub mod counting;
+pub mod event_places;
 mod measuring;
 pub mod pins;
 mod places;

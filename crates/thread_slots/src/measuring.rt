@@ -12,6 +12,7 @@ use multiplex::{Rotation, estimate};
 use papi_base::Counts;
 
 /// What the native event of each pin has counted.
+#[inline(always)]
 fn numbers_on_unit(unit: &Unit, pins: &Pins) -> Counts
     requires { ArePinned unit.now.widths pins.now }
     ensures { result ≡ pin_numbers unit.now pins.now }
@@ -43,6 +44,7 @@ fn numbers_in_turns(rotation: &Rotation, total: u64, counts: &Counts) -> Counts
 
 impl Slot {
     /// What each native event of the set counted, or is estimated to have, at this time in ticks.
+    #[inline(always)]
     pub(crate) fn numbers(&self, units: &[Unit], time: u64) -> Counts
         requires { IsMeasurable units.now self.now time }
         ensures { result ≡ numbers_shown units.now time self.now }

@@ -5,7 +5,8 @@ ghost use Rattle.session_model.specs.Replies.{state_bits};
 ghost use Rattle.thread_slots.specs.Shown.{IsTellable, values_shown};
 ghost use Rattle.thread_slots.specs.Slots.{is_counting};
 
-use crate::slot::Slot;
+use crate::event_places::EventPlaces;
+use crate::slot::{Counting, Slot};
 use crate::values::values_of;
 use counter_unit::Unit;
 use papi_base::bits::state_of;
@@ -14,13 +15,21 @@ use postfix_rules::PresetBook;
 use session_model::Assigned;
 
 impl Slot {
-    /// The values of its events at this time, in ticks: PAPI_read(3).
-    pub fn read(&self, units: &[Unit], book: &PresetBook, time: u64) -> Values
+    /// Writes the values of its events at this time, in ticks: PAPI_read(3).
+    pub fn read(&self, units: &[Unit], book: &PresetBook, time: u64, into: &mut Values)
         requires { IsTellable book.now units.now time self.now }
-        ensures { result ≡ values_shown book.now units.now time self.now }
+        ensures { into.new ≡ values_shown book.now units.now time self.now }
     {
         let numbers = self.numbers(units, time);
-        values_of(book, &self.set, &numbers)
+        match &self.counting {
+            Counting::OnUnit { places, .. } => {
+                values_of(book, &self.set, places.all(), &numbers, into);
+            }
+            _ => {
+                let places = EventPlaces::of(book, &self.set);
+                values_of(book, &self.set, places.all(), &numbers, into);
+            }
+        }
     }
 
     /// The bits of its state: PAPI_state(3).

@@ -4,6 +4,7 @@ ghost use Rattle.papi_base.specs.declared.limits.TheConstants.{MOST_SETS};
 ghost use Rattle.session_model.specs.Faces.{free};
 ghost use Rattle.thread_slots.specs.Slots.{is_counting, new_slot};
 
+use crate::event_places::EventPlaces;
 use crate::pins::Pins;
 use event_sets::EventSet;
 use multiplex::Rotation;
@@ -18,11 +19,12 @@ pub enum Counting {
     Stopped {
         kept: Counts,
     },
-    /// It is on the unit of its component, which has the counts: its native events on their counters, and its events with
-    /// thresholds.
+    /// It is on the unit of its component, which has the counts: its native events on their counters, its events with
+    /// thresholds, and where the native events of each event stand.
     OnUnit {
         pins: Pins,
         armed: Thresholds,
+        places: EventPlaces,
     },
     /// Its native events take turns, which began at a time in ticks: what each counted in the turns of its group.
     InTurns {

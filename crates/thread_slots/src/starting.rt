@@ -13,6 +13,7 @@ ghost use Rattle.multiplex.specs.Groups.{groups};
 ghost use Rattle.thread_slots.specs.Slots.{rotation_of};
 ghost use Rattle.thread_slots.specs.declared.slot.Counting.TheVariants as counting;
 
+use crate::event_places::EventPlaces;
 use crate::pins::{Pin, Pins};
 use crate::places::place_of;
 use crate::slot::{Counting, Slot};
@@ -113,7 +114,12 @@ impl Slot {
         let pins = pins_on(book, &self.set, counters);
         let armed = armed_on(book, &self.set, counters);
         program_all(unit, &pins, self.set.domain());
-        self.counting = Counting::OnUnit { pins, armed };
+        let places = EventPlaces::of(book, &self.set);
+        self.counting = Counting::OnUnit {
+            pins,
+            armed,
+            places,
+        };
     }
 
     /// It begins at this time, its native events taking turns of n ticks.

@@ -1,90 +1,105 @@
 //! The values of a set's events (PAPI_read(3)).
-ghost use Rattle.std.specs.Prelude.{◌≡◌, ◌^◌, ◌<◌, ◌≤◌, All, length, map, pos, take};
+ghost use Rattle.std.specs.Prelude.{◌≡◌, ◌^◌, ◌<◌, ◌≤◌, All, length, map, pos, slice_index, take};
 ghost use Rattle.postfix_rules.specs.Fitting.{IsHeld};
-ghost use Rattle.postfix_rules.specs.Presets.{event_value};
-ghost use Rattle.thread_slots.specs.FirstPlaces.{AreFirst};
+ghost use Rattle.postfix_rules.specs.Presets.{event_value, natives_of_event, rule_of_event};
+ghost use Rattle.postfix_rules.specs.Rules.{rule_value};
+ghost use Rattle.thread_slots.specs.EventPlaces.{places_of};
 ghost use Rattle.thread_slots.specs.Shown.{number_in};
 
-use crate::places::FirstPlaces;
 use event_sets::EventSet;
-use papi_base::{Counts, EventRef, Native, Natives, Values};
+use papi_base::{Counts, EventRef, Values};
 use postfix_rules::{PresetBook, value_of};
 
-/// The number of a native event, and 0 if it is not in the list.
+/// The value of an event, and how many native events it has.
+#[derive(Clone, Copy)]
+struct EventValue {
+    value: i64,
+    natives: usize,
+}
+
+/// The number at a place, and 0 if there is no such place.
 #[inline(always)]
-fn number_of(places: &FirstPlaces, natives: &Natives, numbers: &Counts, n: &Native) -> u64
-    requires places { AreFirst places.now.first natives.now }
-    requires same_length { length numbers.now ≡ length natives.now }
-    ensures { result ≡ number_in natives.now numbers.now n.now }
+fn number_at(numbers: &Counts, place: u8) -> u64
+    ensures { result ≡ slice_index numbers.now place }
 {
-    let place = places.place_of(natives, n);
-    if place < natives.len() {
+    let place = u32::from(place);
+    if place < numbers.len() {
         numbers.at(place)
     } else {
         0
     }
 }
 
-/// The numbers of the native events of a derived event, in its order.
-fn own_numbers(places: &FirstPlaces, natives: &Natives, numbers: &Counts, own: &Natives) -> [i64; 8]
-    requires places { AreFirst places.now.first natives.now }
-    requires same_length { length numbers.now ≡ length natives.now }
+/// The numbers at these places.
+#[inline(always)]
+fn own_numbers(numbers: &Counts, places: &[u8]) -> [i64; 8]
     requires small { All (λ t. t < 2 ^ 48) numbers.now }
-    requires few { length own.now ≤ 8 }
-    ensures { take (length own.now) result
-        ≡ map (λ n. pos (number_in natives.now numbers.now n)) own.now }
+    requires few { length places.now ≤ 8 }
+    ensures { take (length places.now) result
+        ≡ map (λ p. pos (slice_index numbers.now p)) places.now }
 {
     let mut counts = [0i64; 8];
-    for i in 0..own.len() {
-        let n = own.at(i);
-        let number = number_of(places, natives, numbers, &n);
-        counts[i as usize] = number as i64;
+    for i in 0..places.len() {
+        counts[i] = number_at(numbers, places[i]) as i64;
     }
     counts
 }
 
-/// The value of an event, if the number of each native event is given.
-fn value_of_event(
-    book: &PresetBook,
-    places: &FirstPlaces,
-    natives: &Natives,
-    numbers: &Counts,
-    e: &EventRef,
-) -> i64
-    requires places { AreFirst places.now.first natives.now }
-    requires same_length { length numbers.now ≡ length natives.now }
+/// The value of an event whose native events stand at the first of these places.
+#[inline(always)]
+fn value_of_event(book: &PresetBook, numbers: &Counts, places: &[u8], e: &EventRef) -> EventValue
     requires small { All (λ t. t < 2 ^ 48) numbers.now }
     requires held { IsHeld book.now e.now }
-    ensures { result ≡ event_value book.now (number_in natives.now numbers.now) e.now }
+    requires there { length (natives_of_event book.now e.now) ≤ length places.now }
+    ensures natives { result.natives ≡ length (natives_of_event book.now e.now) }
+    ensures value { let own = take (length (natives_of_event book.now e.now)) places.now
+        in result.value
+        ≡ rule_value (rule_of_event book.now e.now)
+        (map (λ p. pos (slice_index numbers.now p)) own) }
 {
     match e {
-        EventRef::Native(n) => number_of(places, natives, numbers, n) as i64,
+        EventRef::Native(_) => EventValue {
+            value: number_at(numbers, places[0]) as i64,
+            natives: 1,
+        },
         EventRef::Preset(row) => match book.get(*row) {
             Some(derived) => {
-                let own = derived.natives();
-                let counts = own_numbers(places, natives, numbers, own);
-                value_of(derived.rule(), &counts[..own.len() as usize])
+                let natives = derived.natives().len() as usize;
+                let counts = own_numbers(numbers, &places[..natives]);
+                EventValue {
+                    value: value_of(derived.rule(), &counts[..natives]),
+                    natives,
+                }
             }
-            None => 0,
+            None => EventValue {
+                value: 0,
+                natives: 0,
+            },
         },
     }
 }
 
-/// The value of each event of the set, if the number of each of its native events is given.
-pub fn values_of(book: &PresetBook, set: &EventSet, numbers: &Counts) -> Values
-    requires same_length { length numbers.now ≡ length set.now.natives }
+/// The value of each event of the set, if the places of its native events and the number of each are given.
+#[inline(always)]
+pub fn values_of(
+    book: &PresetBook,
+    set: &EventSet,
+    places: &[u8],
+    numbers: &Counts,
+    into: &mut Values,
+)
+    requires places { places.now ≡ places_of book.now set.now.natives set.now.rest.events }
     requires small { All (λ t. t < 2 ^ 48) numbers.now }
     requires held { All (IsHeld book.now) set.now.rest.events }
     ensures { let number = number_in set.now.natives numbers.now
-        in result ≡ map (event_value book.now number) set.now.rest.events }
+        in into.new ≡ map (event_value book.now number) set.now.rest.events }
 {
-    let mut values = Values::new();
+    *into = Values::new();
     let events = set.events();
-    let natives = set.natives();
-    let places = FirstPlaces::of(natives);
+    let mut at = 0;
     for i in 0..events.len() {
-        let value = value_of_event(book, &places, natives, numbers, &events.at(i));
-        values.push(value);
+        let told = value_of_event(book, numbers, &places[at..], &events.at(i));
+        into.push(told.value);
+        at += told.natives;
     }
-    values
 }
