@@ -10,11 +10,13 @@ use Rattle.thread_core.proofs.Words.{weight_of, groups, masks_of, weighed, weigh
 use Rattle.thread_core.proofs.Words.{same_some, RotationView, subst₂, ℤ, Follows, done, Face, option_map_or, is_multiplexed, unit_numbers}
 use Rattle.thread_core.proofs.Words.{turn_numbers, IsTellable, IsInTurns, position_is, rule_of_event, natives_of_event, pos, state_bits, assigned}
 use Rattle.thread_core.proofs.Words.{face_of_slot, is_counting, AreOnUnit, HasUnit, AreWidths, IsFit, widths_at, get_at, unwrap_or, is_none, is_some, Refusal}
-use Rattle.thread_core.proofs.Words.{if◌then◌else◌, Plain, Enoevst, Ecombo, Bool, refusal_of, slot_faces, rested}
+use Rattle.thread_core.proofs.Words.{if◌then◌else◌, Plain, Enoevst, Ecombo, Bool, refusal_of, slot_faces, rested, Widths}
 use Rattle.session_model.specs.declared.reply.Body.TheVariants as body
 use Rattle.session_model.specs.declared.call.Call.TheVariants as call
 use Rattle.thread_core.proofs.Squares.{numbers-length, kept_as, kept_cases}
 use Rattle.thread_core.proofs.Looking.{face_at, fit_of, widths_on, unit_on, unit_of, now_is, under, shows_follows}
+use Rattle.thread_slots.specs.EventPlaces.{places_of}
+use Rattle.thread_slots.specs.Shown.{IsPlaced}
 use Rattle.thread_slots.specs.declared.slot.Counting.TheVariants as counting
 use Rattle.thread_slots.proofs.Telling.{pins_show, pins_natives, turns_show}
 use Rattle.postfix_rules.specs.Rules.{rule_value}
@@ -176,12 +178,22 @@ on_counters book core a s h fit plain = record {
 slot_has_unit : (book : Book) (core : CoreView) (a : Account) → CoreStands book core a → (s : Kept) → IsFit book core.shape s.set
     → HasUnit core.units (slot_of book core.shape a.past s)
 slot_has_unit book core a h = kept_cases _
-    (λ s fit pins armed is. cc)
-    (λ s fit pins armed is.
+    (λ s fit pins armed places is. cc)
+    (λ s fit pins armed places is.
     let t = kept_as s true None in
     let same : pins_of book t.set ≡ pins = cc in
     subst (AreOnUnit core.units t.set.component) same (on_counters book core a t h fit refl))
-    (λ s slice fit pins armed is. cc)
+    (λ s slice fit pins armed places is. cc)
+
+-- the places that a set on its unit keeps are those of its events
+slot_placed : (book : Book) (shape : Widths) (past : List Occ) (s : Kept) → IsPlaced book (slot_of book shape past s)
+slot_placed book shape past = kept_cases _
+    (λ s pins armed places is. cc)
+    (λ s pins armed places is.
+    let t = kept_as s true None in
+    let same : places_of book (set_natives book t.set) t.set.events ≡ places = cc in
+    sym same)
+    (λ s slice pins armed places is. cc)
 
 -- what the code asks for when it zeroes a set
 pub has_unit : (book : Book) (core : CoreView) (k : ℕ) (slot : Slot) → AgreesWith book core → at core.slots k ≡ Some slot → HasUnit core.units slot
@@ -215,16 +227,18 @@ tellable {book} {core} k {slot = slot} time agrees given =
       small = subst (All (λ t. t < 2 ^ 48)) (sym numbers) (All-map (λ t. t < 2 ^ 48) (measured s.set.slice book a.past s) (set_natives book s.set)
           (λ j d below. measured_small book a.past s s.set.slice (get_or (set_natives book s.set) j d) few short h.rises within));
       held = fit.agrees.held;
+      placed = slot_placed book core.shape a.past s;
     })
 
 -- a set that stopped tells of the numbers that it kept
 pub rested_tellable : {book : Book} {units : List UnitView} {now : ℕ} {slot : Slot} (after : List UnitView) → IsTellable book units now slot
     → IsTellable book after now (rested (numbers_shown units now slot) slot)
 rested_tellable after t = record {
-  measurable = record { has_unit = λ pins armed is. cc; in_turns = λ r begun kept is. cc };
+  measurable = record { has_unit = λ pins armed places is. cc; in_turns = λ r begun kept is. cc };
   same_length = t.same_length;
   small = t.small;
   held = t.held;
+  placed = λ pins armed places is. cc;
 }
 
 -- ---- calls that show something of a set

@@ -35,7 +35,7 @@ pub by_turns : (P : RotationView → ℕ → List ℕ → Type 0) (r q : Rotatio
 by_turns P r q begun time kept counts same holds = subst of same holds where
   of : Counting → Type 0
   of (counting.Stopped ks) = ⊤
-  of (counting.OnUnit pins armed) = ⊤
+  of (counting.OnUnit pins armed places) = ⊤
   of (counting.InTurns x now ks) = P x now ks
 
 -- a set of a core can be counted

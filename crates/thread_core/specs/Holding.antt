@@ -11,6 +11,7 @@ use Rattle.session_model.specs.Values.{measured}
 use Rattle.thread_slots.specs.declared.slot.Counting.{Counting}
 use Rattle.thread_slots.specs.declared.slot.Counting.TheVariants as counting
 use Rattle.thread_slots.specs.declared.slot.Slot.{Slot}
+use Rattle.thread_slots.specs.EventPlaces.{places_of}
 use Rattle.thread_slots.specs.Pinned.{armed_of, pins_of}
 use Rattle.thread_slots.specs.Slots.{numbers_of, rotation_of, turned}
 
@@ -18,7 +19,7 @@ use Rattle.thread_slots.specs.Slots.{numbers_of, rotation_of, turned}
 -- take turns, and it keeps what each counted in these.
 abbrev pub counting_by : Book → List Occ → Kept → Bool → Option ℕ → Counting
 counting_by book past s false m = counting.Stopped (map (measured s.set.slice book past s) (set_natives book s.set))
-counting_by book past s true None = counting.OnUnit (pins_of book s.set) (armed_of book s.set)
+counting_by book past s true None = counting.OnUnit (pins_of book s.set) (armed_of book s.set) (places_of book (set_natives book s.set) s.set.events)
 counting_by book past s true (Some slice) =
     let kept = turned (turns_of slice (numbers_of book s.set) past s) past s (set_natives book s.set) (numbers_of book s.set) in
     counting.InTurns (rotation_of (numbers_of book s.set) slice) (clock past s.from) kept

@@ -193,7 +193,7 @@ impl Core {
             return Code::Enoevst;
         };
         slot.stop(&mut self.units, &self.shape, now);
-        *into = slot.read(&self.units, book, now);
+        slot.read(&self.units, book, now, into);
         Code::Ok
     }
 
@@ -208,7 +208,7 @@ impl Core {
         let Some(slot) = self.set(set) else {
             return Code::Enoevst;
         };
-        *into = slot.read(&self.units, book, self.time());
+        slot.read(&self.units, book, self.time(), into);
         Code::Ok
     }
 
@@ -227,9 +227,9 @@ impl Core {
         let Some(slot) = &mut self.slots[set as usize] else {
             return Code::Enoevst;
         };
-        let more = slot.read(&self.units, book, now);
+        slot.read(&self.units, book, now, into);
         slot.zero(&mut self.units, now);
-        *into = slot.accumulate(&more);
+        slot.accumulate(into);
         Code::Ok
     }
 
