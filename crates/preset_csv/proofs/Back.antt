@@ -4,6 +4,7 @@ use Rattle.std.specs.Prelude.{if◌then◌else◌, is_some}
 use Rattle.std.specs.List.{AllByRecursion}
 use Rattle.std.specs.Str.{bytes_eq}
 use Rattle.table_rows.specs.Rows.{IsPlainRow}
+use Rattle.table_rows.specs.Tables.{NoTwo}
 use Rattle.table_rows.specs.Texts.{Text}
 use Rattle.table_rows.proofs.RowsBack.{rows-back}
 use Rattle.table_rows.proofs.Texts.{all-map}
@@ -20,7 +21,7 @@ use Rattle.preset_csv.specs.declared.entry.Entry.TheVariants as entry
 use Rattle.preset_csv.proofs.Fields.{IsGood, symbols-good, word-good}
 use Rattle.preset_csv.proofs.Groups.{has_cpu-more, names-more}
 use Rattle.preset_csv.proofs.RowBack.{cpu-line, def-good, def-judged, def-line, row_fields, def_row, good-plain, rest-good, rest-judged, rest-line, rest_fields, rest_row}
-use Rattle.preset_csv.proofs.SymbolRows.{Apart, AreApart, all-test, same-text, symbols-apart}
+use Rattle.preset_csv.proofs.SymbolRows.{all-test, same-text, symbols-apart, turned}
 use Rattle.preset_csv.proofs.WrittenParts.{length-symbols}
 
 -- the rows of some symbols and their entries, as they read back
@@ -132,16 +133,16 @@ map-same : (f g : Text → Entry) (ss : List Text) → AllByRecursion (λ t. f t
 map-same f g [] h = refl
 map-same f g (s ∷ ss) h = ap₂ (λ (x : Entry) (xs : List Entry). x ∷ xs) h.0 (map-same f g ss h.1)
 
-others-same : (judge : Judging) (s : Text) (r : Derivation) (rows : List Derivation) (ss : List Text) → r.symbol ≡ s → AllByRecursion (AreApart s) ss
+others-same : (judge : Judging) (s : Text) (r : Derivation) (rows : List Derivation) (ss : List Text) → r.symbol ≡ s → AllByRecursion (λ t. bytes_eq s t ≡ false) ss
     → map (entry_of judge (r ∷ rows)) ss ≡ map (entry_of judge rows) ss
 unfolding entry_of
 others-same judge s r rows ss is h =
-    map-same (entry_of judge (r ∷ rows)) (entry_of judge rows) ss (all-map (AreApart s) (λ t. entry_of judge (r ∷ rows) t ≡ entry_of judge rows t) ss (λ t k. rw (is, k.0) refl) h)
+    map-same (entry_of judge (r ∷ rows)) (entry_of judge rows) ss (all-map (λ t. bytes_eq s t ≡ false) (λ t. entry_of judge (r ∷ rows) t ≡ entry_of judge rows t) ss (λ t k. rw (is, k) refl) h)
 
-flip : (s : Text) (ss : List Text) → AllByRecursion (AreApart s) ss → AllByRecursion (λ t. bytes_eq t s ≡ false) ss
-flip s ss h = all-map (AreApart s) (λ t. bytes_eq t s ≡ false) ss (λ t k. k.1) h
+flip : (s : Text) (ss : List Text) → AllByRecursion (λ t. bytes_eq s t ≡ false) ss → AllByRecursion (λ t. bytes_eq t s ≡ false) ss
+flip s ss h = all-map (λ t. bytes_eq s t ≡ false) (λ t. bytes_eq t s ≡ false) ss (λ t k. turned t s ∙ k) h
 
-entries-back : (judge : Judging) → GivesBack judge → (ss : List Text) (es : List Entry) → Apart ss → length es ≡ length ss → AllByRecursion IsEntry es → map (entry_of judge (rows_back ss es)) ss ≡ es
+entries-back : (judge : Judging) → GivesBack judge → (ss : List Text) (es : List Entry) → NoTwo bytes_eq ss → length es ≡ length ss → AllByRecursion IsEntry es → map (entry_of judge (rows_back ss es)) ss ≡ es
 unfolding entry_of rows_back
 entries-back judge b [] [] a n h = refl
 entries-back judge b [] (e ∷ es) a n h = absurd (omega arith)

@@ -6,6 +6,7 @@ use Rattle.std.specs.List.{AllByRecursion, list_all, position_or_len}
 use Rattle.std.specs.Str.{bytes_eq}
 use Rattle.std.proofs.lemmas.Bool.{and_from, and_parts, cond_both, ltb-false, ltb-true, not-true}
 use Rattle.std.proofs.lemmas.Slice.Eq.{bytes_eq-Decides}
+use Rattle.table_rows.specs.Tables.{NoTwo}
 use Rattle.table_rows.specs.Texts.{Text, is_printable}
 use Rattle.table_rows.proofs.Texts.{all-map}
 use Rattle.preset_table.specs.Table.{PresetRow, preset_rows, row_of}
@@ -23,29 +24,26 @@ test-all p (x ∷ xs) h = and_from (p x) (list_all p xs) h.0 (test-all p xs h.1)
 pub same-text : (t : Text) → bytes_eq t t ≡ true
 same-text t = (bytes_eq-Decides t t).1 refl
 
+-- the test for equal texts, either way round
+pub turned : (s t : Text) → bytes_eq s t ≡ bytes_eq t s
+turned s t = go (bytes_eq s t) (bytes_eq t s) (bytes_eq-Decides s t) (bytes_eq-Decides t s)
+  where
+    go : (b c : Bool) → Decides b (s ≡ t) → Decides c (t ≡ s) → b ≡ c
+    go true c d k = sym (k.1 (sym (d.0 refl)))
+    go false true d k = d.1 (sym (k.0 refl))
+    go false false d k = refl
+
 abbrev apart : List Text → Bool
 apart [] = true
-apart (s ∷ rest) = list_all (λ t. not (bytes_eq s t) && not (bytes_eq t s)) rest && apart rest
+apart (s ∷ rest) = list_all (λ t. not (bytes_eq s t)) rest && apart rest
 
--- two texts are different, either way round
-abbrev pub AreApart : Text → Text → Type 0
-AreApart s t = (bytes_eq s t ≡ false) × (bytes_eq t s ≡ false)
-
--- no text is another
-abbrev pub Apart : List Text → Type 0
-Apart [] = ⊤
-Apart (s ∷ rest) = AllByRecursion (AreApart s) rest × Apart rest
-
-apart-from : (ss : List Text) → apart ss ≡ true → Apart ss
+apart-from : (ss : List Text) → apart ss ≡ true → NoTwo bytes_eq ss
 apart-from [] e = tt
 apart-from (s ∷ rest) e =
-    let q = and_parts _ _ e in (
-      all-map (λ t. (not (bytes_eq s t) && not (bytes_eq t s)) ≡ true) (AreApart s) rest
-          (λ t h. let r = and_parts _ _ h in (not-true _ r.0, not-true _ r.1)) (all-test (λ t. not (bytes_eq s t) && not (bytes_eq t s)) rest q.0),
-      apart-from rest q.1,
-    )
+    let q = and_parts _ _ e in
+    (all-map (λ t. not (bytes_eq s t) ≡ true) (λ t. bytes_eq s t ≡ false) rest (λ t h. not-true _ h) (all-test (λ t. not (bytes_eq s t)) rest q.0), apart-from rest q.1)
 
-pub symbols-apart : Apart symbols
+pub symbols-apart : NoTwo bytes_eq symbols
 unfolding symbols preset_rows
 symbols-apart = apart-from symbols refl
 
@@ -57,9 +55,9 @@ changed f t x s = if bytes_eq t s then x else f s
 abbrev symbol_of : PresetRow → Text
 symbol_of r = r.symbol
 
-others-same : {X : Type 0} (f : Text → X) (t : Text) (x : X) (ss : List Text) → AllByRecursion (AreApart t) ss → map (changed f t x) ss ≡ map f ss
+others-same : {X : Type 0} (f : Text → X) (t : Text) (x : X) (ss : List Text) → AllByRecursion (λ s. bytes_eq t s ≡ false) ss → map (changed f t x) ss ≡ map f ss
 others-same f t x [] h = refl
-others-same f t x (s ∷ ss) h = ap₂ (λ y ys. y ∷ ys) (rw h.0.0 refl) (others-same f t x ss h.1)
+others-same f t x (s ∷ ss) h = ap₂ (λ y ys. y ∷ ys) (rw h.0 refl) (others-same f t x ss h.1)
 
 abbrev place : Text → List PresetRow → ℕ
 place t rows = position_or_len (λ r. bytes_eq r.symbol t) rows
@@ -76,31 +74,27 @@ place-end t rows le = let within = place-within t rows in omega (arith, le, with
 -- no row is of this text
 changed-none : {X : Type 0} (f : Text → X) (t : Text) (x : X) (rows : List PresetRow) → place t rows ≡ length rows → map (changed f t x) (map symbol_of rows) ≡ map f (map symbol_of rows)
 changed-none f t x [] e = refl
-changed-none f t x (r ∷ rows) e = go (bytes_eq r.symbol t) (bytes_eq t r.symbol) (bytes_eq-Decides r.symbol t) (bytes_eq-Decides t r.symbol) e (λ q. changed-none f t x rows q)
+changed-none f t x (r ∷ rows) e = rw (turned t r.symbol) (go (bytes_eq r.symbol t) e (λ q. changed-none f t x rows q))
   where
-    go : (b c : Bool) → Decides b (r.symbol ≡ t) → Decides c (t ≡ r.symbol) → cond (not b) (1 + place t rows) 0 ≡ length (r ∷ rows)
-        → (place t rows ≡ length rows → map (changed f t x) (map symbol_of rows) ≡ map f (map symbol_of rows))
-        → ((if c then x else f r.symbol) ∷ map (changed f t x) (map symbol_of rows)) ≡ f r.symbol ∷ map f (map symbol_of rows)
-    go true c d d' e more = absurd (omega (arith, e))
-    go false true d d' e more = let no : false ≡ true = d.1 (sym (d'.0 refl)) in cc no
-    go false false d d' e more = ap (λ ys. f r.symbol ∷ ys) (more (omega (arith, e)))
+    go : (b : Bool) → cond (not b) (1 + place t rows) 0 ≡ length (r ∷ rows) → (place t rows ≡ length rows → map (changed f t x) (map symbol_of rows) ≡ map f (map symbol_of rows))
+        → ((if b then x else f r.symbol) ∷ map (changed f t x) (map symbol_of rows)) ≡ f r.symbol ∷ map f (map symbol_of rows)
+    go true e more = absurd (omega (arith, e))
+    go false e more = ap (λ ys. f r.symbol ∷ ys) (more (omega (arith, e)))
 
 set-later : {X : Type 0} (y : X) (ys : List X) (p : ℕ) (x : X) → y ∷ set ys p x ≡ set (y ∷ ys) (1 + p) x
 set-later y ys p x = let e : 1 + p ≡ suc p = omega arith in rw e refl
 
 -- one row is
-changed-set : {X : Type 0} (f : Text → X) (t : Text) (x : X) (rows : List PresetRow) → Apart (map symbol_of rows) → place t rows < length rows
+changed-set : {X : Type 0} (f : Text → X) (t : Text) (x : X) (rows : List PresetRow) → NoTwo bytes_eq (map symbol_of rows) → place t rows < length rows
     → map (changed f t x) (map symbol_of rows) ≡ set (map f (map symbol_of rows)) (place t rows) x
 changed-set f t x [] a lt = absurd (omega arith)
-changed-set f t x (r ∷ rows) a lt = go (bytes_eq r.symbol t) (bytes_eq t r.symbol) (bytes_eq-Decides r.symbol t) (bytes_eq-Decides t r.symbol) lt (λ q. changed-set f t x rows a.1 q)
+changed-set f t x (r ∷ rows) a lt = rw (turned t r.symbol) (go (bytes_eq r.symbol t) (bytes_eq-Decides r.symbol t) lt (λ q. changed-set f t x rows a.1 q))
   where
-    go : (b c : Bool) → Decides b (r.symbol ≡ t) → Decides c (t ≡ r.symbol) → cond (not b) (1 + place t rows) 0 < length (r ∷ rows)
+    go : (b : Bool) → Decides b (r.symbol ≡ t) → cond (not b) (1 + place t rows) 0 < length (r ∷ rows)
         → (place t rows < length rows → map (changed f t x) (map symbol_of rows) ≡ set (map f (map symbol_of rows)) (place t rows) x)
-        → ((if c then x else f r.symbol) ∷ map (changed f t x) (map symbol_of rows)) ≡ set (f r.symbol ∷ map f (map symbol_of rows)) (cond (not b) (1 + place t rows) 0) x
-    go true false d d' lt more = let no : false ≡ true = d'.1 (sym (d.0 refl)) in cc no
-    go true true d d' lt more = ap (λ ys. x ∷ ys) (others-same f t x (map symbol_of rows) (subst (λ (u : Text). AllByRecursion (AreApart u) (map symbol_of rows)) (d.0 refl) a.0))
-    go false true d d' lt more = let no : false ≡ true = d.1 (sym (d'.0 refl)) in cc no
-    go false false d d' lt more = ap (λ ys. f r.symbol ∷ ys) (more (omega (arith, lt))) ∙ set-later (f r.symbol) (map f (map symbol_of rows)) (place t rows) x
+        → ((if b then x else f r.symbol) ∷ map (changed f t x) (map symbol_of rows)) ≡ set (f r.symbol ∷ map f (map symbol_of rows)) (cond (not b) (1 + place t rows) 0) x
+    go true d lt more = ap (λ ys. x ∷ ys) (others-same f t x (map symbol_of rows) (subst (λ (u : Text). AllByRecursion (λ s. bytes_eq u s ≡ false) (map symbol_of rows)) (d.0 refl) a.0))
+    go false d lt more = ap (λ ys. f r.symbol ∷ ys) (more (omega (arith, lt))) ∙ set-later (f r.symbol) (map f (map symbol_of rows)) (place t rows) x
 
 -- the row of a text, and the entries that are changed at it
 abbrev pub set_at : {X : Type 0} → List X → Option ℕ → X → List X
