@@ -3,23 +3,20 @@ use Rattle.std.proofs.Common.{◌≡◌, ℕ, zero, suc, ◌+◌, ◌<◌, Bool,
 use Rattle.std.specs.Prelude.{find, if◌then◌else◌}
 use Rattle.std.specs.List.{AllByRecursion, list_any, position_or_len}
 use Rattle.std.proofs.lemmas.Bool.{or_parts}
-use Rattle.std.proofs.lemmas.List.{drop_more}
+use Rattle.std.proofs.lemmas.List.{drop_more, take_more}
+use Rattle.std.proofs.lemmas.Option.{get_or_from_slice_get, slice_get-get_or, slice_get_within}
+
+-- a list whose next item is x
+pub drop_item : {X : Type 0} (xs : List X) (i : ℕ) (x : X) → i < length xs → x ≡ get_or xs i x → drop i xs ≡ x ∷ drop (i + 1) xs
+drop_item xs i x below is = drop_more xs i x below ∙ ap (λ y. y ∷ drop (i + 1) xs) (sym is)
 
 -- the item at i begins what is left
 pub drop_at : {X : Type 0} (xs : List X) (i : ℕ) (x : X) → slice_get xs i ≡ Some x → drop i xs ≡ x ∷ drop (i + 1) xs
-drop_at {X} xs i x e = let one : suc i ≡ i + 1 = omega arith in let P : ℕ → Type 0 = λ k. drop i xs ≡ x ∷ drop k xs in subst P one (go xs i x e) where
-  go : (xs : List X) (i : ℕ) (x : X) → slice_get xs i ≡ Some x → drop i xs ≡ x ∷ drop (suc i) xs
-  go [] i x e = cc
-  go (y ∷ xs) zero x e = let same : y ≡ x = cc in ap (λ z. z ∷ xs) same
-  go (y ∷ xs) (suc i) x e = go xs i x e
+drop_at xs i x e = drop_item xs i x (slice_get_within xs i x e) (sym (get_or_from_slice_get xs i x x e))
 
 -- and ends what was gone through
 pub take_at : {X : Type 0} (xs : List X) (i : ℕ) (x : X) → slice_get xs i ≡ Some x → take (i + 1) xs ≡ take i xs ++ x ∷ []
-take_at {X} xs i x e = let one : suc i ≡ i + 1 = omega arith in let P : ℕ → Type 0 = λ k. take k xs ≡ take i xs ++ x ∷ [] in subst P one (go xs i x e) where
-  go : (xs : List X) (i : ℕ) (x : X) → slice_get xs i ≡ Some x → take (suc i) xs ≡ take i xs ++ x ∷ []
-  go [] i x e = cc
-  go (y ∷ xs) zero x e = let same : y ≡ x = cc in ap (λ z. z ∷ []) same
-  go (y ∷ xs) (suc i) x e = ap (λ zs. y ∷ zs) (go xs i x e)
+take_at xs i x e = take_more xs i x (slice_get_within xs i x e) ∙ ap (λ y. take i xs ++ y ∷ []) (get_or_from_slice_get xs i x x e)
 
 -- a test that the item passes is passed by one of what is left; one that it does not pass, by what is left after it or by none
 pub any_here : {X : Type 0} (p : X → Bool) (xs : List X) (i : ℕ) (x : X) → slice_get xs i ≡ Some x → p x ≡ true → list_any p (drop i xs) ≡ true
@@ -34,8 +31,7 @@ find_at p xs i x e = ap (find p) (drop_at xs i x e)
 -- an item that is there
 pub get_at : {X : Type 0} (xs : List X) (i : ℕ) → i < length xs → (x : X) × (slice_get xs i ≡ Some x)
 get_at [] i below = absurd (omega arith)
-get_at (x ∷ xs) zero below = (x, refl)
-get_at (x ∷ xs) (suc i) below = get_at xs i (omega arith)
+get_at (x ∷ xs) i below = (get_or (x ∷ xs) i x, slice_get-get_or (x ∷ xs) i x below)
 
 -- the first item of what is left is the first where the test holds, and it is not
 pub found_here : {X : Type 0} (p : X → Bool) (xs : List X) (i : ℕ) (x : X) → slice_get xs i ≡ Some x → p x ≡ true → position_or_len p (drop i xs) ≡ 0
@@ -64,10 +60,6 @@ pub get_front : {X : Type 0} (xs ys : List X) (i : ℕ) (x : X) → slice_get xs
 get_front [] ys i x e = cc
 get_front (y ∷ xs) ys zero x e = e
 get_front (y ∷ xs) ys (suc i) x e = get_front xs ys i x e
-
--- a list whose next item is x
-pub drop_item : {X : Type 0} (xs : List X) (i : ℕ) (x : X) → i < length xs → x ≡ get_or xs i x → drop i xs ≡ x ∷ drop (i + 1) xs
-drop_item xs i x below is = drop_more xs i x below ∙ ap (λ y. y ∷ drop (i + 1) xs) (sym is)
 
 -- the item after the first of two lists, and none past a list
 pub get_middle : {X : Type 0} (xs : List X) (y : X) (ys : List X) → slice_get (xs ++ y ∷ ys) (length xs) ≡ Some y
