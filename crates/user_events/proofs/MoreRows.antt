@@ -16,7 +16,7 @@ use Rattle.preset_csv.specs.declared.entry.Entry.{Entry}
 use Rattle.preset_csv.specs.declared.fault.PresetCause.{PresetCause}
 use Rattle.preset_csv.specs.declared.fault.PresetCause.TheVariants as cause
 use Rattle.preset_csv.proofs.OneMore.{entry-append, map-same, read-more}
-use Rattle.preset_csv.proofs.SymbolRows.{same-text}
+use Rattle.preset_csv.proofs.SymbolRows.{same-text, turned}
 use Rattle.user_events.specs.Entries.{event_judged}
 use Rattle.user_events.specs.Events.{Distinct, EventView, names_of}
 use Rattle.user_events.specs.Names.{is_event_name}
@@ -26,8 +26,7 @@ use Rattle.user_events.specs.Steps.{events_more, events_with, put_event, put_jud
 -- ---- the names of the user events differ
 
 pub same-order : (s t : Text) → bytes_eq s t ≡ false → bytes_eq t s ≡ false
-same-order s t e = false_from_ne_true (bytes_eq t s)
-    (λ q. let yes : bytes_eq s t ≡ true = (bytes_eq-Decides s t).1 (sym ((bytes_eq-Decides t s).0 q)) in cc (e, yes))
+same-order s t e = turned t s ∙ e
 
 distinct-last : (ns : List Text) (s : Text) → among s ns ≡ false → Distinct ns → Distinct (ns ++ s ∷ [])
 distinct-last [] s e d = (tt, tt)
