@@ -1,13 +1,12 @@
 -- The text of a line, one more item at a time.
-use Rattle.std.proofs.Common.{◌≡◌, ◌∙◌, ◌<◌, ◌≤◌, ◌+◌, ◌-◌, ◌∷◌, ◌++◌, ℕ, zero, suc, Bool, true, false, List, [], Some, cond, drop, filter, length, map, min, take, refl, sym, ap, arith, append_assoc}
-use Rattle.std.proofs.lemmas.List.{append-nil, drop_all, map-append, take_all, take_more}
+use Rattle.std.proofs.Common.{◌≡◌, ◌∙◌, ◌<◌, ◌≤◌, ◌+◌, ◌-◌, ◌∷◌, ◌++◌, ℕ, zero, suc, Bool, true, false, List, [], Some, cond, drop, filter, length, map, min, take, sym, ap, arith, append_assoc}
+use Rattle.std.proofs.lemmas.List.{append-nil, drop_all, map-append, map-id, take_all}
 use Rattle.std.proofs.lemmas.List.Concat.{flat_map-append}
 use Rattle.std.proofs.lemmas.List.FromFn.{filter_of_map_range_with_len_more}
-use Rattle.std.proofs.lemmas.Option.{get_or_from_slice_get, slice_get_within}
 use Rattle.std.specs.Prelude.{◌==◌, slice_get, zip}
 use Rattle.std.specs.Int.{bit_at}
 use Rattle.std.specs.List.{range_with_len}
-use Rattle.papi_base.proofs.Steps.{drop_at}
+use Rattle.papi_base.proofs.Steps.{drop_at, take_at}
 use Rattle.reply_text.specs.Replies.{Text, members_below, spaced}
 
 -- ---- texts after spaces
@@ -29,15 +28,6 @@ pub pushed_none : (start : Text) → start ≡ start ++ spaced []
 unfolding spaced
 pushed_none start = sym (append-nil start)
 
--- one text is pushed
-pub pushed_one : (start after text : Text) → after ≡ start ++ 32 ∷ text → after ≡ start ++ spaced (text ∷ [])
-pushed_one start after text e = e ∙ ap (λ (t : Text). start ++ t) (sym (spaced_one text))
-
--- two texts are pushed
-pub pushed_two : (start after first second : Text) → after ≡ start ++ 32 ∷ (first ++ 32 ∷ second) → after ≡ start ++ spaced (first ∷ second ∷ [])
-unfolding spaced
-pushed_two start after first second e = e ∙ ap (λ (t : Text). start ++ 32 ∷ (first ++ 32 ∷ t)) (sym (append-nil second))
-
 -- one text more is pushed
 pushed_more : (start line after text : Text) (texts : List Text) → line ≡ start ++ spaced texts → after ≡ line ++ 32 ∷ text → after ≡ start ++ spaced (texts ++ text ∷ [])
 pushed_more start line after text texts so_far more =
@@ -46,15 +36,12 @@ pushed_more start line after text texts so_far more =
 
 -- ---- the items of a list
 
-taken_more : {X : Type 0} (xs : List X) (i : ℕ) (x : X) → slice_get xs i ≡ Some x → take (i + 1) xs ≡ take i xs ++ x ∷ []
-taken_more xs i x h = take_more xs i x (slice_get_within xs i x h) ∙ ap (λ y. take i xs ++ y ∷ []) (get_or_from_slice_get xs i x x h)
-
 -- the text of one item more is pushed
 pub item_pushed : {X : Type 0} (f : X → Text) (xs : List X) (i : ℕ) (x : X) (start line after : Text) → slice_get xs i ≡ Some x
     → line ≡ start ++ spaced (map f (take i xs)) → after ≡ line ++ 32 ∷ f x → after ≡ start ++ spaced (map f (take (i + 1) xs))
 item_pushed f xs i x start line after h so_far more =
     pushed_more start line after (f x) (map f (take i xs)) so_far more
-    ∙ ap (λ (ts : List Text). start ++ spaced ts) (sym (ap (map f) (taken_more xs i x h) ∙ map-append f (take i xs) (x ∷ [])))
+    ∙ ap (λ (ts : List Text). start ++ spaced ts) (sym (ap (map f) (take_at xs i x h) ∙ map-append f (take i xs) (x ∷ [])))
 
 -- the texts of all items are pushed
 pub items_pushed : {X : Type 0} (f : X → Text) (xs : List X) (i : ℕ) (start after : Text) → length xs ≤ i → after ≡ start ++ spaced (map f (take i xs)) → after ≡ start ++ spaced (map f xs)
@@ -101,17 +88,13 @@ zip_within xs ns i le = omega (arith, (length-zip xs ns).0, (length-zip xs ns).1
 
 -- ---- the members of a set of bits
 
-map_same : (xs : List ℕ) → map (λ x. x) xs ≡ xs
-map_same [] = refl
-map_same (x ∷ xs) = ap (λ (ys : List ℕ). x ∷ ys) (map_same xs)
-
 -- the members below one number more
 members_more : (k set : ℕ) → members_below (k + 1) set ≡ members_below k set ++ cond (bit_at set k == 1) (k ∷ []) []
 unfolding members_below
 members_more k set =
-    ap (filter (λ x. bit_at set x == 1)) (sym (map_same (range_with_len 0 (k + 1))))
+    ap (filter (λ x. bit_at set x == 1)) (sym (map-id (range_with_len 0 (k + 1))))
     ∙ filter_of_map_range_with_len_more (λ x. bit_at set x == 1) (λ x. x) 0 k k (omega arith)
-    ∙ ap (λ (xs : List ℕ). filter (λ x. bit_at set x == 1) xs ++ cond (bit_at set k == 1) (k ∷ []) []) (map_same (range_with_len 0 k))
+    ∙ ap (λ (xs : List ℕ). filter (λ x. bit_at set x == 1) xs ++ cond (bit_at set k == 1) (k ∷ []) []) (map-id (range_with_len 0 k))
 
 pub no_member_pushed : (f : ℕ → Text) (set : ℕ) (start : Text) → start ≡ start ++ spaced (map f (members_below 0 set))
 unfolding members_below

@@ -26,6 +26,7 @@ fn has(set: u64, k: u32) -> bool
     (set >> k) & 1 == 1
 }
 
+#[tactic(auto, using(crate::proofs::Texts::pushed_none))]
 fn push_events(text: &mut String, catalog: &Catalog, events: &Events) -> Result<(), AllocError>
     ensures { OnOk result (string_bytes text.new
         ≡ string_bytes text.old ++ spaced (map (event_name catalog.now) events.now)) }
@@ -36,6 +37,7 @@ fn push_events(text: &mut String, catalog: &Catalog, events: &Events) -> Result<
     Ok(())
 }
 
+#[tactic(auto, using(crate::proofs::Texts::pushed_none))]
 fn push_natives(text: &mut String, catalog: &Catalog, natives: &Natives) -> Result<(), AllocError>
     ensures { OnOk result (string_bytes text.new
         ≡ string_bytes text.old ++ spaced (map (canonical catalog.now.tables) natives.now)) }
@@ -65,6 +67,7 @@ fn push_assignment(
 }
 
 // The counters of a component whose bits are set.
+#[tactic(auto, using(crate::proofs::Texts::no_member_pushed))]
 fn push_counters(
     text: &mut String,
     catalog: &Catalog,
@@ -104,6 +107,7 @@ fn push_clash(text: &mut String, catalog: &Catalog, clash: &Clash) -> Result<(),
 }
 
 // The threads whose bits are set.
+#[tactic(auto, using(crate::proofs::Texts::no_member_pushed))]
 fn push_threads(text: &mut String, threads: u64) -> Result<(), AllocError>
     ensures { OnOk result (string_bytes text.new
         ≡ string_bytes text.old ++ spaced (map decimal (Replies.members_below THREADS threads))) }
@@ -125,6 +129,7 @@ fn push_ran(text: &mut String, ran: &Ran) -> Result<(), AllocError>
 }
 
 /// Appends the results of a reply, each after a space.
+#[tactic(auto, using(std::proofs::lemmas::Grind::common_steps), unfolding(crate::specs::Replies::spaced))]
 pub(crate) fn push_results(
     text: &mut String,
     catalog: &Catalog,

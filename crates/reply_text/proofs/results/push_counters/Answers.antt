@@ -2,12 +2,9 @@ use Rattle.std.proofs.Common.{◌∙◌, ◌++◌, ◌∷◌, ℕ, ap, sym}
 use Rattle.std.specs.Prelude.{◌==◌, string_bytes}
 use Rattle.std.specs.Int.{bit_at}
 use Rattle.reply_text.specs.Replies.{Text, counter_text}
-use Rattle.reply_text.proofs.Texts.{member_passed, member_pushed, no_member_pushed}
+use Rattle.reply_text.proofs.Texts.{member_passed, member_pushed}
 use Rattle.reply_text.proofs.results.push_counters.Goals as goal
 use Rattle.reply_text.proofs.results.push_counters.Goals.{then-has+in_ok-push_word, else-has}
-
-pub loop-counter-init : goal.loop-counter-init
-loop-counter-init c = no_member_pushed (counter_text c.args.catalog.now c.args.comp) c.args.counters _
 
 pub loop-counter-preserved : goal.loop-counter-preserved
 loop-counter-preserved c =

@@ -1,11 +1,8 @@
 use Rattle.std.proofs.Common.{◌∙◌, sym}
 use Rattle.std.specs.Prelude.{decimal, string_bytes}
-use Rattle.reply_text.proofs.Texts.{member_passed, member_pushed, no_member_pushed}
+use Rattle.reply_text.proofs.Texts.{member_passed, member_pushed}
 use Rattle.reply_text.proofs.results.push_threads.Goals as goal
 use Rattle.reply_text.proofs.results.push_threads.Goals.{then-has+in_ok-push_number, else-has}
-
-pub loop-thread-init : goal.loop-thread-init
-loop-thread-init c = no_member_pushed decimal c.args.threads _
 
 pub loop-thread-preserved : goal.loop-thread-preserved
 loop-thread-preserved c =
