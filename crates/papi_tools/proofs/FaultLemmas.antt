@@ -4,7 +4,7 @@ use Rattle.std.specs.List.{Any, list_any}
 use Rattle.std.proofs.lemmas.List.Folds.{Any-from_list_any}
 use Rattle.std.proofs.lemmas.List.FromFn.{get_or-map-range_with_len, length-map-range_with_len}
 use Rattle.session_model.specs.declared.reply.Ended.{Ended}
-use Rattle.session_model.specs.declared.reply.Ended.TheVariants.{Going, Bad, Fault}
+use Rattle.session_model.specs.declared.reply.Ended.TheVariants.{Fault}
 use Rattle.session_model.specs.World.{first_met, met_in, met_mark}
 use Rattle.thread_session.specs.Faults.{IsFaultBody, IsFaultReply}
 use Rattle.session_model.specs.declared.reply.Body.{Body}

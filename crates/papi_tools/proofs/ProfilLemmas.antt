@@ -1,5 +1,5 @@
 -- The notes of an event that a profile counts, and what is said of them.
-use Rattle.std.proofs.Common.{◌≡◌, ◌<◌, ◌≤◌, ◌+◌, ◌-◌, ◌∙◌, ℕ, zero, suc, List, [], ◌∷◌, ◌++◌, length, drop, filter, get_or, map, take, Some, None, Result, Ok, Err, Vec, Global, Option, vec_len, refl, sym, ap, ap₂, arith, slice_index_or}
+use Rattle.std.proofs.Common.{◌≡◌, ◌<◌, ◌≤◌, ◌+◌, ◌-◌, ◌∙◌, ℕ, zero, suc, List, [], ◌∷◌, ◌++◌, length, drop, filter, get_or, map, take, Some, None, Result, Ok, Vec, Global, Option, vec_len, refl, sym, ap, arith, slice_index_or}
 use Rattle.std.proofs.Math.Seq.{drop-append_seam}
 use Rattle.std.proofs.lemmas.List.{drop-append-le, length-take-le, map-append, take_all, take_more}
 use Rattle.std.proofs.lemmas.List.Elements.{filter-append}

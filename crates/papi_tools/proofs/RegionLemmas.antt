@@ -1,5 +1,5 @@
 -- What is said of the regions of a program: the report by what was read, or the first event that is refused.
-use Rattle.std.proofs.Common.{◌≡◌, ◌∙◌, ◌++◌, ◌≤◌, ◌<◌, ◌+◌, ℕ, ℤ, Bool, true, false, List, [], ◌∷◌, All, length, take, Option, IfOk, Result, Ok, Err, refl, sym, ap, ap₂, get_or, subst}
+use Rattle.std.proofs.Common.{◌≡◌, ◌∙◌, ◌++◌, ◌≤◌, ◌<◌, ◌+◌, ℕ, ℤ, Bool, true, false, List, [], ◌∷◌, All, length, take, Option, IfOk, Result, Ok, Err, refl, sym, ap, ap₂, get_or, subst, arith, Vec, Global, vec_len}
 use Rattle.std.specs.Prelude.{is_ok}
 use Rattle.std.proofs.lemmas.Grind.{flat_map-append}
 use Rattle.std.proofs.lemmas.List.{take_more}
@@ -102,12 +102,17 @@ counted_told script_law span_law catalog lines events given taken replies marks 
 
 -- ---- if nothing is run
 
-pub nothing_counted : (catalog : CatalogView) (lines : List RegionLine) (readers : List ReaderView) (events : List (List ℕ)) (answer : Result Said Stop) → length readers ≡ 64 →
-    ((given : GivenRegions) → catalog ≡ given.catalog → Answers answer (Ok (regions_said events given))) → (given : GivenRegions) × CanBeGivenRun catalog lines readers given × Answers answer (Ok (regions_said events given))
-nothing_counted catalog lines readers events answer long said =
-    let (streams, can) = some-streams readers long in
+pub nothing_counted : (catalog : CatalogView) (lines : List RegionLine) (readers : Vec ReaderView Global) (events : List (List ℕ)) (answer : Result Said Stop) → vec_len readers ≡ 64 →
+    ((given : GivenRegions) → catalog ≡ given.catalog → Answers answer (Ok (regions_said events given))) → (given : GivenRegions) × CanBeGivenRun catalog lines readers.items given × Answers answer (Ok (regions_said events given))
+nothing_counted catalog lines readers events answer many said =
+    let (streams, can) = some-streams readers.items (omega (arith, many)) in
     let given : GivenRegions = record { catalog = catalog; script = lines; streams = streams } in
     (given, record { catalog_is = refl; script_is = refl; can_come = can }, said given refl)
+
+-- memory ran out
+pub starved : (catalog : CatalogView) (lines : List RegionLine) (readers : Vec ReaderView Global) (events : List (List ℕ)) (answer : Result Said Stop) → vec_len readers ≡ 64 → answer ≡ Err stop.Memory →
+    (given : GivenRegions) × CanBeGivenRun catalog lines readers.items given × Answers answer (Ok (regions_said events given))
+starved catalog lines readers events answer many same = rw same (nothing_counted catalog lines readers events (Err stop.Memory) many (λ given is. tt))
 
 -- the script of calls is not refused, so memory ran out
 pub out_of_memory : {A B : Type 0} (s : Stop) (x : A) (y : B) → Answers (Err s) (Ok x) → Answers (Err s) (Ok y)

@@ -1,5 +1,5 @@
 -- What is said of a run is what the definition says.
-use Rattle.std.proofs.Common.{◌≡◌, ◌≢◌, ◌<◌, ◌≤◌, ◌+◌, ℕ, zero, suc, Bool, true, false, List, [], ◌∷◌, length, map, Option, Some, None, IfOk, Result, Ok, Err, Vec, Global, vec_len, refl, sym, ap, ap₂, ◌∙◌, arith, All, cond, if◌then◌else◌, inl, inr, is_some, slice_index_or, zero-add}
+use Rattle.std.proofs.Common.{◌≡◌, ◌<◌, ◌≤◌, ◌+◌, ℕ, zero, suc, Bool, true, false, List, [], ◌∷◌, length, map, Option, Some, None, IfOk, Result, Ok, Err, Vec, Global, vec_len, refl, sym, ap, ap₂, ◌∙◌, arith, All, cond, if◌then◌else◌, inl, inr, is_some, slice_index_or, zero-add}
 use Rattle.std.proofs.lemmas.List.{length-map}
 use Rattle.std.specs.List.{range_with_len}
 use Rattle.std.specs.Option.{option_map, option_map_or}
@@ -30,7 +30,6 @@ use Rattle.papi_tools.specs.Running.{CanBeGivenRun, GivenOf, GivenRun, IsGivenRu
 use Rattle.papi_tools.specs.Streams.{SomeFailed, sources_in}
 use Rattle.papi_tools.specs.Verdict.{AnswersSaid}
 use Rattle.papi_tools.specs.declared.refusal.Stop.{Stop}
-use Rattle.papi_tools.specs.declared.refusal.Stop.TheVariants as stop
 use Rattle.papi_tools.specs.declared.said.Said.{Said}
 use Rattle.papi_tools.specs.declared.status.Outcome.{Outcome}
 use Rattle.papi_tools.specs.declared.status.Outcome.TheVariants.{No, ReadFault}

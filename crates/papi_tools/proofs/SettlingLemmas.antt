@@ -9,7 +9,7 @@ use Rattle.papi_tools.specs.ErrorLines.{outcome_of}
 use Rattle.papi_tools.specs.Openings.{ForSome, Openings, Verdict}
 use Rattle.papi_tools.specs.Verdict.{ComesTo, IsSettled, IsSettledAs, TellsBy, command_verdict, ended, notes_in, refused_said, verdict_for}
 use Rattle.papi_tools.specs.declared.refusal.Refusal.{Refusal}
-use Rattle.papi_tools.specs.declared.refusal.Refusal.TheVariants.{BadWords, NoSuchFile, CannotRead, TooLarge, Faulty}
+use Rattle.papi_tools.specs.declared.refusal.Refusal.TheVariants.{BadWords, NoSuchFile, CannotRead}
 use Rattle.papi_tools.specs.declared.refusal.Stop.{Stop}
 use Rattle.papi_tools.specs.declared.refusal.Stop.TheVariants as stop
 use Rattle.papi_tools.specs.declared.said.Said.{Said}

@@ -1,4 +1,4 @@
-use Rattle.std.proofs.Common.{◌≡◌, Err, Ok, rules}
+use Rattle.std.proofs.Common.{Ok, rules}
 use Rattle.papi_tools.specs.Choosing.{choice_said, chooser_verdict}
 use Rattle.papi_tools.specs.Contents.{after_tables, catalog_under}
 use Rattle.papi_tools.proofs.FindingLemmas.{answered, refused_first}

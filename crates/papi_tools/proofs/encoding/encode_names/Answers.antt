@@ -1,4 +1,4 @@
-use Rattle.std.proofs.Common.{◌≡◌, Err, Ok, rules}
+use Rattle.std.proofs.Common.{Ok, rules}
 use Rattle.papi_tools.specs.Contents.{unit_under}
 use Rattle.papi_tools.specs.Encoding.{encode_verdict, encoded_said}
 use Rattle.papi_tools.specs.Openings.{opened}

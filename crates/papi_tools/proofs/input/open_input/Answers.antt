@@ -2,7 +2,7 @@ use Rattle.std.proofs.Common.{◌≡◌, Err, Ok, refl, rules}
 use Rattle.plan_runner.specs.Runs.{CanEachCome}
 use Rattle.papi_tools.specs.Contents.{content_under}
 use Rattle.papi_tools.specs.Openings.{Is, opened}
-use Rattle.papi_tools.specs.Running.{CanBeGivenRun, GivenOf, given_with}
+use Rattle.papi_tools.specs.Running.{CanBeGivenRun, given_with}
 use Rattle.papi_tools.specs.Streams.{streams_under}
 use Rattle.papi_tools.specs.declared.limits.TheConstants.{SCRIPT_BYTES}
 use Rattle.papi_tools.proofs.FindingLemmas.{ends_after, ends_with, failed, failed_after}

@@ -1,9 +1,9 @@
-use Rattle.std.proofs.Common.{◌≡◌, ◌∙◌, Err, Ok, ap, arith, refl, rules}
+use Rattle.std.proofs.Common.{◌≡◌, ◌∙◌, Err, Ok, ap, refl, rules}
 use Rattle.chooser_list.specs.Choosing.{all_taken, chooser_text}
 use Rattle.papi_tools.specs.RegionCounts.{GivenRegions}
 use Rattle.papi_tools.specs.Running.{ran_replies}
 use Rattle.papi_tools.specs.declared.refusal.Stop.TheVariants.{Memory}
-use Rattle.papi_tools.proofs.RegionLemmas.{are_calls, are_events, begun_of, counted_told, nothing_counted, out_of_memory, refused_said, script_is}
+use Rattle.papi_tools.proofs.RegionLemmas.{are_calls, are_events, begun_of, counted_told, nothing_counted, out_of_memory, refused_said, script_is, starved}
 use Rattle.papi_tools.proofs.RunLemmas.{run_shows}
 use Rattle.papi_tools.proofs.regions.count.Goals as goal
 
@@ -13,7 +13,7 @@ calls_of-requires g c = are_events _ _ c.as_slice-events.ensures.texts c.as_slic
 pub returns-then-not-choice-clause-counted : goal.returns-then-not-choice-clause-counted
 returns-then-not-choice-clause-counted g c =
     let texts = c.as_slice-events.ensures.texts in
-    nothing_counted c.args.catalog.now c.args.regions.now c.args.readers.now.items c.args.words.now.events (Ok c.text.result) (omega (arith, c.requires.readers, c.args.readers.now.ok.0)) (λ given is.
+    nothing_counted c.args.catalog.now c.args.regions.now c.args.readers.now c.args.words.now.events (Ok c.text.result) c.requires.readers (λ given is.
     refused_said c.args.catalog.now c.args.words.now.events given _ c.in_ok-choice.choice.all_taken c.text.result c.in_ok-choice.choice.text is
     (c.in_ok-choice.ensures.taken ∙ ap (all_taken c.args.catalog.now) texts) c.if-not-choice.true (c.in_ok-choice.ensures.text ∙ ap (chooser_text c.args.catalog.now _) texts) c.text.ensures.said)
 
@@ -37,26 +37,19 @@ returns-in-Ok-clause-shows g c before after rose =
     run_shows (Unit {0}) _ _ _ before after c.said_of.result c.said_of.ensures.said c.in-Ok.ensures.marks (λ some. rose (c.in-Ok.ensures.faulty some))
 
 pub returns-in_err-choice-clause-counted : goal.returns-in_err-choice-clause-counted
-returns-in_err-choice-clause-counted g c =
-    let same : c.from_residual.result ≡ Err Memory = search rules in
-    rw same (nothing_counted c.args.catalog.now c.args.regions.now c.args.readers.now.items c.args.words.now.events (Err Memory) (omega (arith, c.requires.readers, c.args.readers.now.ok.0)) (λ given is. tt))
+returns-in_err-choice-clause-counted g c = starved c.args.catalog.now c.args.regions.now c.args.readers.now c.args.words.now.events c.from_residual.result c.requires.readers (search rules)
 
 pub returns-in_err-script-clause-counted : goal.returns-in_err-script-clause-counted
 returns-in_err-script-clause-counted g c =
     let same : c.from_residual-in_err-script.result ≡ Err c.in_err-script.field-0.0 = search rules in
-    rw same (nothing_counted c.args.catalog.now c.args.regions.now c.args.readers.now.items c.args.words.now.events (Err c.in_err-script.field-0.0) (omega (arith, c.requires.readers, c.args.readers.now.ok.0))
+    rw same (nothing_counted c.args.catalog.now c.args.regions.now c.args.readers.now c.args.words.now.events (Err c.in_err-script.field-0.0) c.requires.readers
     (λ given is. out_of_memory c.in_err-script.field-0.0 _ _ c.in_err-script.ensures.told))
 
 pub returns-in_err-new-clause-counted : goal.returns-in_err-new-clause-counted
-returns-in_err-new-clause-counted g c =
-    let same : c.from_residual-in_err-new.result ≡ Err Memory = search rules in
-    rw same (nothing_counted c.args.catalog.now c.args.regions.now c.args.readers.now.items c.args.words.now.events (Err Memory) (omega (arith, c.requires.readers, c.args.readers.now.ok.0)) (λ given is. tt))
+returns-in_err-new-clause-counted g c = starved c.args.catalog.now c.args.regions.now c.args.readers.now c.args.words.now.events c.from_residual-in_err-new.result c.requires.readers (search rules)
 
 pub returns-in_err-push-clause-counted : goal.returns-in_err-push-clause-counted
-returns-in_err-push-clause-counted g c =
-    let same : c.from_residual-in_err-push.result ≡ Err Memory = search rules in
-    rw same (nothing_counted c.args.catalog.now c.args.regions.now c.args.readers.now.items c.args.words.now.events (Err Memory) (omega (arith, c.requires.readers, c.args.readers.now.ok.0)) (λ given is. tt))
+returns-in_err-push-clause-counted g c = starved c.args.catalog.now c.args.regions.now c.args.readers.now c.args.words.now.events c.from_residual-in_err-push.result c.requires.readers (search rules)
 
 pub returns-clause-counted : goal.returns-clause-counted
-returns-clause-counted g c =
-    nothing_counted c.args.catalog.now c.args.regions.now c.args.readers.now.items c.args.words.now.events (Err Memory) (omega (arith, c.requires.readers, c.args.readers.now.ok.0)) (λ given is. tt)
+returns-clause-counted g c = starved c.args.catalog.now c.args.regions.now c.args.readers.now c.args.words.now.events (Err Memory) c.requires.readers refl
