@@ -2,13 +2,13 @@
 use Rattle.std.proofs.Common.{◌≡◌, ◌∙◌, ◌∷◌, ◌++◌, Bool, true, false, List, [], map, fold, refl, sym, ap, ap₂, subst, append-nil, None, Result, Ok, Err}
 use Rattle.std.specs.Prelude.{◌||◌, if◌then◌else◌}
 use Rattle.std.specs.Bool.{Decides}
-use Rattle.std.specs.List.{AllByRecursion}
+use Rattle.std.specs.List.{AllByRecursion, list_any}
 use Rattle.std.specs.Str.{bytes_eq}
 use Rattle.std.proofs.lemmas.List.Sums.{fold-append}
 use Rattle.std.proofs.lemmas.Slice.Eq.{bytes_eq-Decides}
 use Rattle.std.proofs.lemmas.Bool.{cond_both, false_from_ne_true, or_parts}
 use Rattle.table_rows.specs.Texts.{Text}
-use Rattle.table_rows.proofs.Texts.{all-append}
+use Rattle.table_rows.proofs.Texts.{no_two-more}
 use Rattle.preset_csv.specs.Lines.{Derivation, Line, cpu, event, gives, other, preset}
 use Rattle.preset_csv.specs.Presets.{cause_if, entry_of, entry_or, holds, rows_if}
 use Rattle.preset_csv.specs.Steps.{group_at}
@@ -29,10 +29,7 @@ pub same-order : (s t : Text) → bytes_eq s t ≡ false → bytes_eq t s ≡ fa
 same-order s t e = turned t s ∙ e
 
 distinct-last : (ns : List Text) (s : Text) → among s ns ≡ false → Distinct ns → Distinct (ns ++ s ∷ [])
-distinct-last [] s e d = (tt, tt)
-distinct-last (n ∷ ns) s e d =
-    let p = or_parts (bytes_eq s n) (among s ns) e in
-    (all-append (λ (u : Text). bytes_eq n u ≡ false) ns (s ∷ []) d.0 (same-order s n p.0, tt), distinct-last ns s p.1 d.1)
+distinct-last ns s e d = no_two-more bytes_eq ns s d ((λ i. list_any (λ x. turned x s i) ns) ∙ e)
 
 distinct-added : (ns : List Text) (r : Derivation) → Distinct ns → Distinct (name_added ns r)
 distinct-added ns r d = cond_both (among r.symbol ns) ns (ns ++ r.symbol ∷ []) Distinct (λ e. d) (λ e. distinct-last ns r.symbol e d)
