@@ -1,5 +1,5 @@
 -- The places of a stack that the value of a tree needs.
-use Rattle.std.proofs.Common.{◌≡◌, ◌∙◌, ◌+◌, ◌<◌, ◌≤◌, ◌^◌, ◌∷◌, ◌++◌, ℕ, Bool, true, false, List, [], Some, None, map, refl, sym, ap, subst, arith, tests, ◌-◌, append_assoc, append-nil, nat_le}
+use Rattle.std.proofs.Common.{◌≡◌, ◌∙◌, ◌+◌, ◌<◌, ◌≤◌, ◌^◌, ◌∷◌, ◌++◌, ℕ, List, [], Some, None, map, refl, sym, ap, subst, arith, tests, ◌-◌, append_assoc, append-nil, nat_le}
 use Rattle.std.specs.Prelude.{if◌then◌else◌}
 use Rattle.std.proofs.lemmas.Bool.{cond_both, le-ltb, lt-ltb}
 use Rattle.std.proofs.lemmas.List.{map-append}

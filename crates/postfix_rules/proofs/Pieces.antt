@@ -1,6 +1,6 @@
 -- The first piece of a text, and what is after its bar.
-use Rattle.std.proofs.Common.{◌≡◌, ◌∙◌, ◌<◌, ◌+◌, ◌-◌, ◌∷◌, ℕ, Bool, true, false, List, [], None, Some, cond, length, map, take, drop, refl, sym, ap, arith, length-drop}
-use Rattle.std.specs.Prelude.{nat_lt, not, ◌==◌, position}
+use Rattle.std.proofs.Common.{◌≡◌, ◌∙◌, ◌<◌, ◌+◌, ◌-◌, ◌∷◌, ℕ, false, List, [], None, Some, length, map, take, drop, refl, sym, ap, arith}
+use Rattle.std.specs.Prelude.{◌==◌, position}
 use Rattle.std.proofs.lemmas.List.Splits.{length-slice_split}
 use Rattle.std.specs.List.{count_by, slice_split}
 use Rattle.papi_base.specs.Numerals.{is_empty}
