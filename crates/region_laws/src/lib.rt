@@ -52,6 +52,7 @@ pub fn worked_rows()
 {}
 
 // Each of these values, which a program holds, is a signed number of 64 bits. It looks at each of them.
+#[tactic(auto, using(std::proofs::lemmas::Grind::common_steps))]
 fn values_fit(values: &Values)
     ensures { All (FitsSigned w64) values.now }
 {
@@ -61,6 +62,7 @@ fn values_fit(values: &Values)
 }
 
 /// What a program has read is of signed numbers of 64 bits, as [`span_law`] asks of readings. It looks at each value.
+#[tactic(auto, using(std::proofs::lemmas::Grind::common_steps))]
 pub fn readings_fit(readings: &[Reading])
     ensures { AllFit (reading_values readings.now) }
 {
