@@ -1,9 +1,9 @@
 -- A list whose last item is changed in place.
-use Rattle.std.proofs.Common.{◌≡◌, ◌∙◌, ◌+◌, ◌-◌, ◌<◌, ◌∷◌, ℕ, zero, suc, List, [], Option, Some, None, Bool, true, false, Bor, map, length, get_or, refl, sym, ap, subst, arith}
+use Rattle.std.proofs.Common.{◌≡◌, ◌∙◌, ◌+◌, ◌-◌, ◌<◌, ◌∷◌, ℕ, zero, suc, List, [], Option, Some, None, Bor, map, length, get_or, refl, sym, ap, subst, arith}
 use Rattle.std.proofs.Math.ListN.{set}
 use Rattle.std.proofs.lemmas.List.{length-map}
 use Rattle.std.proofs.lemmas.Option.{slice_get-get_or, slice_get-map}
-use Rattle.std.specs.Prelude.{⊤, if◌then◌else◌, nat_le, option_map, slice_get}
+use Rattle.std.specs.Prelude.{⊤, nat_le, option_map, slice_get}
 use Rattle.std.specs.List.{AllByRecursion, list_any}
 use Rattle.std.specs.Option.{option_map_or}
 use Rattle.papi_base.proofs.Steps.{passed_over}

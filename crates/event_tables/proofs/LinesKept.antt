@@ -1,5 +1,5 @@
 -- What a row of a unit file keeps, by itself.
-use Rattle.std.proofs.Common.{◌≡◌, ◌<◌, ◌^◌, ℕ, List, Option, Some, None, Bool, true, false, length, refl, arith}
+use Rattle.std.proofs.Common.{◌≡◌, ◌<◌, ◌^◌, ℕ, List, Option, Some, None, length, refl, arith}
 use Rattle.std.specs.Prelude.{◌&&◌, ◌||◌, ◌==◌, IfSome, if◌then◌else◌, codes}
 use Rattle.std.specs.Option.{option_map_or}
 use Rattle.std.specs.Str.{bytes_eq}
@@ -7,9 +7,8 @@ use Rattle.std.proofs.lemmas.Bool.{and_parts, cond_both, not-true}
 use Rattle.table_rows.specs.Texts.{Text, decimal_in, hex_in, is_decimal, is_name, is_skipped, text_at}
 use Rattle.table_rows.proofs.Ranges.{decimal_in-range, hex_in-range}
 use Rattle.table_rows.proofs.Texts.{option_both}
-use Rattle.event_tables.specs.Lines.{Line, skipped, bad, component, counter, event, umask, are_names, component_line, counter_line, event_line}
+use Rattle.event_tables.specs.Lines.{skipped, bad, component, counter, event, umask, are_names, component_line, counter_line, event_line}
 use Rattle.event_tables.specs.Lines.{flags_of, is_description, line_of, mask_of, umask_line, words_of}
-use Rattle.event_tables.specs.declared.row.Flags.{Flags}
 use Rattle.event_tables.specs.Kept.{IsLine, IsWidth}
 
 component_line-kept : (name pmu : Text) → IsLine (component_line name pmu)

@@ -1,9 +1,8 @@
-use Rattle.std.proofs.Common.{◌≡◌, ◌∙◌, ◌∷◌, ◌++◌, [], List, map, length, refl, ap, rules, arith}
+use Rattle.std.proofs.Common.{◌≡◌, ◌∙◌, ◌∷◌, ◌++◌, [], map, length, refl, ap, rules, arith}
 use Rattle.std.proofs.lemmas.List.{length-map, map-append}
 use Rattle.std.specs.HashMap.{get_by_text}
-use Rattle.std.specs.Prelude.{string_bytes}
 use Rattle.event_tables.specs.Lines.{words_of}
-use Rattle.event_tables.specs.Tables.{ComponentText, EventText}
+use Rattle.event_tables.specs.Tables.{EventText}
 use Rattle.event_tables.specs.Unit.{bits_of, event_row}
 use Rattle.event_tables.specs.Views.{counter_text, event_text}
 use Rattle.event_tables.proofs.Indexing.{indexed-more}
