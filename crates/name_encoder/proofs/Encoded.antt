@@ -1,10 +1,10 @@
 -- What a text names, by its found event, and that it fits the tables' shape.
-use Rattle.std.proofs.Common.{◌≡◌, ◌∙◌, ◌<◌, ◌≤◌, ◌^◌, ◌||◌, ℕ, Bool, true, false, List, [], Option, Some, None, Ok, Err, length, slice_get, refl, sym, ap, subst, arith, nat_lt}
+use Rattle.std.proofs.Common.{◌≡◌, ◌∙◌, ◌<◌, ◌≤◌, ◌^◌, ◌||◌, ℕ, Bool, List, [], Option, Some, None, Ok, Err, length, slice_get, refl, sym, ap, subst, arith, nat_lt}
 use Rattle.std.proofs.lemmas.List.{length-map}
 use Rattle.std.proofs.lemmas.Nat.{and_le_l}
 use Rattle.std.proofs.lemmas.Option.{slice_get-map, slice_get_within}
 use Rattle.std.proofs.lemmas.Bool.{cond_both}
-use Rattle.std.specs.Prelude.{IfOk, Result, if◌then◌else◌, option_map}
+use Rattle.std.specs.Prelude.{IfOk, Result, option_map}
 use Rattle.std.specs.Int.RustNames.{bit_and}
 use Rattle.table_rows.specs.Texts.{Text}
 use Rattle.event_tables.specs.Kept.{IsTables}
