@@ -1,5 +1,5 @@
 -- The fields of written rows: none of their bytes ends a field or a row, and they have no blanks at their ends.
-use Rattle.std.proofs.Common.{◌≡◌, ◌≤◌, ◌<◌, ◌^◌, ◌==◌, ◌∷◌, ℕ, Bool, true, false, not, cond, List, [], map, refl, ap₂, subst, sym, arith, tests, nat_le, codes}
+use Rattle.std.proofs.Common.{◌≡◌, ◌≤◌, ◌<◌, ◌^◌, ◌==◌, ◌∷◌, ℕ, Bool, true, false, not, List, [], map, refl, ap₂, subst, sym, arith, tests, nat_le, codes}
 use Rattle.std.specs.Prelude.{◌&&◌, ◌||◌}
 use Rattle.std.specs.Str.{bytes_eq}
 use Rattle.std.specs.List.{AllByRecursion, list_all, list_any, onto_first, slice_split}

@@ -1,6 +1,6 @@
 -- What the entry of a row keeps.
-use Rattle.std.proofs.Common.{◌≡◌, ◌≤◌, ◌==◌, ◌∷◌, ℕ, Bool, true, false, List, [], length, refl, sym, subst, arith, IfOk, Option, Some, None, Result, Ok, Err}
-use Rattle.std.specs.Prelude.{⊤, if◌then◌else◌}
+use Rattle.std.proofs.Common.{◌≡◌, ◌≤◌, ◌==◌, ◌∷◌, ℕ, false, List, [], length, refl, sym, subst, arith, IfOk, Option, Some, None, Result, Ok, Err}
+use Rattle.std.specs.Prelude.{⊤}
 use Rattle.std.specs.List.{AllByRecursion}
 use Rattle.std.proofs.lemmas.Bool.{cond_both, eqb-true}
 use Rattle.table_rows.specs.Texts.{Text, is_empty, is_printable}

@@ -9,8 +9,7 @@ use Rattle.table_rows.proofs.Texts.{trimmed-all, trimmed-once}
 use Rattle.postfix_rules.specs.declared.derived.TheConstants.{MOST_NATIVES}
 use Rattle.preset_csv.specs.Defs.{IsNativeText, ends_natives}
 use Rattle.preset_csv.specs.Entries.{kept_natives}
-use Rattle.preset_csv.specs.Kinds.{has_formula, type_of}
-use Rattle.preset_csv.specs.Lines.{Derivation, derivation_of, natives_from, natives_in}
+use Rattle.preset_csv.specs.Lines.{derivation_of, natives_from, natives_in}
 use Rattle.preset_csv.specs.declared.fault.PresetCause.{PresetCause}
 use Rattle.preset_csv.specs.declared.fault.PresetCause.TheVariants as cause
 

@@ -1,6 +1,6 @@
 -- The symbols of the preset table, each in its row.
 use Rattle.std.proofs.Common.{◌≡◌, ◌∙◌, ◌+◌, ◌<◌, ◌≤◌, ◌∷◌, ℕ, suc, Bool, true, false, List, [], Option, Some, None, cond, map, set, length, refl, sym, ap, ap₂, subst, arith}
-use Rattle.std.specs.Prelude.{⊤, ◌&&◌, not, nat_lt, if◌then◌else◌}
+use Rattle.std.specs.Prelude.{◌&&◌, not, nat_lt, if◌then◌else◌}
 use Rattle.std.specs.Bool.{Decides}
 use Rattle.std.specs.List.{AllByRecursion, list_all, position_or_len}
 use Rattle.std.specs.Str.{bytes_eq}

@@ -1,7 +1,6 @@
 -- The presets of any bytes are a table.
 use Rattle.std.proofs.Common.{◌≡◌, ◌∷◌, ◌++◌, ℕ, zero, suc, Bool, true, false, List, [], length, map, drop, fold, refl, subst, codes, Result, Ok, Err}
 use Rattle.std.specs.Prelude.{⊤, if◌then◌else◌, slice_get, unwrap_or}
-use Rattle.std.specs.Bool.{Decides}
 use Rattle.std.specs.List.{AllByRecursion, list_all, list_any}
 use Rattle.std.specs.Str.{bytes_eq, str_eq_ignore_ascii_case}
 use Rattle.std.proofs.lemmas.Bool.{and_from, cond_both, false_from_ne_true}
@@ -11,8 +10,8 @@ use Rattle.table_rows.specs.Texts.{Text, text_at, trimmed}
 use Rattle.table_rows.proofs.Texts.{all-append, trimmed-all, trimmed-once}
 use Rattle.preset_table.specs.Table.{preset_rows}
 use Rattle.preset_csv.specs.Kinds.{has_formula, type_of}
-use Rattle.preset_csv.specs.Lines.{Derivation, Line, cpu, derivation_of, event, gives, line_of, natives_from, natives_in, other, preset}
-use Rattle.preset_csv.specs.Presets.{Judging, cuts_off, entry_of, entry_or, group, holds, is_read, preset_read, presets, presets_read, read_from, rows_if}
+use Rattle.preset_csv.specs.Lines.{Derivation, Line, cpu, derivation_of, gives, line_of, natives_from, natives_in, other, preset}
+use Rattle.preset_csv.specs.Presets.{Judging, cuts_off, entry_of, entry_or, group, holds, is_read, preset_read, presets, presets_read, read_from}
 use Rattle.preset_csv.specs.Tables.{IsEntry, IsMissing, IsTable, is_field, is_field_byte, symbols}
 use Rattle.preset_csv.specs.declared.entry.Entry.{Entry}
 use Rattle.preset_csv.specs.declared.entry.Entry.TheVariants as entry
