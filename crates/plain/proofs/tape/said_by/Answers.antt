@@ -7,10 +7,10 @@ use Rattle.stream_reader.specs.Judged.{judged}
 use Rattle.stream_reader.specs.Lines.{tape_lines}
 use Rattle.stream_reader.specs.Occurs.{after, is_bad, occurs_of}
 use Rattle.stream_reader.proofs.Taking.{flag-small}
-use Rattle.plain.proofs.Pieces.{before, line_is, line_of, not_bad, passed_by, said_at_empty, said_at_end, said_from, says_bad, says_on, within_stream}
+use Rattle.plain.proofs.Pieces.{IsLineAt, before, line_is, line_of, not_bad, passed_by, said_at_empty, said_at_end, said_from, says_bad, says_on, within_stream}
 use Rattle.plain.proofs.tape.said_by.Goals as goal
 use Rattle.plain.proofs.tape.said_by.Goals.{else-not-ended-via-then-not-ended+else-is_empty, else-not-ended-via-else-not-ended}
-use Rattle.plain.proofs.tape.said_by.Goals.{else-loop-i-test, then-loop-i-test+then-not-ended+then-is_empty}
+use Rattle.plain.proofs.tape.said_by.Goals.{After-judge-judgement, else-loop-i-test, then-loop-i-test+then-not-ended+then-is_empty}
 
 pub loop-i-init : goal.loop-i-init
 unfolding occurs_of tape_lines
@@ -21,16 +21,22 @@ loop-i-init c = record {
   given = omega arith;
 }
 
+-- the piece that is judged
+piece_at : (c : After-judge-judgement) → IsLineAt (map (λ y. y.now) c.in_ok-pieces.pieces.items) c.loop-i.i c.index-line.result.now.now (nat_lt (c.loop-i.i + 1) c.len.result)
+piece_at c =
+    let items : List (Bor (List ℕ)) = c.in_ok-pieces.pieces.items in
+    let size : c.len.result ≡ length items = c.len.ensures ∙ omega (arith, c.in_ok-pieces.pieces.ok.0) in
+    let some : (nat_lt (c.loop-i.i + 1) c.len.result ≡ false → 0 < length c.index-line.result.now.now) = elim c.else-not-ended.branch [
+      | else-not-ended-via-then-not-ended+else-is_empty w ↦ λ last. grind (arith, nat_tests)
+      | else-not-ended-via-else-not-ended w ↦ λ last. grind (arith, nat_tests)
+    ] in
+    line_is items c.loop-i.i c.index-line.result.now c.len.result (omega arith) c.index-line.ensures size some
+
 pub returns-in-Bad : goal.returns-in-Bad
 returns-in-Bad c =
     let items : List (Bor (List ℕ)) = c.in_ok-pieces.pieces.items in
     let piece : List ℕ = c.index-line.result.now.now in
-    let size : c.len.result ≡ length items = c.len.ensures ∙ omega (arith, c.in_ok-pieces.pieces.ok.0) in
-    let some : (nat_lt (c.loop-i.i + 1) c.len.result ≡ false → 0 < length piece) = elim c.else-not-ended.branch [
-      | else-not-ended-via-then-not-ended+else-is_empty w ↦ λ last. grind (arith, nat_tests)
-      | else-not-ended-via-else-not-ended w ↦ λ last. grind (arith, nat_tests)
-    ] in
-    let at = line_is items c.loop-i.i c.index-line.result.now c.len.result (omega arith) c.index-line.ensures size some in
+    let at = piece_at (goal.at.returns-in-Bad c).After-judge-judgement in
     let bad = says_bad c.loop-i.start (map (λ y. y.now) items) c.loop-i.i piece (nat_lt (c.loop-i.i + 1) c.len.result) c.in-Bad.cause at c.in-Bad.ensures in
     let says = c.loop-i.invariant.says ∙ ap (before c.loop-i.occurrences.items) bad in
     record {
@@ -44,12 +50,7 @@ loop-i-preserved c =
     let piece : List ℕ = c.index-line.result.now.now in
     let ended : Bool = nat_lt (c.loop-i.i + 1) c.len.result in
     let start : LineStart = c.loop-i.start in
-    let size : c.len.result ≡ length items = c.len.ensures ∙ omega (arith, c.in_ok-pieces.pieces.ok.0) in
-    let some : (nat_lt (c.loop-i.i + 1) c.len.result ≡ false → 0 < length piece) = elim c.else-not-ended.branch [
-      | else-not-ended-via-then-not-ended+else-is_empty w ↦ λ last. grind (arith, nat_tests)
-      | else-not-ended-via-else-not-ended w ↦ λ last. grind (arith, nat_tests)
-    ] in
-    let at = line_is items c.loop-i.i c.index-line.result.now c.len.result (omega arith) c.index-line.ensures size some in
+    let at = piece_at (goal.at.loop-i-preserved c).After-judge-judgement in
     let is : c.judge-judgement.result ≡ judged start (line_of piece ended) = c.judge-judgement.ensures in
     let good : is_bad (judged start (line_of piece ended)) ≡ false = sym (ap is_bad is) ∙ not_bad c.judge-judgement.result c.in_default.not-Bad in
     let within = within_stream start (line_of piece ended) good in
