@@ -8,12 +8,13 @@ ghost use Rattle.thread_core.specs.Stands.{AgreesWith};
 ghost use Rattle.thread_session.specs.Follows.{is_run, run_reply};
 
 use event_sets::Refusal;
-use papi_base::{Code, Events, Values};
+use papi_base::{Code, Values};
 use postfix_rules::PresetBook;
-use session_model::{Assigned, Body, Call, Ended, Ran, Reply};
+use session_model::{Body, Call, Ended, Ran, Reply};
 use thread_core::Core;
 
 /// A code alone.
+#[inline(always)]
 fn plain(code: Code) -> Reply
     ensures { result ≡ record { code = code; body = body.Nothing } }
 {
@@ -23,13 +24,15 @@ fn plain(code: Code) -> Reply
     }
 }
 
-fn number_reply(answer: Result<u32, Code>) -> Reply
-    ensures { result ≡ reply_of (λ n. body.SetNumber n) answer }
+/// What is answered, or the code of the refusal.
+#[inline(always)]
+fn reply(answer: Result<Body, Code>) -> Reply
+    ensures { result ≡ reply_of (λ body. body) answer }
 {
     match answer {
-        Ok(number) => Reply {
+        Ok(body) => Reply {
             code: Code::Ok,
-            body: Body::SetNumber(number),
+            body,
         },
         Err(code) => plain(code),
     }
@@ -48,55 +51,8 @@ fn changed_reply(answer: Result<(), Refusal>) -> Reply
     }
 }
 
-fn state_reply(answer: Result<u32, Code>) -> Reply
-    ensures { result ≡ reply_of (λ bits. body.State bits) answer }
-{
-    match answer {
-        Ok(bits) => Reply {
-            code: Code::Ok,
-            body: Body::State(bits),
-        },
-        Err(code) => plain(code),
-    }
-}
-
-fn register_reply(answer: Result<u64, Code>) -> Reply
-    ensures { result ≡ reply_of (λ value. body.Register value) answer }
-{
-    match answer {
-        Ok(value) => Reply {
-            code: Code::Ok,
-            body: Body::Register(value),
-        },
-        Err(code) => plain(code),
-    }
-}
-
-fn events_reply(answer: Result<Events, Code>) -> Reply
-    ensures { result ≡ reply_of (λ events. body.Events events) answer }
-{
-    match answer {
-        Ok(events) => Reply {
-            code: Code::Ok,
-            body: Body::Events(events),
-        },
-        Err(code) => plain(code),
-    }
-}
-
-fn assigned_reply(answer: Result<Assigned, Code>) -> Reply
-    ensures { result ≡ reply_of (λ assigned. body.Assigned assigned) answer }
-{
-    match answer {
-        Ok(assigned) => Reply {
-            code: Code::Ok,
-            body: Body::Assigned(assigned),
-        },
-        Err(code) => plain(code),
-    }
-}
-
 /// The values if the code is OK.
+#[inline(always)]
 fn values_reply(code: Code, values: Values) -> Reply
     ensures { result ≡ values_reply code values }
 {
@@ -110,6 +66,7 @@ fn values_reply(code: Code, values: Values) -> Reply
 }
 
 /// What a run did.
+#[inline(always)]
 pub(crate) fn run_reply(ran: Ran) -> Reply
     ensures { result ≡ run_reply ran }
 {
@@ -124,6 +81,7 @@ pub(crate) fn run_reply(ran: Ran) -> Reply
 }
 
 /// Stops a set.
+#[inline(always)]
 fn stop(core: &mut Core, book: &PresetBook, set: u32) -> Reply
     requires agrees { AgreesWith book.now core.old }
     ensures { Follows book.now core.old core.new (call.Stop set) result }
@@ -134,6 +92,7 @@ fn stop(core: &mut Core, book: &PresetBook, set: u32) -> Reply
 }
 
 /// Reads a set.
+#[inline(always)]
 fn read(core: &Core, book: &PresetBook, set: u32) -> Reply
     requires agrees { AgreesWith book.now core.now }
     ensures { Follows book.now core.now core.now (call.Read set) result }
@@ -144,6 +103,7 @@ fn read(core: &Core, book: &PresetBook, set: u32) -> Reply
 }
 
 /// Adds the values of a set to the caller's.
+#[inline(always)]
 fn accum(core: &mut Core, book: &PresetBook, set: u32) -> Reply
     requires agrees { AgreesWith book.now core.old }
     ensures { Follows book.now core.old core.new (call.Accum set) result }
@@ -154,6 +114,7 @@ fn accum(core: &mut Core, book: &PresetBook, set: u32) -> Reply
 }
 
 /// Makes a call that is not a run.
+#[inline(always)]
 pub(crate) fn make(core: &mut Core, book: &PresetBook, c: &Call) -> Reply
     requires agrees { AgreesWith book.now core.old }
     requires good { IsGood book.now core.old.shape c.now }
@@ -163,7 +124,7 @@ pub(crate) fn make(core: &mut Core, book: &PresetBook, c: &Call) -> Reply
     match c {
         Call::Register => plain(core.register(book)),
         Call::Unregister => plain(core.unregister(book)),
-        Call::Create => number_reply(core.create(book)),
+        Call::Create => reply(core.create(book).map(Body::SetNumber)),
         Call::Destroy { set } => plain(core.destroy(book, *set)),
         Call::Cleanup { set } => plain(core.cleanup(book, *set)),
         Call::Add { set, e } => changed_reply(core.add(book, *set, e)),
@@ -177,10 +138,10 @@ pub(crate) fn make(core: &mut Core, book: &PresetBook, c: &Call) -> Reply
         Call::Read { set } => read(core, book, *set),
         Call::Accum { set } => accum(core, book, *set),
         Call::Reset { set } => plain(core.reset(book, *set)),
-        Call::State { set } => state_reply(core.state(book, *set)),
-        Call::ListEvents { set } => events_reply(core.list_events(book, *set)),
-        Call::Assign { set } => assigned_reply(core.assign(book, *set)),
-        Call::Raw { set, c } => register_reply(core.raw(book, *set, *c)),
+        Call::State { set } => reply(core.state(book, *set).map(Body::State)),
+        Call::ListEvents { set } => reply(core.list_events(book, *set).map(Body::Events)),
+        Call::Assign { set } => reply(core.assign(book, *set).map(Body::Assigned)),
+        Call::Raw { set, c } => reply(core.raw(book, *set, *c).map(Body::Register)),
         Call::Run { .. } => unreachable!(),
     }
 }

@@ -213,6 +213,7 @@ impl<S: Source> Session<S> {
     }
 
     // A call that is not a run.
+    #[inline(always)]
     fn make(&mut self, book: &PresetBook, c: &Call) -> Reply
         requires ready { IsReady book.now self.old }
         requires good { IsGood book.now self.old.core.shape c.now }
