@@ -1,7 +1,7 @@
 -- A written table's rows are read, and give its entries.
 use Rattle.std.proofs.Common.{◌≡◌, ◌∙◌, ◌+◌, ◌<◌, ◌≤◌, ◌∷◌, ◌++◌, ℕ, Bool, true, false, not, List, [], length, map, fold, refl, sym, ap, subst}
 use Rattle.std.proofs.Common.{arith, tests, append_assoc, append-nil, None, Ok, nat_le}
-use Rattle.std.specs.Prelude.{◌&&◌, if◌then◌else◌}
+use Rattle.std.specs.Prelude.{◌&&◌}
 use Rattle.std.specs.List.{AllByRecursion}
 use Rattle.std.specs.Str.{bytes_eq}
 use Rattle.std.proofs.lemmas.List.{length-append, map-append}

@@ -1,7 +1,7 @@
 -- No row gives a missing entry.
-use Rattle.std.proofs.Common.{Bool, true, false, List, length, Option, Some, None, Result, Ok, Err}
+use Rattle.std.proofs.Common.{List, length, Option, Some, None, Result, Ok, Err}
 use Rattle.std.proofs.lemmas.Bool.{cond_both}
-use Rattle.std.specs.Prelude.{⊤, ◌==◌, if◌then◌else◌}
+use Rattle.std.specs.Prelude.{⊤, ◌==◌}
 use Rattle.table_rows.specs.Texts.{Text, is_empty, is_printable}
 use Rattle.postfix_rules.specs.Faults.{FormulaView}
 use Rattle.postfix_rules.specs.InfixReading.{infix_of}

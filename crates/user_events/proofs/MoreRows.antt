@@ -6,10 +6,10 @@ use Rattle.std.specs.List.{AllByRecursion, list_any}
 use Rattle.std.specs.Str.{bytes_eq}
 use Rattle.std.proofs.lemmas.List.Sums.{fold-append}
 use Rattle.std.proofs.lemmas.Slice.Eq.{bytes_eq-Decides}
-use Rattle.std.proofs.lemmas.Bool.{cond_both, false_from_ne_true, or_parts}
+use Rattle.std.proofs.lemmas.Bool.{cond_both}
 use Rattle.table_rows.specs.Texts.{Text}
 use Rattle.table_rows.proofs.Texts.{no_two-more}
-use Rattle.preset_csv.specs.Lines.{Derivation, Line, cpu, event, gives, other, preset}
+use Rattle.preset_csv.specs.Lines.{Derivation, Line, event, gives}
 use Rattle.preset_csv.specs.Presets.{cause_if, entry_of, entry_or, holds, rows_if}
 use Rattle.preset_csv.specs.Steps.{group_at}
 use Rattle.preset_csv.specs.declared.entry.Entry.{Entry}

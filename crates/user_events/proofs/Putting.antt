@@ -1,6 +1,6 @@
 -- The entry of a name is put at its place.
 use Rattle.std.proofs.Common.{◌≡◌, ◌∙◌, ◌+◌, ◌<◌, ◌≤◌, ◌∷◌, ◌++◌, ℕ, zero, suc, Bool, true, false, cond, List, [], Option, Some, None, map, set, length, get_or, refl, sym, ap, arith}
-use Rattle.std.specs.Prelude.{◌||◌, not, nat_lt, position}
+use Rattle.std.specs.Prelude.{not, nat_lt, position}
 use Rattle.std.specs.List.{position_or_len}
 use Rattle.std.specs.Str.{bytes_eq}
 use Rattle.std.proofs.lemmas.Bool.{cond_both, ltb-false, or_parts, or_right}

@@ -1,7 +1,7 @@
 -- The presets and user events of some rows and of one row more, and what is kept.
 use Rattle.std.proofs.Common.{◌≡◌, ◌∙◌, ◌+◌, ◌<◌, ◌≤◌, ◌∷◌, ◌++◌, ℕ, List, [], Some, None, true, false, Bool, not, length}
 use Rattle.std.proofs.Common.{replicate, refl, sym, ap, subst, arith, tests, Option, Result, nat_le}
-use Rattle.std.specs.Prelude.{◌&&◌, ◌||◌, if◌then◌else◌, codes}
+use Rattle.std.specs.Prelude.{◌&&◌, if◌then◌else◌, codes}
 use Rattle.std.specs.List.{AllByRecursion}
 use Rattle.std.specs.Str.{bytes_eq, str_eq_ignore_ascii_case}
 use Rattle.std.proofs.lemmas.Bool.{cond_both}

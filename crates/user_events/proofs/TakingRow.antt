@@ -1,6 +1,6 @@
 -- What one row gives is taken, or the row refused.
 use Rattle.std.proofs.Common.{◌≡◌, ◌∙◌, ◌∷◌, ℕ, Bool, true, false, not, List, [], Option, Some, None, map, length, refl, sym, ap, subst, arith, tests}
-use Rattle.std.specs.Prelude.{◌&&◌, is_some, if◌then◌else◌, position, Ok, Err, Result, nat_le}
+use Rattle.std.specs.Prelude.{◌&&◌, is_some, position, Ok, Err, Result, nat_le}
 use Rattle.std.specs.List.{list_all}
 use Rattle.std.proofs.lemmas.Bool.{and_from, and_parts}
 use Rattle.std.proofs.lemmas.List.{length-map}

@@ -2,7 +2,7 @@
 use Rattle.std.specs.Prelude.{◌≡◌, ⊤, ℕ, List, [], Some}
 use Rattle.std.specs.List.{AllByRecursion}
 use Rattle.table_rows.specs.Texts.{Text}
-use Rattle.preset_csv.specs.Lines.{Derivation, Line, cpu, event, gives, other, preset}
+use Rattle.preset_csv.specs.Lines.{Derivation, Line, event, gives, preset}
 use Rattle.preset_csv.specs.Presets.{preset_fault, presets_in}
 use Rattle.preset_csv.specs.declared.kind.DerivedType.TheVariants as derived
 use Rattle.user_events.specs.Lines.{lines_of}

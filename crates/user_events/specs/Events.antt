@@ -1,5 +1,5 @@
 -- What contracts see of a table of presets and user events, and what it keeps.
-use Rattle.std.specs.Prelude.{◌≡◌, ◌≤◌, true, false, ⊤, List, [], ◌∷◌, length, map, string_bytes}
+use Rattle.std.specs.Prelude.{◌≡◌, ◌≤◌, true, false, ⊤, List, [], length, map, string_bytes}
 use Rattle.std.specs.List.{AllByRecursion}
 use Rattle.std.specs.Str.{bytes_eq}
 use Rattle.table_rows.specs.Tables.{NoTwo}

@@ -1,11 +1,11 @@
 -- The presets and user events of a file for one cpu, and its first fault: papi_events.csv.
 use Rattle.std.specs.Prelude.{◌≡◌, ◌&&◌, ℕ, Bool, true, false, not, List, [], ◌∷◌, ◌++◌, length, map, fold, Option, Some}
-use Rattle.std.specs.Prelude.{None, Result, Ok, Err, if◌then◌else◌, nat_le}
+use Rattle.std.specs.Prelude.{None, Result, Err, if◌then◌else◌, nat_le}
 use Rattle.std.specs.List.{list_any}
 use Rattle.std.specs.Str.{bytes_eq}
 use Rattle.table_rows.specs.Tables.{ReadsTable, first_fault}
 use Rattle.table_rows.specs.Texts.{Text}
-use Rattle.preset_csv.specs.Lines.{Derivation, Line, cpu, event, gives, other, preset}
+use Rattle.preset_csv.specs.Lines.{Derivation, Line, event, gives, preset}
 use Rattle.preset_csv.specs.Presets as Presets
 use Rattle.preset_csv.specs.Presets.{cause_if, entry_of, has_cpu, holds, presets, read_from, rows_if}
 use Rattle.preset_csv.specs.declared.entry.Entry.{Entry}

@@ -2,7 +2,7 @@
 use Rattle.std.specs.Prelude.{◌≡◌, Bool, List, [], ◌∷◌, Option, Some, None, Result, Ok, Err, if◌then◌else◌, not}
 use Rattle.std.specs.Str.{bytes_eq}
 use Rattle.table_rows.specs.Texts.{Text}
-use Rattle.preset_csv.specs.Lines.{Derivation, Line, cpu, event, gives, other, preset}
+use Rattle.preset_csv.specs.Lines.{Derivation, Line, event, gives, preset}
 use Rattle.preset_csv.specs.Presets.{cause_if}
 use Rattle.preset_csv.specs.Steps as Presets
 use Rattle.preset_csv.specs.declared.entry.Entry.{Entry}
