@@ -1,5 +1,5 @@
 -- A row with no cause keeps what a map keeps.
-use Rattle.std.proofs.Common.{◌≡◌, ◌+◌, ◌∷◌, ◌++◌, List, [], None, Bool, false, length, arith, length-append}
+use Rattle.std.proofs.Common.{◌≡◌, ◌+◌, ◌∷◌, ◌++◌, List, [], None, length, arith, length-append}
 use Rattle.std.proofs.lemmas.Bool.{leb-false, or_parts}
 use borrow.Author.Tests.{ltb-false}
 use Rattle.std.proofs.lemmas.List.Sums.{sum_by-append}

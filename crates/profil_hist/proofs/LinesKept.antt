@@ -1,5 +1,5 @@
 -- What a row of a map keeps, by itself.
-use Rattle.std.proofs.Common.{◌≡◌, ℕ, List, Option, Some, None, Bool, true, false, length, refl}
+use Rattle.std.proofs.Common.{ℕ, List, length}
 use Rattle.std.proofs.lemmas.Bool.{leb-true, and_parts, cond_both}
 use Rattle.std.specs.Prelude.{◌&&◌, ◌==◌, ◌+◌, ◌*◌, ◌^◌, if◌then◌else◌, codes}
 use Rattle.std.specs.Option.{option_map_or}
@@ -7,7 +7,7 @@ use Rattle.std.specs.Str.{bytes_eq}
 use Rattle.table_rows.specs.Texts.{Text, decimal_in, is_name, is_skipped, text_at}
 use Rattle.table_rows.proofs.Ranges.{decimal_in-range}
 use Rattle.table_rows.proofs.Texts.{option_both}
-use Rattle.profil_hist.specs.Lines.{IsLine, Line, skipped, bad, range, address_in, fits, line_of, range_line, range_of}
+use Rattle.profil_hist.specs.Lines.{IsLine, skipped, bad, range, address_in, fits, line_of, range_line, range_of}
 use Rattle.profil_hist.specs.declared.limits.TheConstants.{MOST_BUCKETS, MOST_BUCKET_ADDRESSES}
 
 range_line-kept : (name start width buckets : Text) → IsLine (range_line name start width buckets)

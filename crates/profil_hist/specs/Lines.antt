@@ -1,5 +1,5 @@
 -- What one row of a map says, by itself. The file format is this project's own.
-use Rattle.std.specs.Prelude.{⊤, ◌&&◌, ◌==◌, ◌+◌, ◌*◌, ◌^◌, ℕ, Bool, List, length, drop, Option, Some, None, unwrap_or, if◌then◌else◌, nat_eq, nat_le, codes}
+use Rattle.std.specs.Prelude.{⊤, ◌&&◌, ◌==◌, ◌+◌, ◌*◌, ◌^◌, ℕ, Bool, List, length, drop, Option, None, unwrap_or, if◌then◌else◌, nat_eq, nat_le, codes}
 use Rattle.std.specs.List.{starts_with}
 use Rattle.std.specs.Option.{option_map_or}
 use Rattle.std.specs.Str.{bytes_eq}

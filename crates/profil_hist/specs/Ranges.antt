@@ -1,5 +1,5 @@
 -- Ranges of program counters in buckets of one width: the offset, the scale and the size of the buffer of PAPI_profil(3).
-use Rattle.std.specs.Prelude.{⊤, ◌&&◌, ◌+◌, ◌*◌, ◌^◌, ◌≡◌, ◌≤◌, ℕ, Bool, true, List, length, nat_le, nat_lt, sum_by}
+use Rattle.std.specs.Prelude.{◌&&◌, ◌+◌, ◌*◌, ◌^◌, ◌≡◌, ◌≤◌, ℕ, Bool, true, List, length, nat_le, nat_lt, sum_by}
 use Rattle.std.specs.List.{AllByRecursion}
 use Rattle.std.specs.Str.{bytes_eq}
 use Rattle.table_rows.specs.Tables.{NoTwo}
