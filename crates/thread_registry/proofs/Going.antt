@@ -1,5 +1,6 @@
 -- A job after its first calls, and after all of them.
-use Rattle.std.proofs.Common.{◌≡◌, ℕ, ◌+◌, ◌<◌, ◌≤◌, Bool, true, false, List, [], ◌∷◌, ◌++◌, All, length, take, get_or, ap, ap₂, sym, ◌∙◌, append_assoc, length-append, arith, subst, inl, inr}
+use Rattle.std.proofs.lemmas.Bool.Decides.{nat_tests}
+use Rattle.std.proofs.Common.{◌≡◌, ℕ, ◌+◌, ◌<◌, ◌≤◌, Bool, true, false, List, [], ◌∷◌, ◌++◌, All, length, take, get_or, ap, ap₂, sym, ◌∙◌, append_assoc, length-append, arith, subst}
 use Rattle.std.proofs.lemmas.Bool.{cases_lt}
 use Rattle.std.proofs.lemmas.List.{take_all}
 use Rattle.std.proofs.lemmas.List.Elements.{All-push}
@@ -20,7 +21,7 @@ use Rattle.thread_session.specs.Follows.{FollowsTo, IsCutTo, expecting}
 use Rattle.thread_session.specs.Prospects.{CanCome}
 use Rattle.thread_session.specs.Stands.{IsReady, Stands, to_come}
 use Rattle.thread_session.proofs.Growing.{grown_more}
-use Rattle.thread_registry.specs.JobView.{JobView, Worked, Finished, FinishedTo, CutShort, WorkedOrIdle, WorkedOrIdleOn, seen_of}
+use Rattle.thread_registry.specs.JobView.{JobView, Worked, Finished, FinishedTo, CutShort, WorkedOrIdle, seen_of}
 use Rattle.thread_registry.proofs.Folds.{after-more, replies-more, notes-more, replies-front, notes-part}
 use Rattle.thread_registry.proofs.Faults.{kept-kept, kept-rose, rose-kept}
 
@@ -95,24 +96,7 @@ made-more x y z k r rs h i f p m =
 along-more : (book : Book) (x y z : JobView) (k : ℕ) (c : Call) (r : Reply) (a : Account) → k < length x.calls → get_or x.calls k c ≡ c
     → y.session.core.shape ≡ x.session.core.shape → Called book y z c r → z.replies ≡ y.replies ++ r ∷ []
     → Along book a x y k → Along book a x z (k + 1)
-along-more book x y z k c r a h e shape called p g =
-    let w = x.session.core.shape in
-    let b = account_after book w a (take k x.calls) in
-    let follows = called.follows b g.stands in
-    let f = subst (λ v. Stands book z.session (step book v b c).account × (r ≡ (step book v b c).reply) × (z.notes ≡ y.notes ++ (step book v b c).notes)) shape follows in
-    record {
-      stands = subst (Stands book z.session) (sym (after-more book w a x.calls k c h e)) f.0;
-      replies =
-          p
-          ∙ (ap₂ (λ u v. u ++ v ∷ []) g.replies f.1
-          ∙ (append_assoc x.replies (replies_to book w a (take k x.calls)) ((step book w b c).reply ∷ [])
-          ∙ ap (λ v. x.replies ++ v) (sym (replies-more book w a x.calls k c h e))));
-      notes =
-          f.2
-          ∙ (ap (λ u. u ++ (step book w b c).notes) g.notes
-          ∙ (append_assoc x.notes (notes_to book w a (take k x.calls)) (step book w b c).notes
-          ∙ ap (λ v. x.notes ++ v) (sym (notes-more book w a x.calls k c h e))));
-    }
+along-more book x y z k c r a h e shape called p g = grind (arith, nat_tests, after-more, append_assoc, replies-more, notes-more)
 
 -- what the step of a call does, if this is left
 record StepsTo (book : Book) (y z : JobView) (c : Call) (r : Reply) (left : Coming) (w : Widths) (a : Account) : Type 0 where
@@ -189,11 +173,7 @@ pub record CallStarved (book : Book) (y z : JobView) (c : Call) : Type 0 where
   pub towards : (left : Coming) → CanCome z.session.reader left → CallStarvedTo book y z c
 
 begun-of : (before given after : List Note) (n : ℕ) → after ≡ before ++ take n given → Begun before given after
-begun-of before given after n e =
-    elim (cases_lt n (length given)) [
-      | inl l ↦ (n, omega (arith, l), e)
-      | inr l ↦ (length given, omega arith, e ∙ ap (λ v. before ++ v) (take_all n given (omega arith) ∙ sym (take_all (length given) given (omega arith))))
-    ]
+begun-of before given after n e = grind (arith, nat_tests, cases_lt, take_all)
 
 cut-by : (book : Book) (x y z : JobView) (k : ℕ) (c : Call) (a : Account) → k < length x.calls → get_or x.calls k c ≡ c
     → z.replies ≡ y.replies → y.replies ≡ x.replies ++ replies_to book x.session.core.shape a (take k x.calls) → y.notes ≡ x.notes ++ notes_to book x.session.core.shape a (take k x.calls)
@@ -234,18 +214,10 @@ begun-of-all : (before given after : List Note) → after ≡ before ++ given �
 begun-of-all before given after e = (length given, omega arith, e ∙ ap (λ v. before ++ v) (sym (take_all (length given) given (omega arith))))
 
 pub refused-to-of-cut : (book : Book) (y z : JobView) (c : Call) (left : Coming) → IsCutTo book y.session c y.notes z.notes left → CallStarvedTo book y z c
-refused-to-of-cut book y z c left cut = record {
-  expected = cut.expected;
-  can_come = cut.can_come;
-  part = λ a s. begun-of-part y.notes (step book y.session.core.shape (expecting cut.expected a) c).notes z.notes (cut.notes a s);
-}
+refused-to-of-cut book y z c left cut = grind (arith, nat_tests, begun-of-part)
 
 refused-to-of-made : (book : Book) (y z : JobView) (c : Call) (r : Reply) (left : Coming) → FollowsTo book y.session z.session c r y.notes z.notes left → CallStarvedTo book y z c
-refused-to-of-made book y z c r left f = record {
-  expected = f.expected;
-  can_come = f.can_come;
-  part = λ a s. begun-of-all y.notes (step book y.session.core.shape (expecting f.expected a) c).notes z.notes (f.notes a s);
-}
+refused-to-of-made book y z c r left f = grind (arith, nat_tests, begun-of-all)
 
 -- a call that was made, if its reply could not be kept
 pub refused-of : (book : Book) (y z : JobView) (c : Call) (r : Reply) → Called book y z c r → CallStarved book y z c
@@ -342,14 +314,12 @@ going-end book x y k g e =
 outcome-as : (book : Book) (a : Account) (x y : JobView) (before b : Bool)
     → MatchBool b (CutShort book a x y) (Finished book a x y)
     → MatchBool b (CutShort book a (seen_of x.session x.notes x.calls x.replies before) y) (Finished book a (seen_of x.session x.notes x.calls x.replies before) y)
-outcome-as book a x y before true h = record { replies = h.replies; notes = h.notes }
-outcome-as book a x y before false h = record { stands = h.stands; replies = h.replies; notes = h.notes }
+outcome-as book a x y before b h = grind (arith, nat_tests)
 
 outcome-to-as : (book : Book) (a : Account) (x y : JobView) (left : Coming) (before b : Bool)
     → MatchBool b (CutShort book a x y) (FinishedTo book a x y left)
     → MatchBool b (CutShort book a (seen_of x.session x.notes x.calls x.replies before) y) (FinishedTo book a (seen_of x.session x.notes x.calls x.replies before) y left)
-outcome-to-as book a x y left before true h = record { replies = h.replies; notes = h.notes }
-outcome-to-as book a x y left before false h = record { core = h.core; comes_then = h.comes_then; replies = h.replies; notes = h.notes }
+outcome-to-as book a x y left before b h = grind (arith, nat_tests)
 
 -- the job is seen the same by its parts
 pub worked-same : (book : Book) (x x' y y' : JobView) → Worked book x y
@@ -384,7 +354,4 @@ worked-same book x x' y y' w a n c r a' n' c' r' s' =
 
 -- a job with calls was worked
 pub ran-by : (book : Book) (x y : JobView) → 0 < length x.calls → Worked book x y → WorkedOrIdle book x y
-ran-by book x y some w = go x.calls some where
-  go : (cs : List Call) → 0 < length cs → WorkedOrIdleOn cs book x y
-  go [] h = absurd (omega (arith, h))
-  go (c ∷ cs) h = w
+ran-by book x y some w = grind (arith, nat_tests)
