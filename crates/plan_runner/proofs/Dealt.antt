@@ -1,6 +1,6 @@
 -- The calls of each thread.
-use Rattle.std.proofs.Common.{◌≡◌, ◌≢◌, ℕ, ◌+◌, ◌<◌, ◌≤◌, ◌==◌, if◌then◌else◌, Bool, true, false, inl, inr, List, [], ◌∷◌, ◌++◌, length}
-use Rattle.std.proofs.Common.{map, take, get_or, set, refl, sym, ◌∙◌, ap, ap₂, arith, append_assoc, replicate, slice_get, Some}
+use Rattle.std.proofs.Common.{◌≡◌, ◌≢◌, ℕ, ◌+◌, ◌<◌, ◌≤◌, ◌==◌, if◌then◌else◌, inl, inr, List, [], ◌∷◌, ◌++◌, length}
+use Rattle.std.proofs.Common.{map, take, get_or, set, refl, sym, ◌∙◌, ap, arith, append_assoc, replicate, slice_get, Some}
 use Rattle.std.proofs.lemmas.Bool.{cases_eq}
 use Rattle.std.proofs.lemmas.Bool.Decides.{nat_tests}
 use Rattle.std.proofs.lemmas.List.{take_more, append-nil, map-set, get_or-set_same, get_or-set_other, length-map, length-append, length-take-le, get_or-replicate}
@@ -20,22 +20,7 @@ some_line = record { number = 0; thread = 0; word = name.Register; planned = pla
 -- a call is added to one of the lists
 pub deal-one : {V : Type 0} (F : V → List Call) (xs : List V) (i : ℕ) (w : V) (c : Call) → i < length xs → F w ≡ get_or (map F xs) i [] ++ c ∷ []
     → (t : ℕ) → get_or (map F (set xs i w)) t [] ≡ get_or (map F xs) t [] ++ (if i == t then c ∷ [] else [])
-deal-one F xs i w c inside e t =
-    elim (cases_eq i t) [
-      | inl is ↦
-          let room : i < length (map F xs) = omega (arith, inside, length-map xs F) in
-          let one : (if i == t then c ∷ [] else []) ≡ c ∷ [] = grind (arith, nat_tests, is) in
-          ap (λ l. get_or l t []) (map-set F xs i w)
-          ∙ (ap (λ k. get_or (set (map F xs) i (F w)) k []) (sym is)
-          ∙ (get_or-set_same (map F xs) i (F w) [] room
-          ∙ (e ∙ ap₂ (λ k l. get_or (map F xs) k [] ++ l) is (sym one))))
-      | inr not ↦
-          let apart : t ≢ i = λ q. not (sym q) in
-          let none : (if i == t then c ∷ [] else []) ≡ [] = grind (arith, nat_tests, not) in
-          ap (λ l. get_or l t []) (map-set F xs i w)
-          ∙ (get_or-set_other (map F xs) i t (F w) [] apart
-          ∙ (sym (append-nil (get_or (map F xs) t [])) ∙ ap (λ l. get_or (map F xs) t [] ++ l) (sym none)))
-    ]
+deal-one F xs i w c inside e t = grind (arith, nat_tests, cases_eq, length-map, map-set, get_or-set_same, get_or-set_other, append-nil)
 
 pub planned-append : (t : ℕ) (xs ys : List PlanLine) → planned_at t (xs ++ ys) ≡ planned_at t xs ++ planned_at t ys
 planned-append t [] ys = refl
@@ -49,13 +34,7 @@ planned-more t ls k l h e =
 
 -- each thread makes at most as many calls as there are lines
 on-line : (t : ℕ) (l : PlanLine) → length (planned_calls t l) ≤ 1
-on-line t l = go (l.thread == t) l.planned where
-  go : (b : Bool) (p : Planned) → length (if b then calls_in p else []) ≤ 1
-  go true (planned.Call c) = omega arith
-  go true (planned.Code c) = omega arith
-  go true (planned.Name e) = omega arith
-  go true planned.Threads = omega arith
-  go false p = omega arith
+on-line t l = grind (arith, nat_tests)
 
 pub planned-few : (t : ℕ) (ls : List PlanLine) → length (planned_at t ls) ≤ length ls
 planned-few t [] = omega arith
@@ -98,7 +77,4 @@ pub none-counted : (none t : ℕ) → none ≡ 0 → t < 64 → get_or (replicat
 none-counted none t e h = get_or-replicate 64 t none none h
 
 pub one-at-most : (p : Planned) → length (calls_in p) ≤ 1
-one-at-most (planned.Call c) = omega arith
-one-at-most (planned.Code c) = omega arith
-one-at-most (planned.Name e) = omega arith
-one-at-most planned.Threads = omega arith
+one-at-most p = grind (arith, nat_tests)

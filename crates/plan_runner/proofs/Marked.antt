@@ -1,4 +1,5 @@
 -- The marks of a list of replies and of one reply more, and their lines.
+use Rattle.std.proofs.lemmas.Bool.Decides.{nat_tests}
 use Rattle.std.proofs.Common.{◌≡◌, ◌<◌, ◌≤◌, ◌+◌, ◌==◌, ℕ, zero, suc, Bool, true, false, List, [], ◌∷◌, ◌++◌, length, take, map, filter}
 use Rattle.std.proofs.Common.{set, get_or, if◌then◌else◌, Option, Some, None, refl, sym, ap, ◌∙◌, arith, replicate, tests}
 use Rattle.std.proofs.lemmas.List.{map-append}
@@ -35,11 +36,7 @@ one_line l t false e = rw e refl
 
 mark_at-more : (done : List ReplyLine) (l : ReplyLine) (t : ℕ) → mark_at (done ++ l ∷ []) t ≡ first_met (mark_at done t) (added l t)
 unfolding mark_at
-mark_at-more done l t =
-    ap (λ ls. met_mark (map (λ l. l.reply) ls)) (filter-append (λ l. l.thread == t) done (l ∷ []))
-    ∙ ap met_mark (map-append (λ l. l.reply) (filter (λ l. l.thread == t) done) (filter (λ l. l.thread == t) (l ∷ [])))
-    ∙ met_mark-append (map (λ l. l.reply) (filter (λ l. l.thread == t) done)) (map (λ l. l.reply) (filter (λ l. l.thread == t) (l ∷ [])))
-    ∙ ap (first_met (met_mark (map (λ l. l.reply) (filter (λ l. l.thread == t) done)))) (one_line l t (l.thread == t) refl)
+mark_at-more done l t = grind (arith, nat_tests, filter-append, map-append, met_mark-append, one_line)
 
 -- two functions that agree from here on
 same_from : {X : Type 0} (f g : ℕ → X) (a n : ℕ) → ((t : ℕ) → a ≤ t → f t ≡ g t) → map f (range_with_len a n) ≡ map g (range_with_len a n)

@@ -1,5 +1,6 @@
 -- What the jobs left, in the order of the threads.
-use Rattle.std.proofs.Common.{◌≡◌, ℕ, ◌-◌, ◌<◌, Bool, false, List, [], ◌∷◌, ◌++◌, All, length, map, reverse, get_or, refl, sym, ◌∙◌, ap, subst, arith}
+use Rattle.std.proofs.lemmas.Bool.Decides.{nat_tests}
+use Rattle.std.proofs.Common.{◌≡◌, ℕ, ◌<◌, Bool, false, List, [], ◌∷◌, ◌++◌, All, length, map, reverse, get_or, refl, sym, ◌∙◌, ap, subst, arith}
 use Rattle.std.proofs.lemmas.List.{reverse-append, map-append, get_or-reverse, get_or-map, length-reverse, length-map, reverse-reverse}
 use Rattle.std.proofs.lemmas.List.Elements.{All-map}
 use Rattle.overflow_dispatch.specs.declared.handler.Note.{Note}
@@ -24,9 +25,7 @@ map-both f g (x ∷ xs) = ap (λ u. g (f x) ∷ u) (map-both f g xs)
 
 -- what holds of each element holds of it in the list turned round
 pub all-reverse : {A : Type 0} (P : A → Type 0) (xs : List A) → All P xs → All P (reverse xs)
-all-reverse P xs all = λ k d h.
-    let inside : k < length xs = omega (arith, h, length-reverse xs) in
-    subst P (sym (get_or-reverse xs k d inside)) (all (length xs - 1 - k) d (omega (arith, inside)))
+all-reverse P xs all = grind (arith, nat_tests, length-reverse, get_or-reverse)
 
 pub each-map : {A B : Type 0} (f : A → B) (R : B → B → Type 0) (xs ys : List A) → Each (λ x y. R (f x) (f y)) xs ys → Each R (map f xs) (map f ys)
 each-map f R [] ys e = record { len = length-map ys f ∙ e.len; at = λ k d h. absurd (omega (arith, h)) }
@@ -42,17 +41,7 @@ each-map f R (x ∷ xs) ys e =
     }
 
 pub each-reverse : {A : Type 0} (R : A → A → Type 0) (xs ys : List A) → Each R xs ys → Each R (reverse xs) (reverse ys)
-each-reverse R xs ys e =
-    record {
-      len = length-reverse ys ∙ (e.len ∙ sym (length-reverse xs));
-      at =
-          λ k d h.
-          let inside : k < length xs = omega (arith, h, length-reverse xs) in
-          let there : k < length ys = omega (arith, inside, e.len) in
-          subst (λ v. R v (get_or (reverse ys) k d)) (sym (get_or-reverse xs k d inside))
-          (subst (λ v. R (get_or xs (length xs - 1 - k) d) v) (sym (get_or-reverse ys k d there))
-          (subst (λ n. R (get_or xs (length xs - 1 - k) d) (get_or ys (n - 1 - k) d)) (sym e.len) (e.at (length xs - 1 - k) d (omega (arith, inside)))));
-    }
+each-reverse R xs ys e = grind (arith, nat_tests, length-reverse, get_or-reverse)
 
 -- each job can be worked
 pub ready-by : {J : Type 0} (f : J → JobView) (P : JobView → Type 0) (js : List J) (xs : List JobView) → map f js ≡ reverse xs → All P xs → (k : ℕ) (d : J) → k < length js → P (f (get_or js k d))

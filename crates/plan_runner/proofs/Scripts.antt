@@ -1,16 +1,14 @@
 -- The plan of a script, and its lines answered as those of the script.
+use Rattle.std.proofs.lemmas.Bool.Decides.{nat_tests}
 use Rattle.std.proofs.Common.{◌≡◌, ℕ, zero, suc, ◌<◌, Bool, ◌==◌, if◌then◌else◌, List, [], ◌∷◌, ◌++◌, All, length, map, get_or, set, refl}
-use Rattle.std.proofs.Common.{sym, ◌∙◌, ap, ap₂, subst, arith, Option, Some, None, Ok, Err, position, slice_set}
+use Rattle.std.proofs.Common.{sym, ◌∙◌, ap, ap₂, subst, arith, Option, None, slice_set}
 use Rattle.std.proofs.lemmas.List.{set-get_or}
 use Rattle.std.proofs.lemmas.List.Elements.{All-drop, All-tail}
-use Rattle.papi_base.specs.declared.native.EventRef.TheVariants as event
 use Rattle.papi_base.specs.declared.native.Native.{Native}
 use Rattle.session_model.specs.declared.line.Asked.{Asked}
-use Rattle.session_model.specs.declared.line.Asked.TheVariants as asked
 use Rattle.session_model.specs.declared.line.Line.{Line}
 use Rattle.session_model.specs.declared.reply.Reply.{Reply}
 use Rattle.session_model.specs.World.{LineTold, Setting, calls_asked, calls_at, mentioned_after, name_by}
-use Rattle.postfix_rules.specs.NativeCodes.{native_named}
 use Rattle.session_laws.specs.Worlds.{Ahead, ahead_after, merged, merged_reply, next_reply}
 use Rattle.thread_session.specs.Faults.{FaultsRose, IsFaultReply}
 use Rattle.plan_runner.specs.declared.plan.Planned.{Planned}
@@ -25,12 +23,7 @@ use Rattle.plan_runner.proofs.Lists.{all-none, all-cons}
 -- ---- the same calls
 
 calls-same : (at : Setting) (m : List Native) (a : Asked) → calls_in (planned_by at m a) ≡ calls_asked a
-calls-same at m (asked.Call c) = refl
-calls-same at m (asked.CodeOf (Ok (event.Native n))) = refl
-calls-same at m (asked.CodeOf (Ok (event.Preset row))) = refl
-calls-same at m (asked.CodeOf (Err c)) = refl
-calls-same at m (asked.NameOf c) = refl
-calls-same at m asked.Threads = refl
+calls-same at m a = grind (arith, nat_tests)
 
 -- two lists whose first items and whose others are the same
 firsts : {X : Type 0} (x y : X) (xs ys : List X) → x ∷ xs ≡ y ∷ ys → x ≡ y
@@ -61,28 +54,16 @@ script-threads at m (l ∷ ls) (p ∷ ps) e all =
 -- ---- the same replies
 
 named-same : (flags : List Bool) (replies : List Reply) (row : Option ℕ) (native : Option Native) → reply_by flags replies (planned.Name (event_by row native)) ≡ name_by row native
-named-same flags replies (Some row) native = refl
-named-same flags replies None (Some n) = refl
-named-same flags replies None None = refl
+named-same flags replies = grind (arith, nat_tests)
 
 reply-same : (at : Setting) (m : List Native) (x : Ahead) (t : ℕ) (a : Asked) → reply_by x.flags (get_or x.replies t []) (planned_by at m a) ≡ merged_reply at m x t a
-reply-same at m x t (asked.Call c) = refl
-reply-same at m x t (asked.CodeOf (Ok (event.Native n))) = refl
-reply-same at m x t (asked.CodeOf (Ok (event.Preset row))) = refl
-reply-same at m x t (asked.CodeOf (Err c)) = refl
-reply-same at m x t (asked.NameOf c) = named-same x.flags (get_or x.replies t []) (position (λ y. y == c) at.codes) (native_named m c)
-reply-same at m x t asked.Threads = refl
+reply-same at m x t a = grind (arith, nat_tests, named-same)
 
 unchanged : (x : Ahead) (t : ℕ) → record { flags = x.flags; replies = slice_set x.replies t (get_or x.replies t []) } ≡ x
 unchanged x t = ap {A = List (List Reply)} {B = Ahead} (λ rs. record { flags = x.flags; replies = rs }) (set-get_or x.replies t [])
 
 ahead-same : (at : Setting) (m : List Native) (x : Ahead) (t : ℕ) (a : Asked) → ahead_then x t (planned_by at m a) ≡ ahead_after x t a
-ahead-same at m x t (asked.Call c) = refl
-ahead-same at m x t (asked.CodeOf (Ok (event.Native n))) = unchanged x t
-ahead-same at m x t (asked.CodeOf (Ok (event.Preset row))) = unchanged x t
-ahead-same at m x t (asked.CodeOf (Err c)) = unchanged x t
-ahead-same at m x t (asked.NameOf c) = unchanged x t
-ahead-same at m x t asked.Threads = unchanged x t
+ahead-same at m x t a = grind (arith, nat_tests, unchanged)
 
 pub merged-same : (at : Setting) (m : List Native) (ls : List Line) (plan : List PlanLine) (x : Ahead) → map ask_of plan ≡ asks_from at m ls → map (λ l. l.reply) (lines_by x plan) ≡ merged at m x ls
 merged-same at m [] [] x e = refl
@@ -102,8 +83,7 @@ merged-same at m (l ∷ ls) (p ∷ ps) x e =
 pub lines-told : (plan : List PlanLine) (x : Ahead) (told : List LineTold) → map (λ l. l.reply) (lines_by x plan) ≡ map (λ y. y.reply) told → lines_by x plan ≡ reply_lines plan told
 lines-told [] x told e = refl
 lines-told (l ∷ ls) x [] e = absurd (omega (arith, ap length e))
-lines-told (l ∷ ls) x (y ∷ ys) e =
-    ap₂ ◌∷◌ (ap {A = Reply} {B = ReplyLine} (λ r. record { line = l.number; thread = l.thread; word = l.word; reply = r }) (firsts _ _ _ _ e)) (lines-told ls (ahead_then x l.thread l.planned) ys (others _ _ _ _ e))
+lines-told (l ∷ ls) x (y ∷ ys) e = grind (arith, nat_tests, firsts, others, lines-told ls (ahead_then x l.thread l.planned) ys (others _ _ _ _ e))
 
 numbers : (plan : List PlanLine) (x : Ahead) → map (λ (l : ReplyLine). l.line) (lines_by x plan) ≡ map (λ (l : PlanLine). l.number) plan
 numbers [] x = refl
@@ -134,12 +114,7 @@ next-speaks b a [] all f = absurd f
 next-speaks b a (r ∷ rs) all f = all 0 r (omega arith) f
 
 reply-speaks : (b a : Option ℕ) (flags : List Bool) (rs : List Reply) (p : Planned) → All (λ r. IsFaultReply r → FaultsRose b a) rs → IsFaultReply (reply_by flags rs p) → FaultsRose b a
-reply-speaks b a flags rs (planned.Call c) all f = next-speaks b a rs all f
-reply-speaks b a flags rs (planned.Code (Ok n)) all f = absurd f
-reply-speaks b a flags rs (planned.Code (Err c)) all f = absurd f
-reply-speaks b a flags rs (planned.Name (Some e)) all f = absurd f
-reply-speaks b a flags rs (planned.Name None) all f = absurd f
-reply-speaks b a flags rs planned.Threads all f = absurd f
+reply-speaks b a flags rs p all f = grind (arith, nat_tests, next-speaks)
 
 rest-speaks : (b a : Option ℕ) (rs : List Reply) (p : Planned) → All (λ r. IsFaultReply r → FaultsRose b a) rs → All (λ r. IsFaultReply r → FaultsRose b a) (rest_by rs p)
 rest-speaks b a rs (planned.Call c) all = All-drop (λ r. IsFaultReply r → FaultsRose b a) 1 rs all

@@ -1,4 +1,5 @@
 -- What each thread got, from what its job left.
+use Rattle.std.proofs.lemmas.Bool.Decides.{nat_tests}
 use Rattle.std.proofs.Common.{◌≡◌, ℕ, zero, suc, ◌+◌, ◌<◌, Bool, true, false, ◌==◌, if◌then◌else◌, List, [], ◌∷◌, ◌++◌, All, length, map}
 use Rattle.std.proofs.Common.{get_or, refl, sym, ◌∙◌, ap, subst, arith, Option, Some, None, append-nil, inl, inr, slice_get}
 use Rattle.std.specs.Bool.{MatchBool}
@@ -28,7 +29,6 @@ use Rattle.thread_session.proofs.Failing.{kept_same}
 use Rattle.thread_session.proofs.Growing.{grown_same}
 use Rattle.thread_registry.specs.JobView.{JobView, Worked, Finished, FinishedTo, CutShort, CanWork, WorkedOrIdle}
 use Rattle.plan_runner.specs.declared.plan.Planned.{Planned}
-use Rattle.plan_runner.specs.declared.plan.Planned.TheVariants as planned
 use Rattle.plan_runner.specs.declared.plan.PlanLine.{PlanLine}
 use Rattle.plan_runner.specs.declared.works.Work.{Work}
 use Rattle.plan_runner.specs.Jobs.{Left, before, befores_from}
@@ -46,10 +46,7 @@ with_some (x ∷ xs) h f = f x
 -- ---- the conditions of the calls
 
 good-in : (book : Book) (shape : Widths) (p : Planned) → IsGoodFor book shape p → All (IsGood book shape) (calls_in p)
-good-in book shape (planned.Call c) g = all-cons (IsGood book shape) c [] g (all-none (IsGood book shape))
-good-in book shape (planned.Code c) g = all-none (IsGood book shape)
-good-in book shape (planned.Name e) g = all-none (IsGood book shape)
-good-in book shape planned.Threads g = all-none (IsGood book shape)
+good-in book shape p g = grind (arith, nat_tests, all-cons, all-none)
 
 good-if : (book : Book) (shape : Widths) (b : Bool) (cs : List Call) → All (IsGood book shape) cs → All (IsGood book shape) (if b then cs else [])
 good-if book shape true cs all = all
@@ -113,20 +110,14 @@ can-work book shape plan readers notes works len dealt all fits good =
 -- ---- what one thread got
 
 begun-by : (book : Book) (a : Account) (x y : JobView) (b : Bool) → MatchBool b (CutShort book a x y) (Finished book a x y) → Begun x.notes (notes_to book x.session.core.shape a x.calls) y.notes
-begun-by book a x y true h = h.notes
-begun-by book a x y false h =
-    let ns = notes_to book x.session.core.shape a x.calls in
-    (length ns, omega arith, h.notes ∙ ap (λ v. x.notes ++ v) (sym (take_all (length ns) ns (omega arith))))
+begun-by book a x y b h = grind (arith, nat_tests, take_all)
 
 done-by : (book : Book) (a : Account) (x y : JobView) (b : Bool) → b ≡ false → MatchBool b (CutShort book a x y) (Finished book a x y) → Finished book a x y
 done-by book a x y true e h = absurd (cc)
 done-by book a x y false e h = h
 
 begun-to-by : (book : Book) (a : Account) (x y : JobView) (left : Coming) (b : Bool) → MatchBool b (CutShort book a x y) (FinishedTo book a x y left) → Begun x.notes (notes_to book x.session.core.shape a x.calls) y.notes
-begun-to-by book a x y left true h = h.notes
-begun-to-by book a x y left false h =
-    let ns = notes_to book x.session.core.shape a x.calls in
-    (length ns, omega arith, h.notes ∙ ap (λ v. x.notes ++ v) (sym (take_all (length ns) ns (omega arith))))
+begun-to-by book a x y left b h = grind (arith, nat_tests, take_all)
 
 done-to-by : (book : Book) (a : Account) (x y : JobView) (left : Coming) (b : Bool) → b ≡ false → MatchBool b (CutShort book a x y) (FinishedTo book a x y left) → FinishedTo book a x y left
 done-to-by book a x y left true e h = absurd (cc)

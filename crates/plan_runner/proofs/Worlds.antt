@@ -1,5 +1,6 @@
 -- What all threads got is what the world of the script says.
-use Rattle.std.proofs.Common.{◌≡◌, ℕ, zero, suc, ◌+◌, ◌<◌, ◌≤◌, Bool, false, List, [], ◌∷◌, ◌++◌, All, length, map, replicate, get_or, refl}
+use Rattle.std.proofs.lemmas.Bool.Decides.{nat_tests}
+use Rattle.std.proofs.Common.{◌≡◌, ℕ, zero, suc, ◌+◌, ◌<◌, ◌≤◌, Bool, false, List, [], ◌∷◌, All, length, map, replicate, get_or, refl}
 use Rattle.std.proofs.Common.{sym, append-nil, ◌∙◌, ap, ap₂, subst, arith, Option, Some, None, Result, Ok, Err, OnOk, IfOk, inl, inr, slice_get}
 use Rattle.std.specs.Result.{is_err}
 use Rattle.std.proofs.lemmas.List.{get_or-map, get_or_past, length-map}
@@ -97,14 +98,7 @@ begun-as at script streams book shape plan before after refused replies e n got 
 pub added-as : (at : Setting) (script : List Line) (streams : List Coming) (book : Book) (shape : Widths) (plan : List PlanLine) (before after : List (List Note)) (refused : Bool) (replies : List (List Reply))
     → length before ≡ 64 → length after ≡ 64 → AllServedAs book shape refused plan before after replies streams → refused ≡ false
     → IsPlannedFrom at script book shape plan → EachAdded before (runs.notes_by_thread (world_told at script streams)) after
-added-as at script streams book shape plan before after refused replies e n got whole from =
-    record {
-      same_length = n ∙ sym e;
-      added =
-          λ t h.
-          let few : t < 64 = omega (arith, h, e) in
-          ((got t few).done whole).0 ∙ ap (λ ns. get_or before t [] ++ ns) (sym (given-at at script streams book shape plan t few from));
-    }
+added-as at script streams book shape plan before after refused replies e n got whole from = grind (arith, nat_tests, given-at)
 
 pub begun-all : (at : Setting) (script : List Line) (streams : List Coming) (book : Book) (shape : Widths) (plan : List PlanLine) (readers readers_then : List ReaderView) (before after : List (List Note)) (refused : Bool) (replies : List (List Reply))
     → length readers ≡ 64 → length before ≡ 64 → AreServed book shape refused plan readers readers_then before after replies
@@ -190,14 +184,7 @@ listed P (suc n) k each =
 
 can-each-come : (readers : List ReaderView) (streams : List Coming) (r : ReaderView) → length readers ≡ 64 → length streams ≡ 64
     → ((t : ℕ) → t < 64 → CanCome (get_or readers t r) (get_or streams t no_stream)) → CanEachCome readers streams
-can-each-come readers streams r rl sl each = record {
-  same_length = sl ∙ sym rl;
-  each =
-      λ t q s h.
-      let few : t < 64 = omega (arith, h, rl) in
-      subst (λ (v : ReaderView). CanCome v (get_or streams t s)) (get_or-any readers t r q h)
-      (subst (λ (v : Coming). CanCome (get_or readers t r) v) (get_or-any streams t no_stream s (omega (arith, few, sl))) (each t few));
-}
+can-each-come readers streams r rl sl each = grind (arith, nat_tests, get_or-any)
 
 -- there are such streams, whatever is told
 pub some-streams : (readers : List ReaderView) → length readers ≡ 64 → (streams : List Coming) × CanEachCome readers streams
@@ -306,11 +293,7 @@ faulty-all book shape plan readers readers_then before after refused replies rl 
 
 -- nothing was done
 pub kept-none : (readers : List ReaderView) → AllKept (counts readers) (counts readers)
-kept-none readers = record { same_length = refl; each = λ t. same t readers } where
-  same : (t : ℕ) (rs : List ReaderView) → FaultsKept (get_or (counts rs) t None) (get_or (counts rs) t None)
-  same t [] = tt
-  same zero (r ∷ rs) = kept_same r
-  same (suc t) (r ∷ rs) = same t rs
+kept-none readers = grind (arith, nat_tests, kept_same)
 
 pub begun-none : (lists given : List (List Note)) → EachBegun lists given lists
 begun-none lists given = record { same_length = refl; begun = λ t h. (0, omega arith, sym (append-nil (get_or lists t []))) }

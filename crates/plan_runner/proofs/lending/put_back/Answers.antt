@@ -1,22 +1,10 @@
-use Rattle.std.proofs.Common.{false, arith, ap, ◌∙◌, ◌≡◌, ◌++◌, ◌∷◌, [], map, refl}
+use Rattle.std.proofs.Common.{false, arith, ap, ◌∙◌, ◌≡◌, ◌++◌, ◌∷◌, []}
+use Rattle.std.proofs.lemmas.Bool.Decides.{nat_tests}
 use Rattle.plan_runner.proofs.Lists.{all-more, map-push, neither, no-items, put-all, put-more, put-none}
 use Rattle.plan_runner.proofs.lending.put_back.Goals as goal
 
 pub loop-put-init : goal.loop-put-init
-loop-put-init g c =
-    record {
-      jobs_len = omega arith;
-      handlers_len = c.requires.none;
-      readers_len = c.requires.no_readers;
-      replies_len = c.requires.no_replies;
-      room = refl;
-      reader_room = refl;
-      reply_room = refl;
-      handlers = put-none _ _ (ap (map _) (no-items c.args.handlers.now.items (omega (arith, c.requires.none, c.args.handlers.now.ok.0))));
-      readers = put-none _ _ (no-items c.args.readers.now.items (omega (arith, c.requires.no_readers, c.args.readers.now.ok.0)));
-      replies = put-none _ _ (ap (map _) (no-items c.args.replies.now.items (omega (arith, c.requires.no_replies, c.args.replies.now.ok.0))));
-      whole = λ e all. all;
-    }
+loop-put-init g c = grind (arith, nat_tests, put-none, no-items)
 
 pub loop-put-preserved : goal.loop-put-preserved
 loop-put-preserved g c =

@@ -1,4 +1,5 @@
-use Rattle.std.proofs.Common.{arith, refl, subst, sym, ◌∙◌, ◌-◌, ◌+◌, ◌≡◌, ◌<◌, ◌≤◌, ◌∷◌, [], drop, length, map, vec_len}
+use Rattle.std.proofs.Common.{arith, subst, ◌∙◌, ◌-◌, ◌+◌, ◌≡◌, ◌<◌, ◌∷◌, [], drop, length, map, vec_len}
+use Rattle.std.proofs.lemmas.Bool.Decides.{nat_tests}
 use Rattle.std.proofs.lemmas.List.{take_all, length-map}
 use Rattle.event_sets.specs.AtRest.{Widths}
 use Rattle.thread_registry.specs.OpenedJobs.{IsOpenedForCalls}
@@ -11,24 +12,7 @@ use Rattle.plan_runner.proofs.Lists.{all-empty, all-more}
 use Rattle.plan_runner.proofs.lending.take_out.Goals as goal
 
 pub loop-taken-init : goal.loop-taken-init
-loop-taken-init g c =
-    let n = vec_len c.args.handlers.now - 0 in
-    let few : (shape : Widths) → length (befores_of shape c.args.readers.now.items (map (λ b. (goal.Handler-dyn g (b.vtable, b.value)).notes b.value) c.args.handlers.now.items) c.args.works.now.items) ≤ n =
-    λ shape. omega (arith, befores-few 0 shape c.args.readers.now.items (map (λ b. (goal.Handler-dyn g (b.vtable, b.value)).notes b.value) c.args.handlers.now.items) (map calls_of c.args.works.now.items), c.requires.readers, c.args.readers.now.ok.0) in
-    record {
-      handlers_len = omega arith;
-      readers_len = omega (arith, c.requires.readers);
-      works_len = omega (arith, c.requires.works);
-      jobs_len = c.requires.no_jobs;
-      room = refl;
-      capacity = refl;
-      reader_capacity = refl;
-      handlers = sym (take_all _ _ (omega (arith, c.args.handlers.now.ok.0)));
-      readers = sym (take_all _ _ (omega (arith, c.requires.readers, c.args.readers.now.ok.0)));
-      works = sym (take_all _ _ (omega (arith, c.requires.works, c.args.works.now.ok.0)));
-      opened = all-empty (λ j. IsOpenedForCalls j.session j.calls.items) c.args.jobs.now.items (omega (arith, c.requires.no_jobs, c.args.jobs.now.ok.0));
-      jobs = λ shape all. none-yet _ c.args.jobs.now.items _ n (omega (arith, c.requires.no_jobs, c.args.jobs.now.ok.0)) (few shape);
-    }
+loop-taken-init g c = grind (arith, nat_tests, befores-few, take_all, all-empty, none-yet)
 
 pub loop-taken-preserved : goal.loop-taken-preserved
 loop-taken-preserved g c =

@@ -1,6 +1,6 @@
-use Rattle.std.proofs.Common.{arith, refl, map, subst, sym, ◌∙◌, ◌<◌, All}
+use Rattle.std.proofs.Common.{arith, refl, map}
+use Rattle.std.proofs.lemmas.Bool.Decides.{nat_tests}
 use Rattle.std.proofs.lemmas.List.{length-map}
-use Rattle.plan_runner.specs.declared.result.ReplyLine.{ReplyLine}
 use Rattle.plan_runner.proofs.Scripts.{lines-threads}
 use Rattle.plan_runner.proofs.Served.{are-served, can-work}
 use Rattle.plan_runner.proofs.Worlds.{counts-all}
@@ -27,9 +27,7 @@ merge-requires-clause-counts g c =
     counts-all c.args.book.now w.0 c.args.plan.now c.args.readers.now.items _ _ _ _ _ (omega (arith, c.requires.readers, c.args.readers.now.ok.0)) served refl
 
 pub marks_of-marks-requires : goal.marks_of-marks-requires
-marks_of-marks-requires g c =
-    let is = c.as_slice.ensures.value ∙ c.merge.ensures.lines in
-    record { threads = subst (All (λ (l : ReplyLine). l.thread < 64)) (sym is) (lines-threads c.args.plan.now _ c.requires.threads.each) }
+marks_of-marks-requires g c = grind (arith, nat_tests, lines-threads)
 
 pub returns-clause-served : goal.returns-clause-served
 returns-clause-served g c = λ shape all fits.
