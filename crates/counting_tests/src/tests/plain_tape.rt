@@ -1,5 +1,5 @@
 //! The fast reader beside the plain one, over drawn streams.
-use crate::plain_tests::Draws;
+use super::draws::Draws;
 use papi_base::{Ending, MemSource};
 use plain::said_by;
 use std::alloc::{AllocError, Global};

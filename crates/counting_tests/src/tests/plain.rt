@@ -2,6 +2,8 @@
 ghost use Rattle.std.specs.Prelude.{◌≤◌, ◌<◌, [], ◌∷◌, length};
 ghost use Rattle.thread_session.specs.Folds.{AreGood};
 
+use super::draws::Draws;
+use super::natives::{INST, PLAIN};
 use counter_alloc::{Blame, Matching};
 use overflow_dispatch::Recorder;
 use papi_base::{
@@ -9,36 +11,11 @@ use papi_base::{
 };
 use plain::{Turn, Window, blame_by_sets, count, estimate, first_assignment, value_by_tree};
 use postfix_rules::{PresetBook, eval, read_postfix};
-use session_model::{Body, Call};
+use session_model::{Body, Call, Reply};
 use std::alloc::{AllocError, Global};
 use std::test::Fail;
 use stream_reader::StreamReader;
 use thread_session::Session;
-
-/// Numbers drawn by the generator of MMIX, which takes x to 6364136223846793005 x + 1442695040888963407 modulo 2^64, from the state 1 on.
-/// Of each the 31 highest bits count.
-#[derive(Drop)]
-pub(crate) struct Draws {
-    state: u64,
-}
-
-impl Draws {
-    pub(crate) fn new() -> Draws {
-        Draws { state: 1 }
-    }
-
-    // A number below the bound.
-    pub(crate) fn below(&mut self, bound: u32) -> u32
-        requires { 0 < bound }
-        ensures { result < bound }
-    {
-        self.state = self
-            .state
-            .wrapping_mul(6_364_136_223_846_793_005)
-            .wrapping_add(1_442_695_040_888_963_407);
-        (self.state >> 33) as u32 % bound
-    }
-}
 
 // Sets of the four counters, of at most six native events.
 fn draw_masks(alloc: Global, draws: &mut Draws) -> Result<Vec<u32>, AllocError> {
@@ -131,14 +108,6 @@ fn values_of_formulas(rt: HostRuntime) -> Result<(), Fail> {
     Ok(())
 }
 
-const PLAIN: Mods = Mods {
-    user: false,
-    kernel: false,
-    edge: false,
-    invert: false,
-    cmask: 0,
-};
-
 // It counts in both modes, each time that amounts begin to be below three.
 const FALLS_BELOW_THREE: Mods = Mods {
     user: true,
@@ -146,17 +115,6 @@ const FALLS_BELOW_THREE: Mods = Mods {
     edge: true,
     invert: true,
     cmask: 3,
-};
-
-// Retired instructions on the first counter.
-const INST: Native = Native {
-    comp: 0,
-    event: 0,
-    select: 0xc0,
-    masks: 0,
-    umask: 0,
-    mods: PLAIN,
-    allowed: 1,
 };
 
 // Runs of few branches of umask 01 on the second counter.
@@ -206,9 +164,30 @@ fn draw_stream(alloc: Global, draws: &mut Draws) -> Result<(String, Vec<Occ>), A
     Ok((text, occs))
 }
 
-// The last values that these calls reply over the stream.
-fn values_of(alloc: Global, text: &str, calls: &[Call]) -> Result<Values, AllocError>
-    requires { AreGood [] ((48 ∷ 48 ∷ []) ∷ []) calls.now }
+// A window of forty occurrences, in the user's domain.
+fn draw_window(draws: &mut Draws) -> Window
+    ensures begins { result.from ≤ 40 }
+    ensures ends { result.to ≤ 40 }
+{
+    let from = draws.below(20) as usize;
+    let n = draws.below(20) as usize;
+    Window {
+        from,
+        to: from + n,
+        domain: Domain::USER,
+    }
+}
+
+// The values of set 0 over a window of the stream, after these calls.
+fn values_of(
+    alloc: Global,
+    text: &str,
+    window: Window,
+    before: &[Call],
+) -> Result<Values, AllocError>
+    requires begins { window.from ≤ 40 }
+    requires ends { window.to ≤ 40 }
+    requires good { AreGood [] ((48 ∷ 48 ∷ []) ∷ []) before.now }
 {
     let book = PresetBook::new(Vec::new(alloc));
     let mut comp = CompShape::new();
@@ -218,44 +197,44 @@ fn values_of(alloc: Global, text: &str, calls: &[Call]) -> Result<Values, AllocE
     shape.push(comp);
     let source = MemSource::new(text.as_bytes().to_vec(alloc)?, Ending::End, 4096);
     let mut session = Session::new(alloc, 0, shape, StreamReader::new(source))?;
-    let replies = session.call_all(alloc, &book, calls, &mut Recorder::new(alloc))?;
-    let mut last = Values::new();
-    for reply in &replies {
-        if let Body::Values(values) = &reply.body {
-            last = values.copy();
-        }
+    let mut handler = Recorder::new(alloc);
+    session.call_all(alloc, &book, before, &mut handler)?;
+    let calls = [
+        Call::Run {
+            n: window.from as u32,
+        },
+        Call::Start { set: 0 },
+        Call::Run {
+            n: window.to.saturating_sub(window.from) as u32,
+        },
+        Call::Stop { set: 0 },
+    ];
+    let replies = session.call_all(alloc, &book, &calls, &mut handler)?;
+    match replies.last() {
+        Some(
+            Reply {
+                body: Body::Values(values),
+                ..
+            },
+        ) => Ok(values.copy()),
+        _ => Ok(Values::new()),
     }
-    Ok(last)
 }
 
 #[test]
 fn counts_of_windows(rt: HostRuntime) -> Result<(), Fail> {
+    let inst = Ok(EventRef::Native(INST));
+    let runs = Ok(EventRef::Native(BRANCH_RUNS));
+    let before = [
+        Call::Create,
+        Call::Add { set: 0, e: inst },
+        Call::Add { set: 0, e: runs },
+    ];
     let mut draws = Draws::new();
     for _ in 0..40u32 {
         let (text, past) = draw_stream(rt.alloc(), &mut draws)?;
-        let from = draws.below(20);
-        let n = draws.below(20);
-        let calls = [
-            Call::Create,
-            Call::Add {
-                set: 0,
-                e: Ok(EventRef::Native(INST)),
-            },
-            Call::Add {
-                set: 0,
-                e: Ok(EventRef::Native(BRANCH_RUNS)),
-            },
-            Call::Run { n: from },
-            Call::Start { set: 0 },
-            Call::Run { n },
-            Call::Stop { set: 0 },
-        ];
-        let values = values_of(rt.alloc(), &text, &calls)?;
-        let window = Window {
-            from: from as usize,
-            to: (from + n) as usize,
-            domain: Domain::USER,
-        };
+        let window = draw_window(&mut draws);
+        let values = values_of(rt.alloc(), &text, window, &before)?;
         if past.len() == 40 {
             for (i, native) in [INST, BRANCH_RUNS].iter().enumerate() {
                 let value = i64::try_from(count(&past, window, native)).ok();
@@ -268,34 +247,23 @@ fn counts_of_windows(rt: HostRuntime) -> Result<(), Fail> {
 
 #[test]
 fn estimates_of_turns(rt: HostRuntime) -> Result<(), Fail> {
+    let inst = Ok(EventRef::Native(INST));
+    let branches = Ok(EventRef::Native(BRANCHES));
     let mut draws = Draws::new();
     for _ in 0..40u32 {
         let (text, past) = draw_stream(rt.alloc(), &mut draws)?;
-        let from = draws.below(20);
-        let n = draws.below(20);
+        let window = draw_window(&mut draws);
         let slice = draws.below(9) + 1;
-        let calls = [
+        let before = [
             Call::Create,
             Call::SetMultiplex { set: 0, slice },
+            Call::Add { set: 0, e: inst },
             Call::Add {
                 set: 0,
-                e: Ok(EventRef::Native(INST)),
+                e: branches,
             },
-            Call::Add {
-                set: 0,
-                e: Ok(EventRef::Native(BRANCHES)),
-            },
-            Call::Run { n: from },
-            Call::Start { set: 0 },
-            Call::Run { n },
-            Call::Stop { set: 0 },
         ];
-        let values = values_of(rt.alloc(), &text, &calls)?;
-        let window = Window {
-            from: from as usize,
-            to: (from + n) as usize,
-            domain: Domain::USER,
-        };
+        let values = values_of(rt.alloc(), &text, window, &before)?;
         if past.len() == 40 {
             for (group, native) in [INST, BRANCHES].iter().enumerate() {
                 let turn = Turn {

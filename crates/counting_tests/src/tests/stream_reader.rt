@@ -121,14 +121,27 @@ fn streams_in_pieces(rt: HostRuntime) -> Result<(), Fail> {
     Ok(())
 }
 
-// Lines of 16 bytes, which fill each buffer, and how often they were asked for.
+// The same 128 bytes again and again, as long as some are left, and how often they were asked for.
 #[derive(Drop)]
-struct Lines {
+struct Repeated {
+    bytes: [u8; 128],
+    given: usize,
     left: usize,
     reads: u32,
 }
 
-impl Source for Lines {
+impl Repeated {
+    fn new(bytes: [u8; 128], left: usize) -> Repeated {
+        Repeated {
+            bytes,
+            given: 0,
+            left,
+            reads: 0,
+        }
+    }
+}
+
+impl Source for Repeated {
     ghost use Rattle.std.specs.Prelude.{None};
 
     ghost faults = { λ _. 0 };
@@ -138,10 +151,10 @@ impl Source for Lines {
     fn read(&mut self, buf: &mut [u8]) -> Result<usize, Failed> {
         self.reads = self.reads.saturating_add(1);
         let size = buf.len().min(self.left);
-        let line = b"0 c0 00 u 1 123\n";
         for i in 0..size {
-            buf[i] = line[(160_000usize.saturating_sub(self.left) + i) % 16];
+            buf[i] = self.bytes[self.given.wrapping_add(i) % 128];
         }
+        self.given = self.given.wrapping_add(size);
         self.left -= size;
         Ok(size)
     }
@@ -149,10 +162,11 @@ impl Source for Lines {
 
 #[test]
 fn few_reads(rt: HostRuntime) {
-    let mut reader = StreamReader::new(Lines {
-        left: 160_000,
-        reads: 0,
-    });
+    let mut lines = [0u8; 128];
+    for i in 0..128usize {
+        lines[i] = b"0 c0 00 u 1 123\n"[i % 16];
+    }
+    let mut reader = StreamReader::new(Repeated::new(lines, 160_000));
     let mut given = 0u64;
     for _ in 0..10_001u32 {
         match reader.next() {
@@ -165,31 +179,11 @@ fn few_reads(rt: HostRuntime) {
     assert!(&rt; 0 < reads && reads <= 42, "{reads} reads");
 }
 
-// Comments of 128 bytes with their newlines, without end.
-#[derive(Drop)]
-struct Comments {
-    place: u8,
-}
-
-impl Source for Comments {
-    ghost use Rattle.std.specs.Prelude.{None};
-
-    ghost faults = { λ _. 0 };
-
-    ghost tape = { λ _. None };
-
-    fn read(&mut self, buf: &mut [u8]) -> Result<usize, Failed> {
-        for i in 0..buf.len() {
-            buf[i] = if self.place == 127 { b'\n' } else { b'#' };
-            self.place = if self.place < 127 { self.place + 1 } else { 0 };
-        }
-        Ok(buf.len())
-    }
-}
-
 #[test]
 fn the_largest_stream(rt: HostRuntime) {
-    let mut reader = StreamReader::new(Comments { place: 0 });
+    let mut comment = [b'#'; 128];
+    comment[127] = b'\n';
+    let mut reader = StreamReader::new(Repeated::new(comment, usize::MAX));
     let next = reader.next();
     let bad = Next::Bad {
         line: 524_289,

@@ -3,22 +3,15 @@ ghost use Rattle.std.specs.Prelude.{◌≡◌, Some, length};
 ghost use Rattle.postfix_rules.specs.Fitting.{widths_at};
 ghost use Rattle.event_sets.specs.Sets.{set_view};
 
+use super::natives::INST;
 use event_sets::{EventSet, Refusal};
-use papi_base::{CompShape, EventRef, Mods, Native, Shape};
+use papi_base::{CompShape, EventRef, Native, Shape};
 use postfix_rules::PresetBook;
 use std::test::Fail;
 
 const COUNTERS: u32 = 30;
 
 const EVERY: u32 = (1 << COUNTERS) - 1;
-
-const PLAIN: Mods = Mods {
-    user: false,
-    kernel: false,
-    edge: false,
-    invert: false,
-    cmask: 0,
-};
 
 // One component of thirty counters.
 fn thirty_counters() -> Shape
@@ -40,13 +33,9 @@ fn native(event: u32) -> Native
     ensures allowed { result.allowed ≡ 1073741823 }
 {
     Native {
-        comp: 0,
         event,
-        select: 0xc0,
-        masks: 0,
-        umask: 0,
-        mods: PLAIN,
         allowed: EVERY,
+        ..INST
     }
 }
 
