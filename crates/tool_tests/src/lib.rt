@@ -2,14 +2,4 @@
 #![tactic(auto)]
 
 #[cfg(test)]
-mod counting_sink;
-#[cfg(test)]
-mod each_tool;
-#[cfg(test)]
-mod lab;
-#[cfg(test)]
-mod refused_memory;
-#[cfg(test)]
-mod soak_sum;
-#[cfg(test)]
-mod waiting_sources;
+mod tests;

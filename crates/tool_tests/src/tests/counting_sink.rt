@@ -1,5 +1,5 @@
 //! A sink that counts its writes: replies are gathered before they are written.
-use crate::lab::{ended, files_of};
+use super::lab::{ended, files_of};
 use papi_base::{Sink, WriteFail};
 use std::test::Fail;
 

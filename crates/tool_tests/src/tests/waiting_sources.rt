@@ -1,5 +1,5 @@
 //! Sources that wait for one another: the runs of threads on several workers go on at the same time.
-use crate::lab::{UNIT, ended};
+use super::lab::{UNIT, ended};
 use papi_base::{Failed, Files, MemSink, OpenFail, Source};
 use std::alloc::{AllocError, Global};
 use std::marker::Sync;

@@ -1,5 +1,5 @@
 //! Each tool by itself, once with ample memory.
-use crate::lab::{files_of, words_in};
+use super::lab::{files_of, words_in};
 use overflow_dispatch::{Handler, Recorder};
 use papi_base::MemSink;
 use papi_tools::{

@@ -1,13 +1,15 @@
 //! A unit, files in memory over it, and calls with handlers that nobody reads.
+ghost use Rattle.std.specs.Prelude.{◌≡◌, vec_len};
+
 use overflow_dispatch::{Handler, Recorder};
-use papi_base::{Ending, Files, MemFiles, Sink};
+use papi_base::{Ending, Files, MemFiles, Sink, THREADS};
 use papi_tools::{papi_main, status_number};
 use std::alloc::{AllocError, Global};
 use std::marker::{Send, Sync};
 use std::thread::Threads;
 
 /// A unit of two counters, with two events.
-pub(crate) const UNIT: &str = "COMPONENT,cpu,lab\n\
+pub(super) const UNIT: &str = "COMPONENT,cpu,lab\n\
 COUNTER,P0,16,P\n\
 COUNTER,P1,16,P\n\
 EVENT,INST_RETIRED,c0,P0 P1,Instructions retired\n\
@@ -17,7 +19,7 @@ const PRESETS: &str = "CPU,lab1\n\
 PRESET,PAPI_TOT_CYC,NOT_DERIVED,lab::CYCLES\n";
 
 /// The words of a line.
-pub(crate) fn words_in(alloc: Global, line: &str) -> Result<Vec<String>, AllocError> {
+pub(super) fn words_in(alloc: Global, line: &str) -> Result<Vec<String>, AllocError> {
     let mut words = Vec::new(alloc);
     for word in line.split(' ') {
         words.push(String::from_str(alloc, word)?)?;
@@ -39,7 +41,7 @@ fn add_file(
 }
 
 /// The unit, the presets, the script `s` and the stream `t`.
-pub(crate) fn files_of(alloc: Global, script: &str, stream: &str) -> Result<MemFiles, AllocError> {
+pub(super) fn files_of(alloc: Global, script: &str, stream: &str) -> Result<MemFiles, AllocError> {
     let mut tapes = Vec::new(alloc);
     add_file(alloc, &mut tapes, "lab.unit", UNIT)?;
     add_file(alloc, &mut tapes, "lab.presets", PRESETS)?;
@@ -48,8 +50,25 @@ pub(crate) fn files_of(alloc: Global, script: &str, stream: &str) -> Result<MemF
     Ok(MemFiles::new(alloc, tapes, 4096, Vec::new(alloc)))
 }
 
+/// How the words of a line end with these handlers.
+pub(super) fn ended_with<R: Threads + Sync, F: Files, K: Sink>(
+    rt: &R,
+    alloc: Global,
+    line: &str,
+    files: &mut F,
+    out: &mut K,
+    err: &mut K,
+    handlers: &mut Vec<Box<dyn Handler + Send>>,
+) -> Result<u8, AllocError>
+    requires { vec_len handlers.old ≡ THREADS }
+{
+    let words = words_in(alloc, line)?;
+    let status = papi_main(rt, alloc, &words, files, out, err, handlers);
+    Ok(status_number(status))
+}
+
 /// How the words of a line end.
-pub(crate) fn ended<R: Threads + Sync, F: Files, K: Sink>(
+pub(super) fn ended<R: Threads + Sync, F: Files, K: Sink>(
     rt: &R,
     alloc: Global,
     line: &str,
@@ -58,10 +77,8 @@ pub(crate) fn ended<R: Threads + Sync, F: Files, K: Sink>(
     err: &mut K,
 ) -> Result<u8, AllocError> {
     let mut handlers: Vec<Box<dyn Handler + Send>> = Vec::new(alloc);
-    for _thread in 0..64usize {
+    for _thread in 0..THREADS as usize {
         handlers.push(Box::new(alloc, Recorder::new(alloc))?)?;
     }
-    let words = words_in(alloc, line)?;
-    let status = papi_main(rt, alloc, &words, files, out, err, &mut handlers);
-    Ok(status_number(status))
+    ended_with(rt, alloc, line, files, out, err, &mut handlers)
 }

@@ -1,8 +1,7 @@
 //! A handler that is refused memory ends its own thread's job alone, and is not told twice.
-use crate::lab::{files_of, words_in};
+use super::lab::{ended_with, files_of};
 use overflow_dispatch::{Handler, Note, Recorder};
 use papi_base::MemSink;
-use papi_tools::{papi_main, status_number};
 use std::alloc::{AllocError, Global};
 use std::marker::{Send, Sync};
 use std::process::Abort;
@@ -80,17 +79,16 @@ fn check<R: Threads + Sync + Abort>(
     let mut files = files_of(alloc, script.as_str(), stream.as_str())?;
     let mut out = MemSink::new(alloc, 1000);
     let mut err = MemSink::new(alloc, 1000);
-    let words = words_in(alloc, words)?;
-    let status = papi_main(
+    let status = ended_with(
         rt,
         alloc,
-        &words,
+        words,
         &mut files,
         &mut out,
         &mut err,
         &mut handlers,
-    );
-    assert_eq!(rt; status_number(status), 4);
+    )?;
+    assert_eq!(rt; status, 4);
     assert!(rt; out.bytes().is_empty() && err.bytes().is_empty());
     let mut thread = 0u32;
     for handler in &handlers {

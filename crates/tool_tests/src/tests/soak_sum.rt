@@ -1,5 +1,5 @@
 //! The sum that a soak prints, beside the sum over its streams.
-use crate::lab::{ended, files_of};
+use super::lab::{ended, files_of};
 use papi_base::{MemSink, read_whole};
 use soak_input::{SOAK_THREADS, SoakSource};
 use std::str;
