@@ -4,7 +4,7 @@ ghost use Rattle.papi_c.specs.Called.{CodesName};
 ghost use Rattle.papi_c.specs.Numbers.{Answers, AnswersCount, TellsCount, code_listed, component_coded, counter_count, native_count, row_coded};
 ghost use Rattle.papi_c.specs.Placed.{ArePlaced, Listed, Lists, codes_of};
 
-use crate::handle::{EINVAL, ENOMEM, Handle, on_library};
+use crate::handle::{EINVAL, Handle, on_library, on_library_by_name};
 use crate::numbers::give;
 use papi_base::{Code, Events, code_number};
 use papi_calls::Library;
@@ -24,13 +24,8 @@ pub extern "C" fn kistalub_name_to_code(
 ) -> i32
     ensures { CodesName name.now h.old.library h.new.library result code.old code.new }
 {
-    let Ok(name) = std::str::from_utf8(name) else {
-        return EINVAL;
-    };
-    match on_library!(alloc, h, |library| library.code_of(name)) {
-        Ok(answer) => give(answer, code),
-        Err(_) => ENOMEM,
-    }
+    let answer = on_library_by_name!(alloc, h, name, |library| library.code_of(name));
+    give(answer, code)
 }
 
 // The codes of events, if there is room for all.

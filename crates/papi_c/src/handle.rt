@@ -116,3 +116,19 @@ macro_rules! on_library {
 }
 
 pub(crate) use on_library;
+
+/// What a call with a name gives on the library of a handle. If the name is not UTF-8 the function ends with PAPI_EINVAL, and if memory is
+/// refused with PAPI_ENOMEM.
+macro_rules! on_library_by_name {
+    ($alloc:ident, $h:ident, $name:ident, |$library:ident| $call:expr) => {{
+        let Ok($name) = std::str::from_utf8($name) else {
+            return $crate::handle::EINVAL;
+        };
+        let Ok(answer) = $crate::handle::on_library!($alloc, $h, |$library| $call) else {
+            return $crate::handle::ENOMEM;
+        };
+        answer
+    }};
+}
+
+pub(crate) use on_library_by_name;

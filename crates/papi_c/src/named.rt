@@ -2,7 +2,7 @@
 ghost use Rattle.papi_c.specs.Called.{CalledByName};
 ghost use Rattle.session_model.specs.declared.call.Call.TheVariants as call;
 
-use crate::handle::{EINVAL, ENOMEM, Handle, on_library};
+use crate::handle::{Handle, on_library_by_name};
 use crate::refusals::refusal_code;
 use papi_base::code_number;
 use std::alloc::Global;
@@ -12,13 +12,9 @@ use std::alloc::Global;
 pub extern "C" fn kistalub_add_named(alloc: Global, h: &mut Handle, set: u32, name: &[u8]) -> i32
     ensures { CalledByName name.now h.old.library h.new.library (λ e. call.Add set e) result }
 {
-    let Ok(name) = std::str::from_utf8(name) else {
-        return EINVAL;
-    };
-    match on_library!(alloc, h, |library| library.add_named(set, name)) {
-        Ok(Ok(())) => 0,
-        Ok(Err(refusal)) => code_number(refusal_code(refusal)),
-        Err(_) => ENOMEM,
+    match on_library_by_name!(alloc, h, name, |library| library.add_named(set, name)) {
+        Ok(()) => 0,
+        Err(refusal) => code_number(refusal_code(refusal)),
     }
 }
 
@@ -27,13 +23,7 @@ pub extern "C" fn kistalub_add_named(alloc: Global, h: &mut Handle, set: u32, na
 pub extern "C" fn kistalub_remove_named(alloc: Global, h: &mut Handle, set: u32, name: &[u8]) -> i32
     ensures { CalledByName name.now h.old.library h.new.library (λ e. call.Remove set e) result }
 {
-    let Ok(name) = std::str::from_utf8(name) else {
-        return EINVAL;
-    };
-    match on_library!(alloc, h, |library| library.remove_named(set, name)) {
-        Ok(code) => code_number(code),
-        Err(_) => ENOMEM,
-    }
+    code_number(on_library_by_name!(alloc, h, name, |library| library.remove_named(set, name)))
 }
 
 /// PAPI_overflow(3) of an event by its name, and a threshold of 0 clears it. PAPI_EINVAL if the name is not UTF-8, and PAPI_ENOMEM;
@@ -49,15 +39,10 @@ pub extern "C" fn kistalub_overflow_named(
     ensures { CalledByName name.now h.old.library h.new.library
         (λ e. call.Overflow set e threshold) result }
 {
-    let Ok(name) = std::str::from_utf8(name) else {
-        return EINVAL;
-    };
-    match on_library!(
+    code_number(on_library_by_name!(
         alloc,
         h,
+        name,
         |library| library.overflow_named(set, name, threshold)
-    ) {
-        Ok(code) => code_number(code),
-        Err(_) => ENOMEM,
-    }
+    ))
 }
