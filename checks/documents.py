@@ -130,7 +130,7 @@ def crates_in(path: Path) -> set[str]:
 @lru_cache(maxsize=None)
 def _names(file: Path, is_alone: bool = True) -> frozenset[str]:
     if file.is_dir():
-        inside = [*file.glob("src/*.rt"), *file.glob("specs/*.antt")]
+        inside = [*file.glob("src/**/*.rt"), *file.glob("specs/**/*.antt")]
         return frozenset().union(*(_names(path, False) for path in inside))
     text = file.read_text(encoding="utf-8") if file.exists() else ""
     if is_alone:
