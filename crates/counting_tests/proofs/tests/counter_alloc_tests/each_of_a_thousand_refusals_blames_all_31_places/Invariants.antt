@@ -1,5 +1,5 @@
 use Rattle.std.proofs.Common.{◌≡◌, length}
-use Rattle.counting_tests.proofs.tests.counter_alloc.each_of_a_thousand_refusals_blames_all_31_places.Given as goal
+use Rattle.counting_tests.proofs.tests.counter_alloc_tests.each_of_a_thousand_refusals_blames_all_31_places.Given as goal
 
 abbrev pub invariant-loop-place : goal.invariant-loop-place
 invariant-loop-place g l = record { counters : l.matching.counters ≡ 30; places : length l.matching.allowed ≡ l.place-counter }

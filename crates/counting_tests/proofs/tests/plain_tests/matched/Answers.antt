@@ -1,7 +1,7 @@
 use Rattle.std.proofs.Common.{◌∙◌, ap, arith, length}
 use Rattle.std.proofs.lemmas.List.{length_push}
 use Rattle.counter_alloc.specs.Matchings.{MatchingView}
-use Rattle.counting_tests.proofs.tests.plain.matched.Goals as goal
+use Rattle.counting_tests.proofs.tests.plain_tests.matched.Goals as goal
 
 pub add-requires-clause-in_range : goal.add-requires-clause-in_range
 add-requires-clause-in_range c = rw c.loop-mask.invariant.counters (omega arith)

@@ -1,6 +1,6 @@
 use Rattle.std.proofs.Common.{◌≡◌, All, vec_len}
 use Rattle.thread_session.specs.SessionView.{IsFresh}
-use Rattle.counting_tests.proofs.tests.plan_runner.ended_readers.Given as goal
+use Rattle.counting_tests.proofs.tests.plan_runner_tests.ended_readers.Given as goal
 
 abbrev pub invariant-loop-thread : goal.invariant-loop-thread
 invariant-loop-thread l =

@@ -1,7 +1,7 @@
 use Rattle.postfix_rules.specs.Presets.{Book}
 use Rattle.event_sets.specs.AtRest.{Widths}
 use Rattle.plan_runner.specs.Plans.{AreGood, AreThreads}
-use Rattle.counting_tests.proofs.tests.plan_runner.plan.Given as goal
+use Rattle.counting_tests.proofs.tests.plan_runner_tests.plan.Given as goal
 
 abbrev pub invariant-loop-thread : goal.invariant-loop-thread
 invariant-loop-thread l =

@@ -1,7 +1,7 @@
 use Rattle.std.proofs.Common.{rules, subst, sym}
 use Rattle.plan_runner.specs.Plans.{AreGood, AreThreads}
 use Rattle.plan_runner.proofs.Served.{good-push, threads-push}
-use Rattle.counting_tests.proofs.tests.plan_runner.plan.Goals as goal
+use Rattle.counting_tests.proofs.tests.plan_runner_tests.plan.Goals as goal
 
 pub loop-thread-preserved : goal.loop-thread-preserved
 loop-thread-preserved c =
