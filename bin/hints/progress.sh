@@ -44,8 +44,8 @@ tick() {
         part=
         program=$(program_below "$$")
         [ -z "$program" ] || part=$(part_read "$program")
-        printf '\r%s: %s s%s\033[K' "$1" "$(($(date +%s) - begun))" "$part"
         shown=1
+        printf '\r%s: %s s%s\033[K' "$1" "$(($(date +%s) - begun))" "$part"
         pause=1
     done
 } 2>/dev/null
