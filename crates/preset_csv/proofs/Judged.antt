@@ -8,7 +8,7 @@ use Rattle.postfix_rules.specs.declared.derived.TheConstants.{MOST_NATIVES}
 use Rattle.postfix_rules.specs.Faults.{FormulaView, IsFormula}
 use Rattle.postfix_rules.specs.Reading.{RefusedFormula, formula_of}
 use Rattle.postfix_rules.proofs.Refusals.{same_tokens}
-use Rattle.preset_csv.specs.Defs.{FitsKind, IsDef, IsNativeText}
+use Rattle.preset_csv.specs.Defs.{AreNatives, FitsKind, IsDef, IsNativeText}
 use Rattle.preset_csv.specs.Entries.{InfixJudging, def_entry, formula_entry, has_rate, judged_as, judged_by, kept_entry, kept_natives, typed_entry}
 use Rattle.preset_csv.specs.Lines.{Derivation}
 use Rattle.preset_csv.specs.Tables.{IsEntry}
@@ -28,13 +28,7 @@ read-agrees natives text f e =
     let t = (same_tokens (length natives) text f).0 e in
     (t.1, subst (λ (n : ℕ). IsFormula n f.tokens) (sym t.1) t.2)
 
--- one or more natives that can be written, and not too many
-pub record Ready (natives : List Text) : Type 0 where
-  pub each : AllByRecursion IsNativeText natives
-  pub some : 1 ≤ length natives
-  pub few : length natives ≤ MOST_NATIVES
-
-pub def-kept : (natives : List Text) (k : Kind) (f : Option FormulaView) → Ready natives → FitsKind k f natives → IsDef (record { kind = k; formula = f; natives = natives })
+pub def-kept : (natives : List Text) (k : Kind) (f : Option FormulaView) → AreNatives natives → FitsKind k f natives → IsDef (record { kind = k; formula = f; natives = natives })
 def-kept natives k f ready agrees = record { each = ready.each; some = ready.some; few = ready.few; agrees = agrees }
 
 abbrev pub Keeps : Result Entry PresetCause → Type 0
@@ -42,15 +36,15 @@ Keeps (Ok e) = IsEntry e
 Keeps (Err why) = ⊤
 
 -- the entry of a formula that agrees with the natives
-pub formula-kept : (natives : List Text) (o : Result FormulaView RefusedFormula) → Ready natives → ((f : FormulaView) → o ≡ Ok f → FitsKind kind.Postfix (Some f) natives) → Keeps (formula_entry natives o)
+pub formula-kept : (natives : List Text) (o : Result FormulaView RefusedFormula) → AreNatives natives → ((f : FormulaView) → o ≡ Ok f → FitsKind kind.Postfix (Some f) natives) → Keeps (formula_entry natives o)
 formula-kept natives (Ok f) ready agrees = def-kept natives kind.Postfix (Some f) ready (agrees f refl)
 formula-kept natives (Err refused) ready agrees = tt
 
 -- the entries of formulas in infix order can stand in a table
 abbrev pub InfixKept : InfixJudging → Type 0
-InfixKept judge = (formula : Text) (natives : List Text) → Ready natives → Keeps (judge formula natives)
+InfixKept judge = (formula : Text) (natives : List Text) → AreNatives natives → Keeps (judge formula natives)
 
-typed-kept : (judge : InfixJudging) → InfixKept judge → (t : DerivedType) (formula : Text) (natives : List Text) → Ready natives → Keeps (typed_entry judge t formula natives)
+typed-kept : (judge : InfixJudging) → InfixKept judge → (t : DerivedType) (formula : Text) (natives : List Text) → AreNatives natives → Keeps (typed_entry judge t formula natives)
 typed-kept judge k derived.NotDerived formula natives ready =
     cond_both (length natives == 1) (Ok (def_entry kind.NotDerived None natives)) (Ok entry.Uncomputed) Keeps (λ e. def-kept natives kind.NotDerived None ready (eqb-true (length natives) 1 e)) (λ e. tt)
 typed-kept judge k derived.Add formula natives ready = def-kept natives kind.Add None ready tt

@@ -26,6 +26,12 @@ pub record IsNativeText (t : Text) : Type 0 where
   pub whole : trimmed t ≡ t
   pub goes_on : ends_natives t ≡ false
 
+-- natives of which an entry may be computed: each can stand in a row, and there are from 1 to MOST_NATIVES
+pub record AreNatives (natives : List Text) : Type 0 where
+  pub each : AllByRecursion IsNativeText natives
+  pub some : 1 ≤ length natives
+  pub few : length natives ≤ MOST_NATIVES
+
 -- a formula stands exactly if the kind is `Postfix`, read with this number of natives; what is not derived has one native
 abbrev pub FitsKind : Kind → Option FormulaView → List Text → Type 0
 FitsKind kind.NotDerived None natives = length natives ≡ 1

@@ -4,11 +4,12 @@ ghost use Rattle.std.specs.Prelude.{◌≡◌};
 ghost use Rattle.preset_csv.specs.Presets as Presets;
 
 use postfix_rules::FormulaCause;
-use std::fmt;
 use table_rows::RowFault;
+use thiserror::Error;
 
 /// Why a row is refused, in the order in which the causes are tried.
-#[derive(Clone, Copy, Debug, PartialEq, Eq)]
+#[derive(Clone, Copy, Debug, PartialEq, Eq, Error)]
+#[error("{}", cause_text(*self))]
 pub enum PresetCause {
     /// A PRESET row above the first CPU row.
     NoCpu,
@@ -18,12 +19,6 @@ pub enum PresetCause {
     OverLimit,
     /// A text in postfix order that is not a formula over the row's natives.
     BadFormula(FormulaCause),
-}
-
-impl fmt::Display for PresetCause {
-    fn fmt<W: fmt::Write>(&self, f: &mut fmt::Formatter<W>) -> fmt::Result {
-        f.write_str(cause_text(*self))
-    }
 }
 
 /// Why a preset file is refused: its first faulty row, numbered from 1, with the row's first cause, or out of memory.

@@ -4,7 +4,7 @@ ghost use Rattle.std.specs.Prelude.{◌≡◌, ◌≤◌, Ok, map, length, strin
 ghost use Rattle.std.specs.List.{AllByRecursion};
 ghost use Rattle.csv.specs.Records.{fields_of};
 ghost use Rattle.postfix_rules.specs.declared.derived.TheConstants.{MOST_NATIVES};
-ghost use Rattle.preset_csv.specs.Defs.{IsNativeText};
+ghost use Rattle.preset_csv.specs.Defs.{AreNatives, IsNativeText};
 ghost use Rattle.preset_csv.specs.Entries as Entries;
 ghost use Rattle.preset_csv.specs.Lines.{derivation_of};
 ghost use Rattle.preset_csv.specs.Steps as Steps;
@@ -20,6 +20,9 @@ use crate::natives::row_natives;
 use postfix_rules::{FormulaFault, read_postfix};
 use std::alloc::Global;
 use table_rows::{ByteRecord, RowRefusal, printable_text, text_at, trimmed};
+
+/// The entry that a row gives, or why the row is refused.
+pub type Judgement = Result<Entry, RowRefusal<PresetCause>>;
 
 // Whether a token of a formula is `#`.
 #[tactic(auto, unfolding(crate::specs::Entries::has_rate))]
@@ -42,14 +45,8 @@ pub fn formula_refusal(fault: FormulaFault) -> RowRefusal<PresetCause>
 }
 
 // The entry of a formula in postfix order over natives.
-fn postfix_entry(
-    alloc: Global,
-    formula: &str,
-    natives: Vec<String>,
-) -> Result<Entry, RowRefusal<PresetCause>>
-    requires each { AllByRecursion IsNativeText (map string_bytes natives.items) }
-    requires some { 1 ≤ length natives.items }
-    requires few { length natives.items ≤ MOST_NATIVES }
+fn postfix_entry(alloc: Global, formula: &str, natives: Vec<String>) -> Judgement
+    requires { AreNatives (map string_bytes natives.items) }
     ensures { Judges (Entries.typed_entry Entries.uncomputed derived.Postfix formula.now
         (map string_bytes natives.items)) result }
 {
@@ -68,10 +65,8 @@ fn typed_entry<J: RowJudge>(
     derived_type: DerivedType,
     formula: &str,
     natives: Vec<String>,
-) -> Result<Entry, RowRefusal<PresetCause>>
-    requires each { AllByRecursion IsNativeText (map string_bytes natives.items) }
-    requires some { 1 ≤ length natives.items }
-    requires few { length natives.items ≤ MOST_NATIVES }
+) -> Judgement
+    requires { AreNatives (map string_bytes natives.items) }
     ensures { Judges (Entries.typed_entry J.infix_judged derived_type formula.now
         (map string_bytes natives.items)) result }
 {
@@ -97,7 +92,7 @@ fn kept_entry<J: RowJudge>(
     derived_type: DerivedType,
     formula: &str,
     natives: Vec<String>,
-) -> Result<Entry, RowRefusal<PresetCause>>
+) -> Judgement
     requires each { AllByRecursion IsNativeText (map string_bytes natives.items) }
     requires few { length natives.items ≤ MOST_NATIVES }
     ensures { Judges (Entries.kept_entry J.infix_judged derived_type formula.now
@@ -115,14 +110,8 @@ pub trait RowJudge {
     ghost infix_judged: { Entries.InfixJudging };
 
     /// The entry of such a formula over natives, or why its row is refused.
-    fn infix_entry(
-        alloc: Global,
-        formula: &str,
-        natives: Vec<String>,
-    ) -> Result<Entry, RowRefusal<PresetCause>>
-        requires each { AllByRecursion IsNativeText (map string_bytes natives.items) }
-        requires some { 1 ≤ length natives.items }
-        requires few { length natives.items ≤ MOST_NATIVES }
+    fn infix_entry(alloc: Global, formula: &str, natives: Vec<String>) -> Judgement
+        requires { AreNatives (map string_bytes natives.items) }
         ensures { Judges (infix_judged formula.now (map string_bytes natives.items)) result };
 }
 
@@ -132,11 +121,7 @@ pub struct PresetJudge;
 impl RowJudge for PresetJudge {
     ghost infix_judged = { Entries.uncomputed };
 
-    fn infix_entry(
-        _alloc: Global,
-        _formula: &str,
-        _natives: Vec<String>,
-    ) -> Result<Entry, RowRefusal<PresetCause>> {
+    fn infix_entry(_alloc: Global, _formula: &str, _natives: Vec<String>) -> Judgement {
         Ok(Entry::Uncomputed)
     }
 }
@@ -144,7 +129,7 @@ impl RowJudge for PresetJudge {
 /// The entry that a row gives by its derived type, its formula and its natives, whatever its first two fields say, or its
 /// first cause.
 #[tactic(auto, unfolding(crate::specs::Entries::judged_by, crate::specs::Lines::derivation_of))]
-pub fn judge<J: RowJudge>(alloc: Global, row: &ByteRecord) -> Result<Entry, RowRefusal<PresetCause>>
+pub fn judge<J: RowJudge>(alloc: Global, row: &ByteRecord) -> Judgement
     requires { IsReadRow (fields_of row.now) }
     ensures { Judges (Entries.judged_by J.infix_judged (derivation_of (fields_of row.now))) result }
 {

@@ -18,7 +18,7 @@ pub use crate::definition::Def;
 pub use crate::entry::Entry;
 pub use crate::fault::{PresetCause, PresetFault, cause_text};
 pub use crate::group::Group;
-pub use crate::judging::{RowJudge, formula_refusal, judge};
+pub use crate::judging::{Judgement, RowJudge, formula_refusal, judge};
 pub use crate::kind::{DerivedType, Kind, kind_text, type_of};
 pub use crate::natives::row_natives;
 pub use crate::reading::{Taken, all_missing, read_presets, take_line};

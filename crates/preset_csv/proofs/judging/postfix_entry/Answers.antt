@@ -1,13 +1,13 @@
-use Rattle.std.proofs.Common.{◌≡◌, ℕ, Ok, map, length, string_bytes, subst, arith}
+use Rattle.std.proofs.Common.{◌≡◌, ℕ, Some, Ok, map, length, string_bytes, subst, arith}
 use Rattle.std.proofs.lemmas.List.{length-map}
 use Rattle.postfix_rules.specs.Reading.{formula_of}
-use Rattle.preset_csv.proofs.Judged.{read-agrees}
+use Rattle.preset_csv.specs.declared.kind.Kind.TheVariants as kind
+use Rattle.preset_csv.proofs.Judged.{def-kept, read-agrees}
 use Rattle.preset_csv.proofs.judging.postfix_entry.Goals as goal
 
 pub new-requires : goal.new-requires
 new-requires c =
     let natives = map string_bytes c.args.natives.items in
-    let n : length natives ≡ length c.args.natives.items = length-map c.args.natives.items string_bytes in
-    let count : c.len.result ≡ length natives = omega (arith, n, c.len.ensures) in
+    let count : c.len.result ≡ length natives = omega (arith, length-map c.args.natives.items string_bytes, c.len.ensures) in
     let read = subst (λ (k : ℕ). formula_of k c.args.formula.now ≡ Ok c.in-Ok.formula) count c.in-Ok.ensures.read in
-    record { each = c.requires.each; some = omega (arith, n, c.requires.some); few = omega (arith, n, c.requires.few); agrees = read-agrees natives c.args.formula.now c.in-Ok.formula read }
+    def-kept natives kind.Postfix (Some c.in-Ok.formula) c.requires (read-agrees natives c.args.formula.now c.in-Ok.formula read)
