@@ -4,9 +4,8 @@ ghost use Rattle.std.specs.Prelude.{◌≡◌};
 ghost use Rattle.user_events.specs.Entries as Entries;
 
 use postfix_rules::read_infix;
-use preset_csv::{Def, Entry, Kind, PresetCause, RowJudge, formula_refusal};
+use preset_csv::{Def, Entry, Judgement, Kind, RowJudge, formula_refusal};
 use std::alloc::Global;
-use table_rows::RowRefusal;
 
 // Whether a formula has a `#`.
 fn has_rate(formula: &[u8]) -> bool
@@ -21,11 +20,7 @@ pub struct EventJudge;
 impl RowJudge for EventJudge {
     ghost infix_judged = { Entries.infix_entry };
 
-    fn infix_entry(
-        alloc: Global,
-        formula: &str,
-        natives: Vec<String>,
-    ) -> Result<Entry, RowRefusal<PresetCause>> {
+    fn infix_entry(alloc: Global, formula: &str, natives: Vec<String>) -> Judgement {
         if has_rate(formula.as_bytes()) {
             return Ok(Entry::Uncomputed);
         }

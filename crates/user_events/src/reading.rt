@@ -18,8 +18,8 @@ use crate::event::{MOST_USER_EVENTS, UserEvent, is_event_name, place_of, put_eve
 use crate::extended::Extended;
 use crate::judging::EventJudge;
 use preset_csv::{
-    Entry, Group, PresetCause, PresetFault, PresetTable, Row, Taken, all_missing, judge, row_of,
-    take_line,
+    Group, Judgement, PresetCause, PresetFault, PresetTable, Row, Taken, all_missing, judge,
+    row_of, take_line,
 };
 use std::alloc::{AllocError, Global};
 use table_rows::{ByteRecord, RowRefusal, TableKind, printable_text, read_table, text_at};
@@ -45,7 +45,7 @@ fn is_too_many(events: &[UserEvent], name: &str) -> bool
 }
 
 // The refusal of a row that would add one name too many.
-fn over_limit(judged: Result<Entry, RowRefusal<PresetCause>>) -> RowRefusal<PresetCause>
+fn over_limit(judged: Judgement) -> RowRefusal<PresetCause>
     ensures { IsOverLimit judged result }
 {
     match judged {
