@@ -41,6 +41,13 @@ rule_of kind.Sub formula = rule.Sub
 rule_of kind.Postfix (Some formula) = rule.Postfix formula
 rule_of k formula = rule.Plain
 
+-- the kind of the events that have a rule
+abbrev pub kind_of : Rule → Kind
+kind_of rule.Plain = kind.NotDerived
+kind_of rule.Sum = kind.Add
+kind_of rule.Sub = kind.Sub
+kind_of (rule.Postfix formula) = kind.Postfix
+
 -- what is derived of natives of one component; an event set counts on one alone, so of others nothing is derived
 abbrev pub derived_if : Bool → List Native → Rule → Option DerivedView
 derived_if together natives r = if together then Some (record { natives = natives; rule = r }) else None

@@ -41,6 +41,18 @@ fn rule_of(kind: Kind, formula: Option<Formula>) -> Rule
     }
 }
 
+/// The kind of the events that have a rule.
+pub fn kind_of(rule: &Rule) -> Kind
+    ensures kind { result ≡ Books.kind_of rule.now }
+{
+    match rule {
+        Rule::Plain => Kind::NotDerived,
+        Rule::Sum => Kind::Add,
+        Rule::Sub => Kind::Sub,
+        Rule::Postfix(_) => Kind::Postfix,
+    }
+}
+
 // What a computed preset derives, if it is available.
 fn derived_of(tables: &Tables, def: Def) -> Option<Derived>
     ensures derived { result ≡ Books.derived_of tables.now def }

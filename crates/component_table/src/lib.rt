@@ -8,4 +8,5 @@ mod looking_up;
 pub mod native_codes;
 
 pub use catalog::Catalog;
+pub use derivation::kind_of;
 pub use native_codes::{MOST_MENTIONED, NativeCodes};
