@@ -31,6 +31,10 @@ on_words = tt
 abbrev answers : List (List Text × Option Command) → Type 0
 answers rows = map (λ (r : List Text × Option Command). form r.0) rows ≡ map (λ (r : List Text × Option Command). r.1) rows
 
+-- the words of a tool on the lab unit
+abbrev on_lab : Text → List Text → List Text
+on_lab tool words = tool ∷ codes "-U" ∷ codes "lab.unit" ∷ words
+
 abbrev lab_run : Text → List Text → Command
 lab_run unit streams = Run (record { unit = unit; presets = None; workers = 1; notes = false; script = codes "s"; streams = streams })
 
@@ -43,7 +47,7 @@ run_with [] = codes "s" ∷ []
 run_with (w ∷ ws) = w ∷ run_with ws
 
 abbrev run_words : List Text → List Text
-run_words more = codes "papi_run" ∷ codes "-U" ∷ codes "lab.unit" ∷ run_with more
+run_words more = on_lab (codes "papi_run") (run_with more)
 
 abbrev asked_run : Option PresetWords → Bool → Option Command
 asked_run presets notes = Some (Run (record { unit = codes "lab.unit"; presets = presets; workers = 1; notes = notes; script = codes "s"; streams = [] }))
@@ -57,7 +61,7 @@ streams zero = []
 streams (suc n) = codes "t" ∷ streams n
 
 abbrev streams_run : ℕ → List Text
-streams_run n = codes "papi_run" ∷ codes "-U" ∷ codes "lab.unit" ∷ codes "s" ∷ streams n
+streams_run n = on_lab (codes "papi_run") (codes "s" ∷ streams n)
 
 run : answers (
     (codes "papi_run" ∷ codes "-U" ∷ codes "lab.unit" ∷ codes "s" ∷ [], Some (lab_run (codes "lab.unit") []))
@@ -154,17 +158,14 @@ natives = refl
 abbrev lab_chooser : Option PresetWords → EventKind → List Text → Option Command
 lab_chooser presets kind events = Some (EventChooser (record { unit = codes "lab.unit"; presets = presets; kind = kind; events = events }))
 
-abbrev chooser_words_of : List Text → List Text
-chooser_words_of words = codes "papi_event_chooser" ∷ codes "-U" ∷ codes "lab.unit" ∷ words
-
 chooser : answers (
-    (chooser_words_of (codes "NATIVE" ∷ codes "BR_INST" ∷ codes "REF" ∷ []), lab_chooser None Native (codes "BR_INST" ∷ codes "REF" ∷ []))
-    ∷ (chooser_words_of (codes "PRESET" ∷ codes "-Clab2" ∷ codes "MEM" ∷ codes "-P" ∷ codes "p" ∷ codes "--" ∷ codes "-x" ∷ []), lab_chooser (lab_presets (codes "lab2")) Preset (codes "MEM" ∷ codes "-x" ∷ []))
-    ∷ (chooser_words_of (codes "native" ∷ codes "BR_INST" ∷ []), None)
-    ∷ (chooser_words_of (codes "NATIVE" ∷ []), None)
-    ∷ (chooser_words_of (codes "-P" ∷ codes "p" ∷ codes "PRESET" ∷ codes "MEM" ∷ []), None)
-    ∷ (chooser_words_of (codes "NATIVE" ∷ streams 32), lab_chooser None Native (streams 32))
-    ∷ (chooser_words_of (codes "NATIVE" ∷ streams 33), None)
+    (on_lab (codes "papi_event_chooser") (codes "NATIVE" ∷ codes "BR_INST" ∷ codes "REF" ∷ []), lab_chooser None Native (codes "BR_INST" ∷ codes "REF" ∷ []))
+    ∷ (on_lab (codes "papi_event_chooser") (codes "PRESET" ∷ codes "-Clab2" ∷ codes "MEM" ∷ codes "-P" ∷ codes "p" ∷ codes "--" ∷ codes "-x" ∷ []), lab_chooser (lab_presets (codes "lab2")) Preset (codes "MEM" ∷ codes "-x" ∷ []))
+    ∷ (on_lab (codes "papi_event_chooser") (codes "native" ∷ codes "BR_INST" ∷ []), None)
+    ∷ (on_lab (codes "papi_event_chooser") (codes "NATIVE" ∷ []), None)
+    ∷ (on_lab (codes "papi_event_chooser") (codes "-P" ∷ codes "p" ∷ codes "PRESET" ∷ codes "MEM" ∷ []), None)
+    ∷ (on_lab (codes "papi_event_chooser") (codes "NATIVE" ∷ streams 32), lab_chooser None Native (streams 32))
+    ∷ (on_lab (codes "papi_event_chooser") (codes "NATIVE" ∷ streams 33), None)
     ∷ [])
 unfolding on_words
 chooser = refl
@@ -199,15 +200,12 @@ lab_profil thread set index streams = Some (Profil (record {
   streams = streams;
 }))
 
-abbrev profil_words_of : List Text → List Text
-profil_words_of words = codes "papi_profil" ∷ codes "-U" ∷ codes "lab.unit" ∷ words
-
 profil : answers (
-    (profil_words_of (codes "-M" ∷ codes "m" ∷ codes "s" ∷ codes "t0" ∷ []), lab_profil 0 0 0 (codes "t0" ∷ []))
-    ∷ (profil_words_of (codes "s" ∷ codes "--thread=63" ∷ codes "--set" ∷ codes "63" ∷ codes "-Mm" ∷ codes "--index" ∷ codes "31" ∷ []), lab_profil 63 63 31 [])
-    ∷ (profil_words_of (codes "s" ∷ []), None)
-    ∷ (profil_words_of (codes "-Mm" ∷ codes "--thread=64" ∷ codes "s" ∷ []), None)
-    ∷ (profil_words_of (codes "-Mm" ∷ codes "--index=32" ∷ codes "s" ∷ []), None)
+    (on_lab (codes "papi_profil") (codes "-M" ∷ codes "m" ∷ codes "s" ∷ codes "t0" ∷ []), lab_profil 0 0 0 (codes "t0" ∷ []))
+    ∷ (on_lab (codes "papi_profil") (codes "s" ∷ codes "--thread=63" ∷ codes "--set" ∷ codes "63" ∷ codes "-Mm" ∷ codes "--index" ∷ codes "31" ∷ []), lab_profil 63 63 31 [])
+    ∷ (on_lab (codes "papi_profil") (codes "s" ∷ []), None)
+    ∷ (on_lab (codes "papi_profil") (codes "-Mm" ∷ codes "--thread=64" ∷ codes "s" ∷ []), None)
+    ∷ (on_lab (codes "papi_profil") (codes "-Mm" ∷ codes "--index=32" ∷ codes "s" ∷ []), None)
     ∷ [])
 unfolding on_words
 profil = refl
@@ -215,26 +213,17 @@ profil = refl
 -- ---- `papi_regions`
 
 abbrev lab_regions : List Text → List Text → Option Command
-lab_regions events streams = Some (Regions (record {
-  unit = codes "lab.unit";
-  presets = None;
-  events = events;
-  workers = 1;
-  script = codes "s";
-  streams = streams;
-}))
-
-abbrev regions_words_of : List Text → List Text
-regions_words_of words = codes "papi_regions" ∷ codes "-U" ∷ codes "lab.unit" ∷ words
+lab_regions events streams =
+    Some (Regions (record { unit = codes "lab.unit"; presets = None; events = events; workers = 1; script = codes "s"; streams = streams }))
 
 regions : answers (
-    (regions_words_of (codes "--events" ∷ codes "INST_RETIRED,lab::CYCLES" ∷ codes "s" ∷ codes "t0" ∷ []), lab_regions (codes "INST_RETIRED" ∷ codes "lab::CYCLES" ∷ []) (codes "t0" ∷ []))
-    ∷ (regions_words_of (codes "s" ∷ []), None)
-    ∷ (regions_words_of (codes "--events=" ∷ codes "s" ∷ []), None)
-    ∷ (regions_words_of (codes "--events=A,,B" ∷ codes "s" ∷ []), None)
-    ∷ (regions_words_of (codes "--events=A," ∷ codes "s" ∷ []), None)
-    ∷ (regions_words_of (codes "--events" ∷ codes "A, B" ∷ codes "s" ∷ []), None)
-    ∷ (regions_words_of (codes "--events=a,b,c,d,e,f,g,h,i,j,k,l,m,n,o,p,q,r,s,t,u,v,w,x,y,z,A,B,C,D,E,F,G" ∷ codes "s" ∷ []), None)
+    (on_lab (codes "papi_regions") (codes "--events" ∷ codes "INST_RETIRED,lab::CYCLES" ∷ codes "s" ∷ codes "t0" ∷ []), lab_regions (codes "INST_RETIRED" ∷ codes "lab::CYCLES" ∷ []) (codes "t0" ∷ []))
+    ∷ (on_lab (codes "papi_regions") (codes "s" ∷ []), None)
+    ∷ (on_lab (codes "papi_regions") (codes "--events=" ∷ codes "s" ∷ []), None)
+    ∷ (on_lab (codes "papi_regions") (codes "--events=A,,B" ∷ codes "s" ∷ []), None)
+    ∷ (on_lab (codes "papi_regions") (codes "--events=A," ∷ codes "s" ∷ []), None)
+    ∷ (on_lab (codes "papi_regions") (codes "--events" ∷ codes "A, B" ∷ codes "s" ∷ []), None)
+    ∷ (on_lab (codes "papi_regions") (codes "--events=a,b,c,d,e,f,g,h,i,j,k,l,m,n,o,p,q,r,s,t,u,v,w,x,y,z,A,B,C,D,E,F,G" ∷ codes "s" ∷ []), None)
     ∷ [])
 unfolding on_words
 regions = refl

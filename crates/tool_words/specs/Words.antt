@@ -18,6 +18,11 @@ abbrev pub unless_refused : {A : Type 0} → Kinds → Option A → Option A
 unless_refused [] given = given
 unless_refused (k ∷ ks) given = None
 
+-- what two values come to, if both are there
+abbrev pub of_both : {A B C : Type 0} → (A → B → C) → Option A → Option B → Option C
+of_both made (Some a) (Some b) = Some (made a b)
+of_both made _ _ = None
+
 -- the form of a tool's words: its arguments in order, of which `clap` says exactly which words they take, and what their matches ask for
 pub record ToolForm (A : Type 0) : Type 0 where
   pub arguments : List Argument

@@ -1,4 +1,5 @@
 //! The words of `papi_avail`: `-U UNIT -P PRESETS -C CPU [-a] [-e NAME]`.
+#![tactic(auto, unfolding(crate::specs::AvailForm::avail_form))]
 
 ghost use Rattle.tool_words.specs.AvailForm.{avail_form};
 
@@ -24,12 +25,10 @@ pub struct AvailWords {
 impl ToolWords for AvailWords {
     ghost form = { avail_form };
 
-    #[tactic(auto, unfolding(crate::specs::AvailForm::avail_form))]
     fn arguments() -> &'static [Argument] {
         &[Unit, NeededPresets, NeededCpu, Available, Event]
     }
 
-    #[tactic(auto, unfolding(crate::specs::AvailForm::avail_form))]
     fn asked_by(alloc: Global, matches: &ArgMatches<'_>) -> Result<AvailWords, WordsFault> {
         Ok(AvailWords {
             unit: text_needed(alloc, matches, "unit")?,

@@ -1,4 +1,5 @@
 //! The words of `papi_event_chooser`: `-U UNIT [-P PRESETS -C CPU] NATIVE EVENT..`, or `PRESET` in place of `NATIVE`.
+#![tactic(auto, unfolding(crate::specs::ChooserForm::chooser_form))]
 
 ghost use Rattle.std.specs.Prelude.{codes, option_and_then};
 ghost use Rattle.clap.specs.Words.{all_of, first_of, found_of, rows_of};
@@ -67,12 +68,10 @@ fn events_asked(alloc: Global, matches: &ArgMatches<'_>) -> Result<Texts, WordsF
 impl ToolWords for ChooserWords {
     ghost form = { chooser_form };
 
-    #[tactic(auto, unfolding(crate::specs::ChooserForm::chooser_form))]
     fn arguments() -> &'static [Argument] {
         &[Unit, Presets, Cpu, Kind, Events]
     }
 
-    #[tactic(auto, unfolding(crate::specs::ChooserForm::chooser_form))]
     fn asked_by(alloc: Global, matches: &ArgMatches<'_>) -> Result<ChooserWords, WordsFault> {
         Ok(ChooserWords {
             unit: text_needed(alloc, matches, "unit")?,

@@ -1,4 +1,5 @@
 //! The words of `papi_decode`: `-U UNIT -P PRESETS -C CPU [-a]`.
+#![tactic(auto, unfolding(crate::specs::DecodeForm::decode_form))]
 
 ghost use Rattle.tool_words.specs.DecodeForm.{decode_form};
 
@@ -23,12 +24,10 @@ pub struct DecodeWords {
 impl ToolWords for DecodeWords {
     ghost form = { decode_form };
 
-    #[tactic(auto, unfolding(crate::specs::DecodeForm::decode_form))]
     fn arguments() -> &'static [Argument] {
         &[Unit, NeededPresets, NeededCpu, Available]
     }
 
-    #[tactic(auto, unfolding(crate::specs::DecodeForm::decode_form))]
     fn asked_by(alloc: Global, matches: &ArgMatches<'_>) -> Result<DecodeWords, WordsFault> {
         Ok(DecodeWords {
             unit: text_needed(alloc, matches, "unit")?,

@@ -1,10 +1,11 @@
 //! The words of `papi_encode`: `-U UNIT NAME..`.
+#![tactic(auto, unfolding(crate::specs::EncodeForm::encode_form))]
 
 ghost use Rattle.tool_words.specs.EncodeForm.{encode_form};
 
 use crate::argument::Argument::{self, Names, Unit};
 use crate::fault::WordsFault;
-use crate::matches::{text_needed, texts_needed};
+use crate::matches::{copied, text_needed, texts_of};
 use crate::texts::Texts;
 use crate::tool::ToolWords;
 use clap::ArgMatches;
@@ -22,16 +23,15 @@ pub struct EncodeWords {
 impl ToolWords for EncodeWords {
     ghost form = { encode_form };
 
-    #[tactic(auto, unfolding(crate::specs::EncodeForm::encode_form))]
     fn arguments() -> &'static [Argument] {
         &[Unit, Names]
     }
 
-    #[tactic(auto, unfolding(crate::specs::EncodeForm::encode_form))]
     fn asked_by(alloc: Global, matches: &ArgMatches<'_>) -> Result<EncodeWords, WordsFault> {
+        let names = texts_of(matches, "names").ok_or(WordsFault::BadWords)?;
         Ok(EncodeWords {
             unit: text_needed(alloc, matches, "unit")?,
-            names: texts_needed(alloc, matches, "names")?,
+            names: copied(alloc, names)?,
         })
     }
 }

@@ -96,18 +96,6 @@ pub(crate) fn text_asked(
     }
 }
 
-// Copies of all values of an argument that has some.
-pub(crate) fn texts_needed(
-    alloc: Global,
-    matches: &ArgMatches<'_>,
-    id: &str,
-) -> Result<Texts, WordsFault>
-    ensures { Answers result (all_of id.now (rows_of (found_of matches.now))) }
-{
-    let texts = texts_of(matches, id).ok_or(WordsFault::BadWords)?;
-    Ok(copied(alloc, texts)?)
-}
-
 // The texts, copied.
 pub(crate) fn copied(alloc: Global, texts: &[&str]) -> Result<Texts, AllocError>
     ensures { IfOk result (λ all. all ≡ map (λ s. s.now) texts.now) }

@@ -1,4 +1,5 @@
 //! The words of `papi_native_avail`: `-U UNIT [-e NAME] [-i STR] [-x STR] [--noumasks]`.
+#![tactic(auto, unfolding(crate::specs::NativeAvailForm::native_avail_form))]
 
 ghost use Rattle.tool_words.specs.NativeAvailForm.{native_avail_form};
 
@@ -24,12 +25,10 @@ pub struct NativeAvailWords {
 impl ToolWords for NativeAvailWords {
     ghost form = { native_avail_form };
 
-    #[tactic(auto, unfolding(crate::specs::NativeAvailForm::native_avail_form))]
     fn arguments() -> &'static [Argument] {
         &[Unit, Event, Included, Excluded, NoUmasks]
     }
 
-    #[tactic(auto, unfolding(crate::specs::NativeAvailForm::native_avail_form))]
     fn asked_by(alloc: Global, matches: &ArgMatches<'_>) -> Result<NativeAvailWords, WordsFault> {
         Ok(NativeAvailWords {
             unit: text_needed(alloc, matches, "unit")?,

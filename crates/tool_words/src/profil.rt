@@ -1,5 +1,6 @@
 //! The words of `papi_profil`:
 //! `-U UNIT -M MAP [-P PRESETS -C CPU] [--thread T] [--set S] [--index I] [--workers N] SCRIPT [STREAM..]`.
+#![tactic(auto, unfolding(crate::specs::ProfilForm::profil_form))]
 
 ghost use Rattle.tool_words.specs.ProfilForm.{profil_form};
 
@@ -45,7 +46,6 @@ pub struct ProfilWords {
 impl ToolWords for ProfilWords {
     ghost form = { profil_form };
 
-    #[tactic(auto, unfolding(crate::specs::ProfilForm::profil_form))]
     fn arguments() -> &'static [Argument] {
         &[
             Unit,
@@ -61,7 +61,6 @@ impl ToolWords for ProfilWords {
         ]
     }
 
-    #[tactic(auto, unfolding(crate::specs::ProfilForm::profil_form))]
     fn asked_by(alloc: Global, matches: &ArgMatches<'_>) -> Result<ProfilWords, WordsFault> {
         let asked = script_asked(alloc, matches)?;
         Ok(ProfilWords {

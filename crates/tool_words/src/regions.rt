@@ -1,5 +1,6 @@
 //! The words of `papi_regions`:
 //! `-U UNIT [-P PRESETS -C CPU] --events LIST [--workers N] REGIONS [STREAM..]`.
+#![tactic(auto, unfolding(crate::specs::RegionsForm::regions_form))]
 
 ghost use Rattle.std.specs.Prelude.{◌≡◌, ◌≤◌, IfOk, codes, length, map, option_and_then};
 ghost use Rattle.std.specs.List.{list_all};
@@ -133,12 +134,10 @@ fn events_asked(alloc: Global, matches: &ArgMatches<'_>) -> Result<EventTexts, W
 impl ToolWords for RegionsWords {
     ghost form = { regions_form };
 
-    #[tactic(auto, unfolding(crate::specs::RegionsForm::regions_form))]
     fn arguments() -> &'static [Argument] {
         &[Unit, Presets, Cpu, EventList, WorkerCount, Script, Streams]
     }
 
-    #[tactic(auto, unfolding(crate::specs::RegionsForm::regions_form))]
     fn asked_by(alloc: Global, matches: &ArgMatches<'_>) -> Result<RegionsWords, WordsFault> {
         let events = events_asked(alloc, matches)?;
         let asked = script_asked(alloc, matches)?;

@@ -1,4 +1,5 @@
 //! The words of `papi_run`: `-U UNIT [-P PRESETS -C CPU] [--workers N] [--notes] SCRIPT [STREAM..]`.
+#![tactic(auto, unfolding(crate::specs::RunForm::run_form))]
 
 ghost use Rattle.tool_words.specs.RunForm.{run_form};
 
@@ -29,12 +30,10 @@ pub struct RunWords {
 impl ToolWords for RunWords {
     ghost form = { run_form };
 
-    #[tactic(auto, unfolding(crate::specs::RunForm::run_form))]
     fn arguments() -> &'static [Argument] {
         &[Unit, Presets, Cpu, WorkerCount, Notes, Script, Streams]
     }
 
-    #[tactic(auto, unfolding(crate::specs::RunForm::run_form))]
     fn asked_by(alloc: Global, matches: &ArgMatches<'_>) -> Result<RunWords, WordsFault> {
         let asked = script_asked(alloc, matches)?;
         Ok(RunWords {

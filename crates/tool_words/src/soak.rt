@@ -1,4 +1,5 @@
 //! The words of `papi_soak`: `N [--workers N]`.
+#![tactic(auto, unfolding(crate::specs::SoakForm::soak_form))]
 
 ghost use Rattle.tool_words.specs.SoakForm.{soak_form};
 
@@ -26,12 +27,10 @@ pub struct SoakWords {
 impl ToolWords for SoakWords {
     ghost form = { soak_form };
 
-    #[tactic(auto, unfolding(crate::specs::SoakForm::soak_form))]
     fn arguments() -> &'static [Argument] {
         &[WorkerCount, RoundCount]
     }
 
-    #[tactic(auto, unfolding(crate::specs::SoakForm::soak_form))]
     fn asked_by(_alloc: Global, matches: &ArgMatches<'_>) -> Result<SoakWords, WordsFault> {
         Ok(SoakWords {
             rounds: count_asked(matches, "rounds")?,
