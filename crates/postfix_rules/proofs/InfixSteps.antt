@@ -10,12 +10,12 @@ use Rattle.postfix_rules.specs.declared.token.Operator.{Operator}
 use Rattle.postfix_rules.specs.declared.token.Operator.TheVariants as op
 use Rattle.postfix_rules.specs.declared.token.Token.{Token}
 use Rattle.postfix_rules.specs.declared.token.Token.TheVariants as token
-use Rattle.postfix_rules.specs.Infix.{Written, Number, Native, Inside, tree_of, wording}
+use Rattle.postfix_rules.specs.Infix.{IsPhrase, Written, Number, Native, Inside, factor, tree_of, wording}
 use Rattle.postfix_rules.specs.InfixFaults.{begins_factor, infix_cause, open_after, place_of_operand}
-use Rattle.postfix_rules.specs.InfixReading.{OrderView, operator_tokens, order_cause, order_moved}
+use Rattle.postfix_rules.specs.InfixReading.{OrderView, operand_moved, operator_tokens, order_cause, order_moved, sum_moved}
 use Rattle.postfix_rules.specs.Trees.{spelling}
 use Rattle.postfix_rules.proofs.Spelled.{kept_if}
-use Rattle.postfix_rules.proofs.InfixStates.{Frame, Held, IsFine, State, by, done, frame, held, held_tokens, held_words, joined, joined-sum, joined-term}
+use Rattle.postfix_rules.proofs.InfixStates.{Frame, Held, IsAdding, IsFine, Small, State, by, done, frame, held, held_tokens, held_words, joined, joined-sum, joined-term}
 use Rattle.postfix_rules.proofs.InfixStates.{joined-tokens, joined-words, order_of, outer_tokens, outer_words, state_words, stepped, waits, wants}
 
 -- ---- lists
@@ -127,26 +127,37 @@ opens-none natives depth e = cc e
 wrong : {A : Type 0} → false ≡ true → A
 wrong e = cc e
 
+-- a constant or a native is a factor more
+operand : (natives : ℕ) (outer : List Frame) (s p : Option Held) (w : Written) (t : Token) → IsFine natives (wants outer s p) → IsPhrase factor w → Small natives w
+    → wording w ≡ sign.Token t ∷ [] → spelling (tree_of w) ≡ t ∷ []
+    → (state_words (done outer s (joined p w)) ≡ state_words (wants outer s p) ++ (sign.Token t ∷ []))
+    × (operand_moved (order_of (wants outer s p)) t ≡ order_of (done outer s (joined p w)))
+    × IsFine natives (done outer s (joined p w))
+operand natives outer s p w t h alone small words tokens =
+    let term = joined-term natives p w h.2 alone small in (
+      leaf-words outer s p w (sign.Token t) words,
+      ap (order-with (waits outer) (record { sum = by s; product = None }) false) (leaf-tokens outer s p w t tokens),
+      (h.0, h.1, term.0, term.1),
+    )
+
+-- a sum that waits for a term more
+adding : (natives : ℕ) (outer : List Frame) (s : Option Held) (w : Written) (o : Operator) → IsFine natives (done outer s w) → IsAdding o
+    → (sum_moved (order_of (done outer s w)) o ≡ order_of (wants outer (Some (held (joined s w) o)) None))
+    × IsFine natives (wants outer (Some (held (joined s w) o)) None)
+adding natives outer s w o h is =
+    let whole = joined-sum natives s w h.1 h.2 h.3 in (
+      ap (order-with (waits outer) (record { sum = Some o; product = None }) true) (sum-tokens outer s w),
+      (h.0, (whole.0, is, whole.1), tt),
+    )
+
 pub moves : (natives : ℕ) (s : State) (t : InfixToken) → IsFine natives s → order_cause natives (order_of s) (Some t) ≡ None → Moves natives s t
 unfolding order_moved spelling
 moves natives (wants outer s p) (sign.Token (token.Constant n)) h e =
-    let small = small-number natives n true (length (waits outer)) e in
-    let term = joined-term natives p (Number n) h.2 tt small.0 in record {
-      words = leaf-words outer s p (Number n) (sign.Token (token.Constant n)) refl;
-      order = ap (order-with (waits outer) (record { sum = by s; product = None }) false) (leaf-tokens outer s p (Number n) (token.Constant n) refl);
-      fine = (h.0, h.1, term.0, term.1);
-      must = refl;
-      depth = refl;
-    }
+    let made = operand natives outer s p (Number n) (token.Constant n) h tt (small-number natives n true (length (waits outer)) e).0 refl refl in
+    record { words = made.0; order = made.1; fine = made.2; must = refl; depth = refl }
 moves natives (wants outer s p) (sign.Token (token.Native i)) h e =
-    let small = small-native natives i true (length (waits outer)) e in
-    let term = joined-term natives p (Native i) h.2 tt small.0 in record {
-      words = leaf-words outer s p (Native i) (sign.Token (token.Native i)) refl;
-      order = ap (order-with (waits outer) (record { sum = by s; product = None }) false) (leaf-tokens outer s p (Native i) (token.Native i) refl);
-      fine = (h.0, h.1, term.0, term.1);
-      must = refl;
-      depth = refl;
-    }
+    let made = operand natives outer s p (Native i) (token.Native i) h tt (small-native natives i true (length (waits outer)) e).0 refl refl in
+    record { words = made.0; order = made.1; fine = made.2; must = refl; depth = refl }
 moves natives (wants outer s p) (sign.Token (token.Operator o)) h e = absurd (after-operand natives o (length (waits outer)) e)
 moves natives (wants outer s p) sign.Open h e = record {
   words = open-words outer s p;
@@ -160,21 +171,11 @@ moves natives (wants outer s p) sign.Close h e = absurd (closes-none natives (le
 moves natives (done outer s w) (sign.Token (token.Constant n)) h e = wrong (small-number natives n false (length (waits outer)) e).1
 moves natives (done outer s w) (sign.Token (token.Native i)) h e = wrong (small-native natives i false (length (waits outer)) e).1
 moves natives (done outer s w) (sign.Token (token.Operator op.Plus)) h e =
-    let whole = joined-sum natives s w h.1 h.2 h.3 in record {
-      words = sum-words outer s w op.Plus;
-      order = ap (order-with (waits outer) (record { sum = Some op.Plus; product = None }) true) (sum-tokens outer s w);
-      fine = (h.0, (whole.0, tt, whole.1), tt);
-      must = refl;
-      depth = refl;
-    }
+    let made = adding natives outer s w op.Plus h tt in
+    record { words = sum-words outer s w op.Plus; order = made.0; fine = made.1; must = refl; depth = refl }
 moves natives (done outer s w) (sign.Token (token.Operator op.Minus)) h e =
-    let whole = joined-sum natives s w h.1 h.2 h.3 in record {
-      words = sum-words outer s w op.Minus;
-      order = ap (order-with (waits outer) (record { sum = Some op.Minus; product = None }) true) (sum-tokens outer s w);
-      fine = (h.0, (whole.0, tt, whole.1), tt);
-      must = refl;
-      depth = refl;
-    }
+    let made = adding natives outer s w op.Minus h tt in
+    record { words = sum-words outer s w op.Minus; order = made.0; fine = made.1; must = refl; depth = refl }
 moves natives (done outer s w) (sign.Token (token.Operator op.Times)) h e = record { words = product-words outer s w op.Times; order = refl; fine = (h.0, h.1, (h.2, tt, h.3)); must = refl; depth = refl }
 moves natives (done outer s w) (sign.Token (token.Operator op.Over)) h e = record { words = product-words outer s w op.Over; order = refl; fine = (h.0, h.1, (h.2, tt, h.3)); must = refl; depth = refl }
 moves natives (done outer s w) sign.Open h e = absurd (opens-none natives (length (waits outer)) e)
