@@ -16,7 +16,7 @@ ghost use Rattle.event_sets.specs.Sets.{IsSound, SetView, set_view};
 use crate::Refusal;
 use crate::clashes::clash;
 use crate::joining::{joined, natives_of, natives_of_all};
-use crate::removal::{counts_without, events_without, matched};
+use crate::removal::{matched, without};
 use crate::sameness::{has_event, place_of};
 use crate::thresholds::{is_armed, is_bad_threshold, is_plain, shares_native};
 use counter_alloc::Matching;
@@ -182,10 +182,10 @@ impl EventSet {
         let Some(place) = place_of(&self.events, e) else {
             return Err(Code::Einval);
         };
-        let events = events_without(&self.events, place);
+        let events = without(&self.events, place);
         let natives = natives_of_all(book, &events);
         self.matching = matched(self.slice, self.counters, &natives);
-        self.thresholds = counts_without(&self.thresholds, place);
+        self.thresholds = without(&self.thresholds, place);
         self.events = events;
         self.natives = natives;
         Ok(())

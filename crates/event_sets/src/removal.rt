@@ -6,29 +6,16 @@ ghost use Rattle.counter_alloc.specs.Masks.{masks_of};
 
 use crate::clashes::give_counters;
 use counter_alloc::Matching;
-use papi_base::{Counts, Events, Natives};
+use papi_base::{Natives, ShortList};
 
-/// The events without the one at the place.
-pub fn events_without(events: &Events, place: u32) -> Events
-    ensures { result ≡ remove events.now place }
+/// The items without the one at the place.
+pub fn without<T: Copy + Default>(items: &ShortList<T>, place: u32) -> ShortList<T>
+    ensures { result ≡ remove items.now place }
 {
-    let mut left = Events::new();
-    for i in 0..events.len() {
+    let mut left = ShortList::new();
+    for i in 0..items.len() {
         if i != place {
-            left.push(events.at(i));
-        }
-    }
-    left
-}
-
-/// The counts without the one at the place.
-pub fn counts_without(counts: &Counts, place: u32) -> Counts
-    ensures { result ≡ remove counts.now place }
-{
-    let mut left = Counts::new();
-    for i in 0..counts.len() {
-        if i != place {
-            left.push(counts.at(i));
+            left.push(items.at(i));
         }
     }
     left

@@ -21,7 +21,7 @@ own : (c : In-Some) → (was c).natives ≡ set_natives c.args.book.now (was c).
 own c = subst (λ (v : SetView). v.natives ≡ set_natives c.args.book.now v.rest) (sym c.self.view_is) c.requires.natives
 
 after : (c : After-natives_of_all-natives) → c.natives_of_all-natives.result ≡ natives_of c.args.book.now (remove c.self.inside.events c.in-Some.place)
-after c = c.natives_of_all-natives.ensures ∙ ap (natives_of c.args.book.now) c.events_without-events.ensures
+after c = c.natives_of_all-natives.ensures ∙ ap (natives_of c.args.book.now) c.without-events.ensures
 
 pub natives_of_all-natives-requires : goal.natives_of_all-natives-requires
 natives_of_all-natives-requires c = grind (arith, nat_tests, left_few, own)
@@ -40,9 +40,9 @@ invariant_of-self c =
     let at = goal.at.invariant_of-self c in
     let set = was at.In-Some in
     let natives = after at.After-natives_of_all-natives in
-    let events = c.events_without-events.ensures in
-    let thresholds = c.counts_without-self-inside.ensures in
+    let events = c.without-events.ensures in
+    let thresholds = c.without-self-inside.ensures in
     let sound = removed_sound c.args.book.now c.in-Some.place set (own at.In-Some) c.self.invariant.0 in
-    let is : removed c.in-Some.place (natives_of c.args.book.now (remove set.rest.events c.in-Some.place)) set ≡ record (set) { rest = record (set.rest) { events = c.events_without-events.result; thresholds = c.counts_without-self-inside.result }; natives = c.natives_of_all-natives.result } =
+    let is : removed c.in-Some.place (natives_of c.args.book.now (remove set.rest.events c.in-Some.place)) set ≡ record (set) { rest = record (set.rest) { events = c.without-events.result; thresholds = c.without-self-inside.result }; natives = c.natives_of_all-natives.result } =
     λ i. record (set) { rest = record (set.rest) { events = sym events i; thresholds = sym thresholds i }; natives = sym natives i } in
     (subst IsSound is sound, record { counters = c.matched-self-inside.ensures.counters; natives = c.matched-self-inside.ensures.natives })

@@ -1,12 +1,12 @@
 use Rattle.std.proofs.Common.{◌≡◌, ◌<◌, ◌∷◌, [], length, take, arith, length-append, length-take-le}
 use Rattle.event_sets.proofs.Removed.{goes_at, stays_at}
 use Rattle.papi_base.proofs.Steps.{get_at}
-use Rattle.event_sets.proofs.removal.events_without.Goals as goal
-use Rattle.event_sets.proofs.removal.events_without.Goals.{then-i-place, else-i-place}
+use Rattle.event_sets.proofs.removal.without.Goals as goal
+use Rattle.event_sets.proofs.removal.without.Goals.{then-i-place, else-i-place}
 
 pub loop-i-preserved : goal.loop-i-preserved
-loop-i-preserved c =
-    let xs = c.args.events.now in
+loop-i-preserved g c =
+    let xs = c.args.items.now in
     let i = c.loop-i.i in
     let below : i < length xs = omega (arith, c.len-i-end.ensures.length, c.loop-i-test.true) in
     let count : length (take i xs) ≡ i = length-take-le i xs (omega (arith, below)) in
