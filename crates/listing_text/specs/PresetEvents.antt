@@ -2,6 +2,7 @@
 use Rattle.std.specs.Prelude.{ℕ, List, [], ◌∷◌, ◌++◌, Option, Some, None, codes, decimal, length, slice_get}
 use Rattle.std.specs.List.{flat_map, range_with_len}
 use Rattle.std.specs.Option.{option_map_or}
+use Rattle.component_table.specs.Books.{kind_of}
 use Rattle.component_table.specs.Catalogs.{CatalogView, code_of_row, row_name, row_named}
 use Rattle.event_tables.specs.Tables.{ComponentText}
 use Rattle.name_encoder.specs.Canonical.{canonical}
@@ -12,16 +13,7 @@ use Rattle.postfix_rules.specs.Tokens.{formula_text}
 use Rattle.postfix_rules.specs.declared.rule.Rule.{Rule}
 use Rattle.postfix_rules.specs.declared.rule.Rule.TheVariants as rule
 use Rattle.preset_csv.specs.Kinds.{kind_text}
-use Rattle.preset_csv.specs.declared.kind.Kind.{Kind}
-use Rattle.preset_csv.specs.declared.kind.Kind.TheVariants as kind
 use Rattle.listing_text.specs.Lines.{Text, code_line, name_line}
-
--- the kind of the events that have a rule
-abbrev pub kind_of : Rule → Kind
-kind_of rule.Plain = kind.NotDerived
-kind_of rule.Sum = kind.Add
-kind_of rule.Sub = kind.Sub
-kind_of (rule.Postfix formula) = kind.Postfix
 
 -- how the value is derived, in the word that a preset file has for it: papi_events.csv
 abbrev pub type_line : Rule → Text

@@ -8,26 +8,14 @@ ghost use Rattle.listing_text.specs.PresetEvents as PresetEvents;
 
 use crate::lines::push_name_and_code;
 use crate::named_event::NamedEvent;
-use component_table::Catalog;
+use component_table::{Catalog, kind_of};
 use event_tables::Tables;
 use name_encoder::write_name;
 use papi_base::Natives;
 use postfix_rules::{Derived, Rule, write_formula};
-use preset_csv::{Kind, kind_text};
+use preset_csv::kind_text;
 use std::alloc::{AllocError, Global};
 use std::fmt::Write;
-
-// The kind of the events that have a rule.
-fn kind_of(rule: &Rule) -> Kind
-    ensures { result ≡ PresetEvents.kind_of rule.now }
-{
-    match rule {
-        Rule::Plain => Kind::NotDerived,
-        Rule::Sum => Kind::Add,
-        Rule::Sub => Kind::Sub,
-        Rule::Postfix(_) => Kind::Postfix,
-    }
-}
 
 // Appends the line of a formula, if the rule has one.
 fn push_formula(text: &mut String, rule: &Rule) -> Result<(), AllocError>

@@ -1,8 +1,9 @@
 use Rattle.std.proofs.Common.{◌∙◌, ◌∷◌, ◌++◌, [], ap, codes, string_bytes}
+use Rattle.component_table.specs.Books.{kind_of}
 use Rattle.papi_base.proofs.Growing.{both}
 use Rattle.preset_csv.specs.Kinds.{kind_text}
 use Rattle.listing_text.specs.Lines.{Text}
-use Rattle.listing_text.specs.PresetEvents.{formula_line, kind_of, native_lines, type_line}
+use Rattle.listing_text.specs.PresetEvents.{formula_line, native_lines, type_line}
 use Rattle.listing_text.proofs.preset_events.push_derived.Goals as goal
 
 pub returns : goal.returns
@@ -14,6 +15,6 @@ returns c =
     let tables = c.args.tables.now in
     both start first _ (codes "Available: Yes\n" ++ type_line rule) (formula_line rule ++ native_lines tables c.args.derived.now.natives)
     (c.in_ok-writeln.ensures.bytes
-    ∙ ap (λ (t : Text). start ++ (codes "Available: Yes\nDerived: " ++ (t ++ 10 ∷ []))) (c.kind_text-derived_type.ensures ∙ ap kind_text (c.kind_of.ensures ∙ ap kind_of c.rule.ensures.rule)))
+    ∙ ap (λ (t : Text). start ++ (codes "Available: Yes\nDerived: " ++ (t ++ 10 ∷ []))) (c.kind_text-derived_type.ensures ∙ ap kind_text (c.kind_of.ensures.kind ∙ ap kind_of c.rule.ensures.rule)))
     (both first second _ (formula_line rule) (native_lines tables c.args.derived.now.natives) (c.in_ok-push_formula.ensures ∙ ap (λ r. first ++ formula_line r) c.rule-2.ensures.rule)
     (c.in_ok-push_natives.ensures ∙ ap (λ ns. second ++ native_lines tables ns) c.natives.ensures.natives))
