@@ -3,11 +3,12 @@
 ghost use Rattle.std.specs.Prelude.{◌≡◌};
 ghost use Rattle.event_tables.specs.Unit as Unit;
 
-use std::fmt;
 use table_rows::RowFault;
+use thiserror::Error;
 
 /// Why a row is refused, in the order in which the causes are tried.
-#[derive(Clone, Copy, Debug, PartialEq, Eq)]
+#[derive(Clone, Copy, Debug, PartialEq, Eq, Error)]
+#[error("{}", cause_text(*self))]
 pub enum RowCause {
     /// It has none of the forms, belongs to nothing, or is a second default umask.
     BadRow,
@@ -19,12 +20,6 @@ pub enum RowCause {
     BadWidth,
     /// A counter that the component does not have above this row.
     UnknownCounter,
-}
-
-impl fmt::Display for RowCause {
-    fn fmt<W: fmt::Write>(&self, f: &mut fmt::Formatter<W>) -> fmt::Result {
-        f.write_str(cause_text(*self))
-    }
 }
 
 /// Why a unit file is refused: its first faulty row, numbered from 1, with the row's first cause, or out of memory.

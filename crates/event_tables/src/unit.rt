@@ -11,6 +11,7 @@ use table_rows::read_table;
 /// The tables of a unit file, or its first faulty row with that row's first cause.
 ///
 /// The file format is this project's own; its fields are those of libpfm4's and PAPI's event tables.
+#[tactic(auto, unfolding(crate::specs::Unit::unit_fault, crate::specs::Unit::unit_tables))]
 pub fn read_unit(alloc: Global, bytes: &[u8]) -> Result<Tables, TableFault>
     ensures { ReadsUnit result bytes.now }
 {
