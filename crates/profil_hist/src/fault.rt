@@ -3,11 +3,12 @@
 ghost use Rattle.std.specs.Prelude.{◌≡◌};
 ghost use Rattle.profil_hist.specs.Maps as Maps;
 
-use std::fmt;
 use table_rows::RowFault;
+use thiserror::Error;
 
 /// Why a row is refused, in the order in which the causes are tried.
-#[derive(Clone, Copy, Debug, PartialEq, Eq)]
+#[derive(Clone, Copy, Debug, PartialEq, Eq, Error)]
+#[error("{}", cause_text(*self))]
 pub enum MapCause {
     /// It does not have the form of a range, or its end is above 2^64.
     BadRow,
@@ -17,12 +18,6 @@ pub enum MapCause {
     RepeatedName,
     /// An address of an earlier range.
     Overlap,
-}
-
-impl fmt::Display for MapCause {
-    fn fmt<W: fmt::Write>(&self, f: &mut fmt::Formatter<W>) -> fmt::Result {
-        f.write_str(cause_text(*self))
-    }
 }
 
 /// Why a map is refused: its first faulty row, numbered from 1, with the row's first cause, or out of memory.

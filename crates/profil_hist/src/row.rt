@@ -61,11 +61,8 @@ fn range_row<'r>(name: &'r [u8], start: &[u8], width: &[u8], buckets: &[u8]) -> 
     let start = address_in(start)?;
     let width = width_in(width)?;
     let buckets = buckets_in(buckets)?;
-    if !fits(start, width, buckets) {
-        return None;
-    }
     let name = name_text(name)?;
-    Some(Row::Range {
+    fits(start, width, buckets).then_some(Row::Range {
         name,
         start,
         width,
