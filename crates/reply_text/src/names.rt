@@ -2,12 +2,10 @@
 
 ghost use Rattle.std.specs.Prelude.{◌≡◌, ◌++◌, ◌∷◌, OnOk, string_bytes};
 ghost use Rattle.component_table.specs.EventNames.{event_name};
-ghost use Rattle.name_encoder.specs.Canonical.{canonical};
 ghost use Rattle.reply_text.specs.Replies as Replies;
 
 use crate::numbers::push_word;
 use component_table::Catalog;
-use name_encoder::write_name;
 use papi_base::{EventRef, Native};
 use std::alloc::AllocError;
 use std::fmt::Write;
@@ -22,19 +20,6 @@ pub(crate) fn push_event(
         ≡ string_bytes text.old ++ 32 ∷ event_name catalog.now event.now) }
 {
     let name = catalog.event_name(*text.allocator(), event)?;
-    push_word(text, name.as_str())
-}
-
-/// Appends a space and the canonical name of a native event.
-pub(crate) fn push_native(
-    text: &mut String,
-    catalog: &Catalog,
-    native: &Native,
-) -> Result<(), AllocError>
-    ensures { OnOk result (string_bytes text.new
-        ≡ string_bytes text.old ++ 32 ∷ canonical catalog.now.tables native.now) }
-{
-    let name = write_name(*text.allocator(), catalog.tables(), native)?;
     push_word(text, name.as_str())
 }
 
@@ -58,7 +43,7 @@ pub(crate) fn push_assigned(
     ensures { OnOk result (string_bytes text.new
         ≡ string_bytes text.old ++ 32 ∷ Replies.assigned_text catalog.now (native.now, counter)) }
 {
-    push_native(text, catalog, native)?;
+    push_event(text, catalog, &EventRef::Native(*native))?;
     let counter = counter_name(catalog, native.comp, counter);
     write!(text, "={counter}")
 }

@@ -9,12 +9,12 @@ ghost use Rattle.reply_text.specs.Replies as Replies;
 ghost use Rattle.reply_text.specs.Replies.{spaced};
 
 use crate::hexadecimal::push_hex;
-use crate::names::{counter_name, push_assigned, push_event, push_native};
+use crate::names::{counter_name, push_assigned, push_event};
 use crate::numbers::{push_number, push_word};
 use crate::values::push_values;
 use component_table::Catalog;
 use event_sets::Clash;
-use papi_base::{Events, MOST_COUNTERS, Natives, THREADS};
+use papi_base::{EventRef, Events, MOST_COUNTERS, Natives, THREADS};
 use session_model::{Assigned, Body, Ran};
 use std::alloc::AllocError;
 
@@ -43,7 +43,7 @@ fn push_natives(text: &mut String, catalog: &Catalog, natives: &Natives) -> Resu
         ≡ string_bytes text.old ++ spaced (map (canonical catalog.now.tables) natives.now)) }
 {
     for i in 0..natives.len() {
-        push_native(text, catalog, &natives.at(i))?;
+        push_event(text, catalog, &EventRef::Native(natives.at(i)))?;
     }
     Ok(())
 }
