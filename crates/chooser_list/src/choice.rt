@@ -1,6 +1,6 @@
 //! The text of a listing.
 
-ghost use Rattle.std.specs.Prelude.{◌≡◌, ◌++◌, ◌∷◌, [], IfOk, OnOk};
+ghost use Rattle.std.specs.Prelude.{◌≡◌, ◌++◌, ◌∷◌, [], IfOk, OnOk, string_bytes};
 ghost use Rattle.component_table.specs.EventNames.{event_name};
 ghost use Rattle.chooser_list.specs.Choosing as Choosing;
 ghost use Rattle.chooser_list.specs.Choosing.{all_taken, chooser_text};
@@ -8,10 +8,11 @@ ghost use Rattle.chooser_list.specs.Choosing.{all_taken, chooser_text};
 use crate::candidates::Candidates;
 use crate::given::given_set;
 use crate::listing::taken_by;
-use crate::refused::push_refused;
+use crate::refused::refused_text;
 use component_table::Catalog;
 use papi_base::{Bytes, EventRef, Text};
 use std::alloc::{AllocError, Global};
+use std::fmt::Write;
 
 /// What is said of given events.
 #[derive(Debug, Drop)]
@@ -23,34 +24,26 @@ pub struct Choice {
 }
 
 // Appends the name of an event and a newline.
-fn push_name(
-    alloc: Global,
-    text: &mut Bytes,
-    catalog: &Catalog,
-    event: &EventRef,
-) -> Result<(), AllocError>
-    ensures { OnOk result (text.new ≡ text.old ++ (event_name catalog.now event.now ++ 10 ∷ [])) }
+fn push_name(text: &mut String, catalog: &Catalog, event: &EventRef) -> Result<(), AllocError>
+    ensures { OnOk result (string_bytes text.new
+        ≡ string_bytes text.old ++ (event_name catalog.now event.now ++ 10 ∷ [])) }
 {
-    let name = catalog.event_name(alloc, event)?;
-    text.append(name.as_bytes())?;
-    text.append(b"\n")
+    let name = catalog.event_name(*text.allocator(), event)?;
+    writeln!(text, "{name}")
 }
 
-// Appends the names of events, and how many there are.
-fn push_list(
-    alloc: Global,
-    text: &mut Bytes,
-    catalog: &Catalog,
-    events: &[EventRef],
-) -> Result<(), AllocError>
-    ensures { OnOk result (text.new ≡ text.old ++ Choosing.list_text catalog.now events.now) }
+// The names of events, and how many there are.
+fn list_text(alloc: Global, catalog: &Catalog, events: &[EventRef]) -> Result<String, AllocError>
+    ensures { IfOk result
+        (λ text. string_bytes text ≡ Choosing.list_text catalog.now events.now) }
 {
+    let mut text = String::new(alloc);
     for event in events {
-        push_name(alloc, text, catalog, event)?;
+        push_name(&mut text, catalog, event)?;
     }
     let total = events.len();
-    let line = format!(in alloc; "Total events: {total}\n")?;
-    text.append(line.as_bytes())
+    writeln!(text, "Total events: {total}")?;
+    Ok(text)
 }
 
 /// What can be added to a new set, once the events that some texts name are added to it in order.
@@ -67,20 +60,19 @@ pub fn choose(
     ensures text { IfOk result (λ c. c.text ≡ chooser_text catalog.now candidates texts.now) }
     ensures taken { IfOk result (λ c. c.all_taken ≡ all_taken catalog.now texts.now) }
 {
-    let mut text = Bytes::new(Vec::new(alloc));
     match given_set(catalog, texts) {
         Ok(set) => {
             let events = taken_by(alloc, catalog, candidates, &set)?;
-            push_list(alloc, &mut text, catalog, events.as_slice())?;
+            let text = list_text(alloc, catalog, events.as_slice())?;
             Ok(Choice {
-                text,
+                text: Bytes::new(text.into_bytes()),
                 all_taken: true,
             })
         }
         Err(refused) => {
-            push_refused(alloc, &mut text, catalog, refused)?;
+            let text = refused_text(alloc, catalog, refused)?;
             Ok(Choice {
-                text,
+                text: Bytes::new(text.into_bytes()),
                 all_taken: false,
             })
         }

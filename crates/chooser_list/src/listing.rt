@@ -108,14 +108,12 @@ fn keep_preset(
         ≡ events.old.items ++ filter (takes catalog.now set.now.rest)
         (preset_in catalog.now.book row)) }
 {
-    let Some(derived) = catalog.book().get(row) else {
-        return Ok(());
-    };
-    let comp = derived.natives().at(0).comp;
-    let Some(matching) = opened(catalog, set, comp) else {
-        return Ok(());
-    };
-    keep(events, catalog, set, &matching, EventRef::Preset(row))
+    if let Some(derived) = catalog.book().get(row)
+        && let Some(matching) = opened(catalog, set, derived.natives().at(0).comp)
+    {
+        keep(events, catalog, set, &matching, EventRef::Preset(row))?;
+    }
+    Ok(())
 }
 
 /// The candidates that the set would take, in the order of the tables. User events come after the presets.
