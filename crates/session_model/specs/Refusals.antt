@@ -55,6 +55,10 @@ leaves_free_by (Some slice) book c s = false
 abbrev pub leaves_free : Book → ℕ → AtRest → Bool
 leaves_free book c s = leaves_free_by s.slice book c s
 
+-- the refusals of a call on a set that must be there and stopped: these two, and then the others
+abbrev pub stopped : List (Option Face) → ℕ → List (Bool × Refusal) → List (Bool × Refusal)
+stopped faces k others = row (is_absent faces k) Enoevst ∷ row (runs faces k) Eisrun ∷ others
+
 -- the refusals of a call in their order: whether each comes, and what it is
 abbrev pub rows : Book → Widths → Bool → List (Option Face) → Call → List (Bool × Refusal)
 rows book shape registered faces call.Register = []
@@ -63,73 +67,42 @@ rows book shape registered faces call.Unregister =
     ∷ row (not registered) Einval
     ∷ []
 rows book shape registered faces call.Create = row (list_all (λ place. is_some place) faces) Ecount ∷ []
-rows book shape registered faces (call.Destroy k) =
-    row (is_absent faces k) Enoevst
-    ∷ row (runs faces k) Eisrun
-    ∷ row (has has_events faces k) Einval
-    ∷ []
-rows book shape registered faces (call.Cleanup k) =
-    row (is_absent faces k) Enoevst
-    ∷ row (runs faces k) Eisrun
-    ∷ []
-rows book shape registered faces (call.Add k (Err code)) =
-    row (is_absent faces k) Enoevst
-    ∷ row (runs faces k) Eisrun
-    ∷ row true code
-    ∷ []
+rows book shape registered faces (call.Destroy k) = stopped faces k (row (has has_events faces k) Einval ∷ [])
+rows book shape registered faces (call.Cleanup k) = stopped faces k []
+rows book shape registered faces (call.Add k (Err code)) = stopped faces k (row true code ∷ [])
 rows book shape registered faces (call.Add k (Ok e)) =
-    row (is_absent faces k) Enoevst
-    ∷ row (runs faces k) Eisrun
-    ∷ row (has (cannot_take book e) faces k) Einval
+    stopped faces k
+    (row (has (cannot_take book e) faces k) Einval
     ∷ row (has (is_full book e) faces k) Ecount
     ∷ conflict_row (clash_at book e faces k)
-    ∷ []
-rows book shape registered faces (call.Remove k (Err code)) =
-    row (is_absent faces k) Enoevst
-    ∷ row (runs faces k) Eisrun
-    ∷ row true code
-    ∷ []
-rows book shape registered faces (call.Remove k (Ok e)) =
-    row (is_absent faces k) Enoevst
-    ∷ row (runs faces k) Eisrun
-    ∷ row (has (λ s. not (has_event e s)) faces k) Einval
-    ∷ []
+    ∷ [])
+rows book shape registered faces (call.Remove k (Err code)) = stopped faces k (row true code ∷ [])
+rows book shape registered faces (call.Remove k (Ok e)) = stopped faces k (row (has (λ s. not (has_event e s)) faces k) Einval ∷ [])
 rows book shape registered faces (call.AssignComponent k comp) =
     row (is_absent faces k) Enoevst
     ∷ row (nat_le (length shape) comp) Enocmp
     ∷ row (runs faces k) Eisrun
     ∷ row (has (λ s. is_other s.component (Some comp)) faces k) Einval
     ∷ []
-rows book shape registered faces (call.SetDomain k bits) =
-    row (is_absent faces k) Enoevst
-    ∷ row (runs faces k) Eisrun
-    ∷ row (is_bad_domain bits) Einval
-    ∷ []
+rows book shape registered faces (call.SetDomain k bits) = stopped faces k (row (is_bad_domain bits) Einval ∷ [])
 rows book shape registered faces (call.SetMultiplex k slice) =
-    row (is_absent faces k) Enoevst
-    ∷ row (runs faces k) Eisrun
-    ∷ row (is_bad_slice slice) Einval
+    stopped faces k
+    (row (is_bad_slice slice) Einval
     ∷ row (has is_armed faces k) Ecombo
-    ∷ []
-rows book shape registered faces (call.Overflow k (Err code) t) =
-    row (is_absent faces k) Enoevst
-    ∷ row (runs faces k) Eisrun
-    ∷ row true code
-    ∷ []
+    ∷ [])
+rows book shape registered faces (call.Overflow k (Err code) t) = stopped faces k (row true code ∷ [])
 rows book shape registered faces (call.Overflow k (Ok e) t) =
-    row (is_absent faces k) Enoevst
-    ∷ row (runs faces k) Eisrun
-    ∷ row (has (cannot_arm book e) faces k) Einval
+    stopped faces k
+    (row (has (cannot_arm book e) faces k) Einval
     ∷ row (has (is_bad_threshold shape t) faces k) Einval
     ∷ row (has (shares_native book e t) faces k) Einval
     ∷ row (has is_multiplexed faces k) Ecombo
-    ∷ []
+    ∷ [])
 rows book shape registered faces (call.Start k) =
-    row (is_absent faces k) Enoevst
-    ∷ row (runs faces k) Eisrun
-    ∷ row (component_runs faces k) Eisrun
+    stopped faces k
+    (row (component_runs faces k) Eisrun
     ∷ row (has (λ s. not (has_events s)) faces k) Einval
-    ∷ []
+    ∷ [])
 rows book shape registered faces (call.Stop k) =
     row (is_absent faces k) Enoevst
     ∷ row (not (runs faces k)) Enotrun
