@@ -1,6 +1,6 @@
 -- The world looked at on one thread: by induction on the lines of the script.
 use Rattle.std.proofs.Common.{rules}
-use Rattle.std.proofs.Common.{◌≡◌, ◌≢◌, ℕ, Bool, true, false, ◌==◌, ◌&&◌, if◌then◌else◌, List, [], ◌∷◌, ◌++◌, refl, sym, ◌∙◌, ap, ap₂, arith}
+use Rattle.std.proofs.Common.{◌≡◌, ◌≢◌, ℕ, Bool, true, false, ◌==◌, ◌&&◌, if◌then◌else◌, List, [], ◌∷◌, ◌++◌, refl, sym, ◌∙◌, ap, arith}
 use Rattle.std.proofs.Common.{append_assoc, slice_get, slice_set, slice_index_or, unwrap_or, zero, suc, ◌+◌, ◌<◌, Some}
 use Rattle.std.proofs.lemmas.Bool.Decides.{nat_tests}
 use Rattle.papi_base.specs.declared.limits.TheConstants.{THREADS}
@@ -9,12 +9,13 @@ use Rattle.postfix_rules.specs.Presets.{Book}
 use Rattle.postfix_rules.proofs.Equal.{nat_is}
 use Rattle.session_model.specs.declared.call.Call.{Call}
 use Rattle.session_model.specs.declared.line.Asked.{Asked}
+use Rattle.session_model.specs.declared.line.Line.{Line}
 use Rattle.session_model.specs.declared.reply.Reply.{Reply}
 use Rattle.event_sets.specs.AtRest.{Widths}
 use Rattle.papi_base.specs.Streams.{Coming, Dry}
 use Rattle.session_model.specs.Account.{Account, opening}
 use Rattle.session_model.specs.Step.{step, account_after, replies_to, notes_to}
-use Rattle.session_model.specs.World.{Setting, account_at, turn, mentioned_after, world_after_line, calls_asked, is_call, calls_at, opening_accounts}
+use Rattle.session_model.specs.World.{Setting, World, account_at, turn, mentioned_after, world_after_line, calls_asked, is_call, opening_accounts}
 use Rattle.session_laws.specs.Worlds.{AccountByThread, NotesByThread, OpensByThread, RepliesByThread}
 use Rattle.session_laws.proofs.Places.{set_same, set_other}
 
@@ -46,9 +47,13 @@ line_account : (at : Setting) (accounts : List Account) (m : List Native) (s t :
     → slice_get (turn at accounts m s x).accounts t ≡ Some (account_after at.book at.shape a (own s t x))
 line_account at accounts m s t x a e = grind (arith, nat_tests, call_account, stays)
 
+line_by_thread : (at : Setting) (w : World) (l : Line) (t : ℕ) (a : Account) → slice_get w.accounts t ≡ Some a
+    → slice_get (world_after_line at w l).accounts t ≡ Some (account_after at.book at.shape a (own l.thread t l.asked))
+line_by_thread at w l t a e = line_account at w.accounts (mentioned_after w.mentioned l) l.thread t l.asked a e
+
 pub account_by_thread : AccountByThread
 account_by_thread at w [] t a e = e
-account_by_thread at w (l ∷ ls) t a e = grind (arith, nat_tests, line_account, account-append, account_by_thread at (world_after_line at w l) ls t (account_after at.book at.shape a (own l.thread t l.asked)) (line_account at w.accounts (mentioned_after w.mentioned l) l.thread t l.asked a e))
+account_by_thread at w (l ∷ ls) t a e = grind (arith, nat_tests, account-append, account_by_thread at (world_after_line at w l) ls t _ (line_by_thread at w l t a e))
 
 pub replies-append : (book : Book) (shape : Widths) (a : Account) (xs ys : List Call)
     → replies_to book shape a (xs ++ ys) ≡ replies_to book shape a xs ++ replies_to book shape (account_after book shape a xs) ys
@@ -69,11 +74,7 @@ line_reply at accounts m s t x a e = grind (arith, nat_tests, call_reply, none)
 pub replies_by_thread : RepliesByThread
 replies_by_thread at w [] t a e = refl
 replies_by_thread at w (l ∷ ls) t a e =
-    let mine = own l.thread t l.asked in
-    let m = mentioned_after w.mentioned l in
-    let next = account_after at.book at.shape a mine in
-    ap₂ (λ xs ys. xs ++ ys) (line_reply at w.accounts m l.thread t l.asked a e) (replies_by_thread at (world_after_line at w l) ls t next (line_account at w.accounts m l.thread t l.asked a e))
-    ∙ sym (replies-append at.book at.shape a mine (calls_at t ls))
+    grind (arith, nat_tests, replies-append, line_reply at w.accounts (mentioned_after w.mentioned l) l.thread t l.asked a e, replies_by_thread at (world_after_line at w l) ls t _ (line_by_thread at w l t a e))
 
 pub notes-append : (book : Book) (shape : Widths) (a : Account) (xs ys : List Call)
     → notes_to book shape a (xs ++ ys) ≡ notes_to book shape a xs ++ notes_to book shape (account_after book shape a xs) ys
@@ -96,11 +97,7 @@ line_notes at accounts m s t x a e = grind (arith, nat_tests, call_notes, no_not
 pub notes_by_thread : NotesByThread
 notes_by_thread at w [] t a e = refl
 notes_by_thread at w (l ∷ ls) t a e =
-    let mine = own l.thread t l.asked in
-    let m = mentioned_after w.mentioned l in
-    let next = account_after at.book at.shape a mine in
-    ap₂ (λ xs ys. xs ++ ys) (line_notes at w.accounts m l.thread t l.asked a e) (notes_by_thread at (world_after_line at w l) ls t next (line_account at w.accounts m l.thread t l.asked a e))
-    ∙ sym (notes-append at.book at.shape a mine (calls_at t ls))
+    grind (arith, nat_tests, notes-append, line_notes at w.accounts (mentioned_after w.mentioned l) l.thread t l.asked a e, notes_by_thread at (world_after_line at w l) ls t _ (line_by_thread at w l t a e))
 
 -- ---- the opening world
 
