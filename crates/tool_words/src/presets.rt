@@ -3,7 +3,6 @@
 ghost use Rattle.std.specs.Prelude.{◌≡◌};
 ghost use Rattle.std.specs.List.{list_all};
 ghost use Rattle.clap.specs.Words.{found_of, rows_of};
-ghost use Rattle.tool_words.specs.Presets.{presets_asked_in, presets_needed_in};
 ghost use Rattle.tool_words.specs.Presets as Presets;
 ghost use Rattle.tool_words.specs.Words.{Answers};
 
@@ -71,7 +70,7 @@ pub(crate) fn presets_asked(
     alloc: Global,
     matches: &ArgMatches<'_>,
 ) -> Result<Option<PresetWords>, WordsFault>
-    ensures { Answers result (presets_asked_in (rows_of (found_of matches.now))) }
+    ensures { Answers result (Presets.presets_asked_in (rows_of (found_of matches.now))) }
 {
     match (text_of(matches, "presets"), text_of(matches, "cpu")) {
         (None, None) => Ok(None),
@@ -85,7 +84,7 @@ pub(crate) fn presets_needed(
     alloc: Global,
     matches: &ArgMatches<'_>,
 ) -> Result<PresetWords, WordsFault>
-    ensures { Answers result (presets_needed_in (rows_of (found_of matches.now))) }
+    ensures { Answers result (Presets.presets_needed_in (rows_of (found_of matches.now))) }
 {
     presets_asked(alloc, matches)?.ok_or(WordsFault::BadWords)
 }

@@ -2,7 +2,6 @@
 
 ghost use Rattle.std.specs.Prelude.{◌≡◌, ◌≤◌, [], codes, length, map};
 ghost use Rattle.clap.specs.Words.{all_of, found_of, rows_of};
-ghost use Rattle.tool_words.specs.Streams.{streams_of};
 ghost use Rattle.tool_words.specs.Streams as Streams;
 ghost use Rattle.tool_words.specs.Words.{Answers};
 
@@ -44,7 +43,7 @@ impl StreamNames {
 
     // A copy of these names.
     fn copy_of(alloc: Global, names: &[&str]) -> Result<StreamNames, WordsFault>
-        ensures { Answers result (streams_of (map (λ s. s.now) names.now)) }
+        ensures { Answers result (Streams.streams_of (map (λ s. s.now) names.now)) }
     {
         if names.len() > THREADS as usize {
             return Err(WordsFault::BadWords);
