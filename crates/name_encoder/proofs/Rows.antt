@@ -64,6 +64,11 @@ given : encodes ((codes "lab::INST_RETIRED", (codes "lab::INST_RETIRED", 0x5300c
     ∷ (codes "MEM:STORES:LOADS", (codes "lab::MEM:LOADS:STORES", 0x5303d0))
     ∷ (codes "CPU:::Lab::cycles:E=y:C=0x0F", (codes "lab::CYCLES:e:c=15", 0xf57003c))
     ∷ (codes "lab::REF:c=0:i=n:u=F", (codes "lab::REF", 0x530000))
+    -- names by chance, as a separate program answers them
+    ∷ (codes "wire::PACKETS", (codes "wire::PACKETS", 5439504))
+    ∷ (codes "cycles:i=y:c=0", (codes "lab::CYCLES:i", 13828156))
+    ∷ (codes "BR_INST:i:u=0", (codes "lab::BR_INST:ALL:i", 13828548))
+    ∷ (codes "REF:u=0:c=0", (codes "lab::REF", 5439488))
     ∷ [])
 unfolding on_names
 given = refl
@@ -74,33 +79,20 @@ refused : refuses ((name_fault.Umask, codes "MEM" ∷ [])
     ∷ (name_fault.FeatComb, codes "BR_INST:ALL:TAKEN" ∷ [])
     ∷ (name_fault.Attr, codes "INST_RETIRED:x" ∷ codes "INST_RETIRED:" ∷ codes "INST_RETIRED:=1" ∷ [])
     ∷ (name_fault.NotFound, codes "NOPE" ∷ codes "cpu::::CYCLES" ∷ codes "lab::PACKETS" ∷ codes "" ∷ [])
-    ∷ [])
-unfolding on_names
-refused = refl
-
--- ---- names by chance, as a separate program answers them
-
-chance_given : encodes ((codes "wire::PACKETS", (codes "wire::PACKETS", 5439504))
-    ∷ (codes "cycles:i=y:c=0", (codes "lab::CYCLES:i", 13828156))
-    ∷ (codes "BR_INST:i:u=0", (codes "lab::BR_INST:ALL:i", 13828548))
-    ∷ (codes "REF:u=0:c=0", (codes "lab::REF", 5439488))
-    ∷ [])
-unfolding on_names
-chance_given = refl
-
-chance_refused : refuses ((
-  name_fault.NotFound,
-  codes "net:::BR_INST:x:k" ∷ codes "net:::INST_RETIRED:c=0xFf:k" ∷ codes "NOPE:e:c=0x" ∷ codes "::cycles:x" ∷
-      codes "cpu:::wire::INST_RETIRED:STORES:u=N" ∷ codes ":::BR_INST:i=y" ∷ codes "::REF:i=f:" ∷ codes ":::cycles:k:LOADS=1" ∷
-      codes "wire:::loads:i=y:K=t" ∷ codes "net::::e=2:u=0" ∷ codes "wire::cycles:C=255:TAKEN" ∷ codes "x::PACKETS:e=2:C=255:LOADS=1" ∷
-      codes "net:::BR_INST:i=y:k" ∷ codes "cpu:::wire::cycles:STORES:c=1=2" ∷ codes "::" ∷ codes ":::=" ∷ codes "CPU:::LAB::PACKETS" ∷
-      codes "x::PACKETS:LOADS=1" ∷ codes "wire::REF:u=" ∷ codes "wire::NOPE:ALL:e" ∷ codes "lab:::loads:c=007" ∷ codes "lab::NOPE:c=007:=" ∷
-      codes "CPU:::LAB::PACKETS:u=N:c=0x:c=2" ∷ codes "cpu:::wire::MEM" ∷ codes "x::BR_INST:C=255" ∷ codes "::PACKETS:=" ∷
-      codes ":::INST_RETIRED:K=t:" ∷ codes ":::NOPE:u=N:u=N" ∷ codes ":u=N:k:c=0xFf" ∷ codes "net:::INST_RETIRED" ∷ codes "::INST_RETIRED" ∷
-      codes "wire::NOPE:x" ∷ codes "cpu:::PACKETS:u=0:ALL" ∷ codes "x::REF" ∷ codes "x::BR_INST:u:c=0xFf" ∷ codes ":::PACKETS:=" ∷
-      codes ":::INST_RETIRED:C=255:x" ∷ codes "net:::MEM:loads:K=t" ∷ codes ":::PACKETS:c=0x:LOADS=1:c=1=2" ∷ codes "wire::MEM:u=:c=1=2" ∷
-      codes "wire::MEM:ALL:u=0" ∷ [],
-)
+    -- names by chance, as a separate program answers them
+    ∷ (
+      name_fault.NotFound,
+      codes "net:::BR_INST:x:k" ∷ codes "net:::INST_RETIRED:c=0xFf:k" ∷ codes "NOPE:e:c=0x" ∷ codes "::cycles:x" ∷
+          codes "cpu:::wire::INST_RETIRED:STORES:u=N" ∷ codes ":::BR_INST:i=y" ∷ codes "::REF:i=f:" ∷ codes ":::cycles:k:LOADS=1" ∷
+          codes "wire:::loads:i=y:K=t" ∷ codes "net::::e=2:u=0" ∷ codes "wire::cycles:C=255:TAKEN" ∷ codes "x::PACKETS:e=2:C=255:LOADS=1" ∷
+          codes "net:::BR_INST:i=y:k" ∷ codes "cpu:::wire::cycles:STORES:c=1=2" ∷ codes "::" ∷ codes ":::=" ∷ codes "CPU:::LAB::PACKETS" ∷
+          codes "x::PACKETS:LOADS=1" ∷ codes "wire::REF:u=" ∷ codes "wire::NOPE:ALL:e" ∷ codes "lab:::loads:c=007" ∷ codes "lab::NOPE:c=007:=" ∷
+          codes "CPU:::LAB::PACKETS:u=N:c=0x:c=2" ∷ codes "cpu:::wire::MEM" ∷ codes "x::BR_INST:C=255" ∷ codes "::PACKETS:=" ∷
+          codes ":::INST_RETIRED:K=t:" ∷ codes ":::NOPE:u=N:u=N" ∷ codes ":u=N:k:c=0xFf" ∷ codes "net:::INST_RETIRED" ∷ codes "::INST_RETIRED" ∷
+          codes "wire::NOPE:x" ∷ codes "cpu:::PACKETS:u=0:ALL" ∷ codes "x::REF" ∷ codes "x::BR_INST:u:c=0xFf" ∷ codes ":::PACKETS:=" ∷
+          codes ":::INST_RETIRED:C=255:x" ∷ codes "net:::MEM:loads:K=t" ∷ codes ":::PACKETS:c=0x:LOADS=1:c=1=2" ∷ codes "wire::MEM:u=:c=1=2" ∷
+          codes "wire::MEM:ALL:u=0" ∷ [],
+    )
     ∷ (name_fault.Umask, codes "mem" ∷ codes "mem:k:i=f" ∷ codes "lab::mem" ∷ codes "MEM:c=0:i" ∷ [])
     ∷ (
       name_fault.Attr,
@@ -110,4 +102,4 @@ chance_refused : refuses ((
     ∷ (name_fault.AttrVal, codes "BR_INST:c=0x" ∷ codes "cycles:e=2:ALL" ∷ codes "lab::cycles:c:u=:c=007" ∷ [])
     ∷ [])
 unfolding on_names
-chance_refused = refl
+refused = refl
