@@ -1,5 +1,5 @@
 -- A carriage return at the end of a line.
-use Rattle.std.proofs.Common.{◌≡◌, ◌+◌, ◌-◌, ◌<◌, ◌≢◌, ◌==◌, ◌∷◌, ℕ, zero, suc, false, List, [], length, take, get_or, refl, ap, arith, eq-eqb}
+use Rattle.std.proofs.Common.{◌≡◌, ◌+◌, ◌-◌, ◌<◌, ◌≢◌, ◌==◌, ◌∷◌, ℕ, zero, suc, false, List, [], length, take, get_or, refl, sym, ap, arith, eq-eqb}
 use Rattle.std.proofs.lemmas.Bool.Decides.{nat_tests}
 use Rattle.stream_reader.specs.Judged.{without_return}
 
@@ -22,13 +22,13 @@ other-last (b ∷ []) (suc n) h e = absurd (omega arith)
 other-last (b ∷ c ∷ t) zero h e = absurd (omega arith)
 other-last (b ∷ c ∷ t) (suc n) h e = ap (λ u. b ∷ u) (other-last (c ∷ t) n (omega arith) e)
 
-pub with-return : (t : List ℕ) → 0 < length t → get_or t (length t - 1) 0 ≡ 13 → without_return t ≡ take (length t - 1) t
-with-return t h e = last-return t (length t - 1) (omega arith) e
+pub with_return : (t : List ℕ) → 0 < length t → get_or t (length t - 1) 0 ≡ 13 → take (length t - 1) t ≡ without_return t
+with_return t h e = sym (last-return t (length t - 1) (omega arith) e)
 
-pub no-return : (t : List ℕ) → 0 < length t → get_or t (length t - 1) 0 ≢ 13 → without_return t ≡ t
-no-return t h e = other-last t (length t - 1) (omega arith) e
+pub no_return : (t : List ℕ) → 0 < length t → get_or t (length t - 1) 0 ≢ 13 → t ≡ without_return t
+no_return t h e = sym (other-last t (length t - 1) (omega arith) e)
 
-pub nothing : (t : List ℕ) → length t ≡ 0 → without_return t ≡ t
+pub nothing : (t : List ℕ) → length t ≡ 0 → t ≡ without_return t
 unfolding without_return
 nothing [] h = refl
 nothing (b ∷ t) h = absurd (omega arith)

@@ -13,7 +13,7 @@ use Rattle.stream_reader.specs.Lines.{Line}
 use Rattle.stream_reader.specs.Judged.{judged, line_text, text_judged}
 use Rattle.stream_reader.specs.Occurs.{IsStart, after, is_bad}
 use Rattle.stream_reader.specs.Reader.{Gave, ReaderView, SourceView}
-use Rattle.stream_reader.specs.Inside.{IsReader, TakesLine, answer_of, left_of, line_at, line_taken}
+use Rattle.stream_reader.specs.Inside.{IsKept, IsReader, TakesLine, answer_of, left_of, line_at, line_taken}
 use Rattle.stream_reader.proofs.Bounds.{line-occurrence, stamp-fits, state-next}
 use Rattle.stream_reader.proofs.Room.{held-drop, length-held}
 
@@ -30,11 +30,6 @@ judged-within start line h = go (nat_lt 128 (length line.bytes)) (nat_lt 6710886
     go true b e h = cc h
     go false true e h = cc h
     go false false e h = ltb-false 67108864 (start.passed + length line.bytes) e
-
-record IsKept (start : LineStart) : Type 0 where
-  starts : IsStart start
-  passed : start.passed ≤ 67108865
-  numbered : start.number ≤ start.passed + 1
 
 pub flag-small : (b : Bool) → flag_bit b ≤ 1
 flag-small true = omega arith
@@ -119,7 +114,7 @@ line-taken {from = from} {to = to} {bytes = bytes} {start = start} {over = over}
         let flag = flag-small ended in
         let line_long : length line.bytes ≡ size = length-take-le size v.held (omega arith) in
         let later_is : later ≡ after start line j = passes line line_long refl in
-        let kept : IsKept later = rw later_is (after-kept start line j (sym is_so) good (omega arith) (record { starts = reader.starts; passed = reader.passed; numbered = reader.numbered })) in
+        let kept : IsKept later = rw later_is (after-kept start line j (sym is_so) good (omega arith) reader.kept) in
         let in_order : place ≤ to = omega arith in
         let rest_long = length-held place to bytes in_order (omega (arith, reader.within, reader.room)) in
         let held : take (to - place) (drop place bytes) ≡ drop (size + flag_bit ended) v.held = held-drop from to (size + r) bytes (omega arith) ∙ ap (λ n. drop (size + n) v.held) r_is in
@@ -127,8 +122,8 @@ line-taken {from = from} {to = to} {bytes = bytes} {start = start} {over = over}
           record {
             answer = ap (answer_of start.number) is_so;
             after = new_is ∙ ap (line_taken v size ended) is_so;
-            counts = rw later_is (after-counts start line j start.number (sym is_so) good reader.starts);
-            nearer = whatever (answer_of start.number j) (subst (λ (w : ReaderView). left_of w < left_of v) (sym new_is) (taken-nearer v size ended j good reader.passed some within));
+            counts = rw later_is (after-counts start line j start.number (sym is_so) good reader.kept.starts);
+            nearer = whatever (answer_of start.number j) (subst (λ (w : ReaderView). left_of w < left_of v) (sym new_is) (taken-nearer v size ended j good reader.kept.passed some within));
             within = record { few = omega (arith, kept.starts.counted, kept.passed); room = omega (arith, rest_long, reader.within) };
           },
           record {
@@ -136,8 +131,6 @@ line-taken {from = from} {to = to} {bytes = bytes} {start = start} {over = over}
             in_order = in_order;
             within = reader.within;
             after_line = reader.after_line;
-            starts = kept.starts;
-            passed = kept.passed;
-            numbered = kept.numbered;
+            kept = kept;
           },
         )

@@ -4,6 +4,7 @@ use Rattle.std.proofs.Common.{arith, append_assoc, Option, Some, None, Result, O
 use Rattle.std.specs.Prelude.{if◌then◌else◌, is_some, unwrap_or}
 use Rattle.std.specs.Option.{option_and_then, option_map}
 use Rattle.std.proofs.lemmas.Bool.{le-ltb}
+use Rattle.std.proofs.lemmas.Bool.Decides.{nat_tests}
 use Rattle.std.proofs.lemmas.List.{append-nil, take_all}
 use Rattle.papi_base.specs.Streams.{Fault}
 use Rattle.papi_base.specs.Outside.{Tape}
@@ -85,19 +86,7 @@ said v n j on says = go j says
 pub line_turns : (v later : ReaderView) (n : ℕ) (answer : Option Next) → v.over ≡ false → FindsNewline v.held (Some n) → TakesLine v n true answer later → Turns v answer later
 line_turns v later n answer on w t =
     let s : Said v answer later = rw (t.answer, t.after) (said v n (judged v.start (line_at v n true)) on (first-line v n on w)) in
-    record {
-      takes = s.takes;
-      passes = s.passes;
-      counts = t.counts;
-      over = s.over;
-      last = s.last;
-      asked = s.asked;
-      kept = ap is_some s.source;
-      within = t.within;
-      faults = rw s.source (omega arith);
-      failed = λ e. absurd (s.sound e);
-      nearer = t.nearer;
-    }
+    grind (arith, nat_tests, s, t)
 
 -- ---- no whole line
 

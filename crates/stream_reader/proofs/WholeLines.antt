@@ -57,15 +57,7 @@ with-ending c amt hex s x1 x2 x4 x5 x7 =
 
 pub front : (t : List ℕ) (comp : Field) (h : Head) (amount pc : Field) → comp.size + 30 ≤ length t → BeginsWithComponent t comp → IsHead (drop comp.size t) h → IsAmount (drop comp.size t) amount
     → IsHexadecimal t (comp.size + (9 + amount.size + 1)) pc → 0 < pc.size
-    → IsFront t (record {
-      comp = comp.value;
-      select = h.select;
-      umask = h.umask;
-      kernel = h.kernel;
-      amount = amount.value;
-      pc = pc.value;
-      size = comp.size + (9 + amount.size + 1) + pc.size;
-    })
+    → IsFront t (record { comp = comp.value; head = h; amount = amount.value; pc = pc.value; size = comp.size + (9 + amount.size + 1) + pc.size })
 front t comp h amount pc long c head am digits some =
     let n = comp.size in
     let r = drop n t in

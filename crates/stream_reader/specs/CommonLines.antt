@@ -77,7 +77,7 @@ pub record IsAmountOf (n digits least : ℕ) (amount : Field) : Type 0 where
 -- the occurrence of these fields with this stamp
 abbrev pub occ_with : Front → ℕ → Occ
 occ_with front stamp =
-    record { comp = front.comp; select = front.select; umask = front.umask; kernel = front.kernel; amount = front.amount; pc = front.pc; stamp = stamp }
+    record { comp = front.comp; select = front.head.select; umask = front.head.umask; kernel = front.head.kernel; amount = front.amount; pc = front.pc; stamp = stamp }
 
 -- a text begins with the fields before the stamp: with any ending that gives a stamp they write the occurrence
 pub record IsFront (t : List ℕ) (front : Front) : Type 0 where

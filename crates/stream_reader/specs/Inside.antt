@@ -17,15 +17,19 @@ use Rattle.stream_reader.specs.Judged.{judged}
 use Rattle.stream_reader.specs.Occurs.{IsStart, after}
 use Rattle.stream_reader.specs.Reader.{Gave, IsWithinLimits, ReaderView, Takes, before_rest, comes, faults_of, is_last, tape_of}
 
--- The bytes held lie in the array and end after the place of a line, and the stream was not too large so far.
+-- What is kept of the place where a line begins: the stream was not too large so far.
+pub record IsKept (start : LineStart) : Type 0 where
+  pub starts : IsStart start
+  pub passed : start.passed ≤ LARGEST_STREAM + 1
+  pub numbered : start.number ≤ start.passed + 1
+
+-- The bytes held lie in the array and end after the place of a line.
 pub record IsReader (from to : ℕ) (bytes : List ℕ) (start : LineStart) : Type 0 where
   pub room : length bytes ≡ READER_BYTES
   pub in_order : from ≤ to
   pub within : to ≤ READER_BYTES
   pub after_line : LONGEST_LINE ≤ to
-  pub starts : IsStart start
-  pub passed : start.passed ≤ LARGEST_STREAM + 1
-  pub numbered : start.number ≤ start.passed + 1
+  pub kept : IsKept start
 
 -- Some bytes were taken from the source, and all that was to come is still to come.
 pub record Passes (old new : ReaderView) : Type 0 where

@@ -29,9 +29,7 @@ pub(crate) struct Head {
 #[derive(Clone, Copy)]
 pub(crate) struct Front {
     pub comp: u8,
-    pub select: u8,
-    pub umask: u8,
-    pub kernel: bool,
+    pub head: Head,
     pub amount: u8,
     pub pc: u64,
     pub size: usize,
@@ -176,9 +174,7 @@ fn front_after(text: &[u8], comp: Field) -> Option<Front>
     }
     Some(Front {
         comp: comp.value as u8,
-        select: head.select,
-        umask: head.umask,
-        kernel: head.kernel,
+        head,
         amount: amount.value as u8,
         pc: pc.value,
         size: place + pc.size,
@@ -244,9 +240,9 @@ fn occ_with(front: Front, stamp: u64) -> Occ
 {
     Occ {
         comp: front.comp,
-        select: front.select,
-        umask: front.umask,
-        kernel: front.kernel,
+        select: front.head.select,
+        umask: front.head.umask,
+        kernel: front.head.kernel,
         amount: front.amount,
         pc: front.pc,
         stamp,

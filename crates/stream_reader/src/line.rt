@@ -134,6 +134,7 @@ fn judge_text(start: &LineStart, text: &[u8]) -> Judgement
 }
 
 // The line without a carriage return at its end.
+#[tactic(auto, using(crate::proofs::Returns::with_return, crate::proofs::Returns::no_return, crate::proofs::Returns::nothing))]
 #[inline(always)]
 fn without_return(line: &[u8]) -> &[u8]
     ensures { result.now ≡ without_return line.now }
