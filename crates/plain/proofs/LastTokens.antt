@@ -1,5 +1,5 @@
 -- The tree that the tokens before an end spell last: its root is the last token.
-use Rattle.std.proofs.Common.{◌≡◌, ◌<◌, ◌≤◌, ◌^◌, ◌+◌, ◌-◌, ℕ, zero, suc, List, [], ◌∷◌, ◌++◌, length, get_or, take, map, Some, None, slice_get, refl, sym, ap, ◌∙◌, arith, append_assoc, length-append, take-take, ℤ, pos}
+use Rattle.std.proofs.Common.{◌≡◌, ◌<◌, ◌≤◌, ◌^◌, ◌+◌, ◌-◌, ℕ, zero, suc, List, [], ◌∷◌, ◌++◌, length, get_or, take, map, Some, None, slice_get, refl, sym, ap, ◌∙◌, arith, append_assoc, length-append, length-take-le, take-take, ℤ, pos}
 use Rattle.std.specs.Prelude.{slice_index_or}
 use Rattle.std.proofs.lemmas.List.{take_more, take_all, take-append-le}
 use Rattle.postfix_rules.specs.Faults.{fault_from, height_after, token_cause}
@@ -27,10 +27,14 @@ same_ends (a ∷ xs) (b ∷ ys) x y e =
     record { fronts = cc; lasts = rest.lasts }
 
 -- the tokens before an end, with the last of them apart
-pub last_apart : (tokens : List Token) (end : ℕ) (t d : Token) → 0 < end → end ≤ length tokens → get_or tokens (end - 1) d ≡ t → take end tokens ≡ take (end - 1) tokens ++ t ∷ []
-last_apart tokens end t d some within is =
-    let e : end ≡ end - 1 + 1 = omega arith in
-    ap (λ k. take k tokens) e ∙ take_more tokens (end - 1) d (omega arith) ∙ ap (λ u. take (end - 1) tokens ++ u ∷ []) is
+pub last_apart : (tokens all : List Token) (end : ℕ) (t d : Token) → 0 < end → end ≤ length tokens → get_or tokens (end - 1) d ≡ t → take end tokens ≡ all → take (end - 1) tokens ++ t ∷ [] ≡ all
+last_apart tokens all end t d some within is e =
+    let next : end - 1 + 1 ≡ end = omega arith in
+    sym (take_more tokens (end - 1) d (omega arith) ∙ ap (λ u. take (end - 1) tokens ++ u ∷ []) is) ∙ ap (λ k. take k tokens) next ∙ e
+
+-- how many they are without it
+pub length_before : (tokens front : List Token) (end : ℕ) → end ≤ length tokens → take (end - 1) tokens ≡ front → end - 1 ≡ length front
+length_before tokens front end within is = sym (length-take-le (end - 1) tokens (omega arith)) ∙ ap length is
 
 -- the tokens of a node, with its operator apart
 node_apart : (front : List Token) (o : Operator) (x y : Tree) → front ++ spelling (Node o x y) ≡ ((front ++ spelling x) ++ spelling y) ++ token.Operator o ∷ []

@@ -98,6 +98,7 @@ fn judge_fields(start: &LineStart, text: &[u8]) -> Judgement
 }
 
 // The line without a carriage return at its end.
+#[tactic(auto, using(stream_reader::proofs::Returns::with_return, stream_reader::proofs::Returns::no_return, stream_reader::proofs::Returns::nothing))]
 fn without_return(line: &[u8]) -> &[u8]
     ensures { result.now ≡ Judged.without_return line.now }
 {
