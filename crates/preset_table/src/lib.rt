@@ -16,76 +16,57 @@ pub fn preset_count() -> u32
     PRESETS
 }
 
+// The symbol and the code in a row, which are those of PAPI's list.
+#[tactic(auto, unfolding(crate::specs::Table::preset_rows, crate::specs::Table::symbol_at, crate::specs::Table::code_at))]
+fn preset_at(row: u32) -> (&'static str, u32)
+    requires { row < PRESETS }
+    ensures symbol { result.0.now ≡ Table.symbol_at row }
+    ensures code { result.1 ≡ Table.code_at row }
+{
+    match row {
+        0 => ("PAPI_L1_DCM", 0x80000000),
+        1 => ("PAPI_L1_ICM", 0x80000001),
+        2 => ("PAPI_L2_DCM", 0x80000002),
+        3 => ("PAPI_L2_ICM", 0x80000003),
+        4 => ("PAPI_L1_TCM", 0x80000006),
+        5 => ("PAPI_L2_TCM", 0x80000007),
+        6 => ("PAPI_L3_TCM", 0x80000008),
+        7 => ("PAPI_TLB_DM", 0x80000014),
+        8 => ("PAPI_TLB_IM", 0x80000015),
+        9 => ("PAPI_L1_LDM", 0x80000017),
+        10 => ("PAPI_L1_STM", 0x80000018),
+        11 => ("PAPI_BR_UCN", 0x8000002a),
+        12 => ("PAPI_BR_CN", 0x8000002b),
+        13 => ("PAPI_BR_TKN", 0x8000002c),
+        14 => ("PAPI_BR_NTK", 0x8000002d),
+        15 => ("PAPI_BR_MSP", 0x8000002e),
+        16 => ("PAPI_BR_PRC", 0x8000002f),
+        17 => ("PAPI_TOT_INS", 0x80000032),
+        18 => ("PAPI_LD_INS", 0x80000035),
+        19 => ("PAPI_SR_INS", 0x80000036),
+        20 => ("PAPI_BR_INS", 0x80000037),
+        21 => ("PAPI_RES_STL", 0x80000039),
+        22 => ("PAPI_TOT_CYC", 0x8000003b),
+        23 => ("PAPI_LST_INS", 0x8000003c),
+        24 => ("PAPI_FP_OPS", 0x80000066),
+        _ => ("PAPI_REF_CYC", 0x8000006b),
+    }
+}
+
 /// The symbol in a row below [`PRESETS`].
-#[tactic(auto, unfolding(crate::specs::Table::preset_rows, crate::specs::Table::symbol_at))]
 pub fn preset_symbol(row: u32) -> &'static str
     requires { row < PRESETS }
     ensures symbol { result.now ≡ Table.symbol_at row }
 {
-    match row {
-        0 => "PAPI_L1_DCM",
-        1 => "PAPI_L1_ICM",
-        2 => "PAPI_L2_DCM",
-        3 => "PAPI_L2_ICM",
-        4 => "PAPI_L1_TCM",
-        5 => "PAPI_L2_TCM",
-        6 => "PAPI_L3_TCM",
-        7 => "PAPI_TLB_DM",
-        8 => "PAPI_TLB_IM",
-        9 => "PAPI_L1_LDM",
-        10 => "PAPI_L1_STM",
-        11 => "PAPI_BR_UCN",
-        12 => "PAPI_BR_CN",
-        13 => "PAPI_BR_TKN",
-        14 => "PAPI_BR_NTK",
-        15 => "PAPI_BR_MSP",
-        16 => "PAPI_BR_PRC",
-        17 => "PAPI_TOT_INS",
-        18 => "PAPI_LD_INS",
-        19 => "PAPI_SR_INS",
-        20 => "PAPI_BR_INS",
-        21 => "PAPI_RES_STL",
-        22 => "PAPI_TOT_CYC",
-        23 => "PAPI_LST_INS",
-        24 => "PAPI_FP_OPS",
-        _ => "PAPI_REF_CYC",
-    }
+    preset_at(row).0
 }
 
 /// The code in a row below [`PRESETS`], which has bit 31 set.
-#[tactic(auto, unfolding(crate::specs::Table::preset_rows, crate::specs::Table::code_at))]
 pub fn preset_code(row: u32) -> u32
     requires { row < PRESETS }
     ensures code { result ≡ Table.code_at row }
 {
-    match row {
-        0 => 0x80000000,
-        1 => 0x80000001,
-        2 => 0x80000002,
-        3 => 0x80000003,
-        4 => 0x80000006,
-        5 => 0x80000007,
-        6 => 0x80000008,
-        7 => 0x80000014,
-        8 => 0x80000015,
-        9 => 0x80000017,
-        10 => 0x80000018,
-        11 => 0x8000002a,
-        12 => 0x8000002b,
-        13 => 0x8000002c,
-        14 => 0x8000002d,
-        15 => 0x8000002e,
-        16 => 0x8000002f,
-        17 => 0x80000032,
-        18 => 0x80000035,
-        19 => 0x80000036,
-        20 => 0x80000037,
-        21 => 0x80000039,
-        22 => 0x8000003b,
-        23 => 0x8000003c,
-        24 => 0x80000066,
-        _ => 0x8000006b,
-    }
+    preset_at(row).1
 }
 
 /// The description in a row below [`PRESETS`].
