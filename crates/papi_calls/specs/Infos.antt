@@ -1,6 +1,7 @@
 -- What is told of an event: PAPI_get_event_info(3), papi_avail(1).
 use Rattle.std.specs.Prelude.{ℕ, List, [], Option, None, slice_get}
 use Rattle.std.specs.Option.{option_map_or}
+use Rattle.component_table.specs.Books.{kind_of}
 use Rattle.component_table.specs.Catalogs.{CatalogView}
 use Rattle.component_table.specs.EventNames.{event_name}
 use Rattle.event_tables.specs.Tables.{ComponentText, event_at}
@@ -16,17 +17,8 @@ use Rattle.postfix_rules.specs.Tokens.{formula_text}
 use Rattle.postfix_rules.specs.declared.rule.Rule.{Rule}
 use Rattle.postfix_rules.specs.declared.rule.Rule.TheVariants as rule
 use Rattle.preset_csv.specs.Kinds.{kind_text}
-use Rattle.preset_csv.specs.declared.kind.Kind.{Kind}
-use Rattle.preset_csv.specs.declared.kind.Kind.TheVariants as kind
 use Rattle.preset_table.specs.Table.{description_at}
 use Rattle.table_rows.specs.Texts.{Text}
-
--- the kind of the events that have a rule
-abbrev pub kind_of : Rule → Kind
-kind_of rule.Plain = kind.NotDerived
-kind_of rule.Sum = kind.Add
-kind_of rule.Sub = kind.Sub
-kind_of (rule.Postfix formula) = kind.Postfix
 
 -- the formula of a rule that has one
 abbrev pub rule_formula : Rule → Text
@@ -35,9 +27,9 @@ rule_formula rule.Plain = []
 rule_formula rule.Sum = []
 rule_formula rule.Sub = []
 
--- the native event in a place from 0, by its canonical name
-abbrev pub native_in : List ComponentText → List Native → ℕ → Text
-native_in tables natives place = option_map_or (canonical tables) (slice_get natives place) []
+-- a native event by its canonical name, if there is one
+abbrev pub native_name : List ComponentText → Option Native → Text
+native_name tables native = option_map_or (canonical tables) native []
 
 -- the preset table describes its rows; a user event has no description
 abbrev pub row_description : ℕ → Text
@@ -61,7 +53,7 @@ derived_in book (event.Native n) = None
 abbrev pub derived_part : List ComponentText → InfoPart → DerivedView → Text
 derived_part tables part.DerivedType d = kind_text (kind_of d.rule)
 derived_part tables part.Formula d = rule_formula d.rule
-derived_part tables (part.Native place) d = native_in tables d.natives place
+derived_part tables (part.Native place) d = native_name tables (slice_get d.natives place)
 derived_part tables part.Name d = []
 derived_part tables part.Description d = []
 

@@ -6,12 +6,12 @@ ghost use Rattle.papi_calls.specs.Infos as Infos;
 ghost use Rattle.papi_calls.specs.Infos.{derived_in, info_of};
 
 use crate::library::Library;
-use component_table::Catalog;
+use component_table::{Catalog, kind_of};
 use event_tables::Tables;
 use name_encoder::write_name;
-use papi_base::{Code, EventRef, Native, Natives};
+use papi_base::{Code, EventRef, Native};
 use postfix_rules::{Derived, Rule, write_formula};
-use preset_csv::{Kind, kind_text};
+use preset_csv::kind_text;
 use preset_table::{preset_count, preset_text};
 use std::alloc::{AllocError, Global};
 
@@ -26,18 +26,6 @@ pub enum InfoPart {
     Native(u32),
 }
 
-// The kind of the events that have a rule.
-fn kind_of(rule: &Rule) -> Kind
-    ensures { result ≡ Infos.kind_of rule.now }
-{
-    match rule {
-        Rule::Plain => Kind::NotDerived,
-        Rule::Sum => Kind::Add,
-        Rule::Sub => Kind::Sub,
-        Rule::Postfix(_) => Kind::Postfix,
-    }
-}
-
 // The formula of a rule that has one.
 fn formula_text(alloc: Global, rule: &Rule) -> Result<String, AllocError>
     ensures { IfOk result (λ text. string_bytes text ≡ Infos.rule_formula rule.now) }
@@ -48,20 +36,13 @@ fn formula_text(alloc: Global, rule: &Rule) -> Result<String, AllocError>
     }
 }
 
-// The canonical name of the native event in a place.
-fn native_text(
-    alloc: Global,
-    tables: &Tables,
-    natives: &Natives,
-    place: u32,
-) -> Result<String, AllocError>
-    ensures { IfOk result (λ text.
-        string_bytes text ≡ Infos.native_in tables.now natives.now place) }
+// The canonical name of a native event, if there is one.
+fn native_text(alloc: Global, tables: &Tables, native: Option<Native>) -> Result<String, AllocError>
+    ensures { IfOk result (λ text. string_bytes text ≡ Infos.native_name tables.now native) }
 {
-    if place < natives.len() {
-        write_name(alloc, tables, &natives.at(place))
-    } else {
-        Ok(String::new(alloc))
+    match native {
+        Some(native) => write_name(alloc, tables, &native),
+        None => Ok(String::new(alloc)),
     }
 }
 
@@ -119,7 +100,7 @@ fn derived_part(
     match part {
         InfoPart::DerivedType => String::from_str(alloc, kind_text(kind_of(derived.rule()))),
         InfoPart::Formula => formula_text(alloc, derived.rule()),
-        InfoPart::Native(place) => native_text(alloc, tables, derived.natives(), place),
+        InfoPart::Native(place) => native_text(alloc, tables, derived.natives().get(place)),
         InfoPart::Name | InfoPart::Description => Ok(String::new(alloc)),
     }
 }
