@@ -1,7 +1,6 @@
 //! The list of a unit's native events.
 
 ghost use Rattle.std.specs.Prelude.{◌≡◌, ◌≤◌, ◌++◌, ◌∷◌, IfOk, OnOk, length, map, string_bytes};
-ghost use Rattle.std.specs.List.{flat_map};
 ghost use Rattle.std.specs.Option.{option_copied};
 ghost use Rattle.event_tables.specs.Views.{component_text, event_text, mask_text};
 ghost use Rattle.listing_text.specs.NativeLists as NativeLists;
@@ -111,29 +110,6 @@ fn push_component(
     Ok(listed)
 }
 
-// Appends the components with their events that are listed, and gives the number of these.
-fn push_components(
-    text: &mut String,
-    tables: &Tables,
-    selection: &Selection,
-) -> Result<usize, AllocError>
-    ensures text { OnOk result (string_bytes text.new ≡ string_bytes text.old
-        ++ flat_map (NativeLists.component_lines (option_copied selection.now.included)
-        (option_copied selection.now.excluded)
-        selection.now.umasks) tables.now) }
-    ensures count { IfOk result (λ count.
-        count ≡ NativeLists.listed_count (option_copied selection.now.included)
-        (option_copied selection.now.excluded) tables.now) }
-{
-    let mut total = 0;
-    for place in 0..tables.components() {
-        if let Some(component) = tables.component(place) {
-            total += push_component(text, component, selection)?;
-        }
-    }
-    Ok(total)
-}
-
 /// The list of the native events of a unit, as papi_native_avail(1) prints it: each component with its events and, if they
 /// are asked for, their umasks, and how many events are listed.
 ///
@@ -157,7 +133,12 @@ pub fn native_list(
         umasks,
     };
     let mut text = String::new(alloc);
-    let total = push_components(&mut text, tables, &selection)?;
+    let mut total = 0;
+    for place in 0..tables.components() {
+        if let Some(component) = tables.component(place) {
+            total += push_component(&mut text, component, &selection)?;
+        }
+    }
     writeln!(text, "Total events: {total}")?;
     Ok(text)
 }
