@@ -21,7 +21,7 @@ use Rattle.thread_session.specs.Follows.{FollowsTo, IsCutTo, expecting}
 use Rattle.thread_session.specs.Prospects.{CanCome}
 use Rattle.thread_session.specs.Stands.{IsReady, Stands, to_come}
 use Rattle.thread_session.proofs.Growing.{grown_more}
-use Rattle.thread_registry.specs.JobView.{JobView, Worked, Finished, FinishedTo, CutShort, WorkedOrIdle, seen_of}
+use Rattle.thread_registry.specs.JobView.{JobView, Replied, Worked, WorkedTo, Finished, FinishedTo, CutShort, WorkedOrIdle, seen_of}
 use Rattle.thread_registry.proofs.Folds.{after-more, replies-more, notes-more, replies-front, notes-part}
 use Rattle.thread_registry.proofs.Faults.{kept-kept, kept-rose, rose-kept}
 
@@ -321,36 +321,26 @@ outcome-to-as : (book : Book) (a : Account) (x y : JobView) (left : Coming) (bef
     → MatchBool b (CutShort book a (seen_of x.session x.notes x.calls x.replies before) y) (FinishedTo book a (seen_of x.session x.notes x.calls x.replies before) y left)
 outcome-to-as book a x y left before b h = grind (arith, nat_tests)
 
+-- nor does anything else that its work left
+worked-as : (book : Book) (x y : JobView) (before : Bool) → Worked book x y → Worked book (seen_of x.session x.notes x.calls x.replies before) y
+worked-as book x y before w =
+    let x' = seen_of x.session x.notes x.calls x.replies before in
+    let replied : (made : List Reply) × Replied x' y made = (w.replied.0, grind (arith, nat_tests)) in
+    let towards : (left : Coming) → CanCome y.session.reader left → WorkedTo book x' y left =
+    λ left h.
+    let t = w.towards left h in
+    record { expected = t.expected; can_come = t.can_come; outcome = λ a s q. outcome-to-as book a x y left before y.starved (t.outcome a s q) } in
+    grind (arith, nat_tests, outcome-as, replied, towards)
+
 -- the job is seen the same by its parts
 pub worked-same : (book : Book) (x x' y y' : JobView) → Worked book x y
     → x'.session ≡ x.session → x'.notes ≡ x.notes → x'.calls ≡ x.calls → x'.replies ≡ x.replies
     → y'.session ≡ y.session → y'.notes ≡ y.notes → y'.calls ≡ y.calls → y'.replies ≡ y.replies → y'.starved ≡ y.starved
     → Worked book x' y'
 worked-same book x x' y y' w a n c r a' n' c' r' s' =
-    let b = x'.starved in
-    let p0 : Worked book (seen_of x.session x.notes x.calls x.replies b) y =
-    record {
-      calls = w.calls;
-      shape = w.shape;
-      ready = w.ready;
-      faults = w.faults;
-      grown = w.grown;
-      replied = (w.replied.0, record { appended = w.replied.1.appended; counted = w.replied.1.counted; faulty = w.replied.1.faulty });
-      outcome = λ e s. outcome-as book e x y b y.starved (w.outcome e s);
-      towards =
-          λ left h.
-          let t = w.towards left h in
-          record { expected = t.expected; can_come = t.can_come; outcome = λ e s q. outcome-to-as book e x y left b y.starved (t.outcome e s q) };
-    } in
-    let p1 = subst (λ v. Worked book (seen_of v x.notes x.calls x.replies b) y) (sym a) p0 in
-    let p2 = subst (λ v. Worked book (seen_of x'.session v x.calls x.replies b) y) (sym n) p1 in
-    let p3 = subst (λ v. Worked book (seen_of x'.session x'.notes v x.replies b) y) (sym c) p2 in
-    let p4 = subst (λ v. Worked book (seen_of x'.session x'.notes x'.calls v b) y) (sym r) p3 in
-    let q1 = subst (λ v. Worked book x' (seen_of v y.notes y.calls y.replies y.starved)) (sym a') p4 in
-    let q2 = subst (λ v. Worked book x' (seen_of y'.session v y.calls y.replies y.starved)) (sym n') q1 in
-    let q3 = subst (λ v. Worked book x' (seen_of y'.session y'.notes v y.replies y.starved)) (sym c') q2 in
-    let q4 = subst (λ v. Worked book x' (seen_of y'.session y'.notes y'.calls v y.starved)) (sym r') q3 in
-    subst (λ v. Worked book x' (seen_of y'.session y'.notes y'.calls y'.replies v)) (sym s') q4
+    let old : seen_of x.session x.notes x.calls x.replies x'.starved ≡ x' = λ i. seen_of (sym a i) (sym n i) (sym c i) (sym r i) x'.starved in
+    let new : y ≡ y' = λ i. seen_of (sym a' i) (sym n' i) (sym c' i) (sym r' i) (sym s' i) in
+    subst (Worked book x') new (subst (λ v. Worked book v y) old (worked-as book x y x'.starved w))
 
 -- a job with calls was worked
 pub ran-by : (book : Book) (x y : JobView) → 0 < length x.calls → Worked book x y → WorkedOrIdle book x y
