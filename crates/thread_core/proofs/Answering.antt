@@ -1,11 +1,10 @@
 -- What the answers of calls cite, passed on from one place. Declares nothing.
-pub use Rattle.session_model.specs.declared.call.Call.TheVariants.{Accum, Add, Assign, Destroy, ListEvents, State, Read, Register, Reset, Start, Stop}
-pub use Rattle.session_model.specs.declared.call.Call.TheVariants.{Unregister}
+pub use Rattle.session_model.specs.declared.call.Call.TheVariants.{Accum, Add, Register, Reset}
 pub use Rattle.thread_core.proofs.Changing.{rest_refuses, slot_view, name_refuses, add_follows, before_refuses, change_follows, code_after}
-pub use Rattle.thread_core.proofs.Changing.{free_is, create_follows, destroy_follows, change_there, rest_there}
+pub use Rattle.thread_core.proofs.Changing.{free_is, create_follows, destroy_follows}
 pub use Rattle.thread_core.proofs.Following.{values_refused, goes, time_is, agrees_now, refused_follows, code_follows, Goes, registration, seen}
 pub use Rattle.thread_core.proofs.Known.{counts_known, forgotten, runner_below, counted_known}
-pub use Rattle.thread_core.proofs.Looking.{absent_follows, comp_below, goes_there, Has, Calls, calls, named, reads, reads_some}
+pub use Rattle.thread_core.proofs.Looking.{absent_follows, comp_below, goes_there, reads}
 pub use Rattle.std.specs.Option.{option_copied}
 pub use Rattle.thread_core.proofs.Shows.{has_unit, tellable, rested_tellable, assign_follows, assign_refused, list_follows, read_follows, state_follows}
 pub use Rattle.thread_core.proofs.Starting.{accum_lengths, accum_follows, reset_follows, start_ready, start_follows, stop_follows}

@@ -16,7 +16,7 @@ use Rattle.thread_slots.specs.declared.changing.Change.TheVariants as made
 use Rattle.event_sets.specs.Sets.{set_view}
 use Rattle.thread_core.proofs.Squares.{slot_of-stopped}
 use Rattle.thread_slots.specs.declared.changing.Change.{Change}
-use Rattle.thread_core.proofs.Looking.{Has, has_slot, named, Under, under, runs_as, put_follows, units_rest, row_off}
+use Rattle.thread_core.proofs.Looking.{named, Under, under, runs_as, put_follows, units_rest, row_off}
 use Rattle.thread_slots.specs.declared.slot.Counting.TheVariants as counting
 use Rattle.thread_core.proofs.Following.{faces_stand, check_comes, codes_refuse, check_fails, none_comes, all_some_of_map, refused_follows, with_both, Goes, done_follows}
 use Rattle.event_sets.specs.Adding.{add_refusal}
@@ -104,11 +104,6 @@ add_rows book shape registered faces k e r here = rw here (ap (λ c. if cannot_t
 
 -- ---- changes
 
--- if no code comes, the set is there and does not run
-pub change_there : (shape : Widths) (slots : List (Option Slot)) (k : ℕ) (m : Change) → code_before shape (slot_faces slots) k m ≡ None → Has slots k
-change_there shape slots k m none = has_slot slots k (check_fails
-    ((is_absent (slot_faces slots) k, Enoevst) ∷ (lacks_component shape m, Enocmp) ∷ (runs (slot_faces slots) k, Eisrun) ∷ []) 0 none)
-
 change_rests : (core : CoreView) (k : ℕ) (m : Change) → code_before core.shape (slot_faces core.slots) k m ≡ None → runs (slot_faces core.slots) k ≡ false
 change_rests core k m none = check_fails
     ((is_absent (slot_faces core.slots) k, Enoevst) ∷ (lacks_component core.shape m, Enocmp) ∷ (runs (slot_faces core.slots) k, Eisrun) ∷ []) 2 none
@@ -174,9 +169,6 @@ change_follows book core k m (Ok u) slot new agrees named none here changed take
     })
 
 -- ---- one more event
-
-pub rest_there : (slots : List (Option Slot)) (k : ℕ) → rest_code (slot_faces slots) k ≡ None → Has slots k
-rest_there slots k none = has_slot slots k (check_fails ((is_absent (slot_faces slots) k, Enoevst) ∷ (runs (slot_faces slots) k, Eisrun) ∷ []) 0 none)
 
 now_rests : (core : CoreView) (k : ℕ) → rest_code (slot_faces core.slots) k ≡ None → runs (slot_faces core.slots) k ≡ false
 now_rests core k none = check_fails ((is_absent (slot_faces core.slots) k, Enoevst) ∷ (runs (slot_faces core.slots) k, Eisrun) ∷ []) 1 none

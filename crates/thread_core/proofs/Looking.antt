@@ -3,11 +3,12 @@ use Rattle.thread_core.proofs.Words.{Book, CoreView, Account, ℕ, CoreStands, a
 use Rattle.thread_core.proofs.Words.{option_map_or, slice_get, slot_faces, false, face_of, ◌<◌, length, is_absent, refl, Option, None, true, sym, Face, is_none}
 use Rattle.thread_core.proofs.Words.{here, slice_get_within, runs, Slot, same_some, AgreesWith, arith, Widths, AtRest, List, widths_at, get_at, unwrap_or, []}
 use Rattle.thread_core.proofs.Words.{unit_at, UnitView, registers_by, Reply, IsGood, is_on_sets, sets_after, new_kept, kept_after, reply_over, sight_of_kept}
-use Rattle.thread_core.proofs.Words.{Follows, done, slice_set, AreApart, faces_of, units_of, change, map_put, subst, runner, ap₂, Code, IsRefusedWith}
+use Rattle.thread_core.proofs.Words.{Follows, done, slice_set, AreApart, faces_of, units_of, change, map_put, subst, runner, ap₂}
 use Rattle.thread_core.proofs.Words.{time_after, clock, face_of_slot, get_or, get-set_same, Refusal, refusal_of, if◌then◌else◌, Plain, Enoevst, plain}
-use Rattle.thread_slots.proofs.Lists.{at_read, place_is}
+use Rattle.thread_slots.proofs.Lists.{at_read}
+use Rattle.thread_core.specs.Refusing.{IsThere}
 use Rattle.session_model.specs.declared.reply.Body.TheVariants as body
-use Rattle.thread_core.proofs.Following.{Allowed, faces_stand, done_follows, Goes, goes, with_both, refused_follows}
+use Rattle.thread_core.proofs.Following.{Allowed, faces_stand, done_follows, Goes, with_both, refused_follows}
 use Rattle.session_model.specs.Refusals.{rows}
 use Rattle.session_laws.proofs.Sets.{row_fails}
 use Rattle.thread_core.proofs.Owners.{length-units, get-units, unit_by-runner, units_same, unit_stays, units_put, runner_is, runs_there, IsQuiet, quiet_other}
@@ -36,13 +37,12 @@ face_at slots k place is = at_map face_of_slot slots k ∙ ap (option_map face_o
 pub record Has (slots : List (Option Slot)) (k : ℕ) : Type 0 where
   pub slot : Slot
   pub at_slot : at slots k ≡ Some slot
-  pub inside : k < length slots
 
 pub has_slot : (slots : List (Option Slot)) (k : ℕ) → is_absent (slot_faces slots) k ≡ false → Has slots k
 has_slot slots k there = go (at slots k) refl where
   go : (o : Option Slot) → at slots k ≡ o → Has slots k
   go None e = let gone : true ≡ false = sym (ap (λ (o : Option Face). is_none o) (face_at slots k None e)) ∙ there in cc
-  go (Some slot) e = record { slot = slot; at_slot = e; inside = slice_get_within slots k _ (at-some slots k slot e) }
+  go (Some slot) e = record { slot = slot; at_slot = e }
 
 -- so it is if a call is not refused whose table begins with that test
 pub named : {book : Book} {core : CoreView} {made : Call} (k : ℕ) → Goes book core made
@@ -67,25 +67,11 @@ goes_there {book} {core} {made} k slot agrees lent table = record {
   allowed = table ∙ ap (λ (o : Option Face). if is_none o then Some (Plain Enoevst) else None) (face_at core.slots k (Some slot) lent);
 }
 
--- a call on it that is not refused
-pub record Calls (book : Book) (core : CoreView) (made : Call) (k : ℕ) : Type 0 where
-  pub goes : Goes book core made
-  pub has : Has core.slots k
-
-pub calls : {book : Book} {core now : CoreView} {made : Call} {result : Option Code} (k : ℕ) → core ≡ now → AgreesWith book now
-    → IsRefusedWith now made result → result ≡ None
-    → option_map_or (λ r. r.0) (slice_get (rows book core.shape core.registered (slot_faces core.slots) made) 0) false ≡ is_absent (slot_faces core.slots) k
-    → Calls book core made k
-calls k same agrees refused none first = let g = goes same agrees refused none in record { goes = g; has = named k g first }
-
--- what the code reads there is that set
-pub reads : {slots : List (Option Slot)} {k : ℕ} {place : Option Slot} {slot : Slot} → Has slots k → place ≡ get_or slots k place → place ≡ Some slot
-    → at slots k ≡ Some slot
-reads {slots} {k} {place} {slot} h is some = at_read slots k place slot h.inside is some
-
--- the code reads a set there
-pub reads_some : {slots : List (Option Slot)} {k : ℕ} {place : Option Slot} → Has slots k → place ≡ get_or slots k place → place ≡ None → ⊥
-reads_some {slots} {k} {place} h is none = let some = place_is slots k place h.slot h.inside is h.at_slot in cc
+-- the set that the code reads under a number
+pub reads : {core now : CoreView} {k : ℕ} {place : Option Slot} {slot : Slot} → core ≡ now → IsThere now.slots k → place ≡ get_or core.slots k place
+    → place ≡ Some slot → at core.slots k ≡ Some slot
+reads {core} {now} {k} {place} {slot} same there is some =
+    at_read core.slots k place slot (subst (λ (v : CoreView). k < length v.slots) (sym same) there.0) is some
 
 -- the set of the account that a slot is of
 pub record Under (book : Book) (core : CoreView) (a : Account) (k : ℕ) (slot : Slot) : Type 0 where

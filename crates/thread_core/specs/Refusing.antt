@@ -1,5 +1,5 @@
 -- What refusals look at in the places of a core, and the code of the first check that holds.
-use Rattle.std.specs.Prelude.{◌≡◌, ℕ, Bool, if◌then◌else◌, map, List, [], ◌∷◌, Option, Some, None}
+use Rattle.std.specs.Prelude.{◌≡◌, ◌≢◌, ◌<◌, length, slice_index_or, ℕ, Bool, if◌then◌else◌, map, List, [], ◌∷◌, Option, Some, None}
 use Rattle.std.specs.Option.{option_map}
 use Rattle.papi_base.specs.declared.code.Code.{Code}
 use Rattle.papi_base.specs.declared.code.Code.TheVariants.{Eisrun, Enoevst}
@@ -15,6 +15,10 @@ use Rattle.thread_core.specs.CoreView.{CoreView}
 -- what refusals look at under each number
 abbrev pub slot_faces : List (Option Slot) → List (Option Face)
 slot_faces slots = map (option_map face_of_slot) slots
+
+-- there is a set under the number
+abbrev pub IsThere : List (Option Slot) → ℕ → Type 0
+IsThere slots k = (k < length slots) × (slice_index_or slots k None ≢ None)
 
 -- the code of the first check that holds
 abbrev pub first_code : List (Bool × Code) → Option Code

@@ -1,6 +1,6 @@
 //! Which calls that change a thread's sets are refused. For each call its checks stand in their order, each with its code; the
 //! first that holds refuses.
-ghost use Rattle.std.specs.Prelude.{◌≡◌, ℕ, ◌==◌, Bool, length, map, is_none, is_some, not, None};
+ghost use Rattle.std.specs.Prelude.{◌≡◌, ℕ, ◌==◌, Bool, length, map, is_none, is_some, not, None, false};
 ghost use Rattle.std.specs.Option.{option_copied, option_map};
 ghost use Rattle.std.specs.List.{list_all, list_any};
 ghost use Rattle.event_sets.specs.AtRest.{Widths};
@@ -8,7 +8,7 @@ ghost use Rattle.event_sets.specs.declared.refusal.Refusal.TheVariants.{Plain};
 ghost use Rattle.session_model.specs.Faces.{at, component_runs, has, is_absent, is_running, runs, runs_on};
 ghost use Rattle.session_model.specs.Refusals.{first_of, has_events, row};
 ghost use Rattle.session_model.specs.declared.call.Call.TheVariants as call;
-ghost use Rattle.thread_core.specs.Refusing.{IsRefusedWith, first_code, rest_code, slot_faces};
+ghost use Rattle.thread_core.specs.Refusing.{IsRefusedWith, IsThere, first_code, rest_code, slot_faces};
 ghost use Rattle.thread_slots.specs.Altering.{code_before};
 ghost use Rattle.thread_slots.specs.Slots.{face_of_slot};
 
@@ -30,7 +30,8 @@ pub(crate) fn set_under(slots: &[Option<Slot>], set: u32) -> Option<&Slot>
 
 /// Whether there is no set under the number.
 pub(crate) fn is_absent(slots: &[Option<Slot>], set: u32) -> bool
-    ensures { result ≡ is_absent (slot_faces slots.now) set }
+    ensures absent { result ≡ is_absent (slot_faces slots.now) set }
+    ensures there { result ≡ false → IsThere slots.now set }
 {
     set_under(slots, set).is_none()
 }
@@ -144,7 +145,8 @@ impl Core {
 
     /// `destroy`.
     pub(crate) fn destroy_refusal(&self, set: u32) -> Option<Code>
-        ensures { IsRefusedWith self.now (call.Destroy set) result }
+        ensures refused { IsRefusedWith self.now (call.Destroy set) result }
+        ensures there { result ≡ None → IsThere self.now.slots set }
     {
         first_of(&[
             (is_absent(&self.slots, set), Code::Enoevst),
@@ -155,7 +157,8 @@ impl Core {
 
     /// `add`, before the event and the set at rest are looked at.
     pub(crate) fn add_refusal(&self, set: u32) -> Option<Code>
-        ensures { result ≡ rest_code (slot_faces self.now.slots) set }
+        ensures code { result ≡ rest_code (slot_faces self.now.slots) set }
+        ensures there { result ≡ None → IsThere self.now.slots set }
     {
         first_of(&[
             (is_absent(&self.slots, set), Code::Enoevst),
@@ -165,7 +168,9 @@ impl Core {
 
     /// The other changes of a set at rest, before the set is asked.
     pub(crate) fn change_refusal(&self, set: u32, change: &Change) -> Option<Code>
-        ensures { result ≡ code_before self.now.shape (slot_faces self.now.slots) set change.now }
+        ensures code { result
+            ≡ code_before self.now.shape (slot_faces self.now.slots) set change.now }
+        ensures there { result ≡ None → IsThere self.now.slots set }
     {
         first_of(&[
             (is_absent(&self.slots, set), Code::Enoevst),
@@ -176,7 +181,8 @@ impl Core {
 
     /// `start`.
     pub(crate) fn start_refusal(&self, set: u32) -> Option<Code>
-        ensures { IsRefusedWith self.now (call.Start set) result }
+        ensures refused { IsRefusedWith self.now (call.Start set) result }
+        ensures there { result ≡ None → IsThere self.now.slots set }
     {
         first_of(&[
             (is_absent(&self.slots, set), Code::Enoevst),
@@ -188,7 +194,8 @@ impl Core {
 
     /// `stop`.
     pub(crate) fn stop_refusal(&self, set: u32) -> Option<Code>
-        ensures { IsRefusedWith self.now (call.Stop set) result }
+        ensures refused { IsRefusedWith self.now (call.Stop set) result }
+        ensures there { result ≡ None → IsThere self.now.slots set }
     {
         first_of(&[
             (is_absent(&self.slots, set), Code::Enoevst),
@@ -199,7 +206,8 @@ impl Core {
     /// `accum` and `reset`.
     #[inline]
     pub(crate) fn zero_refusal(&self, set: u32) -> Option<Code>
-        ensures { IsRefusedWith self.now (call.Reset set) result }
+        ensures refused { IsRefusedWith self.now (call.Reset set) result }
+        ensures there { result ≡ None → IsThere self.now.slots set }
     {
         first_of(&[(is_absent(&self.slots, set), Code::Enoevst)])
     }

@@ -1,34 +1,24 @@
-use Rattle.thread_core.proofs.Answering.{sym, Has, at, Some, ◌∙◌, Plain, refl, Err, subst, CoreView, IsNamed, Ok, ap, arith, ◌≡◌, None, rest_code}
-use Rattle.thread_core.proofs.Answering.{slot_faces, refused_follows, agrees_now, rest_refuses, slot_view, name_refuses, add_follows, rest_there, reads}
-use Rattle.thread_core.proofs.Answering.{reads_some, forgotten, Add}
+use Rattle.thread_core.proofs.Answering.{sym, at, Some, ◌∙◌, Plain, refl, Err, subst, CoreView, IsNamed, Ok, ap, ◌≡◌, None, rest_code}
+use Rattle.thread_core.proofs.Answering.{slot_faces, refused_follows, agrees_now, rest_refuses, slot_view, name_refuses, add_follows, reads}
+use Rattle.thread_core.proofs.Answering.{forgotten, Add}
 use Rattle.thread_core.proofs.thread.Core.add.Goals as goal
 use Rattle.thread_core.proofs.thread.Core.add.Goals.{In_default, In-Some-index_mut}
 
 pub returns-in-Some : goal.returns-in-Some
 returns-in-Some c = refused_follows _ _ _ (Plain _) _ c.requires.agrees
-    (rest_refuses _ c.args.self.now.shape c.args.self.now.registered _ c.args.set c.args.e.now _ (sym c.add_refusal.ensures ∙ c.in-Some.is)) refl
+    (rest_refuses _ c.args.self.now.shape c.args.self.now.registered _ c.args.set c.args.e.now _ (sym c.add_refusal.ensures.code ∙ c.in-Some.is)) refl
 
 pub returns-in-Err : goal.returns-in-Err
 returns-in-Err c = rw c.in-Err.is (refused_follows _ c.args.self.now (Add c.args.set (Err c.in-Err.code)) (Plain c.in-Err.code) _ c.requires.agrees
     (name_refuses c.args.book.now c.args.self.now.shape c.args.self.now.registered _ c.args.set c.in-Err.code
-    (sym c.add_refusal.ensures ∙ c.in_default.is)) refl)
+    (sym c.add_refusal.ensures.code ∙ c.in_default.is)) refl)
 
 -- the set that the call names, which does not run
 none : (c : In_default) → rest_code (slot_faces c.self.inside.slots.items) c.args.set ≡ None
-none c = ap (λ (v : CoreView). rest_code (slot_faces v.slots) c.args.set) c.self.view_is ∙ sym c.add_refusal.ensures ∙ c.in_default.is
-
-there : (c : In_default) → Has c.self.inside.slots.items c.args.set
-there c = rest_there _ c.args.set (none c)
+none c = ap (λ (v : CoreView). rest_code (slot_faces v.slots) c.args.set) c.self.view_is ∙ sym c.add_refusal.ensures.code ∙ c.in_default.is
 
 lent : (c : In-Some-index_mut) → at c.self.inside.slots.items c.args.set ≡ Some c.in-Some-index_mut.slot
-lent c = reads (there (goal.at.In-Some-index_mut c).In_default) c.index_mut.ensures.value c.in-Some-index_mut.is
-
-pub index_mut-requires : goal.index_mut-requires
-index_mut-requires c = let below = (there (goal.at.index_mut-requires c).In_default).inside in omega (arith, c.self.inside.slots.ok.0, below)
-
-pub returns-in_default-index_mut : goal.returns-in_default-index_mut
-returns-in_default-index_mut c =
-    absurd (reads_some (there (goal.at.returns-in_default-index_mut c).In_default) c.index_mut.ensures.value c.in_default-index_mut.is)
+lent c = reads c.self.view_is (c.add_refusal.ensures.there c.in_default.is) c.index_mut.ensures.value c.in-Some-index_mut.is
 
 pub add-requires-clause-view : goal.add-requires-clause-view
 add-requires-clause-view c = slot_view c.args.set (agrees_now c.self.view_is c.requires.agrees) (lent (goal.at.add-requires-clause-view c).In-Some-index_mut)

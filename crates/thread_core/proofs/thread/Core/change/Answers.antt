@@ -1,31 +1,21 @@
-use Rattle.thread_core.proofs.Answering.{refused_follows, Has, at, Some, Plain, refl, sym, ◌∙◌, ap, arith, None, CoreView, code_before, slot_faces, subst}
-use Rattle.thread_core.proofs.Answering.{IsFor, ◌≡◌, before_refuses, change_there, reads, reads_some, slot_view, change_follows, code_after, agrees_now}
+use Rattle.thread_core.proofs.Answering.{refused_follows, at, Some, Plain, refl, sym, ◌∙◌, ap, None, CoreView, code_before, slot_faces, subst}
+use Rattle.thread_core.proofs.Answering.{IsFor, ◌≡◌, before_refuses, reads, slot_view, change_follows, code_after, agrees_now}
 use Rattle.thread_core.proofs.Answering.{forgotten}
 use Rattle.thread_core.proofs.thread.Core.change.Goals as goal
 use Rattle.thread_core.proofs.thread.Core.change.Goals.{In_default, In-Some-index_mut, in-Ok, in-Err}
 
 pub returns-in-Some : goal.returns-in-Some
 returns-in-Some c = refused_follows _ _ _ (Plain _) _ c.requires.agrees
-    (before_refuses _ _ _ _ _ c.args.change.now _ (sym c.change_refusal.ensures ∙ c.in-Some.is)) refl
+    (before_refuses _ _ _ _ _ c.args.change.now _ (sym c.change_refusal.ensures.code ∙ c.in-Some.is)) refl
 
 -- the set that the call names, which does not run
 none : (c : In_default) → code_before c.self.inside.shape (slot_faces c.self.inside.slots.items) c.args.set c.args.change.now ≡ None
 none c =
     ap (λ (v : CoreView). code_before v.shape (slot_faces v.slots) c.args.set c.args.change.now) c.self.view_is
-    ∙ sym c.change_refusal.ensures ∙ c.in_default.is
-
-there : (c : In_default) → Has c.self.inside.slots.items c.args.set
-there c = change_there _ _ c.args.set c.args.change.now (none c)
+    ∙ sym c.change_refusal.ensures.code ∙ c.in_default.is
 
 lent : (c : In-Some-index_mut) → at c.self.inside.slots.items c.args.set ≡ Some c.in-Some-index_mut.slot
-lent c = reads (there (goal.at.In-Some-index_mut c).In_default) c.index_mut.ensures.value c.in-Some-index_mut.is
-
-pub index_mut-requires : goal.index_mut-requires
-index_mut-requires c = let below = (there (goal.at.index_mut-requires c).In_default).inside in omega (arith, c.self.inside.slots.ok.0, below)
-
-pub returns-in_default-index_mut : goal.returns-in_default-index_mut
-returns-in_default-index_mut c =
-    absurd (reads_some (there (goal.at.returns-in_default-index_mut c).In_default) c.index_mut.ensures.value c.in_default-index_mut.is)
+lent c = reads c.self.view_is (c.change_refusal.ensures.there c.in_default.is) c.index_mut.ensures.value c.in-Some-index_mut.is
 
 pub change-requires : goal.change-requires
 change-requires c = record {
