@@ -92,45 +92,12 @@ abbrev pub form_of : Text → List CallRow → Option Form
 form_of word [] = None
 form_of word (row ∷ rows) = if bytes_eq (word_of row.name) word then Some row.form else form_of word rows
 
--- a form that takes no argument
-abbrev pub TakesNothing : Option Form → Type 0
-TakesNothing (Some (Nothing made)) = Unit {0}
-TakesNothing _ = ⊥
-
--- a form that takes one number
-abbrev pub TakesNumber : Option Form → Type 0
-TakesNumber (Some (Number make)) = Unit {0}
-TakesNumber _ = ⊥
-
--- a form that takes two numbers
-abbrev pub TakesTwoNumbers : Option Form → Type 0
-TakesTwoNumbers (Some (TwoNumbers make)) = Unit {0}
-TakesTwoNumbers _ = ⊥
-
--- a form that takes a set and an event
-abbrev pub TakesSetAndEvent : Option Form → Type 0
-TakesSetAndEvent (Some (SetAndEvent make)) = Unit {0}
-TakesSetAndEvent _ = ⊥
-
--- a form that takes no argument, and makes this call
-abbrev pub OfNothing : Option Form → ScriptCall → Type 0
-OfNothing (Some (Nothing made)) call = call ≡ made
-OfNothing _ call = ⊥
-
--- a form that takes one number, and makes this call of it
-abbrev pub OfNumber : Option Form → ℕ → ScriptCall → Type 0
-OfNumber (Some (Number make)) number call = call ≡ make number
-OfNumber _ number call = ⊥
-
--- a form that takes two numbers, and makes this call of them
-abbrev pub OfTwoNumbers : Option Form → ℕ → ℕ → ScriptCall → Type 0
-OfTwoNumbers (Some (TwoNumbers make)) first second call = call ≡ make first second
-OfTwoNumbers _ first second call = ⊥
-
--- a form that takes a set and an event, and makes this call of them
-abbrev pub OfSetAndEvent : Option Form → ℕ → Text → ScriptCall → Type 0
-OfSetAndEvent (Some (SetAndEvent make)) set event call = call ≡ make set event
-OfSetAndEvent _ set event call = ⊥
+-- a form that takes no event
+abbrev pub TakesNoEvent : Option Form → Type 0
+TakesNoEvent (Some (SetAndEvent make)) = ⊥
+TakesNoEvent (Some (SetEventAndThreshold make)) = ⊥
+TakesNoEvent (Some (Event make)) = ⊥
+TakesNoEvent _ = Unit {0}
 
 -- the call of a form with its arguments
 abbrev pub call_by : Option Form → List Text → Result ScriptCall ScriptCause

@@ -55,73 +55,41 @@ fn name_in(word: &[u8]) -> Option<CallName>
     None
 }
 
-// The call of a name that takes no argument.
+// The call of a name that takes no event, with its arguments.
 #[tactic(auto, unfolding(crate::specs::Calls::call_rows))]
-fn plain_call(name: CallName) -> ScriptCall
-    requires { Calls.TakesNothing (Calls.form_of (word_of name) Calls.call_rows) }
-    ensures { Calls.OfNothing (Calls.form_of (word_of name) Calls.call_rows) result }
+fn eventless_call(name: CallName, arguments: &[&[u8]]) -> Result<ScriptCall, ScriptCause>
+    requires { Calls.TakesNoEvent (Calls.form_of (word_of name) Calls.call_rows) }
+    ensures { result ≡ Calls.call_of (word_of name) (map (λ w. w.now) arguments.now) }
 {
     match name {
-        CallName::Register => ScriptCall::Register,
-        CallName::Unregister => ScriptCall::Unregister,
-        CallName::Threads => ScriptCall::Threads,
-        CallName::Create => ScriptCall::Create,
-        _ => unreachable!(),
-    }
-}
-
-// The call of a name that takes one number.
-#[tactic(auto, unfolding(crate::specs::Calls::call_rows))]
-fn number_call(name: CallName, number: u32) -> ScriptCall
-    requires { Calls.TakesNumber (Calls.form_of (word_of name) Calls.call_rows) }
-    ensures { Calls.OfNumber (Calls.form_of (word_of name) Calls.call_rows) number result }
-{
-    match name {
-        CallName::Destroy => ScriptCall::Destroy { set: number },
-        CallName::Cleanup => ScriptCall::Cleanup { set: number },
-        CallName::Start => ScriptCall::Start { set: number },
-        CallName::Stop => ScriptCall::Stop { set: number },
-        CallName::Read => ScriptCall::Read { set: number },
-        CallName::Accum => ScriptCall::Accum { set: number },
-        CallName::Reset => ScriptCall::Reset { set: number },
-        CallName::State => ScriptCall::State { set: number },
-        CallName::Events => ScriptCall::Events { set: number },
-        CallName::Assign => ScriptCall::Assign { set: number },
-        CallName::Run => ScriptCall::Run { count: number },
-        _ => unreachable!(),
-    }
-}
-
-// The call of a name that takes a set and another number.
-#[tactic(auto, unfolding(crate::specs::Calls::call_rows))]
-fn pair_call(name: CallName, set: u32, number: u32) -> ScriptCall
-    requires { Calls.TakesTwoNumbers (Calls.form_of (word_of name) Calls.call_rows) }
-    ensures { Calls.OfTwoNumbers (Calls.form_of (word_of name) Calls.call_rows) set number result }
-{
-    match name {
-        CallName::Component => ScriptCall::Component {
-            set,
-            component: number,
-        },
-        CallName::Domain => ScriptCall::Domain { set, bits: number },
-        CallName::Multiplex => ScriptCall::Multiplex { set, slice: number },
-        CallName::Raw => ScriptCall::Raw {
-            set,
-            counter: number,
-        },
-        _ => unreachable!(),
-    }
-}
-
-// The call of a name that takes a set and an event.
-#[tactic(auto, unfolding(crate::specs::Calls::call_rows))]
-fn event_call(name: CallName, set: u32, event: Text) -> ScriptCall
-    requires { Calls.TakesSetAndEvent (Calls.form_of (word_of name) Calls.call_rows) }
-    ensures { Calls.OfSetAndEvent (Calls.form_of (word_of name) Calls.call_rows) set event result }
-{
-    match name {
-        CallName::Add => ScriptCall::Add { set, event },
-        CallName::Remove => ScriptCall::Remove { set, event },
+        CallName::Register => nothing(arguments).map(|_none| ScriptCall::Register),
+        CallName::Unregister => nothing(arguments).map(|_none| ScriptCall::Unregister),
+        CallName::Threads => nothing(arguments).map(|_none| ScriptCall::Threads),
+        CallName::Create => nothing(arguments).map(|_none| ScriptCall::Create),
+        CallName::Destroy => one_number(arguments).map(|set| ScriptCall::Destroy { set }),
+        CallName::Cleanup => one_number(arguments).map(|set| ScriptCall::Cleanup { set }),
+        CallName::Component => {
+            two_numbers(arguments).map(|(set, component)| ScriptCall::Component { set, component })
+        }
+        CallName::Domain => {
+            two_numbers(arguments).map(|(set, bits)| ScriptCall::Domain { set, bits })
+        }
+        CallName::Multiplex => {
+            two_numbers(arguments).map(|(set, slice)| ScriptCall::Multiplex { set, slice })
+        }
+        CallName::Start => one_number(arguments).map(|set| ScriptCall::Start { set }),
+        CallName::Stop => one_number(arguments).map(|set| ScriptCall::Stop { set }),
+        CallName::Read => one_number(arguments).map(|set| ScriptCall::Read { set }),
+        CallName::Accum => one_number(arguments).map(|set| ScriptCall::Accum { set }),
+        CallName::Reset => one_number(arguments).map(|set| ScriptCall::Reset { set }),
+        CallName::State => one_number(arguments).map(|set| ScriptCall::State { set }),
+        CallName::Events => one_number(arguments).map(|set| ScriptCall::Events { set }),
+        CallName::Assign => one_number(arguments).map(|set| ScriptCall::Assign { set }),
+        CallName::Raw => {
+            two_numbers(arguments).map(|(set, counter)| ScriptCall::Raw { set, counter })
+        }
+        CallName::Run => one_number(arguments).map(|count| ScriptCall::Run { count }),
+        CallName::Name => one_code(arguments).map(|code| ScriptCall::Name { code }),
         _ => unreachable!(),
     }
 }
@@ -136,17 +104,15 @@ fn call_with(
     ensures { Answers result (Calls.call_of (word_of name) (map (λ w. w.now) arguments.now)) }
 {
     match name {
-        CallName::Register | CallName::Unregister | CallName::Threads | CallName::Create => {
-            nothing(arguments)?;
-            Ok(plain_call(name))
-        }
-        CallName::Component | CallName::Domain | CallName::Multiplex | CallName::Raw => {
-            let (set, number) = two_numbers(arguments)?;
-            Ok(pair_call(name, set, number))
-        }
-        CallName::Add | CallName::Remove => {
+        CallName::Add => {
             let (set, event) = set_and_event(arguments)?;
-            Ok(event_call(name, set, Text::copy_of(alloc, event)?))
+            let event = Text::copy_of(alloc, event)?;
+            Ok(ScriptCall::Add { set, event })
+        }
+        CallName::Remove => {
+            let (set, event) = set_and_event(arguments)?;
+            let event = Text::copy_of(alloc, event)?;
+            Ok(ScriptCall::Remove { set, event })
         }
         CallName::Overflow => {
             let (set, event, threshold) = set_event_and_threshold(arguments)?;
@@ -161,24 +127,7 @@ fn call_with(
             let event = Text::copy_of(alloc, one_event(arguments)?)?;
             Ok(ScriptCall::Code { event })
         }
-        CallName::Name => {
-            let code = one_code(arguments)?;
-            Ok(ScriptCall::Name { code })
-        }
-        CallName::Destroy
-        | CallName::Cleanup
-        | CallName::Start
-        | CallName::Stop
-        | CallName::Read
-        | CallName::Accum
-        | CallName::Reset
-        | CallName::State
-        | CallName::Events
-        | CallName::Assign
-        | CallName::Run => {
-            let number = one_number(arguments)?;
-            Ok(number_call(name, number))
-        }
+        _ => Ok(eventless_call(name, arguments)?),
     }
 }
 

@@ -13,21 +13,17 @@ use thiserror::Error;
 
 /// What is wrong with a line of a script; of several causes the first in this order counts.
 #[derive(Clone, Copy, Debug, PartialEq, Eq, Error)]
+#[error("{}", cause_text(*self))]
 pub enum ScriptCause {
     /// It is one call line more than a script may have.
-    #[error("over a limit")]
     OverLimit,
     /// Its first word is not a thread.
-    #[error("bad thread")]
     BadThread,
     /// Its second word is missing, or no call.
-    #[error("unknown call")]
     UnknownCall,
     /// It has another number of arguments than the call, or an event with bytes that are not printable.
-    #[error("wrong arguments")]
     BadArguments,
     /// A number is out of its form or range.
-    #[error("bad number")]
     BadNumber,
 }
 
