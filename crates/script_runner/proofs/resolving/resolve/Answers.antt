@@ -17,22 +17,18 @@ returns-in_err-push-clause-begun c =
     begun-after c.args.catalog.now c.lines-line-items.result.now c.args.script.now c.loop-line.line-index c.line-item.result c.asked_of.result c.loop-line.codes c.planned_of.new.codes
     c.loop-line-test.true c.line-item.is c.lines-line-items.ensures.lines c.asked_of.ensures.asked c.in_ok-planned.ensures.mentioned c.loop-line.invariant.mentioned
 
-pub returns-clause-plan : goal.returns-clause-plan
-returns-clause-plan c =
-    plan-asks c.args.catalog.now c.args.script.now c.new.result c.loop-line.codes
-    (planned-all c.args.catalog.now c.lines-line-items.result.now c.args.script.now c.loop-line.line-index c.loop-line.lines.items c.new.result c.loop-line.codes c.loop-line-test.false c.lines-line-items.ensures.lines c.new.ensures.lines c.loop-line.invariant)
-
-pub returns-clause-heads : goal.returns-clause-heads
-returns-clause-heads c =
-    plan-heads c.args.catalog.now c.args.script.now c.new.result c.loop-line.codes
-    (planned-all c.args.catalog.now c.lines-line-items.result.now c.args.script.now c.loop-line.line-index c.loop-line.lines.items c.new.result c.loop-line.codes c.loop-line-test.false c.lines-line-items.ensures.lines c.new.ensures.lines c.loop-line.invariant)
-
-pub returns-clause-codes : goal.returns-clause-codes
-returns-clause-codes c =
-    plan-codes c.args.catalog.now c.args.script.now c.new.result c.loop-line.codes
-    (planned-all c.args.catalog.now c.lines-line-items.result.now c.args.script.now c.loop-line.line-index c.loop-line.lines.items c.new.result c.loop-line.codes c.loop-line-test.false c.lines-line-items.ensures.lines c.new.ensures.lines c.loop-line.invariant)
-
-pub returns-clause-begun : goal.returns-clause-begun
-returns-clause-begun c =
-    all-begun _ c.loop-line.codes (plan-codes c.args.catalog.now c.args.script.now c.new.result c.loop-line.codes
-    (planned-all c.args.catalog.now c.lines-line-items.result.now c.args.script.now c.loop-line.line-index c.loop-line.lines.items c.new.result c.loop-line.codes c.loop-line-test.false c.lines-line-items.ensures.lines c.new.ensures.lines c.loop-line.invariant))
+pub returns : goal.returns
+returns c =
+    let catalog = c.args.catalog.now in
+    let script = c.args.script.now in
+    let whole =
+        planned-all catalog c.lines-line-items.result.now script c.loop-line.line-index c.loop-line.lines.items c.new.result c.loop-line.codes
+        c.loop-line-test.false c.lines-line-items.ensures.lines c.new.ensures.lines c.loop-line.invariant in
+    let codes = plan-codes catalog script c.new.result c.loop-line.codes whole in
+    record {
+      plan = plan-asks catalog script c.new.result c.loop-line.codes whole;
+      heads = plan-heads catalog script c.new.result c.loop-line.codes whole;
+      good = record { each = whole.good };
+      codes = codes;
+      begun = all-begun _ c.loop-line.codes codes;
+    }
