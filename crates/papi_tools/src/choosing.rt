@@ -6,7 +6,7 @@ ghost use Rattle.papi_tools.specs.Choosing as Choosing;
 ghost use Rattle.papi_tools.specs.Choosing.{chooser_verdict, choice_said};
 
 use crate::tables::read_catalog;
-use crate::{Said, Stop};
+use crate::{Said, ToolResult};
 use chooser_list::{Candidates, choose};
 use component_table::Catalog;
 use papi_base::{Files, Text};
@@ -24,7 +24,7 @@ fn candidates_of(kind: EventKind) -> Candidates
 }
 
 // What is said of the given events.
-fn said_of(alloc: Global, catalog: &Catalog, kind: EventKind, events: &[Text]) -> Result<Said, Stop>
+fn said_of(alloc: Global, catalog: &Catalog, kind: EventKind, events: &[Text]) -> ToolResult
     ensures said { Answers result (Ok (choice_said catalog.now kind events.now)) }
     ensures textual { IfOk result (λ said. IsTextual (Unit {0}) said.outcome) }
     ensures cause { (before after : FilesSeen) → StopsByFile result before after }
@@ -35,11 +35,7 @@ fn said_of(alloc: Global, catalog: &Catalog, kind: EventKind, events: &[Text]) -
 
 /// `papi_event_chooser`: reads the unit, and the presets if they are asked for, and lists the events that can be added to
 /// the given ones, or says which of these is refused, and how.
-pub fn choose_events<F: Files>(
-    alloc: Global,
-    files: &mut F,
-    words: &ChooserWords,
-) -> Result<Said, Stop>
+pub fn choose_events<F: Files>(alloc: Global, files: &mut F, words: &ChooserWords) -> ToolResult
     ensures said { ToolSays (F.held files.old) result chooser_verdict words.now }
     ensures textual { IfOk result (λ said. IsTextual (Unit {0}) said.outcome) }
     ensures looked { LookedBy F.held F.misses F.faults F.lent result 0 files.old files.new }

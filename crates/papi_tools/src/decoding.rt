@@ -7,7 +7,7 @@ ghost use Rattle.papi_tools.specs.Decoding.{decode_verdict, decoded_said, shown_
 use crate::contents::read_file;
 use crate::limits::TABLE_BYTES;
 use crate::preset_file::{presets_in, read_preset_bytes};
-use crate::{Said, Stop};
+use crate::{Said, Stop, ToolResult};
 use component_table::Catalog;
 use event_tables::Tables;
 use papi_base::{Bytes, Files};
@@ -37,7 +37,7 @@ fn shown_of(
 }
 
 // What is said of presets and user events.
-fn said_of(alloc: Global, presets: &Extended) -> Result<Said, Stop>
+fn said_of(alloc: Global, presets: &Extended) -> ToolResult
     ensures said { Answers result (Ok (decoded_said presets.now)) }
     ensures textual { IfOk result (λ said. IsTextual ⊥ said.outcome) }
     ensures cause { (before after : FilesSeen) → StopsByFile result before after }
@@ -48,11 +48,7 @@ fn said_of(alloc: Global, presets: &Extended) -> Result<Said, Stop>
 
 /// `papi_decode`: reads the unit and the preset file, and gives the presets and user events of a cpu as a preset file, all
 /// of them or the available ones alone.
-pub fn decode_presets<F: Files>(
-    alloc: Global,
-    files: &mut F,
-    words: &DecodeWords,
-) -> Result<Said, Stop>
+pub fn decode_presets<F: Files>(alloc: Global, files: &mut F, words: &DecodeWords) -> ToolResult
     ensures said { ToolSays (F.held files.old) result decode_verdict words.now }
     ensures textual { IfOk result (λ said. IsTextual ⊥ said.outcome) }
     ensures looked { LookedBy F.held F.misses F.faults F.lent result 0 files.old files.new }

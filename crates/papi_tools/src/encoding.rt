@@ -6,7 +6,7 @@ ghost use Rattle.papi_tools.specs.Encoding.{answer_line, encode_verdict, encoded
 
 use crate::contents::read_file;
 use crate::limits::TABLE_BYTES;
-use crate::{Said, Stop};
+use crate::{Said, ToolResult};
 use event_tables::Tables;
 use name_encoder::{NameFault, cause_word, code64, encode, write_name};
 use papi_base::{Bytes, Files, Native, Text};
@@ -37,7 +37,7 @@ fn line_of(
 
 // What is said of names.
 #[tactic(auto, unfolding(crate::specs::Encoding::encoded_said))]
-fn said_of(alloc: Global, tables: &Tables, names: &[Text]) -> Result<Said, Stop>
+fn said_of(alloc: Global, tables: &Tables, names: &[Text]) -> ToolResult
     ensures said { Answers result (Ok (encoded_said tables.now names.now)) }
     ensures textual { IfOk result (λ said. IsTextual (Unit {0}) said.outcome) }
     ensures cause { (before after : FilesSeen) → StopsByFile result before after }
@@ -56,11 +56,7 @@ fn said_of(alloc: Global, tables: &Tables, names: &[Text]) -> Result<Said, Stop>
 }
 
 /// `papi_encode`: reads the unit, and gives each name's canonical name and code, or why it names no native event.
-pub fn encode_names<F: Files>(
-    alloc: Global,
-    files: &mut F,
-    words: &EncodeWords,
-) -> Result<Said, Stop>
+pub fn encode_names<F: Files>(alloc: Global, files: &mut F, words: &EncodeWords) -> ToolResult
     ensures said { ToolSays (F.held files.old) result encode_verdict words.now }
     ensures textual { IfOk result (λ said. IsTextual (Unit {0}) said.outcome) }
     ensures looked { LookedBy F.held F.misses F.faults F.lent result 0 files.old files.new }

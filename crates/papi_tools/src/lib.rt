@@ -33,7 +33,7 @@ mod top;
 pub use limits::{SCRIPT_BYTES, TABLE_BYTES};
 pub use output::Output;
 pub use refusal::{FileCause, Refusal, Stop};
-pub use said::Said;
+pub use said::{Said, ToolResult};
 pub use status::{Outcome, Status, status_number};
 pub use tool::{
     avail, decode, encode_tool, event_chooser, native_avail, profil_tool, regions_tool, run_tool,

@@ -6,7 +6,7 @@ ghost use Rattle.papi_tools.specs.NativeListing.{native_avail_verdict, natives_s
 
 use crate::contents::read_file;
 use crate::limits::TABLE_BYTES;
-use crate::{Said, Stop};
+use crate::{Said, ToolResult};
 use event_tables::Tables;
 use listing_text::{native_event, native_list};
 use papi_base::{Bytes, Files, Text};
@@ -24,7 +24,7 @@ fn str_of(text: &Option<Text>) -> Option<&str>
 }
 
 // What is said of the native events of a unit.
-fn said_of(alloc: Global, tables: &Tables, words: &NativeAvailWords) -> Result<Said, Stop>
+fn said_of(alloc: Global, tables: &Tables, words: &NativeAvailWords) -> ToolResult
     ensures said { Answers result (Ok (natives_said tables.now words.now words.now.event)) }
     ensures textual { IfOk result (λ said. IsTextual (IsSome words.now.event) said.outcome) }
     ensures cause { (before after : FilesSeen) → StopsByFile result before after }
@@ -45,11 +45,7 @@ fn said_of(alloc: Global, tables: &Tables, words: &NativeAvailWords) -> Result<S
 
 /// `papi_native_avail`: reads the unit, and lists those of its native events that the words choose, or says what the event of a
 /// name is.
-pub fn list_natives<F: Files>(
-    alloc: Global,
-    files: &mut F,
-    words: &NativeAvailWords,
-) -> Result<Said, Stop>
+pub fn list_natives<F: Files>(alloc: Global, files: &mut F, words: &NativeAvailWords) -> ToolResult
     ensures said { ToolSays (F.held files.old) result native_avail_verdict words.now }
     ensures textual { IfOk result (λ said. IsTextual (IsSome words.now.event) said.outcome) }
     ensures looked { LookedBy F.held F.misses F.faults F.lent result 0 files.old files.new }

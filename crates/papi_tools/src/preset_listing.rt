@@ -5,7 +5,7 @@ ghost use Rattle.papi_tools.specs.Looking.{FilesSeen, IsTextual, LookedBy, Stops
 ghost use Rattle.papi_tools.specs.PresetListing.{avail_verdict, presets_said};
 
 use crate::tables::read_catalog;
-use crate::{Said, Stop};
+use crate::{Said, ToolResult};
 use component_table::Catalog;
 use listing_text::{avail_event, avail_list};
 use papi_base::{Bytes, Files, Text};
@@ -13,12 +13,7 @@ use std::alloc::Global;
 use tool_words::AvailWords;
 
 // What is said of the presets and user events of a catalog.
-fn said_of(
-    alloc: Global,
-    catalog: &Catalog,
-    available: bool,
-    event: &Option<Text>,
-) -> Result<Said, Stop>
+fn said_of(alloc: Global, catalog: &Catalog, available: bool, event: &Option<Text>) -> ToolResult
     ensures said { Answers result (Ok (presets_said catalog.now available event.now)) }
     ensures textual { IfOk result (λ said. IsTextual (IsSome event.now) said.outcome) }
     ensures cause { (before after : FilesSeen) → StopsByFile result before after }
@@ -37,11 +32,7 @@ fn said_of(
 
 /// `papi_avail`: reads the unit and the preset file, and lists the presets of a cpu, all of them or the available ones alone,
 /// or says what the event of a name is.
-pub fn list_presets<F: Files>(
-    alloc: Global,
-    files: &mut F,
-    words: &AvailWords,
-) -> Result<Said, Stop>
+pub fn list_presets<F: Files>(alloc: Global, files: &mut F, words: &AvailWords) -> ToolResult
     ensures said { ToolSays (F.held files.old) result avail_verdict words.now }
     ensures textual { IfOk result (λ said. IsTextual (IsSome words.now.event) said.outcome) }
     ensures looked { LookedBy F.held F.misses F.faults F.lent result 0 files.old files.new }

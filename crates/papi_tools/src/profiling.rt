@@ -13,7 +13,7 @@ use crate::limits::TABLE_BYTES;
 use crate::marks::marked;
 use crate::script_run::{RanScript, run_and_close};
 use crate::tables::read_catalog;
-use crate::{Output, Said, Stop};
+use crate::{Output, ToolResult};
 use overflow_dispatch::{Handler, Note};
 use papi_base::{Bytes, Files, THREADS};
 use profil_hist::{Hist, Map, profile_text};
@@ -122,7 +122,7 @@ fn said_of(
     ran: &RanScript,
     words: &ProfilWords,
     handlers: &Vec<Box<dyn Handler + Send>>,
-) -> Result<Said, Stop>
+) -> ToolResult
     requires { vec_len ran.now.noted ≡ vec_len handlers.now }
     ensures said { Answers result
         (Ok (profile_said ranges ran.now.marks (counted_in words.now.set words.now.index
@@ -147,7 +147,7 @@ pub fn profile<R: Threads + Sync, F: Files>(
     files: &mut F,
     words: &ProfilWords,
     handlers: &mut Vec<Box<dyn Handler + Send>>,
-) -> Result<Said, Stop>
+) -> ToolResult
     requires handlers { vec_len handlers.old ≡ THREADS }
     ensures len { vec_len handlers.new ≡ THREADS }
     ensures tells { ToolTells (F.held files.old) (F.faults files.old) (F.faults files.new) result

@@ -21,7 +21,7 @@ use crate::marks::marked;
 use crate::script_run::{RanScript, run_script};
 use crate::streams::close_readers;
 use crate::tables::read_catalog;
-use crate::{Output, Said, Stop};
+use crate::{Output, Said, Stop, ToolResult};
 use chooser_list::{Candidates, choose};
 use component_table::Catalog;
 use overflow_dispatch::{Handler, Recorder};
@@ -65,7 +65,7 @@ fn readings_of(alloc: Global, lines: &[ReplyLine]) -> Result<Vec<Reading>, Alloc
 }
 
 // What is said of a run.
-fn said_of(alloc: Global, regions: &Regions, events: &[Text], ran: &RanScript) -> Result<Said, Stop>
+fn said_of(alloc: Global, regions: &Regions, events: &[Text], ran: &RanScript) -> ToolResult
     requires { length events.now ≤ MOST_SET_EVENTS }
     ensures said { Answers result (Ok (marked_said ran.now.marks
         (report_text (length events.now)
@@ -101,7 +101,7 @@ fn count<R: Threads + Sync, S: Source + Send>(
     regions: &Regions,
     words: &RegionsWords,
     readers: &mut Vec<StreamReader<S>>,
-) -> Result<Said, Stop>
+) -> ToolResult
     requires readers { vec_len readers.old ≡ THREADS }
     requires fresh { All IsFresh readers.old.items }
     requires read { (name bytes : List ℕ) × (regions_in name bytes ≡ Ok regions.now) }
@@ -154,7 +154,7 @@ pub fn count_regions<R: Threads + Sync, F: Files>(
     alloc: Global,
     files: &mut F,
     words: &RegionsWords,
-) -> Result<Said, Stop>
+) -> ToolResult
     ensures said { ToolSays (F.held files.old) result regions_verdict words.now }
     ensures shows { IfOk result
         (λ said. Shows (Unit {0}) (F.faults files.old) (F.faults files.new) said.outcome) }

@@ -10,7 +10,7 @@ use crate::input::{Input, open_input};
 use crate::marks::marked;
 use crate::script_run::{RanScript, run_and_close};
 use crate::tables::read_catalog;
-use crate::{Output, Said, Stop};
+use crate::{Output, ToolResult};
 use component_table::Catalog;
 use overflow_dispatch::{Handler, Note, notes_since};
 use papi_base::{Files, THREADS};
@@ -46,7 +46,7 @@ fn said_of(
     ran: RanScript,
     wanted: bool,
     handlers: &Vec<Box<dyn Handler + Send>>,
-) -> Result<Said, Stop>
+) -> ToolResult
     requires { vec_len ran.noted ≡ vec_len handlers.now }
     ensures said { Answers result
         (Ok (run_said catalog ran.lines.items ran.marks
@@ -68,7 +68,7 @@ pub fn run<R: Threads + Sync, F: Files>(
     files: &mut F,
     words: &RunWords,
     handlers: &mut Vec<Box<dyn Handler + Send>>,
-) -> Result<Said, Stop>
+) -> ToolResult
     requires handlers { vec_len handlers.old ≡ THREADS }
     ensures len { vec_len handlers.new ≡ THREADS }
     ensures tells { ToolTells (F.held files.old) (F.faults files.old) (F.faults files.new) result

@@ -3,7 +3,7 @@ ghost use Rattle.std.specs.Prelude.{◌≡◌};
 ghost use Rattle.papi_tools.specs.Looking.{IsTextual};
 ghost use Rattle.papi_tools.specs.Texts.{text_said};
 
-use crate::{Outcome, Output};
+use crate::{Outcome, Output, Stop};
 use papi_base::Bytes;
 use std::alloc::Global;
 
@@ -14,6 +14,9 @@ pub struct Said {
     pub out: Output,
     pub err: Bytes,
 }
+
+/// What a tool's steps come to: what is said, or why they stop.
+pub type ToolResult = Result<Said, Stop>;
 
 impl Said {
     /// The text of a tool that looks at files alone, which says yes or no.

@@ -2,7 +2,7 @@
 ghost use Rattle.std.specs.Prelude.{◌≡◌, IfOk};
 ghost use Rattle.papi_tools.specs.Verdict.{IsSettled, refused_said};
 
-use crate::{Output, Refusal, Said, Stop};
+use crate::{Output, Refusal, Said, Stop, ToolResult};
 use papi_base::Bytes;
 use std::alloc::{AllocError, Global};
 
@@ -19,7 +19,7 @@ pub fn refused(alloc: Global, refusal: &Refusal) -> Result<Said, AllocError>
 }
 
 /// What is said by steps that gave this answer.
-pub fn settled(alloc: Global, answer: Result<Said, Stop>) -> Result<Said, AllocError>
+pub fn settled(alloc: Global, answer: ToolResult) -> Result<Said, AllocError>
     ensures { IfOk result (IsSettled answer) }
 {
     match answer {

@@ -16,7 +16,7 @@ use crate::contents::FileContent;
 use crate::script_run::{RanScript, run_script};
 use crate::soak_totals::totals_between;
 use crate::streams::add_empty;
-use crate::{Said, Stop};
+use crate::{Said, Stop, ToolResult};
 use component_table::Catalog;
 use event_tables::Tables;
 use overflow_dispatch::{Handler, counts_of};
@@ -91,11 +91,7 @@ fn make_run(alloc: Global, rounds: u32) -> Result<SoakRun, Stop>
 }
 
 // What is said of a run: its summary, with the notes since it began.
-fn said_of(
-    alloc: Global,
-    ran: &RanScript,
-    handlers: &Vec<Box<dyn Handler + Send>>,
-) -> Result<Said, Stop>
+fn said_of(alloc: Global, ran: &RanScript, handlers: &Vec<Box<dyn Handler + Send>>) -> ToolResult
     requires handlers { vec_len handlers.now ≡ THREADS }
     requires noted { vec_len ran.now.noted ≡ THREADS }
     ensures said { Answers result (Ok (summary_said
@@ -122,7 +118,7 @@ pub fn soak<R: Threads + Sync>(
     alloc: Global,
     words: &SoakWords,
     handlers: &mut Vec<Box<dyn Handler + Send>>,
-) -> Result<Said, Stop>
+) -> ToolResult
     requires handlers { vec_len handlers.old ≡ THREADS }
     ensures len { vec_len handlers.new ≡ THREADS }
     ensures tells { (held : Option Held) (before after : ℕ) → ToolTells held before after result

@@ -18,7 +18,7 @@ use crate::run::run;
 use crate::saying::say;
 use crate::settling::{refused, settled};
 use crate::soaking::soak;
-use crate::{Refusal, Said, Status, Stop};
+use crate::{Refusal, Said, Status, ToolResult};
 use overflow_dispatch::Handler;
 use papi_base::{Files, Sink, THREADS};
 use std::alloc::{AllocError, Global};
@@ -33,7 +33,7 @@ fn carried_out<R: Threads + Sync, F: Files>(
     files: &mut F,
     command: &Command,
     handlers: &mut Vec<Box<dyn Handler + Send>>,
-) -> Result<Said, Stop>
+) -> ToolResult
     requires handlers { vec_len handlers.old ≡ THREADS }
     ensures len { vec_len handlers.new ≡ THREADS }
     ensures tells { ToolTells (F.held files.old) (F.faults files.old) (F.faults files.new) result

@@ -24,7 +24,7 @@ use Rattle.thread_session.proofs.Possible.{before_answer}
 use Rattle.thread_session.proofs.Runs.{Running, notes_over-append}
 use Rattle.stream_reader.proofs.Giving.{gave_more}
 
-pub cut_at : (book : Book) (old : SessionView) (core core_then : CoreView) (reader reader_then : ReaderView) (before after after_then : List Note) (k count n thread set : ℕ) (passed : List ℕ) (o : Occ)
+pub cut_at : {book : Book} {old : SessionView} {core core_then : CoreView} {reader reader_then : ReaderView} {before after after_then : List Note} {k count n thread : ℕ} {o : Occ} (set : ℕ) (passed : List ℕ)
     → k < n
     → thread ≡ old.core.thread
     → ((b : Book) (a : Account) → CoreStands b core a → CoreStands b core_then (consumed a o))
@@ -33,7 +33,7 @@ pub cut_at : (book : Book) (old : SessionView) (core core_then : CoreView) (read
     → Takes reader (next.Occ o) reader_then
     → PartAdded after (map (note thread set o) passed) after_then
     → Running book old core reader before after k count → IsCut book old (record { core = core_then; reader = reader_then }) n before after_then
-cut_at book old core core_then reader reader_then before after after_then k count n thread set passed o less same stands notes gives takes part r =
+cut_at {book} {old} {core} {core_then} {reader} {reader_then} {before} {after} {after_then} {k} {count} {n} {thread} {o} set passed less same stands notes gives takes part r =
     let its : (a : Account) → CoreStands book old.core a → map (note thread set o) passed ≡ notes_at book a.thread (a.past ++ r.os) o 0 a.sets =
     λ a h. ap (λ (t : ℕ). map (note t set o) passed) (same ∙ h.thread) ∙ sym (notes book (consuming r.os a) (r.taking.stands a h)) in
     record {

@@ -27,13 +27,13 @@ pub at_start : (book : Book) (shape : Widths) (s : SessionView) (before : List N
 at_start book shape s before a calls h = record { here = a; stands = h; account = refl; replied = refl; noted = refl; so_far = []; added = sym (append-nil before) }
 
 -- one call more
-pub one_more : (book : Book) (shape : Widths) (s then : SessionView) (made : Call) (reply : Reply) (left later : List Call) (replies : List Reply) (before after after_then : List Note) (a : Account) (calls : List Call)
+pub one_more : {book : Book} {shape : Widths} {s then : SessionView} {made : Call} {reply : Reply} {left later : List Call} {replies : List Reply} {before after after_then : List Note} {a : Account} {calls : List Call}
     → left ≡ made ∷ later → s.core.shape ≡ shape
     → ((b : Account) → Stands book s b → Stands book then (step book s.core.shape b made).account)
     → ((b : Account) → Stands book s b → reply ≡ (step book s.core.shape b made).reply)
     → ((b : Account) → Stands book s b → after_then ≡ after ++ (step book s.core.shape b made).notes)
     → OnTheWay book shape s left replies before after a calls → OnTheWay book shape then later (replies ++ reply ∷ []) before after_then a calls
-one_more book shape s then made reply left later replies before after after_then a calls e same stands replied noted way =
+one_more {book} {shape} {s} {then} {made} {reply} {left} {later} {replies} {before} {after} {after_then} {a} {calls} e same stands replied noted way =
     let next : Widths → Account = λ w. (step book w way.here made).account in
     let notes : List Note = (step book shape way.here made).notes in
     let told : after_then ≡ after ++ notes = subst (λ (w : Widths). after_then ≡ after ++ (step book w way.here made).notes) same (noted way.here way.stands) in
@@ -58,9 +58,9 @@ pub record AtEnd (book : Book) (shape : Widths) (s : SessionView) (replies : Lis
   pub noted : after ≡ before ++ notes_to book shape a calls
 
 -- no call is left
-pub at_end : (book : Book) (shape : Widths) (s : SessionView) (left : List Call) (replies : List Reply) (before after : List Note) (a : Account) (calls : List Call)
+pub at_end : {book : Book} {shape : Widths} {s : SessionView} {left : List Call} {replies : List Reply} {before after : List Note} {a : Account} {calls : List Call}
     → left ≡ [] → OnTheWay book shape s left replies before after a calls → AtEnd book shape s replies before after a calls
-at_end book shape s left replies before after a calls none way = record {
+at_end {book} {shape} {s} {left} {replies} {before} {after} {a} {calls} none way = record {
   stands = subst (λ (b : Account). Stands book s b) (sym (ap (account_after book shape way.here) none) ∙ way.account) way.stands;
   replied = sym (append-nil replies) ∙ (sym (ap (λ (cs : List Call). replies ++ replies_to book shape way.here cs) none) ∙ way.replied);
   noted = sym (append-nil after) ∙ (sym (ap (λ (cs : List Call). after ++ notes_to book shape way.here cs) none) ∙ way.noted);
@@ -80,17 +80,17 @@ begun_by before so_far more all after added e =
       added ∙ ap (λ (xs : List Note). before ++ xs) (sym (take-append_seam so_far more) ∙ ap (λ (xs : List Note). take (length so_far) xs) whole),
     )
 
-pub begun : (book : Book) (shape : Widths) (s : SessionView) (left : List Call) (replies : List Reply) (before after : List Note) (a : Account) (calls : List Call)
+pub begun : {book : Book} {shape : Widths} {s : SessionView} {left : List Call} {replies : List Reply} {before after : List Note} {a : Account} {calls : List Call}
     → OnTheWay book shape s left replies before after a calls → Begun before (notes_to book shape a calls) after
-begun book shape s left replies before after a calls way =
+begun {book} {shape} {s} {left} {replies} {before} {after} {a} {calls} way =
     begun_by before way.so_far (notes_to book shape way.here left) (notes_to book shape a calls) after way.added (ap (λ (xs : List Note). xs ++ notes_to book shape way.here left) (sym way.added) ∙ way.noted)
 
 -- memory was refused in a call: some of its notes are told
-pub begun_in : (book : Book) (shape : Widths) (s : SessionView) (made : Call) (left later : List Call) (replies : List Reply) (before after after_then : List Note) (a : Account) (calls : List Call)
+pub begun_in : {book : Book} {shape : Widths} {s : SessionView} {made : Call} {left later : List Call} {replies : List Reply} {before after after_then : List Note} {a : Account} {calls : List Call}
     → left ≡ made ∷ later → s.core.shape ≡ shape
     → ((b : Account) → Stands book s b → PartAdded after (step book s.core.shape b made).notes after_then)
     → OnTheWay book shape s left replies before after a calls → Begun before (notes_to book shape a calls) after_then
-begun_in book shape s made left later replies before after after_then a calls e same part way =
+begun_in {book} {shape} {s} {made} {left} {later} {replies} {before} {after} {after_then} {a} {calls} e same part way =
     let notes : List Note = (step book shape way.here made).notes in
     let p : PartAdded after notes after_then = subst (λ (w : Widths). PartAdded after (step book w way.here made).notes after_then) same (part way.here way.stands) in
     let more : List Note = notes_to book shape (step book shape way.here made).account later in

@@ -9,12 +9,16 @@ use Rattle.postfix_rules.specs.Presets.{Book}
 use Rattle.session_model.specs.Account.{Account, Kept}
 use Rattle.session_model.specs.Thresholds.{note, notes_at, notes_over}
 use Rattle.stream_reader.specs.declared.next.Next.TheVariants as next
-use Rattle.stream_reader.specs.Reader.{GaveOne, NextGives, ReaderView, Takes, coming}
+use Rattle.stream_reader.specs.Reader.{GaveOne, NextGives, ReaderView, Takes, coming, faults_of}
 use Rattle.thread_core.specs.CoreView.{CoreView}
-use Rattle.thread_core.specs.Stands.{CoreStands, consumed}
+use Rattle.thread_core.specs.Stands.{AgreesWith, CoreStands, consumed}
 use Rattle.thread_session.specs.SessionView.{AreInStep, SessionView}
 use Rattle.thread_session.specs.Follows.{consuming}
 use Rattle.thread_session.specs.Prospects.{CanCome}
+use Rattle.thread_session.specs.Faults.{FaultsKept, fault_count}
+use Rattle.thread_session.specs.Stands.{IsReady}
+use Rattle.thread_session.proofs.Failing.{kept_on, kept_same}
+use Rattle.std.specs.Prelude.{is_some}
 use Rattle.thread_session.proofs.Possible.{came_more}
 use Rattle.stream_reader.proofs.Giving.{GaveAll, gave_more, gave_none}
 
@@ -30,42 +34,66 @@ pub record Taking (book : Book) (old : SessionView) (core : CoreView) (reader : 
   pub notes : (a : Account) → CoreStands book old.core a → after ≡ before ++ notes_over book a.thread a.sets a.past os
   pub told : (c : Coming) → coming old.reader ≡ Some c → GaveAll c os (coming reader)
 
--- and k occurrences, with n notes
+-- and k occurrences, with n notes; the core still agrees, and is in step with the reader
 pub record Running (book : Book) (old : SessionView) (core : CoreView) (reader : ReaderView) (before after : List Note) (consumed count : ℕ) : Type 0 where
+  pub shape : core.shape ≡ old.core.shape
+  pub agrees : AgreesWith book core
+  pub in_step : AreInStep core reader
+  pub faults : FaultsKept (fault_count old.reader) (fault_count reader)
   pub os : List Occ
   pub number : length os ≡ consumed
   pub taking : Taking book old core reader os before after
   pub counted : (a : Account) → CoreStands book old.core a → count ≡ length (notes_over book a.thread a.sets a.past os)
   pub came : (later : Coming) → CanCome reader later → CanCome old.reader (record { rest = os ++ later.rest; mark = later.mark })
 
-pub at_start : (book : Book) (old : SessionView) (before : List Note) → Running book old old.core old.reader before before 0 0
-at_start book old before = record {
-  os = [];
-  number = refl;
-  taking = record {
-    stands = λ a h. subst (λ (past : List Occ). CoreStands book old.core (record a { past = past })) (sym (append-nil a.past)) h;
-    notes = λ a h. sym (append-nil before);
-    told = λ c e. gave_none c (coming old.reader) e;
-  };
-  counted = λ a h. refl;
-  came = λ later h. h;
+pub at_start : {book : Book} {old : SessionView} {core : CoreView} {reader : ReaderView} (before : List Note) → record { core = core; reader = reader } ≡ old → IsReady book old → AreInStep core reader
+    → Running book old core reader before before 0 0
+at_start {book} {old} before is ready in_step = subst (λ (v : SessionView). AreInStep v.core v.reader → Running book old v.core v.reader before before 0 0) (sym is) opened in_step where
+  opened : AreInStep old.core old.reader → Running book old old.core old.reader before before 0 0
+  opened in_step = record {
+    shape = refl;
+    agrees = ready.agrees;
+    in_step = in_step;
+    faults = kept_same old.reader;
+    os = [];
+    number = refl;
+    taking = record {
+      stands = λ a h. subst (λ (past : List Occ). CoreStands book old.core (record a { past = past })) (sym (append-nil a.past)) h;
+      notes = λ a h. sym (append-nil before);
+      told = λ c e. gave_none c (coming old.reader) e;
+    };
+    counted = λ a h. refl;
+    came = λ later h. h;
+  }
+
+in_step_then : (core core_then : CoreView) (reader later : ReaderView) (o : Occ) → core_then.taken ≡ core.taken + 1 → core_then.last ≡ Some o → later.start.given ≤ 5200000 → AreInStep core reader → GaveOne reader.start o later.start → AreInStep core_then later
+in_step_then core core_then reader later o t l few s n = record {
+  taken = omega (arith, t, s.taken, n.given);
+  few = omega (arith, t, s.taken, n.given, few);
+  last = ap (option_map (λ (x : Occ). x.stamp)) l ∙ sym n.last;
 }
 
-pub one_more : (book : Book) (old : SessionView) (core core_then : CoreView) (reader reader_then : ReaderView) (before after after_then : List Note) (consumed_so count more thread set : ℕ) (passed : List ℕ) (o : Occ)
-    → thread ≡ old.core.thread
-    → more ≡ length passed
+-- the reader gave an occurrence, the core took it, and its notes were told
+pub one_more : {book : Book} {old : SessionView} {core core_then : CoreView} {reader reader_then : ReaderView} {before after after_then : List Note} {consumed_so count more thread : ℕ} {o : Occ} (set : ℕ) (passed : List ℕ)
+    → thread ≡ old.core.thread → more ≡ length passed → after_then ≡ after ++ map (note thread set o) passed
+    → core_then.shape ≡ core.shape → ((b : Book) → AgreesWith b core → AgreesWith b core_then) → core_then.taken ≡ core.taken + 1 → core_then.last ≡ Some o
     → ((b : Book) (a : Account) → CoreStands b core a → CoreStands b core_then (consumed a o))
     → ((b : Book) (a : Account) → CoreStands b core a → notes_at b a.thread a.past o 0 a.sets ≡ map (note a.thread set o) passed)
-    → NextGives (coming reader) (next.Occ o) (coming reader_then)
-    → Takes reader (next.Occ o) reader_then
-    → after_then ≡ after ++ map (note thread set o) passed
+    → reader_then.start.given ≤ 5200000 → GaveOne reader.start o reader_then.start
+    → is_some reader_then.source ≡ is_some reader.source → faults_of reader ≤ faults_of reader_then
+    → NextGives (coming reader) (next.Occ o) (coming reader_then) → Takes reader (next.Occ o) reader_then
     → Running book old core reader before after consumed_so count → Running book old core_then reader_then before after_then (consumed_so + 1) (count + more)
-one_more book old core core_then reader reader_then before after after_then k count more thread set passed o same so_many stands notes gives takes delivered r =
+one_more {book} {old} {core} {core_then} {reader} {reader_then} {before} {after} {after_then} {consumed_so} {count} {more} {thread} {o} set passed same so_many delivered
+    shape agrees taken last stands notes few counts kept faults gives takes r =
     let its : (a : Account) → CoreStands book old.core a → map (note thread set o) passed ≡ notes_at book a.thread (a.past ++ r.os) o 0 a.sets =
     λ a h. ap (λ (t : ℕ). map (note t set o) passed) (same ∙ h.thread) ∙ sym (notes book (consuming r.os a) (r.taking.stands a h)) in
     let over : (a : Account) → CoreStands book old.core a → notes_over book a.thread a.sets a.past (r.os ++ o ∷ []) ≡ notes_over book a.thread a.sets a.past r.os ++ map (note thread set o) passed =
     λ a h. notes_over-append book a.thread a.sets a.past r.os (o ∷ []) ∙ ap (λ (xs : List Note). notes_over book a.thread a.sets a.past r.os ++ xs) (append-nil (notes_at book a.thread (a.past ++ r.os) o 0 a.sets) ∙ sym (its a h)) in
     record {
+      shape = shape ∙ r.shape;
+      agrees = agrees book r.agrees;
+      in_step = in_step_then core core_then reader reader_then o taken last few r.in_step counts;
+      faults = kept_on old.reader reader reader_then r.faults kept faults;
       os = r.os ++ o ∷ [];
       number = length-append r.os (o ∷ []) ∙ ap (λ (n : ℕ). n + 1) r.number;
       taking = record {
@@ -78,10 +106,3 @@ one_more book old core core_then reader reader_then before after after_then k co
           ∙ sym (length-append (notes_over book a.thread a.sets a.past r.os) (map (note thread set o) passed)) ∙ ap length (sym (over a h));
       came = came_more old.reader reader reader_then r.os o r.came takes;
     }
-
-pub in_step_then : (core core_then : CoreView) (reader later : ReaderView) (o : Occ) → core_then.taken ≡ core.taken + 1 → core_then.last ≡ Some o → later.start.given ≤ 5200000 → AreInStep core reader → GaveOne reader.start o later.start → AreInStep core_then later
-in_step_then core core_then reader later o t l few s n = record {
-  taken = omega (arith, t, s.taken, n.given);
-  few = omega (arith, t, s.taken, n.given, few);
-  last = ap (option_map (λ (x : Occ). x.stamp)) l ∙ sym n.last;
-}

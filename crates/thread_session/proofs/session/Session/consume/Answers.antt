@@ -1,52 +1,36 @@
-use Rattle.std.proofs.Common.{arith, refl, ap, sym, ◌∙◌, subst}
+use Rattle.std.proofs.Common.{arith, refl, ap, ◌∙◌}
 use Rattle.papi_base.specs.Streams.{Bad, Dry, Fault}
-use Rattle.thread_session.specs.Faults.{FaultsKept, fault_count}
 use Rattle.thread_session.specs.SessionView.{SessionView}
-use Rattle.thread_core.specs.Stands.{AgreesWith}
 use Rattle.thread_session.proofs.Cuts.{cut_at}
 use Rattle.thread_session.proofs.Endings.{run_short, run_whole, towards_short, towards_whole}
-use Rattle.thread_session.proofs.Failing.{kept_on, kept_same}
 use Rattle.thread_session.proofs.Results.{on_err}
-use Rattle.thread_session.proofs.Runs.{Running, at_start, in_step_then, one_more}
+use Rattle.thread_session.proofs.Runs.{at_start, one_more}
 use Rattle.thread_session.proofs.session.Session.consume.Goals as goal
 
 pub loop-consumed-init : goal.loop-consumed-init
-loop-consumed-init g c =
-    let was = sym c.self.view_is in
-    let before = (goal.Handler-dyn g c.args.h.now).notes c.args.h.now.1 in
-    record {
-      most = omega arith;
-      few = omega arith;
-      going = refl;
-      own = c.thread-thread.ensures ∙ ap (λ (v : SessionView). v.core.thread) c.self.view_is;
-      shape = ap (λ (v : SessionView). v.core.shape) c.self.view_is;
-      agrees = subst (λ (v : SessionView). AgreesWith c.args.book.now v.core) was c.requires.ready.agrees;
-      in_step = c.self.invariant;
-      faults = subst (λ (v : SessionView). FaultsKept (fault_count c.args.self.now.reader) (fault_count v.reader)) was (kept_same c.args.self.now.reader);
-      running = subst (λ (v : SessionView). Running c.args.book.now c.args.self.now v.core v.reader before before 0 0) was (at_start c.args.book.now c.args.self.now before);
-    }
+loop-consumed-init g c = record {
+  most = omega arith;
+  few = omega arith;
+  going = refl;
+  own = c.thread-thread.ensures ∙ ap (λ (v : SessionView). v.core.thread) c.self.view_is;
+  running = at_start _ c.self.view_is c.requires.ready c.self.invariant;
+}
 
 pub loop-consumed-preserved : goal.loop-consumed-preserved
 loop-consumed-preserved g c =
     let inv = c.loop-consumed.invariant in
-    let before = (goal.Handler-dyn g c.args.h.now).notes c.args.h.now.1 in
-    let so_far = (goal.Handler-dyn g c.loop-consumed.h.now).notes c.loop-consumed.h.now.1 in
-    let told = (goal.Handler-dyn g (c.loop-consumed.h.now.0, c.deliver.new.h)).notes c.deliver.new.h in
     record {
       most = omega (arith, c.loop-consumed-test.true);
       few = omega (arith, inv.few, c.from-notes.ensures, c.len.ensures.length, c.len.ensures.short);
       going = inv.going;
       own = inv.own;
-      shape = c.take-taken.ensures.shape ∙ inv.shape;
-      agrees = c.take-taken.ensures.agrees c.args.book.now inv.agrees;
-      in_step = in_step_then c.loop-consumed.self-inside.core c.take-taken.new.self c.loop-consumed.self-inside.reader c.next.new.self c.in-Occ.o c.take-taken.ensures.taken c.take-taken.ensures.last c.in-Occ.ensures.within.few inv.in_step c.in-Occ.ensures.counts;
-      faults = kept_on c.args.self.now.reader c.loop-consumed.self-inside.reader c.next.new.self inv.faults c.in-Occ.ensures.kept c.in-Occ.ensures.faults;
-      running = one_more c.args.book.now c.args.self.now c.loop-consumed.self-inside.core c.take-taken.new.self c.loop-consumed.self-inside.reader c.next.new.self before so_far told c.loop-consumed.consumed c.loop-consumed.notes c.from-notes.result c.thread-thread.result c.take-taken.result.set c.take-taken.result.passed c.in-Occ.o inv.own (c.from-notes.ensures ∙ c.len.ensures.length)
-          c.take-taken.ensures.stands c.take-taken.ensures.notes c.in-Occ.ensures.told c.in-Occ.ensures.takes c.in_ok-deliver-in-Occ.ensures.whole inv.running;
+      running = one_more c.take-taken.result.set c.take-taken.result.passed inv.own (c.from-notes.ensures ∙ c.len.ensures.length) c.in_ok-deliver-in-Occ.ensures.whole
+          c.take-taken.ensures.shape c.take-taken.ensures.agrees c.take-taken.ensures.taken c.take-taken.ensures.last c.take-taken.ensures.stands c.take-taken.ensures.notes
+          c.in-Occ.ensures.within.few c.in-Occ.ensures.counts c.in-Occ.ensures.kept c.in-Occ.ensures.faults c.in-Occ.ensures.told c.in-Occ.ensures.takes inv.running;
     }
 
 pub returns-in_err-deliver-in-Occ-clause-cut : goal.returns-in_err-deliver-in-Occ-clause-cut
-returns-in_err-deliver-in-Occ-clause-cut g c = on_err c.from_residual.result (cut_at _ _ _ _ _ _ _ _ _ _ _ _ c.thread-thread.result c.take-taken.result.set c.take-taken.result.passed c.in-Occ.o c.loop-consumed-test.true c.loop-consumed.invariant.own
+returns-in_err-deliver-in-Occ-clause-cut g c = on_err c.from_residual.result (cut_at c.take-taken.result.set c.take-taken.result.passed c.loop-consumed-test.true c.loop-consumed.invariant.own
     c.take-taken.ensures.stands c.take-taken.ensures.notes c.in-Occ.ensures.told c.in-Occ.ensures.takes c.in_err-deliver-in-Occ.ensures.part c.loop-consumed.invariant.running)
 
 pub returns-after-loop-consumed-clause-follows : goal.returns-after-loop-consumed-clause-follows

@@ -1,8 +1,5 @@
 use Rattle.std.proofs.Common.{◌-◌, ◌≡◌, ◌≤◌, ◌*◌}
 use Rattle.session_model.specs.declared.reply.Ended.TheVariants as ended
-use Rattle.thread_core.specs.Stands.{AgreesWith}
-use Rattle.thread_session.specs.Faults.{FaultsKept, fault_count}
-use Rattle.thread_session.specs.SessionView.{AreInStep}
 use Rattle.thread_session.proofs.Runs.{Running}
 use Rattle.thread_session.proofs.session.Session.consume.Given as goal
 
@@ -12,10 +9,6 @@ invariant-loop-consumed g l = record {
   few : l.notes ≤ 32 * l.consumed;
   going : l.ended ≡ ended.Going;
   own : l.thread ≡ l.fn.self.core.thread;
-  shape : l.self-inside.core.shape ≡ l.fn.self.core.shape;
-  agrees : AgreesWith l.book l.self-inside.core;
-  in_step : AreInStep l.self-inside.core l.self-inside.reader;
-  faults : FaultsKept (fault_count l.fn.self.reader) (fault_count l.self-inside.reader);
   running : Running l.book l.fn.self l.self-inside.core l.self-inside.reader ((goal.Handler-dyn g l.initial.h.now).notes l.initial.h.now.1) ((goal.Handler-dyn g l.h.now).notes l.h.now.1) l.consumed l.notes;
 }
 

@@ -1,8 +1,5 @@
 use Rattle.std.proofs.Common.{◌-◌, ◌≡◌, ◌≤◌, [], drop, length, take, false}
 use Rattle.session_model.specs.declared.reply.Ended.TheVariants as ended
-use Rattle.thread_core.specs.Stands.{AgreesWith}
-use Rattle.thread_session.specs.Faults.{FaultsKept, fault_count}
-use Rattle.thread_session.specs.SessionView.{AreInStep}
 use Rattle.thread_session.proofs.Runs.{Running}
 use Rattle.thread_session.proofs.session.Session.run_into.Given as goal
 
@@ -12,10 +9,6 @@ invariant-loop-consumed g l = record {
   going : l.ended ≡ ended.Going;
   open_yet : l.full ≡ false;
   own : l.thread ≡ l.fn.self.core.thread;
-  shape : l.self-inside.core.shape ≡ l.fn.self.core.shape;
-  agrees : AgreesWith l.book l.self-inside.core;
-  in_step : AreInStep l.self-inside.core l.self-inside.reader;
-  faults : FaultsKept (fault_count l.fn.self.reader) (fault_count l.self-inside.reader);
   size : length l.out ≡ length l.initial.out;
   room : l.notes ≤ length l.out;
   rest : drop l.notes l.out ≡ drop l.notes l.initial.out;
