@@ -4,7 +4,7 @@
 pub use handler::{Handler, Note};
 pub use passed::Passed;
 pub use recorder::Recorder;
-pub use since::{counts_of, notes_laws, notes_since};
+pub use since::{count_of, counts_of, note_of, notes_laws, notes_since};
 pub use thresholds::Thresholds;
 
 pub mod handler;

@@ -6,15 +6,15 @@ use crate::handler::{Handler, Note};
 use std::alloc::{AllocError, Global};
 use std::marker::Send;
 
-// How many notes the handler has taken.
-fn count_of(handler: &Box<dyn Handler + Send>) -> u64
+/// How many notes the handler has taken.
+pub fn count_of(handler: &Box<dyn Handler + Send>) -> u64
     ensures { result ≡ length (notes handler.now) }
 {
     handler.noted()
 }
 
-// The note of the handler at this place from 0, if there is one.
-fn note_of(handler: &Box<dyn Handler + Send>, i: u64) -> Option<Note>
+/// The note of the handler at this place from 0, if there is one.
+pub fn note_of(handler: &Box<dyn Handler + Send>, i: u64) -> Option<Note>
     ensures { result ≡ slice_get (notes handler.now) i }
 {
     handler.note_at(i)

@@ -12,8 +12,8 @@ pub const MOST_SET_EVENTS: usize = 32;
 /// How many native events a set has at most, those of its presets and user events among them.
 pub const MOST_SET_NATIVES: usize = 32;
 
-/// How many items a short list has at most: a set's events, or its native events.
-pub const MOST_ITEMS: usize = 32;
+/// How many items a short list has at most: a set's native events, or its events, of which there are at most as many.
+pub const MOST_ITEMS: usize = MOST_SET_NATIVES;
 
 /// How many components a unit has at most.
 pub const MOST_COMPONENTS: usize = 16;

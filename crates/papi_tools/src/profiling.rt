@@ -1,6 +1,6 @@
 //! `papi_profil`: counts where in a program the thresholds of an event were passed.
 ghost use Rattle.std.specs.Prelude.{◌≡◌, ◌≤◌, ◌<◌, ◌+◌, ◌^◌, ◌∷◌, ◌++◌, IfOk};
-ghost use Rattle.std.specs.Prelude.{OnOk, ℕ, [], List, drop, length, map, slice_get, slice_index_or, vec_len};
+ghost use Rattle.std.specs.Prelude.{OnOk, ℕ, [], List, drop, length, map, slice_index_or, vec_len};
 ghost use Rattle.profil_hist.specs.Histograms.{IsHistogram};
 ghost use Rattle.papi_tools.specs.Openings.{Answers};
 ghost use Rattle.papi_tools.specs.Looking.{FilesSeen, LookedBy, StopsByFile};
@@ -14,7 +14,7 @@ use crate::marks::marked;
 use crate::script_run::{RanScript, run_and_close};
 use crate::tables::read_catalog;
 use crate::{Output, ToolResult};
-use overflow_dispatch::{Handler, Note};
+use overflow_dispatch::{Handler, Note, count_of, note_of};
 use papi_base::{Bytes, Files, THREADS};
 use profil_hist::{Hist, Map, profile_text};
 use script_lines::Script;
@@ -27,20 +27,6 @@ use tool_words::ProfilWords;
 
 // More notes than a histogram counts, which no memory holds.
 const TOO_MANY: u64 = 1 << 63;
-
-// How many notes the handler has taken.
-fn count_of(handler: &Box<dyn Handler + Send>) -> u64
-    ensures { result ≡ length (notes handler.now) }
-{
-    handler.noted()
-}
-
-// The note of the handler at this place from 0, if there is one.
-fn note_of(handler: &Box<dyn Handler + Send>, i: u64) -> Option<Note>
-    ensures { result ≡ slice_get (notes handler.now) i }
-{
-    handler.note_at(i)
-}
 
 // Whether a note is of the event of this index in this set.
 fn is_counted(note: &Note, set: u32, index: u32) -> bool
