@@ -1,11 +1,24 @@
 //! The value of a formula by its tree.
 ghost use Rattle.std.specs.Prelude.{◌≡◌, ◌≤◌, ◌<◌, ◌^◌, ◌++◌, ℕ, List, length, slice_get, take, Some};
 ghost use Rattle.postfix_rules.specs.Trees.{Tree, spelling};
-ghost use Rattle.postfix_rules.specs.Values.{IsTreeValue, tree_value};
+ghost use Rattle.postfix_rules.specs.Values.{IsTreeValue, applied, tree_value};
 ghost use Rattle.postfix_rules.specs.declared.token.Token.{Token};
 ghost use Rattle.postfix_rules.specs.declared.token.Token.TheVariants as token;
 
-use postfix_rules::{Formula, Token, apply};
+use postfix_rules::{Formula, Operator, Token};
+
+// The operator's value, in signed 64 bits that wrap; a quotient by 0 is 0.
+#[tactic(auto, unfolding(postfix_rules::specs::Values::divided))]
+fn value_of(operator: Operator, x: i64, y: i64) -> i64
+    ensures { result ≡ applied operator x y }
+{
+    match operator {
+        Operator::Plus => x.wrapping_add(y),
+        Operator::Minus => x.wrapping_sub(y),
+        Operator::Times => x.wrapping_mul(y),
+        Operator::Over => { if y == 0 { 0 } else { x.wrapping_div(y) } }
+    }
+}
 
 // The value of the tree that the tokens before the end spell last, and where these begin: the last token is the tree's root.
 fn value_before(tokens: &[Token], counts: &[i64], end: usize) -> (i64, usize)
@@ -24,7 +37,7 @@ fn value_before(tokens: &[Token], counts: &[i64], end: usize) -> (i64, usize)
         Token::Operator(operator) => {
             let (y, middle) = value_before(tokens, counts, end - 1);
             let (x, begin) = value_before(tokens, counts, middle);
-            (apply(operator, x, y), begin)
+            (value_of(operator, x, y), begin)
         }
     }
 }

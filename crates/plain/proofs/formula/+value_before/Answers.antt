@@ -49,10 +49,10 @@ returns-in-Operator-clause-tree t c front tree e =
     let right = c.value_before-y.ensures.tree (front ++ spelling root.left) root.right root.apart in
     let left = c.value_before-x.ensures.tree front root.left
     (left_apart tokens front (c.args.end - 1) c.value_before-y.result.1 (spelling root.left) (spelling root.right) root.apart right.1 c.value_before-y.ensures.before) in
-    let fits : FitsSigned w64 c.apply.result = record { sfits = c.apply.type_inv } in
+    let fits : FitsSigned w64 c.value_of.result = record { sfits = c.value_of.type_inv } in
     let x : to_z w64 (of_z w64 c.value_before-x.result.0) ≡ c.value_before-x.result.0 = search rules in
     let y : to_z w64 (of_z w64 c.value_before-y.result.0) ≡ c.value_before-y.result.0 = search rules in (
-      to_z-of_z fits ∙ c.apply.ensures ∙ ap₂ (applied operator) (x ∙ left.0) (y ∙ right.0)
+      to_z-of_z fits ∙ c.value_of.ensures ∙ ap₂ (applied operator) (x ∙ left.0) (y ∙ right.0)
           ∙ sym (node_value counts operator root.left root.right) ∙ ap (tree_value counts) (sym root.is),
       left.1,
     )
