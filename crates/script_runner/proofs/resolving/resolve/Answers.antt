@@ -22,8 +22,8 @@ returns c =
     let catalog = c.args.catalog.now in
     let script = c.args.script.now in
     let whole =
-        planned-all catalog c.lines-line-items.result.now script c.loop-line.line-index c.loop-line.lines.items c.new.result c.loop-line.codes
-        c.loop-line-test.false c.lines-line-items.ensures.lines c.new.ensures.lines c.loop-line.invariant in
+    planned-all catalog c.lines-line-items.result.now script c.loop-line.line-index c.loop-line.lines.items c.new.result c.loop-line.codes
+    c.loop-line-test.false c.lines-line-items.ensures.lines c.new.ensures.lines c.loop-line.invariant in
     let codes = plan-codes catalog script c.new.result c.loop-line.codes whole in
     record {
       plan = plan-asks catalog script c.new.result c.loop-line.codes whole;
