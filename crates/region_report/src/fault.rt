@@ -10,27 +10,21 @@ use thiserror::Error;
 
 /// What is wrong with a line of a region script; of several causes the first in this order counts.
 #[derive(Clone, Copy, Debug, PartialEq, Eq, Error)]
+#[error("{}", cause_text(*self))]
 pub enum RegionCause {
     /// It is one line more than a region script may have, or begins a region inside as many as may be open.
-    #[error("over a limit")]
     OverLimit,
     /// Its first word is not a thread.
-    #[error("bad thread")]
     BadThread,
     /// Its second word is missing, or no call.
-    #[error("unknown call")]
     UnknownCall,
     /// It has another number of arguments than the call, or a name out of its form.
-    #[error("wrong arguments")]
     BadArguments,
     /// A number is out of its form or range.
-    #[error("bad number")]
     BadNumber,
     /// It reads or ends a region that is not the innermost open one of its thread.
-    #[error("wrong region")]
     WrongRegion,
     /// A region is open at the end of the file.
-    #[error("region not ended")]
     NotEnded,
 }
 
