@@ -11,6 +11,7 @@ use Rattle.session_model.specs.declared.call.Call.TheVariants as call
 use Rattle.session_model.specs.declared.reply.Ended.{Ended}
 use Rattle.session_model.specs.Step.{code_of}
 use Rattle.thread_session.specs.Follows.{FollowsAs, run_reply}
+use Rattle.thread_session.specs.declared.filling.Filled.{Filled}
 
 -- a note, as C sees it
 abbrev pub passing_of : Note → Passing
@@ -38,6 +39,11 @@ pub record Went (old new : LibraryView) (n : ℕ) (answer : ℤ) (consumed told 
   pub early : full ≡ true → consumed < n
   pub catalog : new.catalog ≡ old.catalog
   pub mentioned : new.mentioned ≡ old.mentioned
+
+-- a run into a place did this, and told that it did
+abbrev pub HasRun : LibraryView → LibraryView → ℕ → Filled → List Passing → List Passing → Type 0
+HasRun old new n filled before after =
+    Went old new n (run_number filled.full filled.ran.ended) filled.ran.consumed filled.ran.notes (fault_of filled.ran.ended) before after
 
 -- nothing happens, since memory is refused
 pub record IsRefusedRun (old new : LibraryView) (answer : ℤ) (before after : List Passing) : Type 0 where

@@ -35,11 +35,8 @@ fn component_text(
     let Some(part) = part else {
         return Ok(Err(Code::Einval));
     };
-    Ok(
-        library
-            .component_text(alloc, comp, part)?
-            .ok_or(Code::Enoevnt),
-    )
+    let text = library.component_text(alloc, comp, part)?;
+    Ok(text.ok_or(Code::Enoevnt))
 }
 
 /// A part of what the unit's file says of a component, from 0: 0 its name, 1 the name of its pmu, 2 the name of the counter in this place
@@ -59,15 +56,13 @@ pub extern "C" fn kistalub_component(
         length.new out.old out.new }
     ensures kept { h.new.library ≡ h.old.library }
 {
-    give(
-        on_library!(
-            alloc,
-            h,
-            |library| component_text(alloc, &library, comp, component_part_of(number, place))
-        ),
-        out,
-        length,
-    )
+    let part = component_part_of(number, place);
+    let answer = on_library!(
+        alloc,
+        h,
+        |library| component_text(alloc, &library, comp, part)
+    );
+    give(answer, out, length)
 }
 
 // The part of a native event that a number stands for.
@@ -97,11 +92,8 @@ fn native_text(
     let Some(part) = part else {
         return Ok(Err(Code::Einval));
     };
-    Ok(
-        library
-            .native_text(alloc, comp, row, part)?
-            .ok_or(Code::Enoevnt),
-    )
+    let text = library.native_text(alloc, comp, row, part)?;
+    Ok(text.ok_or(Code::Enoevnt))
 }
 
 /// A part of what the unit's file says of the native event in a row of a component, both from 0, in the order of papi_native_avail: 0 its
@@ -123,13 +115,11 @@ pub extern "C" fn kistalub_native(
         length.new out.old out.new }
     ensures kept { h.new.library ≡ h.old.library }
 {
-    give(
-        on_library!(
-            alloc,
-            h,
-            |library| native_text(alloc, &library, comp, row, native_part_of(number, place))
-        ),
-        out,
-        length,
-    )
+    let part = native_part_of(number, place);
+    let answer = on_library!(
+        alloc,
+        h,
+        |library| native_text(alloc, &library, comp, row, part)
+    );
+    give(answer, out, length)
 }

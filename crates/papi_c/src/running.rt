@@ -1,6 +1,6 @@
 //! Runs.
-ghost use Rattle.std.specs.Prelude.{◌≡◌, ◌≢◌, ◌⊎◌, ◌≤◌, drop, length, map, negsuc, take};
-ghost use Rattle.papi_c.specs.Runs.{IsRefusedRun, IsUnrun, Runs, Went, passing_of, run_number};
+ghost use Rattle.std.specs.Prelude.{◌≡◌, ◌≢◌, ◌≤◌, IfOk, IsOk, OnErr, drop, length, map, negsuc, take};
+ghost use Rattle.papi_c.specs.Runs.{HasRun, IsUnrun, Runs, passing_of, run_number};
 ghost use Rattle.session_model.specs.Step.{code_of};
 ghost use Rattle.thread_session.specs.declared.filling.TheConstants.{MOST_PASSED};
 
@@ -10,7 +10,7 @@ use overflow_dispatch::Note;
 use papi_base::{Code, code_number};
 use papi_calls::{Filled, Library};
 use session_model::Ended;
-use std::alloc::Global;
+use std::alloc::{AllocError, Global};
 use thread_session::MOST_PASSED;
 
 /// No room is left in an array: PAPI_EBUF.
@@ -71,26 +71,13 @@ const BLANK: Note = Note {
 };
 
 // Runs a library into an array, over as many places for notes.
-fn run_over(
-    library: &mut Library,
-    n: u32,
-    consumed: &mut u32,
-    notes: &mut [Note],
-    out: &mut [Passing],
-    told: &mut u64,
-    fault: &mut StreamFault,
-) -> i32
+fn run_over(library: &mut Library, n: u32, notes: &mut [Note], out: &mut [Passing]) -> Filled
     requires same { length notes.old ≡ length out.old }
-    ensures went { Went library.old library.new n result consumed.new told.new fault.new out.old
-        out.new }
-    ensures made { ¬ (IsUnrun result) }
+    ensures went { HasRun library.old library.new n result out.old out.new }
 {
     let filled = library.run_into(n, notes);
     tell(notes, filled.ran.notes as usize, out);
-    *consumed = filled.ran.consumed;
-    *told = filled.ran.notes;
-    *fault = fault_of(filled.ran.ended);
-    number_of(filled)
+    filled
 }
 
 // Runs a library into an array.
@@ -98,26 +85,20 @@ fn run(
     alloc: Global,
     library: &mut Library,
     n: u32,
-    consumed: &mut u32,
     out: &mut [Passing],
-    told: &mut u64,
-    fault: &mut StreamFault,
-) -> i32
-    ensures went { Went library.old library.new n result consumed.new told.new fault.new out.old
-        out.new ⊎ IsRefusedRun library.old library.new result out.old out.new }
-    ensures untold { IsUnrun result
-        → (consumed.new ≡ consumed.old) × (told.new ≡ told.old) × (fault.new ≡ fault.old) }
-    ensures lean { length out.old ≤ MOST_PASSED → ¬ (IsUnrun result) }
+) -> Result<Filled, AllocError>
+    ensures went { IfOk result (λ filled. HasRun library.old library.new n filled out.old out.new) }
+    ensures same { OnErr result (library.new ≡ library.old) }
+    ensures kept { OnErr result (out.new ≡ out.old) }
+    ensures lean { length out.old ≤ MOST_PASSED → IsOk result }
 {
     let room = out.len();
     if room <= MOST_PASSED {
         let mut notes = [BLANK; MOST_PASSED];
-        return run_over(library, n, consumed, &mut notes[..room], out, told, fault);
+        return Ok(run_over(library, n, &mut notes[..room], out));
     }
-    let Ok(mut notes) = vec![in alloc; BLANK; room] else {
-        return ENOMEM;
-    };
-    run_over(library, n, consumed, notes.as_mut_slice(), out, told, fault)
+    let mut notes = vec![in alloc; BLANK; room]?;
+    Ok(run_over(library, n, notes.as_mut_slice(), out))
 }
 
 /// Consumes up to `n` occurrences, and says how many. The thresholds that were passed go into `out`, and `told` has their number. If
@@ -140,9 +121,11 @@ pub extern "C" fn kistalub_run(
         → (consumed.new ≡ consumed.old) × (told.new ≡ told.old) × (fault.new ≡ fault.old) }
     ensures lean { length out.old ≤ MOST_PASSED → result ≢ negsuc 1 }
 {
-    on_library!(
-        alloc,
-        h,
-        |library| run(alloc, &mut library, n, consumed, out, told, fault)
-    )
+    let Ok(filled) = on_library!(alloc, h, |library| run(alloc, &mut library, n, out)) else {
+        return ENOMEM;
+    };
+    *consumed = filled.ran.consumed;
+    *told = filled.ran.notes;
+    *fault = fault_of(filled.ran.ended);
+    number_of(filled)
 }

@@ -57,11 +57,8 @@ pub extern "C" fn kistalub_code_to_name(
         length.old length.new out.old out.new }
     ensures kept { h.new.library ≡ h.old.library }
 {
-    give(
-        on_library!(alloc, h, |library| library.name_of(alloc, code)),
-        out,
-        length,
-    )
+    let answer = on_library!(alloc, h, |library| library.name_of(alloc, code));
+    give(answer, out, length)
 }
 
 // The part of a number.
@@ -109,13 +106,7 @@ pub extern "C" fn kistalub_info(
         length.old length.new out.old out.new }
     ensures kept { h.new.library ≡ h.old.library }
 {
-    give(
-        on_library!(
-            alloc,
-            h,
-            |library| info_text(alloc, &library, code, part_of(number, place))
-        ),
-        out,
-        length,
-    )
+    let part = part_of(number, place);
+    let answer = on_library!(alloc, h, |library| info_text(alloc, &library, code, part));
+    give(answer, out, length)
 }

@@ -7,15 +7,13 @@ use mir.Raw.{raw as bare}
 use mir.Val.{Val, vstruct, vnull, vcons, vnil, of_list, has_ty}
 use base.Logic.{SProp, ent, emp, id⊢, guard_i}
 use base.Fml.{ftrue, fsep}
-use prog.Memory.{Memory}
-use prog.Routine.{Routine}
-use prog.Wp.{WpFn, Tables}
+use prog.Model.{Model}
+use prog.Wp.{WpFn}
 use types.Logic.{Logic, sem}
 use types.Match.{live}
-use contract.Monad.{Fun, fact_use}
-use contract.Running.{tables, tables_of}
-use sound.WpLaws.{WpFn-mono}
-use types.Kit.{Item, at_ret, ‵, raw, given, learn, ◌⊛◌, ◌$◌, ◌∵◌, !, qed, by, move, keep, drop, use0, use1, join, split, rewrite, fpick, feq_l, fsplit, fjoin, suffices, done}
+use contract.Monad.{fact, fact_i, fact_use}
+use contract.Running.{Running, MachineTables, tables}
+use types.Kit.{Item, Sq, at_ret, prop, ‵, raw, given, learn, ◌⊛◌, ◌$◌, ◌∵◌, !, qed, by, move, keep, drop, use0, use1, split, rewrite, fpick, feq_l, fsplit, fjoin}
 use types.Part.{whole, sub, agg}
 use types.Run.{stop, fld, no_more, and_then, of_opd, bin, lit, first, branches, skips, exec, returns, returns_within, enter}
 use types.ByLocal.{alloc_all, pass_all, free_all, look_at, get, get_in, sets, env}
@@ -23,10 +21,10 @@ use denote.Exit.{yes}
 use denote.RattleType.{RattleType}
 use denote.RawPtr.{Ptr, block_ptr, null_ptr, ptr_val, Testable, tests_null}
 use denote.Steps.{nothing}
-use denote.Triple.Spec.{triple_of}
-use denote.Triple.Table.{entered}
-use denote.Triple.Walked.{says, Stays, stay_dropped, walk_of, ends_at, Goes-dropped, walk_Meets}
-use Rattle.std.specs.Prelude.{Option, None, Some}
+use denote.Triple.Walked.{Stays, stay_dropped, walk_of, Goes-dropped}
+use Rattle.std.specs.Prelude.{Option, None, Some, option_map}
+use Rattle.std.proofs.GlobalToken.{dealloc_token-Testable}
+use Rattle.std.proofs.raw_atomic.Walks.{proved_at, leaves}
 use Rattle.core.specs.contracts.option.Option as OP
 use Rattle.core.proofs.option.Made.{Some-of, none_of}
 use Rattle.core.proofs.alloc.Calls.{α, token, handle_tells}
@@ -34,16 +32,15 @@ use Rattle.core.proofs.alloc.Shapes.{after}
 use Rattle.std_alloc.proofs.ResultValues.{and_tt}
 use Rattle.std_alloc.proofs.BoxSteps.Form.{D, B, τ, box_ty, word, box_typed}
 use Rattle.std_alloc.proofs.BoxSteps.Steps.{box_out, box_in}
-use Rattle.std.proofs.GlobalToken.{dealloc_token-Testable}
 use Rattle.std_heap.specs.contracts.Global as Heap
 use Rattle.std_heap.specs.contracts.GlobalAllocator.TheImpl.{ghosts}
-use Rattle.papi_c.proofs.AsBox.{E, FromHandle as From}
 use Rattle.papi_calls.specs.contracts.library.Library as Library
+use Rattle.papi_c.proofs.AsBox.{E, FromHandle as From}
 use Rattle.papi_c.specs.contracts.parts.Parts as Parts
 use Rattle.papi_c.specs.contracts.handle.Handle as Handle
-use Rattle.papi_c.specs.contracts.handle.Handle.into_parts as F
+use Rattle.papi_c.specs.contracts.handle.Handle.into_parts.{ended, clauses}
 use Rattle.papi_c.specs.contracts.handle.Handle.into_parts.Key.{name as #self}
-use Rattle.papi_c.proofs.handle.Handle.into_parts.Statement as stated
+use Rattle.papi_c.proofs.handle.Handle.into_parts.Statement.{statement}
 use Rattle.papi_c.proofs.handle.Handle.into_parts.Code as code
 
 abbrev PR : RattleType
@@ -52,16 +49,14 @@ PR = Parts.the_row Library.the_row Heap.the_row ghosts
 abbrev Row : RattleType
 Row = Handle.the_row
 
-abbrev X : Type 0
-X = Library.the_row.Denot
-
-abbrev stayed : Stays (F.ended).signature.params (F.ended).kept
+abbrev stayed : Stays (ended).signature.params (ended).kept
 stayed = (stay_dropped From yes, tt)
 
-module _ {M : Type 1} {𝓤 : Ura M} (𝓛 : Logic 𝓤) (at_mem : Memory → SProp 𝓤) (run : Routine → Fun 𝓤) (𝓣 : Tables 𝓤 𝓛.H) where
-  open 𝓛 use {H}
+module _ {M : Type 1} {𝓤 : Ura M} (𝓛 : Logic 𝓤) (𝓜 : Model 𝓤 𝓛.H) (𝓡 : Running 𝓤 𝓛.H 𝓜) where
+  abbrev 𝓣 : MachineTables 𝓤 𝓛.H 𝓜
+  𝓣 = tables 𝓤 𝓛.H 𝓜 𝓡 𝓡.env
 
-  module _ (z : (walk_of 𝓛 F.ended stayed (F.clauses 𝓛 at_mem run)).Ghost) where
+  module _ (z : (walk_of 𝓛 ended stayed (clauses 𝓛 𝓜.mem 𝓡.returns)).Ghost) where
     abbrev d : Row.Denot
     d = z.0.3.0
 
@@ -69,14 +64,19 @@ module _ {M : Type 1} {𝓤 : Ura M} (𝓛 : Logic 𝓤) (at_mem : Memory → SP
     vs = z.0.4.0
 
     abbrev Post : Val → SProp 𝓤
-    Post = (walk_of 𝓛 F.ended stayed (F.clauses 𝓛 at_mem run)).post z
+    Post = (walk_of 𝓛 ended stayed (clauses 𝓛 𝓜.mem 𝓡.returns)).post z
 
     abbrev Runs : List Val → SProp 𝓤
-    Runs us = WpFn 𝓤 H 𝓣.C 𝓣.Λ code.function (us ++ []) Post
+    Runs us = WpFn 𝓤 𝓛.H 𝓣.C 𝓣.Λ code.function (us ++ []) Post
 
-    at : (x : Option X) → d.library ≡ x → ent 𝓤 (sem 𝓛 (Row.own_val d vs)) (Runs vs)
+    gives : (found : Option PR.Denot) (w : Val) → option_map (λ p. p.value) found ≡ d.library → Sq 𝓛 (‵ ((OP.the_row PR).own_val found (w ∷ [])) ∷ []) (prop (Post w))
+    gives found w same =
+        use0 𝓛 (raw (fact 𝓤 (option_map (λ p. p.value) found ≡ d.library))) (fact_i 𝓤 (option_map (λ p. p.value) found ≡ d.library) (emp 𝓤) same) $
+        nothing ! $ nothing ! $ fjoin ! $ nothing ! $ move ! (0 ∷ 1 ∷ 3 ∷ 2 ∷ []) $ by ! (leaves 𝓛 ended stayed (clauses 𝓛 𝓜.mem 𝓡.returns) z w found (tt, tt) (tt, tt))
+
+    at : (x : Option Library.the_row.Denot) → d.library ≡ x → ent 𝓤 (sem 𝓛 (Row.own_val d vs)) (Runs vs)
     at None e =
-        qed 𝓛 (‵ (Row.own_val d vs) ∷ []) ∵ rewrite ! 0 (λ (y : Option X). ‵ (Row.own_val (record d { library = y }) vs)) e refl $
+        qed 𝓛 (‵ (Row.own_val d vs) ∷ []) ∵ rewrite ! 0 (λ (y : Option Library.the_row.Denot). ‵ (Row.own_val (record d { library = y }) vs)) e refl $
         fsplit ! $ fpick ! (λ vss. fsplit ! $ feq_l ! (λ ev. fsplit ! $ feq_l ! (λ ep. fsplit ! $ handle_tells E.al ! d.alloc vss.1.0 (λ hv ea fa. move ! (1 ∷ []) $ drop ! $ move ! (1 ∷ []) $ feq_l ! (λ en. drop ! $
         let w : Val = vstruct (vcons vnull (vcons hv vnil)) in
         let ws : vs ≡ w ∷ [] = subst (λ (p : Ptr). vs ≡ vstruct (of_list (ptr_val p ∷ hv ∷ [])) ∷ []) en
@@ -88,13 +88,11 @@ module _ {M : Type 1} {𝓤 : Ura M} (𝓛 : Logic 𝓤) (at_mem : Memory → SP
         first ! $ branches ! (get ! refl)
         (λ t. sets ! (agg ! (and_then ! (lit ! tt) (no_more !))) refl (tt, (record { fits = lit< tt }, tt)) $
         returns_within ! Post refl (look_at ! 0 refl) $ free_all ! refl $
-        use0 𝓛 (‵ ((OP.the_row PR).own_val None (live 0 (of_list []) ∷ []))) (none_of 𝓛 PR) $
-        suffices ! _ (ends_at 𝓛 F.ended stayed (F.clauses 𝓛 at_mem run) z (live 0 (of_list [])) None (tt, tt) (tt, tt)) $ says ! (sym e) $
-        nothing ! $ nothing ! $ fjoin ! $ join ! $ nothing ! $ join ! $ done !)
+        use0 𝓛 (‵ ((OP.the_row PR).own_val None (live 0 (of_list []) ∷ []))) (none_of 𝓛 PR) $ gives None (live 0 (of_list [])) (sym e))
         (λ t. absurd t)))))))))
     at (Some x) e =
         let v : D E = record { ptr = d.at; alloc = d.alloc; value = x } in
-        qed 𝓛 (‵ (Row.own_val d vs) ∷ []) ∵ rewrite ! 0 (λ (y : Option X). ‵ (Row.own_val (record d { library = y }) vs)) e refl $
+        qed 𝓛 (‵ (Row.own_val d vs) ∷ []) ∵ rewrite ! 0 (λ (y : Option Library.the_row.Denot). ‵ (Row.own_val (record d { library = y }) vs)) e refl $
         use1 𝓛 (‵ ((B E).own_val v vs)) (id⊢ 𝓤 _) $
         box_out E ! v vs (λ b o hv ep ws fa.
         let w : Val = word E hv b o in
@@ -113,19 +111,9 @@ module _ {M : Type 1} {𝓤 : Ura M} (𝓛 : Logic 𝓤) (at_mem : Memory → SP
         sets ! (of_opd ! (get ! refl)) refl (tt, tt) $
         sets ! (agg ! (and_then ! (get ! refl) (and_then ! (get ! refl) (no_more !)))) refl (box_typed E hv b o fa) $
         sets ! (agg ! (and_then ! (lit ! tt) (and_then ! (get ! refl) (no_more !)))) refl (and_tt (has_ty (box_ty E) w) (box_typed E hv b o fa).0, (record { fits = lit< tt }, ((box_typed E hv b o fa).1, tt))) $
-        returns ! (look_at ! 0 refl) $ free_all ! refl $
-        suffices ! _ (ends_at 𝓛 F.ended stayed (F.clauses 𝓛 at_mem run) z (live 1 (of_list (w ∷ []))) (Some made) (tt, tt) (tt, tt)) $ says ! (sym e) $
-        nothing ! $ nothing ! $ fjoin ! $ join ! $ nothing ! $ join ! $ done !))))))
+        returns ! (look_at ! 0 refl) $ free_all ! refl $ gives (Some made) (live 1 (of_list (w ∷ []))) (sym e)))))))
 
-  walk : (z : (walk_of 𝓛 F.ended stayed (F.clauses 𝓛 at_mem run)).Ghost)
-      → ent 𝓤 ((walk_of 𝓛 F.ended stayed (F.clauses 𝓛 at_mem run)).pre z) (WpFn 𝓤 H 𝓣.C 𝓣.Λ code.function (z.0.4.0 ++ []) ((walk_of 𝓛 F.ended stayed (F.clauses 𝓛 at_mem run)).post z))
-  walk z =
-      qed 𝓛 ((‵ ftrue ⊛ ‵ (fsep (Row.own_val z.0.3.0 z.0.4.0) ftrue)) ∷ raw (emp 𝓤) ∷ []) ∵ split ! $ drop ! $ fsplit ! $ keep ! (0 ∷ []) $ by ! (at z z.0.3.0.library refl)
-
-pub into_parts_spec : {M : Type 1} → stated.statement M
-unfolding tables_of
+pub into_parts_spec : {M : Type 1} → statement M
 into_parts_spec 𝓤 𝓛 𝓜 𝓡 wired =
-    let 𝓣 : Tables 𝓤 𝓛.H = tables_of 𝓤 𝓛.H 𝓜 (tables 𝓤 𝓛.H 𝓜 𝓡 𝓡.env) in
-    entered 𝓤 𝓛.H (triple_of 𝓛 F.signature (F.spec 𝓛 𝓜.mem 𝓡.returns)) 𝓣.C 𝓣.Λ #self code.function (code.unfolded 𝓤 𝓛.H 𝓜 𝓡 wired)
-    (walk_Meets 𝓛 F.ended stayed (Goes-dropped 𝓛 0 From yes (λ κs x f. refl), tt) (F.clauses 𝓛 𝓜.mem 𝓡.returns) (WpFn 𝓤 𝓛.H 𝓣.C 𝓣.Λ code.function) (WpFn-mono 𝓤 𝓛.H 𝓛.laws 𝓣 code.function)
-    (walk 𝓛 𝓜.mem 𝓡.returns 𝓣))
+    proved_at 𝓛 ended stayed (clauses 𝓛 𝓜.mem 𝓡.returns) 𝓜 𝓡 (Goes-dropped 𝓛 0 From yes (λ κs x f. refl), tt) #self code.function (code.unfolded 𝓤 𝓛.H 𝓜 𝓡 wired) (λ z are.
+    qed 𝓛 ((‵ ftrue ⊛ ‵ (fsep (Row.own_val z.0.3.0 z.0.4.0) ftrue)) ∷ raw (emp 𝓤) ∷ []) ∵ split ! $ drop ! $ fsplit ! $ keep ! (0 ∷ []) $ by ! (at 𝓛 𝓜 𝓡 z z.0.3.0.library refl))
