@@ -21,5 +21,6 @@ row_of code.Ecombo = (negsuc 23, codes "PAPI_ECOMBO")
 abbrev pub number_of : Code → ℤ
 number_of c = (row_of c).0
 
+-- its name, as PAPI writes it
 abbrev pub name_of : Code → List ℕ
 name_of c = (row_of c).1

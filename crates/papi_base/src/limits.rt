@@ -33,8 +33,8 @@ pub const LEAST_THRESHOLD: u64 = 256;
 /// How many ticks a slice of a multiplexed set has at most: PAPI_set_multiplex(3).
 pub const LONGEST_SLICE: u32 = 1_000_000;
 
-/// How many occurrences a stream has at most: a line of 13 bytes each, within the size of a stream.
-pub const MOST_OCCURRENCES: u64 = 5_200_000;
+/// How many occurrences a thread takes at most: as many as there are stamps, from 0 to [`LAST_STAMP`].
+pub const MOST_OCCURRENCES: u64 = 4_294_967_295;
 
 /// The greatest amount of an occurrence.
 pub const LARGEST_AMOUNT: u8 = 255;

@@ -1,5 +1,6 @@
 //! The outside in memory. All of these tell their bytes.
 ghost use Rattle.std.specs.Prelude.{◌≡◌, ◌<◌, ◌≤◌, ◌+◌, ◌-◌, ◌↔◌, IsTrue, IfOk, OnOk, OnErr, IsErrOf, ℕ, List, [], length, take, drop, min, Some};
+ghost use Rattle.std.specs.Option.{option_map};
 ghost use Rattle.papi_base.specs.Outside.{CountsFaults, appended};
 
 use crate::{Ending, Failed, Sink, Source, WriteFail};
@@ -32,6 +33,22 @@ impl MemSource {
             largest,
             faults: 0,
         }
+    }
+
+    /// The bytes that it still gives.
+    pub fn rest(&self) -> &[u8]
+        ensures { option_map (λ t. t.bytes) (⟦<MemSource as Source>⟧.tape self.now)
+            ≡ Some result.now }
+    {
+        &self.bytes[self.given..]
+    }
+
+    /// How it ends after them.
+    pub fn ending(&self) -> Ending
+        ensures { option_map (λ t. t.ending) (⟦<MemSource as Source>⟧.tape self.now)
+            ≡ Some result }
+    {
+        self.ending
     }
 
     /// Whether a read has failed.

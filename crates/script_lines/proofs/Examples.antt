@@ -2,7 +2,8 @@
 use Rattle.std.proofs.Common.{◌≡◌, ◌∷◌, [], List, ℕ, Result, codes, map, refl}
 use Rattle.std.specs.Prelude.{Ok, Err}
 use Rattle.table_rows.specs.Texts.{Text, decimal_in, hex_in, is_decimal, is_numeral}
-use Rattle.script_lines.specs.declared.call.ScriptCall.TheVariants as call
+use Rattle.call_type.specs.declared.call.Asked.TheVariants as asked
+use Rattle.call_type.specs.declared.call.Call.TheVariants as call
 use Rattle.script_lines.specs.declared.fault.ScriptCause.{ScriptCause}
 use Rattle.script_lines.specs.declared.fault.ScriptCause.TheVariants as cause
 use Rattle.script_lines.specs.declared.script.ScriptLine.{ScriptLine}
@@ -23,7 +24,7 @@ Row = Text × Result (List ScriptLine) (Refused ScriptCause)
 abbrev refused : ℕ → ScriptCause → Result (List ScriptLine) (Refused ScriptCause)
 refused line cause = Err (record { line = line; cause = cause })
 
-scripts_read : (let rows : List Row = (codes "# sets\n0 create\r\n\n 0\tadd 0 CYCLES", Ok (line_with 2 0 call.Create ∷ line_with 4 0 (call.Add 0 (codes "CYCLES")) ∷ []))
+scripts_read : (let rows : List Row = (codes "# sets\n0 create\r\n\n 0\tadd 0 CYCLES", Ok (line_with 2 0 (asked.Call call.Create) ∷ line_with 4 0 (asked.Call (call.Add 0 (codes "CYCLES"))) ∷ []))
     ∷ (codes "0 create\r", refused 1 cause.UnknownCall)
     ∷ (codes "0 start x", refused 1 cause.BadNumber)
     ∷ (codes "64 create", refused 1 cause.BadThread)
@@ -33,8 +34,8 @@ scripts_read : (let rows : List Row = (codes "# sets\n0 create\r\n\n 0\tadd 0 CY
     ∷ (codes "0 create 1", refused 1 cause.BadArguments)
     ∷ (codes "0 run 4294967295\n0 run 4294967296", refused 2 cause.BadNumber)
     ∷ (codes "0 add x", refused 1 cause.BadArguments)
-    ∷ (codes "63 register\n63 unregister\n0 threads", Ok (line_with 1 63 call.Register ∷ line_with 2 63 call.Unregister ∷ line_with 3 0 call.Threads ∷ []))
-    ∷ (codes "1 code lab::CYCLES\n0 name 0x4000000A\n0 name 0xfFFFffff", Ok (line_with 1 1 (call.Code (codes "lab::CYCLES")) ∷ line_with 2 0 (call.Name 1073741834) ∷ line_with 3 0 (call.Name 4294967295) ∷ []))
+    ∷ (codes "63 register\n63 unregister\n0 threads", Ok (line_with 1 63 (asked.Call call.Register) ∷ line_with 2 63 (asked.Call call.Unregister) ∷ line_with 3 0 asked.Threads ∷ []))
+    ∷ (codes "1 code lab::CYCLES\n0 name 0x4000000A\n0 name 0xfFFFffff", Ok (line_with 1 1 (asked.CodeOf (codes "lab::CYCLES")) ∷ line_with 2 0 (asked.NameOf 1073741834) ∷ line_with 3 0 (asked.NameOf 4294967295) ∷ []))
     ∷ (codes "0 name 0x", refused 1 cause.BadNumber)
     ∷ (codes "0 name 0x000000001", refused 1 cause.BadNumber)
     ∷ (codes "0 name 0X40000000", refused 1 cause.BadNumber)

@@ -3,14 +3,13 @@ use Rattle.std.specs.Prelude.{◌<◌, ◌-◌, ◌||◌, ◌==◌, ℕ, Bool, L
 use Rattle.papi_base.specs.declared.limits.TheConstants.{THREADS}
 use Rattle.table_rows.specs.Texts.{Text, decimal_in}
 use Rattle.table_rows.specs.declared.fault.RowRefusal.{RowRefusal}
-use Rattle.script_lines.specs.declared.call.ScriptCall.{ScriptCall}
 use Rattle.script_lines.specs.declared.fault.ScriptCause.{ScriptCause}
 use Rattle.script_lines.specs.declared.fault.ScriptCause.TheVariants.{BadThread, OverLimit, UnknownCall}
 use Rattle.script_lines.specs.declared.script.ScriptLine.{ScriptLine}
 use Rattle.script_lines.specs.declared.script.TheConstants.{MOST_CALLS}
 use Rattle.script_lines.specs.Answers.{and_then, made_of}
 use Rattle.script_lines.specs.Arguments.{number_or}
-use Rattle.script_lines.specs.Calls.{call_of}
+use Rattle.script_lines.specs.Calls.{Written, call_of}
 use Rattle.script_lines.specs.Words.{words_of}
 
 -- a line that is passed over: it is empty, or begins with `#`
@@ -22,7 +21,7 @@ abbrev pub thread_in : Text → Result ℕ ScriptCause
 thread_in word = number_or BadThread (decimal_in 0 (THREADS - 1) word)
 
 -- a line of a script, by its number
-abbrev pub line_with : ℕ → ℕ → ScriptCall → ScriptLine
+abbrev pub line_with : ℕ → ℕ → Written → ScriptLine
 line_with number thread call = record { line = number; thread = thread; call = call }
 
 -- the call line of what stands after its thread

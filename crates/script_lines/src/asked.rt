@@ -8,8 +8,9 @@ ghost use Rattle.script_lines.specs.Calls as Calls;
 use crate::arguments::{
     nothing, one_code, one_event, one_number, set_and_event, set_event_and_threshold, two_numbers,
 };
-use crate::call::ScriptCall;
 use crate::fault::ScriptCause;
+use crate::script::Written;
+use call_type::{Asked, Call};
 use papi_base::{CallName, Text, call_word};
 use std::alloc::Global;
 use table_rows::RowRefusal;
@@ -57,39 +58,45 @@ fn name_in(word: &[u8]) -> Option<CallName>
 
 // The call of a name that takes no event, with its arguments.
 #[tactic(auto, unfolding(crate::specs::Calls::call_rows))]
-fn eventless_call(name: CallName, arguments: &[&[u8]]) -> Result<ScriptCall, ScriptCause>
+fn eventless_call(name: CallName, arguments: &[&[u8]]) -> Result<Written, ScriptCause>
     requires { Calls.TakesNoEvent (Calls.form_of (word_of name) Calls.call_rows) }
     ensures { result ≡ Calls.call_of (word_of name) (map (λ w. w.now) arguments.now) }
 {
     match name {
-        CallName::Register => nothing(arguments).map(|_none| ScriptCall::Register),
-        CallName::Unregister => nothing(arguments).map(|_none| ScriptCall::Unregister),
-        CallName::Threads => nothing(arguments).map(|_none| ScriptCall::Threads),
-        CallName::Create => nothing(arguments).map(|_none| ScriptCall::Create),
-        CallName::Destroy => one_number(arguments).map(|set| ScriptCall::Destroy { set }),
-        CallName::Cleanup => one_number(arguments).map(|set| ScriptCall::Cleanup { set }),
+        CallName::Register => nothing(arguments).map(|_none| Asked::Call(Call::Register)),
+        CallName::Unregister => nothing(arguments).map(|_none| Asked::Call(Call::Unregister)),
+        CallName::Threads => nothing(arguments).map(|_none| Asked::Threads),
+        CallName::Create => nothing(arguments).map(|_none| Asked::Call(Call::Create)),
+        CallName::Destroy => one_number(arguments).map(|set| Asked::Call(Call::Destroy { set })),
+        CallName::Cleanup => one_number(arguments).map(|set| Asked::Call(Call::Cleanup { set })),
         CallName::Component => {
-            two_numbers(arguments).map(|(set, component)| ScriptCall::Component { set, component })
+            two_numbers(arguments).map(|(set, comp)| Asked::Call(Call::AssignComponent {
+                set,
+                comp,
+            }))
         }
         CallName::Domain => {
-            two_numbers(arguments).map(|(set, bits)| ScriptCall::Domain { set, bits })
+            two_numbers(arguments).map(|(set, bits)| Asked::Call(Call::SetDomain { set, bits }))
         }
         CallName::Multiplex => {
-            two_numbers(arguments).map(|(set, slice)| ScriptCall::Multiplex { set, slice })
+            two_numbers(arguments).map(|(set, slice)| Asked::Call(Call::SetMultiplex {
+                set,
+                slice,
+            }))
         }
-        CallName::Start => one_number(arguments).map(|set| ScriptCall::Start { set }),
-        CallName::Stop => one_number(arguments).map(|set| ScriptCall::Stop { set }),
-        CallName::Read => one_number(arguments).map(|set| ScriptCall::Read { set }),
-        CallName::Accum => one_number(arguments).map(|set| ScriptCall::Accum { set }),
-        CallName::Reset => one_number(arguments).map(|set| ScriptCall::Reset { set }),
-        CallName::State => one_number(arguments).map(|set| ScriptCall::State { set }),
-        CallName::Events => one_number(arguments).map(|set| ScriptCall::Events { set }),
-        CallName::Assign => one_number(arguments).map(|set| ScriptCall::Assign { set }),
+        CallName::Start => one_number(arguments).map(|set| Asked::Call(Call::Start { set })),
+        CallName::Stop => one_number(arguments).map(|set| Asked::Call(Call::Stop { set })),
+        CallName::Read => one_number(arguments).map(|set| Asked::Call(Call::Read { set })),
+        CallName::Accum => one_number(arguments).map(|set| Asked::Call(Call::Accum { set })),
+        CallName::Reset => one_number(arguments).map(|set| Asked::Call(Call::Reset { set })),
+        CallName::State => one_number(arguments).map(|set| Asked::Call(Call::State { set })),
+        CallName::Events => one_number(arguments).map(|set| Asked::Call(Call::ListEvents { set })),
+        CallName::Assign => one_number(arguments).map(|set| Asked::Call(Call::Assign { set })),
         CallName::Raw => {
-            two_numbers(arguments).map(|(set, counter)| ScriptCall::Raw { set, counter })
+            two_numbers(arguments).map(|(set, c)| Asked::Call(Call::Raw { set, c }))
         }
-        CallName::Run => one_number(arguments).map(|count| ScriptCall::Run { count }),
-        CallName::Name => one_code(arguments).map(|code| ScriptCall::Name { code }),
+        CallName::Run => one_number(arguments).map(|n| Asked::Call(Call::Run { n })),
+        CallName::Name => one_code(arguments).map(|code| Asked::NameOf(code)),
         _ => unreachable!(),
     }
 }
@@ -100,32 +107,28 @@ fn call_with(
     alloc: Global,
     name: CallName,
     arguments: &[&[u8]],
-) -> Result<ScriptCall, RowRefusal<ScriptCause>>
+) -> Result<Written, RowRefusal<ScriptCause>>
     ensures { Answers result (Calls.call_of (word_of name) (map (λ w. w.now) arguments.now)) }
 {
     match name {
         CallName::Add => {
             let (set, event) = set_and_event(arguments)?;
-            let event = Text::copy_of(alloc, event)?;
-            Ok(ScriptCall::Add { set, event })
+            let e = Text::copy_of(alloc, event)?;
+            Ok(Asked::Call(Call::Add { set, e }))
         }
         CallName::Remove => {
             let (set, event) = set_and_event(arguments)?;
-            let event = Text::copy_of(alloc, event)?;
-            Ok(ScriptCall::Remove { set, event })
+            let e = Text::copy_of(alloc, event)?;
+            Ok(Asked::Call(Call::Remove { set, e }))
         }
         CallName::Overflow => {
-            let (set, event, threshold) = set_event_and_threshold(arguments)?;
-            let event = Text::copy_of(alloc, event)?;
-            Ok(ScriptCall::Overflow {
-                set,
-                event,
-                threshold,
-            })
+            let (set, event, t) = set_event_and_threshold(arguments)?;
+            let e = Text::copy_of(alloc, event)?;
+            Ok(Asked::Call(Call::Overflow { set, e, t }))
         }
         CallName::Code => {
             let event = Text::copy_of(alloc, one_event(arguments)?)?;
-            Ok(ScriptCall::Code { event })
+            Ok(Asked::CodeOf(event))
         }
         _ => Ok(eventless_call(name, arguments)?),
     }
@@ -136,7 +139,7 @@ pub(crate) fn call_of(
     alloc: Global,
     word: &[u8],
     arguments: &[&[u8]],
-) -> Result<ScriptCall, RowRefusal<ScriptCause>>
+) -> Result<Written, RowRefusal<ScriptCause>>
     ensures { Answers result (Calls.call_of word.now (map (λ w. w.now) arguments.now)) }
 {
     match name_in(word) {

@@ -4,21 +4,25 @@ ghost use Rattle.std.specs.Prelude.{◌≡◌};
 ghost use Rattle.script_lines.specs.Kept.{IsScript};
 ghost use Rattle.script_lines.specs.Scripts.{ReadsScript};
 
-use crate::call::ScriptCall;
 use crate::fault::{ScriptFault, fault_at};
 use crate::line::{call_line, cut_line, is_skipped};
+use call_type::Asked;
+use papi_base::Text;
 use std::alloc::Global;
 use std::marker::Model;
 
 /// How many call lines a script has at most.
 pub const MOST_CALLS: usize = 100_000;
 
+/// What a line asks for, with its event as it is written.
+pub type Written = Asked<Text, Text, u32>;
+
 /// A line that asks a call of a thread, with its number in the script, from 1.
 #[derive(Drop)]
 pub struct ScriptLine {
     pub line: u64,
     pub thread: u32,
-    pub call: ScriptCall,
+    pub call: Written,
 }
 
 /// The call lines of a script in order, which contracts see as their list. There are at most `MOST_CALLS`, each of a thread below `THREADS`.

@@ -3,8 +3,8 @@
 use Rattle.std.specs.Prelude.{ℕ, true, false, List, [], length, replicate, Option, Some, None, Ok, pos, slice_set}
 use Rattle.papi_base.specs.declared.occurrence.Occ.{Occ}
 use Rattle.postfix_rules.specs.Presets.{Book}
-use Rattle.session_model.specs.declared.call.Call.{Call}
-use Rattle.session_model.specs.declared.call.Call.TheVariants as call
+use Rattle.session_model.specs.CallTypes.{Call}
+use Rattle.call_type.specs.declared.call.Call.TheVariants as call
 use Rattle.event_sets.specs.AtRest.{AtRest, new_set, with_event, without_event, emptied, with_threshold}
 use Rattle.session_model.specs.Account.{Kept, end, zeroed}
 use Rattle.session_model.specs.Values.{accumulated}

@@ -4,8 +4,8 @@ use Rattle.std.specs.Option.{ForSome}
 use Rattle.postfix_rules.specs.Fitting.{IsNamed, Widths}
 use Rattle.postfix_rules.specs.Presets.{Book}
 use Rattle.event_sets.specs.Agreement.{Agrees}
-use Rattle.session_model.specs.declared.call.Call.{Call}
-use Rattle.session_model.specs.declared.call.Call.TheVariants as call
+use Rattle.session_model.specs.CallTypes.{Call}
+use Rattle.call_type.specs.declared.call.Call.TheVariants as call
 use Rattle.session_model.specs.Faces.{Face}
 
 -- the call's event is named

@@ -1,4 +1,5 @@
 pub mod Account
+pub mod CallTypes
 pub mod Counts
 pub mod Estimates
 pub mod Values
@@ -13,3 +14,6 @@ pub mod World
 pub mod Bounds
 pub mod Conditions
 pub mod Fitness
+pub mod Keeping
+pub mod Turning
+pub mod Worlds

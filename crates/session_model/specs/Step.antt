@@ -4,8 +4,8 @@ use Rattle.papi_base.specs.declared.code.Code.{Code}
 use Rattle.papi_base.specs.declared.code.Code.TheVariants as code
 use Rattle.overflow_dispatch.specs.declared.handler.Note.{Note}
 use Rattle.postfix_rules.specs.Presets.{Book}
-use Rattle.session_model.specs.declared.call.Call.{Call}
-use Rattle.session_model.specs.declared.call.Call.TheVariants as call
+use Rattle.session_model.specs.CallTypes.{Call}
+use Rattle.call_type.specs.declared.call.Call.TheVariants as call
 use Rattle.session_model.specs.declared.reply.Body.TheVariants as body
 use Rattle.session_model.specs.declared.reply.Ended.{Ended}
 use Rattle.session_model.specs.declared.reply.Ended.TheVariants as ended

@@ -9,10 +9,9 @@ use Rattle.papi_base.specs.declared.code.Code.TheVariants as code
 use Rattle.postfix_rules.specs.NativeCodes.{native_code, native_named}
 use Rattle.postfix_rules.specs.Sameness.{joined_by}
 use Rattle.postfix_rules.specs.Presets.{Book}
-use Rattle.session_model.specs.declared.call.Call.{Call}
-use Rattle.session_model.specs.declared.call.Call.TheVariants as call
-use Rattle.session_model.specs.declared.line.Asked.{Asked}
-use Rattle.session_model.specs.declared.line.Asked.TheVariants as asked
+use Rattle.session_model.specs.CallTypes.{Asked, Call}
+use Rattle.call_type.specs.declared.call.Call.TheVariants as call
+use Rattle.call_type.specs.declared.call.Asked.TheVariants as asked
 use Rattle.session_model.specs.declared.line.Line.{Line}
 use Rattle.session_model.specs.declared.reply.Body.{Body}
 use Rattle.session_model.specs.declared.reply.Body.TheVariants as body

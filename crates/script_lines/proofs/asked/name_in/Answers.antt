@@ -3,13 +3,14 @@ use Rattle.std.specs.Str.{bytes_eq}
 use Rattle.std.proofs.lemmas.List.{drop_all, get_or-map}
 use Rattle.papi_base.specs.CallNames.{word_of}
 use Rattle.papi_base.specs.declared.call_name.CallName.TheVariants as name
-use Rattle.script_lines.specs.declared.call.ScriptCall.TheVariants as call
+use Rattle.call_type.specs.declared.call.Asked.TheVariants as asked
+use Rattle.call_type.specs.declared.call.Call.TheVariants as call
 use Rattle.script_lines.proofs.CallLemmas.{form_of-skips}
 use Rattle.script_lines.specs.Calls.{CallRow, Nothing, call_rows, form_of, row}
 use Rattle.script_lines.proofs.asked.name_in.Goals as goal
 
 first : CallRow
-first = row name.Register (Nothing call.Register)
+first = row name.Register (Nothing (asked.Call call.Register))
 
 pub loop-name-init : goal.loop-name-init
 loop-name-init c = refl

@@ -1,0 +1,12 @@
+pub mod Places
+pub mod Pushing
+pub mod CountsInTurns
+pub mod ByThread
+pub mod Sets
+pub mod AgreementStays
+pub mod Within
+pub mod Apart
+pub mod Counted
+pub mod Merging
+pub mod Fits
+pub mod FitStays
