@@ -6,11 +6,12 @@ use Rattle.preset_csv.specs.Tables.{TableView}
 use Rattle.preset_csv.specs.declared.entry.Entry.{Entry}
 use Rattle.preset_csv.specs.declared.entry.Entry.TheVariants as row
 use Rattle.component_table.specs.Books.{available_from, is_available}
+use Rattle.preset_csv.specs.declared.symbols.TheConstants.{PRESETS}
 
 -- what a loop over the rows keeps: those before the next one are done
 pub record Cleared (book : Book) (presets : TableView) (r : ℕ) (now : TableView) : Type 0 where
   pub same_cpu : now.cpu ≡ presets.cpu
-  pub long : length now.rows ≡ 26
+  pub long : length now.rows ≡ PRESETS
   pub so_far : available_from book 0 presets.rows ≡ take r now.rows ++ available_from book r (drop r now.rows)
 
 next : (book : Book) (r : ℕ) (e : Entry) (rest : List Entry) → available_from book r (e ∷ rest) ≡ (if is_available book r then e else row.Missing) ∷ available_from book (r + 1) rest
@@ -28,7 +29,7 @@ here book r rows small =
     ∙ one_more (take r rows) (if is_available book r then get_or rows r row.Missing else row.Missing) (available_from book (r + 1) (drop (r + 1) rows))
 
 -- an available row stays
-pub cleared-kept : (book : Book) (presets : TableView) (r : ℕ) (now : TableView) → r < 26 → is_available book r ≡ true → Cleared book presets r now → Cleared book presets (r + 1) now
+pub cleared-kept : (book : Book) (presets : TableView) (r : ℕ) (now : TableView) → r < PRESETS → is_available book r ≡ true → Cleared book presets r now → Cleared book presets (r + 1) now
 cleared-kept book presets r now small available c =
     let within : r < length now.rows = omega (arith, c.long) in
     record {
@@ -42,7 +43,7 @@ cleared-kept book presets r now small available c =
     }
 
 -- another one is missing
-pub cleared-missing : (book : Book) (presets : TableView) (r : ℕ) (now : TableView) → r < 26 → is_available book r ≡ false → Cleared book presets r now
+pub cleared-missing : (book : Book) (presets : TableView) (r : ℕ) (now : TableView) → r < PRESETS → is_available book r ≡ false → Cleared book presets r now
     → Cleared book presets (r + 1) (record now { rows = set now.rows r row.Missing })
 cleared-missing book presets r now small available c =
     let within : r < length now.rows = omega (arith, c.long) in
@@ -61,7 +62,7 @@ done : (book : Book) (r : ℕ) → available_from book r [] ≡ []
 unfolding available_from
 done book r = refl
 
-pub cleared-all : (book : Book) (presets : TableView) (r : ℕ) (now : TableView) → 26 ≤ r → Cleared book presets r now → now ≡ record { cpu = presets.cpu; rows = available_from book 0 presets.rows }
+pub cleared-all : (book : Book) (presets : TableView) (r : ℕ) (now : TableView) → PRESETS ≤ r → Cleared book presets r now → now ≡ record { cpu = presets.cpu; rows = available_from book 0 presets.rows }
 cleared-all book presets r now all c =
     let rows : now.rows ≡ available_from book 0 presets.rows =
     sym (c.so_far

@@ -17,6 +17,7 @@ use Rattle.postfix_rules.specs.Fitting.{BookFits}
 use Rattle.event_tables.specs.Tables.{ComponentText, shape_of}
 use Rattle.component_table.specs.Books.{events_from, is_available, kept_if, rows_in}
 use Rattle.component_table.specs.Catalogs.{IsCatalog}
+use Rattle.preset_csv.specs.declared.symbols.TheConstants.{PRESETS}
 
 step : (book : Book) (r : ℕ) (e : EventView) (rest : List EventView) → events_from book r (e ∷ rest) ≡ kept_if (is_available book r) e ++ events_from book (r + 1) rest
 unfolding events_from
@@ -74,13 +75,13 @@ distinct-kept book r (e ∷ rest) d = rw (step book r e rest) (go (is_available 
 
 -- a table's available ones are a table
 pub kept-extended : (book : Book) (x : ExtendedView) (presets : TableView) → IsExtended x → IsTable presets → presets.cpu ≡ x.presets.cpu
-    → IsExtended (record { presets = presets; events = events_from book 26 x.events })
+    → IsExtended (record { presets = presets; events = events_from book PRESETS x.events })
 kept-extended book x presets is table cpu = record {
   table = table;
-  few = omega (arith, is.few, fewer book 26 x.events);
-  each = each-kept IsEvent book 26 x.events is.each;
-  distinct = distinct-kept book 26 x.events is.distinct;
-  named = λ f. ap (events_from book 26) (is.named (sym (ap is_field cpu) ∙ f)) ∙ none book 26;
+  few = omega (arith, is.few, fewer book PRESETS x.events);
+  each = each-kept IsEvent book PRESETS x.events is.each;
+  distinct = distinct-kept book PRESETS x.events is.distinct;
+  named = λ f. ap (events_from book PRESETS) (is.named (sym (ap is_field cpu) ∙ f)) ∙ none book PRESETS;
 }
 
 -- ---- the names of a table

@@ -15,7 +15,7 @@ use Rattle.preset_csv.specs.declared.entry.Entry.{Entry}
 use Rattle.preset_csv.specs.declared.entry.Entry.TheVariants as row
 use Rattle.preset_csv.specs.declared.kind.Kind.{Kind}
 use Rattle.preset_csv.specs.declared.kind.Kind.TheVariants as kind
-use Rattle.preset_table.specs.Table.{preset_count}
+use Rattle.preset_csv.specs.Symbols.{preset_count}
 use Rattle.table_rows.specs.Texts.{Text}
 use Rattle.user_events.specs.Events.{EventView, ExtendedView}
 

@@ -17,7 +17,7 @@ use Rattle.name_encoder.specs.Names.{fault_code, names}
 use Rattle.postfix_rules.specs.Fitting.{BookFits}
 use Rattle.postfix_rules.specs.Presets.{Book, entry}
 use Rattle.component_table.specs.Books.{book_of, rows_in}
-use Rattle.preset_table.specs.Table.{code_at, preset_count, row_of, symbol_at}
+use Rattle.preset_csv.specs.Symbols.{code_at, preset_count, row_of, symbol_at}
 use Rattle.table_rows.specs.Texts.{Text}
 use Rattle.user_events.specs.Events.{Distinct, ExtendedView, names_of}
 use Rattle.user_events.specs.Names.{is_event_name}

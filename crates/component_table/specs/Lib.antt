@@ -10,5 +10,5 @@ pub use Rattle.postfix_rules.specs.Fitting
 pub use Rattle.postfix_rules.specs.NativeCodes
 pub use Rattle.postfix_rules.specs.Presets
 pub use Rattle.preset_csv.specs.Tables as PresetTables
-pub use Rattle.preset_table.specs.Table
+pub use Rattle.preset_csv.specs.Symbols
 pub use Rattle.user_events.specs.Events as Extended

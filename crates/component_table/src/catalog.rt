@@ -6,7 +6,7 @@ ghost use Rattle.component_table.specs.Books.{available_from, available_only, ev
 ghost use Rattle.component_table.specs.Catalogs.{catalog_of, row_count};
 ghost use Rattle.event_tables.specs.Tables.{shape_of};
 ghost use Rattle.postfix_rules.specs.Fitting.{BookFits};
-ghost use Rattle.preset_table.specs.declared.TheConstants.{PRESETS};
+ghost use Rattle.preset_csv.specs.declared.symbols.TheConstants.{PRESETS};
 ghost use Rattle.user_events.specs.Events.{IsExtended, event_view, names_of};
 ghost use Rattle.user_events.specs.declared.event.TheConstants.{MOST_USER_EVENTS};
 
@@ -14,8 +14,7 @@ use crate::derivation::book_of;
 use event_tables::Tables;
 use papi_base::Shape;
 use postfix_rules::{PresetBook, Rule};
-use preset_csv::{Entry, PresetTable};
-use preset_table::preset_count;
+use preset_csv::{Entry, PresetTable, preset_count};
 use std::alloc::{AllocError, Global};
 use std::marker::Model;
 use user_events::{Extended, UserEvent};

@@ -8,13 +8,13 @@ ghost use Rattle.component_table.specs.Codes.{row_codes};
 ghost use Rattle.component_table.specs.EventNames as EventNames;
 ghost use Rattle.event_tables.specs.Tables.{shape_of};
 ghost use Rattle.postfix_rules.specs.Fitting.{IsNamed};
-ghost use Rattle.preset_table.specs.declared.TheConstants.{PRESETS};
+ghost use Rattle.preset_csv.specs.declared.symbols.TheConstants.{PRESETS};
 ghost use Rattle.user_events.specs.declared.event.TheConstants.{MOST_USER_EVENTS};
 
 use crate::catalog::Catalog;
 use name_encoder::{cause_code, encode, write_name};
 use papi_base::{Code, EventRef, FIRST_USER_EVENT_CODE};
-use preset_table::{preset_code, preset_count, preset_row, preset_symbol};
+use preset_csv::{preset_code, preset_count, preset_row, preset_symbol};
 use std::alloc::{AllocError, Global};
 
 // Whether a text begins as a preset's symbol does.

@@ -279,7 +279,7 @@ impl Unit {
     pub fn register(&self, c: u32) -> Option<u64>
         requires exists { c < length self.now.widths }
         ensures value { result ≡ option_map (λ r. r.value) (at_place self.now.registers c) }
-        ensures small { IfSome result (λ v. v < 2 ^ 48) }
+        ensures small { IfSome result (λ v. v < 2 ^ MOST_WIDTH) }
     {
         let _width = self.shape.width(c);
         match self.place(c) {

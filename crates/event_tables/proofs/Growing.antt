@@ -3,15 +3,15 @@ use Rattle.std.proofs.Common.{◌≡◌, ◌∙◌, ◌+◌, ◌-◌, ◌<◌, �
 use Rattle.std.proofs.Math.ListN.{set}
 use Rattle.std.proofs.lemmas.List.{length-map}
 use Rattle.std.proofs.lemmas.Option.{slice_get-get_or, slice_get-map}
-use Rattle.std.specs.Prelude.{⊤, nat_le, option_map, slice_get}
-use Rattle.std.specs.List.{AllByRecursion, list_any}
+use Rattle.std.specs.Prelude.{⊤, ◌&&◌, IfSome, if◌then◌else◌, is_some, nat_le, option_map, slice_get}
+use Rattle.std.specs.List.{AllByRecursion, list_all, list_any}
 use Rattle.std.specs.Option.{option_map_or}
 use Rattle.papi_base.proofs.Steps.{passed_over}
 use Rattle.table_rows.specs.Texts.{Text}
-use Rattle.event_tables.specs.Tables.{ComponentText, EventText, same_name}
-use Rattle.event_tables.specs.Lines.{Line, component, event, umask, row_line}
-use Rattle.event_tables.specs.Unit.{cause_in, inner_cause, last_of, mask_cause}
-use Rattle.event_tables.specs.Steps.{CanGrow, grown, on_last, with_line}
+use Rattle.event_tables.specs.Tables.{ComponentText, EventText, MaskText, same_name}
+use Rattle.event_tables.specs.Lines.{Line, component, event, umask, umask_counters, umask_modifiers, row_line}
+use Rattle.event_tables.specs.Unit.{bits_of, cause_in, counter_place, inner_cause, last_of, mask_cause, on_last, within}
+use Rattle.event_tables.specs.Steps.{CanGrow, HasMask, grown, with_line}
 use Rattle.event_tables.specs.Views.{component_text}
 use Rattle.event_tables.specs.declared.component.Component.{Component}
 use Rattle.event_tables.specs.declared.row.Row.{Row}
@@ -43,12 +43,30 @@ events-filled : (events : List EventText) (o : EventText → Option RowCause) �
 events-filled [] o e = cc e
 events-filled (x ∷ xs) o e = omega arith
 
+masks-filled : (masks : List MaskText) (o : MaskText → Option RowCause) → option_map_or o (last_of masks) (Some cause.BadRow) ≡ None → 0 < length masks
+masks-filled [] o e = cc e
+masks-filled (x ∷ xs) o e = omega arith
+
+-- a row of a umask has a umask above it
+has-mask : (c : ComponentText) (o : EventText → MaskText → Option RowCause)
+    → option_map_or (λ (e : EventText). option_map_or (o e) (last_of e.masks) (Some cause.BadRow)) (last_of c.events) (Some cause.BadRow) ≡ None → HasMask c
+has-mask c o e = (events-filled c.events (λ (x : EventText). option_map_or (o x) (last_of x.masks) (Some cause.BadRow)) e, go (last_of c.events) e)
+  where
+    go : (l : Option EventText) → option_map_or (λ (e : EventText). option_map_or (o e) (last_of e.masks) (Some cause.BadRow)) l (Some cause.BadRow) ≡ None → IfSome l (λ x. 0 < length x.masks)
+    go None q = cc q
+    go (Some x) q = masks-filled x.masks (o x) q
+
 pub inner-grows : (above : List ComponentText) (line : Line) (c : ComponentText) → last_of above ≡ Some c → cause_in above line ≡ None → CanGrow line c
 unfolding cause_in
 inner-grows above (event n s ns t) c l e =
     let few = passed_over (nat_le MOST_COMPONENT_EVENTS (length c.events)) cause.OverLimit _ (rw l at e) in
     (passed_over (list_any (λ (x : EventText). same_name x.name n) c.events) cause.RepeatedName _ few.1).0
 inner-grows above (umask m) c l e = events-filled c.events (λ x. mask_cause x.masks m.name m.preset_choice) (rw l at e)
+inner-grows above (umask_counters names) c l e =
+    has-mask c (λ x m. if is_some m.counters then Some cause.BadRow
+    else if list_all (λ n. is_some (counter_place c.counters n)) names && within (bits_of c.counters names) x.allowed then None
+    else Some cause.UnknownCounter) (rw l at e)
+inner-grows above (umask_modifiers f) c l e = has-mask c (λ x m. if is_some m.fixed then Some cause.BadRow else None) (rw l at e)
 inner-grows above line c l e = tt
 
 pub inner-with : (above : List ComponentText) (line : Line) → IsInner line → with_line above line ≡ on_last (grown line) above

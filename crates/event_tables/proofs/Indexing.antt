@@ -1,5 +1,5 @@
 -- The index of a component's events, with one event more and with one umask more.
-use Rattle.std.proofs.Common.{◌≡◌, ◌∙◌, ◌+◌, ◌∷◌, ◌++◌, ℕ, List, [], Option, Some, Bool, true, false, length, refl, sym, ap, subst, arith}
+use Rattle.std.proofs.Common.{◌≡◌, ◌∙◌, ◌+◌, ◌∷◌, ◌++◌, ℕ, List, [], Option, Some, None, Bool, true, false, length, refl, sym, ap, subst, arith}
 use Rattle.std.proofs.lemmas.Slice.Eq.{bytes_eq-Decides}
 use Rattle.std.specs.Prelude.{◌||◌, is_some, if◌then◌else◌}
 use Rattle.std.specs.List.{list_any, position_from}
@@ -7,8 +7,9 @@ use Rattle.std.specs.Map.{update}
 use Rattle.std.specs.Str.{bytes_eq, str_to_ascii_lowercase}
 use Rattle.std.proofs.lemmas.Bool.{or_parts}
 use Rattle.table_rows.specs.Texts.{Text}
-use Rattle.event_tables.specs.Steps.{on_last, with_mask}
+use Rattle.event_tables.specs.Steps.{with_mask}
 use Rattle.event_tables.specs.Tables.{EventText, MaskText, row_of_lower, same_name}
+use Rattle.event_tables.specs.Unit.{on_last}
 
 -- some item is found if there is one
 pub any-found : {X : Type 0} (p : X → Bool) (i : ℕ) (xs : List X) → is_some (position_from p i xs) ≡ list_any p xs
@@ -55,12 +56,17 @@ indexed-more events more e n name old new m k is o fresh up q =
 
 -- ---- one umask more
 
-row-on_last : (m : MaskText) (q : Text) (i : ℕ) (es : List EventText)
-    → position_from (λ e. bytes_eq (str_to_ascii_lowercase e.name) q) i (on_last (with_mask m) es) ≡ position_from (λ e. bytes_eq (str_to_ascii_lowercase e.name) q) i es
+row-on_last : (g : EventText → EventText) (q : Text) (i : ℕ) (es : List EventText) → ((e : EventText) → (g e).name ≡ e.name)
+    → position_from (λ e. bytes_eq (str_to_ascii_lowercase e.name) q) i (on_last g es) ≡ position_from (λ e. bytes_eq (str_to_ascii_lowercase e.name) q) i es
 unfolding on_last
-row-on_last m q i (e ∷ f ∷ es) = ap (λ (o : Option ℕ). if bytes_eq (lower e.name) q then Some i else o) (row-on_last m q (i + 1) (f ∷ es))
-row-on_last m q i es = refl
+row-on_last g q i [] n = refl
+row-on_last g q i (e ∷ []) n = ap (λ (w : Text). if bytes_eq (lower w) q then Some i else None) (n e)
+row-on_last g q i (e ∷ f ∷ es) n = ap (λ (o : Option ℕ). if bytes_eq (lower e.name) q then Some i else o) (row-on_last g q (i + 1) (f ∷ es) n)
+
+pub indexed-changed : (g : EventText → EventText) (events more : List EventText) (old : Text → Option ℕ) → ((e : EventText) → (g e).name ≡ e.name) → more ≡ on_last g events
+    → ((q : Text) → old q ≡ row_of_lower events q) → (q : Text) → old q ≡ row_of_lower more q
+indexed-changed g events more old n is o q = o q ∙ sym (ap (λ (es : List EventText). row_of_lower es q) is ∙ row-on_last g q 0 events n)
 
 pub indexed-masked : (m : MaskText) (events more : List EventText) (old : Text → Option ℕ) → more ≡ on_last (with_mask m) events
     → ((q : Text) → old q ≡ row_of_lower events q) → (q : Text) → old q ≡ row_of_lower more q
-indexed-masked m events more old is o q = o q ∙ sym (ap (λ (es : List EventText). row_of_lower es q) is ∙ row-on_last m q 0 events)
+indexed-masked m events more old is o q = indexed-changed (with_mask m) events more old (λ e. refl) is o q

@@ -1,5 +1,5 @@
 -- A row with no cause keeps what the tables keep.
-use Rattle.std.proofs.Common.{◌≡◌, ◌∙◌, ◌<◌, ◌^◌, ◌∷◌, ◌++◌, ℕ, List, [], Option, Some, None, Bool, true, false, length, refl, ap, arith, length-append}
+use Rattle.std.proofs.Common.{◌≡◌, ◌∙◌, ◌<◌, ◌∷◌, ◌++◌, ℕ, List, [], Option, Some, None, Bool, true, false, length, refl, ap, sym, subst, arith, length-append}
 use Rattle.std.proofs.Math.Pow.{pow-lt}
 use Rattle.std.proofs.lemmas.Bool.{and_parts, leb-false, or_parts}
 use Rattle.std.specs.Prelude.{◌&&◌, ◌||◌, IfSome, is_some, if◌then◌else◌, nat_le, unwrap_or}
@@ -10,11 +10,11 @@ use Rattle.table_rows.specs.Tables.{NoTwo}
 use Rattle.table_rows.specs.Texts.{Text, is_empty, is_name}
 use Rattle.table_rows.proofs.Texts.{all-append, all-map, no_two-more}
 use Rattle.event_tables.specs.Tables.{ComponentText, CounterText, EventText, MaskText, same_name}
-use Rattle.event_tables.specs.Lines.{Line, skipped, bad, component, counter, event, umask}
+use Rattle.event_tables.specs.Lines.{Line, skipped, bad, component, counter, event, umask, umask_counters, umask_modifiers}
 use Rattle.event_tables.specs.Unit.{bits_of, cause_in, component_cause, component_of, counter_cause, counter_place, counter_row, counters_in, event_cause}
-use Rattle.event_tables.specs.Unit.{event_row, events_in, inner_mask_cause, is_modifier, last_of, mask_cause, modifier_words}
-use Rattle.event_tables.specs.Steps.{grown, on_last, with_counter, with_event, with_inner_mask, with_line, with_mask}
-use Rattle.event_tables.specs.Kept.{IsComponent, IsCounter, IsEvent, IsEventLine, IsLine, IsMask, IsTables, IsWidth}
+use Rattle.event_tables.specs.Unit.{event_row, events_in, fixing, inner_counters_cause, inner_mask_cause, is_modifier, last_of, mask_cause, modifier_words, on_last, restricted, within}
+use Rattle.event_tables.specs.Steps.{grown, on_last_mask, with_counter, with_event, with_inner_mask, with_last_mask, with_line, with_mask}
+use Rattle.event_tables.specs.Kept.{HasCounters, IsComponent, IsCounter, IsEvent, IsEventLine, IsLine, IsMask, IsMaskLine, IsTables, IsWidth}
 use Rattle.event_tables.specs.declared.fault.RowCause.TheVariants as cause
 use Rattle.event_tables.specs.declared.limits.TheConstants.{MOST_COMPONENTS, MOST_COMPONENT_EVENTS, MOST_COUNTERS, MOST_UMASKS}
 use Rattle.event_tables.proofs.Bits.{bits_of-lt, bits_of-some}
@@ -105,6 +105,7 @@ event-wider n m lt e h =
       each = h.each;
       distinct = h.distinct;
       one_default = h.one_default;
+      mask_counters = h.mask_counters;
     }
 
 counter-kept : (c : ComponentText) (name : Text) (width : Option ℕ) (fixed : Bool) → is_name name ≡ true → IfSome width IsWidth → counter_cause c.counters name width ≡ None
@@ -152,6 +153,7 @@ event-kept c name select names text i e h =
       each = tt;
       distinct = tt;
       one_default = tt;
+      mask_counters = tt;
     } in
     let low = leb-false MOST_COMPONENT_EVENTS (length c.events) few.0 in
     record {
@@ -184,8 +186,11 @@ no-default m masks e = go m.preset_choice masks e
     go false (x ∷ xs) q = rw (none x.preset_choice) (go false xs refl)
     go true (x ∷ xs) q = let p = or_parts x.preset_choice _ q in rw (same x.preset_choice, p.0) (go true xs p.1)
 
-mask-kept : (n : ℕ) (e : EventText) (m : MaskText) → is_name m.name ≡ true → m.bits < 2 ^ 8 → mask_cause e.masks m.name m.preset_choice ≡ None → IsEvent n e → IsEvent n (with_mask m e)
-mask-kept n e m named byte none h =
+no-counters : (allowed : ℕ) (m : MaskText) → m.counters ≡ None → HasCounters allowed m
+no-counters allowed m e = rw e tt
+
+mask-kept : (n : ℕ) (e : EventText) (m : MaskText) → IsMaskLine m → mask_cause e.masks m.name m.preset_choice ≡ None → IsEvent n e → IsEvent n (with_mask m e)
+mask-kept n e m is none h =
     let one = passed_over (m.preset_choice && list_any (λ (o : MaskText). o.preset_choice) e.masks) cause.BadRow _ none in
     let few = passed_over (nat_le MOST_UMASKS (length e.masks)) cause.OverLimit _ one.1 in
     let fresh = passed_over (is_modifier m.name || list_any (λ (o : MaskText). same_name o.name m.name) e.masks) cause.RepeatedName None few.1 in
@@ -197,23 +202,76 @@ mask-kept n e m named byte none h =
       counted = h.counted;
       within = h.within;
       few = omega (arith, low, length-append e.masks (m ∷ []));
-      each = all-append IsMask e.masks (m ∷ []) h.each (record { named = named; no_modifier = none-each (λ w. same_name m.name w) modifier_words names.0; byte = byte }, tt);
+      each = all-append IsMask e.masks (m ∷ []) h.each (record { named = is.named; no_modifier = none-each (λ w. same_name m.name w) modifier_words names.0; byte = is.byte }, tt);
       distinct = no_two-more (λ (a b : MaskText). same_name a.name b.name) e.masks m h.distinct names.1;
       one_default = no_two-more (λ (a b : MaskText). a.preset_choice && b.preset_choice) e.masks m h.one_default (no-default m e.masks one.0);
+      mask_counters = all-append (HasCounters e.allowed) e.masks (m ∷ []) h.mask_counters (no-counters e.allowed m is.free, tt);
     }
 
-inner_mask-kept : (c : ComponentText) (m : MaskText) → is_name m.name ≡ true → m.bits < 2 ^ 8 → inner_mask_cause c m.name m.preset_choice ≡ None
+inner_mask-kept : (c : ComponentText) (m : MaskText) → IsMaskLine m → inner_mask_cause c m.name m.preset_choice ≡ None
     → IsComponent c → IsComponent (with_inner_mask m c)
-inner_mask-kept c m named byte none h = record {
+inner_mask-kept c m is none h = record {
   named = h.named;
   pmu_named = h.pmu_named;
   few_counters = h.few_counters;
   few_events = let l = length-on_last (with_mask m) c.events in omega (arith, h.few_events, l);
   counters = h.counters;
   counters_distinct = h.counters_distinct;
-  events = all-on_last (IsEvent (length c.counters)) (with_mask m) c.events h.events (λ e l k. mask-kept (length c.counters) e m named byte (rw l at none) k);
+  events = all-on_last (IsEvent (length c.counters)) (with_mask m) c.events h.events (λ e l k. mask-kept (length c.counters) e m is (rw l at none) k);
   events_distinct = no_two-on_last (λ (a b : EventText). same_name a.name b.name) (with_mask m) c.events (λ x y. refl) h.events_distinct;
 }
+
+-- ---- the counters and the modifiers of a umask
+
+-- what is kept of a umask stays
+record Same (f : MaskText → MaskText) : Type 0 where
+  name : (m : MaskText) → (f m).name ≡ m.name
+  bits : (m : MaskText) → (f m).bits ≡ m.bits
+  choice : (m : MaskText) → (f m).preset_choice ≡ m.preset_choice
+
+mask-same : (f : MaskText → MaskText) (m : MaskText) → Same f → IsMask m → IsMask (f m)
+mask-same f m s h = record {
+  named = rw (s.name m) h.named;
+  no_modifier = subst (λ (n : Text). AllByRecursion (λ w. same_name n w ≡ false) modifier_words) (sym (s.name m)) h.no_modifier;
+  byte = rw (s.bits m) h.byte;
+}
+
+-- and its counters are some of the event's
+abbrev Counted : (MaskText → MaskText) → EventText → Type 0
+Counted f e = (m : MaskText) → last_of e.masks ≡ Some m → HasCounters e.allowed m → HasCounters e.allowed (f m)
+
+changed-kept : (n : ℕ) (f : MaskText → MaskText) (e : EventText) → Same f → Counted f e → IsEvent n e → IsEvent n (on_last_mask f e)
+changed-kept n f e s counted h = record {
+  named = h.named;
+  byte = h.byte;
+  counted = h.counted;
+  within = h.within;
+  few = let l = length-on_last f e.masks in omega (arith, h.few, l);
+  each = all-on_last IsMask f e.masks h.each (λ m l k. mask-same f m s k);
+  distinct = no_two-on_last (λ (a b : MaskText). same_name a.name b.name) f e.masks (λ x y. ap (same_name x.name) (s.name y)) h.distinct;
+  one_default = no_two-on_last (λ (a b : MaskText). a.preset_choice && b.preset_choice) f e.masks (λ x y. ap (λ (b : Bool). x.preset_choice && b) (s.choice y)) h.one_default;
+  mask_counters = all-on_last (HasCounters e.allowed) f e.masks h.mask_counters counted;
+}
+
+last_mask-kept : (c : ComponentText) (f : MaskText → MaskText) → Same f → ((e : EventText) → last_of c.events ≡ Some e → Counted f e) → IsComponent c → IsComponent (with_last_mask f c)
+last_mask-kept c f s counted h = record {
+  named = h.named;
+  pmu_named = h.pmu_named;
+  few_counters = h.few_counters;
+  few_events = let l = length-on_last (on_last_mask f) c.events in omega (arith, h.few_events, l);
+  counters = h.counters;
+  counters_distinct = h.counters_distinct;
+  events = all-on_last (IsEvent (length c.counters)) (on_last_mask f) c.events h.events (λ e l k. changed-kept (length c.counters) f e s (counted e l) k);
+  events_distinct = no_two-on_last (λ (a b : EventText). same_name a.name b.name) (on_last_mask f) c.events (λ x y. refl) h.events_distinct;
+}
+
+-- the counters of a row with no cause are some of its event's
+counters-counted : (c : ComponentText) (names : List Text) → is_empty names ≡ false → inner_counters_cause c names ≡ None
+    → (e : EventText) → last_of c.events ≡ Some e → Counted (restricted (bits_of c.counters names)) e
+counters-counted c names some none e l m q h =
+    let free = passed_over (is_some m.counters) cause.BadRow _ (rw (l, q) at none) in
+    let both = and_parts (list_all (λ n. is_some (counter_place c.counters n)) names) _ (all-known (list_all (λ n. is_some (counter_place c.counters n)) names && within (bits_of c.counters names) e.allowed) free.1) in
+    (some-known c.counters names some both.0, both.1)
 
 -- ---- any row
 
@@ -221,7 +279,9 @@ grown-kept : (above : List ComponentText) (line : Line) (c : ComponentText) → 
 unfolding cause_in
 grown-kept above (counter n w f) c i e l h = counter-kept c n w f i.0 i.1 (rw l at e) h
 grown-kept above (event n s ns t) c i e l h = event-kept c n s ns t i (rw l at e) h
-grown-kept above (umask m) c i e l h = inner_mask-kept c m i.0 i.1 (rw l at e) h
+grown-kept above (umask m) c i e l h = inner_mask-kept c m i (rw l at e) h
+grown-kept above (umask_counters ns) c i e l h = last_mask-kept c (restricted (bits_of c.counters ns)) (record { name = λ m. refl; bits = λ m. refl; choice = λ m. refl }) (counters-counted c ns i (rw l at e)) h
+grown-kept above (umask_modifiers f) c i e l h = last_mask-kept c (fixing f) (record { name = λ m. refl; bits = λ m. refl; choice = λ m. refl }) (λ x q m p k. k) h
 grown-kept above line c i e l h = h
 
 grown-name : (line : Line) (c : ComponentText) → (grown line c).name ≡ c.name

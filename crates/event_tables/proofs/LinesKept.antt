@@ -7,8 +7,8 @@ use Rattle.std.proofs.lemmas.Bool.{and_parts, cond_both, not-true}
 use Rattle.table_rows.specs.Texts.{Text, decimal_in, hex_in, is_decimal, is_name, is_skipped, text_at}
 use Rattle.table_rows.proofs.Ranges.{decimal_in-range, hex_in-range}
 use Rattle.table_rows.proofs.Texts.{option_both}
-use Rattle.event_tables.specs.Lines.{skipped, bad, component, counter, event, umask, are_names, component_line, counter_line, event_line}
-use Rattle.event_tables.specs.Lines.{flags_of, is_description, line_of, mask_of, umask_line, words_of}
+use Rattle.event_tables.specs.Lines.{skipped, bad, component, counter, event, umask, umask_counters, umask_modifiers, are_names, component_line, counter_line, event_line}
+use Rattle.event_tables.specs.Lines.{fixed_mods_of, fixes_one, flags_of, is_description, line_of, mask_of, umask_counters_line, umask_line, umask_modifiers_line, words_of}
 use Rattle.event_tables.specs.Kept.{IsLine, IsWidth}
 
 component_line-kept : (name pmu : Text) → IsLine (component_line name pmu)
@@ -36,7 +36,16 @@ umask_line-kept : (name bits letters text : Text) → IsLine (umask_line name bi
 umask_line-kept name bits letters text =
     option_both IsLine (λ n. option_map_or (λ f. if is_name name && is_description text then umask (mask_of name n f text) else bad) (flags_of letters) bad) (hex_in 1 2 bits) bad
     (λ n e. option_both IsLine (λ f. if is_name name && is_description text then umask (mask_of name n f text) else bad) (flags_of letters) bad
-    (λ f d. cond_both (is_name name && is_description text) (umask (mask_of name n f text)) bad IsLine (λ h. ((and_parts _ _ h).0, byte-small bits n e)) (λ h. tt)) tt) tt
+    (λ f d. cond_both (is_name name && is_description text) (umask (mask_of name n f text)) bad IsLine (λ h. record { named = (and_parts _ _ h).0; byte = byte-small bits n e; free = refl }) (λ h. tt)) tt) tt
+
+umask_counters_line-kept : (counters : Text) → IsLine (umask_counters_line counters)
+umask_counters_line-kept counters = cond_both (are_names (words_of counters)) (umask_counters (words_of counters)) bad IsLine (λ e. not-true _ (and_parts _ _ e).0) (λ e. tt)
+
+umask_modifiers_line-kept : (letters amount : Text) → IsLine (umask_modifiers_line letters amount)
+umask_modifiers_line-kept letters amount =
+    option_both IsLine (λ n. option_map_or (λ f. if fixes_one f then umask_modifiers f else bad) (fixed_mods_of letters n) bad) (decimal_in 0 255 amount) bad
+    (λ n e. option_both IsLine (λ f. if fixes_one f then umask_modifiers f else bad) (fixed_mods_of letters n) bad
+    (λ f d. cond_both (fixes_one f) (umask_modifiers f) bad IsLine (λ h. tt) (λ h. tt)) tt) tt
 
 pub line_of-kept : (fields : List Text) → IsLine (line_of fields)
 unfolding line_of
@@ -46,4 +55,6 @@ line_of-kept fields =
     (λ b. cond_both (bytes_eq (at 0) (codes "COMPONENT") && (length fields == 3)) (component_line (at 1) (at 2)) _ IsLine (λ d. component_line-kept (at 1) (at 2))
     (λ d. cond_both (bytes_eq (at 0) (codes "COUNTER") && (length fields == 4)) (counter_line (at 1) (at 2) (at 3)) _ IsLine (λ e. counter_line-kept (at 1) (at 2) (at 3))
     (λ e. cond_both (bytes_eq (at 0) (codes "EVENT") && (length fields == 5)) (event_line (at 1) (at 2) (at 3) (at 4)) _ IsLine (λ f. event_line-kept (at 1) (at 2) (at 3) (at 4))
-    (λ f. cond_both (bytes_eq (at 0) (codes "UMASK") && (length fields == 5)) (umask_line (at 1) (at 2) (at 3) (at 4)) bad IsLine (λ g. umask_line-kept (at 1) (at 2) (at 3) (at 4)) (λ g. tt)))))
+    (λ f. cond_both (bytes_eq (at 0) (codes "UMASK") && (length fields == 5)) (umask_line (at 1) (at 2) (at 3) (at 4)) _ IsLine (λ g. umask_line-kept (at 1) (at 2) (at 3) (at 4))
+    (λ g. cond_both (bytes_eq (at 0) (codes "UMASK_COUNTERS") && (length fields == 2)) (umask_counters_line (at 1)) _ IsLine (λ h. umask_counters_line-kept (at 1))
+    (λ h. cond_both (bytes_eq (at 0) (codes "UMASK_MODIFIERS") && (length fields == 3)) (umask_modifiers_line (at 1) (at 2)) bad IsLine (λ k. umask_modifiers_line-kept (at 1) (at 2)) (λ k. tt)))))))

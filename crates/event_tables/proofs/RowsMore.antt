@@ -3,18 +3,21 @@ use Rattle.std.proofs.Common.{◌≡◌, ◌∙◌, ◌∷◌, ◌++◌, ℕ, Li
 use Rattle.std.proofs.lemmas.List.{append-nil}
 use Rattle.table_rows.specs.Texts.{Text}
 use Rattle.event_tables.specs.Tables.{ComponentText, CounterText, EventText, MaskText}
-use Rattle.event_tables.specs.Lines.{Line, skipped, bad, component, counter, event, umask}
-use Rattle.event_tables.specs.Unit.{component_of, components_in, counter_row, counters_in, event_row, events_in, masks_in}
-use Rattle.event_tables.specs.Steps.{grown, on_last, with_line, with_mask}
+use Rattle.event_tables.specs.Lines.{Line, skipped, bad, component, counter, event, umask, umask_counters, umask_modifiers}
+use Rattle.event_tables.specs.Unit.{bits_of, component_of, components_in, counter_row, counters_in, event_row, events_in, fixing, masks_in, on_last, restricted}
+use Rattle.event_tables.specs.Steps.{grown, on_last_mask, with_line, with_mask}
 
 -- what a row adds to the counters of its component
 abbrev counter_of : Line → List CounterText
 counter_of (counter n w f) = counter_row n w f ∷ []
 counter_of _ = []
 
-abbrev mask_of : Line → List MaskText
-mask_of (umask m) = m ∷ []
-mask_of _ = []
+-- what a row makes of the umasks above it, which has these counters above it
+abbrev masks_after : Line → List CounterText → List MaskText → List MaskText
+masks_after (umask m) counters masks = masks ++ m ∷ []
+masks_after (umask_counters ns) counters masks = on_last (restricted (bits_of counters ns)) masks
+masks_after (umask_modifiers f) counters masks = on_last (fixing f) masks
+masks_after _ counters masks = masks
 
 counters-first : (rows : List Line) (line : Line) → components_in rows ≡ [] → counters_in (rows ++ line ∷ []) ≡ counters_in rows ++ counter_of line
 unfolding components_in counters_in
@@ -25,49 +28,59 @@ counters-first (counter n w f ∷ rows) line e = ap (λ (t : List CounterText). 
 counters-first (l ∷ rows) line e = counters-first rows line e
 
 -- the umasks of an event that no other follows
-masks-first : (above : List CounterText) (rows : List Line) (line : Line) → components_in rows ≡ [] → events_in above rows ≡ [] → masks_in (rows ++ line ∷ []) ≡ masks_in rows ++ mask_of line
-unfolding components_in events_in masks_in
-masks-first above [] skipped e q = refl
-masks-first above [] line e q = refl
-masks-first above (component n p ∷ rows) line e q = cc e
-masks-first above (counter n w f ∷ rows) line e q = masks-first _ rows line e q
-masks-first above (event n s ns t ∷ rows) line e q = cc q
-masks-first above (umask m ∷ rows) line e q = ap (λ (t : List MaskText). m ∷ t) (masks-first above rows line e q)
-masks-first above (l ∷ rows) line e q = masks-first above rows line e q
+masks-first : (above : List CounterText) (masks : List MaskText) (rows : List Line) (line : Line) → components_in rows ≡ [] → events_in above rows ≡ []
+    → masks_in above masks (rows ++ line ∷ []) ≡ masks_after line (above ++ counters_in rows) (masks_in above masks rows)
+unfolding components_in counters_in events_in masks_in
+masks-first above masks [] (umask_counters ns) e q = ap (λ (cs : List CounterText). on_last (restricted (bits_of cs ns)) masks) (sym (append-nil above))
+masks-first above masks [] line e q = refl
+masks-first above masks (component n p ∷ rows) line e q = cc e
+masks-first above masks (counter n w f ∷ rows) line e q =
+    masks-first (above ++ counter_row n w f ∷ []) masks rows line e q
+    ∙ ap (λ (cs : List CounterText). masks_after line cs (masks_in (above ++ counter_row n w f ∷ []) masks rows)) (append_assoc above (counter_row n w f ∷ []) (counters_in rows))
+masks-first above masks (event n s ns t ∷ rows) line e q = cc q
+masks-first above masks (umask m ∷ rows) line e q = masks-first above (masks ++ m ∷ []) rows line e q
+masks-first above masks (umask_counters ns ∷ rows) line e q = masks-first above (on_last (restricted (bits_of above ns)) masks) rows line e q
+masks-first above masks (umask_modifiers f ∷ rows) line e q = masks-first above (on_last (fixing f) masks) rows line e q
+masks-first above masks (l ∷ rows) line e q = masks-first above masks rows line e q
 
-masks-later : (above : List CounterText) (rows more : List Line) (x : EventText) (xs : List EventText) → events_in above rows ≡ x ∷ xs → masks_in (rows ++ more) ≡ masks_in rows
+masks-later : (above : List CounterText) (masks : List MaskText) (rows more : List Line) (x : EventText) (xs : List EventText) → events_in above rows ≡ x ∷ xs
+    → masks_in above masks (rows ++ more) ≡ masks_in above masks rows
 unfolding events_in masks_in
-masks-later above [] more x xs q = cc q
-masks-later above (skipped ∷ rows) more x xs q = masks-later above rows more x xs q
-masks-later above (bad ∷ rows) more x xs q = masks-later above rows more x xs q
-masks-later above (counter n w f ∷ rows) more x xs q = masks-later _ rows more x xs q
-masks-later above (umask m ∷ rows) more x xs q = ap (λ (t : List MaskText). m ∷ t) (masks-later above rows more x xs q)
-masks-later above rows more x xs q = refl
+masks-later above masks [] more x xs q = cc q
+masks-later above masks (skipped ∷ rows) more x xs q = masks-later above masks rows more x xs q
+masks-later above masks (bad ∷ rows) more x xs q = masks-later above masks rows more x xs q
+masks-later above masks (counter n w f ∷ rows) more x xs q = masks-later _ masks rows more x xs q
+masks-later above masks (umask m ∷ rows) more x xs q = masks-later above (masks ++ m ∷ []) rows more x xs q
+masks-later above masks (umask_counters ns ∷ rows) more x xs q = masks-later above (on_last (restricted (bits_of above ns)) masks) rows more x xs q
+masks-later above masks (umask_modifiers f ∷ rows) more x xs q = masks-later above (on_last (fixing f) masks) rows more x xs q
+masks-later above masks rows more x xs q = refl
 
 -- what a row makes of the events of its component, which has these counters above it
 abbrev events_after : Line → List CounterText → List EventText → List EventText
 events_after (event n s ns t) counters events = events ++ event_row counters n s ns t [] ∷ []
 events_after (umask m) counters events = on_last (with_mask m) events
+events_after (umask_counters ns) counters events = on_last (on_last_mask (restricted (bits_of counters ns))) events
+events_after (umask_modifiers f) counters events = on_last (on_last_mask (fixing f)) events
 events_after _ counters events = events
 
 -- an event in front, with its umasks, if a row joins those after it
-front : (above : List CounterText) (rows : List Line) (line : Line) (n : Text) (s : ℕ) (ns : List Text) (t : Text) (counters : List CounterText) → components_in rows ≡ []
-    → events_in above (rows ++ line ∷ []) ≡ events_after line counters (events_in above rows)
-    → event_row above n s ns t (masks_in (rows ++ line ∷ [])) ∷ events_in above (rows ++ line ∷ [])
-    ≡ events_after line counters (event_row above n s ns t (masks_in rows) ∷ events_in above rows)
+front : (above : List CounterText) (rows : List Line) (line : Line) (n : Text) (s : ℕ) (ns : List Text) (t : Text) → components_in rows ≡ []
+    → events_in above (rows ++ line ∷ []) ≡ events_after line (above ++ counters_in rows) (events_in above rows)
+    → event_row above n s ns t (masks_in above [] (rows ++ line ∷ [])) ∷ events_in above (rows ++ line ∷ [])
+    ≡ events_after line (above ++ counters_in rows) (event_row above n s ns t (masks_in above [] rows) ∷ events_in above rows)
 unfolding on_last
-front above rows line n s ns t counters e more = go line (events_in above rows) refl more
+front above rows line n s ns t e more = go line (events_in above rows) refl more
   where
     row : List MaskText → EventText
     row ms = event_row above n s ns t ms
 
     go : (l : Line) (es : List EventText) → events_in above rows ≡ es
-        → events_in above (rows ++ l ∷ []) ≡ events_after l counters es
-        → row (masks_in (rows ++ l ∷ [])) ∷ events_in above (rows ++ l ∷ []) ≡ events_after l counters (row (masks_in rows) ∷ es)
-    go (umask k) [] q m = ap₂ (λ (ms : List MaskText) (t : List EventText). row ms ∷ t) (masks-first above rows (umask k) e q) m
-    go l [] q m = ap₂ (λ (ms : List MaskText) (t : List EventText). row ms ∷ t) (masks-first above rows l e q ∙ append-nil _) m
-    go (umask k) (x ∷ xs) q m = ap₂ (λ (ms : List MaskText) (t : List EventText). row ms ∷ t) (masks-later above rows _ x xs q) m
-    go l (x ∷ xs) q m = ap₂ (λ (ms : List MaskText) (t : List EventText). row ms ∷ t) (masks-later above rows _ x xs q) m
+        → events_in above (rows ++ l ∷ []) ≡ events_after l (above ++ counters_in rows) es
+        → row (masks_in above [] (rows ++ l ∷ [])) ∷ events_in above (rows ++ l ∷ []) ≡ events_after l (above ++ counters_in rows) (row (masks_in above [] rows) ∷ es)
+    go skipped [] q m = ap₂ (λ (ms : List MaskText) (t : List EventText). row ms ∷ t) (masks-first above [] rows skipped e q) m
+    go l [] q m = ap₂ (λ (ms : List MaskText) (t : List EventText). row ms ∷ t) (masks-first above [] rows l e q) m
+    go (umask k) (x ∷ xs) q m = ap₂ (λ (ms : List MaskText) (t : List EventText). row ms ∷ t) (masks-later above [] rows _ x xs q) m
+    go l (x ∷ xs) q m = ap₂ (λ (ms : List MaskText) (t : List EventText). row ms ∷ t) (masks-later above [] rows _ x xs q) m
 
 events-first : (above : List CounterText) (rows : List Line) (line : Line) → components_in rows ≡ []
     → events_in above (rows ++ line ∷ []) ≡ events_after line (above ++ counters_in rows) (events_in above rows)
@@ -78,7 +91,7 @@ events-first above (component n p ∷ rows) line e = cc e
 events-first above (counter n w f ∷ rows) line e =
     events-first (above ++ counter_row n w f ∷ []) rows line e
     ∙ ap (λ (cs : List CounterText). events_after line cs (events_in (above ++ counter_row n w f ∷ []) rows)) (append_assoc above (counter_row n w f ∷ []) (counters_in rows))
-events-first above (event n s ns t ∷ rows) line e = front above rows line n s ns t (above ++ counters_in rows) e (events-first above rows line e)
+events-first above (event n s ns t ∷ rows) line e = front above rows line n s ns t e (events-first above rows line e)
 events-first above (l ∷ rows) line e = events-first above rows line e
 
 -- rows after another component
@@ -89,13 +102,17 @@ counters-later (component n p ∷ rows) more c cs e = refl
 counters-later (counter n w f ∷ rows) more c cs e = ap (λ (t : List CounterText). counter_row n w f ∷ t) (counters-later rows more c cs e)
 counters-later (l ∷ rows) more c cs e = counters-later rows more c cs e
 
-masks-after : (rows more : List Line) (c : ComponentText) (cs : List ComponentText) → components_in rows ≡ c ∷ cs → masks_in (rows ++ more) ≡ masks_in rows
+masks-after : (above : List CounterText) (masks : List MaskText) (rows more : List Line) (c : ComponentText) (cs : List ComponentText) → components_in rows ≡ c ∷ cs
+    → masks_in above masks (rows ++ more) ≡ masks_in above masks rows
 unfolding components_in masks_in
-masks-after [] more c cs e = cc e
-masks-after (component n p ∷ rows) more c cs e = refl
-masks-after (event n s ns t ∷ rows) more c cs e = refl
-masks-after (umask m ∷ rows) more c cs e = ap (λ (t : List MaskText). m ∷ t) (masks-after rows more c cs e)
-masks-after (l ∷ rows) more c cs e = masks-after rows more c cs e
+masks-after above masks [] more c cs e = cc e
+masks-after above masks (component n p ∷ rows) more c cs e = refl
+masks-after above masks (counter n w f ∷ rows) more c cs e = masks-after _ masks rows more c cs e
+masks-after above masks (event n s ns t ∷ rows) more c cs e = refl
+masks-after above masks (umask m ∷ rows) more c cs e = masks-after above (masks ++ m ∷ []) rows more c cs e
+masks-after above masks (umask_counters ns ∷ rows) more c cs e = masks-after above (on_last (restricted (bits_of above ns)) masks) rows more c cs e
+masks-after above masks (umask_modifiers f ∷ rows) more c cs e = masks-after above (on_last (fixing f) masks) rows more c cs e
+masks-after above masks (l ∷ rows) more c cs e = masks-after above masks rows more c cs e
 
 events-later : (above : List CounterText) (rows more : List Line) (c : ComponentText) (cs : List ComponentText) → components_in rows ≡ c ∷ cs → events_in above (rows ++ more) ≡ events_in above rows
 unfolding components_in events_in
@@ -103,7 +120,7 @@ events-later above [] more c cs e = cc e
 events-later above (component n p ∷ rows) more c cs e = refl
 events-later above (counter n w f ∷ rows) more c cs e = events-later _ rows more c cs e
 events-later above (event n s ns t ∷ rows) more c cs e =
-    ap₂ (λ (ms : List MaskText) (t' : List EventText). event_row above n s ns t ms ∷ t') (masks-after rows more c cs e) (events-later above rows more c cs e)
+    ap₂ (λ (ms : List MaskText) (t' : List EventText). event_row above n s ns t ms ∷ t') (masks-after above [] rows more c cs e) (events-later above rows more c cs e)
 events-later above (l ∷ rows) more c cs e = events-later above rows more c cs e
 
 component_with : Text → Text → List CounterText → List EventText → ComponentText

@@ -4,14 +4,18 @@ use Rattle.std.specs.List.{position_from}
 use Rattle.std.specs.Option.{option_and_then}
 use Rattle.std.specs.Str.{bytes_eq, str_eq_ignore_ascii_case, str_to_ascii_lowercase}
 use Rattle.table_rows.specs.Texts.{Text}
+use Rattle.event_tables.specs.declared.component.FixedMods.{FixedMods}
 
--- a umask of an event: its bits of the umask byte, whether it is the default one, and whether it cannot be combined
+-- a umask of an event: its bits of the umask byte, whether it is the default one, whether it cannot be combined, its description, the counters that can count it as bits
+-- if not all of its event can, and the modifiers that it fixes if it fixes one: Intel's event tables have its counters, the modhw of libpfm4's tables its modifiers
 pub record MaskText : Type 0 where
   pub name : Text
   pub bits : ℕ
   pub preset_choice : Bool
   pub alone : Bool
   pub text : Text
+  pub counters : Option ℕ
+  pub fixed : Option FixedMods
 
 -- an event: its select code, the counters that can count it as bits, its description and its umasks
 pub record EventText : Type 0 where

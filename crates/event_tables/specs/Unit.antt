@@ -1,5 +1,5 @@
 -- The tables of a unit file's rows, and the first fault. The file format is this project's own.
-use Rattle.std.specs.Prelude.{◌≡◌, ◌&&◌, ◌||◌, ◌-◌, ◌^◌, ℕ, Bool, List, [], ◌∷◌, ◌++◌, length, map, Option, Some, None, Result}
+use Rattle.std.specs.Prelude.{◌≡◌, ◌==◌, ◌&&◌, ◌||◌, ◌-◌, ◌^◌, ℕ, Bool, List, [], ◌∷◌, ◌++◌, length, map, Option, Some, None, Result}
 use Rattle.std.specs.Prelude.{is_some, unwrap_or, if◌then◌else◌, nat_le, slice_get, codes}
 use Rattle.std.specs.List.{fold, list_all, list_any, position_from}
 use Rattle.std.specs.Option.{option_map_or}
@@ -8,8 +8,9 @@ use Rattle.std.specs.Int.RustNames.{bit_or}
 use Rattle.table_rows.specs.Rows.{rows_of}
 use Rattle.table_rows.specs.Tables.{ReadsTable, first_fault}
 use Rattle.table_rows.specs.Texts.{Text}
-use Rattle.event_tables.specs.Lines.{Line, skipped, bad, component, counter, event, umask, line_of}
+use Rattle.event_tables.specs.Lines.{Line, skipped, bad, component, counter, event, umask, umask_counters, umask_modifiers, line_of}
 use Rattle.event_tables.specs.Tables.{ComponentText, CounterText, EventText, MaskText, same_name}
+use Rattle.event_tables.specs.declared.component.FixedMods.{FixedMods}
 use Rattle.event_tables.specs.declared.fault.RowCause.{RowCause}
 use Rattle.event_tables.specs.declared.fault.RowCause.TheVariants as cause
 use Rattle.table_rows.specs.declared.fault.RowFault.{RowFault}
@@ -39,13 +40,31 @@ bits_of counters names = fold (λ bits name. bit_or bits (place_bit (counter_pla
 abbrev pub event_row : List CounterText → Text → ℕ → List Text → Text → List MaskText → EventText
 event_row counters name select names text masks = record { name = name; select = select; allowed = bits_of counters names; text = text; masks = masks }
 
--- the umasks of the rows up to the next event or component
-unfoldable pub masks_in : List Line → List MaskText
-masks_in [] = []
-masks_in (component name pmu ∷ rest) = []
-masks_in (event name select names text ∷ rest) = []
-masks_in (umask m ∷ rest) = m ∷ masks_in rest
-masks_in (line ∷ rest) = masks_in rest
+-- a list with its last item changed
+unfoldable pub on_last : {X : Type 0} → (X → X) → List X → List X
+on_last f [] = []
+on_last f (x ∷ []) = f x ∷ []
+on_last f (x ∷ y ∷ rest) = x ∷ on_last f (y ∷ rest)
+
+-- the umask that the counters of these bits alone can count
+abbrev pub restricted : ℕ → MaskText → MaskText
+restricted bits m = record m { counters = Some bits }
+
+-- the umask that fixes these modifiers
+abbrev pub fixing : FixedMods → MaskText → MaskText
+fixing f m = record m { fixed = Some f }
+
+-- the umasks of an event with those of the rows up to the next event or component, if `above` are the counters above them: a row of a umask's counters or modifiers is of the
+-- last umask above it
+unfoldable pub masks_in : List CounterText → List MaskText → List Line → List MaskText
+masks_in above masks [] = masks
+masks_in above masks (component name pmu ∷ rest) = masks
+masks_in above masks (counter name width fixed ∷ rest) = masks_in (above ++ counter_row name width fixed ∷ []) masks rest
+masks_in above masks (event name select names text ∷ rest) = masks
+masks_in above masks (umask m ∷ rest) = masks_in above (masks ++ m ∷ []) rest
+masks_in above masks (umask_counters names ∷ rest) = masks_in above (on_last (restricted (bits_of above names)) masks) rest
+masks_in above masks (umask_modifiers f ∷ rest) = masks_in above (on_last (fixing f) masks) rest
+masks_in above masks (line ∷ rest) = masks_in above masks rest
 
 -- the counters of the rows up to the next component
 unfoldable pub counters_in : List Line → List CounterText
@@ -59,7 +78,7 @@ unfoldable pub events_in : List CounterText → List Line → List EventText
 events_in above [] = []
 events_in above (component name pmu ∷ rest) = []
 events_in above (counter name width fixed ∷ rest) = events_in (above ++ counter_row name width fixed ∷ []) rest
-events_in above (event name select names text ∷ rest) = event_row above name select names text (masks_in rest) ∷ events_in above rest
+events_in above (event name select names text ∷ rest) = event_row above name select names text (masks_in above [] rest) ∷ events_in above rest
 events_in above (line ∷ rest) = events_in above rest
 
 -- the component that a row gives, with what the rows below it give
@@ -121,11 +140,36 @@ last_of xs = slice_get xs (length xs - 1)
 abbrev pub inner_mask_cause : ComponentText → Text → Bool → Option RowCause
 inner_mask_cause above name preset_choice = option_map_or (λ e. mask_cause e.masks name preset_choice) (last_of above.events) (Some cause.BadRow)
 
+-- each of these bits is one of the others
+abbrev pub within : ℕ → ℕ → Bool
+within bits others = bit_or bits others == others
+
+-- why a UMASK_COUNTERS row is refused below this event, if it is: its umask has its counters already, or one of them is none of the event
+abbrev pub mask_counters_cause : List CounterText → EventText → List Text → Option RowCause
+mask_counters_cause counters e names =
+    option_map_or (λ m. if is_some m.counters then Some cause.BadRow
+    else if list_all (λ n. is_some (counter_place counters n)) names && within (bits_of counters names) e.allowed then None
+    else Some cause.UnknownCounter) (last_of e.masks) (Some cause.BadRow)
+
+-- why a UMASK_MODIFIERS row is refused below this event, if it is: its umask has its modifiers already
+abbrev pub mask_modifiers_cause : EventText → Option RowCause
+mask_modifiers_cause e = option_map_or (λ m. if is_some m.fixed then Some cause.BadRow else None) (last_of e.masks) (Some cause.BadRow)
+
+-- the same in this component
+abbrev pub inner_counters_cause : ComponentText → List Text → Option RowCause
+inner_counters_cause above names = option_map_or (λ e. mask_counters_cause above.counters e names) (last_of above.events) (Some cause.BadRow)
+
+-- why a UMASK_MODIFIERS row is refused in this component, if it is
+abbrev pub inner_modifiers_cause : ComponentText → Option RowCause
+inner_modifiers_cause above = option_map_or mask_modifiers_cause (last_of above.events) (Some cause.BadRow)
+
 -- why a row that belongs to this component is refused, if it is
 abbrev pub inner_cause : ComponentText → Line → Option RowCause
 inner_cause above (counter name width fixed) = counter_cause above.counters name width
 inner_cause above (event name select names text) = event_cause above name names
 inner_cause above (umask m) = inner_mask_cause above m.name m.preset_choice
+inner_cause above (umask_counters names) = inner_counters_cause above names
+inner_cause above (umask_modifiers f) = inner_modifiers_cause above
 inner_cause above line = None
 
 -- why a row is refused below these components, if it is: one that is not a component belongs to the last of them

@@ -12,7 +12,7 @@ counter_text k = record { name = string_bytes k.name; width = k.width; fixed = k
 
 -- a umask as a UMASK row gives it: name, bits, flags and description
 abbrev pub mask_text : UmaskRow → MaskText
-mask_text m = record { name = string_bytes m.name; bits = m.bits; preset_choice = m.preset_choice; alone = m.alone; text = string_bytes m.text }
+mask_text m = record { name = string_bytes m.name; bits = m.bits; preset_choice = m.preset_choice; alone = m.alone; text = string_bytes m.text; counters = m.counters; fixed = m.fixed }
 
 -- an event as an EVENT row gives it, with the umasks of the rows below
 abbrev pub event_text : EventRow → EventText

@@ -14,42 +14,18 @@ ghost use Rattle.event_tables.specs.declared.limits.TheConstants.{MOST_COMPONENT
 ghost use Rattle.event_tables.specs.Lines as Lines;
 ghost use Rattle.event_tables.specs.Lines.{Line, line_of, row_line, words_of};
 ghost use Rattle.event_tables.specs.Steps as Steps;
-ghost use Rattle.event_tables.specs.Steps.{CanGrow};
+ghost use Rattle.event_tables.specs.Steps.{CanGrow, HasMask};
 ghost use Rattle.event_tables.specs.Unit as Unit;
 ghost use Rattle.event_tables.specs.Views.{component_text, counter_text, event_text, mask_text};
 
-use crate::cause::{cause_of, counter_place};
-use crate::component::{Component, Counter, EventRow, UmaskRow};
+use crate::cause::cause_of;
+use crate::component::{Component, Counter, EventRow, FixedMods, UmaskRow};
+use crate::counter_bits::bits_of;
 use crate::fault::RowCause;
 use crate::row::{Flags, Row, row_of};
 use std::alloc::{AllocError, Global};
 use std::collections::HashMap;
 use table_rows::{ByteRecord, RowRefusal, TableKind};
-
-// A counter of this name as a bit, and 0 if there is none and if there is no name.
-fn counter_bit(counters: &[Counter], name: &[u8]) -> u32
-    requires { length counters.now ≤ MOST_COUNTERS }
-    ensures { result ≡ (if is_empty name.now then 0
-        else Unit.place_bit (Unit.counter_place (map counter_text counters.now) name.now)) }
-{
-    if name.is_empty() {
-        return 0;
-    }
-    match counter_place(counters, name) {
-        Some(place) => 1 << place,
-        None => 0,
-    }
-}
-
-// The counters of these names, as bits.
-fn bits_of(counters: &[Counter], names: &[u8]) -> u32
-    requires { length counters.now ≤ MOST_COUNTERS }
-    ensures { result ≡ Unit.bits_of (map counter_text counters.now) (words_of names.now) }
-{
-    names
-        .split(|&b| b == b' ')
-        .fold(0, |bits, name| bits | counter_bit(counters, name))
-}
 
 // An event that the counters of these bits can count.
 fn event_of(
@@ -92,6 +68,8 @@ fn mask_of(
         preset_choice: flags.preset_choice,
         alone: flags.alone,
         text: String::from_str(alloc, text)?,
+        counters: None,
+        fixed: None,
     })
 }
 
@@ -182,6 +160,53 @@ fn add_mask(
     Ok(())
 }
 
+// The last umask can be counted by the counters of these bits alone.
+fn restrict_mask(masks: &mut Vec<UmaskRow>, bits: u32)
+    requires { 0 < vec_len masks.old }
+    ensures { map mask_text masks.new.items
+        ≡ Unit.on_last (Unit.restricted bits) (map mask_text masks.old.items) }
+{
+    let last = masks.len() - 1;
+    masks[last].counters = Some(bits);
+}
+
+// The last umask fixes these modifiers.
+fn fix_mask(masks: &mut Vec<UmaskRow>, fixed: FixedMods)
+    requires { 0 < vec_len masks.old }
+    ensures { map mask_text masks.new.items
+        ≡ Unit.on_last (Unit.fixing fixed) (map mask_text masks.old.items) }
+{
+    let last = masks.len() - 1;
+    masks[last].fixed = Some(fixed);
+}
+
+// The last umask of the last event can be counted by the counters of these names alone.
+fn add_mask_counters(component: &mut Component, names: &[u8])
+    requires few_counters { vec_len component.old.counters ≤ MOST_COUNTERS }
+    requires filled { HasMask (component_text component.old) }
+    requires indexed { IsIndexed component.old }
+    ensures counters { component_text component.new ≡ Steps.with_last_mask
+        (Unit.restricted (Unit.bits_of (map counter_text component.old.counters.items)
+        (words_of names.now))) (component_text component.old) }
+    ensures indexed { IsIndexed component.new }
+{
+    let bits = bits_of(component.counters.as_slice(), names);
+    let last = component.events.len() - 1;
+    restrict_mask(&mut component.events[last].masks, bits);
+}
+
+// The last umask of the last event fixes these modifiers.
+fn add_mask_modifiers(component: &mut Component, fixed: FixedMods)
+    requires filled { HasMask (component_text component.old) }
+    requires indexed { IsIndexed component.old }
+    ensures modifiers { component_text component.new
+        ≡ Steps.with_last_mask (Unit.fixing fixed) (component_text component.old) }
+    ensures indexed { IsIndexed component.new }
+{
+    let last = component.events.len() - 1;
+    fix_mask(&mut component.events[last].masks, fixed);
+}
+
 // Adds a row of its own to a component.
 fn grow(alloc: Global, component: &mut Component, row: Row<'_>) -> Result<(), AllocError>
     requires few_counters { vec_len component.old.counters ≤ MOST_COUNTERS }
@@ -207,6 +232,14 @@ fn grow(alloc: Global, component: &mut Component, row: Row<'_>) -> Result<(), Al
             flags,
             text,
         } => add_mask(alloc, component, name, bits, flags, text),
+        Row::UmaskCounters { counters } => {
+            add_mask_counters(component, counters);
+            Ok(())
+        }
+        Row::UmaskModifiers { fixed } => {
+            add_mask_modifiers(component, fixed);
+            Ok(())
+        }
         Row::Skipped => Ok(()),
         Row::Bad => Ok(()),
         Row::Component { name: _, pmu: _ } => Ok(()),

@@ -1,17 +1,19 @@
 //! Why a row is refused, in view of the tables of the rows above it.
 
-ghost use Rattle.std.specs.Prelude.{◌≡◌, ◌||◌, true, map, is_some, string_bytes};
+ghost use Rattle.std.specs.Prelude.{◌≡◌, ◌≤◌, ◌||◌, true, length, map, is_some, string_bytes, vec_len};
 ghost use Rattle.std.specs.List.{AllByRecursion, list_all, list_any};
 ghost use Rattle.table_rows.specs.Texts.{is_name};
 ghost use Rattle.event_tables.specs.Index.{IsIndexed};
-ghost use Rattle.event_tables.specs.Kept.{IsLine};
+ghost use Rattle.event_tables.specs.Kept.{IsLine, IsTables};
+ghost use Rattle.event_tables.specs.declared.limits.TheConstants.{MOST_COUNTERS};
 ghost use Rattle.event_tables.specs.Lines.{row_line, words_of, mask_of};
 ghost use Rattle.event_tables.specs.Tables as Tables;
 ghost use Rattle.event_tables.specs.Unit as Unit;
 ghost use Rattle.event_tables.specs.Views.{component_text, counter_text, event_text, mask_text};
 ghost use Rattle.std.specs.Str.{bytes_eq};
 
-use crate::component::{Component, Counter, UmaskRow};
+use crate::component::{Component, Counter, EventRow, UmaskRow};
+use crate::counter_bits::{bits_of, counter_place};
 use crate::fault::RowCause;
 use crate::limits::{MOST_COMPONENT_EVENTS, MOST_COMPONENTS, MOST_COUNTERS, MOST_UMASKS};
 use crate::lower_name::LowerName;
@@ -30,13 +32,6 @@ fn has_component(above: &[Component], name: &str, pmu: &str) -> bool
         (map component_text above.now) }
 {
     above.iter().any(|c| same_name(c.name.as_str(), name) || same_name(c.pmu.as_str(), pmu))
-}
-
-/// The place of a counter, by its exact name.
-pub fn counter_place(counters: &[Counter], name: &[u8]) -> Option<usize>
-    ensures { result ≡ Unit.counter_place (map counter_text counters.now) name.now }
-{
-    counters.iter().position(|k| k.name.as_bytes() == name)
 }
 
 fn has_counter(above: &[Counter], name: &str) -> bool
@@ -157,8 +152,68 @@ fn inner_mask_cause(above: &Component, name: &str, preset_choice: bool) -> Optio
     }
 }
 
+// Whether each of these bits is one of the others.
+fn within(bits: u32, others: u32) -> bool
+    ensures { result ≡ Unit.within bits others }
+{
+    bits | others == others
+}
+
+// The first cause of a row of counters of the last umask of an event.
+fn mask_counters_cause(counters: &[Counter], event: &EventRow, names: &[u8]) -> Option<RowCause>
+    requires { length counters.now ≤ MOST_COUNTERS }
+    ensures { result ≡ Unit.mask_counters_cause (map counter_text counters.now)
+        (event_text event.now) (words_of names.now) }
+{
+    let Some(mask) = event.masks.last() else {
+        return Some(RowCause::BadRow);
+    };
+    if mask.counters.is_some() {
+        return Some(RowCause::BadRow);
+    }
+    if knows_all(counters, names) && within(bits_of(counters, names), event.allowed) {
+        None
+    } else {
+        Some(RowCause::UnknownCounter)
+    }
+}
+
+// The first cause of a row of modifiers of the last umask of an event.
+fn mask_modifiers_cause(event: &EventRow) -> Option<RowCause>
+    ensures { result ≡ Unit.mask_modifiers_cause (event_text event.now) }
+{
+    let Some(mask) = event.masks.last() else {
+        return Some(RowCause::BadRow);
+    };
+    if mask.fixed.is_some() {
+        Some(RowCause::BadRow)
+    } else {
+        None
+    }
+}
+
+fn inner_counters_cause(above: &Component, names: &[u8]) -> Option<RowCause>
+    requires { vec_len above.now.counters ≤ MOST_COUNTERS }
+    ensures { result ≡ Unit.inner_counters_cause (component_text above.now) (words_of names.now) }
+{
+    match above.events.last() {
+        None => Some(RowCause::BadRow),
+        Some(e) => mask_counters_cause(above.counters.as_slice(), e, names),
+    }
+}
+
+fn inner_modifiers_cause(above: &Component) -> Option<RowCause>
+    ensures { result ≡ Unit.inner_modifiers_cause (component_text above.now) }
+{
+    match above.events.last() {
+        None => Some(RowCause::BadRow),
+        Some(e) => mask_modifiers_cause(e),
+    }
+}
+
 // The first cause of a row in the component to which it belongs, and `None` if it has none.
 fn inner_cause(above: &Component, row: &Row<'_>) -> Option<RowCause>
+    requires few { vec_len above.now.counters ≤ MOST_COUNTERS }
     requires indexed { IsIndexed above.now }
     requires line { IsLine (row_line row.now) }
     ensures { result ≡ Unit.inner_cause (component_text above.now) (row_line row.now) }
@@ -181,12 +236,15 @@ fn inner_cause(above: &Component, row: &Row<'_>) -> Option<RowCause>
             flags,
             text: _,
         } => inner_mask_cause(above, *name, flags.preset_choice),
+        Row::UmaskCounters { counters } => inner_counters_cause(above, *counters),
+        Row::UmaskModifiers { fixed: _ } => inner_modifiers_cause(above),
         _ => None,
     }
 }
 
 /// The first cause of a row, and `None` if it has none.
 pub fn cause_of(above: &[Component], row: &Row<'_>) -> Option<RowCause>
+    requires tables { IsTables (map component_text above.now) }
     requires indexed { AllByRecursion IsIndexed above.now }
     requires line { IsLine (row_line row.now) }
     ensures { result ≡ Unit.cause_in (map component_text above.now) (row_line row.now) }

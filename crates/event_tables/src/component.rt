@@ -10,7 +10,18 @@ pub struct Counter {
     pub fixed: bool,
 }
 
+/// The modifiers that a umask fixes: edge, inversion and, unless it is 0, the least amount.
+#[derive(Clone, Copy, Debug, PartialEq, Eq)]
+pub struct FixedMods {
+    pub edge: bool,
+    pub invert: bool,
+    pub cmask: u8,
+}
+
 /// A umask of an event: its bits, whether it is the event's default, and whether it cannot be combined with another.
+///
+/// `counters` has, as bits, those of the event's counters that can count it, if not all of them can. `fixed` has the
+/// modifiers that it fixes, if it fixes one.
 #[derive(Debug, Drop)]
 pub struct UmaskRow {
     pub name: String,
@@ -18,6 +29,8 @@ pub struct UmaskRow {
     pub preset_choice: bool,
     pub alone: bool,
     pub text: String,
+    pub counters: Option<u32>,
+    pub fixed: Option<FixedMods>,
 }
 
 /// An event: its select code, the counters that can count it as bits, its description, and its umasks.

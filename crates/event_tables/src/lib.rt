@@ -4,6 +4,7 @@
 mod adding;
 mod cause;
 mod component;
+mod counter_bits;
 mod fault;
 mod limits;
 mod lower_name;
@@ -11,7 +12,7 @@ mod row;
 mod tables;
 mod unit;
 
-pub use crate::component::{Component, Counter, EventRow, UmaskRow};
+pub use crate::component::{Component, Counter, EventRow, FixedMods, UmaskRow};
 pub use crate::fault::{RowCause, TableFault, cause_text};
 pub use crate::limits::{
     LONGEST_DESCRIPTION, MOST_COMPONENT_EVENTS, MOST_COMPONENTS, MOST_COUNTERS, MOST_UMASKS,

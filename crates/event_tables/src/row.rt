@@ -9,6 +9,7 @@ ghost use Rattle.table_rows.specs.Texts as Texts;
 ghost use Rattle.event_tables.specs.Lines as Lines;
 ghost use Rattle.event_tables.specs.Lines.{line_of, line_or_bad, row_line, words_of};
 
+use crate::component::FixedMods;
 use crate::limits::LONGEST_DESCRIPTION;
 use papi_base::{LEAST_WIDTH, MOST_WIDTH};
 use table_rows::{
@@ -23,7 +24,7 @@ pub struct Flags {
     pub alone: bool,
 }
 
-/// A row by its kind. An event has the names of its counters as they stand, with spaces between them.
+/// A row by its kind. An event and a umask have the names of their counters as they stand, with spaces between them.
 #[derive(Clone, Copy)]
 pub enum Row<'r> {
     Skipped,
@@ -48,6 +49,12 @@ pub enum Row<'r> {
         bits: u8,
         flags: Flags,
         text: &'r str,
+    },
+    UmaskCounters {
+        counters: &'r [u8],
+    },
+    UmaskModifiers {
+        fixed: FixedMods,
     },
 }
 
@@ -185,6 +192,54 @@ fn umask_row<'r>(name: &'r [u8], bits: &[u8], letters: &[u8], text: &'r [u8]) ->
     })
 }
 
+fn umask_counters_row(counters: &[u8]) -> Option<Row<'_>>
+    ensures { line_or_bad result ≡ Lines.umask_counters_line counters.now }
+{
+    if are_names(counters) {
+        Some(Row::UmaskCounters { counters })
+    } else {
+        None
+    }
+}
+
+// The modifiers of these letters and of this least amount.
+#[tactic(auto, unfolding(crate::specs::Lines::fixed_mods_of))]
+fn fixed_mods_of(letters: &[u8], cmask: u8) -> Option<FixedMods>
+    ensures { result ≡ Lines.fixed_mods_of letters.now cmask }
+{
+    let (edge, invert) = match letters {
+        b"-" => (false, false),
+        b"e" => (true, false),
+        b"i" => (false, true),
+        b"ei" | b"ie" => (true, true),
+        _ => return None,
+    };
+    Some(FixedMods {
+        edge,
+        invert,
+        cmask,
+    })
+}
+
+// A least amount, from 0 to 255.
+fn amount_of(amount: &[u8]) -> Option<u8>
+    ensures { result ≡ Texts.decimal_in 0 255 amount.now }
+{
+    Some(decimal_in(0, 255, amount)? as u8)
+}
+
+fn umask_modifiers_row<'r>(letters: &[u8], amount: &[u8]) -> Option<Row<'r>>
+    ensures { line_or_bad result ≡ Lines.umask_modifiers_line letters.now amount.now }
+{
+    let amount = amount_of(amount)?;
+    let fixed = fixed_mods_of(letters, amount)?;
+    if fixed.edge || fixed.invert || fixed.cmask > 0 {
+        Some(Row::UmaskModifiers { fixed })
+    } else {
+        None
+    }
+}
+
 // Whether a record begins with this word and has as many fields.
 fn has_form(row: &ByteRecord, word: &[u8], fields: usize) -> bool
     ensures { result ≡ (bytes_eq (Texts.text_at (fields_of row.now) 0) word.now
@@ -216,6 +271,12 @@ pub fn row_of(row: &ByteRecord) -> Row<'_>
     }
     if has_form(row, b"UMASK", 5) {
         return umask_row(first, second, third, fourth).unwrap_or(Row::Bad);
+    }
+    if has_form(row, b"UMASK_COUNTERS", 2) {
+        return umask_counters_row(first).unwrap_or(Row::Bad);
+    }
+    if has_form(row, b"UMASK_MODIFIERS", 3) {
+        return umask_modifiers_row(first, second).unwrap_or(Row::Bad);
     }
     Row::Bad
 }

@@ -104,9 +104,19 @@ count-set n lt =
     cond_both (nat_lt 0 n) (Some (mod_said cmask (Some (decimal n)))) None (λ (o : Option SaidAttribute). option_map_or (λ s. unwrap_or (value_of (modifier cmask) s.value) 0) o 0 ≡ n)
     (λ e. rw (cmask-back n lt) refl) (λ e. grind (arith, tests, e))
 
-pub mods-own : (flags : List Bool) (m : Mods) → m.cmask < 256 → mods_of (mask_saids 0 flags ++ mod_saids m) ≡ m
-unfolding set_to flag_value
-mods-own flags m lt =
+-- what a canonical name says of a modifier, if it says something
+abbrev pub own_said : Bool → Modifier → Option Text → Option SaidAttribute
+own_said b m v = if b then Some (mod_said m v) else None
+
+pub record OwnSaids (m : Mods) (said : List SaidAttribute) : Type 0 where
+  pub u : find (means (modifier user)) said ≡ own_said m.user user None
+  pub k : find (means (modifier kernel)) said ≡ own_said m.kernel kernel None
+  pub e : find (means (modifier edge)) said ≡ own_said m.edge edge None
+  pub i : find (means (modifier invert)) said ≡ own_said m.invert invert None
+  pub c : find (means (modifier cmask)) said ≡ own_said (nat_lt 0 m.cmask) cmask (Some (decimal m.cmask))
+
+pub own-saids-found : (flags : List Bool) (m : Mods) → OwnSaids m (mask_saids 0 flags ++ mod_saids m)
+own-saids-found flags m =
     let tail = said_if (nat_lt 0 m.cmask) cmask (Some (decimal m.cmask)) in
     let f4 = said_if m.invert invert None ++ tail in
     let f3 = said_if m.edge edge None ++ f4 in
@@ -122,7 +132,13 @@ mods-own flags m lt =
     ∙ find-own invert m.invert None tail (last-other invert (nat_lt 0 m.cmask) _ refl) in
     let c = find-masks cmask 0 flags (mod_saids m) ∙ find-other cmask user m.user None f2 refl ∙ find-other cmask kernel m.kernel None f3 refl ∙ find-other cmask edge m.edge None f4 refl
     ∙ find-other cmask invert m.invert None tail refl ∙ last-own (nat_lt 0 m.cmask) _ in
-    rw (u, k, e, i, c) (rw (flag-set user m.user refl, flag-set kernel m.kernel refl, flag-set edge m.edge refl, flag-set invert m.invert refl, count-set m.cmask lt) refl)
+    record { u = u; k = k; e = e; i = i; c = c }
+
+pub mods-own : (flags : List Bool) (m : Mods) → m.cmask < 256 → mods_of (mask_saids 0 flags ++ mod_saids m) ≡ m
+unfolding set_to flag_value
+mods-own flags m lt =
+    let own = own-saids-found flags m in
+    rw (own.u, own.k, own.e, own.i, own.c) (rw (flag-set user m.user refl, flag-set kernel m.kernel refl, flag-set edge m.edge refl, flag-set invert m.invert refl, count-set m.cmask lt) refl)
 
 -- ---- faultless attributes: two umasks that they name can be combined
 

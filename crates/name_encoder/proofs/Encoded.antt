@@ -14,8 +14,9 @@ use Rattle.papi_base.specs.declared.native.Native.{Native}
 use Rattle.name_encoder.specs.declared.fault.NameFault.{NameFault}
 use Rattle.name_encoder.specs.declared.fault.NameFault.TheVariants as name_fault
 use Rattle.name_encoder.specs.Split.{Split, split}
-use Rattle.name_encoder.specs.Names.{FitsShape, Found, allowed_with, chosen, fault_from, found_from, mods_of, named_event, named_found}
-use Rattle.name_encoder.specs.Names.{named_from, names, native_of, native_or, programmable, saids_of, SaidAttribute}
+use Rattle.name_encoder.specs.Names.{FitsShape, Found, allowed_with, chosen, event_allowed, event_fixed, fault_from, found_from, mods_of, named_event, named_found}
+use Rattle.name_encoder.specs.Names.{named_from, names, native_of, native_or, native_unless, programmable, saids_of, SaidAttribute, umasks_fault, wanted_of, with_fixed}
+use Rattle.name_encoder.proofs.Fixing.{common-less}
 use Rattle.name_encoder.specs.declared.attribute.Attributes.{Attributes}
 use Rattle.name_encoder.specs.Judged.{all_given, native_next, nothing}
 use Rattle.name_encoder.proofs.Judging.{named-given}
@@ -43,6 +44,13 @@ allowed-less : (mods : Mods) (counters : List CounterText) (allowed : ℕ) → a
 allowed-less mods counters allowed =
     cond_both (mods.edge || (mods.invert || nat_lt 0 mods.cmask)) (bit_and allowed (programmable counters)) allowed (λ k. k ≤ allowed) (λ b. and_le_l allowed (programmable counters)) (λ b. omega arith)
 
+-- a native is allowed counters of its event
+pub native-allowed : (f : Found) (flags : List Bool) (mods : Mods) → (native_of f flags mods).allowed ≤ f.event.allowed
+native-allowed f flags mods =
+    let less = allowed-less (with_fixed (event_fixed f.event flags) mods) f.component.counters (event_allowed f.event flags) in
+    let common = common-less f.event.allowed flags f.event.masks in
+    omega (arith, less, common)
+
 event-fits : (tables : List ComponentText) (s : Split) (f : Found) (flags : List Bool) (mods : Mods) → IsTables tables → found_from s 0 tables ≡ Some f
     → FitsShape (shape_of tables) (native_of f flags mods)
 event-fits tables s f flags mods t found =
@@ -51,8 +59,7 @@ event-fits tables s f flags mods t found =
     let at : slice_get tables f.comp ≡ Some f.component = subst (λ (n : ℕ). slice_get tables n ≡ Some f.component) (sym (places.comp_is ∙ omega arith)) places.component_at in
     let inside = slice_get_within tables f.comp f.component at in
     let widths : slice_get (shape_of tables) f.comp ≡ Some (widths_of f.component) = slice_get-map widths_of tables f.comp ∙ ap (λ (o : Option ComponentText). option_map widths_of o) at in
-    let less = allowed-less mods f.component.counters f.event.allowed in
-    let within : allowed_with mods f.component.counters f.event.allowed < 2 ^ length f.component.counters = omega (arith, less, kept.1.within) in
+    let within : (native_of f flags mods).allowed < 2 ^ length f.component.counters = omega (arith, native-allowed f flags mods, kept.1.within) in
     let long : length (widths_of f.component) ≡ length f.component.counters = length-map f.component.counters _ in
     record {
       has_component = omega (arith, inside, length-map tables widths_of);
@@ -71,9 +78,13 @@ names-fit tables text n t e = go (found_from (split text) 0 tables) refl e
         said : List SaidAttribute
         said = saids_of f.event.masks (split text).attributes
 
-        judge : (a : Option NameFault) (b : Option (List Bool)) → native_or f (mods_of said) a b ≡ Ok n → FitsShape (shape_of tables) n
+        judge : (a : Option NameFault) (b : Option (List Bool)) → native_or f (wanted_of said) (mods_of said) a b ≡ Ok n → FitsShape (shape_of tables) n
         judge (Some x) b h = cc h
         judge None None h = cc h
-        judge None (Some flags) h =
-            let is : native_of f flags (mods_of said) ≡ n = cc h in
-            subst (FitsShape (shape_of tables)) is (event-fits tables (split text) f flags (mods_of said) t found)
+        judge None (Some flags) h = together (umasks_fault f (wanted_of said) flags) h
+          where
+            together : (o : Option NameFault) → native_unless f (mods_of said) flags o ≡ Ok n → FitsShape (shape_of tables) n
+            together (Some x) q = cc q
+            together None q =
+                let is : native_of f flags (mods_of said) ≡ n = cc q in
+                subst (FitsShape (shape_of tables)) is (event-fits tables (split text) f flags (mods_of said) t found)

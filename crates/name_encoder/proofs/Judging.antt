@@ -17,20 +17,20 @@ use Rattle.papi_base.specs.declared.native.Mods.{Mods}
 use Rattle.name_encoder.specs.declared.attribute.Attributes.{Attributes}
 use Rattle.name_encoder.specs.declared.fault.NameFault.{NameFault}
 use Rattle.name_encoder.specs.declared.fault.NameFault.TheVariants as name_fault
-use Rattle.name_encoder.specs.Names.{Found, Meaning, Modifier, SaidAttribute, chosen, clashes, cmask, edge, fault_from, invert, is_set}
+use Rattle.name_encoder.specs.Names.{Found, Meaning, Modifier, SaidAttribute, Wanted, chosen, clashes, cmask, edge, fault_from, given_to, invert, is_set}
 use Rattle.name_encoder.specs.Names.{kernel, mask, meaning_of, means, mods_of, modifier, named_event, named_from, names_alone}
-use Rattle.name_encoder.specs.Names.{names_mask, native_chosen, native_or, rank, row_alone, said_fault, saids_of, set_to, user, value_of}
+use Rattle.name_encoder.specs.Names.{names_mask, native_chosen, native_or, rank, row_alone, said_fault, saids_of, set_to, user, value_of, wanted_of}
 use Rattle.name_encoder.specs.Split.{attribute_of}
 use Rattle.name_encoder.proofs.Steps.{meaning-row}
 use Rattle.name_encoder.specs.Judged.{all_given, flags_given, given_next, is_named, mask_given, mods_given, modifier_given}
-use Rattle.name_encoder.specs.Judged.{native_next, nothing, said_given, value_given, with_mask, with_value}
+use Rattle.name_encoder.specs.Judged.{native_next, nothing, said_given, value_given, wanted_given, with_mask, with_value}
 
 abbrev said : Option Meaning → Option Text → SaidAttribute
 said o v = record { meaning = o; value = v }
 
 -- what the attributes give a modifier, if they name it
 abbrev given_of : List SaidAttribute → Modifier → Option ℕ
-given_of xs m = option_map (λ s. unwrap_or (value_of (modifier m) s.value) 0) (find (means (modifier m)) xs)
+given_of xs m = given_to xs m
 
 pub record AreSaid (masks : List MaskText) (xs : List SaidAttribute) (g : Attributes) : Type 0 where
   pub room : length g.named ≡ 16
@@ -307,6 +307,13 @@ mods-given masks xs g h =
     let on : (m : Modifier) → nat_lt 0 (unwrap_or (value_given g m) 0) ≡ is_set xs m = λ m. ap (nat_lt 0) (set m) in
     rw (on user, on kernel, on edge, on invert, set cmask) refl
 
+wanted-given : (masks : List MaskText) (xs : List SaidAttribute) (g : Attributes) → AreSaid masks xs g → wanted_given g ≡ wanted_of xs
+wanted-given masks xs g h =
+    let e : g.edge ≡ given_to xs edge = h.values edge in
+    let i : g.invert ≡ given_to xs invert = h.values invert in
+    let c : g.cmask ≡ given_to xs cmask = h.values cmask in
+    rw (e, i, c) refl
+
 -- what is judged one by one is what the definition names
 pub named-given : (f : Found) (texts : List Text) → length f.event.masks ≤ 16
     → native_next f (all_given f.event.masks nothing (saids_of f.event.masks texts)) ≡ named_event f (saids_of f.event.masks texts)
@@ -321,5 +328,6 @@ named-given f texts le = go (all_given masks nothing xs) (all-judged masks [] xs
     go : (x : Result Attributes NameFault) → AllSays masks [] xs x → native_next f x ≡ named_event f xs
     go (Err fault) e = rw e refl
     go (Ok g) e =
-        ap₂ (λ (m : Mods) (flags : List Bool). native_chosen f m (chosen masks flags)) (mods-given masks xs g e.1) e.1.named
-        ∙ ap (λ (o : Option NameFault). native_or f (mods_of xs) o (chosen masks (named_from xs 0 masks))) (sym e.0)
+        ap₂ (λ (m : Mods) (flags : List Bool). native_chosen f (wanted_given g) m (chosen masks flags)) (mods-given masks xs g e.1) e.1.named
+        ∙ ap (λ (w : Wanted). native_chosen f w (mods_of xs) (chosen masks (named_from xs 0 masks))) (wanted-given masks xs g e.1)
+        ∙ ap (λ (o : Option NameFault). native_or f (wanted_of xs) (mods_of xs) o (chosen masks (named_from xs 0 masks))) (sym e.0)

@@ -7,6 +7,8 @@ pub mod Unnamed
 pub mod Bits
 pub mod Splits
 pub mod Finds
+pub mod Fixing
+pub mod Agreeing
 pub mod Saids
 pub mod Faultless
 pub mod Chosen

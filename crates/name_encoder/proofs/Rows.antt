@@ -1,5 +1,5 @@
 -- The worked names over the lab unit.
-use Rattle.std.proofs.Common.{◌≡◌, ℕ, List, [], ◌∷◌, Ok, Err, Result, Bool, true, false, refl, codes, map}
+use Rattle.std.proofs.Common.{◌≡◌, ℕ, List, [], ◌∷◌, Ok, Err, None, Result, Bool, true, false, refl, codes, map}
 use Rattle.event_tables.specs.Tables.{ComponentText, CounterText, EventText, MaskText}
 use Rattle.table_rows.specs.Texts.{Text, decimal_in, hex_in, is_decimal, is_numeral}
 use Rattle.name_encoder.specs.Flags.{bits_of}
@@ -7,12 +7,12 @@ use Rattle.papi_base.specs.declared.native.Native.{Native}
 use Rattle.name_encoder.specs.declared.fault.NameFault.{NameFault}
 use Rattle.name_encoder.specs.declared.fault.NameFault.TheVariants as name_fault
 use Rattle.name_encoder.specs.Split.{attribute_of, cut_at, split}
-use Rattle.name_encoder.specs.Names.{cmask_value, event_from, fault_from, flag_value, found_from, meaning_of, modifier_of, named_from, names, set_to, values_of}
-use Rattle.name_encoder.specs.Canonical.{canonical, code64, masks_text, mods_text}
+use Rattle.name_encoder.specs.Names.{cmask_value, common_of, event_from, fault_from, fixed_of, flag_value, found_from, meaning_of, modifier_of, named_from, names, set_to, values_of}
+use Rattle.name_encoder.specs.Canonical.{canonical, code64, flags_in, masks_text, mods_text}
 use Rattle.std.specs.Fmt.{digits}
 
 unfoldable pub on_names : Unit {0}
-unfolding bits_of decimal_in hex_in is_decimal is_numeral attribute_of cut_at split cmask_value event_from fault_from flag_value found_from meaning_of modifier_of named_from names set_to values_of canonical code64 masks_text mods_text digits
+unfolding bits_of decimal_in hex_in is_decimal is_numeral attribute_of cut_at split cmask_value common_of event_from fault_from fixed_of flag_value flags_in found_from meaning_of modifier_of named_from names set_to values_of canonical code64 masks_text mods_text digits
 on_names = tt
 
 abbrev counter : Text → ℕ → Bool → CounterText
@@ -22,7 +22,7 @@ abbrev event : Text → ℕ → ℕ → List MaskText → EventText
 event name select allowed masks = record { name = name; select = select; allowed = allowed; text = []; masks = masks }
 
 abbrev umask : Text → ℕ → Bool → Bool → MaskText
-umask name bits choice alone = record { name = name; bits = bits; preset_choice = choice; alone = alone; text = [] }
+umask name bits choice alone = record { name = name; bits = bits; preset_choice = choice; alone = alone; text = []; counters = None; fixed = None }
 
 abbrev pub lab : List ComponentText
 lab = record {

@@ -113,13 +113,17 @@ is_on o = nat_lt 0 (unwrap_or o 0)
 abbrev pub mods_given : Attributes → Mods
 mods_given g = record { user = is_on g.user; kernel = is_on g.kernel; edge = is_on g.edge; invert = is_on g.invert; cmask = unwrap_or g.cmask 0 }
 
+-- the values that edge, inversion and the least amount were given, if they were
+abbrev pub wanted_given : Attributes → Names.Wanted
+wanted_given g = Names.wanted g.edge g.invert g.cmask
+
 -- the flags of the umasks that were named
 abbrev pub flags_given : List MaskText → Attributes → List Bool
 flags_given masks g = take (length masks) g.named
 
 -- the native of the event with what all attributes give
 abbrev pub native_given : Names.Found → Attributes → Result Native NameFault
-native_given f g = Names.native_chosen f (mods_given g) (Names.chosen f.event.masks (flags_given f.event.masks g))
+native_given f g = Names.native_chosen f (wanted_given g) (mods_given g) (Names.chosen f.event.masks (flags_given f.event.masks g))
 
 -- that native, or the fault of an attribute
 abbrev pub native_next : Names.Found → Result Attributes NameFault → Result Native NameFault

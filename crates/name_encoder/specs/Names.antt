@@ -8,6 +8,7 @@ use Rattle.std.specs.Str.{str_eq_ignore_ascii_case, str_to_ascii_lowercase}
 use Rattle.event_tables.specs.Tables.{ComponentText, CounterText, EventText, MaskText}
 use Rattle.table_rows.specs.Texts.{Text, decimal_in, hex_in}
 use Rattle.name_encoder.specs.Flags.{bits_of}
+use Rattle.event_tables.specs.declared.component.FixedMods.{FixedMods}
 use Rattle.papi_base.specs.declared.native.Mods.{Mods}
 use Rattle.papi_base.specs.declared.native.Native.{Native}
 use Rattle.name_encoder.specs.declared.fault.NameFault.{NameFault}
@@ -215,6 +216,68 @@ is_set said m = nat_lt 0 (set_to said m)
 abbrev pub mods_of : List SaidAttribute → Mods
 mods_of said = record { user = is_set said user; kernel = is_set said kernel; edge = is_set said edge; invert = is_set said invert; cmask = set_to said cmask }
 
+-- the value that the attributes give a modifier, if they name it
+abbrev pub given_to : List SaidAttribute → Modifier → Option ℕ
+given_to said m = option_map (λ s. unwrap_or (value_of (modifier m) s.value) 0) (find (means (modifier m)) said)
+
+-- ---- what the chosen umasks fix: the modhw of libpfm4's tables, whose codes are joined by OR
+
+-- nothing is fixed
+abbrev pub none_fixed : FixedMods
+none_fixed = record { edge = false; invert = false; cmask = 0 }
+
+-- what is fixed by one and by another
+abbrev pub both_fixed : FixedMods → FixedMods → FixedMods
+both_fixed a b = record { edge = a.edge || b.edge; invert = a.invert || b.invert; cmask = bit_or a.cmask b.cmask }
+
+-- what a umask fixes, if it is chosen
+abbrev pub fixed_if : Bool → Option FixedMods → FixedMods
+fixed_if b fixed = if b then unwrap_or fixed none_fixed else none_fixed
+
+-- what is fixed so far, and by each umask that is chosen
+unfoldable pub fixed_of : FixedMods → List Bool → List MaskText → FixedMods
+fixed_of so_far (b ∷ flags) (m ∷ masks) = fixed_of (both_fixed so_far (fixed_if b m.fixed)) flags masks
+fixed_of so_far flags masks = so_far
+
+-- the values that attributes give edge, inversion and the least amount, if they name them
+pub record Wanted : Type 0 where
+  pub edge : Option ℕ
+  pub invert : Option ℕ
+  pub cmask : Option ℕ
+
+-- what attributes ask for
+abbrev pub wanted : Option ℕ → Option ℕ → Option ℕ → Wanted
+wanted e i c = record { edge = e; invert = i; cmask = c }
+
+-- what these attributes ask for
+abbrev pub wanted_of : List SaidAttribute → Wanted
+wanted_of said = wanted (given_to said edge) (given_to said invert) (given_to said cmask)
+
+-- a value is asked for that is not this one
+abbrev pub asks_other : Option ℕ → ℕ → Bool
+asks_other o n = option_map_or (λ v. not (v == n)) o false
+
+-- a fixed flag is asked to be off, or another least amount is asked for than the one that is fixed
+abbrev pub contradicts : FixedMods → Wanted → Bool
+contradicts f w =
+    (f.edge && asks_other w.edge 1) || ((f.invert && asks_other w.invert 1) || (nat_lt 0 f.cmask && asks_other w.cmask f.cmask))
+
+-- the modifiers with those that are fixed
+abbrev pub with_fixed : FixedMods → Mods → Mods
+with_fixed f m = record { user = m.user; kernel = m.kernel; edge = f.edge || m.edge; invert = f.invert || m.invert; cmask = if nat_lt 0 f.cmask then f.cmask else m.cmask }
+
+-- ---- the counters that each chosen umask allows
+
+-- the counters of these that a umask allows, which are all of them if it has none of its own
+abbrev pub met : Option ℕ → ℕ → ℕ
+met None allowed = allowed
+met (Some counters) allowed = bit_and allowed counters
+
+-- the counters of these that each umask allows that is chosen
+unfoldable pub common_of : ℕ → List Bool → List MaskText → ℕ
+common_of allowed (b ∷ flags) (m ∷ masks) = common_of (if b then met m.counters allowed else allowed) flags masks
+common_of allowed flags masks = allowed
+
 -- the programmable counters as bits
 abbrev pub programmable : List CounterText → ℕ
 programmable counters = bits_of (map (λ k. not k.fixed) counters)
@@ -223,31 +286,54 @@ programmable counters = bits_of (map (λ k. not k.fixed) counters)
 abbrev pub allowed_with : Mods → List CounterText → ℕ → ℕ
 allowed_with mods counters allowed = if mods.edge || (mods.invert || nat_lt 0 mods.cmask) then bit_and allowed (programmable counters) else allowed
 
--- the native of an event with these umasks and modifiers
+-- what the umasks of an event fix, if these are chosen
+abbrev pub event_fixed : EventText → List Bool → FixedMods
+event_fixed e flags = fixed_of none_fixed flags e.masks
+
+-- the counters of an event that each of its umasks allows, if these are chosen
+abbrev pub event_allowed : EventText → List Bool → ℕ
+event_allowed e flags = common_of e.allowed flags e.masks
+
+-- the native of an event with these umasks and modifiers, and with the modifiers that the umasks fix
 abbrev pub native_of : Found → List Bool → Mods → Native
-native_of f flags mods = record {
-  comp = f.comp;
-  event = f.row;
-  select = f.event.select;
-  masks = bits_of flags;
-  umask = values_of flags f.event.masks;
-  mods = mods;
-  allowed = allowed_with mods f.component.counters f.event.allowed;
-}
+native_of f flags mods =
+    let own : Mods = with_fixed (event_fixed f.event flags) mods in
+    record {
+      comp = f.comp;
+      event = f.row;
+      select = f.event.select;
+      masks = bits_of flags;
+      umask = values_of flags f.event.masks;
+      mods = own;
+      allowed = allowed_with own f.component.counters (event_allowed f.event flags);
+    }
+
+-- why the umasks do not go with what is asked for, or with each other: a modifier that they fix is asked for with another value, or no counter of the event is allowed by all of
+-- them
+abbrev pub umasks_fault : Found → Wanted → List Bool → Option NameFault
+umasks_fault f w flags =
+    if contradicts (event_fixed f.event flags) w then Some name_fault.AttrSet
+    else if event_allowed f.event flags == 0 then Some name_fault.FeatComb
+    else None
+
+-- the native, or this fault
+abbrev pub native_unless : Found → Mods → List Bool → Option NameFault → Result Native NameFault
+native_unless f mods flags (Some fault) = Err fault
+native_unless f mods flags None = Ok (native_of f flags mods)
 
 -- the native; without a umask if one is needed it is UMASK
-abbrev pub native_chosen : Found → Mods → Option (List Bool) → Result Native NameFault
-native_chosen f mods None = Err name_fault.Umask
-native_chosen f mods (Some flags) = Ok (native_of f flags mods)
+abbrev pub native_chosen : Found → Wanted → Mods → Option (List Bool) → Result Native NameFault
+native_chosen f w mods None = Err name_fault.Umask
+native_chosen f w mods (Some flags) = native_unless f mods flags (umasks_fault f w flags)
 
 -- the native, or the first fault
-abbrev pub native_or : Found → Mods → Option NameFault → Option (List Bool) → Result Native NameFault
-native_or f mods (Some fault) flags = Err fault
-native_or f mods None flags = native_chosen f mods flags
+abbrev pub native_or : Found → Wanted → Mods → Option NameFault → Option (List Bool) → Result Native NameFault
+native_or f w mods (Some fault) flags = Err fault
+native_or f w mods None flags = native_chosen f w mods flags
 
 -- what an event with these attributes names
 abbrev pub named_event : Found → List SaidAttribute → Result Native NameFault
-named_event f said = native_or f (mods_of said) (fault_from f.event.masks [] said) (chosen f.event.masks (named_from said 0 f.event.masks))
+named_event f said = native_or f (wanted_of said) (mods_of said) (fault_from f.event.masks [] said) (chosen f.event.masks (named_from said 0 f.event.masks))
 
 -- what each attribute of an event says
 abbrev pub saids_of : List MaskText → List Text → List SaidAttribute

@@ -6,7 +6,8 @@ ghost use Rattle.event_tables.specs.Views.{event_text, mask_text};
 ghost use Rattle.name_encoder.specs.Canonical as Canonical;
 ghost use Rattle.name_encoder.specs.Names as Names;
 
-use event_tables::{EventRow, Tables, UmaskRow};
+use crate::fixed::{both_fixed, fixed_if, none_fixed};
+use event_tables::{EventRow, FixedMods, Tables, UmaskRow};
 use papi_base::{Mods, Native};
 use std::alloc::{AllocError, Global};
 
@@ -71,6 +72,33 @@ fn push_mods(alloc: Global, name: &mut String, mods: &Mods) -> Result<(), AllocE
     push_cmask(alloc, name, mods.cmask)
 }
 
+// What the umasks fix whose bits are set.
+fn fixed_by(bits: u16, masks: &[UmaskRow]) -> FixedMods
+    ensures { result ≡ Names.fixed_of Names.none_fixed
+        (Canonical.flags_in bits (map mask_text masks.now)) (map mask_text masks.now) }
+{
+    let mut left = bits;
+    let mut fixed = none_fixed();
+    for m in masks {
+        fixed = both_fixed(fixed, fixed_if(left % 2 == 1, m.fixed));
+        left /= 2;
+    }
+    fixed
+}
+
+// The modifiers that are not fixed.
+fn free_mods(fixed: &FixedMods, mods: &Mods) -> Mods
+    ensures { result ≡ Canonical.free_mods fixed.now mods.now }
+{
+    Mods {
+        user: mods.user,
+        kernel: mods.kernel,
+        edge: mods.edge && !fixed.edge,
+        invert: mods.invert && !fixed.invert,
+        cmask: if fixed.cmask > 0 { 0 } else { mods.cmask },
+    }
+}
+
 fn event_name(alloc: Global, pmu: &str, event: &EventRow, n: &Native) -> Result<String, AllocError>
     ensures { IfOk result (λ s.
         string_bytes s ≡ Canonical.event_text pmu.now (event_text event.now) n.now) }
@@ -79,7 +107,8 @@ fn event_name(alloc: Global, pmu: &str, event: &EventRow, n: &Native) -> Result<
     name.push_str("::")?;
     name.push_str(event.name.as_str())?;
     push_masks(&mut name, n.masks, event.masks.as_slice())?;
-    push_mods(alloc, &mut name, &n.mods)?;
+    let fixed = fixed_by(n.masks, event.masks.as_slice());
+    push_mods(alloc, &mut name, &free_mods(&fixed, &n.mods))?;
     Ok(name)
 }
 
@@ -101,8 +130,8 @@ fn canonical_name(alloc: Global, t: &Tables, n: &Native) -> Result<String, Alloc
     }
 }
 
-/// The canonical name of a native event: `pmu::EVENT` as the tables spell them, its umasks in table order, and its
-/// modifiers. Of a native that is outside the tables it is empty.
+/// The canonical name of a native event: `pmu::EVENT` as the tables spell them, its umasks in table order, and those of
+/// its modifiers that its umasks do not fix. Of a native that is outside the tables it is empty.
 ///
 /// If some text names the native, its canonical name names it too.
 pub fn write_name(alloc: Global, t: &Tables, n: &Native) -> Result<String, AllocError>

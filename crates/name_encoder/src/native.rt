@@ -10,6 +10,7 @@ ghost use Rattle.name_encoder.specs.Views.{found_text};
 
 use crate::attribute::Attributes;
 use crate::fault::NameFault;
+use crate::fixed::{common_of, contradicts, fixed_of, with_fixed};
 use crate::found::Found;
 use event_tables::{Counter, MOST_UMASKS, UmaskRow};
 use papi_base::{Mods, Native};
@@ -127,6 +128,43 @@ fn allowed_with(mods: &Mods, counters: &[Counter], allowed: u32) -> u32
     }
 }
 
+/// The native event of an event with these umasks and modifiers, and with the modifiers that the umasks fix.
+pub fn native_with(f: &Found<'_>, flags: &[bool], mods: &Mods) -> Native
+    requires few_counters { vec_len f.now.component.now.counters ≤ MOST_COUNTERS }
+    requires few_masks { vec_len f.now.event.now.masks ≤ MOST_UMASKS }
+    requires same { length flags.now ≡ vec_len f.now.event.now.masks }
+    ensures { result ≡ Names.native_of (found_text f.now) flags.now mods.now }
+{
+    let masks = f.event.masks.as_slice();
+    let mods = with_fixed(&fixed_of(flags, masks), mods);
+    let common = common_of(f.event.allowed, flags, masks);
+    Native {
+        comp: f.comp,
+        event: f.row,
+        select: f.event.select,
+        masks: mask_bits(flags),
+        umask: umask_of(flags, masks),
+        mods,
+        allowed: allowed_with(&mods, f.component.counters.as_slice(), common),
+    }
+}
+
+// Why the chosen umasks do not go with what is asked for, or with each other.
+fn umasks_fault(f: &Found<'_>, given: &Attributes, flags: &[bool]) -> Option<NameFault>
+    requires { length flags.now ≡ vec_len f.now.event.now.masks }
+    ensures { result ≡ Names.umasks_fault (found_text f.now) (Judged.wanted_given given.now)
+        flags.now }
+{
+    let masks = f.event.masks.as_slice();
+    if contradicts(&fixed_of(flags, masks), given) {
+        return Some(NameFault::AttrSet);
+    }
+    if common_of(f.event.allowed, flags, masks) == 0 {
+        return Some(NameFault::FeatComb);
+    }
+    None
+}
+
 /// The native event of a found event and of what its attributes give.
 pub fn native_of(f: &Found<'_>, given: &Attributes) -> Result<Native, NameFault>
     requires few_counters { vec_len f.now.component.now.counters ≤ MOST_COUNTERS }
@@ -139,13 +177,8 @@ pub fn native_of(f: &Found<'_>, given: &Attributes) -> Result<Native, NameFault>
         return Err(NameFault::Umask);
     };
     let flags = &flags[..masks.len()];
-    Ok(Native {
-        comp: f.comp,
-        event: f.row,
-        select: f.event.select,
-        masks: mask_bits(flags),
-        umask: umask_of(flags, masks),
-        mods,
-        allowed: allowed_with(&mods, f.component.counters.as_slice(), f.event.allowed),
-    })
+    match umasks_fault(f, given, flags) {
+        Some(fault) => Err(fault),
+        None => Ok(native_with(f, flags, &mods)),
+    }
 }

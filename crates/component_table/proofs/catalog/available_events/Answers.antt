@@ -4,9 +4,10 @@ use Rattle.component_table.specs.Books.{events_from, kept_if}
 use Rattle.user_events.specs.Events.{event_view}
 use Rattle.component_table.proofs.KeptEvents.{kept-more, none}
 use Rattle.component_table.proofs.catalog.available_events.Goals as goal
+use Rattle.preset_csv.specs.declared.symbols.TheConstants.{PRESETS}
 
 pub loop-event-init : goal.loop-event-init
-loop-event-init c = record { row = c.preset_count-row.ensures.count; kept = ap (map event_view) c.new-kept.ensures.items ∙ sym (none c.args.book.now 26) }
+loop-event-init c = record { row = c.preset_count-row.ensures.count; kept = ap (map event_view) c.new-kept.ensures.items ∙ sym (none c.args.book.now PRESETS) }
 
 pub loop-event-preserved : goal.loop-event-preserved
 loop-event-preserved c =
@@ -17,6 +18,6 @@ loop-event-preserved c =
       kept =
           c.in_ok-keep_if.ensures
           ∙ ap₂ (λ done available. done ++ kept_if available event) c.loop-event.invariant.kept c.is_available.ensures
-          ∙ sym (kept-more c.args.book.now 26 (map event_view events) event c.loop-event.row (omega (arith, c.loop-event.invariant.row, length-map events event_view)))
-          ∙ ap (events_from c.args.book.now 26) (sym (map-append event_view events (c.in-Some.event ∷ [])));
+          ∙ sym (kept-more c.args.book.now PRESETS (map event_view events) event c.loop-event.row (omega (arith, c.loop-event.invariant.row, length-map events event_view)))
+          ∙ ap (events_from c.args.book.now PRESETS) (sym (map-append event_view events (c.in-Some.event ∷ [])));
     }

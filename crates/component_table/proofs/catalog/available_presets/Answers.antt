@@ -2,11 +2,12 @@ use Rattle.std.proofs.Common.{◌∙◌, ◌<◌, sym, arith}
 use Rattle.component_table.proofs.Keeping.{cleared-all, cleared-kept, cleared-missing}
 use Rattle.component_table.proofs.catalog.available_presets.Goals as goal
 use Rattle.component_table.proofs.catalog.available_presets.Goals.{then-not-is_available, else-not-is_available}
+use Rattle.preset_csv.specs.declared.symbols.TheConstants.{PRESETS}
 
 pub loop-row-preserved : goal.loop-row-preserved
 loop-row-preserved c =
     let book = c.args.book.now in
-    let small : c.loop-row.row < 26 = omega (arith, c.loop-row-test.true, c.preset_count-row-end.ensures.count) in
+    let small : c.loop-row.row < PRESETS = omega (arith, c.loop-row-test.true, c.preset_count-row-end.ensures.count) in
     elim c.if-not-is_available.branch [
       | then-not-is_available w ↦
           rw (w.presets-is ∙ w.set_missing.ensures) (cleared-missing book c.args.presets c.loop-row.row c.loop-row.presets small (sym w.if-not-is_available.ensures) c.loop-row.invariant)

@@ -1,8 +1,22 @@
-use Rattle.std.proofs.Common.{◌∙◌, Some, None, map, refl}
+use Rattle.std.proofs.Common.{◌∙◌, Some, None, map, refl, sym, arith}
+use Rattle.std.proofs.lemmas.List.{length-map}
+use Rattle.event_tables.specs.Index.{IsIndexed}
+use Rattle.event_tables.specs.Kept.{IsComponent}
 use Rattle.event_tables.specs.Unit.{cause_in}
-use Rattle.event_tables.specs.Views.{component_text}
-use Rattle.event_tables.proofs.Growing.{cause-alone, cause-inner, last_of-map}
+use Rattle.event_tables.specs.Views.{component_text, counter_text}
+use Rattle.event_tables.proofs.Growing.{all-at, cause-alone, cause-inner, last_of-map}
 use Rattle.event_tables.proofs.cause.cause_of.Goals as goal
+
+pub inner_cause-requires : goal.inner_cause-requires
+inner_cause-requires c =
+    let xs = c.args.above.now in
+    let x = c.in-Some.component.now in
+    let kept = all-at IsComponent (map component_text xs) (component_text x) c.requires.tables.each (last_of-map component_text xs (Some x) c.in-Some.ensures.value) in
+    record {
+      few = omega (arith, kept.few_counters, length-map x.counters.items counter_text);
+      indexed = all-at IsIndexed xs x c.requires.indexed (sym c.in-Some.ensures.value);
+      line = c.requires.line;
+    }
 
 pub returns-in-Skipped : goal.returns-in-Skipped
 unfolding cause_in

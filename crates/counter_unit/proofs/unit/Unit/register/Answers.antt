@@ -1,5 +1,6 @@
 use Rattle.std.proofs.Common.{◌≡◌, ◌≤◌, ◌^◌, ◌∙◌, get_or, ap, subst, arith}
 use Rattle.std.proofs.Math.Pow.{pow_mono}
+use Rattle.papi_base.specs.declared.limits.TheConstants.{MOST_WIDTH}
 use Rattle.counter_unit.specs.Counting.{UnitView, FitsWidth}
 use Rattle.counter_unit.proofs.unit.Unit.register.Goals as goal
 
@@ -8,6 +9,6 @@ returns-in-Some-clause-small c =
     let w = get_or c.args.self.now.widths c.args.c 0 in
     let width : c.width-width.result ≡ w = c.width-width.ensures.width ∙ ap (λ (v : UnitView). get_or v.widths c.args.c 0) c.self.view_is in
     let sound = subst (FitsWidth (get_or c.args.self.now.widths c.args.c 0)) c.in-Some.is c.place.ensures.sound in
-    let high : get_or c.args.self.now.widths c.args.c 0 ≤ 48 = rw (← width) c.width-width.ensures.high in
-    let most : 2 ^ get_or c.args.self.now.widths c.args.c 0 ≤ 2 ^ 48 = pow_mono high in
+    let high : get_or c.args.self.now.widths c.args.c 0 ≤ MOST_WIDTH = rw (← width) c.width-width.ensures.high in
+    let most : 2 ^ get_or c.args.self.now.widths c.args.c 0 ≤ 2 ^ MOST_WIDTH = pow_mono high in
     omega (arith, sound.2)

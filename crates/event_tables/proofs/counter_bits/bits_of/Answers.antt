@@ -9,7 +9,7 @@ use Rattle.event_tables.specs.Lines.{words_of}
 use Rattle.event_tables.specs.Unit.{counter_place, place_bit}
 use Rattle.event_tables.specs.Views.{counter_text}
 use Rattle.event_tables.proofs.Bits.{fold-filled}
-use Rattle.event_tables.proofs.adding.bits_of.Goals as goal
+use Rattle.event_tables.proofs.counter_bits.bits_of.Goals as goal
 
 pub returns : goal.returns
 unfolding words_of

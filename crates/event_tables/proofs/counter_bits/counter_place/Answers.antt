@@ -7,7 +7,7 @@ use Rattle.std.specs.Str.{bytes_eq}
 use Rattle.event_tables.specs.declared.component.Counter.{Counter}
 use Rattle.event_tables.specs.Views.{counter_text}
 use Rattle.event_tables.proofs.Searches.{position_from-map}
-use Rattle.event_tables.proofs.cause.counter_place.Goals as goal
+use Rattle.event_tables.proofs.counter_bits.counter_place.Goals as goal
 
 pub returns : goal.returns
 returns c =

@@ -7,7 +7,7 @@ use Rattle.event_tables.specs.Views.{counter_text}
 use Rattle.event_tables.specs.Tables.{CounterText}
 use Rattle.event_tables.proofs.Searches.{position_from-lt}
 use Rattle.event_tables.proofs.Bits.{bit-shifted}
-use Rattle.event_tables.proofs.adding.counter_bit.Goals as goal
+use Rattle.event_tables.proofs.counter_bits.counter_bit.Goals as goal
 
 small : (c : goal.In-Some) → c.in-Some.place < 32
 small c =

@@ -1,0 +1,8 @@
+use Rattle.std.proofs.Common.{◌∙◌, sym, arith}
+use Rattle.table_rows.proofs.Ranges.{decimal_in-range}
+use Rattle.event_tables.proofs.row.amount_of.Goals as goal
+
+pub overflow_cast-result : goal.overflow_cast-result
+overflow_cast-result c =
+    let r = decimal_in-range 0 255 c.args.amount.now c.in_ok-decimal_in.field-0 (sym c.decimal_in.ensures ∙ c.in_ok-decimal_in.was) in
+    omega (arith, r.1)
