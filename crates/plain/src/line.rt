@@ -79,6 +79,17 @@ fn is_above(last: Option<u64>, stamp: u64) -> bool
     }
 }
 
+// Whether an occurrence can have this stamp.
+fn is_next_stamp(start: &LineStart, stamp: u64) -> bool
+    ensures { result ≡ Judged.is_next_stamp start.now stamp }
+{
+    if start.stamped {
+        is_above(start.last, stamp)
+    } else {
+        stamp <= u64::from(LAST_STAMP)
+    }
+}
+
 // A line that is neither skipped nor the version.
 #[tactic(auto, unfolding(stream_reader::specs::Judged::fields_judged))]
 fn judge_fields(start: &LineStart, text: &[u8]) -> Judgement
@@ -90,9 +101,7 @@ fn judge_fields(start: &LineStart, text: &[u8]) -> Judgement
     }
     match occurrence(start, text) {
         None => Judgement::Bad(LineCause::Field),
-        Some(o) if start.stamped && !is_above(start.last, o.stamp) => Judgement::Bad(
-            LineCause::Stamp,
-        ),
+        Some(o) if !is_next_stamp(start, o.stamp) => Judgement::Bad(LineCause::Stamp),
         Some(o) => Judgement::Occurs(o),
     }
 }

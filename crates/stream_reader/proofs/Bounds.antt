@@ -1,20 +1,21 @@
--- The stamps of a stream rise, and it has at most 5,162,220 occurrences.
+-- The stamps of a stream rise, and it has no more occurrences than there are stamps.
 use Rattle.std.proofs.Common.{◌≡◌, ◌∙◌, ◌+◌, ◌<◌, ◌≤◌, ◌==◌, ◌&&◌, ◌∷◌, ℕ, Bool, true, false, List, [], Option, Some, None, length}
 use Rattle.std.proofs.Common.{refl, sym, ap, subst, arith, nat_lt, nat_le, codes, bytes_eq, IfSome}
 use Rattle.std.specs.Prelude.{if◌then◌else◌, cond}
 use Rattle.std.specs.List.{list_all, slice_split, onto_first}
 use Rattle.std.specs.Option.{option_map, option_map_or}
 use Rattle.std.specs.Str.Parse.{digits_value}
-use Rattle.std.proofs.lemmas.Bool.{and_parts, leb-true, ltb-false, lt-ltb, eqb-true}
+use Rattle.std.proofs.lemmas.Bool.{and_parts, leb-true, ltb-false, ltb-true, lt-ltb, eqb-true}
 use Rattle.papi_base.specs.Numerals.{decimal_in, flag_bit, hex_in, is_decimal, is_hex_digit, is_numeral}
 use Rattle.papi_base.specs.declared.occurrence.Occ.{Occ}
 use Rattle.papi_base.specs.declared.occurrence.LineCause.TheVariants as cause
+use Rattle.papi_base.specs.declared.limits.TheConstants.{LAST_STAMP}
 use Rattle.stream_reader.specs.Lines.{Line}
 use Rattle.stream_reader.specs.declared.line.LineStart.{LineStart}
 use Rattle.stream_reader.specs.declared.line.Judgement.{Judgement}
 use Rattle.stream_reader.specs.declared.line.Judgement.TheVariants.{Bad, Skipped, Version, Occurs}
-use Rattle.stream_reader.specs.Judged.{field, fields_judged, fields_of, given, is_above, is_skipped, judged, line_text, mode_of, occ_of, stamp_of, text_judged, without_return}
-use Rattle.stream_reader.specs.Occurs.{IsStart, after, line_passed}
+use Rattle.stream_reader.specs.Judged.{field, fields_judged, fields_of, given, is_above, is_next_stamp, is_skipped, judged, line_text, mode_of, occ_of, stamp_of, text_judged, without_return}
+use Rattle.stream_reader.specs.Occurs.{IsStart, after, least_stamp, line_passed}
 use Rattle.stream_reader.proofs.FirstItems.{whole}
 
 -- ---- how long fields are
@@ -131,16 +132,16 @@ all-size two fields n h = go two n
 record IsOccurrence (st : LineStart) (o : Occ) (text : List ℕ) : Type 0 where
   fit : IsFit o
   size : 13 ≤ length text
-  first : st.stamped ≡ false → o.stamp ≡ st.given
-  second : st.stamped ≡ true → (is_above st.last o.stamp ≡ true) × (o.stamp ≤ 4294967294)
+  first : st.stamped ≡ false → (o.stamp ≡ st.given) × (o.stamp ≤ LAST_STAMP)
+  second : st.stamped ≡ true → (is_above st.last o.stamp ≡ true) × (o.stamp ≤ LAST_STAMP)
 
 stamp-first : (stamped : Bool) (count n : ℕ) (fields : List (List ℕ)) → stamp_of stamped count fields ≡ Some n → stamped ≡ false → n ≡ count
 stamp-first false count n fields e q = cc
 stamp-first true count n fields e q = cc q
 
-stamp-second : (stamped : Bool) (count n : ℕ) (fields : List (List ℕ)) → stamp_of stamped count fields ≡ Some n → stamped ≡ true → n ≤ 4294967294
+stamp-second : (stamped : Bool) (count n : ℕ) (fields : List (List ℕ)) → stamp_of stamped count fields ≡ Some n → stamped ≡ true → n ≤ LAST_STAMP
 stamp-second false count n fields e q = cc q
-stamp-second true count n fields e q = (decimal-range 0 4294967294 n (field fields 6) e).1
+stamp-second true count n fields e q = (decimal-range 0 LAST_STAMP n (field fields 6) e).1
 
 fields-occurrence : (st : LineStart) (text : List ℕ) (o : Occ) → fields_judged st (fields_of text) ≡ Occurs o → IsOccurrence st o text
 unfolding fields_judged
@@ -149,27 +150,26 @@ fields-occurrence st text o e = go (length fields == (6 + flag_bit st.stamped)) 
     fields : List (List ℕ)
     fields = fields_of text
 
-    made : (x : Occ) → length fields ≡ 6 + flag_bit st.stamped → occ_of st.stamped st.given fields ≡ Some x → (st.stamped ≡ true → is_above st.last x.stamp ≡ true) → IsOccurrence st x text
-    made x n r above =
+    made : (x : Occ) → length fields ≡ 6 + flag_bit st.stamped → occ_of st.stamped st.given fields ≡ Some x → is_next_stamp st x.stamp ≡ true → IsOccurrence st x text
+    made x n r next =
         let read = read-fields st.stamped st.given fields x r in
         let size = all-size st.stamped fields n read.size in
         let whole = split-size (λ b. b == 32) text in
         record {
           fit = read.fit;
           size = omega (arith, size, whole);
-          first = stamp-first st.stamped st.given x.stamp fields read.stamp;
-          second = λ q. (above q, stamp-second st.stamped st.given x.stamp fields read.stamp q);
+          first = λ q. (stamp-first st.stamped st.given x.stamp fields read.stamp q, leb-true x.stamp LAST_STAMP (rw q at next));
+          second = λ q. (rw q at next, stamp-second st.stamped st.given x.stamp fields read.stamp q);
         }
 
-    pick : (x : Occ) (a b : Bool) → st.stamped ≡ a → is_above st.last x.stamp ≡ b → length fields ≡ 6 + flag_bit st.stamped → occ_of st.stamped st.given fields ≡ Some x
-        → (if a then if b then Occurs x else Bad cause.Stamp else Occurs x) ≡ Occurs o → IsOccurrence st o text
-    pick x true true p q n r h = let is : x ≡ o = cc h in subst (λ (y : Occ). IsOccurrence st y text) is (made x n r (λ t. q))
-    pick x true false p q n r h = cc h
-    pick x false b p q n r h = let is : x ≡ o = cc h in subst (λ (y : Occ). IsOccurrence st y text) is (made x n r (λ t. cc (sym p ∙ t)))
+    pick : (x : Occ) (a : Bool) → is_next_stamp st x.stamp ≡ a → length fields ≡ 6 + flag_bit st.stamped → occ_of st.stamped st.given fields ≡ Some x
+        → (if a then Occurs x else Bad cause.Stamp) ≡ Occurs o → IsOccurrence st o text
+    pick x true q n r h = let is : x ≡ o = cc h in subst (λ (y : Occ). IsOccurrence st y text) is (made x n r q)
+    pick x false q n r h = cc h
 
     go : (c : Bool) (r : Option Occ) → (length fields == (6 + flag_bit st.stamped)) ≡ c → occ_of st.stamped st.given fields ≡ r
-        → (if c then option_map_or (λ (x : Occ). if st.stamped then if is_above st.last x.stamp then Occurs x else Bad cause.Stamp else Occurs x) r (Bad cause.Field) else Bad cause.Fields) ≡ Occurs o → IsOccurrence st o text
-    go true (Some x) p q h = pick x st.stamped (is_above st.last x.stamp) refl refl (eqb-true (length fields) (6 + flag_bit st.stamped) p) q h
+        → (if c then option_map_or (λ (x : Occ). if is_next_stamp st x.stamp then Occurs x else Bad cause.Stamp) r (Bad cause.Field) else Bad cause.Fields) ≡ Occurs o → IsOccurrence st o text
+    go true (Some x) p q h = pick x (is_next_stamp st x.stamp) refl (eqb-true (length fields) (6 + flag_bit st.stamped) p) q h
     go true None p q h = cc h
     go false r p q h = cc h
 
@@ -203,8 +203,8 @@ pub record IsLine (st : LineStart) (o : Occ) (line : Line) : Type 0 where
   pub fit : IsFit o
   pub size : 13 ≤ length line.bytes
   pub within : st.passed + length line.bytes ≤ 67108864
-  first : st.stamped ≡ false → o.stamp ≡ st.given
-  second : st.stamped ≡ true → (is_above st.last o.stamp ≡ true) × (o.stamp ≤ 4294967294)
+  first : st.stamped ≡ false → (o.stamp ≡ st.given) × (o.stamp ≤ LAST_STAMP)
+  second : st.stamped ≡ true → (is_above st.last o.stamp ≡ true) × (o.stamp ≤ LAST_STAMP)
 
 pub line-occurrence : (st : LineStart) (line : Line) (o : Occ) → judged st line ≡ Occurs o → IsLine st o line
 unfolding judged
@@ -222,33 +222,35 @@ line-occurrence st line o e = go (nat_lt 128 (length line.bytes)) (nat_lt 671088
 -- ---- the whole stream
 
 -- an occurrence is above the last one, and its stamp is in range
-pub stamp-fits : (st : LineStart) (line : Line) (o : Occ) → IsStart st → IsLine st o line → (is_above st.last o.stamp ≡ true) × (o.stamp ≤ 4294967294)
+pub stamp-fits : (st : LineStart) (line : Line) (o : Occ) → IsStart st → IsLine st o line → (is_above st.last o.stamp ≡ true) × (o.stamp ≤ LAST_STAMP)
 stamp-fits st line o s l = go st.stamped refl
   where
     above : (last : Option ℕ) → IfSome last (λ x. x < st.given) → is_above last st.given ≡ true
     above None h = refl
     above (Some x) h = lt-ltb x st.given h
 
-    go : (b : Bool) → st.stamped ≡ b → (is_above st.last o.stamp ≡ true) × (o.stamp ≤ 4294967294)
+    go : (b : Bool) → st.stamped ≡ b → (is_above st.last o.stamp ≡ true) × (o.stamp ≤ LAST_STAMP)
     go true e = l.second e
-    go false e =
-        let is = l.first e in
-        let c = s.counted in
-        let w = l.within in
-        let z = l.size in
-        (rw is (above st.last (s.below e)), rw is (omega (arith, c, w, z)))
+    go false e = let is = l.first e in (rw is.0 (above st.last (s.below e)), is.1)
+
+-- the stamps above the last one
+above-least : (last : Option ℕ) (stamp : ℕ) → is_above last stamp ≡ true → least_stamp last ≤ stamp
+above-least None stamp h = omega arith
+above-least (Some last) stamp h = let less = ltb-true last stamp h in omega (arith, less)
 
 state-passed : (st : LineStart) (line : Line) → IsStart st → IsStart (line_passed st line)
-state-passed st line s = let c = s.counted in record { counted = omega (arith, c); below = s.below }
+state-passed st line s = record { counted = s.counted; in_time = s.in_time; below = s.below }
 
 state-after : (st : LineStart) (line : Line) (o : Occ) → IsStart st → IsLine st o line → IsStart (after st line (Occurs o))
 state-after st line o s l =
     let c = s.counted in
-    let z = l.size in
-    record { counted = omega (arith, c, z); below = λ e. let is = l.first e in omega (arith, is) }
+    let fits = stamp-fits st line o s l in
+    let least = above-least st.last o.stamp fits.0 in
+    let most = fits.1 in
+    record { counted = omega (arith, c, least); in_time = omega (arith, most); below = λ e. let is = (l.first e).0 in omega (arith, is) }
 
 pub state-next : (st : LineStart) (line : Line) (j : Judgement) → judged st line ≡ j → IsStart st → IsStart (after st line j)
 state-next st line (Bad c) e s = state-passed st line s
 state-next st line Skipped e s = state-passed st line s
-state-next st line Version e s = let c = s.counted in record { counted = omega (arith, c); below = λ q. cc q }
+state-next st line Version e s = record { counted = s.counted; in_time = s.in_time; below = λ q. cc q }
 state-next st line (Occurs o) e s = state-after st line o s (line-occurrence st line o e)

@@ -12,7 +12,7 @@ use Rattle.stream_reader.specs.declared.line.LineStart.{LineStart}
 use Rattle.stream_reader.specs.declared.line.Judgement.{Judgement}
 use Rattle.stream_reader.specs.declared.line.Judgement.TheVariants.{Bad, Occurs, Skipped}
 use Rattle.stream_reader.specs.declared.common_line.CommonLine.{CommonLine}
-use Rattle.stream_reader.specs.Judged.{fields_judged, fields_of, is_above, is_skipped, judged, occurrence_judged, text_judged, without_return}
+use Rattle.stream_reader.specs.Judged.{fields_judged, fields_of, is_next_stamp, is_skipped, judged, occurrence_judged, text_judged, without_return}
 use Rattle.stream_reader.specs.Fields.{occurrence_on}
 use Rattle.stream_reader.specs.CommonLines.{BeginsSkipped, BeginsWith, HoldsLine}
 use Rattle.stream_reader.specs.Inside.{FindsNewline}
@@ -39,15 +39,11 @@ and-false : (x : Bool) → (x && false) ≡ false
 and-false true = refl
 and-false false = refl
 
--- an occurrence whose stamp is above the last one is not refused for its stamp
-is-occurrence : (start : LineStart) (o : Occ) → (start.stamped ≡ true → is_above start.last o.stamp ≡ true) → occurrence_judged start o ≡ Occurs o
-is-occurrence start o above = go start.stamped refl
-  where
-    go : (x : Bool) → start.stamped ≡ x → (if x then if is_above start.last o.stamp then Occurs o else Bad cause.Stamp else Occurs o) ≡ Occurs o
-    go true e = rw (above e) refl
-    go false e = refl
+-- an occurrence that can have its stamp is not refused for it
+is-occurrence : (start : LineStart) (o : Occ) → is_next_stamp start o.stamp ≡ true → occurrence_judged start o ≡ Occurs o
+is-occurrence start o next = rw next refl
 
-text-is : (start : LineStart) (t : List ℕ) (o : Occ) → IsLine t → occurrence_on start.stamped start.given t ≡ Some o → (start.stamped ≡ true → is_above start.last o.stamp ≡ true) → text_judged start t ≡ Occurs o
+text-is : (start : LineStart) (t : List ℕ) (o : Occ) → IsLine t → occurrence_on start.stamped start.given t ≡ Some o → is_next_stamp start o.stamp ≡ true → text_judged start t ≡ Occurs o
 unfolding text_judged
 text-is start t o l e above =
     let fields : fields_judged start (fields_of t) ≡ Occurs o = judged-some start t o (sym e) ∙ is-occurrence start o above in
@@ -58,7 +54,7 @@ line-is : (start : LineStart) (t : List ℕ) (j : Judgement) → length t ≤ 12
 unfolding judged
 line-is start t j short small e = rw (le-ltb 128 (length t) short, le-ltb 67108864 (start.passed + length t) small, e) refl
 
-pub holds-line : (v : ReaderView) (r : CommonLine) → BeginsWith v.start v.held r → (v.start.stamped ≡ true → is_above v.start.last r.occ.stamp ≡ true) → v.start.passed + r.size ≤ 67108864 → HoldsLine v r.size (Occurs r.occ)
+pub holds-line : (v : ReaderView) (r : CommonLine) → BeginsWith v.start v.held r → is_next_stamp v.start r.occ.stamp ≡ true → v.start.passed + r.size ≤ 67108864 → HoldsLine v r.size (Occurs r.occ)
 holds-line v r b above small =
     let t = take r.size v.held in
     let within : r.size < length v.held = b.within in

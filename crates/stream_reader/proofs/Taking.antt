@@ -22,7 +22,7 @@ flag-is true = refl
 flag-is false = refl
 
 -- a line that is not bad does not reach past the largest stream
-judged-within : (start : LineStart) (line : Line) → is_bad (judged start line) ≡ false → start.passed + length line.bytes ≤ 67108864
+pub judged-within : (start : LineStart) (line : Line) → is_bad (judged start line) ≡ false → start.passed + length line.bytes ≤ 67108864
 unfolding judged
 judged-within start line h = go (nat_lt 128 (length line.bytes)) (nat_lt 67108864 (start.passed + length line.bytes)) refl h
   where
@@ -36,7 +36,7 @@ flag-small true = omega arith
 flag-small false = omega arith
 
 -- what is kept after a line that is not bad
-after-kept : (start : LineStart) (line : Line) (j : Judgement) → judged start line ≡ j → is_bad j ≡ false → 0 < length line.bytes + flag_bit line.ended → IsKept start → IsKept (after start line j)
+pub after-kept : (start : LineStart) (line : Line) (j : Judgement) → judged start line ≡ j → is_bad j ≡ false → 0 < length line.bytes + flag_bit line.ended → IsKept start → IsKept (after start line j)
 after-kept start line j e h some k =
     let within : start.passed + length line.bytes ≤ 67108864 = judged-within start line (ap is_bad e ∙ h) in
     let flag = flag-small line.ended in
@@ -124,7 +124,7 @@ line-taken {from = from} {to = to} {bytes = bytes} {start = start} {over = over}
             after = new_is ∙ ap (line_taken v size ended) is_so;
             counts = rw later_is (after-counts start line j start.number (sym is_so) good reader.kept.starts);
             nearer = whatever (answer_of start.number j) (subst (λ (w : ReaderView). left_of w < left_of v) (sym new_is) (taken-nearer v size ended j good reader.kept.passed some within));
-            within = record { few = omega (arith, kept.starts.counted, kept.passed); room = omega (arith, rest_long, reader.within) };
+            within = record { few = omega (arith, kept.starts.counted, kept.starts.in_time); room = omega (arith, rest_long, reader.within) };
           },
           record {
             room = reader.room;

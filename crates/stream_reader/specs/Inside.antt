@@ -21,7 +21,7 @@ use Rattle.stream_reader.specs.Reader.{Gave, IsWithinLimits, ReaderView, Takes, 
 pub record IsKept (start : LineStart) : Type 0 where
   pub starts : IsStart start
   pub passed : start.passed ≤ LARGEST_STREAM + 1
-  pub numbered : start.number ≤ start.passed + 1
+  pub numbered : start.number ≤ start.passed + 2
 
 -- The bytes held lie in the array and end after the place of a line.
 pub record IsReader (from to : ℕ) (bytes : List ℕ) (start : LineStart) : Type 0 where

@@ -1,6 +1,6 @@
 -- What one line of a stream says: this project's own stream format, docs/FORMATS.md.
 use Rattle.std.specs.Prelude.{◌-◌, ◌==◌, ◌+◌, ◌&&◌, ℕ, Bool, true, false, List, [], ◌∷◌, length, slice_get, unwrap_or, Option, Some, None}
-use Rattle.std.specs.Prelude.{if◌then◌else◌, nat_lt, codes, bytes_eq}
+use Rattle.std.specs.Prelude.{if◌then◌else◌, nat_le, nat_lt, codes, bytes_eq}
 use Rattle.std.specs.List.{slice_split}
 use Rattle.std.specs.Option.{option_map_or}
 use Rattle.papi_base.specs.Numerals.{decimal_in, flag_bit, hex_in}
@@ -70,9 +70,13 @@ fields_of text = slice_split (λ b. b == 32) text
 abbrev pub has_fields : Bool → List (List ℕ) → Bool
 has_fields stamped fields = length fields == (6 + flag_bit stamped)
 
--- the fields write an occurrence; in version 2 its stamp must also be above the last one
+-- a stamp of version 2 is above the last one; version 1 numbers its occurrences as long as there are stamps
+abbrev pub is_next_stamp : LineStart → ℕ → Bool
+is_next_stamp start stamp = if start.stamped then is_above start.last stamp else nat_le stamp LAST_STAMP
+
+-- the fields write an occurrence, and it can have its stamp
 abbrev pub occurrence_judged : LineStart → Occ → Judgement
-occurrence_judged start o = if start.stamped then if is_above start.last o.stamp then Occurs o else Bad cause.Stamp else Occurs o
+occurrence_judged start o = if is_next_stamp start o.stamp then Occurs o else Bad cause.Stamp
 
 -- a line with too few or too many fields is bad for that alone; else the fields must write an occurrence
 unfoldable pub fields_judged : LineStart → List (List ℕ) → Judgement

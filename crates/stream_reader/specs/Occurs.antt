@@ -1,7 +1,8 @@
 -- The occurrences of a tape, and how it ends: this project's own stream format, docs/FORMATS.md.
-use Rattle.std.specs.Prelude.{◌≡◌, ◌≤◌, ◌<◌, ◌*◌, IfSome, ◌+◌, ℕ, Bool, true, false, List, [], ◌∷◌, length, Some, None}
+use Rattle.std.specs.Prelude.{◌≡◌, ◌≤◌, ◌<◌, IfSome, ◌+◌, ℕ, Bool, true, false, List, [], ◌∷◌, length, Option, Some, None}
 use Rattle.papi_base.specs.Numerals.{flag_bit}
 use Rattle.papi_base.specs.Streams.{Mark, Dry, Bad, Fault, Coming}
+use Rattle.papi_base.specs.declared.limits.TheConstants.{LAST_STAMP}
 use Rattle.papi_base.specs.declared.outside.Ending.{Ending}
 use Rattle.papi_base.specs.declared.outside.Ending.TheVariants as ending
 use Rattle.stream_reader.specs.declared.line.LineStart.{LineStart}
@@ -59,7 +60,13 @@ occurs_of e bytes = occurs_on e first_start bytes
 
 -- ---- what every stream keeps
 
--- what is so where a line begins: occurrences take 13 bytes each, and those of version 1 are numbered
+-- the least stamp that an occurrence can have after the last one
+abbrev pub least_stamp : Option ℕ → ℕ
+least_stamp None = 0
+least_stamp (Some last) = last + 1
+
+-- what is so where a line begins: stamps rise, so that there are no more occurrences than stamps, and those of version 1 are numbered
 pub record IsStart (start : LineStart) : Type 0 where
-  pub counted : 13 * start.given ≤ start.passed
+  pub counted : start.given ≤ least_stamp start.last
+  pub in_time : least_stamp start.last ≤ LAST_STAMP + 1
   pub below : start.stamped ≡ false → IfSome start.last (λ l. l < start.given)

@@ -4,6 +4,7 @@
 mod byte_tables;
 mod common_line;
 mod digit_vector;
+mod feeding;
 mod field;
 mod limits;
 mod line;
@@ -13,6 +14,7 @@ mod occurrence;
 mod piece;
 mod reader;
 
+pub use feeding::Fed;
 pub use limits::{LARGEST_STREAM, LONGEST_LINE, READER_BYTES};
 pub use line::{Judgement, LineStart};
 pub use next::Next;

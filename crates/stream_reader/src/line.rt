@@ -1,14 +1,14 @@
 //! Lines, and what each of them is.
 ghost use Rattle.std.specs.Prelude.{◌≡◌, ◌<◌, ◌≤◌, ◌+◌, ◌^◌, true, length, if◌then◌else◌};
 ghost use Rattle.stream_reader.specs.CommonLines.{BeginsSkipped};
-ghost use Rattle.stream_reader.specs.Judged.{fields_judged, fields_of, has_fields, is_above, judged, occurrence_judged, text_judged, without_return};
+ghost use Rattle.stream_reader.specs.Judged.{fields_judged, fields_of, has_fields, is_above, is_next_stamp, judged, occurrence_judged, text_judged, without_return};
 ghost use Rattle.stream_reader.specs.Lines.{Line};
 ghost use Rattle.stream_reader.specs.Occurs.{after, is_bad};
 ghost use Rattle.papi_base.specs.declared.occurrence.LineCause.TheVariants as cause;
 
 use crate::limits::{LARGEST_STREAM, LONGEST_LINE, READER_BYTES};
 use crate::occurrence::occurrence;
-use papi_base::{LineCause, Occ};
+use papi_base::{LAST_STAMP, LineCause, Occ};
 
 /// What is known where a line of a stream begins.
 #[derive(Clone, Copy)]
@@ -93,14 +93,26 @@ pub(crate) fn is_within(start: &LineStart, size: usize) -> bool
     size <= LONGEST_LINE && start.passed + size as u64 <= LARGEST_STREAM
 }
 
-/// Whether a stamp is above the last one.
+// Whether a stamp is above the last one.
 #[inline(always)]
-pub(crate) fn is_above(last: Option<u64>, stamp: u64) -> bool
+fn is_above(last: Option<u64>, stamp: u64) -> bool
     ensures { result ≡ is_above last stamp }
 {
     match last {
         None => true,
         Some(last) => last < stamp,
+    }
+}
+
+/// Whether an occurrence can have this stamp.
+#[inline(always)]
+pub(crate) fn is_next_stamp(start: &LineStart, stamp: u64) -> bool
+    ensures { result ≡ is_next_stamp start.now stamp }
+{
+    if start.stamped {
+        is_above(start.last, stamp)
+    } else {
+        stamp <= u64::from(LAST_STAMP)
     }
 }
 
@@ -110,9 +122,7 @@ fn judge_fields(start: &LineStart, text: &[u8]) -> Judgement
     ensures { result ≡ fields_judged start.now (fields_of text.now) }
 {
     match occurrence(start, text) {
-        Some(o) if start.stamped && !is_above(start.last, o.stamp) => Judgement::Bad(
-            LineCause::Stamp,
-        ),
+        Some(o) if !is_next_stamp(start, o.stamp) => Judgement::Bad(LineCause::Stamp),
         Some(o) => Judgement::Occurs(o),
         None => Judgement::Bad(cause_of(start, text)),
     }

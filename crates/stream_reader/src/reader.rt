@@ -8,7 +8,7 @@ ghost use Rattle.stream_reader.specs.Inside.{answer_of};
 
 use crate::common_line::{CommonLine, common_line};
 use crate::limits::{LARGEST_STREAM, LONGEST_LINE, READER_BYTES};
-use crate::line::{Judgement, LineStart, begins_skipped, is_above, is_within};
+use crate::line::{Judgement, LineStart, begins_skipped, is_next_stamp, is_within};
 use crate::newline::line_len;
 use crate::next::Next;
 use crate::piece::{fill, move_rest};
@@ -20,12 +20,12 @@ use std::marker::Model;
 /// It reads only if it holds no whole line.
 #[derive(Drop)]
 pub struct StreamReader<S: Source> {
-    source: Option<S>,
-    bytes: [u8; READER_BYTES],
-    from: usize,
-    to: usize,
-    start: LineStart,
-    over: bool,
+    pub(crate) source: Option<S>,
+    pub(crate) bytes: [u8; READER_BYTES],
+    pub(crate) from: usize,
+    pub(crate) to: usize,
+    pub(crate) start: LineStart,
+    pub(crate) over: bool,
     asked: bool,
 }
 
@@ -164,7 +164,7 @@ impl<S: Source> StreamReader<S> {
         ensures { IfSome result (λ line. HoldsLine self.now line.size (Occurs line.occ)) }
     {
         let line = common_line(&self.start, &self.bytes[self.from..self.to])?;
-        if self.start.stamped && !is_above(self.start.last, line.occ.stamp) {
+        if !is_next_stamp(&self.start, line.occ.stamp) {
             return None;
         }
         let passed = self.start.passed + line.size as u64;
