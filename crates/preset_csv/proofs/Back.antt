@@ -8,7 +8,7 @@ use Rattle.table_rows.specs.Tables.{NoTwo}
 use Rattle.table_rows.specs.Texts.{Text}
 use Rattle.table_rows.proofs.RowsBack.{rows-back}
 use Rattle.table_rows.proofs.Texts.{all-map}
-use Rattle.preset_table.specs.Table.{preset_rows, row_of}
+use Rattle.preset_csv.specs.Symbols.{preset_rows, row_of}
 use Rattle.preset_csv.specs.Defs.{DefView, IsDef}
 use Rattle.preset_csv.specs.Entries.{InfixJudging, judged, judged_by, uncomputed}
 use Rattle.preset_csv.specs.Lines.{Derivation, Line, cpu, event, gives, Word, line_of, lines_of, preset}
@@ -23,6 +23,7 @@ use Rattle.preset_csv.proofs.Groups.{has_cpu-more, names-more}
 use Rattle.preset_csv.proofs.RowBack.{cpu-line, def-good, def-judged, def-line, row_fields, def_row, good-plain, rest-good, rest-judged, rest-line, rest_fields, rest_row}
 use Rattle.preset_csv.proofs.SymbolRows.{all-test, same-text, symbols-apart, turned}
 use Rattle.preset_csv.proofs.WrittenParts.{length-symbols}
+use Rattle.preset_csv.specs.declared.symbols.TheConstants.{PRESETS}
 
 -- the rows of some symbols and their entries, as they read back
 unfoldable pub rows_back : List Text → List Entry → List Derivation
@@ -174,12 +175,12 @@ pub fault-of-written : (t : TableView) → IsGood t.cpu → AllByRecursion IsEnt
 fault-of-written t g h = ap (first_fault (line_cause judged t.cpu) []) (written-lines t g h) ∙ fault-back t.cpu (rows_back symbols t.rows) (table-taken judged (written-back uncomputed) t.rows h)
 
 -- a table's rows, and EVENT rows below them, give its entries
-pub presets-back : (judge : Judging) → GivesBack judge → (name : Text) (rows : List Entry) (es : List Derivation) → length rows ≡ 26 → AllByRecursion IsEntry rows
+pub presets-back : (judge : Judging) → GivesBack judge → (name : Text) (rows : List Entry) (es : List Derivation) → length rows ≡ PRESETS → AllByRecursion IsEntry rows
     → presets judge name (cpu name ∷ both (rows_back symbols rows) es) ≡ rows
 unfolding presets read_from
 presets-back judge b name rows es n h =
     ap (λ (rs : List Derivation). map (entry_of judge rs) symbols) (all-read judge name (cpu name ∷ []) (rows_back symbols rows) es (first-stands name) (table-taken judge b rows h))
     ∙ entries-back judge b symbols rows symbols-apart (n ∙ sym length-symbols) h
 
-pub presets-of-written : (t : TableView) → IsGood t.cpu → length t.rows ≡ 26 → AllByRecursion IsEntry t.rows → presets judged t.cpu (lines_of (table_text t)) ≡ t.rows
+pub presets-of-written : (t : TableView) → IsGood t.cpu → length t.rows ≡ PRESETS → AllByRecursion IsEntry t.rows → presets judged t.cpu (lines_of (table_text t)) ≡ t.rows
 presets-of-written t g n h = ap (presets judged t.cpu) (written-lines t g h) ∙ presets-back judged (written-back uncomputed) t.cpu t.rows [] n h

@@ -12,7 +12,7 @@ use Rattle.papi_base.specs.Numerals.{is_digit}
 use Rattle.postfix_rules.specs.Faults.{FormulaView, IsFormula}
 use Rattle.postfix_rules.specs.Tokens.{formula_text, is_formula_byte}
 use Rattle.postfix_rules.proofs.Written.{written_bytes}
-use Rattle.preset_table.specs.Table.{preset_rows}
+use Rattle.preset_csv.specs.Symbols.{preset_rows}
 use Rattle.preset_csv.specs.Defs.{IsNativeText}
 use Rattle.preset_csv.specs.Entries.{has_rate}
 use Rattle.preset_csv.specs.Kinds.{kind_text}

@@ -1,3 +1,4 @@
+pub mod Searching
 pub mod FoundNatives
 pub mod Groups
 pub mod NativesKept

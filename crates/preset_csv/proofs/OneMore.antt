@@ -7,7 +7,7 @@ use Rattle.std.proofs.lemmas.List.Folds.{list_any-append}
 use Rattle.std.proofs.lemmas.List.Sums.{fold-append}
 use Rattle.std.proofs.lemmas.Bool.{or_right}
 use Rattle.table_rows.specs.Texts.{Text}
-use Rattle.preset_table.specs.Table.{row_of}
+use Rattle.preset_csv.specs.Symbols.{row_of}
 use Rattle.preset_csv.specs.Lines.{Derivation, Line, cpu, gives, other, preset}
 use Rattle.preset_csv.specs.Presets.{Judging, entry_of, entry_or, group, has_cpu, holds, line_cause, preset_read, presets, presets_read, read_from, rows_if}
 use Rattle.preset_csv.specs.Steps.{cause_more, entries_more, entries_with, group_at, group_more, is_closed, placed}

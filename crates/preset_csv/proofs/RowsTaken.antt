@@ -6,7 +6,7 @@ use Rattle.table_rows.specs.Texts.{Text, text_at}
 use Rattle.table_rows.specs.declared.fault.RowRefusal.{RowRefusal}
 use Rattle.table_rows.specs.declared.fault.RowRefusal.TheVariants as refusal
 use Rattle.table_rows.proofs.TablesRead.{takes-as}
-use Rattle.preset_table.specs.Table.{preset_rows, row_of}
+use Rattle.preset_csv.specs.Symbols.{preset_rows, row_of}
 use Rattle.preset_csv.specs.Lines.{Line, derivation_of}
 use Rattle.preset_csv.specs.Presets.{Judging, entry_of, group, has_cpu, line_cause, presets, read_from}
 use Rattle.preset_csv.specs.Reading.{GivePresets}
@@ -18,6 +18,7 @@ use Rattle.preset_csv.specs.declared.fault.PresetCause.{PresetCause}
 use Rattle.preset_csv.specs.declared.group.Group.{Group}
 use Rattle.preset_csv.proofs.NativesKept.{symbol-there}
 use Rattle.preset_csv.proofs.OneMore.{cause-one-more, entries-one-more, group-one-more}
+use Rattle.preset_csv.specs.declared.symbols.TheConstants.{PRESETS}
 
 -- ---- what one row derives
 
@@ -44,7 +45,7 @@ not-taken judge fields false row f h at j = cc h
 -- ---- the rows of a file
 
 pub none-taken : (judge : Judging) (name : Text) (g : Group) (entries : List Entry) → g ≡ record { begun = false; closed = false; holds = false }
-    → entries ≡ replicate 26 entry.Missing → GivePresets judge name [] g entries
+    → entries ≡ replicate PRESETS entry.Missing → GivePresets judge name [] g entries
 unfolding has_cpu is_closed group presets symbols preset_rows read_from entry_of
 none-taken judge name g entries begins are = record { group = begins; entries_are = are }
 

@@ -9,7 +9,7 @@ use Rattle.std.proofs.lemmas.Slice.Eq.{bytes_eq-Decides}
 use Rattle.table_rows.specs.Tables.{NoTwo}
 use Rattle.table_rows.specs.Texts.{Text, is_printable}
 use Rattle.table_rows.proofs.Texts.{all-map}
-use Rattle.preset_table.specs.Table.{PresetRow, preset_rows, row_of}
+use Rattle.preset_csv.specs.Symbols.{PresetRow, preset_rows, row_of}
 use Rattle.preset_csv.specs.Tables.{symbols}
 
 -- what a test says of each

@@ -8,7 +8,7 @@ use Rattle.std.proofs.lemmas.Slice.Eq.{bytes_eq-Decides}
 use Rattle.table_rows.specs.Rows.{IsInner, IsPlainField, IsReadRow, rows_of}
 use Rattle.table_rows.specs.Texts.{Text, text_at, trimmed}
 use Rattle.table_rows.proofs.Texts.{all-append, trimmed-all, trimmed-once}
-use Rattle.preset_table.specs.Table.{preset_rows}
+use Rattle.preset_csv.specs.Symbols.{preset_rows}
 use Rattle.preset_csv.specs.Kinds.{has_formula, type_of}
 use Rattle.preset_csv.specs.Lines.{Derivation, Line, cpu, derivation_of, gives, line_of, natives_from, natives_in, other, preset}
 use Rattle.preset_csv.specs.Presets.{Judging, cuts_off, entry_of, entry_or, group, holds, is_read, preset_read, presets, presets_read, read_from}
@@ -20,6 +20,7 @@ use Rattle.preset_csv.proofs.Judged.{Keeps}
 use Rattle.preset_csv.proofs.NativesKept.{IsNative, cut-natives, cut-trimmed, read-drop}
 use Rattle.table_rows.proofs.PlainFields.{rows-plain}
 use Rattle.preset_csv.proofs.SymbolRows.{same-text}
+use Rattle.preset_csv.specs.declared.symbols.TheConstants.{PRESETS}
 
 -- ---- a row by itself
 
@@ -138,7 +139,7 @@ pub no-presets : (judge : Judging) (name : Text) (lines : List Line) → is_fiel
 unfolding presets
 no-presets judge name lines e h = rw (none-read (preset_read name) name (unread-unheld name) [] lines e tt h) (all-missing judge symbols)
 
-pub length-presets : (judge : Judging) (name : Text) (lines : List Line) → length (presets judge name lines) ≡ 26
+pub length-presets : (judge : Judging) (name : Text) (lines : List Line) → length (presets judge name lines) ≡ PRESETS
 unfolding presets symbols preset_rows
 length-presets judge name lines = refl
 

@@ -6,13 +6,15 @@ use Rattle.std.specs.Option.{option_map_or}
 use Rattle.std.proofs.lemmas.List.{drop_all, drop_more, map-append, take_more}
 use Rattle.table_rows.specs.Rows.{rows_text}
 use Rattle.table_rows.specs.Texts.{Text}
-use Rattle.preset_table.specs.Table.{PresetRow, preset_rows, symbol_at}
+use Rattle.preset_csv.specs.Symbols.{PresetRow, preset_rows, symbol_at}
 use Rattle.preset_csv.specs.Defs.{DefView}
 use Rattle.preset_csv.specs.Steps.{after_commas}
 use Rattle.preset_csv.specs.Tables.{TableView, symbols}
 use Rattle.preset_csv.specs.Written.{def_fields, entry_rows, rows_of_entries, rows_of_entry, table_text}
 use Rattle.preset_csv.specs.declared.entry.Entry.{Entry}
 use Rattle.preset_csv.specs.declared.entry.Entry.TheVariants as entry
+use Rattle.preset_csv.proofs.Searching.{rows_counted}
+use Rattle.preset_csv.specs.declared.symbols.TheConstants.{PRESETS}
 
 -- fields joined by commas
 joined : (x : Text) (rest : List Text) → join_with_byte 44 (x ∷ rest) ≡ x ++ after_commas rest
@@ -76,7 +78,7 @@ def-put w s e d t0 t2 t3 t4 is second third fourth = rw is (put-fields w s (afte
 
 -- ---- the rows of the table
 
-pub length-symbols : length symbols ≡ 26
+pub length-symbols : length symbols ≡ PRESETS
 unfolding symbols preset_rows
 length-symbols = refl
 
@@ -85,13 +87,9 @@ at-place [] i lt = absurd (omega arith)
 at-place (r ∷ rows) zero lt = refl
 at-place (r ∷ rows) (suc i) lt = at-place rows i (omega arith)
 
-length-rows : length preset_rows ≡ 26
-unfolding preset_rows
-length-rows = refl
-
-symbol-at : (i : ℕ) → i < 26 → symbol_at i ≡ get_or symbols i []
+symbol-at : (i : ℕ) → i < PRESETS → symbol_at i ≡ get_or symbols i []
 unfolding symbols symbol_at
-symbol-at i lt = at-place preset_rows i (omega (arith, lt, length-rows))
+symbol-at i lt = at-place preset_rows i (omega (arith, lt, rows_counted))
 
 -- the text of the rows from a place on
 abbrev pub text_from : List Entry → ℕ → Text
@@ -101,15 +99,15 @@ first-entry : (s : Text) (e : Entry) (ss : List Text) (es : List Entry) → rows
 unfolding rows_of_entries
 first-entry s e ss es = rows-append (entry_rows s e) (rows_of_entries ss es)
 
-text-more : (rows : List Entry) (i : ℕ) (d : Entry) → length rows ≡ 26 → i < length rows → text_from rows i ≡ rows_text (entry_rows (symbol_at i) (get_or rows i d)) ++ text_from rows (i + 1)
+text-more : (rows : List Entry) (i : ℕ) (d : Entry) → length rows ≡ PRESETS → i < length rows → text_from rows i ≡ rows_text (entry_rows (symbol_at i) (get_or rows i d)) ++ text_from rows (i + 1)
 text-more rows i d n lt =
     let in_symbols : i < length symbols = omega (arith, n, lt, length-symbols) in
-    let in_table : i < 26 = omega (arith, n, lt) in
+    let in_table : i < PRESETS = omega (arith, n, lt) in
     ap₂ (λ (ss : List Text) (es : List Entry). rows_text (rows_of_entries ss es)) (drop_more symbols i [] in_symbols) (drop_more rows i d lt)
     ∙ first-entry (get_or symbols i []) (get_or rows i d) (drop (i + 1) symbols) (drop (i + 1) rows)
     ∙ ap (λ (s : Text). rows_text (entry_rows s (get_or rows i d)) ++ text_from rows (i + 1)) (sym (symbol-at i in_table))
 
-text-end : (rows : List Entry) (i : ℕ) → length rows ≡ 26 → length rows ≤ i → text_from rows i ≡ []
+text-end : (rows : List Entry) (i : ℕ) → length rows ≡ PRESETS → length rows ≤ i → text_from rows i ≡ []
 unfolding rows_of_entries rows_text
 text-end rows i n le = rw (drop_all i symbols (omega (arith, n, le, length-symbols))) refl
 
@@ -121,12 +119,12 @@ pub begun : (t : TableView) (text : Text) → text ≡ (codes "CPU" ++ (44 ∷ t
 unfolding table_text rows_text
 begun t text is = sym (rw is (append_assoc (codes "CPU" ++ (44 ∷ t.cpu)) (10 ∷ []) (text_from t.rows 0)))
 
-pub one-more : (t : TableView) (i : ℕ) (s : Text) (e : Entry) (old new : Text) → length t.rows ≡ 26 → i < length t.rows → s ≡ symbol_at i
+pub one-more : (t : TableView) (i : ℕ) (s : Text) (e : Entry) (old new : Text) → length t.rows ≡ PRESETS → i < length t.rows → s ≡ symbol_at i
     → e ≡ get_or t.rows i e → new ≡ old ++ rows_text (entry_rows s e) → IsText t i old → IsText t (i + 1) new
 one-more t i s e old new n lt at is are h =
     let here : text_from t.rows i ≡ rows_text (entry_rows s e) ++ text_from t.rows (i + 1) =
     text-more t.rows i e n lt ∙ ap₂ (λ (u : Text) (x : Entry). rows_text (entry_rows u x) ++ text_from t.rows (i + 1)) (sym at) (sym is) in
     h ∙ ap (λ (u : Text). old ++ u) here ∙ sym (append_assoc old (rows_text (entry_rows s e)) (text_from t.rows (i + 1))) ∙ ap (λ (u : Text). u ++ text_from t.rows (i + 1)) (sym are)
 
-pub ended : (t : TableView) (i : ℕ) (text : Text) → length t.rows ≡ 26 → length t.rows ≤ i → IsText t i text → text ≡ table_text t
+pub ended : (t : TableView) (i : ℕ) (text : Text) → length t.rows ≡ PRESETS → length t.rows ≤ i → IsText t i text → text ≡ table_text t
 ended t i text n le h = sym (h ∙ ap (λ (u : Text). text ++ u) (text-end t.rows i n le) ∙ append-nil text)

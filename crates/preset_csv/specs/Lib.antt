@@ -1,3 +1,4 @@
+pub mod Symbols
 pub mod Kinds
 pub mod Defs
 pub mod Tables
@@ -9,4 +10,3 @@ pub mod Steps
 pub mod Reading
 pub use Rattle.table_rows.specs.Rows
 pub use Rattle.table_rows.specs.Texts
-pub use Rattle.preset_table.specs.Table

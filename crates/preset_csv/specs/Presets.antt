@@ -5,7 +5,7 @@ use Rattle.std.specs.List.{list_any}
 use Rattle.std.specs.Str.{bytes_eq}
 use Rattle.table_rows.specs.Tables.{ReadsTable, first_fault}
 use Rattle.table_rows.specs.Texts.{Text}
-use Rattle.preset_table.specs.Table.{row_of}
+use Rattle.preset_csv.specs.Symbols.{row_of}
 use Rattle.preset_csv.specs.Entries.{judged}
 use Rattle.preset_csv.specs.Lines.{Derivation, Line, cpu, event, gives, lines_of, preset}
 use Rattle.preset_csv.specs.Tables.{TableView, symbols}

@@ -8,7 +8,7 @@ use Rattle.table_rows.specs.Rows.{IsReadRow}
 use Rattle.table_rows.specs.Texts.{Text}
 use Rattle.postfix_rules.specs.declared.fault.FormulaFault.{FormulaFault}
 use Rattle.postfix_rules.specs.declared.fault.FormulaFault.TheVariants as formula
-use Rattle.preset_table.specs.Table.{row_of}
+use Rattle.preset_csv.specs.Symbols.{row_of}
 use Rattle.preset_csv.specs.Lines.{Derivation, Line, cpu, event, gives, other, preset}
 use Rattle.preset_csv.specs.Presets.{Judging, cause_if, group, has_cpu}
 use Rattle.preset_csv.specs.declared.entry.Entry.{Entry}

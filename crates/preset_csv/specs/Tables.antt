@@ -3,7 +3,7 @@ use Rattle.std.specs.Prelude.{◌≡◌, ◌&&◌, ◌==◌, Bool, false, not, �
 use Rattle.std.specs.List.{AllByRecursion, list_all}
 use Rattle.std.specs.Str.{bytes_eq}
 use Rattle.table_rows.specs.Texts.{Text, trimmed}
-use Rattle.preset_table.specs.Table.{preset_count, preset_rows}
+use Rattle.preset_csv.specs.Symbols.{preset_count, preset_rows}
 use Rattle.preset_csv.specs.Defs.{IsDef}
 use Rattle.preset_csv.specs.declared.entry.Entry.{Entry}
 use Rattle.preset_csv.specs.declared.entry.Entry.TheVariants as entry

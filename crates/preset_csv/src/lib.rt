@@ -10,7 +10,7 @@ mod kind;
 mod natives;
 mod reading;
 mod row;
-mod symbol;
+mod symbols;
 mod table;
 mod writing;
 
@@ -23,9 +23,8 @@ pub use crate::kind::{DerivedType, Kind, kind_text, type_of};
 pub use crate::natives::row_natives;
 pub use crate::reading::{Taken, all_missing, read_presets, take_line};
 pub use crate::row::{Row, row_of};
-pub use crate::symbol::symbol_row;
+pub use crate::symbols::{
+    PRESETS, preset_code, preset_count, preset_row, preset_symbol, preset_text, symbol_row,
+};
 pub use crate::table::PresetTable;
 pub use crate::writing::{put_def, put_entry, put_field, write_presets};
-pub use preset_table::{
-    PRESETS, preset_code, preset_count, preset_row, preset_symbol, preset_text,
-};

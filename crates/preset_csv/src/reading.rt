@@ -4,7 +4,7 @@ ghost use Rattle.std.specs.Prelude.{◌≡◌, ◌<◌, IfOk, length, replicate,
 ghost use Rattle.csv.specs.Records.{fields_of};
 ghost use Rattle.table_rows.specs.Rows.{IsReadRow};
 ghost use Rattle.table_rows.specs.Tables.{TakesRow};
-ghost use Rattle.preset_table.specs.declared.TheConstants.{PRESETS};
+ghost use Rattle.preset_csv.specs.declared.symbols.TheConstants.{PRESETS};
 ghost use Rattle.preset_csv.specs.Entries.{judged, judged_by};
 ghost use Rattle.preset_csv.specs.Lines.{Line, derivation_of, line_of, row_line};
 ghost use Rattle.preset_csv.specs.Presets.{ReadsPresets, line_cause};
@@ -17,9 +17,8 @@ use crate::fault::{PresetCause, PresetFault};
 use crate::group::Group;
 use crate::judging::{PresetJudge, RowJudge, judge};
 use crate::row::{Row, row_of};
-use crate::symbol::symbol_row;
+use crate::symbols::{PRESETS, symbol_row};
 use crate::table::PresetTable;
-use preset_table::PRESETS;
 use std::alloc::{AllocError, Global};
 use table_rows::{ByteRecord, RowRefusal, TableKind, read_table, text_at};
 

@@ -25,7 +25,7 @@ impl Model for PresetTable {
 
 impl PresetTable {
     ghost use Rattle.std.specs.Prelude.{◌≡◌, ◌<◌, set, string_bytes};
-    ghost use Rattle.preset_table.specs.declared.TheConstants.{PRESETS};
+    ghost use Rattle.preset_csv.specs.declared.symbols.TheConstants.{PRESETS};
     ghost use Rattle.preset_csv.specs.Tables.{IsTable};
     ghost use Rattle.preset_csv.specs.declared.entry.Entry.TheVariants as entry;
 
@@ -60,7 +60,7 @@ impl PresetTable {
         self.rows
     }
 
-    /// Makes the entry of a row below [`PRESETS`](preset_table::PRESETS) a missing one.
+    /// Makes the entry of a row below [`PRESETS`](crate::PRESETS) a missing one.
     pub fn set_missing(&mut self, row: u32)
         requires { row < PRESETS }
         ensures { self.new ≡ record self.old { rows = set self.old.rows row entry.Missing } }

@@ -9,9 +9,9 @@ ghost use Rattle.preset_csv.specs.Written.{ReadsBack, def_fields, formula_fields
 use crate::definition::Def;
 use crate::entry::Entry;
 use crate::kind::kind_text;
+use crate::symbols::preset_symbol;
 use crate::table::PresetTable;
 use postfix_rules::{Formula, write_formula};
-use preset_table::preset_symbol;
 use std::alloc::{AllocError, Global};
 
 /// Appends a field after a comma.

@@ -9,3 +9,4 @@ pub mod WrittenRows
 pub mod EventLines
 pub mod EventsBack
 pub mod ExtendedBack
+pub mod ByGrammar

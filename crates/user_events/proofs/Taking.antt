@@ -35,6 +35,7 @@ use Rattle.user_events.specs.declared.event.TheConstants.{MOST_USER_EVENTS}
 use Rattle.user_events.proofs.Giving.{Gives, event-gives}
 use Rattle.user_events.proofs.InfixKept.{infix-kept}
 use Rattle.user_events.proofs.MoreRows.{events-more, events_more_cause, named-ok, names-are, names-distinct, no-cause}
+use Rattle.preset_csv.specs.declared.symbols.TheConstants.{PRESETS}
 
 -- ---- a row by itself
 
@@ -100,7 +101,7 @@ read-cause : (name : Text) (above : List Line) (line : Line) → line_cause name
 read-cause name above (gives event r) e = begun-cause (has_cpu above) (cause_if (holds name above) (named_entry (names_in (events_read name above)) r)) e
 read-cause name above line e = tt
 
-pub none-taken : (name : Text) (s : Taking) → s.group ≡ record { begun = false; closed = false; holds = false } → s.entries ≡ replicate 26 entry.Missing → s.events ≡ [] → GivePresetsAndEvents name [] s
+pub none-taken : (name : Text) (s : Taking) → s.group ≡ record { begun = false; closed = false; holds = false } → s.entries ≡ replicate PRESETS entry.Missing → s.events ≡ [] → GivePresetsAndEvents name [] s
 unfolding read_from names_in
 none-taken name s g es none = record {
   presets = PresetRows.none-taken event_judged name s.group s.entries g es;

@@ -13,7 +13,8 @@ use Rattle.preset_csv.specs.declared.fault.PresetCause.{PresetCause}
 abbrev pub has_rate : Text → Bool
 has_rate formula = list_any (λ b. b == 35) formula
 
--- the entry of a formula in infix order and of one or more natives: that of the postfix formula of its tree
+-- the entry of a formula in infix order and of one or more natives: that of the tree that it writes by the grammar, or its first fault
+-- (`EntriesAreByGrammar`, which `grammar_law` proves)
 abbrev pub infix_entry : Text → List Text → Result Entry PresetCause
 infix_entry formula natives = if has_rate formula then Ok entry.Uncomputed else formula_entry natives (infix_of (length natives) formula)
 

@@ -7,3 +7,4 @@ pub mod Steps
 pub mod Reading
 pub mod Alike
 pub mod Written
+pub mod Grammar

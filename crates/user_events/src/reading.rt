@@ -4,7 +4,7 @@ ghost use Rattle.std.specs.Prelude.{◌≡◌, length, map};
 ghost use Rattle.csv.specs.Records.{fields_of};
 ghost use Rattle.table_rows.specs.Rows.{IsReadRow};
 ghost use Rattle.table_rows.specs.Tables.{TakesRow};
-ghost use Rattle.preset_table.specs.declared.TheConstants.{PRESETS};
+ghost use Rattle.preset_csv.specs.declared.symbols.TheConstants.{PRESETS};
 ghost use Rattle.preset_csv.specs.Lines.{Line, derivation_of, row_line};
 ghost use Rattle.preset_csv.specs.Steps.{IsPlainRow};
 ghost use Rattle.user_events.specs.Events.{event_view, names_of};

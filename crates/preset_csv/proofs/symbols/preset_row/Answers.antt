@@ -1,7 +1,7 @@
 use Rattle.std.proofs.Common.{rules, sym, arith}
-use Rattle.preset_table.proofs.Searching.{passes_over, stops_at, finds_none, rows_counted}
-use Rattle.preset_table.proofs.preset_row.Goals as goal
-use Rattle.preset_table.specs.Table.{preset_rows, row_of, symbol_at}
+use Rattle.preset_csv.proofs.Searching.{passes_over, stops_at, finds_none, rows_counted}
+use Rattle.preset_csv.proofs.symbols.preset_row.Goals as goal
+use Rattle.preset_csv.specs.Symbols.{preset_rows, row_of, symbol_at}
 
 pub loop-row-init : goal.loop-row-init
 loop-row-init c i below = absurd (omega (arith, below))

@@ -1,27 +1,22 @@
 //! The table of preset events: their symbols, codes and descriptions.
 //!
 //! Symbols and codes are those of PAPI's list of presets, PAPI_presets(3). The choice of rows and the descriptions are this project's own.
-#![tactic(auto)]
 
 ghost use Rattle.std.specs.Prelude.{◌≡◌, ◌<◌, IfSome};
-ghost use Rattle.preset_table.specs.Table as Table;
+ghost use Rattle.preset_csv.specs.Symbols as Symbols;
 
+use table_rows::printable_text;
+
+// tools/make_presets: begin
 /// How many rows the table has.
 pub const PRESETS: u32 = 26;
 
-/// How many rows the table has.
-pub fn preset_count() -> u32
-    ensures count { result ≡ PRESETS }
-{
-    PRESETS
-}
-
 // The symbol and the code in a row, which are those of PAPI's list.
-#[tactic(auto, unfolding(crate::specs::Table::preset_rows, crate::specs::Table::symbol_at, crate::specs::Table::code_at))]
+#[tactic(auto, unfolding(crate::specs::Symbols::preset_rows, crate::specs::Symbols::symbol_at, crate::specs::Symbols::code_at))]
 fn preset_at(row: u32) -> (&'static str, u32)
     requires { row < PRESETS }
-    ensures symbol { result.0.now ≡ Table.symbol_at row }
-    ensures code { result.1 ≡ Table.code_at row }
+    ensures symbol { result.0.now ≡ Symbols.symbol_at row }
+    ensures code { result.1 ≡ Symbols.code_at row }
 {
     match row {
         0 => ("PAPI_L1_DCM", 0x80000000),
@@ -53,27 +48,11 @@ fn preset_at(row: u32) -> (&'static str, u32)
     }
 }
 
-/// The symbol in a row below [`PRESETS`].
-pub fn preset_symbol(row: u32) -> &'static str
-    requires { row < PRESETS }
-    ensures symbol { result.now ≡ Table.symbol_at row }
-{
-    preset_at(row).0
-}
-
-/// The code in a row below [`PRESETS`], which has bit 31 set.
-pub fn preset_code(row: u32) -> u32
-    requires { row < PRESETS }
-    ensures code { result ≡ Table.code_at row }
-{
-    preset_at(row).1
-}
-
 /// The description in a row below [`PRESETS`].
-#[tactic(auto, unfolding(crate::specs::Table::preset_rows, crate::specs::Table::description_at))]
+#[tactic(auto, unfolding(crate::specs::Symbols::preset_rows, crate::specs::Symbols::description_at))]
 pub fn preset_text(row: u32) -> &'static str
     requires { row < PRESETS }
-    ensures description { result.now ≡ Table.description_at row }
+    ensures description { result.now ≡ Symbols.description_at row }
 {
     match row {
         0 => "Level 1 data cache misses",
@@ -104,10 +83,34 @@ pub fn preset_text(row: u32) -> &'static str
         _ => "Reference clock cycles",
     }
 }
+// tools/make_presets: end
+
+/// How many rows the table has.
+pub fn preset_count() -> u32
+    ensures count { result ≡ PRESETS }
+{
+    PRESETS
+}
+
+/// The symbol in a row below [`PRESETS`].
+pub fn preset_symbol(row: u32) -> &'static str
+    requires { row < PRESETS }
+    ensures symbol { result.now ≡ Symbols.symbol_at row }
+{
+    preset_at(row).0
+}
+
+/// The code in a row below [`PRESETS`], which has bit 31 set.
+pub fn preset_code(row: u32) -> u32
+    requires { row < PRESETS }
+    ensures code { result ≡ Symbols.code_at row }
+{
+    preset_at(row).1
+}
 
 /// The row of a symbol, compared exactly, which is below [`PRESETS`], and `None` if the text is not a symbol of the table.
 pub fn preset_row(symbol: &str) -> Option<u32>
-    ensures row { result ≡ Table.row_of symbol.now }
+    ensures row { result ≡ Symbols.row_of symbol.now }
     ensures within { IfSome result (λ row. row < PRESETS) }
 {
     for row in 0..PRESETS {
@@ -116,4 +119,16 @@ pub fn preset_row(symbol: &str) -> Option<u32>
         }
     }
     None
+}
+
+/// The row of a symbol, compared exactly, which is below [`PRESETS`], and `None` if the bytes are not a symbol of
+/// the preset table.
+pub fn symbol_row(symbol: &[u8]) -> Option<u32>
+    ensures row { result ≡ Symbols.row_of symbol.now }
+    ensures within { IfSome result (λ row. row < PRESETS) }
+{
+    match printable_text(symbol) {
+        Some(text) => preset_row(text),
+        None => None,
+    }
 }

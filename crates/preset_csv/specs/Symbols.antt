@@ -2,7 +2,7 @@
 use Rattle.std.specs.Prelude.{ℕ, List, [], ◌∷◌, Option, codes, position, slice_get}
 use Rattle.std.specs.Option.{option_map_or}
 use Rattle.std.specs.Str.{bytes_eq}
-use Rattle.preset_table.specs.declared.TheConstants.{PRESETS}
+use Rattle.preset_csv.specs.declared.symbols.TheConstants.{PRESETS}
 
 -- a preset: its symbol, its code and what it counts
 pub record PresetRow : Type 0 where
@@ -14,6 +14,7 @@ pub record PresetRow : Type 0 where
 abbrev pub preset : List ℕ → ℕ → List ℕ → PresetRow
 preset symbol code description = record { symbol = symbol; code = code; description = description }
 
+-- tools/make_presets: begin
 -- the rows, of which the first has the number 0
 unfoldable pub preset_rows : List PresetRow
 preset_rows =
@@ -44,6 +45,8 @@ preset_rows =
     ∷ preset (codes "PAPI_FP_OPS") 0x80000066 (codes "Floating point operations")
     ∷ preset (codes "PAPI_REF_CYC") 0x8000006b (codes "Reference clock cycles")
     ∷ []
+
+-- tools/make_presets: end
 
 -- how many presets the table has
 abbrev pub preset_count : ℕ

@@ -6,8 +6,8 @@ use Rattle.std.proofs.lemmas.Option.{slice_get-get_or}
 use Rattle.std.specs.Prelude.{nat_lt, position, slice_get}
 use Rattle.std.specs.Option.{option_map_or}
 use Rattle.std.specs.Str.{bytes_eq}
-use Rattle.preset_table.specs.declared.TheConstants.{PRESETS}
-use Rattle.preset_table.specs.Table.{PresetRow, preset, preset_rows}
+use Rattle.preset_csv.specs.declared.symbols.TheConstants.{PRESETS}
+use Rattle.preset_csv.specs.Symbols.{PresetRow, preset, preset_rows}
 
 -- no row before this one has the symbol
 abbrev pub NoneBefore : List ℕ → List PresetRow → ℕ → Type 0

@@ -1,7 +1,7 @@
 use Rattle.papi_base.proofs.Steps.{not_given}
 use Rattle.table_rows.specs.Texts.{is_printable}
 use Rattle.preset_csv.proofs.SymbolRows.{no-symbol}
-use Rattle.preset_csv.proofs.symbol.symbol_row.Goals as goal
+use Rattle.preset_csv.proofs.symbols.symbol_row.Goals as goal
 
 pub returns-in-None : goal.returns-in-None
 returns-in-None c = record { row = no-symbol c.args.symbol.now (not_given (is_printable c.args.symbol.now) c.args.symbol.now c.in-None.ensures); within = tt }
