@@ -1,4 +1,0 @@
-pub mod Umasks
-pub mod Rows
-pub mod Openings
-pub mod Natives

@@ -1,6 +1,0 @@
-use Rattle.std.proofs.Common.{◌≡◌, string_bytes, take}
-use Rattle.chooser_list.specs.Choosing.{names_text}
-use Rattle.chooser_list.proofs.choice.list_text.Given as goal
-
-abbrev pub invariant-loop-event : goal.invariant-loop-event
-invariant-loop-event l = string_bytes l.text ≡ names_text l.catalog (take l.event-index l.events)

@@ -1,4 +1,0 @@
-pub mod Candidates
-pub mod Choosing
-pub mod Open
-pub mod Laws

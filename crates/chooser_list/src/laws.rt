@@ -1,7 +1,0 @@
-//! Laws of the definitions, each the contract of a function that does nothing.
-ghost use Rattle.chooser_list.specs.Laws.{RefusesAsAdd};
-
-/// The refusals by which candidates are judged are those of a thread's call of `add`.
-pub fn refusal_law()
-    ensures { RefusesAsAdd }
-{}

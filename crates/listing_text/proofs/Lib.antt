@@ -1,4 +1,0 @@
-pub mod Containing
-pub mod Listed
-pub mod ListedEvents
-pub mod Tables

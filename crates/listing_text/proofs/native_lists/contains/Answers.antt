@@ -1,9 +1,0 @@
-use Rattle.std.proofs.lemmas.Bool.Decides.{same_from_decides}
-use Rattle.std.proofs.lemmas.Str.Pattern.{contains_text}
-use Rattle.listing_text.specs.NativeLists.{stands_in}
-use Rattle.listing_text.proofs.Containing.{decides}
-use Rattle.listing_text.proofs.native_lists.contains.Goals as goal
-
-pub returns : goal.returns
-returns c =
-    same_from_decides c.contains.result (stands_in c.args.part.now c.args.name.now) (contains_text c.contains.result c.args.part.now c.args.name.now c.contains.ensures.cases) (decides c.args.part.now c.args.name.now)

@@ -1,9 +1,0 @@
-use Rattle.std.proofs.Common.{string_bytes}
-use Rattle.std.specs.Option.{option_copied}
-use Rattle.listing_text.proofs.ListedEvents.{AreListed}
-use Rattle.listing_text.proofs.native_lists.push_component.Given as goal
-
-abbrev pub invariant-loop-event : goal.invariant-loop-event
-invariant-loop-event l =
-    AreListed (string_bytes l.component.pmu) (option_copied l.selection.included) (option_copied l.selection.excluded) l.selection.umasks l.component.events.items l.event-index
-    (string_bytes l.initial.text) (string_bytes l.text) l.listed

@@ -1,7 +1,0 @@
-use Rattle.std.proofs.Common.{◌≡◌, ◌++◌, string_bytes}
-use Rattle.std.specs.List.{flat_map, range_with_len}
-use Rattle.listing_text.specs.PresetEvents.{native_line}
-use Rattle.listing_text.proofs.preset_events.push_natives.Given as goal
-
-abbrev pub invariant-loop-place : goal.invariant-loop-place
-invariant-loop-place l = string_bytes l.text ≡ string_bytes l.fn.text ++ flat_map (native_line l.tables l.natives) (range_with_len 0 l.place-counter)

@@ -1,8 +1,0 @@
-use Rattle.std.proofs.Common.{◌≡◌, ◌++◌, filter, string_bytes}
-use Rattle.std.specs.List.{flat_map, range_with_len}
-use Rattle.listing_text.specs.PresetLists.{heading, is_listed, row_line}
-use Rattle.listing_text.proofs.preset_lists.avail_list.Given as goal
-
-abbrev pub invariant-loop-row : goal.invariant-loop-row
-invariant-loop-row l =
-    string_bytes l.text ≡ heading ++ flat_map (row_line l.catalog) (filter (is_listed l.catalog.book l.available_alone) (range_with_len 0 l.row))

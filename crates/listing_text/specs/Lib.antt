@@ -1,6 +1,0 @@
-pub mod Laws
-pub mod Lines
-pub mod NativeEvents
-pub mod NativeLists
-pub mod PresetEvents
-pub mod PresetLists

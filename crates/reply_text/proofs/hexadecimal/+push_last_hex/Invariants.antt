@@ -1,4 +1,0 @@
-use Rattle.reply_text.proofs.hexadecimal.+push_last_hex.Given as goal
-
-abbrev pub decreases-push_last_hex : goal.decreases-push_last_hex
-decreases-push_last_hex l = l.digits

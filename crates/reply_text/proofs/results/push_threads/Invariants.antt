@@ -1,7 +1,0 @@
-use Rattle.std.proofs.Common.{◌≡◌, ◌++◌, map}
-use Rattle.std.specs.Prelude.{decimal, string_bytes}
-use Rattle.reply_text.specs.Replies.{members_below, spaced}
-use Rattle.reply_text.proofs.results.push_threads.Given as goal
-
-abbrev pub invariant-loop-thread : goal.invariant-loop-thread
-invariant-loop-thread l = string_bytes l.text ≡ string_bytes l.initial.text ++ spaced (map decimal (members_below l.thread l.threads))

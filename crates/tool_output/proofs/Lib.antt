@@ -1,0 +1,9 @@
+pub mod Texts
+pub mod Containing
+pub mod Listed
+pub mod ListedEvents
+pub mod Tables
+pub mod Umasks
+pub mod Rows
+pub mod Openings
+pub mod Natives

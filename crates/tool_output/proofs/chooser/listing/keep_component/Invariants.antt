@@ -1,0 +1,11 @@
+-- those of the rows so far
+use Rattle.std.proofs.Common.{◌≡◌, ◌++◌, filter}
+use Rattle.std.specs.List.{flat_map, range_with_len}
+use Rattle.event_tables.specs.Views.{component_text}
+use Rattle.tool_output.specs.Candidates.{natives_in_row}
+use Rattle.tool_output.specs.Choosing.{takes}
+use Rattle.tool_output.proofs.chooser.listing.keep_component.Given as goal
+
+abbrev pub invariant-loop-row : goal.invariant-loop-row
+invariant-loop-row l =
+    l.events.items ≡ l.initial.events.items ++ filter (takes l.catalog l.set.rest) (flat_map (natives_in_row l.comp (component_text l.component)) (range_with_len 0 l.row))

@@ -1,0 +1,10 @@
+use Rattle.std.proofs.Common.{◌≡◌, ◌==◌, ◌++◌, filter, map, string_bytes}
+use Rattle.std.specs.Int.{bit_at}
+use Rattle.std.specs.List.{flat_map, range_with_len}
+use Rattle.event_tables.specs.Views as Views
+use Rattle.tool_output.specs.NativeEvents.{counter_text}
+use Rattle.tool_output.proofs.listings.native_events.push_counters.Given as goal
+
+abbrev pub invariant-loop-place : goal.invariant-loop-place
+invariant-loop-place l =
+    string_bytes l.text ≡ string_bytes l.fn.text ++ flat_map (counter_text (map Views.counter_text l.counters)) (filter (λ place. bit_at l.allowed place == 1) (range_with_len 0 l.place))

@@ -1,0 +1,8 @@
+use Rattle.std.proofs.Common.{◌≡◌, ◌++◌, map, string_bytes, take}
+use Rattle.std.specs.List.{flat_map}
+use Rattle.event_tables.specs.Views.{mask_text}
+use Rattle.tool_output.specs.NativeLists.{umask_line}
+use Rattle.tool_output.proofs.listings.native_lists.push_umasks.Given as goal
+
+abbrev pub invariant-loop-umask : goal.invariant-loop-umask
+invariant-loop-umask l = string_bytes l.text ≡ string_bytes l.fn.text ++ flat_map umask_line (map mask_text (take l.umask-index l.masks))

@@ -1,0 +1,14 @@
+pub mod Hexadecimal
+pub mod Notes
+pub mod Replies
+pub mod ListingLaws
+pub mod Lines
+pub mod NativeEvents
+pub mod NativeLists
+pub mod PresetEvents
+pub mod PresetLists
+pub mod Candidates
+pub mod Choosing
+pub mod Open
+pub mod ChooserLaws
+pub use Rattle.event_tables.specs.Tables

@@ -1,0 +1,66 @@
+//! The values of events.
+
+ghost use Rattle.std.specs.Prelude.{◌≡◌, ◌+◌, ◌≤◌, ◌++◌, ◌∷◌, IsAscii, OnOk, drop, length, map, string_bytes};
+ghost use Rattle.std.specs.Fmt.{signed_decimal};
+ghost use Rattle.tool_output.specs.Replies.{spaced};
+ghost use Rattle.tool_output.specs.declared.replies.values.TheConstants.{LONGEST_VALUE};
+
+use crate::replies::numbers::push_text;
+use itoa::write_digits;
+use papi_base::{MOST_SET_EVENTS, Values};
+use std::alloc::AllocError;
+
+/// The bytes of the longest value: a space, a sign and 19 digits.
+const LONGEST_VALUE: usize = 21;
+
+/// The bytes of the longest list of values.
+const LONGEST_LIST: usize = LONGEST_VALUE * MOST_SET_EVENTS;
+
+// Writes a value so that it ends at a place, and says where it begins.
+fn write_signed(value: i64, bytes: &mut [u8], end: usize) -> usize
+    requires room { LONGEST_VALUE ≤ end }
+    requires inside { end ≤ length bytes.old }
+    ensures length { length bytes.new ≡ length bytes.old }
+    ensures near { end + 1 ≤ result + LONGEST_VALUE }
+    ensures before { result ≤ end }
+    ensures written { drop result bytes.new ≡ signed_decimal value ++ drop end bytes.old }
+{
+    let start = write_digits(value.unsigned_abs(), bytes, end);
+    if value >= 0 {
+        return start;
+    }
+    bytes[start - 1] = b'-';
+    start - 1
+}
+
+// Writes a space and a value so that they end at a place, and says where they begin.
+fn write_value(value: i64, bytes: &mut [u8], end: usize) -> usize
+    requires room { LONGEST_VALUE ≤ end }
+    requires inside { end ≤ length bytes.old }
+    ensures length { length bytes.new ≡ length bytes.old }
+    ensures near { end ≤ result + LONGEST_VALUE }
+    ensures before { result ≤ end }
+    ensures written { 32 ∷ (signed_decimal value ++ drop end bytes.old) ≡ drop result bytes.new }
+    ensures ascii { IsAscii (drop end bytes.old) → IsAscii (drop result bytes.new) }
+{
+    let start = write_signed(value, bytes, end);
+    bytes[start - 1] = b' ';
+    start - 1
+}
+
+/// Appends the values, each after a space. They are gathered from the last one on, and appended at once.
+pub(crate) fn push_values(text: &mut String, values: &Values) -> Result<(), AllocError>
+    ensures { OnOk result (string_bytes text.new
+        ≡ string_bytes text.old ++ spaced (map signed_decimal values.now)) }
+{
+    let mut bytes = [0; LONGEST_LIST];
+    let mut at = LONGEST_LIST;
+    for written in 0..values.len() {
+        let value = values.at(values.len() - 1 - written);
+        at = write_value(value, &mut bytes, at);
+    }
+    match str::from_utf8(&bytes[at..]) {
+        Ok(gathered) => push_text(text, gathered),
+        Err(_) => unreachable!(),
+    }
+}
