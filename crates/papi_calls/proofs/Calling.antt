@@ -11,7 +11,7 @@ use Rattle.postfix_rules.specs.Fitting.{IsNamed}
 use Rattle.postfix_rules.specs.Presets.{Book}
 use Rattle.postfix_rules.specs.Sameness.{joined_by}
 use Rattle.session_model.specs.World.{mentions_of_call}
-use Rattle.session_model.specs.declared.call.Call.{Call}
+use Rattle.session_model.specs.CallTypes.{Call}
 use Rattle.session_model.specs.declared.reply.Reply.{Reply}
 use Rattle.thread_core.specs.Stands.{AgreesWith}
 use Rattle.thread_session.specs.Follows.{Does}

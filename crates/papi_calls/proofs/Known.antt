@@ -9,8 +9,8 @@ use Rattle.papi_base.specs.declared.native.Native.{Native}
 use Rattle.postfix_rules.specs.Sameness.{among}
 use Rattle.postfix_rules.specs.NativeCodes.{native_named}
 use Rattle.session_model.specs.World.{mentions_of, mentions_of_call}
-use Rattle.session_model.specs.declared.line.Asked.TheVariants.{CodeOf}
-use Rattle.session_model.specs.declared.call.Call.TheVariants as call
+use Rattle.call_type.specs.declared.call.Asked.TheVariants.{CodeOf}
+use Rattle.call_type.specs.declared.call.Call.TheVariants as call
 use Rattle.postfix_rules.proofs.Joined.{is_among}
 use Rattle.std.specs.Prelude.{All, Ok, Result}
 

@@ -3,8 +3,8 @@ use Rattle.std.specs.Prelude.{◌≡◌, List}
 use Rattle.postfix_rules.specs.Sameness.{joined_by}
 use Rattle.session_model.specs.Account.{Account}
 use Rattle.session_model.specs.World.{answer, mentions_of, mentions_of_call}
-use Rattle.session_model.specs.declared.line.Asked.{Asked}
-use Rattle.session_model.specs.declared.call.Call.{Call}
+use Rattle.session_model.specs.CallTypes.{Asked}
+use Rattle.session_model.specs.CallTypes.{Call}
 use Rattle.session_model.specs.declared.reply.Reply.{Reply}
 use Rattle.thread_session.specs.Follows.{Does}
 use Rattle.papi_calls.specs.Codes.{setting_of}

@@ -17,7 +17,7 @@ use Rattle.postfix_rules.specs.Tokens.{formula_text}
 use Rattle.postfix_rules.specs.declared.rule.Rule.{Rule}
 use Rattle.postfix_rules.specs.declared.rule.Rule.TheVariants as rule
 use Rattle.preset_csv.specs.Kinds.{kind_text}
-use Rattle.preset_table.specs.Table.{description_at}
+use Rattle.preset_csv.specs.Symbols.{description_at}
 use Rattle.table_rows.specs.Texts.{Text}
 
 -- the formula of a rule that has one

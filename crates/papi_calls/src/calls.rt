@@ -5,7 +5,7 @@ ghost use Rattle.std.specs.Prelude.{◌≡◌, ◌≢◌};
 ghost use Rattle.papi_base.specs.declared.code.Code.TheVariants as code;
 ghost use Rattle.papi_calls.specs.Calls.{Made};
 ghost use Rattle.session_model.specs.Replies.{plain};
-ghost use Rattle.session_model.specs.declared.call.Call.TheVariants as call;
+ghost use Rattle.call_type.specs.declared.call.Call.TheVariants as call;
 ghost use Rattle.session_model.specs.declared.reply.Body.TheVariants as body;
 ghost use Rattle.thread_core.specs.Following.{reply_of, values_reply};
 

@@ -1,7 +1,7 @@
 //! The codes of events, and the calls that take an event by its code.
 #![tactic(auto, using(crate::proofs::Calling::naming))]
 
-ghost use Rattle.std.specs.Prelude.{◌≡◌, IfOk, OnErr, OnOk, string_bytes};
+ghost use Rattle.std.specs.Prelude.{◌≡◌, IfErr, IfOk, OnErr, OnOk, string_bytes};
 ghost use Rattle.component_table.specs.Catalogs.{looked_up};
 ghost use Rattle.component_table.specs.EventNames.{event_name};
 ghost use Rattle.papi_calls.specs.Calls.{Answered, Made};
@@ -11,10 +11,10 @@ ghost use Rattle.postfix_rules.specs.Sameness.{joined_by};
 ghost use Rattle.event_tables.specs.Tables.{shape_of};
 ghost use Rattle.session_model.specs.Replies.{plain};
 ghost use Rattle.session_model.specs.World.{answer, mentions_of};
-ghost use Rattle.session_model.specs.declared.call.Call.TheVariants as call;
-ghost use Rattle.session_model.specs.declared.line.Asked.TheVariants as asked;
+ghost use Rattle.call_type.specs.declared.call.Call.TheVariants as call;
+ghost use Rattle.call_type.specs.declared.call.Asked.TheVariants as asked;
 ghost use Rattle.session_model.specs.declared.reply.Body.TheVariants as body;
-ghost use Rattle.thread_core.specs.Following.{changed_reply, reply_of};
+ghost use Rattle.thread_core.specs.Following.{IsRefusal, changed_reply, reply_of};
 
 use crate::library::Library;
 use event_sets::Refusal;
@@ -113,6 +113,7 @@ impl Library {
     pub fn add_coded(&mut self, set: u32, code: u32) -> Result<(), Refusal>
         ensures made { Made self.old self.new
             (call.Add set (coded self.old.catalog self.old.mentioned code)) (changed_reply result) }
+        ensures refusal { IfErr result IsRefusal }
     {
         let e = self.coded(code);
         self.session.add(self.catalog.book(), set, &e)

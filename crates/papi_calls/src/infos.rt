@@ -11,8 +11,7 @@ use event_tables::Tables;
 use name_encoder::write_name;
 use papi_base::{Code, EventRef, Native};
 use postfix_rules::{Derived, Rule, write_formula};
-use preset_csv::kind_text;
-use preset_table::{preset_count, preset_text};
+use preset_csv::{kind_text, preset_count, preset_text};
 use std::alloc::{AllocError, Global};
 
 /// A part of what PAPI_get_event_info(3) tells: the name; the description; and of an available preset or user event the derived type,

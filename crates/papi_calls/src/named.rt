@@ -1,7 +1,7 @@
 //! The calls that take an event by its name.
 #![tactic(auto, using(crate::proofs::Calling::naming))]
 
-ghost use Rattle.std.specs.Prelude.{◌≡◌, [], ◌∷◌, IfOk, OnErr, OnOk};
+ghost use Rattle.std.specs.Prelude.{◌≡◌, [], ◌∷◌, IfErr, IfOk, OnErr, OnOk};
 ghost use Rattle.component_table.specs.Catalogs.{looked_up};
 ghost use Rattle.papi_calls.specs.Calls.{Made};
 ghost use Rattle.event_tables.specs.Tables.{shape_of};
@@ -10,9 +10,9 @@ ghost use Rattle.postfix_rules.specs.NativeCodes.{native_code};
 ghost use Rattle.postfix_rules.specs.Sameness.{joined_by};
 ghost use Rattle.session_model.specs.Replies.{plain};
 ghost use Rattle.session_model.specs.World.{mentions_of};
-ghost use Rattle.session_model.specs.declared.call.Call.TheVariants as call;
-ghost use Rattle.session_model.specs.declared.line.Asked.TheVariants.{CodeOf};
-ghost use Rattle.thread_core.specs.Following.{changed_reply};
+ghost use Rattle.call_type.specs.declared.call.Call.TheVariants as call;
+ghost use Rattle.call_type.specs.declared.call.Asked.TheVariants.{CodeOf};
+ghost use Rattle.thread_core.specs.Following.{IsRefusal, changed_reply};
 
 use crate::library::Library;
 use component_table::MOST_MENTIONED;
@@ -63,6 +63,7 @@ impl Library {
         ensures made { IfOk result
             (λ answer. Made self.old self.new (call.Add set (looked_up self.old.catalog name.now))
             (changed_reply answer)) }
+        ensures refusal { IfOk result (λ answer. IfErr answer IsRefusal) }
         ensures unchanged { OnErr result (self.new ≡ self.old) }
     {
         let e = self.name(name)?;

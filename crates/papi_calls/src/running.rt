@@ -1,13 +1,16 @@
-//! Runs.
+//! Runs, and the stream that they consume.
 ghost use Rattle.std.specs.Prelude.{◌≡◌, ◌<◌, ◌≤◌, ◌+◌, [], IfOk, OnErr, drop, length, take, true};
-ghost use Rattle.session_model.specs.declared.call.Call.TheVariants as call;
+ghost use Rattle.call_type.specs.declared.call.Call.TheVariants as call;
 ghost use Rattle.thread_session.specs.Follows.{FollowsAs, IsCut, run_reply};
+ghost use Rattle.thread_session.specs.Feeding.{Feeds};
 ghost use Rattle.thread_session.specs.Room.{asked_for};
+ghost use Rattle.thread_session.specs.declared.filling.TheConstants.{MOST_PASSED};
 
 use crate::library::Library;
 use overflow_dispatch::{Handler, Note};
 use session_model::Ran;
-use std::alloc::AllocError;
+use std::alloc::{AllocError, Global};
+use stream_reader::Fed;
 use thread_session::Filled;
 
 impl Library {
@@ -32,7 +35,7 @@ impl Library {
         ensures follows { FollowsAs self.old.catalog.book self.old.session self.new.session
             (call.Run (asked_for n result)) (run_reply result.ran) []
             (take result.ran.notes out.new) }
-        ensures full { result.full ≡ true → length out.new < result.ran.notes + 32 }
+        ensures full { result.full ≡ true → length out.new < result.ran.notes + MOST_PASSED }
         ensures early { result.full ≡ true → result.ran.consumed < n }
         ensures fits { result.ran.notes ≤ length out.new }
         ensures rest { drop result.ran.notes out.new ≡ drop result.ran.notes out.old }
@@ -41,5 +44,16 @@ impl Library {
         ensures mentioned { self.new.mentioned ≡ self.old.mentioned }
     {
         self.session.run_into(self.catalog.book(), n, out)
+    }
+
+    /// Adds the lines of a text to the stream: what is left of it is followed by what the text says. If memory is refused, nothing is
+    /// changed.
+    pub fn feed(&mut self, alloc: Global, text: &[u8]) -> Result<Fed, AllocError>
+        ensures feeds { IfOk result (Feeds self.old.session self.new.session text.now) }
+        ensures catalog { self.new.catalog ≡ self.old.catalog }
+        ensures mentioned { self.new.mentioned ≡ self.old.mentioned }
+        ensures kept { OnErr result (self.new ≡ self.old) }
+    {
+        self.session.feed(alloc, text)
     }
 }

@@ -1,5 +1,5 @@
 -- What the answers of calls cite, passed on from one place. Declares nothing.
-pub use Rattle.session_model.specs.declared.call.Call.TheVariants.{Accum, Add, Register, Reset}
+pub use Rattle.call_type.specs.declared.call.Call.TheVariants.{Accum, Add, Register, Reset}
 pub use Rattle.thread_core.proofs.Changing.{rest_refuses, slot_view, name_refuses, add_follows, before_refuses, change_follows, code_after}
 pub use Rattle.thread_core.proofs.Changing.{free_is, create_follows, destroy_follows}
 pub use Rattle.thread_core.proofs.Following.{values_refused, goes, time_is, agrees_now, refused_follows, code_follows, Goes, registration, seen}

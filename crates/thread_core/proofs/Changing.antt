@@ -10,7 +10,7 @@ use Rattle.thread_core.proofs.Words.{Eisrun, Ecount, has_event, is_other, is_bad
 use Rattle.thread_core.proofs.Words.{cannot_take, is_full, clash_with, conflict_of, Conflict, ⊤, OnOk, IfErr, OnErr, changed_reply, new_slot, free_map}
 use Rattle.thread_core.proofs.Words.{slot_with_event, slot_with, counting_by, set-same, at-some, face_of}
 use Rattle.session_model.specs.declared.reply.Body.TheVariants as body
-use Rattle.session_model.specs.declared.call.Call.TheVariants as call
+use Rattle.call_type.specs.declared.call.Call.TheVariants as call
 use Rattle.papi_base.specs.declared.code.Code.TheVariants as code
 use Rattle.thread_slots.specs.declared.changing.Change.TheVariants as made
 use Rattle.event_sets.specs.Sets.{set_view}

@@ -6,9 +6,9 @@ use Rattle.thread_core.proofs.Words.{account_refusal, ap₂, Reply, AgreesWith, 
 use Rattle.thread_core.proofs.Words.{sets_after, new_kept, kept_after, reply_over, sight_of_kept, UnitView, Slot, Kept, slots_of, units_of, AreApart, IsGood}
 use Rattle.thread_core.proofs.Words.{length, AllWithin, AreFit, time_after, IsRefusedWith, within_stays, apart_stays, fit_stays}
 use Rattle.papi_base.specs.declared.code.Code.TheVariants as code
-use Rattle.session_model.specs.declared.call.Call.TheVariants as call
+use Rattle.call_type.specs.declared.call.Call.TheVariants as call
 use Rattle.thread_core.proofs.Owners.{faces_same}
-use Rattle.session_laws.proofs.Counted.{places_stay}
+use Rattle.session_model.proofs.Counted.{places_stay}
 use Rattle.thread_core.specs.CoreView.{core_of}
 use Rattle.thread_core.specs.declared.thread.Core.TheInside.{Inside}
 

@@ -1,4 +1,5 @@
 -- What is known of the sets that run stays true.
+use Rattle.papi_base.specs.declared.limits.TheConstants.{MOST_OCCURRENCES}
 use Rattle.thread_core.proofs.Words.{StepOutcome, List, Option, ℕ, Slot, ◌≡◌, replicate, None, sym, ap, slice_get, ◌∙◌, Some, zero, suc, Book, CoreView, Account}
 use Rattle.thread_core.proofs.Words.{CoreStands, faces_of, owner_from, Occ, CountedAll, ◌≤◌, time_after, AgreesWith, counted_all, consumed, refl, slot_faces}
 use Rattle.thread_core.proofs.Words.{◌<◌, length, arith, Kept, face_of, change, [], ◌∷◌, option_map, Call, Reply, is_on_sets, true, sets_after, new_kept}
@@ -61,7 +62,7 @@ known_with : (book : Book) (old new : CoreView) (a b : Account) (known : List (O
 known_with book old new a b known h g same are = record { owner = λ comp found e. ap (owner_from comp 0) (faces_stand book new b g ∙ same ∙ sym (faces_stand book old a h)) ∙ are.owner comp found e }
 
 -- an occurrence changes no face
-pub counted_known : (book : Book) (core : CoreView) (o : Occ) (known : List (Option (Option ℕ))) (c : CountedAll) → o.amount ≤ 255 → time_after core.last ≤ o.stamp → core.taken < 5200000 → AgreesWith book core → c ≡ counted_all core.last o core.units core.slots → AreKnown known core.slots → AreKnown known c.slots
+pub counted_known : (book : Book) (core : CoreView) (o : Occ) (known : List (Option (Option ℕ))) (c : CountedAll) → o.amount ≤ 255 → time_after core.last ≤ o.stamp → core.taken < MOST_OCCURRENCES → AgreesWith book core → c ≡ counted_all core.last o core.units core.slots → AreKnown known core.slots → AreKnown known c.slots
 counted_known book core o known c small rises few h is = known_with book core (after_taking core o c) h.account (consumed h.account o) known h.stands (taken_stands book core h.account o c is small rises few h.stands) refl
 
 -- a set runs on a component that there is

@@ -8,6 +8,7 @@ pub mod Opening
 pub mod Owners
 pub mod ProgrammedNatives
 pub mod RawRegisters
+pub mod RefusalCodes
 pub mod Shows
 pub mod Squares
 pub mod Starting

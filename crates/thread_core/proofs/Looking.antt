@@ -10,11 +10,11 @@ use Rattle.thread_core.specs.Refusing.{IsThere}
 use Rattle.session_model.specs.declared.reply.Body.TheVariants as body
 use Rattle.thread_core.proofs.Following.{Allowed, faces_stand, done_follows, Goes, with_both, refused_follows}
 use Rattle.session_model.specs.Refusals.{rows}
-use Rattle.session_laws.proofs.Sets.{row_fails}
+use Rattle.session_model.proofs.Sets.{row_fails}
 use Rattle.thread_core.proofs.Owners.{length-units, get-units, unit_by-runner, units_same, unit_stays, units_put, runner_is, runs_there, IsQuiet, quiet_other}
 use Rattle.session_model.specs.declared.reply.Body.{Body}
 use Rattle.session_model.specs.Replies.{shown}
-use Rattle.session_laws.proofs.Pushing.{clock_now}
+use Rattle.session_model.proofs.Pushing.{clock_now}
 
 pub slot_at : (book : Book) (core : CoreView) (a : Account) (k : ℕ) → CoreStands book core a
     → at core.slots k ≡ option_map (slot_of book core.shape a.past) (at a.sets k)

@@ -8,7 +8,7 @@ use Rattle.thread_core.proofs.Words.{get-pins_from, slice_get_within, get_at, pl
 use Rattle.thread_core.proofs.Words.{cases_Bool, option_and_then, ap₂, ◌⊎◌, inl, inr, nat_le, UnitView, cond-true, cond-false, account_refusal, reply_over}
 use Rattle.thread_core.proofs.Words.{sight_of_kept, Slot, option_map, at_map, subst₂, AgreesWith, Follows, refusal_of, slot_faces, refused, face_of_slot}
 use Rattle.session_model.specs.declared.reply.Body.TheVariants as body
-use Rattle.session_model.specs.declared.call.Call.TheVariants as call
+use Rattle.call_type.specs.declared.call.Call.TheVariants as call
 use Rattle.thread_core.proofs.Owners.{face_same}
 use Rattle.thread_core.proofs.Starting.{none_any}
 use Rattle.session_model.specs.Refusals.{has_counter, leaves_free, leaves_free_by}

@@ -1,4 +1,5 @@
 -- The numbers and the values that a core shows are those of the account: PAPI_read(3).
+use Rattle.papi_base.specs.declared.limits.TheConstants.{MOST_OCCURRENCES}
 use Rattle.thread_core.proofs.Words.{Option, Occ, ℕ, List, Rises, time_after, ◌≤◌, last_after, take, zero, arith, suc, [], ◌∷◌, Some, Native, ◌≡◌, None, All}
 use Rattle.thread_core.proofs.Words.{refl, all_at, sym, ◌∙◌, Book, CoreView, Slot, numbers_shown, Account, Kept, CoreStands, at, true, option_and_then}
 use Rattle.thread_core.proofs.Words.{slice_get, map, count, set_natives, plain, ap, replicate, length, UnitView, registers_by, running_registers, pins_of}
@@ -12,7 +13,7 @@ use Rattle.thread_core.proofs.Words.{turn_numbers, IsTellable, IsInTurns, positi
 use Rattle.thread_core.proofs.Words.{face_of_slot, is_counting, AreOnUnit, HasUnit, AreWidths, IsFit, widths_at, get_at, unwrap_or, is_none, is_some, Refusal}
 use Rattle.thread_core.proofs.Words.{if◌then◌else◌, Plain, Enoevst, Ecombo, Bool, refusal_of, slot_faces, rested, Widths}
 use Rattle.session_model.specs.declared.reply.Body.TheVariants as body
-use Rattle.session_model.specs.declared.call.Call.TheVariants as call
+use Rattle.call_type.specs.declared.call.Call.TheVariants as call
 use Rattle.thread_core.proofs.Squares.{numbers-length, kept_as, kept_cases}
 use Rattle.thread_core.proofs.Looking.{face_at, fit_of, widths_on, unit_on, unit_of, now_is, under, shows_follows}
 use Rattle.thread_slots.specs.EventPlaces.{places_of}
@@ -23,12 +24,13 @@ use Rattle.postfix_rules.specs.Rules.{rule_value}
 use Rattle.postfix_rules.proofs.Joined.{each_is_among, is_among}
 use Rattle.std.proofs.Math.Nat.{div-le_of_le-mul}
 use Rattle.thread_core.proofs.Weighing.{weighed-le, weight_small, within_at, count_fits}
-use Rattle.session_laws.proofs.CountsInTurns.{counts_per_tick}
+use Rattle.session_model.proofs.CountsInTurns.{counts_per_tick}
 use Rattle.std.proofs.lemmas.List.Elements.{All-map}
 use Rattle.thread_core.proofs.Taking.{past_short, by_turns, length-turned}
 use Rattle.thread_core.proofs.Owners.{length-units, face_same}
 use Rattle.thread_core.proofs.Following.{Goes, refused_follows}
 use Rattle.session_model.specs.declared.reply.Assigned.{Assigned}
+use Rattle.thread_slots.specs.declared.values.TheConstants.{NUMBER_BITS}
 
 -- no clock of the past is above that of now
 clock_rises : (before : Option Occ) (k : ℕ) (past : List Occ) → Rises (time_after before) past
@@ -116,7 +118,7 @@ estimate_le c t act h = elim (cases_eq act 0) [
       omega arith
 ]
 
-pub measured_small : (book : Book) (past : List Occ) (s : Kept) (m : Option ℕ) (n : Native) → length past ≤ 5200000 → total past s < 2 ^ 32 → Rises 0 past → IsWithin (length past) s → measured m book past s n < 2 ^ 48
+pub measured_small : (book : Book) (past : List Occ) (s : Kept) (m : Option ℕ) (n : Native) → length past ≤ MOST_OCCURRENCES → total past s < 2 ^ 32 → Rises 0 past → IsWithin (length past) s → measured m book past s n < 2 ^ NUMBER_BITS
 measured_small book past s None n few short r w = let most = weighed-le (weight_of n s.set.domain) past s (weight_small n s.set.domain) r in omega arith
 measured_small book past s (Some slice) n few short r w =
     let gs = groups (masks_of (set_natives book s.set)) in
@@ -224,7 +226,7 @@ tellable {book} {core} k {slot = slot} time agrees given =
         in_turns = in_turns book core a h agrees.in_time s within;
       };
       same_length = ap length numbers ∙ length-map (set_natives book s.set) (measured s.set.slice book a.past s);
-      small = subst (All (λ t. t < 2 ^ 48)) (sym numbers) (All-map (λ t. t < 2 ^ 48) (measured s.set.slice book a.past s) (set_natives book s.set)
+      small = subst (All (λ t. t < 2 ^ NUMBER_BITS)) (sym numbers) (All-map (λ t. t < 2 ^ NUMBER_BITS) (measured s.set.slice book a.past s) (set_natives book s.set)
           (λ j d below. measured_small book a.past s s.set.slice (get_or (set_natives book s.set) j d) few short h.rises within));
       held = fit.agrees.held;
       placed = slot_placed book core.shape a.past s;

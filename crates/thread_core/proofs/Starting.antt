@@ -13,7 +13,7 @@ use Rattle.thread_core.proofs.Words.{length-drop, pinned-tail, zeroed, set-same,
 use Rattle.std.specs.Option.{ForSome}
 use Rattle.event_sets.proofs.Agreeing.{numbered}
 use Rattle.session_model.specs.Bounds.{IsValued}
-use Rattle.session_model.specs.declared.call.Call.TheVariants as call
+use Rattle.call_type.specs.declared.call.Call.TheVariants as call
 use Rattle.papi_base.specs.declared.code.Code.TheVariants as code
 use Rattle.thread_core.proofs.Squares.{stopped_slot, running_slot, numbers-length, slot_of-stopped, widths_are, kept_as, kept_cases}
 use Rattle.thread_core.proofs.Looking.{Under, row_off, widths_on, unit_of, fit_of, put_follows, now_is, runs_as, units_one, units_rest, units_run, unit_on, under, units_without}

@@ -1,4 +1,6 @@
 -- What holds of a core for which there is an account, and what a core is after an occurrence.
+use Rattle.papi_base.specs.declared.limits.TheConstants.{LAST_STAMP, MOST_OCCURRENCES}
+use Rattle.thread_slots.specs.declared.values.TheConstants.{NUMBER_BITS}
 use Rattle.thread_core.proofs.Words.{Turns, List, Occ, Kept, Native, ℕ, length, ◌≡◌, turned, [], refl, ◌∷◌, arith, ap, suc, ◌≤◌, Rises, All, ◌<◌, ◌^◌, weighed}
 use Rattle.thread_core.proofs.Words.{weight_in_turn, Book, Widths, IsFit, true, IsCountable, Some, slot_of, Option, sym, None, subst, IsTurn, Counting, ⊤}
 use Rattle.thread_core.proofs.Words.{set_natives, numbers_of, RotationView, turns_of, ◌∙◌, CoreView, AgreesWith, owner_from, map, option_map, face_of_slot}
@@ -14,19 +16,19 @@ use Rattle.thread_core.proofs.Looking.{under}
 use Rattle.thread_core.proofs.Following.{faces_stand}
 use Rattle.thread_core.proofs.Occurring.{all_follow}
 use Rattle.std.proofs.Common.{length-append}
-use Rattle.session_laws.proofs.Pushing.{last_after-append}
-use Rattle.session_laws.proofs.Within.{rises-push, within_more}
+use Rattle.session_model.proofs.Pushing.{last_after-append}
+use Rattle.session_model.proofs.Within.{rises-push, within_more}
 
 pub length-turned : (t : Turns) (past : List Occ) (s : Kept) (ns : List Native) (gs : List ℕ) → length gs ≡ length ns → length (turned t past s ns gs) ≡ length ns
 length-turned t past s [] gs e = refl
 length-turned t past s (n ∷ ns) [] e = absurd (omega arith)
 length-turned t past s (n ∷ ns) (g ∷ gs) e = ap suc (length-turned t past s ns gs (omega arith))
 
-turned-room : (t : Turns) (past : List Occ) (s : Kept) (ns : List Native) (gs : List ℕ) → length past ≤ 5200000 → Rises 0 past → All (λ t. t < 2 ^ 32) (turned t past s ns gs)
-turned-room t past s [] gs few r = All-nil (λ t. t < 2 ^ 32)
-turned-room t past s (n ∷ ns) [] few r = All-nil (λ t. t < 2 ^ 32)
+turned-room : (t : Turns) (past : List Occ) (s : Kept) (ns : List Native) (gs : List ℕ) → length past ≤ MOST_OCCURRENCES → Rises 0 past → All (λ t. t < 2 ^ NUMBER_BITS) (turned t past s ns gs)
+turned-room t past s [] gs few r = All-nil (λ t. t < 2 ^ NUMBER_BITS)
+turned-room t past s (n ∷ ns) [] few r = All-nil (λ t. t < 2 ^ NUMBER_BITS)
 turned-room t past s (n ∷ ns) (g ∷ gs) few r =
-    All-cons (λ t. t < 2 ^ 32) (weighed (weight_in_turn t g n s.set.domain) past s) (turned t past s ns gs)
+    All-cons (λ t. t < 2 ^ NUMBER_BITS) (weighed (weight_in_turn t g n s.set.domain) past s) (turned t past s ns gs)
     (let most = weighed-le (weight_in_turn t g n s.set.domain) past s (turn_small t g n s.set.domain) r in omega arith) (turned-room t past s ns gs few r)
 
 -- what holds of natives that take turns, by how their set counts
@@ -39,7 +41,7 @@ by_turns P r q begun time kept counts same holds = subst of same holds where
   of (counting.InTurns x now ks) = P x now ks
 
 -- a set of a core can be counted
-slot_countable : (book : Book) (shape : Widths) (past : List Occ) → length past ≤ 5200000 → Rises 0 past → (s : Kept) → IsCountable (slot_of book shape past s)
+slot_countable : (book : Book) (shape : Widths) (past : List Occ) → length past ≤ MOST_OCCURRENCES → Rises 0 past → (s : Kept) → IsCountable (slot_of book shape past s)
 slot_countable book shape past few rises = kept_cases _
     (λ s. record { turning = λ r begun kept e. cc })
     (λ s. record { turning = λ r begun kept e. cc })
@@ -57,7 +59,7 @@ slot_countable book shape past few rises = kept_cases _
       });
     })
 
-pub past_short : (book : Book) (core : CoreView) (h : AgreesWith book core) → length h.account.past ≤ 5200000
+pub past_short : (book : Book) (core : CoreView) (h : AgreesWith book core) → length h.account.past ≤ MOST_OCCURRENCES
 past_short book core h = let t = h.stands.taken in let l = h.stands.in_limits in omega arith
 
 -- the set that runs on the occurrence's component can be counted
@@ -86,7 +88,7 @@ countable book core comp k h e = record {
 abbrev pub after_taking : CoreView → Occ → CountedAll → CoreView
 after_taking core o c = record core { slots = c.slots; units = c.units; taken = core.taken + 1; last = Some o }
 
-pub taken_stands : (book : Book) (core : CoreView) (a : Account) (o : Occ) (c : CountedAll) → c ≡ counted_all core.last o core.units core.slots → o.amount ≤ 255 → time_after core.last ≤ o.stamp → core.taken < 5200000 → CoreStands book core a → CoreStands book (after_taking core o c) (consumed a o)
+pub taken_stands : (book : Book) (core : CoreView) (a : Account) (o : Occ) (c : CountedAll) → c ≡ counted_all core.last o core.units core.slots → o.amount ≤ 255 → time_after core.last ≤ o.stamp → core.taken < MOST_OCCURRENCES → CoreStands book core a → CoreStands book (after_taking core o c) (consumed a o)
 taken_stands book core a o c is small rises few h =
     let f = all_follow book core.shape a.past o a.sets h.shape h.fit h.within h.apart small in
     let same : c ≡ counted_all (last_after None a.past) o (units_of book core.shape a.past a.sets) (slots_of book core.shape a.past a.sets) =
@@ -116,7 +118,7 @@ taken_notes book core a o c is small h =
     is ∙ ap (λ b. counted_all b o core.units core.slots) h.last ∙ ap₂ (counted_all (last_after None a.past) o) h.units h.slots in
     f.notes a.thread ∙ ap (λ (x : CountedAll). map (note a.thread x.set o) x.passed) (sym same)
 
-pub taken_agrees : (book : Book) (core : CoreView) (o : Occ) (c : CountedAll) → c ≡ counted_all core.last o core.units core.slots → o.amount ≤ 255 → time_after core.last ≤ o.stamp → o.stamp ≤ 4294967294 → core.taken < 5200000 → AgreesWith book core → AgreesWith book (after_taking core o c)
+pub taken_agrees : (book : Book) (core : CoreView) (o : Occ) (c : CountedAll) → c ≡ counted_all core.last o core.units core.slots → o.amount ≤ 255 → time_after core.last ≤ o.stamp → o.stamp ≤ LAST_STAMP → core.taken < MOST_OCCURRENCES → AgreesWith book core → AgreesWith book (after_taking core o c)
 taken_agrees book core o c is small rises stamp few h = record {
   fits = h.fits;
   account = consumed h.account o;

@@ -5,7 +5,7 @@ use Rattle.thread_core.proofs.Words.{last_after, None, runs, weighed_running, to
 use Rattle.thread_core.proofs.Words.{estimate, active, Book, measured, groups, masks_of, set_natives, slice_index, position_or_len, same_native, sum}
 use Rattle.thread_core.proofs.Words.{sum_by-append, drop, take, Rises, along, ◌*◌, weighed, CoreView, Account, CoreStands, ◌<◌, ◌^◌}
 use Rattle.multiplex.specs.Turns.{has_turn}
-use Rattle.session_laws.proofs.Pushing.{weighed_stopped}
+use Rattle.session_model.proofs.Pushing.{weighed_stopped}
 use Rattle.papi_base.proofs.Weights.{weight_of-le}
 use Rattle.std.proofs.lemmas.List.Sums.{sum_by-take-drop}
 

@@ -25,11 +25,11 @@ pub use Rattle.std.proofs.lemmas.Bool.{and_parts as both}
 pub use Rattle.postfix_rules.specs.Fitting.{IsNamed, BookFits, IsHeld}
 pub use Rattle.postfix_rules.specs.Presets.{Book, event_value, lead, rule_of_event, natives_of_event}
 pub use Rattle.postfix_rules.specs.Sameness.{same_native}
-pub use Rattle.session_laws.proofs.Apart.{apart_stays, opening_apart}
-pub use Rattle.session_laws.proofs.FitStays.{fit_stays, opening_fits}
-pub use Rattle.session_laws.proofs.Pushing.{clock_stays, weighed_running, length-along}
-pub use Rattle.session_laws.proofs.Sets.{map_put, at_map, here, free_map}
-pub use Rattle.session_laws.proofs.Within.{within_stays, opening_within}
+pub use Rattle.session_model.proofs.Apart.{apart_stays, opening_apart}
+pub use Rattle.session_model.proofs.FitStays.{fit_stays, opening_fits}
+pub use Rattle.session_model.proofs.Pushing.{clock_stays, weighed_running, length-along}
+pub use Rattle.session_model.proofs.Sets.{map_put, at_map, here, free_map}
+pub use Rattle.session_model.proofs.Within.{within_stays, opening_within}
 pub use Rattle.session_model.specs.Account.{Account, Kept, clock, time_after, end, last_after, opening, zeroed}
 pub use Rattle.session_model.specs.Bounds.{AreApart, AllWithin, IsWithin, Rises}
 pub use Rattle.session_model.specs.Changes.{kept_after, new_kept, sets_after}
@@ -44,7 +44,7 @@ pub use Rattle.session_model.specs.Replies.{done, plain, reply_over, sight_of_ke
 pub use Rattle.session_model.specs.Step.{StepOutcome, account_refusal, performed, step, unless}
 pub use Rattle.session_model.specs.Thresholds.{passed_from, note, notes_at, passes}
 pub use Rattle.session_model.specs.Values.{measured, values_of, sums, accumulated}
-pub use Rattle.session_model.specs.declared.call.Call.{Call}
+pub use Rattle.session_model.specs.CallTypes.{Call}
 pub use Rattle.session_model.specs.declared.reply.Reply.{Reply}
 pub use Rattle.std.proofs.Common.{length-drop, option_map, slice_set, Bool, Result, Ok, Err, if◌then◌else◌, not, suc, ◌+◌, [], ◌∷◌, slice_get, is_some, ◌≤◌}
 pub use Rattle.std.proofs.Common.{map, ◌-◌, replicate, zero, ◌++◌, unwrap_or, drop, ◌/◌, get_or, set, ◌^◌, ◌*◌, take, subst₂, append_assoc, cond, pos, take_all}

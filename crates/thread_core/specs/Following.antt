@@ -1,11 +1,12 @@
 -- What a call on a core replies, and what the core stands for afterwards: PAPI's low-level calls.
-use Rattle.std.specs.Prelude.{ℤ, ◌≡◌, Bool, true, false, List, Result, Ok, Err}
+use Rattle.std.specs.Prelude.{ℤ, ◌≡◌, ◌≢◌, Bool, true, false, List, Result, Ok, Err}
 use Rattle.papi_base.specs.declared.code.Code.{Code}
 use Rattle.papi_base.specs.declared.code.Code.TheVariants as code
 use Rattle.postfix_rules.specs.Presets.{Book}
 use Rattle.event_sets.specs.declared.refusal.Refusal.{Refusal}
-use Rattle.session_model.specs.declared.call.Call.{Call}
-use Rattle.session_model.specs.declared.call.Call.TheVariants as call
+use Rattle.event_sets.specs.declared.refusal.Refusal.TheVariants.{Plain}
+use Rattle.session_model.specs.CallTypes.{Call}
+use Rattle.call_type.specs.declared.call.Call.TheVariants as call
 use Rattle.session_model.specs.declared.reply.Body.{Body}
 use Rattle.session_model.specs.declared.reply.Body.TheVariants as body
 use Rattle.session_model.specs.declared.reply.Reply.{Reply}
@@ -29,6 +30,10 @@ pub record Follows (book : Book) (old new : CoreView) (call : Call) (given : Rep
 abbrev pub reply_of : {X : Type 0} → (X → Body) → Result X Code → Reply
 reply_of f (Ok x) = done (f x)
 reply_of f (Err c) = plain c
+
+-- a refusal is never PAPI_OK
+abbrev pub IsRefusal : Refusal → Type 0
+IsRefusal r = r ≢ Plain code.Ok
 
 -- the reply of a call that may be refused by a conflict
 abbrev pub changed_reply : {X : Type 0} → Result X Refusal → Reply

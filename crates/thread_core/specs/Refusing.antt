@@ -5,7 +5,7 @@ use Rattle.papi_base.specs.declared.code.Code.{Code}
 use Rattle.papi_base.specs.declared.code.Code.TheVariants.{Eisrun, Enoevst}
 use Rattle.event_sets.specs.declared.refusal.Refusal.TheVariants.{Plain}
 use Rattle.postfix_rules.specs.Presets.{Book}
-use Rattle.session_model.specs.declared.call.Call.{Call}
+use Rattle.session_model.specs.CallTypes.{Call}
 use Rattle.session_model.specs.Faces.{Face, is_absent, runs}
 use Rattle.session_model.specs.Refusals.{refusal_of}
 use Rattle.thread_slots.specs.declared.slot.Slot.{Slot}

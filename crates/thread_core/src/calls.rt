@@ -1,14 +1,14 @@
 //! The calls on a thread's event sets, in the order of their manual pages' table: registering, making and filling sets,
 //! counting, and looking.
-ghost use Rattle.std.specs.Prelude.{◌≡◌, ◌≢◌};
+ghost use Rattle.std.specs.Prelude.{◌≡◌, ◌≢◌, IfErr};
 ghost use Rattle.std.specs.Option.{option_copied};
 ghost use Rattle.papi_base.specs.declared.code.Code.TheVariants as code;
 ghost use Rattle.postfix_rules.specs.Fitting.{IsNamed};
 ghost use Rattle.session_model.specs.Faces.{at};
 ghost use Rattle.session_model.specs.Replies.{plain};
-ghost use Rattle.session_model.specs.declared.call.Call.TheVariants as call;
+ghost use Rattle.call_type.specs.declared.call.Call.TheVariants as call;
 ghost use Rattle.session_model.specs.declared.reply.Body.TheVariants as body;
-ghost use Rattle.thread_core.specs.Following.{Follows, changed_reply, reply_of, values_reply};
+ghost use Rattle.thread_core.specs.Following.{Follows, IsRefusal, changed_reply, reply_of, values_reply};
 ghost use Rattle.thread_core.specs.Stands.{AgreesWith};
 ghost use Rattle.thread_slots.specs.Altering.{IsFor, changing_call};
 
@@ -88,7 +88,9 @@ impl Core {
     pub fn add(&mut self, book: &PresetBook, set: u32, e: &Named) -> Result<(), Refusal>
         requires agrees { AgreesWith book.now self.old }
         requires named { IsNamed book.now self.old.shape e.now }
-        ensures { Follows book.now self.old self.new (call.Add set e.now) (changed_reply result) }
+        ensures follows { Follows book.now self.old self.new (call.Add set e.now)
+            (changed_reply result) }
+        ensures refusal { IfErr result IsRefusal }
     {
         if let Some(code) = self.add_refusal(set) {
             return Err(Refusal::Plain(code));

@@ -7,7 +7,7 @@ ghost use Rattle.event_sets.specs.AtRest.{Widths};
 ghost use Rattle.event_sets.specs.declared.refusal.Refusal.TheVariants.{Plain};
 ghost use Rattle.session_model.specs.Faces.{at, component_runs, has, is_absent, is_running, runs, runs_on};
 ghost use Rattle.session_model.specs.Refusals.{first_of, has_events, row};
-ghost use Rattle.session_model.specs.declared.call.Call.TheVariants as call;
+ghost use Rattle.call_type.specs.declared.call.Call.TheVariants as call;
 ghost use Rattle.thread_core.specs.Refusing.{IsRefusedWith, IsThere, first_code, rest_code, slot_faces};
 ghost use Rattle.thread_slots.specs.Altering.{code_before};
 ghost use Rattle.thread_slots.specs.Slots.{face_of_slot};

@@ -8,8 +8,8 @@ use Rattle.postfix_rules.specs.Presets.{Book}
 use Rattle.event_sets.specs.AtRest.{Widths}
 use Rattle.event_sets.specs.declared.refusal.Refusal.{Refusal}
 use Rattle.event_sets.specs.declared.refusal.Refusal.TheVariants.{Plain, Conflict}
-use Rattle.session_model.specs.declared.call.Call.{Call}
-use Rattle.session_model.specs.declared.call.Call.TheVariants as call
+use Rattle.session_model.specs.CallTypes.{Call}
+use Rattle.call_type.specs.declared.call.Call.TheVariants as call
 use Rattle.session_model.specs.declared.reply.Body.{Body}
 use Rattle.session_model.specs.declared.reply.Reply.{Reply}
 use Rattle.session_model.specs.Account.{Account}

@@ -7,7 +7,7 @@ use Rattle.papi_base.specs.Streams.{Coming}
 use Rattle.overflow_dispatch.specs.Notes.{PartAdded}
 use Rattle.overflow_dispatch.specs.declared.handler.Note.{Note}
 use Rattle.postfix_rules.specs.Presets.{Book}
-use Rattle.session_model.specs.declared.call.Call.TheVariants.{Run}
+use Rattle.call_type.specs.declared.call.Call.TheVariants.{Run}
 use Rattle.session_model.specs.Account.{Account}
 use Rattle.session_model.specs.Step.{step}
 use Rattle.session_model.specs.Thresholds.{note, notes_at, notes_over}

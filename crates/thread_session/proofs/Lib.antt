@@ -4,10 +4,10 @@ pub mod Outcomes
 pub mod Endings
 pub mod Cuts
 pub mod Failing
+pub mod Fed
 pub mod Results
 pub mod Delivering
 pub mod Rooms
 pub mod Calling
 pub mod Opened
-pub mod Folding
 pub mod Growing

@@ -7,7 +7,7 @@ use Rattle.papi_base.specs.declared.occurrence.Occ.{Occ}
 use Rattle.papi_base.specs.Streams.{Mark, Dry}
 use Rattle.postfix_rules.specs.Presets.{Book}
 use Rattle.event_sets.specs.AtRest.{Widths}
-use Rattle.session_model.specs.declared.call.Call.TheVariants.{Run}
+use Rattle.call_type.specs.declared.call.Call.TheVariants.{Run}
 use Rattle.session_model.specs.declared.reply.Ended.{Ended}
 use Rattle.session_model.specs.declared.reply.Ended.TheVariants as ended
 use Rattle.session_model.specs.Account.{Account}

@@ -2,6 +2,7 @@
 use Rattle.std.proofs.Common.{◌≡◌, ℕ, ◌+◌, ◌≤◌, List, [], ◌∷◌, ◌++◌, length, map, refl, ap, ap₂, sym, subst, ◌∙◌, arith, append_assoc, append-nil, length-append, Option, Some}
 use Rattle.std.proofs.lemmas.List.{length-map}
 use Rattle.std.specs.Option.{option_map}
+use Rattle.papi_base.specs.declared.limits.TheConstants.{MOST_OCCURRENCES}
 use Rattle.papi_base.specs.declared.occurrence.Occ.{Occ}
 use Rattle.papi_base.specs.Streams.{Coming}
 use Rattle.overflow_dispatch.specs.declared.handler.Note.{Note}
@@ -66,7 +67,7 @@ at_start {book} {old} before is ready in_step = subst (λ (v : SessionView). Are
     came = λ later h. h;
   }
 
-in_step_then : (core core_then : CoreView) (reader later : ReaderView) (o : Occ) → core_then.taken ≡ core.taken + 1 → core_then.last ≡ Some o → later.start.given ≤ 5200000 → AreInStep core reader → GaveOne reader.start o later.start → AreInStep core_then later
+in_step_then : (core core_then : CoreView) (reader later : ReaderView) (o : Occ) → core_then.taken ≡ core.taken + 1 → core_then.last ≡ Some o → later.start.given ≤ MOST_OCCURRENCES → AreInStep core reader → GaveOne reader.start o later.start → AreInStep core_then later
 in_step_then core core_then reader later o t l few s n = record {
   taken = omega (arith, t, s.taken, n.given);
   few = omega (arith, t, s.taken, n.given, few);
@@ -79,7 +80,7 @@ pub one_more : {book : Book} {old : SessionView} {core core_then : CoreView} {re
     → core_then.shape ≡ core.shape → ((b : Book) → AgreesWith b core → AgreesWith b core_then) → core_then.taken ≡ core.taken + 1 → core_then.last ≡ Some o
     → ((b : Book) (a : Account) → CoreStands b core a → CoreStands b core_then (consumed a o))
     → ((b : Book) (a : Account) → CoreStands b core a → notes_at b a.thread a.past o 0 a.sets ≡ map (note a.thread set o) passed)
-    → reader_then.start.given ≤ 5200000 → GaveOne reader.start o reader_then.start
+    → reader_then.start.given ≤ MOST_OCCURRENCES → GaveOne reader.start o reader_then.start
     → is_some reader_then.source ≡ is_some reader.source → faults_of reader ≤ faults_of reader_then
     → NextGives (coming reader) (next.Occ o) (coming reader_then) → Takes reader (next.Occ o) reader_then
     → Running book old core reader before after consumed_so count → Running book old core_then reader_then before after_then (consumed_so + 1) (count + more)

@@ -5,8 +5,8 @@ use Rattle.papi_base.specs.Streams.{Coming}
 use Rattle.overflow_dispatch.specs.Notes.{PartAdded}
 use Rattle.overflow_dispatch.specs.declared.handler.Note.{Note}
 use Rattle.postfix_rules.specs.Presets.{Book}
-use Rattle.session_model.specs.declared.call.Call.{Call}
-use Rattle.session_model.specs.declared.call.Call.TheVariants as call
+use Rattle.session_model.specs.CallTypes.{Call}
+use Rattle.call_type.specs.declared.call.Call.TheVariants as call
 use Rattle.session_model.specs.declared.reply.Body.TheVariants as body
 use Rattle.session_model.specs.declared.reply.Ran.{Ran}
 use Rattle.session_model.specs.declared.reply.Reply.{Reply}

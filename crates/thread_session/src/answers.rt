@@ -1,7 +1,7 @@
 //! What the calls of a core answer, as replies.
 ghost use Rattle.std.specs.Prelude.{◌≡◌, false};
 ghost use Rattle.session_model.specs.Conditions.{IsGood};
-ghost use Rattle.session_model.specs.declared.call.Call.TheVariants as call;
+ghost use Rattle.call_type.specs.declared.call.Call.TheVariants as call;
 ghost use Rattle.session_model.specs.declared.reply.Body.TheVariants as body;
 ghost use Rattle.thread_core.specs.Following.{Follows, changed_reply, reply_of, values_reply};
 ghost use Rattle.thread_core.specs.Stands.{AgreesWith};

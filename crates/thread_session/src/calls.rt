@@ -1,5 +1,5 @@
 //! The calls on a session's sets, each as the core makes it.
-ghost use Rattle.std.specs.Prelude.{◌≡◌, ◌≢◌, ◌++◌, IfOk, OnErr, OnOk, false};
+ghost use Rattle.std.specs.Prelude.{◌≡◌, ◌≢◌, ◌++◌, IfErr, IfOk, OnErr, OnOk, false};
 ghost use Rattle.overflow_dispatch.specs.Notes.{Grown, PartAdded};
 ghost use Rattle.papi_base.specs.declared.code.Code.TheVariants as code;
 ghost use Rattle.papi_base.specs.Streams.{Coming};
@@ -7,10 +7,10 @@ ghost use Rattle.session_model.specs.Account.{Account};
 ghost use Rattle.session_model.specs.Conditions.{IsGood};
 ghost use Rattle.postfix_rules.specs.Fitting.{IsNamed};
 ghost use Rattle.session_model.specs.Step.{step};
-ghost use Rattle.session_model.specs.declared.call.Call.TheVariants as call;
+ghost use Rattle.call_type.specs.declared.call.Call.TheVariants as call;
 ghost use Rattle.session_model.specs.declared.reply.Body.TheVariants as body;
 ghost use Rattle.session_model.specs.Replies.{plain};
-ghost use Rattle.thread_core.specs.Following.{changed_reply, reply_of, values_reply};
+ghost use Rattle.thread_core.specs.Following.{IsRefusal, changed_reply, reply_of, values_reply};
 
 use crate::answers::{make, run_reply};
 use crate::session::Session;
@@ -73,7 +73,9 @@ impl<S: Source> Session<S> {
     pub fn add(&mut self, book: &PresetBook, set: u32, e: &Named) -> Result<(), Refusal>
         requires ready { IsReady book.now self.old }
         requires named { IsNamed book.now self.old.core.shape e.now }
-        ensures { Does book.now self.old self.new (call.Add set e.now) (changed_reply result) }
+        ensures does { Does book.now self.old self.new (call.Add set e.now)
+            (changed_reply result) }
+        ensures refusal { IfErr result IsRefusal }
     {
         self.core.add(book, set, e)
     }

@@ -1,8 +1,10 @@
 //! Runs into a place of fixed room: PAPI_overflow(3), for callers that take notes after the run. No memory is taken.
 ghost use Rattle.std.specs.Prelude.{◌≡◌, ◌<◌, ◌≤◌, ◌+◌, ◌++◌, [], drop, length, map, take, true};
+ghost use Rattle.papi_base.specs.Streams.{Coming};
 ghost use Rattle.session_model.specs.Thresholds.{note};
-ghost use Rattle.session_model.specs.declared.call.Call.TheVariants.{Run};
+ghost use Rattle.call_type.specs.declared.call.Call.TheVariants.{Run};
 ghost use Rattle.session_model.specs.declared.reply.Ended.TheVariants as ended;
+ghost use Rattle.thread_session.specs.declared.filling.TheConstants.{MOST_PASSED};
 
 use crate::session::Session;
 use overflow_dispatch::Note;
@@ -45,7 +47,8 @@ fn place(out: &mut [Note], at: usize, thread: u32, taken: &Taken, o: &Occ)
 impl<S: Source> Session<S> {
     ghost use Rattle.thread_session.specs.Faults.{FaultsKept, FaultsRose, fault_count};
     ghost use Rattle.thread_session.specs.Room.{asked_for};
-    ghost use Rattle.thread_session.specs.Follows.{FollowsAs, run_reply};
+    ghost use Rattle.thread_session.specs.Follows.{FollowsAs, FollowsTo, run_reply};
+    ghost use Rattle.thread_session.specs.Prospects.{CanCome};
     ghost use Rattle.thread_session.specs.Stands.{IsReady};
 
     /// Consumes up to `n` occurrences of the stream, and writes a note of each passing of a threshold into the place. If fewer than
@@ -54,7 +57,10 @@ impl<S: Source> Session<S> {
         requires ready { IsReady book.now self.old }
         ensures follows { FollowsAs book.now self.old self.new (Run (asked_for n result))
             (run_reply result.ran) [] (take result.ran.notes out.new) }
-        ensures full { result.full ≡ true → length out.new < result.ran.notes + 32 }
+        ensures towards { (left : Coming) → CanCome self.new.reader left
+            → FollowsTo book.now self.old self.new (Run (asked_for n result))
+            (run_reply result.ran) [] (take result.ran.notes out.new) left }
+        ensures full { result.full ≡ true → length out.new < result.ran.notes + MOST_PASSED }
         ensures early { result.full ≡ true → result.ran.consumed < n }
         ensures fits { result.ran.notes ≤ length out.new }
         ensures rest { drop result.ran.notes out.new ≡ drop result.ran.notes out.old }

@@ -4,10 +4,10 @@
 mod answers;
 mod calls;
 mod delivery;
+mod feeding;
 mod filling;
 mod running;
 pub mod session;
-mod several;
 
 pub use filling::{Filled, MOST_PASSED};
 pub use session::Session;

@@ -4,7 +4,7 @@ ghost use Rattle.overflow_dispatch.specs.Notes.{Grown, PartAdded};
 ghost use Rattle.papi_base.specs.Streams.{Coming};
 ghost use Rattle.session_model.specs.Account.{Account};
 ghost use Rattle.session_model.specs.Step.{step};
-ghost use Rattle.session_model.specs.declared.call.Call.TheVariants.{Run};
+ghost use Rattle.call_type.specs.declared.call.Call.TheVariants.{Run};
 ghost use Rattle.session_model.specs.declared.reply.Ended.TheVariants as ended;
 
 use crate::delivery::deliver;

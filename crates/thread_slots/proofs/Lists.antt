@@ -6,12 +6,7 @@ use Rattle.std.proofs.lemmas.List.{length-set, get_or-set_same, set-get_or}
 use Rattle.session_model.specs.Faces.{at}
 pub use Rattle.std.proofs.lemmas.Option.{slice_get-map as get-map}
 pub use Rattle.multiplex.proofs.Grouping.{all_at}
-pub use Rattle.papi_base.proofs.Steps.{drop_at}
-
-pub get_at : {X : Type 0} (xs : List X) (i : ℕ) → i < length xs → (x : X) × (slice_get xs i ≡ Some x)
-get_at [] i h = absurd (omega arith)
-get_at (x ∷ xs) zero h = (x, refl)
-get_at (x ∷ xs) (suc i) h = get_at xs i (omega arith)
+pub use Rattle.papi_base.proofs.Steps.{drop_at, get_at}
 
 pub get-map_some : {X Y : Type 0} (f : X → Y) (xs : List X) (i : ℕ) (x : X) → slice_get xs i ≡ Some x → slice_get (map f xs) i ≡ Some (f x)
 get-map_some f xs i x e = slice_get-map f xs i ∙ ap (option_map f) e
@@ -50,12 +45,6 @@ at-some {X = X} places k x e = go (slice_get places k) refl where
 
 pub some-at : {X : Type 0} (places : List (Option X)) (k : ℕ) (x : X) → slice_get places k ≡ Some (Some x) → at places k ≡ Some x
 some-at places k x e = ap (λ y. unwrap_or y None) e
-
--- what the code reads under a number
-pub place_is : {X : Type 0} (places : List (Option X)) (k : ℕ) (place : Option X) (x : X) → k < length places → place ≡ get_or places k place → at places k ≡ Some x → place ≡ Some x
-place_is places k place x below reads e =
-    let is : Some place ≡ Some (Some x) = sym (slice_get_read places (length places) k place refl below reads) ∙ at-some places k x e in
-    cc
 
 -- a list with an item put where it stands
 pub set-same : {X : Type 0} (xs : List X) (k : ℕ) (x : X) → slice_get xs k ≡ Some x → set xs k x ≡ xs

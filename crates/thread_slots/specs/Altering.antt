@@ -8,8 +8,8 @@ use Rattle.postfix_rules.specs.Presets.{Book}
 use Rattle.event_sets.specs.AtRest.{AtRest, Widths, emptied, has_event, is_bad_domain, set_natives, with_threshold, without_event}
 use Rattle.event_sets.specs.Changing.{assign_refusal, multiplex_refusal, threshold_refusal}
 use Rattle.event_sets.specs.Sets.{set_view}
-use Rattle.session_model.specs.declared.call.Call.{Call}
-use Rattle.session_model.specs.declared.call.Call.TheVariants as call
+use Rattle.session_model.specs.CallTypes.{Call}
+use Rattle.call_type.specs.declared.call.Call.TheVariants as call
 use Rattle.postfix_rules.specs.Fitting.{IsNamed}
 use Rattle.session_model.specs.Faces.{Face, is_absent, runs}
 use Rattle.thread_slots.specs.declared.changing.Change.{Change}

@@ -6,10 +6,11 @@ use Rattle.multiplex.specs.Rotations.{RotationView}
 use Rattle.session_model.specs.Faces.{at}
 use Rattle.thread_slots.specs.declared.slot.Counting.TheVariants as counting
 use Rattle.thread_slots.specs.declared.slot.Slot.{Slot}
+use Rattle.thread_slots.specs.declared.values.TheConstants.{NUMBER_BITS}
 
 -- natives that take turns: every count has room for one weight more
 pub record IsTurn (natives : List Native) (r : RotationView) (kept : List ℕ) : Type 0 where
-  pub room : All (λ t. t < 2 ^ 32) kept
+  pub room : All (λ t. t < 2 ^ NUMBER_BITS) kept
   pub same_length : length kept ≡ length natives
   pub grouped : length r.numbers ≡ length natives
 

@@ -15,6 +15,7 @@ use Rattle.thread_slots.specs.declared.pins.Pin.{Pin}
 use Rattle.thread_slots.specs.declared.slot.Counting.{Counting}
 use Rattle.thread_slots.specs.declared.slot.Counting.TheVariants as counting
 use Rattle.thread_slots.specs.declared.slot.Slot.{Slot}
+use Rattle.thread_slots.specs.declared.values.TheConstants.{NUMBER_BITS}
 use Rattle.thread_slots.specs.EventPlaces.{places_of}
 use Rattle.thread_slots.specs.Pinned.{HasUnit}
 
@@ -71,6 +72,6 @@ pub record IsMeasurable (units : List UnitView) (slot : Slot) (time : ℕ) : Typ
 pub record IsTellable (book : Book) (units : List UnitView) (time : ℕ) (slot : Slot) : Type 0 where
   pub measurable : IsMeasurable units slot time
   pub same_length : length (numbers_shown units time slot) ≡ length slot.set.natives
-  pub small : All (λ t. t < 2 ^ 48) (numbers_shown units time slot)
+  pub small : All (λ t. t < 2 ^ NUMBER_BITS) (numbers_shown units time slot)
   pub held : All (IsHeld book) slot.set.rest.events
   pub placed : IsPlaced book slot

@@ -3,6 +3,7 @@ ghost use Rattle.std.specs.Prelude.{◌≡◌, ℕ, ◌^◌, ◌<◌, ◌≤◌,
 ghost use Rattle.std.specs.Option.{option_copied, option_map};
 ghost use Rattle.papi_base.specs.declared.limits.TheConstants.{MOST_SETS};
 ghost use Rattle.thread_slots.specs.declared.slot.Slot.{Slot};
+ghost use Rattle.thread_slots.specs.declared.values.TheConstants.{NUMBER_BITS};
 ghost use Rattle.thread_slots.specs.Countable.{AreCountable, IsCountable};
 ghost use Rattle.multiplex.specs.Rotations.{IsSpanOf};
 ghost use Rattle.thread_slots.specs.Coded.{AreCoded};
@@ -63,7 +64,7 @@ fn count_turn(
     o: &Occ,
 )
     requires same_length { length counts.old ≡ length natives.now }
-    requires room { All (λ t. t < 2 ^ 32) counts.old }
+    requires room { All (λ t. t < 2 ^ NUMBER_BITS) counts.old }
     requires rises { places.first ≤ places.end }
     requires within { places.end ≤ length natives.now }
     ensures { (numbers : List ℕ) (group : ℕ) → length numbers ≡ length natives.now

@@ -20,5 +20,5 @@ mod showing;
 pub mod slot;
 mod starting;
 mod stopping;
-mod values;
+pub mod values;
 mod zeroing;

@@ -16,7 +16,7 @@ const NOWHERE: u8 = MOST_SET_NATIVES as u8;
 
 /// The place of a native event in the list from a place on, or the length of the list if it is not in it from there.
 #[inline(always)]
-#[tactic(auto, using(crate::proofs::Searching::found_here, crate::proofs::Searching::found_later))]
+#[tactic(auto, using(papi_base::proofs::Steps::found_here, papi_base::proofs::Steps::found_later))]
 fn place_from(natives: &Natives, from: u32, n: &Native) -> u32
     requires { from ≤ length natives.now }
     ensures place { result ≡ from + position_or_len (same_native n.now) (drop from natives.now) }

@@ -1,14 +1,19 @@
 //! The values of a set's events (PAPI_read(3)).
 ghost use Rattle.std.specs.Prelude.{◌≡◌, ◌^◌, ◌<◌, ◌≤◌, All, length, map, pos, slice_index, take};
+ghost use Rattle.postfix_rules.specs.declared.derived.TheConstants.{MOST_NATIVES};
 ghost use Rattle.postfix_rules.specs.Fitting.{IsHeld};
 ghost use Rattle.postfix_rules.specs.Presets.{event_value, natives_of_event, rule_of_event};
 ghost use Rattle.postfix_rules.specs.Rules.{rule_value};
+ghost use Rattle.thread_slots.specs.declared.values.TheConstants.{NUMBER_BITS};
 ghost use Rattle.thread_slots.specs.EventPlaces.{places_of};
 ghost use Rattle.thread_slots.specs.Shown.{number_in};
 
 use event_sets::EventSet;
 use papi_base::{Counts, EventRef, Values};
-use postfix_rules::{PresetBook, value_of};
+use postfix_rules::{MOST_NATIVES, PresetBook, value_of};
+
+/// Each number that a set shows is below 2 to this power, so it is the same as a signed number of 64 bits.
+pub const NUMBER_BITS: u32 = 48;
 
 /// The value of an event, and how many native events it has.
 #[derive(Clone, Copy)]
@@ -32,13 +37,13 @@ fn number_at(numbers: &Counts, place: u8) -> u64
 
 /// The numbers at these places.
 #[inline(always)]
-fn own_numbers(numbers: &Counts, places: &[u8]) -> [i64; 8]
-    requires small { All (λ t. t < 2 ^ 48) numbers.now }
-    requires few { length places.now ≤ 8 }
+fn own_numbers(numbers: &Counts, places: &[u8]) -> [i64; MOST_NATIVES as usize]
+    requires small { All (λ t. t < 2 ^ NUMBER_BITS) numbers.now }
+    requires few { length places.now ≤ MOST_NATIVES }
     ensures { take (length places.now) result
         ≡ map (λ p. pos (slice_index numbers.now p)) places.now }
 {
-    let mut counts = [0i64; 8];
+    let mut counts = [0i64; MOST_NATIVES as usize];
     for i in 0..places.len() {
         counts[i] = number_at(numbers, places[i]) as i64;
     }
@@ -48,7 +53,7 @@ fn own_numbers(numbers: &Counts, places: &[u8]) -> [i64; 8]
 /// The value of an event whose native events stand at the first of these places.
 #[inline(always)]
 fn value_of_event(book: &PresetBook, numbers: &Counts, places: &[u8], e: &EventRef) -> EventValue
-    requires small { All (λ t. t < 2 ^ 48) numbers.now }
+    requires small { All (λ t. t < 2 ^ NUMBER_BITS) numbers.now }
     requires held { IsHeld book.now e.now }
     requires there { length (natives_of_event book.now e.now) ≤ length places.now }
     ensures natives { result.natives ≡ length (natives_of_event book.now e.now) }
@@ -89,7 +94,7 @@ pub fn values_of(
     into: &mut Values,
 )
     requires places { places.now ≡ places_of book.now set.now.natives set.now.rest.events }
-    requires small { All (λ t. t < 2 ^ 48) numbers.now }
+    requires small { All (λ t. t < 2 ^ NUMBER_BITS) numbers.now }
     requires held { All (IsHeld book.now) set.now.rest.events }
     ensures { let number = number_in set.now.natives numbers.now
         in into.new ≡ map (event_value book.now number) set.now.rest.events }

@@ -1,8 +1,9 @@
 use Rattle.thread_slots.proofs.Words.{◌≡◌, map, take, pos, length, get_or}
+use Rattle.postfix_rules.specs.declared.derived.TheConstants.{MOST_NATIVES}
 use Rattle.thread_slots.proofs.values.own_numbers.Given as goal
 
 abbrev pub invariant-loop-i : goal.invariant-loop-i
 invariant-loop-i l = record {
-  eight : length l.counts ≡ 8;
+  long : length l.counts ≡ MOST_NATIVES;
   done : take l.i l.counts ≡ map (λ p. pos (get_or l.numbers p 0)) (take l.i l.places);
 }

@@ -1,5 +1,5 @@
 use Rattle.std.proofs.Common.{refl, subst}
-use Rattle.session_model.specs.declared.call.Call.TheVariants as call
+use Rattle.call_type.specs.declared.call.Call.TheVariants as call
 use Rattle.session_model.specs.declared.reply.Body.TheVariants as body
 use Rattle.thread_core.specs.Following.{reply_of}
 use Rattle.thread_session.specs.Follows.{Does}

@@ -1,7 +1,7 @@
 use Rattle.std.proofs.Common.{arith, refl, ap, sym, ◌∙◌, subst, [], drop, take, ◌≡◌, ◌+◌, ◌<◌, length}
 use Rattle.papi_base.specs.Streams.{Bad, Dry, Fault}
 use Rattle.thread_session.specs.SessionView.{SessionView}
-use Rattle.thread_session.proofs.Endings.{run_short, run_whole}
+use Rattle.thread_session.proofs.Endings.{run_short, run_whole, towards_short, towards_whole}
 use Rattle.thread_session.proofs.Rooms.{later_rest, of_all}
 use Rattle.thread_session.proofs.Runs.{at_start, one_more}
 use Rattle.thread_session.proofs.session.Session.run_into.Goals as goal
@@ -58,3 +58,24 @@ returns-in-Bad-clause-follows g c =
 pub returns-in-ReadFault-clause-follows : goal.returns-in-ReadFault-clause-follows
 returns-in-ReadFault-clause-follows g c =
     run_short _ _ _ _ _ _ _ _ _ _ Fault _ (subst (λ m. c.loop-consumed.consumed < m) (of_all c.loop-consumed.full c.args.n c.loop-consumed.consumed c.loop-consumed.invariant.open_yet) c.loop-consumed-test.true) refl c.in-ReadFault.ensures.told c.loop-consumed.invariant.running
+
+-- ---- if it is not told
+
+pub returns-after-loop-consumed-clause-towards : goal.returns-after-loop-consumed-clause-towards
+returns-after-loop-consumed-clause-towards g c left h =
+    towards_whole _ _ _ _ _ _ _ _ _ _ (omega (arith, c.loop-consumed-test.false, c.loop-consumed.invariant.most) ∙ of_all c.loop-consumed.full c.args.n c.loop-consumed.consumed c.loop-consumed.invariant.open_yet) c.loop-consumed.invariant.going c.loop-consumed.invariant.running left h
+
+pub returns-then-out-notes-lt-MOST_PASSED-clause-towards : goal.returns-then-out-notes-lt-MOST_PASSED-clause-towards
+returns-then-out-notes-lt-MOST_PASSED-clause-towards g c left h = towards_whole _ _ _ _ _ _ _ _ _ _ refl c.loop-consumed.invariant.going c.loop-consumed.invariant.running left h
+
+pub returns-in-End-clause-towards : goal.returns-in-End-clause-towards
+returns-in-End-clause-towards g c left h =
+    towards_short _ _ _ _ _ _ _ _ _ _ Dry _ (subst (λ m. c.loop-consumed.consumed < m) (of_all c.loop-consumed.full c.args.n c.loop-consumed.consumed c.loop-consumed.invariant.open_yet) c.loop-consumed-test.true) c.loop-consumed.invariant.going c.in-End.ensures.takes (c.in-End.ensures.over refl) c.loop-consumed.invariant.running left h
+
+pub returns-in-Bad-clause-towards : goal.returns-in-Bad-clause-towards
+returns-in-Bad-clause-towards g c left h =
+    towards_short _ _ _ _ _ _ _ _ _ _ (Bad c.in-Bad.line c.in-Bad.cause) _ (subst (λ m. c.loop-consumed.consumed < m) (of_all c.loop-consumed.full c.args.n c.loop-consumed.consumed c.loop-consumed.invariant.open_yet) c.loop-consumed-test.true) refl c.in-Bad.ensures.takes (c.in-Bad.ensures.over refl) c.loop-consumed.invariant.running left h
+
+pub returns-in-ReadFault-clause-towards : goal.returns-in-ReadFault-clause-towards
+returns-in-ReadFault-clause-towards g c left h =
+    towards_short _ _ _ _ _ _ _ _ _ _ Fault _ (subst (λ m. c.loop-consumed.consumed < m) (of_all c.loop-consumed.full c.args.n c.loop-consumed.consumed c.loop-consumed.invariant.open_yet) c.loop-consumed-test.true) refl c.in-ReadFault.ensures.takes (c.in-ReadFault.ensures.over refl) c.loop-consumed.invariant.running left h
