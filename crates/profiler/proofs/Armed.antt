@@ -1,24 +1,29 @@
 -- The calls that begin to count an event with a threshold.
-use Rattle.std.proofs.Common.{◌≡◌, ℕ, List, [], ◌∷◌, refl, ◌++◌, ap, sym, subst, ◌∙◌, Ok, Err, Result, true, ap₂}
-use Rattle.std.proofs.lemmas.List.Elements.{All-from_recursion, Contains-append_left}
-use Rattle.std.specs.List.{All, AllByRecursion, Contains}
-use Rattle.std.specs.Result.{is_ok}
+use Rattle.std.proofs.Common.{◌≡◌, ◌≢◌, Bool, List, [], ◌∷◌, refl, ◌++◌, ap, sym, subst, ◌∙◌, append_assoc, Ok, Err, Some, None, Result, true, false, ap₂}
+use Rattle.std.proofs.lemmas.List.Elements.{All-from_recursion}
+use Rattle.std.specs.List.{All, AllByRecursion, list_all}
+use Rattle.std.specs.Prelude.{if◌then◌else◌, is_some}
+use Rattle.std.specs.Result.{IfErr}
+use Rattle.std.specs.Result as result
 use Rattle.papi_base.specs.declared.code.Code.{Code}
 use Rattle.papi_base.specs.declared.code.Code.TheVariants as code
-use Rattle.papi_base.specs.declared.native.Native.{Native}
-use Rattle.papi_base.specs.declared.native.EventRef.TheVariants as event
+use Rattle.papi_base.specs.declared.code.Code.TheVariants.{Ecount}
 use Rattle.postfix_rules.specs.Presets.{Book}
 use Rattle.event_sets.specs.AtRest.{Widths}
+use Rattle.event_sets.specs.declared.refusal.Refusal.{Refusal}
+use Rattle.event_sets.specs.declared.refusal.Refusal.TheVariants.{Plain, Conflict}
 use Rattle.session_model.specs.Account.{Account}
-use Rattle.session_model.specs.Step.{account_after, replies_to, step}
-use Rattle.session_model.specs.declared.call.Call.{Call}
-use Rattle.session_model.specs.declared.call.Call.TheVariants as call
+use Rattle.session_model.specs.Faces.{faces_of}
+use Rattle.session_model.specs.Replies.{plain, refused}
+use Rattle.session_model.specs.Step.{account_after, performed, replies_to, step, unless}
+use Rattle.session_model.specs.CallTypes.{Call}
+use Rattle.call_type.specs.declared.call.Call.TheVariants as call
 use Rattle.session_model.specs.declared.reply.Body.{Body}
 use Rattle.session_model.specs.declared.reply.Reply.{Reply}
 use Rattle.thread_core.specs.CoreView.{CoreView}
-use Rattle.thread_core.specs.Following.{Follows, reply_of}
+use Rattle.thread_core.specs.Following.{Follows, IsRefusal, reply_of}
 use Rattle.thread_core.specs.Stands.{CoreStands}
-use Rattle.profiler.specs.Passings.{calls}
+use Rattle.profiler.specs.Passings.{first_refused, is_ok}
 
 -- the core after some calls, each of which follows the account, and what they replied
 pub record Made (book : Book) (first now : CoreView) (made : List Call) (given : List Reply) : Type 0 where
@@ -46,17 +51,47 @@ replies_to_append : (book : Book) (shape : Widths) (a : Account) (made rest : Li
 replies_to_append book shape a [] rest = refl
 replies_to_append book shape a (c ∷ made) rest = ap (λ (rs : List Reply). (step book shape a c).reply ∷ rs) (replies_to_append book shape (step book shape a c).account made rest)
 
--- what some calls replied is among the replies to these calls and others
-pub among_replies : (book : Book) (k l : CoreView) (made rest : List Call) (given : List Reply) (r : Reply) → Made book k l made given → Contains given r
-    → (a : Account) → CoreStands book k a → Contains (replies_to book k.shape a (made ++ rest)) r
-among_replies book k l made rest given r m there a h = subst (λ (rs : List Reply). Contains rs r) (sym (replies_to_append book k.shape a made rest))
-    (Contains-append_left (replies_to book k.shape a made) (replies_to book k.shape (account_after book k.shape a made) rest) r (subst (λ (rs : List Reply). Contains rs r) (sym (m.replies a h)) there))
+-- PAPI_OK has been replied to all of these
+abbrev pub AreDone : List Reply → Type 0
+AreDone given = AllByRecursion (λ (r : Reply). r.code ≡ code.Ok) given
+
+-- the first reply that is not PAPI_OK, after others that are
+first_after : (given : List Reply) (r : Reply) (more : List Reply) → AreDone given → is_ok r.code ≡ false → first_refused (given ++ r ∷ more) ≡ Some r
+first_after [] r more done bad = ap (λ (b : Bool). if b then first_refused more else Some r) bad
+first_after (x ∷ given) r more done bad = ap (λ (c : Code). if is_ok c then first_refused (given ++ r ∷ more) else Some x) done.0 ∙ first_after given r more done.1 bad
+
+-- the last of some calls was refused, and the others were carried out
+pub first_refusal : (book : Book) (k l : CoreView) (made rest : List Call) (given : List Reply) (r : Reply) → Made book k l made (given ++ r ∷ []) → AreDone given → is_ok r.code ≡ false
+    → (a : Account) → CoreStands book k a → first_refused (replies_to book k.shape a (made ++ rest)) ≡ Some r
+first_refusal book k l made rest given r m done bad a h =
+    let more = replies_to book k.shape (account_after book k.shape a made) rest in
+    ap first_refused (replies_to_append book k.shape a made rest ∙ ap (λ (rs : List Reply). rs ++ more) (m.replies a h) ∙ append_assoc given (r ∷ []) more)
+    ∙ first_after given r more done bad
+
+-- a code that is not PAPI_OK
+pub not_ok : (c : Code) → c ≢ code.Ok → is_ok c ≡ false
+not_ok code.Ok h = absurd (h refl)
+not_ok c h = refl
+
+-- a refusal
+pub refusal_not_ok : {X : Type 0} (r : Refusal) (result : Result X Refusal) → result ≡ Err r → IfErr result IsRefusal → is_ok (refused r).code ≡ false
+refusal_not_ok {X} r result is h = go r (subst (λ (x : Result X Refusal). IfErr x IsRefusal) is h) where
+  go : (r : Refusal) → IsRefusal r → is_ok (refused r).code ≡ false
+  go (Plain c) h = not_ok c (λ e. h (ap (λ (x : Code). Plain x) e))
+  go (Conflict clash) h = refl
+
+-- no set is made
+pub create_not_ok : (book : Book) (k l : CoreView) (c : Code) → Follows book k l call.Create (plain c) → (a : Account) → CoreStands book k a → is_ok c ≡ false
+create_not_ok book k l c f a h = go (list_all (λ place. is_some place) (faces_of a.sets)) (f.reply a h) where
+  go : (b : Bool) → plain c ≡ (unless (if b then Some (Plain Ecount) else None) a (performed book k.shape a call.Create)).reply → is_ok c ≡ false
+  go true e = ap (λ (r : Reply). is_ok r.code) e
+  go false e = let clash = ap (λ (r : Reply). r.body) e in cc clash
 
 -- if each reply has PAPI_OK
 pub all_done : (replies given : List Reply) → replies ≡ given → AllByRecursion (λ (r : Reply). r.code ≡ code.Ok) given → All (λ (r : Reply). r.code ≡ code.Ok) replies
 all_done replies given e h = subst (All (λ (r : Reply). r.code ≡ code.Ok)) (sym e) (All-from_recursion (λ (r : Reply). r.code ≡ code.Ok) given h)
 
 -- the code of a reply that gives something of its own
-pub reply_ok : {X : Type 0} (f : X → Body) (r : Result X Code) → is_ok r ≡ true → (reply_of f r).code ≡ code.Ok
+pub reply_ok : {X : Type 0} (f : X → Body) (r : Result X Code) → result.is_ok r ≡ true → (reply_of f r).code ≡ code.Ok
 reply_ok f (Ok x) h = refl
 reply_ok f (Err d) h = cc

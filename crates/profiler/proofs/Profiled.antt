@@ -16,7 +16,7 @@ use Rattle.postfix_rules.specs.Presets.{Book}
 use Rattle.session_model.specs.Step.{account_after}
 use Rattle.profiler.specs.Hottest.{AreHottest}
 use Rattle.profiler.specs.Passings.{IsAnswered, Stops, calls, passings}
-use Rattle.profiler.specs.Profiles.{IsProfile, IsProfiled, before}
+use Rattle.profiler.specs.Profiles.{Begins, IsProfile, IsProfiled, before}
 use Rattle.profiler.specs.declared.profile.Fault.{Fault}
 use Rattle.profiler.specs.declared.profile.Fault.TheVariants as fault
 use Rattle.profiler.specs.declared.ranking.Hot.{Hot}
@@ -44,11 +44,11 @@ module _ {T E D : Type 0} (P : E → D → Type 0) (r : Result T E) (s : Result 
 
 module _ (unit event : List ℕ) (t : ℕ) (stream : Coming) where
   -- the stream stopped, or memory ran out
-  pub stopped : (f : Fault) → Stops f stream.mark → IsProfile (Err f) unit event t stream
-  stopped (fault.Line line cause) h = h
-  stopped fault.Read h = h
-  stopped fault.Memory h = h
-  stopped f h = absurd h
+  pub stopped : (f : Fault) → Begins unit event t → Stops f stream.mark → IsProfile (Err f) unit event t stream
+  stopped (fault.Line line cause) b h = (b, h)
+  stopped fault.Read b h = (b, h)
+  stopped fault.Memory b h = tt
+  stopped f b h = absurd h
 
   -- the hottest addresses, unless memory ran out
   pub finished : (P : AllocError → Fault → Type 0) (r : Result (Vec Hot Global) AllocError) (s : Result (Vec Hot Global) Fault) → MatchResult r (λ y. s ≡ Ok y) (λ e. IsErrAnd s (P e))
@@ -62,8 +62,11 @@ module _ (unit event : List ℕ) (t : ℕ) (stream : Coming) where
     at_unit : (P : Book → Widths → Type 0) → P b shape → P [] (shape_of (unit_tables unit))
     at_unit P h = subst (λ (x : Book). P x (shape_of (unit_tables unit))) empty (subst (P b) its h)
 
-    pub not_begun : (r : Refusal) → IsAnswered (Err r) b shape before (calls n t) → IsProfile (Err (fault.Refused r)) unit event t stream
-    not_begun r h = (n, named, at_unit (λ x s. IsAnswered (Err r) x s before (calls n t)) h)
+    pub not_begun : (r : Refusal) → unit_fault unit ≡ None → IsAnswered (Err r) b shape before (calls n t) → IsProfile (Err (fault.Refused r)) unit event t stream
+    not_begun r read h = record { native = n; unit_read = read; named = named; first = at_unit (λ x s. IsAnswered (Err r) x s before (calls n t)) h }
+
+    pub begins : unit_fault unit ≡ None → IsAnswered (Ok tt) b shape before (calls n t) → Begins unit event t
+    begins read answered = record { native = n; unit_read = read; named = named; carried_out = at_unit (λ x s. IsAnswered (Ok tt) x s before (calls n t)) answered }
 
     pub profiled : (rows : List Hot) → unit_fault unit ≡ None → IsAnswered (Ok tt) b shape before (calls n t) → stream.mark ≡ Dry
         → AreHottest MOST (passings b (account_after b shape before (calls n t)) stream.rest) rows → IsProfiled rows unit event t stream

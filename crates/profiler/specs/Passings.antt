@@ -1,11 +1,12 @@
 -- The passings of an event's count over a stream: PAPI_add_event(3), PAPI_overflow(3), PAPI_start(3).
-use Rattle.std.specs.Prelude.{◌≡◌, ℕ, List, [], ◌∷◌, All, Contains, map, Ok, Err, Result, ⊤}
+use Rattle.std.specs.Prelude.{◌≡◌, ℕ, Bool, true, false, if◌then◌else◌, List, [], ◌∷◌, All, map, Option, Some, None, Ok, Err, Result, ⊤}
 use Rattle.std.specs.BTreeMap.{BTreeMap}
 use Rattle.std.specs.Option.{option_map}
 use Rattle.event_sets.specs.AtRest.{Widths}
 use Rattle.event_sets.specs.declared.refusal.Refusal.{Refusal}
 use Rattle.papi_base.specs.Streams as stream
 use Rattle.papi_base.specs.Streams.{Coming, Mark}
+use Rattle.papi_base.specs.declared.code.Code.{Code}
 use Rattle.papi_base.specs.declared.code.Code.TheVariants as code
 use Rattle.papi_base.specs.declared.native.Native.{Native}
 use Rattle.papi_base.specs.declared.native.EventRef.TheVariants as event
@@ -15,8 +16,9 @@ use Rattle.session_model.specs.Account.{Account}
 use Rattle.session_model.specs.Replies.{refused}
 use Rattle.session_model.specs.Step.{replies_to}
 use Rattle.session_model.specs.Thresholds.{notes_over}
-use Rattle.session_model.specs.declared.call.Call.{Call}
-use Rattle.session_model.specs.declared.call.Call.TheVariants as call
+use Rattle.session_model.specs.CallTypes.{Call}
+use Rattle.call_type.specs.declared.call.Call.TheVariants as call
+use Rattle.session_model.specs.declared.reply.Reply.{Reply}
 use Rattle.stream_reader.specs.Reader.{ReaderView}
 use Rattle.thread_core.specs.CoreView.{CoreView}
 use Rattle.profiler.specs.Hottest.{AreCounts}
@@ -27,10 +29,20 @@ use Rattle.profiler.specs.declared.profile.Fault.TheVariants as fault
 abbrev pub calls : Native → ℕ → List Call
 calls n t = call.Create ∷ call.Add 0 (Ok (event.Native n)) ∷ call.Overflow 0 (Ok (event.Native n)) t ∷ call.Start 0 ∷ []
 
--- each call was carried out, or one of them was refused so
+-- PAPI_OK
+abbrev pub is_ok : Code → Bool
+is_ok code.Ok = true
+is_ok c = false
+
+-- the first of these replies that is not PAPI_OK
+abbrev pub first_refused : List Reply → Option Reply
+first_refused [] = None
+first_refused (reply ∷ rest) = if is_ok reply.code then first_refused rest else Some reply
+
+-- each call was carried out, or the first that was not was refused so
 abbrev pub IsAnswered : Result (Unit {0}) Refusal → Book → Widths → Account → List Call → Type 0
 IsAnswered (Ok done) book shape a calls = All (λ reply. reply.code ≡ code.Ok) (replies_to book shape a calls)
-IsAnswered (Err refusal) book shape a calls = Contains (replies_to book shape a calls) (refused refusal)
+IsAnswered (Err refusal) book shape a calls = first_refused (replies_to book shape a calls) ≡ Some (refused refusal)
 
 -- the address of each passing at these occurrences, which come after the account's past
 abbrev pub passings : Book → Account → List Occ → List ℕ
