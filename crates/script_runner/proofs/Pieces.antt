@@ -8,11 +8,11 @@ use Rattle.std.specs.Prelude.{Err, Ok, OnErr, Result}
 use Rattle.papi_base.specs.Outside.{appended}
 use Rattle.script_runner.specs.Pieces.{IsPartWritten, IsWrittenSoFar}
 
-appended-append : (o : Option (List ℕ)) (xs ys : List ℕ) → appended (appended o xs) ys ≡ appended o (xs ++ ys)
+pub appended-append : (o : Option (List ℕ)) (xs ys : List ℕ) → appended (appended o xs) ys ≡ appended o (xs ++ ys)
 appended-append None xs ys = refl
 appended-append (Some zs) xs ys = ap Some (append_assoc zs xs ys)
 
-nothing-more : (taken : Option (List ℕ)) → taken ≡ appended taken []
+pub nothing-more : (taken : Option (List ℕ)) → taken ≡ appended taken []
 nothing-more None = refl
 nothing-more (Some zs) = ap Some (sym (append-nil zs))
 

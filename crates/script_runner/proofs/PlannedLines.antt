@@ -5,27 +5,28 @@ use Rattle.std.proofs.lemmas.List.Concat.{flat_map-append}
 use Rattle.std.proofs.lemmas.List.Elements.{All-push}
 use Rattle.std.specs.List.{flat_map}
 use Rattle.std.specs.Prelude.{All, Ok, if◌then◌else◌}
-use Rattle.component_table.specs.Catalogs.{CatalogView, shape_of}
+use Rattle.component_table.specs.Catalogs.{CatalogView, looked_up, shape_of}
+use Rattle.call_type.specs.Calls.{call_with, name_of, name_of_call}
+use Rattle.call_type.specs.declared.call.Call.{Call as CallOf}
 use Rattle.papi_base.specs.declared.call_name.CallName.{CallName}
 use Rattle.papi_base.specs.declared.limits.TheConstants.{THREADS}
 use Rattle.papi_base.specs.declared.native.EventRef.TheVariants as event
 use Rattle.papi_base.specs.declared.native.Native.{Native}
-use Rattle.plan_runner.specs.declared.plan.PlanLine.{PlanLine}
-use Rattle.plan_runner.specs.declared.plan.Planned.{Planned}
-use Rattle.plan_runner.specs.declared.result.ReplyLine.{ReplyLine}
-use Rattle.plan_runner.specs.Plans.{Ask, IsGoodFor, IsPlanOf, ask_of, asks_from, planned_by}
-use Rattle.plan_runner.specs.Runs.{reply_lines}
+use Rattle.thread_registry.specs.declared.runner.plan.PlanLine.{PlanLine}
+use Rattle.thread_registry.specs.declared.runner.result.ReplyLine.{ReplyLine}
+use Rattle.thread_registry.specs.Plans.{Ask, IsGoodFor, IsPlanOf, Planned, ask_of, asks_from, planned_by}
+use Rattle.thread_registry.specs.Runs.{reply_lines}
 use Rattle.postfix_rules.specs.Sameness.{among, joined_by}
 use Rattle.postfix_rules.proofs.Joined.{joined-append}
-use Rattle.script_lines.specs.Calls.{name_of}
+use Rattle.script_lines.specs.Calls.{Written}
 use Rattle.script_lines.specs.declared.script.ScriptLine.{ScriptLine}
 use Rattle.script_runner.specs.Resolving.{AreFirstOf, IsGoodAsk, asked_of, line_of, lines_of, mentioned_in, reply_lines_of, setting_of}
-use Rattle.session_model.specs.declared.call.Call.{Call}
-use Rattle.session_model.specs.declared.call.Call.TheVariants as call
-use Rattle.session_model.specs.declared.line.Asked.{Asked}
-use Rattle.session_model.specs.declared.line.Asked.TheVariants as asked
+use Rattle.session_model.specs.CallTypes.{Asked, Call}
+use Rattle.call_type.specs.declared.call.Call.TheVariants as call
+use Rattle.call_type.specs.declared.call.Asked.TheVariants as asked
 use Rattle.session_model.specs.declared.line.Line.{Line}
 use Rattle.session_model.specs.World.{LineTold, Setting, mentioned_after, mentions_of, mentions_of_call}
+use Rattle.thread_registry.proofs.Scripts.{firsts, others}
 
 -- ---- native events that join others
 
@@ -98,6 +99,21 @@ good-planned catalog at mentioned (asked.Call c) good = good
 good-planned catalog at mentioned (asked.CodeOf (Ok (event.Native n))) good = tt
 good-planned catalog at mentioned a good = tt
 
+-- ---- the name of its call
+
+name-call : {E F : Type 0} (f : E → F) (c : CallOf E) → name_of_call (call_with f c) ≡ name_of_call c
+name-call f call.Register = refl
+name-call f c = refl
+
+name-asked : (catalog : CatalogView) (w : Written) → name_of (asked_of catalog w) ≡ name_of w
+name-asked catalog (asked.Call c) = name-call (looked_up catalog) c
+name-asked catalog w = refl
+
+name-planned : (at : Setting) (mentioned : List Native) (a : Asked) → name_of (planned_by at mentioned a) ≡ name_of a
+name-planned at mentioned (asked.Call c) = refl
+name-planned at mentioned (asked.CodeOf (Ok (event.Native n))) = refl
+name-planned at mentioned a = refl
+
 -- ---- the loop over the lines
 
 -- a line's number, its thread and its call's name
@@ -107,7 +123,7 @@ pub record Head : Type 0 where
   pub word : CallName
 
 abbrev pub head_planned : PlanLine → Head
-head_planned p = record { line = p.number; thread = p.thread; word = p.word }
+head_planned p = record { line = p.number; thread = p.thread; word = name_of p.planned }
 
 abbrev pub head_of : ScriptLine → Head
 head_of l = record { line = l.line; thread = l.thread; word = name_of l.call }
@@ -124,15 +140,16 @@ pub record IsPlanned (catalog : CatalogView) (done : List ScriptLine) (plan : Li
   pub mentioned : codes ≡ mentioned_in (map (line_of catalog) done)
   pub few : length codes ≤ length done
 
-pub planned-more : (catalog : CatalogView) (done : List ScriptLine) (l : ScriptLine) (plan : List PlanLine) (word : CallName) (asked : Asked) (planned : Planned) (codes codes' : List Native)
-    → l.thread < THREADS → word ≡ name_of l.call → asked ≡ asked_of catalog l.call → IsGoodAsk catalog asked → codes' ≡ joined_by codes (mentions_of asked) → planned ≡ planned_by (setting_of catalog) codes' asked
-    → IsPlanned catalog done plan codes → IsPlanned catalog (done ++ l ∷ []) (plan ++ record { number = l.line; thread = l.thread; word = word; planned = planned } ∷ []) codes'
-planned-more catalog done l plan word asked planned codes codes' thread named is good joined looked so_far =
+pub planned-more : (catalog : CatalogView) (done : List ScriptLine) (l : ScriptLine) (plan : List PlanLine) (asked : Asked) (planned : Planned) (codes codes' : List Native)
+    → l.thread < THREADS → asked ≡ asked_of catalog l.call → IsGoodAsk catalog asked → codes' ≡ joined_by codes (mentions_of asked) → planned ≡ planned_by (setting_of catalog) codes' asked
+    → IsPlanned catalog done plan codes → IsPlanned catalog (done ++ l ∷ []) (plan ++ record { number = l.line; thread = l.thread; planned = planned } ∷ []) codes'
+planned-more catalog done l plan asked planned codes codes' thread is good joined looked so_far =
     let at = setting_of catalog in
-    let p : PlanLine = record { number = l.line; thread = l.thread; word = word; planned = planned } in
+    let p : PlanLine = record { number = l.line; thread = l.thread; planned = planned } in
     let lines = map (line_of catalog) done in
     let joined' : codes' ≡ joined_by (mentioned_in lines) (mentions_of (asked_of catalog l.call)) = joined ∙ ap₂ (λ ns a. joined_by ns (mentions_of a)) so_far.mentioned is in
-    let looked' : planned ≡ planned_by at (joined_by (mentioned_in lines) (mentions_of (asked_of catalog l.call))) (asked_of catalog l.call) = looked ∙ ap₂ (planned_by at) joined' is in record {
+    let looked' : planned ≡ planned_by at (joined_by (mentioned_in lines) (mentions_of (asked_of catalog l.call))) (asked_of catalog l.call) = looked ∙ ap₂ (planned_by at) joined' is in
+    let named : name_of planned ≡ name_of l.call = ap name_of looked ∙ name-planned at codes' asked ∙ ap name_of is ∙ name-asked catalog l.call in record {
       asks = map-append ask_of plan (p ∷ []) ∙ ap₂ (λ (asks : List Ask) (q : Planned). asks ++ record { thread = l.thread; planned = q } ∷ []) so_far.asks looked'
           ∙ sym (asks-append at [] lines (line_of catalog l)) ∙ ap (asks_from at []) (sym (map-append (line_of catalog) done (l ∷ [])));
       heads = map-append head_planned plan (p ∷ []) ∙ ap₂ (λ (hs : List Head) (w : CallName). hs ++ record { line = l.line; thread = l.thread; word = w } ∷ []) so_far.heads named ∙ sym (map-append head_of done (l ∷ []));
@@ -150,14 +167,14 @@ next-done items i l h e = take_more items i l h ∙ ap (λ k. take i items ++ k 
 thread-at : (items script : List ScriptLine) (i : ℕ) (l : ScriptLine) → i < length items → l ≡ get_or items i l → items ≡ script → All (λ k. k.thread < THREADS) script → l.thread < THREADS
 thread-at items script i l h e same all = subst (λ k. k.thread < THREADS) (sym e) (subst (All (λ k. k.thread < THREADS)) (sym same) all i l h)
 
-pub planned-next : (catalog : CatalogView) (items script : List ScriptLine) (i : ℕ) (l : ScriptLine) (plan plan' : List PlanLine) (word : CallName) (asked : Asked) (planned : Planned) (codes codes' : List Native)
+pub planned-next : (catalog : CatalogView) (items script : List ScriptLine) (i : ℕ) (l : ScriptLine) (plan plan' : List PlanLine) (asked : Asked) (planned : Planned) (codes codes' : List Native)
     → i < length items → l ≡ get_or items i l → items ≡ script → All (λ k. k.thread < THREADS) script
-    → word ≡ name_of l.call → asked ≡ asked_of catalog l.call → IsGoodAsk catalog asked → codes' ≡ joined_by codes (mentions_of asked) → planned ≡ planned_by (setting_of catalog) codes' asked
-    → plan' ≡ plan ++ record { number = l.line; thread = l.thread; word = word; planned = planned } ∷ []
+    → asked ≡ asked_of catalog l.call → IsGoodAsk catalog asked → codes' ≡ joined_by codes (mentions_of asked) → planned ≡ planned_by (setting_of catalog) codes' asked
+    → plan' ≡ plan ++ record { number = l.line; thread = l.thread; planned = planned } ∷ []
     → IsPlanned catalog (take i items) plan codes → IsPlanned catalog (take (i + 1) items) plan' codes'
-planned-next catalog items script i l plan plan' word asked planned codes codes' h e same all named is good joined looked pushed so_far =
+planned-next catalog items script i l plan plan' asked planned codes codes' h e same all is good joined looked pushed so_far =
     subst (λ done. IsPlanned catalog done plan' codes') (sym (next-done items i l h e)) (subst (λ p. IsPlanned catalog (take i items ++ l ∷ []) p codes') (sym pushed)
-    (planned-more catalog (take i items) l plan word asked planned codes codes' (thread-at items script i l h e same all) named is good joined looked so_far))
+    (planned-more catalog (take i items) l plan asked planned codes codes' (thread-at items script i l h e same all) is good joined looked so_far))
 
 -- some of the first mentions have codes, if a line's own mention has none yet, and if it has one
 pub begun-before : (catalog : CatalogView) (items script : List ScriptLine) (i : ℕ) (codes : List Native) → items ≡ script → codes ≡ mentioned_in (map (line_of catalog) (take i items)) → AreFirstOf (mentioned_in (lines_of catalog script)) codes
@@ -180,12 +197,6 @@ pub plan-asks : (catalog : CatalogView) (ls : List ScriptLine) (plan : List Plan
 unfolding lines_of
 plan-asks catalog ls plan codes whole = record { asks = whole.asks }
 
-first-same : {X : Type 0} (x y : X) (xs ys : List X) → x ∷ xs ≡ y ∷ ys → x ≡ y
-first-same x y xs ys e = cc
-
-rest-same : {X : Type 0} (x y : X) (xs ys : List X) → x ∷ xs ≡ y ∷ ys → xs ≡ ys
-rest-same x y xs ys e = cc
-
 heads-each : (ls : List ScriptLine) (plan : List PlanLine) → map head_planned plan ≡ map head_of ls → (told : List LineTold) → reply_lines plan told ≡ reply_lines_of ls told
 unfolding reply_lines_of
 heads-each [] [] e told = refl
@@ -193,7 +204,7 @@ heads-each [] (p ∷ ps) e told = absurd (omega (arith, ap length e))
 heads-each (l ∷ ls) [] e told = absurd (omega (arith, ap length e))
 heads-each (l ∷ ls) (p ∷ ps) e [] = refl
 heads-each (l ∷ ls) (p ∷ ps) e (x ∷ xs) =
-    ap₂ (λ (h : Head) (rest : List ReplyLine). record { line = h.line; thread = h.thread; word = h.word; reply = x.reply } ∷ rest) (first-same _ _ _ _ e) (heads-each ls ps (rest-same _ _ _ _ e) xs)
+    ap₂ (λ (h : Head) (rest : List ReplyLine). record { line = h.line; thread = h.thread; word = h.word; reply = x.reply } ∷ rest) (firsts _ _ _ _ e) (heads-each ls ps (others _ _ _ _ e) xs)
 
 pub plan-heads : (catalog : CatalogView) (ls : List ScriptLine) (plan : List PlanLine) (codes : List Native) → IsPlanned catalog ls plan codes → (told : List LineTold) → reply_lines plan told ≡ reply_lines_of ls told
 plan-heads catalog ls plan codes whole = heads-each ls plan whole.heads

@@ -3,9 +3,9 @@ use Rattle.std.specs.Prelude.{ℕ, List}
 use Rattle.std.specs.List.{flat_map}
 use Rattle.component_table.specs.Catalogs.{CatalogView}
 use Rattle.overflow_dispatch.specs.declared.handler.Note.{Note}
-use Rattle.plan_runner.specs.declared.result.ReplyLine.{ReplyLine}
-use Rattle.reply_text.specs.Notes.{note_text}
-use Rattle.reply_text.specs.Replies as Texts
+use Rattle.thread_registry.specs.declared.runner.result.ReplyLine.{ReplyLine}
+use Rattle.tool_output.specs.Notes.{note_text}
+use Rattle.tool_output.specs.Replies as Texts
 
 -- a reply with its line's number, its thread and its word, as the output of a run has it
 abbrev pub reply_line_text : CatalogView → ReplyLine → List ℕ

@@ -4,21 +4,19 @@ use Rattle.std.specs.Prelude.{◌≡◌, ◌++◌, List, [], ◌∷◌, map, Res
 use Rattle.std.specs.List.{flat_map}
 use Rattle.component_table.specs.Catalogs.{CatalogView, looked_up, shape_of}
 use Rattle.component_table.specs.Codes.{row_codes}
+use Rattle.call_type.specs.Calls.{asked_with, name_of}
 use Rattle.papi_base.specs.declared.code.Code.{Code}
 use Rattle.papi_base.specs.declared.native.EventRef.{EventRef}
 use Rattle.papi_base.specs.declared.native.EventRef.TheVariants as event
 use Rattle.papi_base.specs.declared.native.Native.{Native}
-use Rattle.plan_runner.specs.declared.result.ReplyLine.{ReplyLine}
+use Rattle.thread_registry.specs.declared.runner.result.ReplyLine.{ReplyLine}
 use Rattle.postfix_rules.specs.Sameness.{joined_by}
-use Rattle.script_lines.specs.Calls.{name_of}
-use Rattle.script_lines.specs.declared.call.ScriptCall.{ScriptCall}
-use Rattle.script_lines.specs.declared.call.ScriptCall.TheVariants as script
+use Rattle.script_lines.specs.Calls.{Written}
 use Rattle.script_lines.specs.declared.script.ScriptLine.{ScriptLine}
 use Rattle.session_model.specs.Conditions.{IsGood}
 use Rattle.session_model.specs.World.{LineTold, Setting, mentions_of}
-use Rattle.session_model.specs.declared.call.Call.TheVariants as call
-use Rattle.session_model.specs.declared.line.Asked.{Asked}
-use Rattle.session_model.specs.declared.line.Asked.TheVariants as asked
+use Rattle.session_model.specs.CallTypes.{Asked}
+use Rattle.call_type.specs.declared.call.Asked.TheVariants as asked
 use Rattle.session_model.specs.declared.line.Line.{Line}
 
 -- what all threads share: the presets and user events, their codes, and the counters
@@ -26,31 +24,8 @@ abbrev pub setting_of : CatalogView → Setting
 setting_of catalog = record { book = catalog.book; codes = row_codes catalog; shape = shape_of catalog.tables }
 
 -- what a line asks for
-abbrev pub asked_of : CatalogView → ScriptCall → Asked
-asked_of catalog script.Register = asked.Call call.Register
-asked_of catalog script.Unregister = asked.Call call.Unregister
-asked_of catalog script.Threads = asked.Threads
-asked_of catalog script.Create = asked.Call call.Create
-asked_of catalog (script.Destroy set) = asked.Call (call.Destroy set)
-asked_of catalog (script.Cleanup set) = asked.Call (call.Cleanup set)
-asked_of catalog (script.Add set event) = asked.Call (call.Add set (looked_up catalog event))
-asked_of catalog (script.Remove set event) = asked.Call (call.Remove set (looked_up catalog event))
-asked_of catalog (script.Component set component) = asked.Call (call.AssignComponent set component)
-asked_of catalog (script.Domain set bits) = asked.Call (call.SetDomain set bits)
-asked_of catalog (script.Multiplex set slice) = asked.Call (call.SetMultiplex set slice)
-asked_of catalog (script.Overflow set event threshold) = asked.Call (call.Overflow set (looked_up catalog event) threshold)
-asked_of catalog (script.Start set) = asked.Call (call.Start set)
-asked_of catalog (script.Stop set) = asked.Call (call.Stop set)
-asked_of catalog (script.Read set) = asked.Call (call.Read set)
-asked_of catalog (script.Accum set) = asked.Call (call.Accum set)
-asked_of catalog (script.Reset set) = asked.Call (call.Reset set)
-asked_of catalog (script.State set) = asked.Call (call.State set)
-asked_of catalog (script.Events set) = asked.Call (call.ListEvents set)
-asked_of catalog (script.Assign set) = asked.Call (call.Assign set)
-asked_of catalog (script.Raw set counter) = asked.Call (call.Raw set counter)
-asked_of catalog (script.Run count) = asked.Call (call.Run count)
-asked_of catalog (script.Code event) = asked.CodeOf (looked_up catalog event)
-asked_of catalog (script.Name code) = asked.NameOf code
+abbrev pub asked_of : CatalogView → Written → Asked
+asked_of catalog written = asked_with (looked_up catalog) (looked_up catalog) written
 
 -- a line of a script as the model has it, with the events that its names stand for
 abbrev pub line_of : CatalogView → ScriptLine → Line

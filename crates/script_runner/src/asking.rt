@@ -1,60 +1,66 @@
 //! What a line of a script asks for, with its event looked up.
 
 ghost use Rattle.std.specs.Prelude.{◌≡◌};
+ghost use Rattle.component_table.specs.Catalogs.{looked_up, shape_of};
+ghost use Rattle.call_type.specs.Calls.{call_with};
+ghost use Rattle.session_model.specs.Conditions.{IsGood};
 ghost use Rattle.script_runner.specs.Resolving as Resolving;
 ghost use Rattle.script_runner.specs.Resolving.{IsGoodAsk};
 
 use component_table::Catalog;
-use script_lines::ScriptCall;
+use papi_base::Text;
+use script_lines::Written;
 use session_model::{Asked, Call};
+
+// A call on a session, with its event looked up.
+fn call_with(catalog: &Catalog, call: &call_type::Call<Text>) -> Call
+    ensures call { result ≡ call_with (looked_up catalog.now) call.now }
+    ensures good { IsGood catalog.now.book (shape_of catalog.now.tables) result }
+{
+    match *call {
+        call_type::Call::Register => Call::Register,
+        call_type::Call::Unregister => Call::Unregister,
+        call_type::Call::Create => Call::Create,
+        call_type::Call::Destroy { set } => Call::Destroy { set },
+        call_type::Call::Cleanup { set } => Call::Cleanup { set },
+        call_type::Call::Add { set, ref e } => {
+            let e = catalog.lookup(e.as_str());
+            Call::Add { set, e }
+        }
+        call_type::Call::Remove { set, ref e } => {
+            let e = catalog.lookup(e.as_str());
+            Call::Remove { set, e }
+        }
+        call_type::Call::AssignComponent { set, comp } => Call::AssignComponent { set, comp },
+        call_type::Call::SetDomain { set, bits } => Call::SetDomain { set, bits },
+        call_type::Call::SetMultiplex { set, slice } => Call::SetMultiplex { set, slice },
+        call_type::Call::Overflow { set, ref e, t } => {
+            let e = catalog.lookup(e.as_str());
+            Call::Overflow { set, e, t }
+        }
+        call_type::Call::Start { set } => Call::Start { set },
+        call_type::Call::Stop { set } => Call::Stop { set },
+        call_type::Call::Read { set } => Call::Read { set },
+        call_type::Call::Accum { set } => Call::Accum { set },
+        call_type::Call::Reset { set } => Call::Reset { set },
+        call_type::Call::State { set } => Call::State { set },
+        call_type::Call::ListEvents { set } => Call::ListEvents { set },
+        call_type::Call::Assign { set } => Call::Assign { set },
+        call_type::Call::Raw { set, c } => Call::Raw { set, c },
+        call_type::Call::Run { n } => Call::Run { n },
+    }
+}
 
 /// What a line asks for: a call on the session of its thread, the code of an event, the name of a code, or the registered threads.
 /// A text is looked up here, and nowhere else.
-pub(crate) fn asked_of(catalog: &Catalog, call: &ScriptCall) -> Asked
-    ensures asked { result ≡ Resolving.asked_of catalog.now call.now }
+pub(crate) fn asked_of(catalog: &Catalog, written: &Written) -> Asked
+    ensures asked { result ≡ Resolving.asked_of catalog.now written.now }
     ensures good { IsGoodAsk catalog.now result }
 {
-    match *call {
-        ScriptCall::Register => Asked::Call(Call::Register),
-        ScriptCall::Unregister => Asked::Call(Call::Unregister),
-        ScriptCall::Threads => Asked::Threads,
-        ScriptCall::Create => Asked::Call(Call::Create),
-        ScriptCall::Destroy { set } => Asked::Call(Call::Destroy { set }),
-        ScriptCall::Cleanup { set } => Asked::Call(Call::Cleanup { set }),
-        ScriptCall::Add { set, ref event } => Asked::Call(Call::Add {
-            set,
-            e: catalog.lookup(event.as_str()),
-        }),
-        ScriptCall::Remove { set, ref event } => Asked::Call(Call::Remove {
-            set,
-            e: catalog.lookup(event.as_str()),
-        }),
-        ScriptCall::Component {
-            set,
-            component: comp,
-        } => Asked::Call(Call::AssignComponent { set, comp }),
-        ScriptCall::Domain { set, bits } => Asked::Call(Call::SetDomain { set, bits }),
-        ScriptCall::Multiplex { set, slice } => Asked::Call(Call::SetMultiplex { set, slice }),
-        ScriptCall::Overflow {
-            set,
-            ref event,
-            threshold: t,
-        } => Asked::Call(Call::Overflow {
-            set,
-            e: catalog.lookup(event.as_str()),
-            t,
-        }),
-        ScriptCall::Start { set } => Asked::Call(Call::Start { set }),
-        ScriptCall::Stop { set } => Asked::Call(Call::Stop { set }),
-        ScriptCall::Read { set } => Asked::Call(Call::Read { set }),
-        ScriptCall::Accum { set } => Asked::Call(Call::Accum { set }),
-        ScriptCall::Reset { set } => Asked::Call(Call::Reset { set }),
-        ScriptCall::State { set } => Asked::Call(Call::State { set }),
-        ScriptCall::Events { set } => Asked::Call(Call::ListEvents { set }),
-        ScriptCall::Assign { set } => Asked::Call(Call::Assign { set }),
-        ScriptCall::Raw { set, counter: c } => Asked::Call(Call::Raw { set, c }),
-        ScriptCall::Run { count: n } => Asked::Call(Call::Run { n }),
-        ScriptCall::Code { ref event } => Asked::CodeOf(catalog.lookup(event.as_str())),
-        ScriptCall::Name { code } => Asked::NameOf(code),
+    match *written {
+        Written::Call(ref call) => Asked::Call(call_with(catalog, call)),
+        Written::CodeOf(ref event) => Asked::CodeOf(catalog.lookup(event.as_str())),
+        Written::NameOf(code) => Asked::NameOf(code),
+        Written::Threads => Asked::Threads,
     }
 }

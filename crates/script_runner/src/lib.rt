@@ -2,14 +2,16 @@
 #![tactic(auto)]
 
 mod asking;
+mod fitting;
 mod gathering;
 mod planning;
 mod resolving;
 mod writing;
 
-pub use plan_runner::{Plan, PlanLine, Planned, ReplyLine, RunResult, run_plan};
+pub use fitting::script_fits;
 pub use resolving::resolve;
 pub use script_lines::{
-    Script, ScriptCall, ScriptCause, ScriptFault, ScriptLine, cause_text, read_script,
+    Script, ScriptCause, ScriptFault, ScriptLine, Written, cause_text, read_script,
 };
+pub use thread_registry::{Plan, PlanLine, Planned, ReplyLine, RunResult, run_plan};
 pub use writing::{write_notes, write_replies};

@@ -3,7 +3,7 @@
 ghost use Rattle.std.specs.Prelude.{◌≡◌, ◌==◌, ◌<◌, IfOk, OnErr, OnOk, length, position};
 ghost use Rattle.component_table.specs.Codes.{row_codes};
 ghost use Rattle.component_table.specs.declared.native_codes.TheConstants.{MOST_MENTIONED};
-ghost use Rattle.plan_runner.specs.Plans.{event_by, planned_by};
+ghost use Rattle.thread_registry.specs.Plans.{event_by, planned_by};
 ghost use Rattle.postfix_rules.specs.Sameness.{joined_by};
 ghost use Rattle.script_runner.specs.Resolving.{mentions_by, setting_of};
 ghost use Rattle.session_model.specs.World.{mentions_of, mentions_of_call};
@@ -11,9 +11,9 @@ ghost use Rattle.postfix_rules.specs.NativeCodes.{native_named};
 
 use component_table::{Catalog, NativeCodes};
 use papi_base::EventRef;
-use plan_runner::Planned;
 use session_model::{Asked, Call, Named};
 use std::alloc::AllocError;
+use thread_registry::Planned;
 
 // The event of a code: PAPI_event_code_to_name(3).
 fn event_of_code(catalog: &Catalog, code: u32, codes: &NativeCodes) -> Option<EventRef>
@@ -71,11 +71,11 @@ pub(crate) fn planned_of(
             Ok(Planned::Call(call))
         }
         Asked::CodeOf(Ok(EventRef::Native(native))) => {
-            Ok(Planned::Code(Ok(codes.mention(native)?)))
+            Ok(Planned::CodeOf(Ok(codes.mention(native)?)))
         }
-        Asked::CodeOf(Ok(EventRef::Preset(row))) => Ok(Planned::Code(Ok(catalog.code_at(row)))),
-        Asked::CodeOf(Err(code)) => Ok(Planned::Code(Err(code))),
-        Asked::NameOf(code) => Ok(Planned::Name(event_of_code(catalog, code, codes))),
+        Asked::CodeOf(Ok(EventRef::Preset(row))) => Ok(Planned::CodeOf(Ok(catalog.code_at(row)))),
+        Asked::CodeOf(Err(code)) => Ok(Planned::CodeOf(Err(code))),
+        Asked::NameOf(code) => Ok(Planned::NameOf(event_of_code(catalog, code, codes))),
         Asked::Threads => Ok(Planned::Threads),
     }
 }

@@ -2,17 +2,17 @@
 
 ghost use Rattle.std.specs.Prelude.{◌≡◌, [], IfOk, List, OnOk};
 ghost use Rattle.component_table.specs.Catalogs.{shape_of};
-ghost use Rattle.plan_runner.specs.Plans.{AreGood, IsPlanOf};
-ghost use Rattle.plan_runner.specs.Runs.{reply_lines};
+ghost use Rattle.thread_registry.specs.Plans.{AreGood, IsPlanOf};
+ghost use Rattle.thread_registry.specs.Runs.{reply_lines};
 ghost use Rattle.script_runner.specs.Resolving.{AreFirstOf, lines_of, mentioned_in, reply_lines_of, setting_of};
 ghost use Rattle.session_model.specs.World.{LineTold};
 
 use crate::asking::asked_of;
 use crate::planning::planned_of;
 use component_table::{Catalog, NativeCodes};
-use plan_runner::{Plan, PlanLine};
 use script_lines::Script;
 use std::alloc::{AllocError, Global};
+use thread_registry::{Plan, PlanLine};
 
 /// The plan of a script: its texts and codes are looked up in the order of the lines, each once.
 ///
@@ -40,7 +40,6 @@ pub fn resolve(
         lines.push(PlanLine {
             number: line.line,
             thread: line.thread,
-            word: line.call.name(),
             planned,
         })?;
     }

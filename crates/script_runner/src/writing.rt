@@ -2,7 +2,7 @@
 
 ghost use Rattle.std.specs.Prelude.{◌≡◌, ◌≤◌, ◌++◌, OnOk, OnErr, IsErrOf, string_bytes};
 ghost use Rattle.papi_base.specs.Outside.{CountsFaults, appended};
-ghost use Rattle.reply_text.specs.Notes.{note_text};
+ghost use Rattle.tool_output.specs.Notes.{note_text};
 ghost use Rattle.script_runner.specs.Pieces.{IsPartWritten};
 ghost use Rattle.script_runner.specs.Replies.{notes_text, replies_text, reply_line_text};
 
@@ -10,9 +10,9 @@ use crate::gathering::write_piece;
 use component_table::Catalog;
 use overflow_dispatch::Note;
 use papi_base::{Sink, WriteFail, write_whole};
-use plan_runner::ReplyLine;
-use reply_text::{push_note_line, push_reply_line};
 use std::alloc::Global;
+use thread_registry::ReplyLine;
+use tool_output::{push_note_line, push_reply_line};
 
 // Appends the text of a reply.
 fn gather_reply(text: &mut String, catalog: &Catalog, line: &ReplyLine) -> Result<(), WriteFail>

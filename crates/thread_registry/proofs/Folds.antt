@@ -2,9 +2,9 @@
 use Rattle.std.proofs.Common.{◌≡◌, ℕ, ◌+◌, ◌<◌, ◌≤◌, List, [], ◌∷◌, ◌++◌, length, take, drop, get_or, refl, ap, sym, ◌∙◌, append_assoc, arith}
 use Rattle.std.proofs.lemmas.List.{take_more, take-append-drop, take_at, append-nil, take-append-le, length-take-le}
 use Rattle.std.proofs.Math.Seq.{take-append-add}
-use Rattle.session_laws.proofs.ByThread.{replies-append, notes-append, account-append}
+use Rattle.session_model.proofs.ByThread.{replies-append, notes-append, account-append}
 use Rattle.postfix_rules.specs.Presets.{Book}
-use Rattle.session_model.specs.declared.call.Call.{Call}
+use Rattle.session_model.specs.CallTypes.{Call}
 use Rattle.event_sets.specs.AtRest.{Widths}
 use Rattle.session_model.specs.Account.{Account}
 use Rattle.session_model.specs.Step.{step, account_after, replies_to, notes_to}

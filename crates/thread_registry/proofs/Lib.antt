@@ -1,4 +1,16 @@
+pub mod EachLemmas
 pub mod Folds
 pub mod Faults
 pub mod Listed
 pub mod Going
+pub mod Ends
+pub mod Lists
+pub mod Lent
+pub mod Dealt
+pub mod OpenedWorks
+pub mod Outcomes
+pub mod Merged
+pub mod Marked
+pub mod Served
+pub mod Scripts
+pub mod Worlds

@@ -4,8 +4,8 @@ use Rattle.std.proofs.lemmas.List.{drop_more}
 use native.Mathlib.Numerals.{unary_clauses}
 use Rattle.session_model.specs.Account.{Account}
 use Rattle.session_model.specs.World.{listed_from}
-use Rattle.session_laws.specs.Worlds.{bits_from}
-use Rattle.session_laws.proofs.Merging.{listed_bits}
+use Rattle.session_model.specs.Worlds.{bits_from}
+use Rattle.session_model.proofs.Merging.{listed_bits}
 
 -- twice as high
 pub bits-twice : (bit : ℕ) (flags : List Bool) → bits_from (2 * bit) flags ≡ 2 * bits_from bit flags

@@ -1,8 +1,8 @@
 -- How much work calls ask for, by which jobs are dealt to workers.
 use Rattle.std.specs.Prelude.{ℕ, ◌^◌, ◌-◌, List, min}
 use Rattle.std.specs.List.{sum_by}
-use Rattle.session_model.specs.declared.call.Call.{Call}
-use Rattle.session_model.specs.declared.call.Call.TheVariants.{Run}
+use Rattle.session_model.specs.CallTypes.{Call}
+use Rattle.call_type.specs.declared.call.Call.TheVariants.{Run}
 
 -- a run asks for n occurrences, and each other call counts as one
 abbrev pub call_load : Call → ℕ

@@ -2,7 +2,7 @@
 use Rattle.std.specs.Prelude.{◌≡◌, ◌<◌, List, [], length}
 use Rattle.overflow_dispatch.specs.declared.handler.Note.{Note}
 use Rattle.postfix_rules.specs.Presets.{Book}
-use Rattle.session_model.specs.declared.call.Call.{Call}
+use Rattle.session_model.specs.CallTypes.{Call}
 use Rattle.stream_reader.specs.Reader.{ReaderView}
 use Rattle.thread_core.specs.CoreView.{opening_core}
 use Rattle.thread_session.specs.SessionView.{SessionView}

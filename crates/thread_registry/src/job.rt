@@ -6,9 +6,9 @@ ghost use Rattle.thread_registry.specs.OpenedJobs.{CanBeWorked, seen};
 
 use crate::load::load_of;
 use crate::opened::Opened;
+use crate::tasks::Task;
 use overflow_dispatch::Handler;
 use papi_base::Source;
-use parallel_tasks::Task;
 use postfix_rules::PresetBook;
 use session_model::{Call, Reply};
 use std::alloc::AllocError;

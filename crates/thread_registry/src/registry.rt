@@ -2,7 +2,7 @@
 ghost use Rattle.std.specs.Prelude.{◌≡◌, ◌<◌, false, List, map, replicate, slice_set};
 ghost use Rattle.session_model.specs.Account.{Account};
 ghost use Rattle.session_model.specs.World.{listed_from};
-ghost use Rattle.session_laws.specs.Worlds.{bits_from};
+ghost use Rattle.session_model.specs.Worlds.{bits_from};
 
 use papi_base::THREADS;
 use std::marker::Model;

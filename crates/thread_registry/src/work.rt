@@ -1,12 +1,12 @@
 //! All jobs, worked by several workers.
 ghost use Rattle.std.specs.Prelude.{ℕ, ◌≤◌};
-ghost use Rattle.parallel_tasks.specs.Each.{Each, AtEach};
+ghost use Rattle.thread_registry.specs.Each.{Each, AtEach};
 ghost use Rattle.thread_registry.specs.JobView.{WorkedOrIdle};
 ghost use Rattle.thread_registry.specs.OpenedJobs.{CanBeWorked, seen};
 
 use crate::job::Job;
+use crate::tasks::work_tasks;
 use papi_base::Source;
-use parallel_tasks::work_tasks;
 use postfix_rules::PresetBook;
 use std::marker::{Send, Sync};
 use std::thread::Threads;

@@ -1,8 +1,8 @@
 use Rattle.std.proofs.Common.{◌∙◌, ap, sym}
-use Rattle.plan_runner.specs.Plans.{planned_by}
-use Rattle.plan_runner.specs.declared.plan.Planned.TheVariants as planned
+use Rattle.thread_registry.specs.Plans.{planned_by}
+use Rattle.call_type.specs.declared.call.Asked.TheVariants as asked
 use Rattle.script_runner.specs.Resolving.{setting_of}
 use Rattle.script_runner.proofs.planning.planned_of.Goals as goal
 
 pub returns-in-NameOf-clause-planned : goal.returns-in-NameOf-clause-planned
-returns-in-NameOf-clause-planned c = ap planned.Name c.event_of_code.ensures ∙ ap (planned_by (setting_of c.args.catalog.now) c.args.codes.now) (sym c.in-NameOf.is)
+returns-in-NameOf-clause-planned c = ap asked.NameOf c.event_of_code.ensures ∙ ap (planned_by (setting_of c.args.catalog.now) c.args.codes.now) (sym c.in-NameOf.is)

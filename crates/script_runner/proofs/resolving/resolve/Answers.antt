@@ -4,9 +4,9 @@ use Rattle.script_runner.proofs.resolving.resolve.Goals as goal
 
 pub loop-line-preserved : goal.loop-line-preserved
 loop-line-preserved c =
-    planned-next c.args.catalog.now c.lines-line-items.result.now c.args.script.now c.loop-line.line-index c.line-item.result c.loop-line.lines.items c.push.new.self.items c.name.result c.asked_of.result c.in_ok-planned.planned c.loop-line.codes c.planned_of.new.codes
+    planned-next c.args.catalog.now c.lines-line-items.result.now c.args.script.now c.loop-line.line-index c.line-item.result c.loop-line.lines.items c.push.new.self.items c.asked_of.result c.in_ok-planned.planned c.loop-line.codes c.planned_of.new.codes
     c.loop-line-test.true c.line-item.is c.lines-line-items.ensures.lines c.lines-line-items.ensures.kept.threads
-    c.name.ensures.name c.asked_of.ensures.asked c.asked_of.ensures.good c.in_ok-planned.ensures.mentioned c.in_ok-planned.ensures.planned c.in_ok-push.ensures.items c.loop-line.invariant
+    c.asked_of.ensures.asked c.asked_of.ensures.good c.in_ok-planned.ensures.mentioned c.in_ok-planned.ensures.planned c.in_ok-push.ensures.items c.loop-line.invariant
 
 pub returns-in_err-planned-clause-begun : goal.returns-in_err-planned-clause-begun
 returns-in_err-planned-clause-begun c =

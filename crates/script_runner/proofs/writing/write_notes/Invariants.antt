@@ -1,6 +1,6 @@
 use Rattle.std.proofs.Common.{◌≡◌, string_bytes, take}
 use Rattle.std.specs.List.{flat_map}
-use Rattle.reply_text.specs.Notes.{note_text}
+use Rattle.tool_output.specs.Notes.{note_text}
 use Rattle.script_runner.specs.Pieces.{IsWrittenSoFar}
 use Rattle.script_runner.proofs.writing.write_notes.Given as goal
 

@@ -1,5 +1,5 @@
 use Rattle.std.proofs.Common.{rules, refl, get_or}
-use Rattle.session_model.specs.declared.call.Call.TheVariants.{Register}
+use Rattle.call_type.specs.declared.call.Call.TheVariants.{Register}
 use Rattle.thread_registry.proofs.Going.{begun-of-part, going-more, going-cut, going-end, refused-of, refused-to-of-cut}
 use Rattle.thread_registry.proofs.job.make_calls.Goals as goal
 

@@ -1,5 +1,5 @@
 use Rattle.std.proofs.Common.{◌≡◌, ◌<◌, ◌^◌, ◌-◌, drop}
-use Rattle.session_laws.specs.Worlds.{bits_from}
+use Rattle.session_model.specs.Worlds.{bits_from}
 use Rattle.thread_registry.proofs.registry.Registry.listed.Given as goal
 
 abbrev pub invariant-loop-thread : goal.invariant-loop-thread

@@ -1,0 +1,7 @@
+use Rattle.std.proofs.Common.{take}
+use Rattle.std.specs.Prelude.{All}
+use Rattle.script_runner.specs.Resolving.{IsGoodAsk, asked_of}
+use Rattle.script_runner.proofs.fitting.lines_fit.Given as goal
+
+abbrev pub invariant-loop-line : goal.invariant-loop-line
+invariant-loop-line l = All (λ k. IsGoodAsk l.catalog (asked_of l.catalog k.call)) (take l.line-index l.line-items)

@@ -1,0 +1,8 @@
+use Rattle.std.proofs.Common.{arith}
+use Rattle.std.proofs.lemmas.Bool.Decides.{nat_tests}
+use Rattle.std.proofs.lemmas.List.{get_or_default}
+use Rattle.thread_registry.proofs.Dealt.{planned-more, some_line}
+use Rattle.thread_registry.proofs.runner.deal.deal.Goals as goal
+
+pub loop-line-preserved : goal.loop-line-preserved
+loop-line-preserved c = grind (arith, nat_tests, some_line, planned-more, get_or_default)
