@@ -12,13 +12,13 @@ use Rattle.postfix_rules.specs.Presets.{Book}
 use Rattle.event_sets.specs.declared.refusal.Refusal.{Refusal}
 use Rattle.event_sets.specs.AtRest.{AtRest, Widths, is_bad_threshold, place_of}
 use Rattle.event_sets.proofs.Removed.{removed_all}
-use Rattle.session_model.specs.declared.call.Call.{Call}
-use Rattle.session_model.specs.declared.call.Call.TheVariants as call
+use Rattle.session_model.specs.CallTypes.{Call}
+use Rattle.call_type.specs.declared.call.Call.TheVariants as call
 use Rattle.session_model.specs.Account.{Account}
 use Rattle.session_model.specs.Faces.{at}
 use Rattle.session_model.specs.Replies.{refused}
 use Rattle.session_model.specs.Step.{account_refusal, performed, replies_to, step, unless}
-use Rattle.session_laws.proofs.Sets.{test_fails}
+use Rattle.session_model.proofs.Sets.{test_fails}
 use Rattle.call_laws.specs.History.{CallReply, Thread, answered, history, makes}
 use Rattle.call_laws.specs.Passings.{first_native, threshold_at}
 use Rattle.call_laws.specs.SetCalls.{changed, holds_after, set_now, set_of_call}

@@ -10,8 +10,8 @@ use Rattle.std.proofs.lemmas.List.{drop-drop}
 use Rattle.std.proofs.Math.Seq.{take-add}
 use Rattle.papi_base.specs.declared.occurrence.Occ.{Occ}
 use Rattle.postfix_rules.specs.Presets.{Book}
-use Rattle.session_model.specs.declared.call.Call.{Call}
-use Rattle.session_model.specs.declared.call.Call.TheVariants as call
+use Rattle.session_model.specs.CallTypes.{Call}
+use Rattle.call_type.specs.declared.call.Call.TheVariants as call
 use Rattle.session_model.specs.declared.reply.Reply.{Reply}
 use Rattle.session_model.specs.Account.{Kept}
 use Rattle.session_model.specs.Bounds.{AllWithin, IsWithin}
@@ -19,7 +19,7 @@ use Rattle.session_model.specs.Changes.{kept_after, new_kept}
 use Rattle.session_model.specs.Counts.{in_window}
 use Rattle.session_model.specs.Faces.{at, change}
 use Rattle.session_model.specs.Values.{values_of}
-use Rattle.session_laws.proofs.Sets.{each_at}
+use Rattle.session_model.proofs.Sets.{each_at}
 use Rattle.call_laws.specs.History.{CallReply, OccAfter, is_ok, makes, placed_after, taken, taken_by}
 use Rattle.call_laws.specs.SetCalls.{changed, set_now, holds_after, is_accum, is_clearing, is_zeroing, runs_now, runs_after, set_of_call}
 use Rattle.call_laws.specs.Measures.{values_over}

@@ -8,8 +8,8 @@ use Rattle.papi_base.specs.declared.limits.TheConstants.{MOST_SETS}
 use Rattle.papi_base.specs.declared.occurrence.Occ.{Occ}
 use Rattle.postfix_rules.specs.Presets.{Book}
 use Rattle.event_sets.specs.AtRest.{AtRest, Widths}
-use Rattle.session_model.specs.declared.call.Call.{Call}
-use Rattle.session_model.specs.declared.call.Call.TheVariants as call
+use Rattle.session_model.specs.CallTypes.{Call}
+use Rattle.call_type.specs.declared.call.Call.TheVariants as call
 use Rattle.session_model.specs.Account.{Account, Kept, last_after}
 use Rattle.session_model.specs.Bounds.{IsWithin}
 use Rattle.session_model.specs.Counts.{in_window}
@@ -17,9 +17,9 @@ use Rattle.session_model.specs.Faces.{at}
 use Rattle.session_model.specs.Replies.{sight_of_kept}
 use Rattle.session_model.specs.Step.{notes_to, performed, replies_to, step}
 use Rattle.session_model.specs.Thresholds.{notes_at, notes_of_place, notes_over, passed_in}
-use Rattle.session_laws.proofs.Counted.{places_stay}
-use Rattle.session_laws.proofs.Sets.{each_at, step_has}
-use Rattle.session_laws.proofs.CountsInTurns.{last-append}
+use Rattle.session_model.proofs.Counted.{places_stay}
+use Rattle.session_model.proofs.Sets.{each_at, step_has}
+use Rattle.session_model.proofs.CountsInTurns.{last-append}
 use Rattle.call_laws.specs.History.{CallReply, OccAfter, Thread, begun, history, placed_after, taken, taken_by}
 use Rattle.call_laws.specs.Passings.{NotesAreThePassings, note_of, notes_of_call, notes_of_occ, notes_of_run, notes_of_set, passing_indexes, passings}
 use Rattle.call_laws.specs.SetCalls.{runs_now, set_now}

@@ -22,8 +22,8 @@ use Rattle.papi_base.proofs.Weights.{weight_of-le}
 use Rattle.overflow_dispatch.specs.declared.handler.Note.{Note}
 use Rattle.postfix_rules.specs.Presets.{Book, lead}
 use Rattle.event_sets.specs.AtRest.{AtRest}
-use Rattle.session_model.specs.declared.call.Call.{Call}
-use Rattle.session_model.specs.declared.call.Call.TheVariants as call
+use Rattle.session_model.specs.CallTypes.{Call}
+use Rattle.call_type.specs.declared.call.Call.TheVariants as call
 use Rattle.call_laws.specs.History.{CallReply, OccAfter, Thread, answered, makes, newly_taken, placed_after, taken, taken_by}
 use Rattle.call_laws.specs.Measures.{count_over}
 use Rattle.call_laws.specs.Passings.{Moment, OneNoteForEach, first_native, is_note_of, moment, note_of, notes_of_call, notes_of_occ, notes_of_run, notes_of_set, passes, passings_since, reaches_more, threshold_at}

@@ -11,7 +11,7 @@ use Rattle.postfix_rules.specs.NativeCodes.{native_code, native_named}
 use Rattle.postfix_rules.specs.Presets.{Book}
 use Rattle.postfix_rules.specs.Sameness.{among, joined_by, same_native}
 use Rattle.event_sets.specs.AtRest.{Widths}
-use Rattle.session_model.specs.declared.call.Call.{Call}
+use Rattle.session_model.specs.CallTypes.{Call}
 use Rattle.session_model.specs.declared.line.Line.{Line}
 use Rattle.session_model.specs.Account.{Account}
 use Rattle.session_model.specs.Step.{account_after, notes_to, performed, replies_to, step}

@@ -7,8 +7,8 @@ use Rattle.postfix_rules.specs.Presets.{Book}
 use Rattle.event_sets.specs.declared.refusal.Clash.{Clash}
 use Rattle.event_sets.specs.declared.refusal.Refusal.{Refusal}
 use Rattle.event_sets.specs.AtRest.{Widths}
-use Rattle.session_model.specs.declared.call.Call.{Call}
-use Rattle.session_model.specs.declared.call.Call.TheVariants as call
+use Rattle.session_model.specs.CallTypes.{Call}
+use Rattle.call_type.specs.declared.call.Call.TheVariants as call
 use Rattle.session_model.specs.declared.reply.Body.{Body}
 use Rattle.session_model.specs.declared.reply.Body.TheVariants as body
 use Rattle.session_model.specs.declared.reply.Reply.{Reply}
@@ -17,7 +17,7 @@ use Rattle.session_model.specs.Faces.{Face, faces_of}
 use Rattle.session_model.specs.Refusals.{conflict_of, first_of, rows}
 use Rattle.session_model.specs.Replies.{Sight, refused, reply_over}
 use Rattle.session_model.specs.Step.{account_refusal}
-use Rattle.session_laws.proofs.Sets.{row_fails}
+use Rattle.session_model.proofs.Sets.{row_fails}
 use Rattle.call_laws.specs.History.{CallReply, is_ok, makes, set_made, taken_by}
 use Rattle.call_laws.specs.SetCalls.{changed, set_of_call}
 use Rattle.call_laws.proofs.Places.{is_number-other, is_number-same}

@@ -5,12 +5,12 @@ use Rattle.std.proofs.Common.{◌≡◌, ℕ, ℤ, true, false, List, length, re
 use Rattle.std.specs.Option.{option_map_or}
 use Rattle.postfix_rules.specs.Presets.{Book}
 use Rattle.event_sets.specs.AtRest.{Widths}
-use Rattle.session_model.specs.declared.call.Call.{Call}
-use Rattle.session_model.specs.declared.call.Call.TheVariants as call
+use Rattle.session_model.specs.CallTypes.{Call}
+use Rattle.call_type.specs.declared.call.Call.TheVariants as call
 use Rattle.session_model.specs.declared.reply.Body.TheVariants as body
 use Rattle.session_model.specs.Account.{Account, Kept}
 use Rattle.session_model.specs.Bounds.{IsWithin}
-use Rattle.session_laws.proofs.Sets.{each_at}
+use Rattle.session_model.proofs.Sets.{each_at}
 use Rattle.session_model.specs.Faces.{at, faces_of, is_absent}
 use Rattle.session_model.specs.Refusals.{rows}
 use Rattle.session_model.specs.Replies.{done}

@@ -10,8 +10,8 @@ use Rattle.papi_base.specs.declared.occurrence.Occ.{Occ}
 use Rattle.postfix_rules.specs.Presets.{Book}
 use Rattle.event_sets.specs.declared.refusal.Refusal.{Refusal}
 use Rattle.event_sets.specs.AtRest.{Widths}
-use Rattle.session_model.specs.declared.call.Call.{Call}
-use Rattle.session_model.specs.declared.call.Call.TheVariants as call
+use Rattle.session_model.specs.CallTypes.{Call}
+use Rattle.call_type.specs.declared.call.Call.TheVariants as call
 use Rattle.session_model.specs.declared.reply.Reply.{Reply}
 use Rattle.session_model.specs.Account.{Account, Kept}
 use Rattle.session_model.specs.Bounds.{AllWithin}
@@ -20,8 +20,8 @@ use Rattle.session_model.specs.Changes.{changed_at, kept_after}
 use Rattle.session_model.specs.Refusals.{rows}
 use Rattle.session_model.specs.Replies.{refused, reply_over, sight_of_kept}
 use Rattle.session_model.specs.Step.{account_after, account_refusal, performed, replies_to, step, unless}
-use Rattle.session_laws.proofs.Sets.{at_map, row_fails}
-use Rattle.session_laws.proofs.Within.{opening_within, within_stays}
+use Rattle.session_model.proofs.Sets.{at_map, row_fails}
+use Rattle.session_model.proofs.Within.{opening_within, within_stays}
 use Rattle.call_laws.specs.History.{CallReply, Thread, answered, begun, history}
 use Rattle.call_laws.specs.SetCalls.{set_of_call}
 use Rattle.call_laws.proofs.Follows.{Follows, changed_follows, gone_follows, idle_follows, made_follows, ran_follows, running}

@@ -2,7 +2,7 @@
 use Rattle.std.specs.Prelude.{[], ◌∷◌, ◌++◌, ◌≡◌, Err}
 use Rattle.papi_base.specs.declared.native.EventRef.TheVariants as event
 use Rattle.papi_base.specs.declared.code.Code.TheVariants as code
-use Rattle.session_model.specs.declared.call.Call.TheVariants.{Create, Add, Remove, SetMultiplex, ListEvents, Assign}
+use Rattle.call_type.specs.declared.call.Call.TheVariants.{Create, Add, Remove, SetMultiplex, ListEvents, Assign}
 use Rattle.session_model.specs.Replies.{plain}
 use Rattle.call_laws.specs.Lab.{inst, cycles, br_inst, br_misp, cache, ref_cycles, masked, no_fixed, named, preset, times, masked_adds, ok, number, clash, assigned, events, replies, replies_by_book}
 

@@ -1,6 +1,6 @@
 -- What sets count. Worked rows over the lab unit, for PAPI_read(3), PAPI_set_domain(3).
 use Rattle.std.specs.Prelude.{pos, [], ◌∷◌, ◌≡◌}
-use Rattle.session_model.specs.declared.call.Call.TheVariants.{Create, Add, SetDomain, Start, Stop, Read, Accum, Reset, Raw, Run}
+use Rattle.call_type.specs.declared.call.Call.TheVariants.{Create, Add, SetDomain, Start, Stop, Read, Accum, Reset, Raw, Run}
 use Rattle.call_laws.specs.Lab.{inst, inst_k, cycles, masked, inverted, edged, named, occ_at, occ, kernel_occ, steady, ok, number, values, ran, register, replies}
 
 -- one event: create, add, start, run, read, stop

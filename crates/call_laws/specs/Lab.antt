@@ -13,10 +13,9 @@ use Rattle.postfix_rules.specs.declared.rule.Rule.TheVariants as rule
 use Rattle.postfix_rules.specs.declared.token.Token.TheVariants as token
 use Rattle.postfix_rules.specs.declared.token.Operator.TheVariants as op
 use Rattle.postfix_rules.specs.Presets.{Book}
-use Rattle.session_model.specs.declared.call.Call.{Call}
-use Rattle.session_model.specs.declared.call.Call.TheVariants.{Add}
-use Rattle.session_model.specs.declared.line.Asked.{Asked}
-use Rattle.session_model.specs.declared.line.Asked.TheVariants as asked
+use Rattle.session_model.specs.CallTypes.{Asked, Call}
+use Rattle.call_type.specs.declared.call.Call.TheVariants.{Add}
+use Rattle.call_type.specs.declared.call.Asked.TheVariants as asked
 use Rattle.session_model.specs.declared.line.Line.{Line}
 use Rattle.session_model.specs.declared.reply.Body.TheVariants as body
 use Rattle.session_model.specs.declared.reply.Ended.{Ended}

@@ -5,6 +5,8 @@ pub mod Values
 pub mod Passings
 pub mod Refusing
 pub mod Lab
+pub mod Conflicts
+pub mod OfThreads
 pub mod AllocationRows
 pub mod CountingRows
 pub mod ThresholdRows
@@ -12,3 +14,11 @@ pub mod MultiplexingRows
 pub mod PresetRows
 pub mod RefusalRows
 pub mod ThreadRows
+pub mod Exact
+pub mod Nesting
+pub mod Positions
+pub mod Readings
+pub mod RegionRows
+pub mod Scripts
+pub mod Spans
+pub mod Tapes

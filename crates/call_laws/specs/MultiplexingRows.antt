@@ -1,7 +1,7 @@
 -- Native events that take turns. Worked rows over the lab unit, for PAPI_set_multiplex(3).
 use Rattle.std.specs.Prelude.{pos, [], ◌∷◌, ◌≡◌}
 use Rattle.papi_base.specs.declared.code.Code.TheVariants as code
-use Rattle.session_model.specs.declared.call.Call.TheVariants.{Create, Add, SetMultiplex, Start, Read, State, Assign, Raw, Run}
+use Rattle.call_type.specs.declared.call.Call.TheVariants.{Create, Add, SetMultiplex, Start, Read, State, Assign, Raw, Run}
 use Rattle.session_model.specs.Replies.{plain}
 use Rattle.call_laws.specs.Lab.{br_inst, br_misp, named, occ_at, occ, ok, number, values, ran, state, replies}
 

@@ -8,7 +8,7 @@ use Rattle.papi_base.specs.declared.occurrence.Occ.{Occ}
 use Rattle.overflow_dispatch.specs.declared.handler.Note.{Note}
 use Rattle.postfix_rules.specs.Presets.{Book, lead}
 use Rattle.event_sets.specs.AtRest.{AtRest}
-use Rattle.session_model.specs.declared.call.Call.{Call}
+use Rattle.session_model.specs.CallTypes.{Call}
 use Rattle.session_model.specs.Step.{notes_to}
 use Rattle.call_laws.specs.History.{CallReply, OccAfter, Thread, answered, begun, newly_taken}
 use Rattle.call_laws.specs.Measures.{count_over}

@@ -3,7 +3,7 @@ use Rattle.std.specs.Prelude.{pos, [], ◌∷◌, ◌++◌, ◌≡◌, Some}
 use Rattle.postfix_rules.specs.Values.{formula_value}
 use Rattle.postfix_rules.specs.declared.token.Token.TheVariants as token
 use Rattle.postfix_rules.specs.declared.token.Operator.TheVariants as op
-use Rattle.session_model.specs.declared.call.Call.TheVariants.{Create, Add, Remove, Start, Stop, Read, Assign, Run}
+use Rattle.call_type.specs.declared.call.Call.TheVariants.{Create, Add, Remove, Start, Stop, Read, Assign, Run}
 use Rattle.session_model.specs.Step.{replies_to}
 use Rattle.call_laws.specs.Lab.{inst, cycles, cache, shape, book, stall2, preset, occ, thread_of, ok, number, values, ran, assigned, replies_by_book}
 

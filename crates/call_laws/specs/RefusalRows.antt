@@ -4,8 +4,8 @@ use Rattle.papi_base.specs.declared.limits.TheConstants.{MOST_SETS}
 use Rattle.papi_base.specs.declared.native.EventRef.TheVariants as event
 use Rattle.papi_base.specs.declared.code.Code.TheVariants as code
 use Rattle.papi_base.specs.declared.occurrence.LineCause.TheVariants.{Stamp}
-use Rattle.session_model.specs.declared.call.Call.TheVariants.{Create, Destroy, Cleanup, Add, Remove, AssignComponent, SetDomain, SetMultiplex, Overflow, Start, Stop, Read, State, Raw, Run}
-use Rattle.session_model.specs.declared.line.Asked.TheVariants as asked
+use Rattle.call_type.specs.declared.call.Call.TheVariants.{Create, Destroy, Cleanup, Add, Remove, AssignComponent, SetDomain, SetMultiplex, Overflow, Start, Stop, Read, State, Raw, Run}
+use Rattle.call_type.specs.declared.call.Asked.TheVariants as asked
 use Rattle.session_model.specs.declared.reply.Ended.TheVariants as ended
 use Rattle.papi_base.specs.Streams.{Bad}
 use Rattle.session_model.specs.Account.{opening}

@@ -2,8 +2,8 @@
 use Rattle.std.specs.Prelude.{pos, [], ◌∷◌, ◌≡◌}
 use Rattle.papi_base.specs.declared.native.EventRef.TheVariants as event
 use Rattle.papi_base.specs.declared.code.Code.TheVariants as code
-use Rattle.session_model.specs.declared.call.Call.TheVariants.{Register, Unregister, Create, Add, Start, Stop, Read, Run}
-use Rattle.session_model.specs.declared.line.Asked.TheVariants as asked
+use Rattle.call_type.specs.declared.call.Call.TheVariants.{Register, Unregister, Create, Add, Start, Stop, Read, Run}
+use Rattle.call_type.specs.declared.call.Asked.TheVariants as asked
 use Rattle.session_model.specs.declared.reply.Ended.TheVariants as ended
 use Rattle.papi_base.specs.Streams.{Fault}
 use Rattle.session_model.specs.Replies.{plain}

@@ -1,7 +1,7 @@
 -- Thresholds that are passed, and the registers then. Worked rows over the lab unit, for PAPI_overflow(3).
 use Rattle.std.specs.Prelude.{pos, [], ◌∷◌, ◌≡◌}
 use Rattle.papi_base.specs.declared.code.Code.TheVariants as code
-use Rattle.session_model.specs.declared.call.Call.TheVariants.{Create, Add, Overflow, Start, Read, State, Raw, Run}
+use Rattle.call_type.specs.declared.call.Call.TheVariants.{Create, Add, Overflow, Start, Read, State, Raw, Run}
 use Rattle.session_model.specs.Replies.{plain}
 use Rattle.call_laws.specs.Lab.{inst, cycles, named, steady, ok, number, values, ran, register, state, note, replies, notes}
 

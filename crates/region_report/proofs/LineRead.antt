@@ -9,8 +9,9 @@ use Rattle.papi_base.specs.declared.limits.TheConstants.{THREADS}
 use Rattle.papi_base.specs.Numerals.{is_empty}
 use Rattle.table_rows.specs.Texts.{Text, decimal_in, is_decimal, is_numeral, is_printable, is_printable_byte}
 use Rattle.table_rows.proofs.Texts.{Digits, decimal-digits, decimal-numeral, decimal-value}
-use Rattle.script_lines.specs.declared.call.ScriptCall.{ScriptCall}
-use Rattle.script_lines.specs.declared.call.ScriptCall.TheVariants as script
+use Rattle.call_type.specs.declared.call.Asked.TheVariants as line
+use Rattle.call_type.specs.declared.call.Call.{Call}
+use Rattle.call_type.specs.declared.call.Call.TheVariants as script
 use Rattle.script_lines.specs.declared.fault.ScriptCause.TheVariants.{BadNumber, BadThread}
 use Rattle.script_lines.specs.Arguments.{number_in, number_or}
 use Rattle.script_lines.specs.Calls.{call_of, call_rows}
@@ -26,7 +27,7 @@ use Rattle.region_report.specs.CallLines.{ThreadCall, is_event, is_event_charact
 -- ---- the text of a call
 
 -- the words of a call, of those that are asked
-abbrev pub words_for : ScriptCall → Text
+abbrev pub words_for : Call Text → Text
 words_for script.Create = codes "create"
 words_for (script.Add set event) = codes "add 0 " ++ event
 words_for (script.Start set) = codes "start 0"
@@ -35,7 +36,7 @@ words_for (script.Run count) = codes "run " ++ decimal count
 words_for other = []
 
 -- a call that has these words
-abbrev pub IsWritten : ScriptCall → Type 0
+abbrev pub IsWritten : Call Text → Type 0
 IsWritten script.Create = Unit {0}
 IsWritten (script.Add set event) = (set ≡ 0) × (is_event event ≡ true)
 IsWritten (script.Start set) = set ≡ 0
@@ -44,8 +45,8 @@ IsWritten (script.Run count) = count < 2 ^ 32
 IsWritten other = ⊥
 
 -- what each of these calls has, every written call has
-pub written : (P : ScriptCall → Type 0) → P script.Create → ((event : Text) → is_event event ≡ true → P (script.Add 0 event)) → P (script.Start 0) → P (script.Read 0)
-    → ((count : ℕ) → count < 2 ^ 32 → P (script.Run count)) → (c : ScriptCall) → IsWritten c → P c
+pub written : (P : Call Text → Type 0) → P script.Create → ((event : Text) → is_event event ≡ true → P (script.Add 0 event)) → P (script.Start 0) → P (script.Read 0)
+    → ((count : ℕ) → count < 2 ^ 32 → P (script.Run count)) → (c : Call Text) → IsWritten c → P c
 written P create add start read run script.Create h = create
 written P create add start read run (script.Add set event) h = subst (λ n. P (script.Add n event)) (sym h.0) (add event h.1)
 written P create add start read run (script.Start set) h = subst (λ n. P (script.Start n)) (sym h) start
@@ -138,7 +139,7 @@ not_skipped : (a : ThreadCall) → a.thread < THREADS → is_skipped (line_for a
 not_skipped a small = first_of_numeral (decimal a.thread) (codes " " ++ words_for a.call) (decimal-digits a.thread (omega (arith, small))) (decimal_nonempty a.thread (omega (arith, small)))
 
 -- the words after the thread
-abbrev later_words : ScriptCall → List Text
+abbrev later_words : Call Text → List Text
 later_words script.Create = codes "create" ∷ []
 later_words (script.Add set event) = codes "add" ∷ codes "0" ∷ event ∷ []
 later_words (script.Start set) = codes "start" ∷ codes "0" ∷ []
@@ -146,7 +147,7 @@ later_words (script.Read set) = codes "read" ∷ codes "0" ∷ []
 later_words (script.Run count) = codes "run" ∷ decimal count ∷ []
 later_words other = []
 
-words_later : (c : ScriptCall) → IsWritten c → words_of (words_for c) ≡ later_words c
+words_later : (c : Call Text) → IsWritten c → words_of (words_for c) ≡ later_words c
 unfolding words_of
 words_later = written (λ c. words_of (words_for c) ≡ later_words c) refl add refl refl run where
   add : (event : Text) → is_event event ≡ true → words_of (words_for (script.Add 0 event)) ≡ later_words (script.Add 0 event)
@@ -174,11 +175,11 @@ unfolding decimal_in is_decimal is_numeral
 zero_read = refl
 
 -- the line of later words
-abbrev Gives : ℕ → ℕ → List Text → ScriptCall → Type 0
+abbrev Gives : ℕ → ℕ → List Text → Call Text → Type 0
 Gives number thread [] c = ⊥
-Gives number thread (word ∷ arguments) c = call_of word arguments ≡ Ok c
+Gives number thread (word ∷ arguments) c = call_of word arguments ≡ Ok (line.Call c)
 
-call_read : (number thread : ℕ) (c : ScriptCall) → IsWritten c → Gives number thread (later_words c) c
+call_read : (number thread : ℕ) (c : Call Text) → IsWritten c → Gives number thread (later_words c) c
 unfolding call_rows
 call_read number thread = written (λ c. Gives number thread (later_words c) c) refl add (rw zero_read refl) (rw zero_read refl) (λ count h. rw (number_read count h) refl) where
   add : (event : Text) → is_event event ≡ true → Gives number thread (later_words (script.Add 0 event)) (script.Add 0 event)
@@ -187,8 +188,8 @@ call_read number thread = written (λ c. Gives number thread (later_words c) c) 
       let printable = printable_event event parts.1 in
       rw (printable, zero_read) refl
 
-by_words : (number thread : ℕ) (words : List Text) (c : ScriptCall) → Gives number thread words c → thread_in (decimal thread) ≡ Ok thread →
-    line_of_words number (decimal thread ∷ words) ≡ Ok (line_with number thread c)
+by_words : (number thread : ℕ) (words : List Text) (c : Call Text) → Gives number thread words c → thread_in (decimal thread) ≡ Ok thread →
+    line_of_words number (decimal thread ∷ words) ≡ Ok (line_with number thread (line.Call c))
 by_words number thread [] c h e = absurd h
 by_words number thread (word ∷ arguments) c h e = rw (e, h) refl
 
@@ -197,7 +198,7 @@ line_words a small h =
     word_then (decimal a.thread) (words_for a.call) (decimal_nonempty a.thread (omega (arith, small))) (numeral_word a.thread (omega (arith, small)))
     ∙ ap (λ ws. decimal a.thread ∷ ws) (words_later a.call h)
 
-line_read : (number above : ℕ) (a : ThreadCall) → above < 100000 → a.thread < THREADS → IsWritten a.call → call_line number above (line_for a) ≡ Ok (line_with number a.thread a.call)
+line_read : (number above : ℕ) (a : ThreadCall) → above < 100000 → a.thread < THREADS → IsWritten a.call → call_line number above (line_for a) ≡ Ok (line_with number a.thread (line.Call a.call))
 unfolding call_line
 line_read number above a few small h =
     let room : nat_le 100000 above ≡ false = grind (arith, tests, few) in

@@ -14,8 +14,8 @@ use Rattle.papi_base.specs.declared.limits.TheConstants.{THREADS}
 use Rattle.papi_base.specs.Numerals.{is_empty}
 use Rattle.table_rows.specs.Texts.{Text}
 use Rattle.table_rows.proofs.Texts.{Digits, decimal-digits}
-use Rattle.script_lines.specs.declared.call.ScriptCall.{ScriptCall}
-use Rattle.script_lines.specs.declared.call.ScriptCall.TheVariants as script
+use Rattle.call_type.specs.declared.call.Call.{Call}
+use Rattle.call_type.specs.declared.call.Call.TheVariants as script
 use Rattle.script_lines.specs.ByLine.{lines_from}
 use Rattle.script_lines.specs.Scripts.{script_of, scripts}
 use Rattle.script_lines.proofs.LineCuts.{lines-cut}
@@ -53,7 +53,7 @@ abbrev known : (t : Text) → list_all is_inside t ≡ true → AreInside t
 known [] e = tt
 known (b ∷ t) e = let parts = and_parts (is_inside b) (list_all is_inside t) e in (parts.0, known t parts.1)
 
-inside_words : (c : ScriptCall) → IsWritten c → AreInside (words_for c)
+inside_words : (c : Call Text) → IsWritten c → AreInside (words_for c)
 inside_words = written (λ c. AreInside (words_for c)) (known (codes "create") refl) add (known (codes "start 0") refl) (known (codes "read 0") refl) run where
   add : (event : Text) → is_event event ≡ true → AreInside (codes "add 0 " ++ event)
   add event h =

@@ -6,8 +6,9 @@ use Rattle.papi_base.specs.Numerals.{is_empty}
 use Rattle.papi_base.specs.declared.limits.TheConstants.{THREADS}
 use Rattle.table_rows.specs.Texts.{Text}
 use Rattle.script_lines.specs.Scripts.{script_of}
-use Rattle.script_lines.specs.declared.call.ScriptCall.{ScriptCall}
-use Rattle.script_lines.specs.declared.call.ScriptCall.TheVariants as script
+use Rattle.call_type.specs.declared.call.Asked.TheVariants as line
+use Rattle.call_type.specs.declared.call.Call.{Call}
+use Rattle.call_type.specs.declared.call.Call.TheVariants as script
 use Rattle.script_lines.specs.declared.script.ScriptLine.{ScriptLine}
 use Rattle.region_report.specs.Calls.{has_lines, script_text}
 use Rattle.region_report.specs.declared.regions.RegionCall.{RegionCall}
@@ -35,18 +36,18 @@ pub record AreEvents (events : List Text) : Type 0 where
 -- a call of a thread
 pub record ThreadCall : Type 0 where
   pub thread : ℕ
-  pub call : ScriptCall
+  pub call : Call Text
 
 -- a thread asks for a call
-abbrev pub asks : ℕ → ScriptCall → ThreadCall
+abbrev pub asks : ℕ → Call Text → ThreadCall
 asks thread call = record { thread = thread; call = call }
 
 -- a set of the events, which counts from then on
-abbrev pub opening_calls : List Text → List ScriptCall
+abbrev pub opening_calls : List Text → List (Call Text)
 opening_calls events = script.Create ∷ (map (λ event. script.Add 0 event) events ++ script.Start 0 ∷ [])
 
 -- a line that begins, reads or ends a region reads the set
-abbrev pub call_for : RegionCall → ScriptCall
+abbrev pub call_for : RegionCall → Call Text
 call_for (call.Begin name) = script.Read 0
 call_for (call.Read name) = script.Read 0
 call_for (call.End name) = script.Read 0
@@ -67,7 +68,7 @@ asked lines events = flat_map (asked_first lines events) (range_with_len 0 THREA
 -- each on a line of its own, of which the first has this number
 abbrev pub numbered : ℕ → List ThreadCall → List ScriptLine
 numbered number [] = []
-numbered number (a ∷ more) = record { line = number; thread = a.thread; call = a.call } ∷ numbered (number + 1) more
+numbered number (a ∷ more) = record { line = number; thread = a.thread; call = line.Call a.call } ∷ numbered (number + 1) more
 
 -- The script of calls that a region script stands for has no fault, and these are its calls.
 abbrev pub ReadsAsCalls : List RegionLine → List Text → Type 0

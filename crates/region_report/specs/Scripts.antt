@@ -25,6 +25,7 @@ pub record Above : Type 0 where
   pub readings : ℕ
   pub opens : List (List Open)
 
+-- what stands above a line
 abbrev pub above_line : ℕ → ℕ → List (List Open) → Above
 above_line lines readings opens = record { lines = lines; readings = readings; opens = opens }
 

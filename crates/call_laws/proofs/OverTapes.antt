@@ -1,0 +1,58 @@
+-- The laws of threads and regions over streams of any bytes.
+use Rattle.std.proofs.Common.{◌≡◌, ◌≤◌, ℕ, List, ◌++◌, length, sym, ap₂, subst, ◌∙◌, Some}
+use Rattle.std.specs.Prelude.{All}
+use Rattle.std.proofs.lemmas.List.{take-append-drop}
+use Rattle.std.proofs.lemmas.List.Elements.{All-weaker}
+use Rattle.papi_base.specs.Outside.{Tape}
+use Rattle.papi_base.specs.declared.limits.TheConstants.{LARGEST_AMOUNT}
+use Rattle.session_model.specs.CallTypes.{Call}
+use Rattle.session_model.specs.Account.{Kept}
+use Rattle.session_model.specs.Bounds.{IsWithin, Rises}
+use Rattle.session_model.specs.Faces.{at}
+use Rattle.session_model.proofs.CountsInTurns.{counts_per_tick, one_group_counts}
+use Rattle.session_model.proofs.Sets.{each_at}
+use Rattle.session_model.proofs.Within.{rises-front}
+use Rattle.call_laws.specs.History.{Thread, answered, taken}
+use Rattle.call_laws.specs.Tapes.{NativesAreExactOverTape, OneGroupOverTape, OneNoteOverTape, PastRises, StreamStays, TurnsCountPerTick, account_of, said, thread_over}
+use Rattle.call_laws.proofs.Bounded.{natives_are_exact}
+use Rattle.call_laws.proofs.Given.{amounts_fit, said_rises}
+use Rattle.call_laws.proofs.Often.{one_for_each}
+use Rattle.call_laws.proofs.Steps.{thread_follows}
+
+-- no amount of a stream is above 255
+small : (tape : Tape) → All (λ o. o.amount ≤ LARGEST_AMOUNT) (said tape).rest
+small tape = All-weaker (λ o. (1 ≤ o.amount) × (o.amount ≤ LARGEST_AMOUNT)) (λ o. o.amount ≤ LARGEST_AMOUNT) (λ o h. h.1) (said tape).rest (amounts_fit tape)
+
+-- ---- threads
+
+pub stream_stays : StreamStays
+stream_stays t calls =
+    let h = thread_follows t calls in
+    ap₂ ◌++◌ h.past_is h.rest_is ∙ take-append-drop (taken (answered t calls)) t.stream
+
+pub past_rises : PastRises
+past_rises book shape number tape calls =
+    let a = account_of (thread_over book shape number tape) calls in
+    rises-front 0 a.past a.rest (subst (Rises 0) (sym (stream_stays (thread_over book shape number tape) calls)) (said_rises tape))
+
+pub one_note_over_tape : OneNoteOverTape
+one_note_over_tape book shape number tape calls k i n armed = one_for_each (thread_over book shape number tape) calls k i n (small tape) armed
+
+-- the window of a set lies in the past
+within : (t : Thread) (calls : List Call) (k : ℕ) (s : Kept) → at (account_of t calls).sets k ≡ Some s → IsWithin (length (account_of t calls).past) s
+within t calls k s here = each_at (IsWithin (length (account_of t calls).past)) (account_of t calls).sets k s (thread_follows t calls).within.each here
+
+pub turns_count_per_tick : TurnsCountPerTick
+turns_count_per_tick book shape number tape calls k s slice numbers group n here =
+    counts_per_tick (account_of (thread_over book shape number tape) calls).past s slice numbers group n
+    (past_rises book shape number tape calls) (within (thread_over book shape number tape) calls k s here)
+
+pub one_group_over_tape : OneGroupOverTape
+one_group_over_tape book shape number tape calls k s turns n here one =
+    one_group_counts (account_of (thread_over book shape number tape) calls).past s turns n
+    (past_rises book shape number tape calls) (within (thread_over book shape number tape) calls k s here) one
+
+-- ---- regions
+
+pub natives_are_exact_over_tape : NativesAreExactOverTape
+natives_are_exact_over_tape book tape thread before further p n regions = natives_are_exact book (said tape).rest thread before further p n (small tape) regions

@@ -1,0 +1,41 @@
+-- What a script of several threads replies and tells, by each thread's own calls.
+use Rattle.std.proofs.Common.{◌≡◌, ◌<◌, ℕ, zero, suc, List, [], ◌∷◌, ap, ◌∙◌, slice_get, take, Some}
+use Rattle.std.specs.Option.{option_map}
+use Rattle.papi_base.specs.Streams.{Coming}
+use Rattle.papi_base.specs.declared.limits.TheConstants.{THREADS}
+use Rattle.session_model.specs.Account.{Account}
+use Rattle.session_model.specs.Step.{account_after, step}
+use Rattle.session_model.specs.World.{LineTold, Setting, World, account_at, calls_at, opening_world, told, turn_of, world_after, world_after_line}
+use Rattle.session_model.specs.declared.line.Line.{Line}
+use Rattle.session_model.proofs.ByThread.{account_by_thread, found, notes_by_thread, opens_by_thread}
+use Rattle.call_laws.specs.History.{begun}
+use Rattle.call_laws.specs.OfThreads.{NotesAreOfThreads, RepliesAreOfThreads, thread_in}
+use Rattle.call_laws.specs.Readings.{line_of}
+use Rattle.call_laws.proofs.Noted.{notes_are}
+
+-- what is told of a line, in the world after those before it
+abbrev told_of : Setting → World → Line → LineTold
+told_of at w l = record { line = l; reply = (turn_of at w l).reply; notes = (turn_of at w l).notes }
+
+told_at : (at : Setting) (w : World) (lines : List Line) (i : ℕ) (l : Line) → slice_get lines i ≡ Some l
+    → slice_get (told at w lines) i ≡ Some (told_of at (world_after at w (take i lines)) l)
+told_at at w [] i l e = cc
+told_at at w (x ∷ lines) zero l e = let same : x ≡ l = cc in ap (λ k. Some (told_of at w k)) same
+told_at at w (x ∷ lines) (suc i) l e = told_at at (world_after_line at w x) lines i l e
+
+-- a thread's account after some lines
+account_in : (at : Setting) (streams : List Coming) (lines : List Line) (t : ℕ) → t < THREADS
+    → account_at (world_after at (opening_world streams) lines).accounts t ≡ account_after at.book at.shape (begun (thread_in at streams t)) (calls_at t lines)
+account_in at streams lines t below =
+    found (world_after at (opening_world streams) lines).accounts t (account_after at.book at.shape (begun (thread_in at streams t)) (calls_at t lines))
+    (account_by_thread at (opening_world streams) lines t (begun (thread_in at streams t)) (opens_by_thread streams t below))
+
+pub replies_are_of_threads : RepliesAreOfThreads
+replies_are_of_threads at streams lines i t c below e =
+    ap (option_map (λ (x : LineTold). x.reply)) (told_at at (opening_world streams) lines i (line_of t c) e)
+    ∙ ap (λ (a : Account). Some (step at.book at.shape a c).reply) (account_in at streams (take i lines) t below)
+
+pub notes_are_of_threads : NotesAreOfThreads
+notes_are_of_threads at streams lines t below =
+    notes_by_thread at (opening_world streams) lines t (begun (thread_in at streams t)) (opens_by_thread streams t below)
+    ∙ notes_are (thread_in at streams t) (calls_at t lines)

@@ -1,0 +1,15 @@
+use Rattle.std.proofs.Common.{All, FitsSigned, List, subst}
+use Rattle.std.specs.Int.{w64}
+use Rattle.std.proofs.lemmas.List.{take_all}
+use Rattle.std.proofs.lemmas.List.Elements.{All-map}
+use Rattle.region_report.specs.declared.reports.Reading.{Reading}
+use Rattle.call_laws.proofs.regions.readings_fit.Goals as goal
+
+abbrev Fit : Reading → Type 0
+Fit r = All (FitsSigned w64) r.values
+
+pub returns : goal.returns
+returns c =
+    let readings : List Reading = c.args.readings.now in
+    All-map (λ values. All (FitsSigned w64) values) (λ (r : Reading). r.values) readings
+    (subst (All Fit) (take_all c.loop-reading.reading-index readings c.loop-reading-test.false) c.loop-reading.invariant)

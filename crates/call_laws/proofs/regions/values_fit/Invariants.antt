@@ -1,0 +1,6 @@
+use Rattle.std.proofs.Common.{All, FitsSigned, take}
+use Rattle.std.specs.Int.{w64}
+use Rattle.call_laws.proofs.regions.values_fit.Given as goal
+
+abbrev pub invariant-loop-i : goal.invariant-loop-i
+invariant-loop-i l = All (FitsSigned w64) (take l.i l.values)

@@ -1,5 +1,0 @@
-use Rattle.region_laws.proofs.LookedUp.{script_is_looked_up}
-use Rattle.region_laws.proofs.script_law.Goals as goal
-
-pub returns : goal.returns
-returns c = script_is_looked_up
