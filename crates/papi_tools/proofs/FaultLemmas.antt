@@ -10,8 +10,8 @@ use Rattle.thread_session.specs.Faults.{IsFaultBody, IsFaultReply}
 use Rattle.session_model.specs.declared.reply.Body.{Body}
 use Rattle.session_model.specs.declared.reply.Body.TheVariants as body
 use Rattle.session_model.specs.World.{met_by}
-use Rattle.plan_runner.specs.declared.result.ReplyLine.{ReplyLine}
-use Rattle.plan_runner.specs.Marks.{mark_at, marks_in}
+use Rattle.thread_registry.specs.declared.runner.result.ReplyLine.{ReplyLine}
+use Rattle.thread_registry.specs.Marks.{mark_at, marks_in}
 use Rattle.papi_tools.specs.Marks.{is_bad, is_fault, outcome_at}
 use Rattle.papi_tools.specs.declared.status.Outcome.TheVariants.{Whole, No, Refused, ReadFault}
 

@@ -3,6 +3,7 @@ pub mod FaultLemmas
 pub mod FindingLemmas
 mod LookingLemmas
 pub mod OpeningLemmas
+pub mod OwnReplyLemmas
 pub mod PositionLemmas
 pub mod ProfilLemmas
 pub mod ReadingLemmas

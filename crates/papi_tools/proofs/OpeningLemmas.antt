@@ -3,7 +3,7 @@ use Rattle.std.proofs.Common.{◌≡◌, ◌<◌, ◌+◌, ◌-◌, ℕ, zero, s
 use Rattle.papi_base.specs.Outside.{Tape, Held}
 use Rattle.papi_base.specs.declared.outside.Ending.TheVariants.{End}
 use Rattle.papi_base.specs.Streams.{Coming}
-use Rattle.plan_runner.specs.Runs.{CanEachCome}
+use Rattle.thread_registry.specs.Runs.{CanEachCome}
 use Rattle.stream_reader.specs.Occurs.{occurs_of}
 use Rattle.stream_reader.specs.Reader.{ReaderView, SourceView, comes, new_view, tape_of}
 use Rattle.thread_session.specs.Prospects.{CanCome}

@@ -3,23 +3,24 @@ use Rattle.std.proofs.Common.{◌≡◌, ◌∙◌, ◌<◌, ◌≤◌, ◌++◌
 use Rattle.std.specs.Prelude.{is_ok}
 use Rattle.papi_base.specs.declared.code.Code.{Code}
 use Rattle.papi_base.specs.declared.native.EventRef.{EventRef}
-use Rattle.chooser_list.specs.Choosing as Choosing
-use Rattle.chooser_list.specs.Choosing.{given_set, taken_unless, with_named, with_text, with_texts}
+use Rattle.tool_output.specs.Choosing as Choosing
+use Rattle.tool_output.specs.Choosing.{given_set, taken_unless, with_named, with_text, with_texts}
 use Rattle.component_table.specs.Catalogs.{CatalogView, looked_up}
 use Rattle.event_sets.specs.Adding.{add_refusal}
 use Rattle.event_sets.specs.AtRest.{AtRest, new_set, with_event}
 use Rattle.event_sets.specs.declared.refusal.Refusal.{Refusal}
-use Rattle.region_laws.specs.Nesting.{AreBegun}
-use Rattle.region_laws.specs.Readings.{TakesAll, readings_told, script_of}
-use Rattle.region_laws.specs.Scripts.{LooksUp, ScriptIsLookedUp}
-use Rattle.region_laws.specs.Spans.{AllFit, SpansByPosition, region_spans}
+use Rattle.call_laws.specs.Nesting.{AreBegun}
+use Rattle.call_laws.specs.Readings.{TakesAll, readings_told, script_of}
+use Rattle.call_laws.specs.Scripts.{LooksUp, ScriptIsLookedUp}
+use Rattle.call_laws.specs.Spans.{AllFit, SpansByPosition, region_spans}
 use Rattle.region_report.specs.CallLines.{asked, numbered}
 use Rattle.region_report.specs.Spans.{spans_from}
 use Rattle.script_lines.specs.declared.script.ScriptLine.{ScriptLine}
 use Rattle.script_runner.specs.Resolving.{asked_of, line_of, lines_of, reply_lines_of, setting_of}
+use Rattle.session_model.specs.CallTypes.{Asked}
 use Rattle.session_model.specs.World.{LineTold, Setting, World, opening_world, told, turn_of, world_after_line}
-use Rattle.session_model.specs.declared.call.Call.TheVariants as call
-use Rattle.session_model.specs.declared.line.Asked.TheVariants as line
+use Rattle.call_type.specs.declared.call.Call.TheVariants as call
+use Rattle.call_type.specs.declared.call.Asked.TheVariants as line
 use Rattle.papi_tools.specs.RegionCounts.{GivenRegions, calls_of, events_named, named_by, readings_in, values_in}
 use Rattle.papi_tools.specs.Running.{ran_replies}
 
@@ -34,10 +35,14 @@ one_text : (catalog : CatalogView) (given : Choosing.GivenSet) (text : List ℕ)
 unfolding with_texts
 one_text catalog given text texts = refl
 
+-- an event is added to the set
+abbrev added : Result EventRef Code → Asked
+added e = line.Call (call.Add 0 e)
+
 -- the texts name events, which a set takes one after another
 record AreTaken (catalog : CatalogView) (s : AtRest) (texts : List (List ℕ)) : Type 0 where
   takes : TakesAll catalog.book s (events_named catalog texts)
-  named : map (λ text. line.Call (call.Add 0 (looked_up catalog text))) texts ≡ map (λ e. line.Call (call.Add 0 (Ok e))) (events_named catalog texts)
+  named : map (λ text. added (looked_up catalog text)) texts ≡ map (λ e. added (Ok e)) (events_named catalog texts)
   long : length (events_named catalog texts) ≡ length texts
 
 one_named : (catalog : CatalogView) (text : List ℕ) (texts : List (List ℕ)) (e : EventRef) → looked_up catalog text ≡ Ok e → events_named catalog (text ∷ texts) ≡ e ∷ events_named catalog texts
@@ -47,7 +52,7 @@ taken_more : (catalog : CatalogView) (s : AtRest) (text : List ℕ) (texts : Lis
     AreTaken catalog s (text ∷ texts)
 taken_more catalog s text texts e is none more = record {
   takes = subst (TakesAll catalog.book s) (sym (one_named catalog text texts e is)) (none, more.takes);
-  named = ap₂ (λ r rs. line.Call (call.Add 0 r) ∷ rs) is more.named ∙ ap (map (λ e. line.Call (call.Add 0 (Ok e)))) (sym (one_named catalog text texts e is));
+  named = ap₂ (λ r rs. added r ∷ rs) is more.named ∙ ap (map (λ e. added (Ok e))) (sym (one_named catalog text texts e is));
   long = let same = ap (λ (es : List EventRef). length es) (one_named catalog text texts e is) in omega (arith, same, more.long);
 }
 

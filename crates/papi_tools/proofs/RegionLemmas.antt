@@ -3,18 +3,18 @@ use Rattle.std.proofs.Common.{◌≡◌, ◌∙◌, ◌++◌, ◌≤◌, ◌<◌
 use Rattle.std.specs.Prelude.{is_ok}
 use Rattle.std.proofs.lemmas.Grind.{flat_map-append}
 use Rattle.std.proofs.lemmas.List.{take_more}
-use Rattle.chooser_list.specs.Choosing as Choosing
-use Rattle.chooser_list.specs.Choosing.{all_taken, chooser_text, given_set, refused_text, text_of}
-use Rattle.chooser_list.specs.declared.candidates.Candidates.{Candidates}
+use Rattle.tool_output.specs.Choosing as Choosing
+use Rattle.tool_output.specs.Choosing.{all_taken, chooser_text, given_set, refused_text, text_of}
+use Rattle.tool_output.specs.declared.chooser.candidates.Candidates.{Candidates}
 use Rattle.component_table.specs.Catalogs.{CatalogView}
-use Rattle.plan_runner.specs.Marks.{marks_in}
-use Rattle.plan_runner.specs.declared.result.ReplyLine.{ReplyLine}
-use Rattle.plan_runner.proofs.Worlds.{some-streams}
+use Rattle.thread_registry.specs.Marks.{marks_in}
+use Rattle.thread_registry.specs.declared.runner.result.ReplyLine.{ReplyLine}
+use Rattle.thread_registry.proofs.Worlds.{some-streams}
 use Rattle.region_report.specs.CallLines as Calls
 use Rattle.region_report.specs.CallLines.{asked, numbered}
-use Rattle.region_laws.specs.Nesting.{AreBegun, ScriptsAreBegun}
-use Rattle.region_laws.specs.Scripts.{ScriptIsLookedUp}
-use Rattle.region_laws.specs.Spans.{AllFit, SpansByPosition}
+use Rattle.call_laws.specs.Nesting.{AreBegun, ScriptsAreBegun}
+use Rattle.call_laws.specs.Scripts.{ScriptIsLookedUp}
+use Rattle.call_laws.specs.Spans.{AllFit, SpansByPosition}
 use Rattle.region_report.specs.Kept.{IsRegions}
 use Rattle.region_report.specs.Reports.{report_text}
 use Rattle.region_report.specs.Scripts.{regions_of}

@@ -15,12 +15,12 @@ use Rattle.stream_reader.specs.Reader.{ReaderView, SourceView}
 use Rattle.thread_session.specs.Faults.{FaultsKept, FaultsRose, IsFaultReply, fault_count}
 use Rattle.component_table.specs.Catalogs.{CatalogView, shape_of}
 use Rattle.script_lines.specs.declared.script.ScriptLine.{ScriptLine}
-use Rattle.plan_runner.specs.declared.plan.PlanLine.{PlanLine}
-use Rattle.plan_runner.specs.declared.result.ReplyLine.{ReplyLine}
-use Rattle.plan_runner.specs.Marks.{marks_in}
-use Rattle.plan_runner.specs.Plans.{IsPlanOf}
-use Rattle.plan_runner.specs.Runs.{AllKept, IsPlannedAndTold, IsPlannedFrom, reply_lines}
-use Rattle.plan_runner.proofs.Worlds.{some-streams}
+use Rattle.thread_registry.specs.declared.runner.plan.PlanLine.{PlanLine}
+use Rattle.thread_registry.specs.declared.runner.result.ReplyLine.{ReplyLine}
+use Rattle.thread_registry.specs.Marks.{marks_in}
+use Rattle.thread_registry.specs.Plans.{IsPlanOf}
+use Rattle.thread_registry.specs.Runs.{AllKept, IsPlannedAndTold, IsPlannedFrom, reply_lines}
+use Rattle.thread_registry.proofs.Worlds.{some-streams}
 use Rattle.script_runner.specs.Resolving.{lines_of, reply_lines_of, setting_of}
 use Rattle.papi_tools.specs.Openings.{Answers}
 use Rattle.papi_tools.specs.Looking.{Shows}

@@ -10,7 +10,7 @@ use Rattle.papi_base.specs.Streams.{Coming}
 use Rattle.stream_reader.specs.Reader.{ReaderView, coming}
 use Rattle.component_table.specs.Catalogs.{CatalogView}
 use Rattle.script_lines.specs.declared.script.ScriptLine.{ScriptLine}
-use Rattle.plan_runner.specs.declared.result.ReplyLine.{ReplyLine}
+use Rattle.thread_registry.specs.declared.runner.result.ReplyLine.{ReplyLine}
 use Rattle.soak_input.specs.declared.summary.ThreadTotal.{ThreadTotal}
 use Rattle.tool_words.specs.declared.soak.SoakWords.{SoakWords}
 use Rattle.papi_tools.specs.Openings.{Answers, AnswersBy, and_then}

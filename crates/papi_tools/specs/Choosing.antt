@@ -1,9 +1,9 @@
 -- What `papi_event_chooser` comes to: the events that can be added to given ones, after papi_event_chooser(1). The text is that of
 -- docs/FORMATS.md.
 use Rattle.std.specs.Prelude.{ℕ, List, Result, Ok}
-use Rattle.chooser_list.specs.Choosing.{all_taken, chooser_text}
-use Rattle.chooser_list.specs.declared.candidates.Candidates.{Candidates}
-use Rattle.chooser_list.specs.declared.candidates.Candidates.TheVariants as candidates
+use Rattle.tool_output.specs.Choosing.{all_taken, chooser_text}
+use Rattle.tool_output.specs.declared.chooser.candidates.Candidates.{Candidates}
+use Rattle.tool_output.specs.declared.chooser.candidates.Candidates.TheVariants as candidates
 use Rattle.component_table.specs.Catalogs.{CatalogView}
 use Rattle.tool_words.specs.declared.chooser.ChooserWords.{ChooserWords}
 use Rattle.tool_words.specs.declared.chooser.EventKind.{EventKind}

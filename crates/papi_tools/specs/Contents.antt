@@ -35,6 +35,7 @@ rows_unless kind name (Some fault) given = Err (Faulty name fault.0 (kind fault.
 unfoldable pub unit_of : List ℕ → List ℕ → Result (List ComponentText) Refusal
 unit_of name bytes = rows_unless cause.Row name (unit_fault bytes) (unit_tables bytes)
 
+-- the tables of the unit file of this name
 abbrev pub unit_under : Openings → List ℕ → Result (List ComponentText) Refusal
 unit_under openings name = content_under TABLE_BYTES unit_of openings name
 
@@ -42,6 +43,7 @@ unit_under openings name = content_under TABLE_BYTES unit_of openings name
 unfoldable pub map_of : List ℕ → List ℕ → Result (List RangeText) Refusal
 map_of name bytes = rows_unless cause.MapRow name (map_fault bytes) (map_ranges bytes)
 
+-- the ranges of the map of this name
 abbrev pub map_under : Openings → List ℕ → Result (List RangeText) Refusal
 map_under openings name = content_under TABLE_BYTES map_of openings name
 
@@ -71,6 +73,7 @@ lines_unless kind name (Err refused) = Err (Faulty name refused.line (kind refus
 abbrev pub script_in : List ℕ → List ℕ → Result (List ScriptLine) Refusal
 script_in name bytes = lines_unless cause.Line name (script_of bytes)
 
+-- the lines of the script of this name
 abbrev pub script_under : Openings → List ℕ → Result (List ScriptLine) Refusal
 script_under openings name = content_under SCRIPT_BYTES script_in openings name
 
@@ -78,6 +81,7 @@ script_under openings name = content_under SCRIPT_BYTES script_in openings name
 abbrev pub regions_in : List ℕ → List ℕ → Result (List RegionLine) Refusal
 regions_in name bytes = lines_unless cause.RegionLine name (regions_of bytes)
 
+-- the lines of the region script of this name
 abbrev pub regions_under : Openings → List ℕ → Result (List RegionLine) Refusal
 regions_under openings name = content_under SCRIPT_BYTES regions_in openings name
 

@@ -19,6 +19,7 @@ place_of (Line cause) = codes "line"
 place_of (RegionLine cause) = codes "line"
 place_of _ = codes "row"
 
+-- the words of the cause
 abbrev pub words_of : FileCause → List ℕ
 words_of (Row cause) = Unit.cause_text cause
 words_of (PresetRow cause) = Presets.cause_text cause

@@ -8,6 +8,7 @@ pub mod Looking
 pub mod Marks
 pub mod NativeListing
 pub mod Openings
+pub mod OwnReplies
 pub mod Outputs
 pub mod PresetListing
 pub mod Profiling

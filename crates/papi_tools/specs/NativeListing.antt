@@ -2,8 +2,8 @@
 -- docs/FORMATS.md.
 use Rattle.std.specs.Prelude.{ℕ, true, List, Option, Some, None, is_ok, Result, Ok}
 use Rattle.event_tables.specs.Tables.{ComponentText}
-use Rattle.listing_text.specs.NativeEvents.{native_event}
-use Rattle.listing_text.specs.NativeLists.{native_list}
+use Rattle.tool_output.specs.NativeEvents.{native_event}
+use Rattle.tool_output.specs.NativeLists.{native_list}
 use Rattle.name_encoder.specs.Names.{names}
 use Rattle.tool_words.specs.declared.native_avail.NativeAvailWords.{NativeAvailWords}
 use Rattle.papi_tools.specs.Openings.{Openings, and_then}

@@ -1,8 +1,8 @@
 -- What `papi_avail` comes to: the presets and user events of a cpu, or one of them, after papi_avail(1). The text is that of docs/FORMATS.md.
 use Rattle.std.specs.Prelude.{ℕ, Bool, true, List, Option, Some, None, is_some, Result, Ok}
 use Rattle.component_table.specs.Catalogs.{CatalogView, row_named}
-use Rattle.listing_text.specs.PresetEvents.{preset_event}
-use Rattle.listing_text.specs.PresetLists.{preset_list}
+use Rattle.tool_output.specs.PresetEvents.{preset_event}
+use Rattle.tool_output.specs.PresetLists.{preset_list}
 use Rattle.tool_words.specs.declared.avail.AvailWords.{AvailWords}
 use Rattle.papi_tools.specs.Openings.{Openings, and_then}
 use Rattle.papi_tools.specs.Contents.{catalog_under}

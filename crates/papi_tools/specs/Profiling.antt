@@ -3,7 +3,7 @@ use Rattle.std.specs.Prelude.{◌&&◌, ◌==◌, ℕ, Bool, List, [], filter, m
 use Rattle.overflow_dispatch.specs.declared.handler.Note.{Note}
 use Rattle.session_model.specs.declared.reply.Ended.{Ended}
 use Rattle.component_table.specs.Catalogs.{CatalogView}
-use Rattle.plan_runner.specs.Marks.{marks_in}
+use Rattle.thread_registry.specs.Marks.{marks_in}
 use Rattle.profil_hist.specs.Profiles.{profile_text}
 use Rattle.profil_hist.specs.Ranges.{RangeText}
 use Rattle.tool_words.specs.declared.profil.ProfilWords.{ProfilWords}

@@ -3,12 +3,12 @@ use Rattle.std.specs.Prelude.{ℕ, ℤ, false, List, [], ◌∷◌, length, Resu
 use Rattle.std.specs.List.{flat_map}
 use Rattle.papi_base.specs.declared.code.Code.{Code}
 use Rattle.papi_base.specs.declared.native.EventRef.{EventRef}
-use Rattle.chooser_list.specs.Choosing as Choosing
-use Rattle.chooser_list.specs.Choosing.{given_set, refused_text}
+use Rattle.tool_output.specs.Choosing as Choosing
+use Rattle.tool_output.specs.Choosing.{given_set, refused_text}
 use Rattle.component_table.specs.Catalogs.{CatalogView, looked_up}
-use Rattle.plan_runner.specs.Marks.{marks_in}
-use Rattle.plan_runner.specs.declared.result.ReplyLine.{ReplyLine}
-use Rattle.region_laws.specs.Spans.{region_spans}
+use Rattle.thread_registry.specs.Marks.{marks_in}
+use Rattle.thread_registry.specs.declared.runner.result.ReplyLine.{ReplyLine}
+use Rattle.call_laws.specs.Spans.{region_spans}
 use Rattle.region_report.specs.CallLines.{asked, numbered}
 use Rattle.region_report.specs.Reports.{report_text}
 use Rattle.region_report.specs.declared.regions.RegionLine.{RegionLine}

@@ -5,8 +5,8 @@ use Rattle.std.specs.List.{flat_map}
 use Rattle.overflow_dispatch.specs.declared.handler.Note.{Note}
 use Rattle.session_model.specs.declared.reply.Ended.{Ended}
 use Rattle.component_table.specs.Catalogs.{CatalogView}
-use Rattle.plan_runner.specs.Marks.{marks_in}
-use Rattle.plan_runner.specs.declared.result.ReplyLine.{ReplyLine}
+use Rattle.thread_registry.specs.Marks.{marks_in}
+use Rattle.thread_registry.specs.declared.runner.result.ReplyLine.{ReplyLine}
 use Rattle.script_runner.specs.Replies.{notes_text, replies_text}
 use Rattle.tool_words.specs.declared.run.RunWords.{RunWords}
 use Rattle.papi_tools.specs.Marks.{marked_said}

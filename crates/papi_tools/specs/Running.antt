@@ -7,8 +7,8 @@ use Rattle.session_model.specs.World.{LineTold}
 use Rattle.stream_reader.specs.Reader.{ReaderView}
 use Rattle.component_table.specs.Catalogs.{CatalogView}
 use Rattle.script_lines.specs.declared.script.ScriptLine.{ScriptLine}
-use Rattle.plan_runner.specs.Runs.{CanEachCome, notes_by_thread, world_told}
-use Rattle.plan_runner.specs.declared.result.ReplyLine.{ReplyLine}
+use Rattle.thread_registry.specs.Runs.{CanEachCome, notes_by_thread, world_told}
+use Rattle.thread_registry.specs.declared.runner.result.ReplyLine.{ReplyLine}
 use Rattle.script_runner.specs.Resolving.{lines_of, reply_lines_of, setting_of}
 use Rattle.papi_tools.specs.Openings.{Openings, and_then, opened}
 use Rattle.papi_tools.specs.Streams.{TellStreams, streams_under}

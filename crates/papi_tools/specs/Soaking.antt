@@ -11,7 +11,7 @@ use Rattle.overflow_dispatch.specs.declared.handler.Note.{Note}
 use Rattle.session_model.specs.declared.reply.Body.{Body}
 use Rattle.session_model.specs.declared.reply.Body.TheVariants.{Values}
 use Rattle.component_table.specs.Catalogs.{catalog_of}
-use Rattle.plan_runner.specs.declared.result.ReplyLine.{ReplyLine}
+use Rattle.thread_registry.specs.declared.runner.result.ReplyLine.{ReplyLine}
 use Rattle.soak_input.specs.Script.{script_text}
 use Rattle.soak_input.specs.Streams.{stream_text}
 use Rattle.soak_input.specs.Summary.{summary_text}

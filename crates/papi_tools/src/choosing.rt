@@ -7,10 +7,10 @@ ghost use Rattle.papi_tools.specs.Choosing.{chooser_verdict, choice_said};
 
 use crate::tables::read_catalog;
 use crate::{Said, ToolResult};
-use chooser_list::{Candidates, choose};
 use component_table::Catalog;
 use papi_base::{Files, Text};
 use std::alloc::Global;
+use tool_output::{Candidates, choose};
 use tool_words::{ChooserWords, EventKind};
 
 // The candidates of a kind.

@@ -6,6 +6,7 @@ mod contents;
 mod decoding;
 mod encoding;
 mod input;
+mod laws;
 mod limits;
 mod marks;
 mod native_listing;
@@ -30,6 +31,7 @@ mod tables;
 mod tool;
 mod top;
 
+pub use laws::{run_laws, unit_law};
 pub use limits::{SCRIPT_BYTES, TABLE_BYTES};
 pub use output::Output;
 pub use refusal::{FileCause, Refusal, Stop};

@@ -8,9 +8,9 @@ use crate::contents::read_file;
 use crate::limits::TABLE_BYTES;
 use crate::{Said, ToolResult};
 use event_tables::Tables;
-use listing_text::{native_event, native_list};
 use papi_base::{Bytes, Files, Text};
 use std::alloc::Global;
+use tool_output::{native_event, native_list};
 use tool_words::NativeAvailWords;
 
 // The text, if it is there.

@@ -6,10 +6,10 @@ ghost use Rattle.script_runner.specs.Replies.{notes_text, replies_text};
 use component_table::Catalog;
 use overflow_dispatch::Note;
 use papi_base::{Bytes, Sink, WriteFail, write_whole};
-use plan_runner::ReplyLine;
 use script_runner::{write_notes, write_replies};
 use std::alloc::Global;
 use std::marker::Model;
+use thread_registry::ReplyLine;
 
 #[derive(Drop)]
 enum Content {

@@ -7,9 +7,9 @@ ghost use Rattle.papi_tools.specs.PresetListing.{avail_verdict, presets_said};
 use crate::tables::read_catalog;
 use crate::{Said, ToolResult};
 use component_table::Catalog;
-use listing_text::{avail_event, avail_list};
 use papi_base::{Bytes, Files, Text};
 use std::alloc::Global;
+use tool_output::{avail_event, avail_list};
 use tool_words::AvailWords;
 
 // What is said of the presets and user events of a catalog.

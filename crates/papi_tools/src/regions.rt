@@ -2,7 +2,7 @@
 ghost use Rattle.std.specs.Prelude.{◌≡◌, ◌≤◌, ◌++◌, ◌∷◌, [], ℕ, All, IfOk, List, Ok, OnOk, length, vec_len};
 ghost use Rattle.papi_base.specs.Outside.{Rose};
 ghost use Rattle.papi_base.specs.declared.limits.TheConstants.{MOST_SET_EVENTS};
-ghost use Rattle.region_laws.specs.Spans.{AllFit};
+ghost use Rattle.call_laws.specs.Spans.{AllFit};
 ghost use Rattle.region_report.specs.CallLines.{AreEvents, asked, numbered};
 ghost use Rattle.region_report.specs.Reports.{report_text};
 ghost use Rattle.region_report.specs.Spans.{reading_values, spans_from};
@@ -22,12 +22,10 @@ use crate::script_run::{RanScript, run_script};
 use crate::streams::close_readers;
 use crate::tables::read_catalog;
 use crate::{Output, Said, Stop, ToolResult};
-use chooser_list::{Candidates, choose};
+use call_laws::{begun_law, readings_fit, script_law, span_law};
 use component_table::Catalog;
 use overflow_dispatch::{Handler, Recorder};
 use papi_base::{Bytes, Files, Source, THREADS, Text};
-use plan_runner::ReplyLine;
-use region_laws::{begun_law, readings_fit, script_law, span_law};
 use region_report::{Reading, Regions, report, script_of};
 use script_lines::Script;
 use session_model::Body;
@@ -35,6 +33,8 @@ use std::alloc::{AllocError, Global};
 use std::marker::{Send, Sync};
 use std::thread::Threads;
 use stream_reader::StreamReader;
+use thread_registry::ReplyLine;
+use tool_output::{Candidates, choose};
 use tool_words::RegionsWords;
 
 // ---- what was read

@@ -2,7 +2,7 @@
 ghost use Rattle.std.specs.Prelude.{◌≡◌, ◌≤◌, ◌-◌, All, Any, IfOk, map, vec_len};
 ghost use Rattle.overflow_dispatch.specs.Notes.{EachGrown};
 ghost use Rattle.papi_base.specs.Outside.{Rose};
-ghost use Rattle.plan_runner.specs.Marks.{marks_in};
+ghost use Rattle.thread_registry.specs.Marks.{marks_in};
 ghost use Rattle.thread_session.specs.Faults.{IsFaultReply};
 ghost use Rattle.thread_session.specs.SessionView.{IsFresh};
 ghost use Rattle.papi_tools.specs.Running.{CanBeGivenRun, GivenRun, IsGivenRun, IsRun, note_counts};
@@ -12,7 +12,6 @@ use crate::streams::close_readers;
 use component_table::{Catalog, NativeCodes};
 use overflow_dispatch::{Handler, counts_of};
 use papi_base::{Files, Source, THREADS};
-use plan_runner::{ReplyLine, RunResult, run_plan};
 use script_lines::Script;
 use script_runner::resolve;
 use session_model::Ended;
@@ -20,6 +19,7 @@ use std::alloc::{AllocError, Global};
 use std::marker::{Send, Sync};
 use std::thread::Threads;
 use stream_reader::StreamReader;
+use thread_registry::{ReplyLine, RunResult, run_plan};
 
 /// What a run gives: the replies in the order of the script, the mark that each thread's runs met, and how many notes each
 /// handler had before.

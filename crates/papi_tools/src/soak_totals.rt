@@ -3,10 +3,10 @@ ghost use Rattle.std.specs.Prelude.{◌≡◌, IfOk, length};
 ghost use Rattle.papi_tools.specs.Soaking.{stop_values, stops, totals_between, values_of};
 
 use papi_base::{CallName, THREADS, Values};
-use plan_runner::ReplyLine;
 use session_model::Body;
 use soak_input::{SOAK_THREADS, ThreadTotal};
 use std::alloc::{AllocError, Global};
+use thread_registry::ReplyLine;
 
 fn values_of(body: &Body) -> Values
     ensures { result ≡ values_of body.now }

@@ -1,7 +1,7 @@
 //! The streams of a run: opened in their order into the readers of all threads, and closed.
 ghost use Rattle.std.specs.Prelude.{◌≡◌, ◌<◌, ◌≤◌, ◌-◌, ◌++◌, [], ◌∷◌, All, IfOk, None, Some, length, map, replicate, true, vec_capacity, vec_len};
 ghost use Rattle.papi_base.specs.Outside.{Rose};
-ghost use Rattle.plan_runner.specs.Runs.{CanEachCome};
+ghost use Rattle.thread_registry.specs.Runs.{CanEachCome};
 ghost use Rattle.stream_reader.specs.Reader.{coming, faults_of, new_view};
 ghost use Rattle.thread_session.specs.SessionView.{IsFresh};
 ghost use Rattle.papi_tools.specs.Looking.{LookedBy, out_with};

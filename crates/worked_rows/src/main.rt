@@ -21,12 +21,13 @@ use std::thread::Threads;
 use std::{env, fs, io};
 
 // The names of the files that all rows have.
-const SHARED: [&str; 5] = [
+const SHARED: [&str; 6] = [
     "lab.unit",
     "lab.presets",
     "user.presets",
     "full.unit",
     "several.unit",
+    "umasks.unit",
 ];
 
 // What came of the rows of a file: how many there are, and what is said of those that differ.

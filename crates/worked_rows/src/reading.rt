@@ -5,7 +5,7 @@
 //! - `script`, with the lines of the file `s` below, each beside its reply: `0 run 3 -> PAPI_OK 2 0`. The line's number, the
 //!   thread and the call, with which a reply begins, are left out. If the script is refused its lines have no replies.
 //! - `file NAME` (a stream too), with its lines below. Each row also has the files `lab.unit`, `lab.presets`,
-//!   `user.presets`, `full.unit` and `several.unit` of the folder, if it has none of that name itself.
+//!   `user.presets`, `full.unit`, `several.unit` and `umasks.unit` of the folder, if it has none of that name itself.
 //! - `opening N fails`, counted from 1; `NAME fails after N bytes`: its reads fail then (`all`: at its end); `reads give N bytes`
 //!   at most; `out takes N bytes`, `err takes N bytes`: writes fail then, and their first N bytes are what is expected.
 //! - `for workers N ..` carries the row out with each of these numbers of workers; `for k from N to M`, `for k below the length

@@ -1,5 +1,5 @@
 use Rattle.std.proofs.Common.{◌≡◌, Err, Ok, refl, rules}
-use Rattle.plan_runner.specs.Runs.{CanEachCome}
+use Rattle.thread_registry.specs.Runs.{CanEachCome}
 use Rattle.papi_tools.specs.Contents.{content_under}
 use Rattle.papi_tools.specs.Openings.{Is, opened}
 use Rattle.papi_tools.specs.Running.{CanBeGivenRun, given_with}

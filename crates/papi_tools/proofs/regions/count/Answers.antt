@@ -1,5 +1,5 @@
 use Rattle.std.proofs.Common.{◌≡◌, ◌∙◌, Err, Ok, ap, refl, rules}
-use Rattle.chooser_list.specs.Choosing.{all_taken, chooser_text}
+use Rattle.tool_output.specs.Choosing.{all_taken, chooser_text}
 use Rattle.papi_tools.specs.RegionCounts.{GivenRegions}
 use Rattle.papi_tools.specs.Running.{ran_replies}
 use Rattle.papi_tools.specs.declared.refusal.Stop.TheVariants.{Memory}

@@ -1,5 +1,5 @@
 use Rattle.std.proofs.Common.{◌∙◌, ap, subst}
-use Rattle.region_laws.specs.Spans.{AllFit}
+use Rattle.call_laws.specs.Spans.{AllFit}
 use Rattle.region_report.specs.Spans.{reading_values}
 use Rattle.papi_tools.specs.RegionCounts.{readings_in}
 use Rattle.papi_tools.proofs.regions.said_of.Goals as goal

@@ -1,0 +1,5 @@
+use Rattle.papi_tools.proofs.OwnReplyLemmas.{notes_are_own, replies_are_own}
+use Rattle.papi_tools.proofs.laws.run_laws.Goals as goal
+
+pub returns : goal.returns
+returns c = record { replies = replies_are_own; notes = notes_are_own }

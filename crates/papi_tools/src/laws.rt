@@ -1,0 +1,21 @@
+//! What `papi_run` replies and tells, by each thread's own calls.
+ghost use Rattle.papi_tools.specs.OwnReplies.{AreOverUnit, NotesAreOwn, RepliesAreOwn};
+
+use component_table::Catalog;
+use script_lines::Script;
+use script_runner::script_fits;
+
+/// The reply line of each call that a thread of a run makes is the one after its own calls before it, and each thread's notes are the
+/// thresholds that its own calls pass. So the laws of `call_laws` over any list of calls say what a run's values, conflicts and notes
+/// are. The lines `threads`, `code` and `name` are no calls of a thread.
+pub fn run_laws()
+    ensures replies { RepliesAreOwn }
+    ensures notes { NotesAreOwn }
+{}
+
+/// The events that a script's calls name are of the unit of the catalog, as the laws of conflicts ask. It looks at each of them.
+pub fn unit_law(catalog: &Catalog, script: &Script)
+    ensures { AreOverUnit catalog.now script.now }
+{
+    script_fits(catalog, script);
+}
