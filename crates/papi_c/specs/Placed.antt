@@ -6,7 +6,7 @@ use Rattle.papi_base.specs.declared.native.EventRef.{EventRef}
 use Rattle.papi_calls.specs.Calls.{Made}
 use Rattle.papi_calls.specs.Codes.{event_code, map_ok}
 use Rattle.papi_calls.specs.Libraries.{LibraryView}
-use Rattle.session_model.specs.declared.call.Call.TheVariants as call
+use Rattle.call_type.specs.declared.call.Call.TheVariants as call
 use Rattle.session_model.specs.declared.reply.Body.TheVariants as body
 use Rattle.thread_core.specs.Following.{reply_of}
 

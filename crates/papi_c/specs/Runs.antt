@@ -7,11 +7,12 @@ use Rattle.papi_c.specs.Through.{Through}
 use Rattle.papi_c.specs.declared.faults.StreamFault.{StreamFault}
 use Rattle.papi_c.specs.declared.running.Passing.{Passing}
 use Rattle.papi_calls.specs.Libraries.{LibraryView}
-use Rattle.session_model.specs.declared.call.Call.TheVariants as call
+use Rattle.call_type.specs.declared.call.Call.TheVariants as call
 use Rattle.session_model.specs.declared.reply.Ended.{Ended}
 use Rattle.session_model.specs.Step.{code_of}
 use Rattle.thread_session.specs.Follows.{FollowsAs, run_reply}
 use Rattle.thread_session.specs.declared.filling.Filled.{Filled}
+use Rattle.thread_session.specs.declared.filling.TheConstants.{MOST_PASSED}
 
 -- a note, as C sees it
 abbrev pub passing_of : Note → Passing
@@ -35,7 +36,7 @@ pub record Went (old new : LibraryView) (n : ℕ) (answer : ℤ) (consumed told 
   pub counted : told ≡ length notes
   pub written : take told after ≡ map passing_of notes
   pub rest : drop told after ≡ drop told before
-  pub room : full ≡ true → length before < told + 32
+  pub room : full ≡ true → length before < told + MOST_PASSED
   pub early : full ≡ true → consumed < n
   pub catalog : new.catalog ≡ old.catalog
   pub mentioned : new.mentioned ≡ old.mentioned

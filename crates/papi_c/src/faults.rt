@@ -73,8 +73,8 @@ pub extern "C" fn kistalub_presets_fault(
     }
 }
 
-// The number of a cause.
-fn cause_number(cause: LineCause) -> u32
+/// The number of a cause.
+pub(crate) fn cause_number(cause: LineCause) -> u32
     ensures { result ≡ Faults.cause_number cause }
 {
     match cause {

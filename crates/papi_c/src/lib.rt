@@ -3,6 +3,7 @@
 
 mod codes;
 mod faults;
+mod feeding;
 mod handle;
 mod named;
 mod numbers;

@@ -1,6 +1,6 @@
 //! The calls that take an event by its name.
 ghost use Rattle.papi_c.specs.Called.{CalledByName};
-ghost use Rattle.session_model.specs.declared.call.Call.TheVariants as call;
+ghost use Rattle.call_type.specs.declared.call.Call.TheVariants as call;
 
 use crate::handle::{Handle, on_library_by_name};
 use crate::refusals::refusal_code;

@@ -1,7 +1,7 @@
 //! The calls that take numbers and answer a code.
 ghost use Rattle.papi_c.specs.Called.{Called, CalledByCode, GivesNumber};
 ghost use Rattle.papi_c.specs.Numbers.{AnswersNumber};
-ghost use Rattle.session_model.specs.declared.call.Call.TheVariants as call;
+ghost use Rattle.call_type.specs.declared.call.Call.TheVariants as call;
 ghost use Rattle.session_model.specs.declared.reply.Body.TheVariants as body;
 
 use crate::handle::{Handle, on_library};

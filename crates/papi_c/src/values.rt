@@ -2,7 +2,7 @@
 ghost use Rattle.std.specs.Prelude.{◌≡◌, length};
 ghost use Rattle.papi_base.specs.Codes.{number_of};
 ghost use Rattle.papi_c.specs.Called.{AreGiven, GivesValues};
-ghost use Rattle.session_model.specs.declared.call.Call.TheVariants as call;
+ghost use Rattle.call_type.specs.declared.call.Call.TheVariants as call;
 
 use crate::handle::{Handle, on_library};
 use papi_base::{Code, Values, code_number};
