@@ -79,9 +79,13 @@ void kl_forget_codes(void) {
     pthread_mutex_unlock(&kl_lock);
 }
 
-void kl_drop_code_map(kl_code_map *codes) {
-    free(codes->inward);
-    free(codes->outward);
+void kl_drop_codes(thread_state *t) {
+    const kl_code_map none = { NULL, NULL, 0, 0 };
+    free(t->codes.inward);
+    free(t->codes.outward);
+    free(t->presets);
+    t->codes = none;
+    t->presets = NULL;
 }
 
 static uint32_t noted(const uint32_t *numbers, uint32_t count, uint32_t at) { return at < count ? numbers[at] : 0; }
@@ -107,7 +111,25 @@ static int match(thread_state *t, uint32_t place, uint32_t own) {
     return code == PAPI_OK ? kl_note(&c->outward, &c->outward_count, own, place) : code;
 }
 
+/* The code of the user event that stands for a preset, or the preset's own if there is none: the event has the preset's name without PAPI_. */
+static int preset_inward(thread_state *t, int code, const kl_preset *preset, uint32_t *own) {
+    const char *name = preset->name + sizeof "PAPI_" - 1;
+    uint32_t place = (uint32_t)code & PAPI_PRESET_AND_MASK;
+    if (!t->presets) t->presets = calloc(PAPI_END_idx, sizeof *t->presets);
+    if (!t->presets) return PAPI_ENOMEM;
+    if (!t->presets[place]) {
+        uint32_t found = 0;
+        int answer = kistalub_name_to_code(&t->library, (const unsigned char *)name, strlen(name), &found);
+        if (answer == PAPI_ENOMEM) return answer;
+        t->presets[place] = answer == PAPI_OK && IS_USER_DEFINED((int)found) ? found : (uint32_t)code;
+    }
+    *own = t->presets[place];
+    return PAPI_OK;
+}
+
 int kl_code_inward(thread_state *t, int code, uint32_t *own) {
+    const kl_preset *preset = kl_preset_of(code);
+    if (preset && !kl_is_modelled(preset)) return preset_inward(t, code, preset, own);
     char name[NAME_ROOM];
     uint32_t place = (uint32_t)code & PLACE_MASK;
     *own = (uint32_t)code;

@@ -4,17 +4,12 @@
 #include <stdio.h>
 #include <string.h>
 
-
-static PAPI_component_info_t infos[MOST_COMPONENTS];
-static char pmus[MOST_COMPONENTS][PAPI_MAX_STR_LEN];
-pthread_mutex_t kl_component_lock = PTHREAD_MUTEX_INITIALIZER;
-
+/* Both under kl_component_lock. */
+static struct { PAPI_component_info_t infos[MOST_COMPONENTS]; char pmus[MOST_COMPONENTS][PAPI_MAX_STR_LEN]; } known;
 /* What the program disabled before PAPI_library_init, by numbers as bits and by names. */
-static unsigned disabled;
-static char disabled_names[MOST_COMPONENTS][PAPI_MAX_STR_LEN];
-static int disabled_count;
+static struct { unsigned numbers; char names[MOST_COMPONENTS][PAPI_MAX_STR_LEN]; int name_count; } disabled;
 
-/* A part of what the unit's file says of a component, in so many places. */
+/* A part of what the unit's file says of a component. */
 int kl_component_text(thread_state *t, int component, uint32_t part, uint32_t place, char *text, size_t room) {
     uint64_t length = 0;
     if (component < 0) return PAPI_ENOCMP;
@@ -24,14 +19,14 @@ int kl_component_text(thread_state *t, int component, uint32_t part, uint32_t pl
 
 /* Whether the program disabled a component of this number and name. */
 static int is_disabled(int component, const char *name) {
-    int is = disabled >> component & 1;
-    for (int i = 0; i < disabled_count; i++) is |= !strcmp(disabled_names[i], name);
+    int is = disabled.numbers >> component & 1;
+    for (int i = 0; i < disabled.name_count; i++) is |= !strcmp(disabled.names[i], name);
     return is;
 }
 
 static int is_any_disabled(void) {
     pthread_mutex_lock(&kl_component_lock);
-    int is = disabled || disabled_count;
+    int is = disabled.numbers || disabled.name_count;
     pthread_mutex_unlock(&kl_component_lock);
     return is;
 }
@@ -60,18 +55,20 @@ int kl_check_known(thread_state *t, const char *name) {
     return code == PAPI_OK ? kl_check_enabled(t, own) : PAPI_OK;
 }
 
-/* How many presets derive from native events of a component. */
+/* How many presets derive from native events of a component, or PAPI_ENOMEM. */
 static int presets_of(thread_state *t, uint32_t component) {
     uint32_t code = 0, found = 0;
     int n = 0;
-    for (uint32_t row = 0; kistalub_code_in_row(&t->library, row, &code) == PAPI_OK && !IS_USER_DEFINED((int)code); row++)
+    for (int place = 0; place < PAPI_END_idx; place++) {
+        if (kl_code_inward(t, place | PAPI_PRESET_MASK, &code) != PAPI_OK) return PAPI_ENOMEM;
         n += kistalub_component_of(&t->library, code, &found) == PAPI_OK && found == component;
+    }
     return n;
 }
 
 /* Says of a component what the model has. */
-static void describe(thread_state *t, int component, const char *name, const char *pmu) {
-    PAPI_component_info_t *info = &infos[component];
+static void describe(thread_state *t, int component, const char *name, const char *pmu, int presets) {
+    PAPI_component_info_t *info = &known.infos[component];
     memset(info, 0, sizeof *info);
     snprintf(info->name, sizeof info->name, "%s", name);
     snprintf(info->short_name, sizeof info->short_name, "%.*s", (int)sizeof info->short_name - 1, name);
@@ -79,18 +76,40 @@ static void describe(thread_state *t, int component, const char *name, const cha
     snprintf(info->version, sizeof info->version, "1.0");
     snprintf(info->support_version, sizeof info->support_version, "n/a");
     snprintf(info->kernel_version, sizeof info->kernel_version, "n/a");
-    memcpy(pmus[component], pmu, strlen(pmu) + 1);
-    info->pmu_names[0] = pmus[component];
+    memcpy(known.pmus[component], pmu, strlen(pmu) + 1);
+    info->pmu_names[0] = known.pmus[component];
     info->CmpIdx = component;
     info->initialized = 1;
     info->num_cntrs = kistalub_counters(&t->library, (uint32_t)component);
     info->num_mpx_cntrs = MOST_EVENTS;
-    info->num_preset_events = presets_of(t, (uint32_t)component);
+    info->num_preset_events = presets;
     info->num_native_events = kistalub_natives(&t->library, (uint32_t)component);
     info->available_domains = PAPI_DOM_USER | PAPI_DOM_KERNEL;
     info->default_granularity = info->available_granularities = PAPI_GRN_THR;
     info->hardware_intr = info->kernel_multiplex = info->cntr_umasks = 1;
     info->precise_intr = info->fast_counter_read = 1;
+}
+
+/* What may have changed since. Another thread may read what was given before: it is written only where it has. */
+static void take_changes(int component, const char *name) {
+    PAPI_component_info_t *info = &known.infos[component];
+    int domain = kl_default_domain((uint32_t)component);
+    if (info->default_domain != domain) info->default_domain = domain;
+    if (info->disabled || !is_disabled(component, name)) return;
+    info->disabled = PAPI_ECMP_DISABLED;
+    snprintf(info->disabled_reason, sizeof info->disabled_reason, "Disabled by PAPI_disable_component()");
+}
+
+/* Whether what is told of a component is that of this name and pmu. Under the lock. */
+static int is_told(int component, const char *name, const char *pmu) {
+    return !strcmp(known.infos[component].name, name) && !strcmp(known.pmus[component], pmu);
+}
+
+static int is_known(int component, const char *name, const char *pmu) {
+    pthread_mutex_lock(&kl_component_lock);
+    int is = is_told(component, name, pmu);
+    pthread_mutex_unlock(&kl_component_lock);
+    return is;
 }
 
 const PAPI_component_info_t *PAPI_get_component_info(int component) {
@@ -101,23 +120,21 @@ const PAPI_component_info_t *PAPI_get_component_info(int component) {
     if (!t || component < 0 || component >= MOST_COMPONENTS) return NULL;
     if (kl_component_text(t, component, KISTALUB_COMPONENT_NAME, 0, name, sizeof name) != PAPI_OK) return NULL;
     if (kl_component_text(t, component, KISTALUB_COMPONENT_PMU, 0, pmu, sizeof pmu) != PAPI_OK) return NULL;
+    int presets = is_known(component, name, pmu) ? 0 : presets_of(t, (uint32_t)component);
+    if (presets < 0) return NULL;
     pthread_mutex_lock(&kl_component_lock);
-    if (strcmp(infos[component].name, name) || strcmp(pmus[component], pmu)) describe(t, component, name, pmu);
-    infos[component].default_domain = kl_default_domain((uint32_t)component);
-    if (is_disabled(component, name)) {
-        infos[component].disabled = PAPI_ECMP_DISABLED;
-        snprintf(infos[component].disabled_reason, sizeof infos[component].disabled_reason, "Disabled by PAPI_disable_component()");
-    }
+    if (!is_told(component, name, pmu)) describe(t, component, name, pmu, presets);
+    take_changes(component, name);
     pthread_mutex_unlock(&kl_component_lock);
-    return &infos[component];
+    return &known.infos[component];
 }
 
 /* What is known of the components of one unit ends with it. */
 void kl_components_end(void) {
     pthread_mutex_lock(&kl_component_lock);
-    memset(infos, 0, sizeof infos);
-    disabled = 0;
-    disabled_count = 0;
+    memset(known.infos, 0, sizeof known.infos);
+    disabled.numbers = 0;
+    disabled.name_count = 0;
     pthread_mutex_unlock(&kl_component_lock);
 }
 
@@ -137,7 +154,7 @@ int PAPI_disable_component(int component) {
     if (PAPI_is_initialized() != PAPI_NOT_INITED) RETURN(PAPI_ENOINIT);
     if (component < 0 || component >= MOST_COMPONENTS) RETURN(PAPI_ENOCMP);
     pthread_mutex_lock(&kl_component_lock);
-    disabled |= 1u << component;
+    disabled.numbers |= 1u << component;
     pthread_mutex_unlock(&kl_component_lock);
     return PAPI_OK;
 }
@@ -147,8 +164,8 @@ int PAPI_disable_component_by_name(const char *name) {
     if (PAPI_is_initialized() != PAPI_NOT_INITED) RETURN(PAPI_ENOINIT);
     if (!name || strlen(name) >= PAPI_MAX_STR_LEN) RETURN(PAPI_ENOCMP);
     pthread_mutex_lock(&kl_component_lock);
-    int has_room = disabled_count < MOST_COMPONENTS;
-    if (has_room) strcpy(disabled_names[disabled_count++], name);
+    int has_room = disabled.name_count < MOST_COMPONENTS;
+    if (has_room) strcpy(disabled.names[disabled.name_count++], name);
     pthread_mutex_unlock(&kl_component_lock);
     RETURN(has_room ? PAPI_OK : PAPI_ENOCMP);
 }
@@ -169,14 +186,23 @@ int PAPI_get_event_component(int event) {
 }
 
 /* The component of a set's events, or the one that it was assigned. */
+static int component_of_set(thread_state *t, int set) {
+    kl_events events;
+    uint32_t component = 0;
+    thread_state *owner = kl_owner_of(t, set);
+    int code = kl_events_in(owner, set, &events);
+    if (code == PAPI_OK && events.count) {
+        code = kistalub_component_of(&owner->library, events.codes[0], &component);
+        if (code == PAPI_OK || code == PAPI_ENOEVNT) code = (int)component;
+    } else if (code == PAPI_OK) code = kl_set_of(owner, set)->component ? kl_set_of(owner, set)->component - 1 : PAPI_ENOCMP;
+    kl_let_owner_go(owner);
+    return code;
+}
+
 int PAPI_get_eventset_component(int set) {
     CALL(PAPI_get_eventset_component);
-    int events[1], number = 1;
     HERE(t);
-    int code = PAPI_list_events(set, events, &number);
-    if (code != PAPI_OK) RETURN(code);
-    if (number > 0) RETURN(PAPI_get_event_component(events[0]));
-    RETURN(kl_set_of(t, set)->component ? kl_set_of(t, set)->component - 1 : PAPI_ENOCMP);
+    RETURN(component_of_set(t, set));
 }
 
 int PAPI_num_cmp_hwctrs(int component) {

@@ -1,43 +1,36 @@
 /* Counting: start, stop, read, accum, reset, and how time goes on. */
 #include "internal.h"
 
-#include <stdio.h>
+#include <string.h>
 
-#define WORDS_ROOM 64
-
-/* Says where the thread's stream is faulty, in the words of papi_run. */
-static void say_fault(const thread_state *t, const kistalub_fault *fault) {
-    unsigned char words[WORDS_ROOM];
-    uint64_t length = 0;
-    if (kistalub_cause(fault->cause, words, sizeof words, &length) != PAPI_OK) return;
-    if (fault->line == 0) fprintf(stderr, "papi: stream %u: %.*s\n", (unsigned)t->number, (int)length, (const char *)words);
-    else fprintf(stderr, "papi: stream %u: line %llu: %.*s\n", (unsigned)t->number, (unsigned long long)fault->line, (int)length, (const char *)words);
-}
-
-/* Up to n occurrences happen. If an event has a watch it is one, since what watches it comes before the next. */
-static int some_happen(thread_state *t, uint32_t n, uint32_t *consumed) {
+/* Up to n occurrences happen. If an event has a watch it is one, since what watches it comes before the next; in a program that runs under the tool what comes
+ * next was done before the thread was stopped. None does in a call that a signal interrupted. */
+static int run(thread_state *t, uint32_t n, uint32_t *consumed) {
     kistalub_passing passings[MOST_EVENTS];
     kistalub_fault fault = { 0, 0 };
     uint64_t told = 0;
-    int code = kistalub_run(&t->library, t->is_watched ? 1 : n, consumed, passings, MOST_EVENTS, &told, &fault);
+    if (!kl_core_begins(t)) return PAPI_OK;
+    int code = kistalub_run(&t->library, t->is_watched && !kl_is_live() ? 1 : n, consumed, passings, MOST_EVENTS, &told, &fault);
     t->happened += *consumed;
-    if (code == PAPI_ESYS) say_fault(t, &fault);
+    kl_core_ends(t);
+    if (code == PAPI_ESYS) kl_say_fault(t->number, &fault);
     if (told) kl_tell(t, passings, told);
     return code;
 }
 
 /* PAPI_EISRUN in a handler, in which time stands. */
 int kl_go(thread_state *t, uint32_t n, uint32_t *went) {
-    int code = t->in_handler ? PAPI_EISRUN : PAPI_OK;
-    kl_hold(t);
+    const kl_hold hold = KL_HOLD(0);
+    int code = kl_in_handler(t) ? PAPI_EISRUN : PAPI_OK;
+    const int place = kl_hold_on(t, &hold);
     while (code == PAPI_OK && *went < n) {
         uint32_t consumed = 0;
-        code = some_happen(t, n - *went, &consumed);
+        code = run(t, n - *went, &consumed);
         *went += consumed;
         if (consumed == 0) break;
-        if (t->left) code = PAPI_ENOINIT;
+        if (t->has_left) code = PAPI_ENOINIT;
     }
-    int ended = kl_let_go(t);
+    int ended = kl_let_go(t, place);
     return ended == PAPI_OK ? code : ended;
 }
 
@@ -50,55 +43,129 @@ int kistalub_go(uint32_t n, uint32_t *went) {
     return t ? kl_go(t, n, went) : code;
 }
 
-/* The step before a call that reads. */
-static int goes_on(thread_state *t) {
+int kl_goes_on(thread_state *t) {
     uint32_t went = 0;
-    return t->step == 0 || t->in_handler ? PAPI_OK : kl_go(t, t->step, &went);
+    return t->step == 0 || kl_in_handler(t) ? PAPI_OK : kl_go(t, t->step, &went);
+}
+
+/* What is asked of a set that counts. */
+typedef enum { TO_READ, TO_STOP, TO_ACCUM, TO_RESET, TO_START } asked;
+
+static int call_core(kistalub *library, uint32_t set, asked what, int64_t *values, uint32_t *count) {
+    int code = PAPI_OK;
+    switch (what) {
+    case TO_START: return kistalub_start(library, set);
+    case TO_RESET: return kistalub_reset(library, set);
+    case TO_STOP: return kistalub_stop(library, set, values, MOST_EVENTS, count);
+    default: code = kistalub_read(library, set, values, MOST_EVENTS, count);
+    }
+    return code == PAPI_OK && what == TO_ACCUM ? kistalub_reset(library, set) : code;
+}
+
+/* The answer to a handler of a signal that interrupted a call of the proved library: what was told last, as if the call was made before the other one. */
+static __attribute__((noinline)) int call_later(thread_state *t, kl_set *s, uint32_t set, asked what, int64_t *values, uint32_t *count) {
+    if (what == TO_START) return PAPI_EISRUN;
+    if (what == TO_STOP && !s->runs) return PAPI_ENOTRUN;
+    *count = what == TO_RESET ? 0 : s->event_count;
+    memcpy(values, s->last, *count * sizeof *values);
+    if (what == TO_STOP) {
+        s->runs = 0;
+        t->signals.to_stop |= UINT64_C(1) << set;
+    } else if (what != TO_READ) {
+        memset(s->last, 0, sizeof s->last);
+        t->signals.to_reset |= UINT64_C(1) << set;
+    }
+    return PAPI_OK;
+}
+
+/* Keeps what was told last. */
+static void note(kl_set *s, asked what, const int64_t *values, uint32_t count) {
+    if (what == TO_START || what == TO_STOP) s->runs = what == TO_START;
+    if (what == TO_READ || what == TO_STOP) memcpy(s->last, values, count * sizeof *values);
+    else memset(s->last, 0, sizeof s->last);
+}
+
+/* Asks something of a set, which gives values or none. Inlined, what is asked is known where it is compiled. */
+static inline __attribute__((always_inline)) int ask(thread_state *owner, uint32_t set, asked what, int64_t *values, uint32_t *count) {
+    if (set >= MOST_SETS) return PAPI_ENOEVST;
+    kl_set *s = owner->sets[set];
+    if (!kl_core_begins(owner)) return call_later(owner, s, set, what, values, count);
+    int code = call_core(&owner->library, set, what, values, count);
+    if (code == PAPI_OK) note(s, what, values, *count);
+    kl_core_ends(owner);
+    return code;
+}
+
+static int is_after_step(asked what) { return what != TO_START && what != TO_RESET; }
+
+/* Asks it of a set that is not the thread's own: of one of a thread that has ended, to which nothing happens any more, or of none. */
+static __attribute__((noinline)) int ask_elsewhere(thread_state *t, int set, asked what, int64_t *values, uint32_t *count) {
+    thread_state *owner = what == TO_START ? t : kl_owner_of(t, set);
+    int code = owner == t && is_after_step(what) ? kl_goes_on(t) : PAPI_OK;
+    if (code == PAPI_OK) code = ask(owner, kl_set_number(owner, set), what, values, count);
+    if (what != TO_START) kl_let_owner_go(owner);
+    return code;
+}
+
+/* Asks it after the step. The call is not made if the step met a fault. */
+static inline __attribute__((always_inline)) int ask_here(int set, asked what, int64_t *values, uint32_t *count) {
+    int code;
+    thread_state *t = kl_here(&code);
+    *count = 0;
+    if (!t) return code;
+    if (kl_set_number(t, set) == UINT32_MAX || t->has_ended) return ask_elsewhere(t, set, what, values, count);
+    if (is_after_step(what) && t->step) code = kl_goes_on(t);
+    return code == PAPI_OK ? ask(t, kl_set_number(t, set), what, values, count) : code;
+}
+
+/* The first start of a set with its events looks at them. It is not made if memory is refused. */
+static int judge(int set) {
+    thread_state *t = kl_known();
+    kl_set *s = t ? kl_set_of(t, set) : NULL;
+    if (!s || s->is_judged) return PAPI_OK;
+    int code = kl_judge_events(t, kl_set_number(t, set));
+    s->is_judged = code == PAPI_OK;
+    return code;
 }
 
 int PAPI_start(int set) {
     CALL(PAPI_start);
-    HERE(t);
-    RETURN(kistalub_start(&t->library, kl_set_number(t, set)));
+    int64_t none[MOST_EVENTS];
+    uint32_t count;
+    int code = judge(set);
+    RETURN(code == PAPI_OK ? ask_here(set, TO_START, none, &count) : code);
 }
 
 int PAPI_reset(int set) {
     CALL(PAPI_reset);
-    HERE(t);
-    RETURN(kistalub_reset(&t->library, kl_set_number(t, set)));
+    int64_t none[MOST_EVENTS];
+    uint32_t count;
+    RETURN(ask_here(set, TO_RESET, none, &count));
 }
 
-typedef int (*giving)(kistalub *, uint32_t, int64_t *, size_t, uint32_t *);
-
-/* The values of a call, after the step: put into the array, or added to what it has. The call is not made if the step met a fault. */
-static int given(giving call, int set, long long *values, int adding) {
-    int64_t all[MOST_EVENTS];
-    uint32_t count = 0;
-    int code;
-    thread_state *t = kl_here(&code);
-    if (t) code = goes_on(t);
-    if (code != PAPI_OK) return code;
-    code = call(&t->library, kl_set_number(t, set), all, MOST_EVENTS, &count);
-    if (code != PAPI_OK || !values) return code;
-    for (uint32_t i = 0; i < count; i++) values[i] = adding ? (long long)((unsigned long long)values[i] + (unsigned long long)all[i]) : all[i];
-    return code;
-}
+_Static_assert(sizeof(long long) == sizeof(int64_t), "the library writes a program's values where they belong");
 
 int PAPI_read(int set, long long *values) {
     CALL(PAPI_read);
-    RETURN(values ? given(kistalub_read, set, values, 0) : PAPI_EINVAL);
+    uint32_t count;
+    RETURN(values ? ask_here(set, TO_READ, (int64_t *)values, &count) : PAPI_EINVAL);
 }
 
 int PAPI_stop(int set, long long *values) {
     CALL(PAPI_stop);
-    RETURN(given(kistalub_stop, set, values, 0));
+    int64_t unasked[MOST_EVENTS];
+    uint32_t count;
+    RETURN(ask_here(set, TO_STOP, values ? (int64_t *)values : unasked, &count));
 }
 
 int PAPI_accum(int set, long long *values) {
     CALL(PAPI_accum);
+    int64_t more[MOST_EVENTS];
+    uint32_t count = 0;
     if (!values) RETURN(PAPI_EINVAL);
-    int code = given(kistalub_read, set, values, 1);
-    RETURN(code == PAPI_OK ? PAPI_reset(set) : code);
+    int code = ask_here(set, TO_ACCUM, more, &count);
+    for (uint32_t i = 0; code == PAPI_OK && i < count; i++) values[i] = (long long)((unsigned long long)values[i] + (unsigned long long)more[i]);
+    RETURN(code);
 }
 
 int PAPI_write(int set, long long *values) {

@@ -36,6 +36,26 @@ int PAPI_get_dev_type_attr(void *handle, PAPI_dev_type_attr_e attr, void *value)
     RETURN(PAPI_ENOSUPP);
 }
 
+/* The cache that an attribute is of, which may be one that the model does not have. Attributes of one kind stand in a row: L1I, L1D, L2U, L3U. */
+static const PAPI_mh_cache_info_t *cache_of(const PAPI_mh_info_t *caches, unsigned place) {
+    static const struct { int level, cache; } places[] = { { 0, 0 }, { 0, 1 }, { 1, 0 }, { 2, 0 } };
+    return &caches->level[places[place].level].cache[places[place].cache];
+}
+
+#define CACHES 4
+
+_Static_assert(PAPI_DEV_ATTR__CPU_UINT_L1I_CACHE_ASSOC == PAPI_DEV_ATTR__CPU_UINT_L1I_CACHE_SIZE + 3 * CACHES, "four attributes of four caches");
+
+static unsigned cache_attribute(const PAPI_mh_info_t *caches, unsigned attribute) {
+    const PAPI_mh_cache_info_t *cache = cache_of(caches, attribute % CACHES);
+    switch (attribute / CACHES) {
+    case 0: return (unsigned)cache->size;
+    case 1: return (unsigned)cache->line_size;
+    case 2: return (unsigned)cache->num_lines;
+    default: return (unsigned)cache->associativity;
+    }
+}
+
 int PAPI_get_dev_attr(void *handle, int id, PAPI_dev_attr_e attr, void *value) {
     CALL(PAPI_get_dev_attr);
     const PAPI_hw_info_t *hardware = PAPI_get_hardware_info();
@@ -51,6 +71,7 @@ int PAPI_get_dev_attr(void *handle, int id, PAPI_dev_attr_e attr, void *value) {
     default: break;
     }
     if (attr > PAPI_DEV_ATTR__CPU_UINT_THR_PER_NUMA) RETURN(PAPI_ENOSUPP);
-    *(unsigned *)value = 0; /* caches, family and memory: the model has none */
+    unsigned of_caches = (unsigned)attr - PAPI_DEV_ATTR__CPU_UINT_L1I_CACHE_SIZE;
+    *(unsigned *)value = of_caches < 4 * CACHES ? cache_attribute(&hardware->mem_hierarchy, of_caches) : 0; /* family and memory: the model has none */
     return PAPI_OK;
 }

@@ -10,7 +10,7 @@
 
 int kl_is_row(int event) { return ((uint32_t)event & 0xe0000000u) == ROW_CODES; }
 
-/* A part of what the unit's file says of a native event, in so many places. */
+/* A part of what the unit's file says of a native event. */
 int kl_native_text(thread_state *t, native_place at, uint32_t part, uint32_t mask, char *text, size_t room) {
     uint64_t length = 0;
     int code = kistalub_native(&t->library, at.component, at.row, part, mask, (unsigned char *)text, room - 1, &length);
@@ -82,7 +82,7 @@ static int next_mask(thread_state *t, int *event) {
     uint32_t mask = 0;
     int code = kl_place_of(t, *event, &at);
     if (code == PAPI_OK && !kl_is_row(*event)) {
-        code = kl_name_in(*event, own);
+        code = kl_name_in(t, *event, own);
         for (int found = 0; code == PAPI_OK && !found; mask++) {
             code = kl_native_text(t, at, KISTALUB_ROW_MASK, mask, name, sizeof name);
             found = code == PAPI_OK && !strcmp(own, name);
@@ -92,27 +92,42 @@ static int next_mask(thread_state *t, int *event) {
     return code == PAPI_OK ? PAPI_event_name_to_code(name, event) : code;
 }
 
-/* Whether a modifier takes a preset, as PAPI_OK or PAPI_ENOEVNT: the presets of some kind, all that are available, or all. */
+/* Whether a modifier takes a preset, as PAPI_OK or PAPI_ENOEVNT: those of some kind, all that are available, or all. */
 static int taken(int event, int modifier) {
     if (modifier == PAPI_ENUM_FIRST || modifier == PAPI_ENUM_EVENTS) return PAPI_OK;
     if (modifier == PAPI_PRESET_ENUM_AVAIL) return PAPI_query_event(event);
-    return kl_preset_kinds(event) & (1u << modifier) ? PAPI_OK : PAPI_ENOEVNT;
+    return kl_preset_of(event)->kinds & (1u << modifier) ? PAPI_OK : PAPI_ENOEVNT;
+}
+
+/* The preset after this one that the modifier takes, or the first. */
+static int next_preset(int *event, int modifier) {
+    unsigned place = modifier == PAPI_ENUM_FIRST ? 0 : ((unsigned)*event & PAPI_PRESET_AND_MASK) + 1;
+    for (; place < PAPI_END_idx; place++) {
+        int preset = (int)place | PAPI_PRESET_MASK, found = taken(preset, modifier);
+        if (found == PAPI_OK) *event = preset;
+        if (found != PAPI_ENOEVNT) return found;
+    }
+    return PAPI_ENOEVNT;
+}
+
+/* The user event after this one that the modifier takes, or the first. They are of no kind, and all that there are can be counted. */
+static int next_user_event(thread_state *t, int *event, int modifier) {
+    uint32_t code = 0;
+    int is_past = modifier == PAPI_ENUM_FIRST, takes = is_past || modifier == PAPI_ENUM_EVENTS || modifier == PAPI_PRESET_ENUM_AVAIL;
+    for (uint32_t row = 0; takes && kistalub_code_in_row(&t->library, row, &code) == PAPI_OK; row++) {
+        if (!IS_USER_DEFINED((int)code)) continue;
+        int found = !is_past ? PAPI_ENOEVNT : modifier == PAPI_PRESET_ENUM_AVAIL ? PAPI_query_event((int)code) : PAPI_OK;
+        if (found == PAPI_OK) *event = (int)code;
+        if (found != PAPI_ENOEVNT) return found;
+        is_past |= code == (uint32_t)*event;
+    }
+    return PAPI_ENOEVNT;
 }
 
 /* The preset or user event after this one that the modifier takes, or the first of them. */
 static int next_row(thread_state *t, int *event, int modifier) {
-    const int is_user = IS_USER_DEFINED(*event);
-    uint32_t code = 0, row = 0;
-    int past = modifier == PAPI_ENUM_FIRST;
     if (modifier < PAPI_ENUM_EVENTS || modifier > PAPI_PRESET_ENUM_FP) return PAPI_EINVAL;
-    for (; kistalub_code_in_row(&t->library, row, &code) == PAPI_OK; row++) {
-        if (IS_USER_DEFINED((int)code) != is_user) continue;
-        int found = past ? taken((int)code, modifier) : PAPI_ENOEVNT;
-        if (found == PAPI_OK) *event = (int)code;
-        if (found != PAPI_ENOEVNT) return found;
-        past |= code == (uint32_t)*event;
-    }
-    return PAPI_ENOEVNT;
+    return IS_USER_DEFINED(*event) ? next_user_event(t, event, modifier) : next_preset(event, modifier);
 }
 
 /* The native event after this one, or the first, among those of the components from one to another. */

@@ -19,10 +19,10 @@ static const char *const messages[] = {
 };
 
 static _Thread_local int last_error = PAPI_OK;
-static _Thread_local int in_handler; /* the program's handler runs: it is not called again */
-static atomic_int level = PAPI_QUIET;
-/* The program's handler, or NULL: the library's own. */
-static PAPI_debug_handler_t _Atomic handler;
+/* The call of the program's handler that goes on: it is not called again. */
+static _Thread_local kl_hold handling;
+/* How much is said, and the program's handler, or NULL: the library's own. */
+static struct { atomic_int level; PAPI_debug_handler_t _Atomic handler; } debugging = { .level = PAPI_QUIET };
 
 static const char *message_of(int code) {
     const int most = (int)(sizeof messages / sizeof *messages);
@@ -42,7 +42,7 @@ void PAPI_perror(const char *msg) {
 
 /* The library's own handler: a line on standard error, unless it is to be quiet, and the end of the program if that is asked for. */
 static int own_handler(int code) {
-    int asked = atomic_load(&level), system_error = errno;
+    int asked = atomic_load(&debugging.level), system_error = errno;
     if (asked == PAPI_QUIET) return code;
     const char *message = message_of(code);
     fprintf(stderr, "PAPI Error: Error Code %d,%s", code, message ? message : "");
@@ -52,31 +52,36 @@ static int own_handler(int code) {
     return code;
 }
 
-int kl_refuse(int code) {
-    if (!message_of(code) || kl_is_nested()) return code;
-    last_error = code;
-    PAPI_debug_handler_t given = atomic_load(&handler);
-    if (!given) return own_handler(code);
-    if (in_handler) return code;
+/* The answer of the program's handler, which may jump out. */
+static int call_handler(PAPI_debug_handler_t given, int code) {
+    const kl_hold hold = KL_HOLD(1);
+    if (handling.is_handler && (uintptr_t)handling.end > (uintptr_t)hold.end && kl_goes_on_still(&handling)) return code;
     kl_outside before = kl_user_begins();
-    in_handler = 1;
+    handling = hold;
     int answer = given(code);
-    in_handler = 0;
+    handling.is_handler = 0;
     kl_user_ends(before);
     return answer;
 }
 
+int kl_refuse(int code) {
+    if (!message_of(code) || kl_is_nested()) return code;
+    last_error = code;
+    PAPI_debug_handler_t given = atomic_load(&debugging.handler);
+    return given ? call_handler(given, code) : own_handler(code);
+}
+
 int kl_get_debug(PAPI_debug_option_t *debug) {
-    PAPI_debug_handler_t given = atomic_load(&handler);
-    debug->level = atomic_load(&level);
+    PAPI_debug_handler_t given = atomic_load(&debugging.handler);
+    debug->level = atomic_load(&debugging.level);
     debug->handler = given ? given : own_handler;
     return PAPI_OK;
 }
 
 int kl_set_debug(const PAPI_debug_option_t *debug) {
     if (debug->level != PAPI_QUIET && debug->level != PAPI_VERB_ECONT && debug->level != PAPI_VERB_ESTOP) return PAPI_EINVAL;
-    atomic_store(&level, debug->level);
-    atomic_store(&handler, debug->handler == own_handler ? NULL : debug->handler);
+    atomic_store(&debugging.level, debug->level);
+    atomic_store(&debugging.handler, debug->handler == own_handler ? NULL : debug->handler);
     return PAPI_OK;
 }
 

@@ -29,16 +29,15 @@ int kl_ended(int code, char *text, uint64_t room, uint64_t length) {
 }
 
 /* The name of an event in NAME_ROOM places. */
-int kl_name_in(int event, char *name) {
+int kl_name_in(thread_state *t, int event, char *name) {
     uint64_t length = 0;
     native_place at;
-    HERE(t);
     if (kl_is_row(event)) {
         int found = kl_place_of(t, event, &at);
         return found == PAPI_OK ? kl_native_text(t, at, KISTALUB_ROW_NAME, 0, name, NAME_ROOM) : found;
     }
-    if (kl_preset_name(event)) {
-        snprintf(name, NAME_ROOM, "%s", kl_preset_name(event));
+    if (kl_preset_of(event)) {
+        snprintf(name, NAME_ROOM, "%s", kl_preset_of(event)->name);
         return PAPI_OK;
     }
     uint32_t own;
@@ -47,7 +46,7 @@ int kl_name_in(int event, char *name) {
     return kl_ended(code, name, NAME_ROOM - 1, length);
 }
 
-/* A part of what is told of an event, in so many places. One that is too long for them is cut. */
+/* A part of what is told of an event, cut to the room that there is. */
 static int info_in(thread_state *t, uint32_t code, uint32_t part, uint32_t place, char *text, size_t room) {
     char whole[NAME_ROOM];
     uint64_t length = 0;
@@ -60,30 +59,37 @@ static int info_in(thread_state *t, uint32_t code, uint32_t part, uint32_t place
 int PAPI_event_code_to_name(int event, char *out) {
     CALL(PAPI_event_code_to_name);
     char name[NAME_ROOM];
+    HERE(t);
     if (!out) RETURN(PAPI_EINVAL);
-    int code = kl_name_in(event, name);
+    int code = kl_name_in(t, event, name);
     if (code == PAPI_OK && strlen(name) >= PAPI_MAX_STR_LEN) RETURN(PAPI_EBUF);
     if (code == PAPI_OK) memcpy(out, name, strlen(name) + 1);
     RETURN(code);
+}
+
+/* Whether an event can be counted. */
+static int query(thread_state *t, int event) {
+    char name[NAME_ROOM];
+    uint32_t own = 0, component = 0;
+    if (IS_PRESET(event) && (event & PAPI_PRESET_AND_MASK) >= PAPI_MAX_PRESET_EVENTS) return PAPI_ENOTPRESET;
+    if (!(event & PAPI_PRESET_MASK)) return kl_name_in(t, event, name);
+    int code = kl_code_in_library(t, event, &own);
+    if (code == PAPI_OK) code = kistalub_component_of(&t->library, own, &component);
+    return code == PAPI_OK ? kl_check_enabled(t, own) : code;
 }
 
 int PAPI_query_named_event(const char *name) {
     CALL(PAPI_query_named_event);
     int event;
     HERE(t);
-    RETURN(name ? code_named(t, kl_spelled(name), &event) : PAPI_EINVAL);
+    if (!name) RETURN(PAPI_EINVAL);
+    RETURN(kl_preset_named(name, &event) == PAPI_OK ? query(t, event) : code_named(t, name, &event));
 }
 
 int PAPI_query_event(int event) {
     CALL(PAPI_query_event);
-    char name[NAME_ROOM];
-    uint32_t own = 0, component = 0;
     HERE(t);
-    if (IS_PRESET(event) && (event & PAPI_PRESET_AND_MASK) >= PAPI_MAX_PRESET_EVENTS) RETURN(PAPI_ENOTPRESET);
-    if (!(event & PAPI_PRESET_MASK)) RETURN(kl_name_in(event, name));
-    int code = kl_code_in_library(t, event, &own);
-    if (code == PAPI_OK) code = kistalub_component_of(&t->library, own, &component);
-    RETURN(code == PAPI_OK ? kl_check_enabled(t, own) : code);
+    RETURN(query(t, event));
 }
 
 /* What the unit's file says of a native event. Where it has one umask, the description of that stands behind the event's own. */
@@ -102,38 +108,48 @@ static int native_info(thread_state *t, native_place at, PAPI_event_info_t *info
     return code;
 }
 
-/* What is derived in a preset or a user event that is available: its type, its formula and its native events. */
-static int derived_info(thread_state *t, uint32_t code, PAPI_event_info_t *info) {
-    int answer = info_in(t, code, KISTALUB_DESCRIPTION, 0, info->long_descr, sizeof info->long_descr);
-    if (answer == PAPI_ENOEVNT && IS_PRESET((int)info->event_code)) return PAPI_OK; /* a preset of which the model knows the name alone */
-    if (answer == PAPI_OK) answer = info_in(t, code, KISTALUB_DERIVED_TYPE, 0, info->derived, sizeof info->derived);
+/* The formula and the native events of a preset or a user event that is available. */
+static int formula_info(thread_state *t, uint32_t code, PAPI_event_info_t *info) {
+    int answer = info_in(t, code, KISTALUB_DERIVED_TYPE, 0, info->derived, sizeof info->derived);
     if (answer == PAPI_OK) answer = info_in(t, code, KISTALUB_FORMULA, 0, info->postfix, sizeof info->postfix);
     while (answer == PAPI_OK && info->count < PAPI_MAX_INFO_TERMS) {
+        int native;
         answer = info_in(t, code, KISTALUB_NATIVE, info->count, info->name[info->count], sizeof *info->name);
         if (answer != PAPI_OK || !info->name[info->count][0]) break;
-        answer = PAPI_event_name_to_code(info->name[info->count], (int *)&info->code[info->count]);
-        if (answer == PAPI_OK) info->count++;
+        answer = code_named(t, info->name[info->count], &native);
+        if (answer == PAPI_OK) info->code[info->count++] = (unsigned)native;
     }
-    info->event_type = kl_preset_kinds((int)info->event_code);
     return answer;
+}
+
+/* What is told of a preset or a user event. A preset has PAPI's words, unless the preset file has others for it. */
+static int derived_info(thread_state *t, PAPI_event_info_t *info) {
+    const kl_preset *preset = kl_preset_of((int)info->event_code);
+    uint32_t code = 0;
+    int answer = kl_code_in_library(t, (int)info->event_code, &code);
+    if (preset) {
+        snprintf(info->long_descr, sizeof info->long_descr, "%s", preset->long_description);
+        snprintf(info->short_descr, sizeof info->short_descr, "%s", preset->description);
+        info->event_type = preset->kinds;
+        if (answer == PAPI_OK && !kl_is_modelled(preset)) answer = IS_USER_DEFINED((int)code) ? PAPI_OK : PAPI_ENOEVNT;
+    } else if (answer == PAPI_OK) answer = info_in(t, code, KISTALUB_DESCRIPTION, 0, info->long_descr, sizeof info->long_descr);
+    if (answer == PAPI_OK) answer = formula_info(t, code, info);
+    return preset && answer == PAPI_ENOEVNT ? PAPI_OK : answer;
 }
 
 int PAPI_get_event_info(int event, PAPI_event_info_t *info) {
     CALL(PAPI_get_event_info);
-    uint32_t code = 0;
     native_place at;
     HERE(t);
     if (!info) RETURN(PAPI_EINVAL);
     memset(info, 0, sizeof *info);
     info->event_code = (unsigned)event;
-    int answer = kl_name_in(event, info->symbol);
-    if (answer == PAPI_OK && event & PAPI_PRESET_MASK) {
-        answer = kl_code_in_library(t, event, &code);
-        if (answer == PAPI_OK) answer = derived_info(t, code, info);
-    } else if (answer == PAPI_OK) {
+    int answer = kl_name_in(t, event, info->symbol);
+    if (answer == PAPI_OK && event & PAPI_PRESET_MASK) answer = derived_info(t, info);
+    else if (answer == PAPI_OK) {
         answer = kl_place_of(t, event, &at);
         if (answer == PAPI_OK) answer = native_info(t, at, info);
     }
-    snprintf(info->short_descr, sizeof info->short_descr, "%.*s", (int)sizeof info->short_descr - 1, info->long_descr);
+    if (!info->short_descr[0]) snprintf(info->short_descr, sizeof info->short_descr, "%.*s", (int)sizeof info->short_descr - 1, info->long_descr);
     RETURN(answer);
 }

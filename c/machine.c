@@ -4,11 +4,12 @@
 
 #include <link.h>
 #include <stdio.h>
+#include <stdlib.h>
 #include <string.h>
 #include <strings.h>
 #include <unistd.h>
 
-#define MOST_LIBRARIES 64
+#define FIRST_ROOM 64
 
 /* The first part of a pmu's name in libpfm4, and the vendor of its processors. */
 static const struct { const char *front; int vendor; const char *name; } vendors[] = {
@@ -35,9 +36,8 @@ static const char *const intel[] = {
     "clx", "icl", "icx", "adl", "rpl", "spr", "emr", "slm", "glm", "tmt", "knl", "knm", "montecito", "itanium", "itanium2",
 };
 
-static PAPI_hw_info_t hardware;
-static int is_described; /* under the lock */
-pthread_mutex_t kl_machine_lock = PTHREAD_MUTEX_INITIALIZER;
+/* The processor, and whether it is described. Under kl_machine_lock. */
+static struct { PAPI_hw_info_t hardware; int is_described; } machine;
 
 /* Whether a pmu's name is this one, or begins with it and an underscore. */
 static int is_of(const char *pmu, const char *front) {
@@ -62,17 +62,17 @@ static int vendor_of(const char *pmu, const char **name) {
 }
 
 /* One processor with one thread, whose model is the pmu of the unit's first component. */
-static void describe_hardware(const char *pmu) {
+static void describe_hardware(PAPI_hw_info_t *to, const char *pmu) {
     const char *vendor;
     int mhz = (int)kl_mhz();
-    memset(&hardware, 0, sizeof hardware);
-    hardware.ncpu = hardware.threads = hardware.cores = hardware.sockets = hardware.nnodes = hardware.totalcpus = 1;
-    hardware.vendor = vendor_of(pmu, &vendor);
-    snprintf(hardware.vendor_string, sizeof hardware.vendor_string, "%s", vendor);
-    snprintf(hardware.model_string, sizeof hardware.model_string, "%s", pmu);
-    kl_take_hierarchy(&hardware.mem_hierarchy);
-    hardware.cpu_max_mhz = hardware.cpu_min_mhz = hardware.clock_mhz = mhz;
-    hardware.mhz = (float)mhz;
+    memset(to, 0, sizeof *to);
+    to->ncpu = to->threads = to->cores = to->sockets = to->nnodes = to->totalcpus = 1;
+    to->vendor = vendor_of(pmu, &vendor);
+    snprintf(to->vendor_string, sizeof to->vendor_string, "%s", vendor);
+    snprintf(to->model_string, sizeof to->model_string, "%s", pmu);
+    kl_take_hierarchy(&to->mem_hierarchy);
+    to->cpu_max_mhz = to->cpu_min_mhz = to->clock_mhz = mhz;
+    to->mhz = (float)mhz;
 }
 
 const PAPI_hw_info_t *PAPI_get_hardware_info(void) {
@@ -82,17 +82,10 @@ const PAPI_hw_info_t *PAPI_get_hardware_info(void) {
     thread_state *t = kl_here(&code);
     if (!t || kl_component_text(t, 0, KISTALUB_COMPONENT_PMU, 0, pmu, sizeof pmu) != PAPI_OK) return NULL;
     pthread_mutex_lock(&kl_machine_lock);
-    if (!is_described) describe_hardware(pmu);
-    is_described = 1;
+    if (!machine.is_described) describe_hardware(&machine.hardware, pmu);
+    machine.is_described = 1;
     pthread_mutex_unlock(&kl_machine_lock);
-    return &hardware;
-}
-
-/* What is known of the processor ends with the library. */
-void kl_machine_ends(void) {
-    pthread_mutex_lock(&kl_machine_lock);
-    is_described = 0;
-    pthread_mutex_unlock(&kl_machine_lock);
+    return &machine.hardware;
 }
 
 /* The number that follows a name on a line of /proc/self/status, in KiB. */
@@ -129,9 +122,38 @@ int PAPI_get_dmem_info(PAPI_dmem_info_t *dest) {
     return PAPI_OK;
 }
 
-static PAPI_exe_info_t executable;
-static PAPI_address_map_t maps[MOST_LIBRARIES];
-static PAPI_shlib_info_t libraries = { maps, 0 };
+/* Places for libraries. Where more are needed, those that were given out stay as long as the library: a program may read them. */
+typedef struct maps { struct maps *former; int room; PAPI_address_map_t each[]; } maps;
+
+/* The program and its libraries. Under kl_machine_lock. */
+static struct { PAPI_exe_info_t executable; PAPI_shlib_info_t libraries; maps *places; } loaded;
+
+/* What is known of the processor and the process ends with the library. */
+void kl_machine_ends(void) {
+    pthread_mutex_lock(&kl_machine_lock);
+    machine.is_described = 0;
+    loaded.libraries.map = NULL;
+    loaded.libraries.count = 0;
+    while (loaded.places) {
+        maps *last = loaded.places;
+        loaded.places = last->former;
+        free(last);
+    }
+    pthread_mutex_unlock(&kl_machine_lock);
+}
+
+/* Room for one more library, whose places have those before it. */
+static int make_room(int count) {
+    if (loaded.places && count < loaded.places->room) return 1;
+    int room = loaded.places ? 2 * loaded.places->room : FIRST_ROOM;
+    maps *more = calloc(1, sizeof *more + (size_t)room * sizeof *more->each);
+    if (!more) return 0;
+    more->room = room;
+    more->former = loaded.places;
+    if (more->former) memcpy(more->each, more->former->each, (size_t)count * sizeof *more->each);
+    loaded.places = more;
+    return 1;
+}
 
 /* An end of a part: the least begin or the greatest end that was seen. */
 static void widen(vptr_t *start, vptr_t *end, uintptr_t from, uintptr_t to) {
@@ -166,26 +188,32 @@ typedef struct { int is_first, count; } looked;
 static int take_object(struct dl_phdr_info *object, size_t size, void *seen) {
     (void)size;
     looked *l = seen;
-    const char *name = l->is_first ? executable.fullname : object->dlpi_name ? object->dlpi_name : "";
+    const char *name = l->is_first ? loaded.executable.fullname : object->dlpi_name ? object->dlpi_name : "";
     const char *slash = l->is_first ? strrchr(name, '/') : NULL;
     PAPI_address_map_t now;
     memset(&now, 0, sizeof now);
     snprintf(now.name, sizeof now.name, "%s", slash ? slash + 1 : name);
     take_parts(object, &now);
-    if (l->is_first) keep(&executable.address_info, &now, sizeof now);
-    else if (*name && l->count < MOST_LIBRARIES) keep(&maps[l->count++], &now, sizeof now);
+    if (l->is_first) keep(&loaded.executable.address_info, &now, sizeof now);
+    else if (*name) {
+        if (!make_room(l->count)) return 1;
+        keep(&loaded.places->each[l->count++], &now, sizeof now);
+    }
     l->is_first = 0;
     return 0;
 }
 
-/* Looks at what is loaded now. */
-static void look_at_objects(void) {
+/* Looks at what is loaded now, and says whether there was room for all. */
+static int look_at_objects(void) {
     looked l = { 1, 0 };
-    char path[sizeof executable.fullname] = "";
+    char path[sizeof loaded.executable.fullname] = "";
     ssize_t n = readlink("/proc/self/exe", path, sizeof path - 1);
-    if (n > 0) keep(executable.fullname, path, sizeof path);
-    dl_iterate_phdr(take_object, &l);
-    keep(&libraries.count, &l.count, sizeof l.count);
+    if (n > 0) keep(loaded.executable.fullname, path, sizeof path);
+    int has_room = dl_iterate_phdr(take_object, &l) == 0;
+    PAPI_address_map_t *each = loaded.places ? loaded.places->each : NULL;
+    keep(&loaded.libraries.map, &each, sizeof each);
+    keep(&loaded.libraries.count, &l.count, sizeof l.count);
+    return has_room;
 }
 
 const PAPI_exe_info_t *PAPI_get_executable_info(void) {
@@ -194,14 +222,14 @@ const PAPI_exe_info_t *PAPI_get_executable_info(void) {
     pthread_mutex_lock(&kl_machine_lock);
     look_at_objects();
     pthread_mutex_unlock(&kl_machine_lock);
-    return &executable;
+    return &loaded.executable;
 }
 
 const PAPI_shlib_info_t *PAPI_get_shared_lib_info(void) {
     CALL(PAPI_get_shared_lib_info);
     if (!kl_is_open()) return NULL;
     pthread_mutex_lock(&kl_machine_lock);
-    look_at_objects();
+    int has_room = look_at_objects();
     pthread_mutex_unlock(&kl_machine_lock);
-    return &libraries;
+    return has_room ? &loaded.libraries : NULL;
 }

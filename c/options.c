@@ -5,19 +5,21 @@
 #include <string.h>
 
 #define USUAL_SLICE 100
-#define LONGEST_SLICE 1000000
 
 static const int available_domains = PAPI_DOM_USER | PAPI_DOM_KERNEL;
 
-/* What happens before each call that reads, and the slice of a multiplexed set in ticks. */
-atomic_uint kl_step, kl_slice = USUAL_SLICE;
-/* The domain of the sets that are made from now on, or bound to a component. 0 stands for PAPI_DOM_USER. */
-static atomic_int domains[MOST_COMPONENTS];
-/* What PAPI_DEF_ITIMER was given: no timer runs here. */
-static PAPI_itimer_option_t timer;
+/* What happens before each call that reads. */
+atomic_uint kl_step;
+
+/* The settings of the process. */
+static struct {
+    atomic_uint slice, usual_slice;       /* of a multiplexed set in ticks: the one that is set, and that of the environment */
+    atomic_int domains[MOST_COMPONENTS];  /* of the sets that are made from now on, or bound to a component; 0 stands for PAPI_DOM_USER */
+    PAPI_itimer_option_t timer;           /* what PAPI_DEF_ITIMER was given: no timer runs here; under kl_lock */
+} settings = { .slice = USUAL_SLICE, .usual_slice = USUAL_SLICE };
 
 int kl_default_domain(uint32_t component) {
-    int domain = component < MOST_COMPONENTS ? atomic_load(&domains[component]) : 0;
+    int domain = component < MOST_COMPONENTS ? atomic_load(&settings.domains[component]) : 0;
     return domain ? domain : PAPI_DOM_USER;
 }
 
@@ -26,9 +28,12 @@ int kl_options_begin(void) {
     int code = kl_number_named("KISTALUB_STEP", 0, UINT32_MAX, &step);
     if (code == PAPI_OK) code = kl_number_named("KISTALUB_SLICE", 1, LONGEST_SLICE, &slice);
     atomic_store(&kl_step, step);
-    atomic_store(&kl_slice, slice);
-    for (int i = 0; i < MOST_COMPONENTS; i++) atomic_store(&domains[i], 0);
-    memset(&timer, 0, sizeof timer);
+    atomic_store(&settings.slice, slice);
+    atomic_store(&settings.usual_slice, slice);
+    for (int i = 0; i < MOST_COMPONENTS; i++) atomic_store(&settings.domains[i], 0);
+    pthread_mutex_lock(&kl_lock);
+    memset(&settings.timer, 0, sizeof settings.timer);
+    pthread_mutex_unlock(&kl_lock);
     return code;
 }
 
@@ -44,7 +49,7 @@ static int set_default_domain(thread_state *t, const PAPI_domain_option_t *o) {
     if (code != PAPI_OK) return code;
     if (domain == PAPI_DOM_ALL) domain = available_domains;
     if (domain & ~available_domains || o->def_cidx >= MOST_COMPONENTS) return PAPI_ENOSUPP;
-    atomic_store(&domains[o->def_cidx], domain);
+    atomic_store(&settings.domains[o->def_cidx], domain);
     return PAPI_OK;
 }
 
@@ -72,9 +77,17 @@ static int set_set_granularity(thread_state *t, const PAPI_granularity_option_t 
     return kl_is_stopped(t, o->eventset) == PAPI_ENOEVST ? PAPI_ENOEVST : check_granularity(o->granularity);
 }
 
-/* Nanoseconds as ticks of the stream, of which each is a cycle, and back. */
-static uint32_t ticks_of(int ns) { return (uint32_t)((uint64_t)ns * kl_mhz() / 1000); }
-static int nanoseconds_of(uint32_t ticks) { return (int)((uint64_t)ticks * 1000 / kl_mhz()); }
+/* Nanoseconds as ticks of the stream, of which each is a cycle: at least one, and at most the longest slice. */
+static uint32_t ticks_of(int ns) {
+    uint64_t ticks = (uint64_t)ns * kl_mhz() / 1000;
+    return ticks < 1 ? 1 : ticks > LONGEST_SLICE ? LONGEST_SLICE : (uint32_t)ticks;
+}
+
+/* And back: at least one nanosecond. */
+static int nanoseconds_of(uint32_t ticks) {
+    uint64_t ns = (uint64_t)ticks * 1000 / kl_mhz();
+    return ns < 1 ? 1 : (int)ns;
+}
 
 /* Multiplexes a set. An interval of 0 is the usual slice. */
 static int multiplex(thread_state *t, PAPI_multiplex_option_t *o) {
@@ -83,7 +96,7 @@ static int multiplex(thread_state *t, PAPI_multiplex_option_t *o) {
     if (code != PAPI_OK) return code;
     if (bits & PAPI_RUNNING) return PAPI_EISRUN;
     if (bits & PAPI_MULTIPLEXING || o->ns < 0) return PAPI_EINVAL;
-    uint32_t slice = o->ns ? ticks_of(o->ns) : atomic_load(&kl_slice);
+    uint32_t slice = o->ns ? ticks_of(o->ns) : atomic_load(&settings.slice);
     code = kistalub_set_multiplex(&t->library, kl_set_number(t, o->eventset), slice);
     if (code != PAPI_OK) return code;
     o->ns = nanoseconds_of(slice);
@@ -93,18 +106,21 @@ static int multiplex(thread_state *t, PAPI_multiplex_option_t *o) {
     return PAPI_OK;
 }
 
-static int set_default_slice(int ns) {
-    uint32_t slice = ns > 0 ? ticks_of(ns) : 0;
-    if (slice < 1 || slice > LONGEST_SLICE) return PAPI_EINVAL;
-    atomic_store(&kl_slice, slice);
+/* Takes an interval for the sets that are multiplexed from now on, and says which one it has become. 0 stands for that of the environment. */
+static int set_default_slice(int *ns) {
+    if (*ns < 0) return PAPI_EINVAL;
+    uint32_t slice = *ns ? ticks_of(*ns) : atomic_load(&settings.usual_slice);
+    atomic_store(&settings.slice, slice);
+    *ns = nanoseconds_of(slice);
     return PAPI_OK;
 }
 
-static int set_timer(const PAPI_itimer_option_t *o) {
-    if (o->ns < 0) return PAPI_EINVAL;
-    if (o->ns > 0 && set_default_slice(o->ns) != PAPI_OK) return PAPI_EINVAL;
+/* A timer without an interval leaves that as it is. */
+static int set_timer(PAPI_itimer_option_t *o) {
+    int code = o->ns ? set_default_slice(&o->ns) : PAPI_OK;
+    if (code != PAPI_OK) return code;
     pthread_mutex_lock(&kl_lock);
-    timer = *o;
+    settings.timer = *o;
     pthread_mutex_unlock(&kl_lock);
     return PAPI_OK;
 }
@@ -116,8 +132,8 @@ static int set_option(thread_state *t, int option, PAPI_option_t *o) {
     case PAPI_DEFGRN: return set_default_granularity(t, &o->defgranularity);
     case PAPI_GRANUL: return set_set_granularity(t, &o->granularity);
     case PAPI_MULTIPLEX: return multiplex(t, &o->multiplex);
-    case PAPI_DEF_MPX_NS: return set_default_slice(o->multiplex.ns);
-    case PAPI_DEF_ITIMER_NS: return set_default_slice(o->itimer.ns);
+    case PAPI_DEF_MPX_NS: return set_default_slice(&o->multiplex.ns);
+    case PAPI_DEF_ITIMER_NS: return set_default_slice(&o->itimer.ns);
     case PAPI_DEF_ITIMER: return set_timer(&o->itimer);
     case PAPI_INHERIT: return kl_is_stopped(t, o->inherit.eventset) == PAPI_ENOEVST ? PAPI_ENOEVST : PAPI_ECMP;
     case PAPI_ATTACH:
@@ -151,9 +167,9 @@ static int get_multiplex(thread_state *t, PAPI_multiplex_option_t *o) {
 
 static int get_timer(PAPI_itimer_option_t *o) {
     pthread_mutex_lock(&kl_lock);
-    *o = timer;
+    *o = settings.timer;
     pthread_mutex_unlock(&kl_lock);
-    o->ns = nanoseconds_of(atomic_load(&kl_slice));
+    o->ns = nanoseconds_of(atomic_load(&settings.slice));
     o->flags = 0;
     return PAPI_OK;
 }
@@ -207,8 +223,8 @@ static int get_hardware(PAPI_option_t *o) {
 static int get_option(thread_state *t, int option, PAPI_option_t *o) {
     switch (option) {
     case PAPI_MULTIPLEX: return get_multiplex(t, &o->multiplex);
-    case PAPI_DEF_MPX_NS: o->multiplex.ns = nanoseconds_of(atomic_load(&kl_slice)); return PAPI_OK;
-    case PAPI_DEF_ITIMER_NS: o->itimer.ns = nanoseconds_of(atomic_load(&kl_slice)); return PAPI_OK;
+    case PAPI_DEF_MPX_NS: o->multiplex.ns = nanoseconds_of(atomic_load(&settings.slice)); return PAPI_OK;
+    case PAPI_DEF_ITIMER_NS: o->itimer.ns = nanoseconds_of(atomic_load(&settings.slice)); return PAPI_OK;
     case PAPI_DEF_ITIMER: return get_timer(&o->itimer);
     case PAPI_PRELOAD: return get_preload(&o->preload);
     case PAPI_EXEINFO: return get_executable(o);

@@ -3,54 +3,58 @@
 
 #include <string.h>
 
-/* Whether some event of the set has a watch that calls the handler, or one that is a profile. */
-static int has(const kl_set *s, int handled, int profiled) {
+int kl_has_handler(const kl_set *s) {
     for (int i = 0; i < MOST_EVENTS; i++)
-        if ((handled && s->watches[i].handled) || (profiled && s->watches[i].profiled)) return 1;
+        if (s->watches[i].handled) return 1;
     return 0;
 }
 
-int kl_has_handler(const kl_set *s) { return has(s, 1, 0); }
-int kl_has_profile(const kl_set *s) { return has(s, 0, 1); }
+int kl_has_profile(const kl_set *s) {
+    for (int i = 0; i < MOST_EVENTS; i++)
+        if (s->watches[i].profiled) return 1;
+    return 0;
+}
 
-/* Finds out whether some event has a watch. */
-void kl_note_watches(thread_state *t) {
+/* Finds out whether some event of the set, and some event at all, has a watch. */
+void kl_note_watches(thread_state *t, kl_set *s) {
+    s->is_watched = kl_has_handler(s) || kl_has_profile(s);
     t->is_watched = 0;
-    for (int i = 0; i < MOST_SETS && !t->is_watched; i++) t->is_watched = has(&t->sets[i], 1, 1);
+    for (int i = 0; i < MOST_SETS; i++) t->is_watched |= t->sets[i] && t->sets[i]->is_watched;
 }
 
 /* The set is as when it was made, but for its number and its domain. */
 void kl_forget_set(thread_state *t, kl_set *s) {
-    const kl_set made = { .is_made = s->is_made, .number = s->number, .domain = s->domain };
+    const kl_set made = { .number = s->number, .domain = s->domain };
     *s = made;
-    kl_note_watches(t);
+    kl_note_watches(t, s);
 }
 
-/* Calls the handler of a set. */
+/* Calls the handler of a set. It may jump out. */
 static void call_handler(thread_state *t, const kl_set *s, unsigned long long address, long long vector) {
+    const kl_hold hold = KL_HOLD(1);
     PAPI_overflow_handler_t handler = s->handler;
     if (!handler) return;
     kl_outside before = kl_user_begins();
-    t->in_handler = 1;
+    const int place = kl_hold_on(t, &hold);
     handler(s->number, (void *)(uintptr_t)address, vector, NULL);
-    t->in_handler = 0;
-    kl_user_ends(before);
+    kl_user_ends(before); /* still in the handler: what it did is not counted */
+    kl_let_go(t, place);
 }
 
 /* Tells of the thresholds that were passed at one occurrence: set after set, its profiles first. A handler may end the library. */
 void kl_tell(thread_state *t, const kistalub_passing *passings, uint64_t told) {
-    for (uint64_t i = 0; i < told && !t->left;) {
+    for (uint64_t i = 0; i < told && !t->has_left;) {
         uint32_t set = passings[i].set;
-        unsigned long long address = kl_native_address(passings[i].address);
+        unsigned long long address = passings[i].address;
         long long vector = 0;
         for (; i < told && passings[i].set == set; i++) {
             uint32_t place = passings[i].index;
-            if (set >= MOST_SETS || place >= MOST_EVENTS) continue;
-            kl_watch *w = &t->sets[set].watches[place];
+            if (set >= MOST_SETS || place >= MOST_EVENTS || !t->sets[set]) continue;
+            kl_watch *w = &t->sets[set]->watches[place];
             if (w->handled) vector |= 1LL << place;
             if (w->profiled) kl_hit(t, w, address);
         }
-        if (vector) call_handler(t, &t->sets[set], address, vector);
+        if (vector) call_handler(t, t->sets[set], address, vector);
     }
 }
 
@@ -70,11 +74,12 @@ int kl_find_watch(thread_state *t, int set, int event, uint32_t *own, kl_watch *
 /* Sets the threshold of an event, or clears it with what watches it. */
 int kl_set_threshold(thread_state *t, int set, uint32_t event, int threshold, kl_watch *w) {
     int code = kistalub_overflow(&t->library, kl_set_number(t, set), event, (uint64_t)threshold);
+    if (code == PAPI_OK) w->threshold = (uint32_t)threshold;
     if (code == PAPI_OK && threshold == 0) {
         kl_set *s = kl_set_of(t, set);
         memset(w, 0, sizeof *w);
         if (!kl_has_handler(s)) s->handler = NULL;
-        kl_note_watches(t);
+        kl_note_watches(t, s);
     }
     return code;
 }
@@ -87,8 +92,9 @@ static int set_handler(thread_state *t, int set, int event, int threshold, PAPI_
     if (threshold < 0 || (threshold > 0 && !handler) || (threshold == 0 && !w->handled)) return PAPI_EINVAL;
     code = kl_set_threshold(t, set, own, threshold, w);
     if (code != PAPI_OK || threshold == 0) return code;
-    w->handled = t->is_watched = 1;
+    w->handled = 1;
     kl_set_of(t, set)->handler = handler;
+    kl_note_watches(t, kl_set_of(t, set));
     return PAPI_OK;
 }
 

@@ -90,11 +90,12 @@ static int set_profile(thread_state *t, int set, int event, int threshold, int f
     if (!are_scaled(regions, count) || threshold < 0 || (threshold == 0 && !w->profiled) || !are_flags(flags)) return PAPI_EINVAL;
     code = kl_set_threshold(t, set, own_code, threshold, w);
     if (code != PAPI_OK || threshold == 0) return code;
-    w->profiled = t->is_watched = 1;
+    w->profiled = 1;
     w->flags = flags;
     w->region_count = count;
     w->regions = is_own ? NULL : regions;
     if (is_own) w->own = *regions;
+    kl_note_watches(t, kl_set_of(t, set));
     return PAPI_OK;
 }
 
@@ -108,6 +109,5 @@ int PAPI_profil(void *buf, unsigned bufsiz, vptr_t offset, unsigned scale, int s
     CALL(PAPI_profil);
     HERE(t);
     PAPI_sprofil_t region = { .pr_base = buf, .pr_size = bufsiz, .pr_off = offset, .pr_scale = scale };
-    if (threshold > 0 && !buf) RETURN(PAPI_EINVAL);
     RETURN(set_profile(t, set, event, threshold, flags, &region, threshold > 0, 1));
 }

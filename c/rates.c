@@ -30,11 +30,10 @@ int PAPI_rate_stop(void) {
     RETURN(rate.kind == NOTHING ? PAPI_ENOEVNT : stop(values));
 }
 
-/* Opens the library, where the program has not. */
+/* Opens the library with support of threads, where the program has not. */
 int kl_begin_library(void) {
-    if (kl_is_open()) return PAPI_OK;
-    int code = PAPI_library_init(PAPI_VER_CURRENT);
-    return code == (int)PAPI_VER_CURRENT ? PAPI_OK : code;
+    int code = kl_is_open() ? PAPI_OK : PAPI_library_init(PAPI_VER_CURRENT);
+    return code == PAPI_OK || code == (int)PAPI_VER_CURRENT ? kl_thread_support() : code;
 }
 
 /* A new set with the events, which is started. */

@@ -6,69 +6,104 @@
 
 #define FIRST_ROOM 64
 
-/* Which numbers are taken. Under kl_lock. */
-static struct { unsigned char *are; uint32_t room; } taken;
+/* By a number, the state whose library has the set, or NULL. Under kl_lock. */
+static struct { thread_state **owners; uint32_t room; } taken;
 
 /* The least number that is free. Under kl_lock. */
-static int take_number(uint32_t *number) {
+static int take_number(thread_state *t, uint32_t *number) {
     uint32_t least = 0;
-    while (least < taken.room && taken.are[least]) least++;
+    while (least < taken.room && taken.owners[least]) least++;
     if (least == taken.room) {
         uint32_t room = taken.room ? 2 * taken.room : FIRST_ROOM;
-        unsigned char *more = realloc(taken.are, room);
+        thread_state **more = realloc(taken.owners, room * sizeof *more);
         if (!more) return PAPI_ENOMEM;
-        memset(more + taken.room, 0, room - taken.room);
-        taken.are = more;
+        for (uint32_t i = taken.room; i < room; i++) more[i] = NULL;
+        taken.owners = more;
         taken.room = room;
     }
-    taken.are[least] = 1;
+    taken.owners[least] = t;
     *number = least;
     return PAPI_OK;
 }
 
 /* The numbers of a library that has ended are not those of the next one. Under kl_lock. */
 static void free_number(const thread_state *t, int number) {
-    if (t->generation == atomic_load(&kl_generation)) taken.are[number] = 0;
+    if (t->generation == atomic_load(&kl_generation)) taken.owners[number] = NULL;
 }
 
 int kl_number_set(thread_state *t, uint32_t own, int *set) {
     uint32_t number = 0;
+    kl_set *s = calloc(1, sizeof *s);
+    if (!s) return PAPI_ENOMEM;
     pthread_mutex_lock(&kl_lock);
-    int code = t->generation == atomic_load(&kl_generation) ? take_number(&number) : PAPI_ENOINIT;
+    int code = t->generation == atomic_load(&kl_generation) ? take_number(t, &number) : PAPI_ENOINIT;
     pthread_mutex_unlock(&kl_lock);
-    if (code != PAPI_OK) return code;
-    code = kl_note(&t->own_sets, &t->own_set_count, number, own);
-    t->sets[own].number = (int)number;
-    t->sets[own].is_made = code == PAPI_OK;
-    if (code == PAPI_OK) *set = (int)number;
-    else {
-        pthread_mutex_lock(&kl_lock);
-        free_number(t, (int)number);
-        pthread_mutex_unlock(&kl_lock);
+    if (code == PAPI_OK) {
+        code = kl_note(&t->own_sets, &t->own_set_count, number, own);
+        if (code != PAPI_OK) {
+            pthread_mutex_lock(&kl_lock);
+            free_number(t, (int)number);
+            pthread_mutex_unlock(&kl_lock);
+        }
     }
-    return code;
+    if (code != PAPI_OK) {
+        free(s);
+        return code;
+    }
+    s->number = *set = (int)number;
+    t->sets[own] = s;
+    t->set_count++;
+    return PAPI_OK;
 }
 
-void kl_unnumber_set(thread_state *t, kl_set *s) {
+void kl_unnumber_set(thread_state *t, uint32_t own) {
+    kl_set *s = t->sets[own];
     t->own_sets[s->number] = 0;
-    s->is_made = 0;
+    t->sets[own] = NULL;
+    t->set_count--;
     pthread_mutex_lock(&kl_lock);
     free_number(t, s->number);
     pthread_mutex_unlock(&kl_lock);
+    free(s);
 }
 
 void kl_unnumber_sets(thread_state *t) {
-    pthread_mutex_lock(&kl_lock);
-    for (int i = 0; i < MOST_SETS; i++)
-        if (t->sets[i].is_made) free_number(t, t->sets[i].number);
-    pthread_mutex_unlock(&kl_lock);
+    for (uint32_t own = 0; own < MOST_SETS; own++)
+        if (t->sets[own]) kl_unnumber_set(t, own);
     free(t->own_sets);
+    t->own_sets = NULL;
+    t->own_set_count = 0;
 }
 
 void kl_forget_set_numbers(void) {
     pthread_mutex_lock(&kl_lock);
-    free(taken.are);
-    taken.are = NULL;
+    free(taken.owners);
+    taken.owners = NULL;
     taken.room = 0;
     pthread_mutex_unlock(&kl_lock);
+}
+
+/* The thread that has ended and that had a set, or NULL. */
+static thread_state *ended_owner(int set) {
+    pthread_mutex_lock(&kl_lock);
+    thread_state *owner = set >= 0 && (uint32_t)set < taken.room ? taken.owners[set] : NULL;
+    if (owner && !owner->has_ended) owner = NULL;
+    pthread_mutex_unlock(&kl_lock);
+    return owner;
+}
+
+thread_state *kl_owner_of(thread_state *t, int set) {
+    if (!t->has_ended && kl_set_number(t, set) != UINT32_MAX) return t;
+    pthread_mutex_lock(&kl_ended_lock);
+    thread_state *owner = ended_owner(set);
+    if (owner || t->has_ended) return owner ? owner : t;
+    pthread_mutex_unlock(&kl_ended_lock);
+    return t;
+}
+
+/* The library of a thread that has ended is closed with its last set. */
+void kl_let_owner_go(thread_state *owner) {
+    if (!owner->has_ended) return;
+    if (owner->set_count == 0) kl_close_library(owner);
+    pthread_mutex_unlock(&kl_ended_lock);
 }

@@ -1,95 +1,134 @@
-/* What one thread has: opened at its first call, closed at its end, or when it finds that the library of its calls has ended. */
+/* What one thread has: opened at its first call, closed at its end if it has no set then, or when it finds that the library of its calls has ended. */
 #include "internal.h"
 
+#include <limits.h>
 #include <stdlib.h>
 #include <string.h>
 
 thread_state *kl_first;
 
-static _Thread_local thread_state *own;
-static pthread_key_t key;
-static pthread_once_t once = PTHREAD_ONCE_INIT;
-static int is_prepared;
+/* In the round of destructors before the last one: tools that look at each access of memory end what they have of the thread in the last. */
+#define END_ROUND (PTHREAD_DESTRUCTOR_ITERATIONS - 1)
+
+/* The thread's state, with the generation that it is of: a state that has ended may be closed by another thread when the library ends. */
+static _Thread_local struct { thread_state *state; unsigned generation; int is_past; } own;
+static struct { pthread_key_t key; pthread_once_t once; int is_made; } at_end = { .once = PTHREAD_ONCE_INIT };
 static uint32_t next_number; /* under kl_lock */
 
-static void close_state(thread_state *t) {
+/* What a thread without sets has no more use for. */
+void kl_close_library(thread_state *t) {
     kistalub_close(&t->library);
-    kl_drop_code_map(&t->codes);
+    kl_drop_text(&t->heads);
+    kl_drop_codes(t);
     kl_unnumber_sets(t);
+    kl_live_closes(t);
+}
+
+void kl_close_state(thread_state *t) {
+    kl_close_library(t);
     free(t);
 }
 
-/* Takes a state out of the list, if it is there. */
-static void unlist(thread_state *t) {
-    pthread_mutex_lock(&kl_lock);
+/* Takes a state out of the list, if it is there. Under kl_lock. */
+static void unlist(const thread_state *t) {
     for (thread_state **at = &kl_first; *at; at = &(*at)->next)
         if (*at == t) {
             *at = t->next;
             break;
         }
-    pthread_mutex_unlock(&kl_lock);
 }
 
 /* The thread has no more to do with a state. A call that goes on after a handler closes it when it ends. */
 static void leave(thread_state *t) {
+    pthread_mutex_lock(&kl_lock);
     unlist(t);
-    t->left = 1;
-    if (t->held == 0) close_state(t);
+    pthread_mutex_unlock(&kl_lock);
+    t->has_left = 1;
+    if (!t->hold_count) kl_close_state(t);
 }
 
 void kl_leaves(void) {
-    thread_state *t = own;
-    if (!t) return;
-    own = NULL;
-    if (is_prepared) pthread_setspecific(key, NULL);
+    thread_state *t = own.state;
+    own.state = NULL;
+    if (!t || own.is_past) return;
+    if (at_end.is_made) pthread_setspecific(at_end.key, NULL);
+    kl_forget_jumps(t);
     leave(t);
 }
 
+/* The thread is one of those that have ended. Its sets are known by their numbers until they are destroyed, and it is listed until the library ends. Whether
+ * it has a set. */
+static int keep(thread_state *t) {
+    pthread_mutex_lock(&kl_ended_lock);
+    pthread_mutex_lock(&kl_lock);
+    int stays = t->generation == atomic_load(&kl_generation) && (t->is_registered || t->set_count), has_set = stays && t->set_count;
+    if (stays) t->has_ended = 1;
+    else unlist(t);
+    pthread_mutex_unlock(&kl_lock);
+    if (!stays) kl_close_state(t);
+    else if (!has_set) kl_close_library(t);
+    pthread_mutex_unlock(&kl_ended_lock);
+    return has_set;
+}
+
+/* A program stops and reads its sets in destructors of its own, in any of the rounds. */
 static void thread_ends(void *state) {
     thread_state *t = state;
-    own = NULL;
-    t->held = 0; /* a handler may end the thread */
-    leave(t);
+    if (++t->end_rounds < END_ROUND && pthread_setspecific(at_end.key, t) == 0) return;
+    own.is_past = 1;
+    t->hold_count = 0; /* a handler may end the thread */
+    kl_regions_end(t->number);
+    if (!keep(t)) own.state = NULL;
 }
 
-/* PAPI_ENOINIT if the library has ended in the meantime. */
-int kl_let_go(thread_state *t) {
-    int ended = t->left || t->generation != atomic_load(&kl_generation);
-    if (--t->held == 0 && t->left) close_state(t);
-    return ended ? PAPI_ENOINIT : PAPI_OK;
-}
-
-/* The list is that of a library: another one begins with none. */
+/* A library that begins anew has none of the threads of the one before. Those that live find that out by themselves. */
 void kl_forget_threads(void) {
-    kl_first = NULL;
+    thread_state *ended = NULL;
+    pthread_mutex_lock(&kl_ended_lock);
+    pthread_mutex_lock(&kl_lock);
+    while (kl_first) {
+        thread_state *t = kl_first;
+        kl_first = t->next;
+        if (!t->has_ended) continue;
+        t->next = ended;
+        ended = t;
+    }
     next_number = 0;
+    atomic_store(&kl_generation, 0);
+    pthread_mutex_unlock(&kl_lock);
+    while (ended) {
+        thread_state *t = ended;
+        ended = t->next;
+        kl_close_state(t);
+    }
+    pthread_mutex_unlock(&kl_ended_lock);
 }
 
-/* A forked process has the calling thread alone. What other threads had may be in the midst of a call, and stays. */
+/* A forked process has the calling thread, and those that had ended. What other threads had may be in the midst of a call, and stays. */
 static void child_begins(void) {
-    kl_first = own && own->generation == atomic_load(&kl_generation) ? own : NULL;
-    if (kl_first) kl_first->next = NULL;
-    kl_after_fork();
+    for (thread_state **at = &kl_first; *at;)
+        if (*at == own.state || (*at)->has_ended) at = &(*at)->next;
+        else *at = (*at)->next;
 }
 
 static void prepare(void) {
-    is_prepared = pthread_key_create(&key, thread_ends) == 0 && pthread_atfork(kl_before_fork, kl_after_fork, child_begins) == 0;
+    at_end.is_made = pthread_key_create(&at_end.key, thread_ends) == 0 && kl_guard_forks(child_begins) == PAPI_OK;
 }
 
 /* A shared library that is unloaded leaves no function of its own to be called. */
 __attribute__((destructor)) static void unload(void) {
-    if (is_prepared) pthread_key_delete(key);
-    is_prepared = 0;
+    if (at_end.is_made) pthread_key_delete(at_end.key);
+    at_end.is_made = 0;
 }
 
 int kl_prepare(void) {
-    pthread_once(&once, prepare);
-    return is_prepared ? PAPI_OK : PAPI_ENOMEM;
+    pthread_once(&at_end.once, prepare);
+    return at_end.is_made ? PAPI_OK : PAPI_ENOMEM;
 }
 
 static int is_taken(uint32_t number) {
     for (const thread_state *t = kl_first; t; t = t->next)
-        if (t->number == number) return 1;
+        if (t->number == number && !t->has_ended) return 1;
     return 0;
 }
 
@@ -104,69 +143,93 @@ static int list_under(thread_state *t, const uint32_t *asked) {
     return PAPI_OK;
 }
 
-int kl_enters(const uint32_t *asked, unsigned begun) {
-    kl_leaves();
-    thread_state *t = calloc(1, sizeof *t);
-    if (!t) return PAPI_ENOMEM;
+/* Lists a new state for the calling thread. */
+static int enter(thread_state *t, const uint32_t *asked, unsigned begun) {
     pthread_mutex_lock(&kl_lock);
     if (begun) atomic_store(&kl_generation, begun);
     t->generation = atomic_load(&kl_generation);
     int code = t->generation ? list_under(t, asked) : PAPI_ENOINIT;
-    pthread_mutex_unlock(&kl_lock);
-    if (code == PAPI_OK && pthread_setspecific(key, t)) {
+    if (code == PAPI_OK && pthread_setspecific(at_end.key, t)) {
         unlist(t);
         code = PAPI_ENOMEM;
     }
-    if (code == PAPI_OK) own = t;
-    else free(t);
+    pthread_mutex_unlock(&kl_lock);
     return code;
+}
+
+/* A thread that has ended is not in the library again. */
+int kl_enters(const uint32_t *asked, unsigned begun) {
+    kl_leaves();
+    if (own.is_past || (!begun && !kl_is_open())) return PAPI_ENOINIT;
+    thread_state *t = calloc(1, sizeof *t);
+    if (!t) return PAPI_ENOMEM;
+    int code = enter(t, asked, begun);
+    if (code != PAPI_OK) {
+        free(t);
+        return code;
+    }
+    own.state = t;
+    own.generation = t->generation;
+    return PAPI_OK;
 }
 
 thread_state *kl_known(void) {
     unsigned generation = atomic_load(&kl_generation);
-    return generation && own && own->generation == generation ? own : NULL;
+    return generation && own.state && own.generation == generation ? own.state : NULL;
 }
 
-/* Opens the library of a state over the files of the process and the stream of its number. */
-static int open_library(thread_state *t) {
+/* Opens a library over the files of the process and the bytes of a stream. */
+int kl_open_over(kistalub *library, const kl_files *files, uint32_t number, const text *stream) {
     static const unsigned char nothing[1];
-    text stream = { NULL, 0 };
+    return kistalub_open(library, files->unit.bytes, files->unit.length, files->presets.bytes ? files->presets.bytes : nothing, files->presets.length,
+                         (const unsigned char *)files->cpu, strlen(files->cpu), number, stream->bytes ? stream->bytes : nothing, stream->length);
+}
+
+static int open_library(thread_state *t) {
+    text bytes = { NULL, 0 };
+    kl_stream *stream = NULL;
     kl_files *files = kl_hold_files();
     if (!files) return PAPI_ENOINIT;
-    int code = kl_read_stream(files, t->number, &stream);
-    if (code == PAPI_OK)
-        code = kistalub_open(&t->library, files->unit.bytes, files->unit.length, files->presets.bytes ? files->presets.bytes : nothing,
-                             files->presets.length, (const unsigned char *)files->cpu, strlen(files->cpu), t->number,
-                             stream.bytes ? stream.bytes : nothing, stream.length);
-    free(stream.bytes);
-    if (code == PAPI_OK) kl_clock_stands(stream.length == 0 && kl_is_model_time() ? t->generation : 0);
+    int code = kl_is_live() ? PAPI_OK : kl_take_stream(files, t->number, &stream, &bytes);
+    if (code == PAPI_OK) {
+        if (kl_tells_silence()) code = kl_take_heads(&bytes, &t->heads);
+        if (code == PAPI_OK) code = kl_open_over(&t->library, files, t->number, &bytes);
+        kl_give_stream(stream);
+    }
     kl_release_files(files);
-    if (code == PAPI_OK) code = kistalub_register(&t->library);
-    return code;
+    return code == PAPI_OK ? kistalub_register(&t->library) : code;
 }
 
 /* What is wrong with a stream is said once, and answered by each call of the thread. */
 static int open_state(thread_state *t) {
     int code = t->is_refused ? PAPI_ESYS : open_library(t);
+    if (code == PAPI_OK) code = kl_live_opens(t);
     t->is_refused = code == PAPI_ESYS;
     if (code != PAPI_OK) return code;
     t->step = atomic_load(&kl_step);
-    t->opened = 1;
+    t->is_opened = 1;
     return PAPI_OK;
+}
+
+/* A thread that unregistered has a library still, which registers it again. */
+static int name_state(thread_state *t) {
+    int code = kl_name_thread(t);
+    return code == PAPI_OK && t->is_opened ? kistalub_register(&t->library) : code;
 }
 
 /* A thread is listed before its stream is read. The function that gives its id may make calls, which then open the library. */
 static __attribute__((noinline)) thread_state *begin_thread(int *code) {
+    NO_CANCELLATION;
     if (!kl_known()) *code = kl_enters(NULL, 0);
-    if (*code == PAPI_OK && !own->has_id) *code = kl_name_thread(own);
-    if (*code == PAPI_OK && !own->opened) *code = open_state(own);
-    return *code == PAPI_OK ? own : NULL;
+    if (*code == PAPI_OK && !own.state->has_id) *code = name_state(own.state);
+    if (*code == PAPI_OK && !own.state->is_opened) *code = open_state(own.state);
+    return *code == PAPI_OK ? own.state : NULL;
 }
 
 thread_state *kl_here(int *code) {
     thread_state *t = kl_known();
     *code = PAPI_OK;
-    return t && t->opened && t->has_id ? t : begin_thread(code);
+    return t && t->is_opened && t->has_id ? t : begin_thread(code);
 }
 
 int kistalub_thread(uint32_t number) {

@@ -3,12 +3,11 @@
 
 #include <unistd.h>
 
-static unsigned long (*_Atomic id_function)(void);
-static atomic_int is_threaded;
+static struct { unsigned long (*_Atomic function)(void); atomic_int are_threads; } ids;
 
 /* The id of the calling thread. The program's function may make calls itself. */
 static PAPI_thread_id_t id_here(void) {
-    unsigned long (*function)(void) = atomic_load(&id_function);
+    unsigned long (*function)(void) = atomic_load(&ids.function);
     if (!function) return (PAPI_thread_id_t)getpid();
     kl_outside before = kl_user_begins();
     PAPI_thread_id_t id = function();
@@ -18,25 +17,26 @@ static PAPI_thread_id_t id_here(void) {
 
 /* Takes the id of the calling thread, and lists it. PAPI_ENOINIT if the program's function ends the library. */
 int kl_name_thread(thread_state *t) {
+    const kl_hold hold = KL_HOLD(0);
     t->has_id = 1;
-    kl_hold(t);
+    const int place = kl_hold_on(t, &hold);
     PAPI_thread_id_t id = id_here();
     pthread_mutex_lock(&kl_lock);
     t->id = id;
-    t->registered = 1;
+    t->is_registered = 1;
     pthread_mutex_unlock(&kl_lock);
-    return kl_let_go(t);
+    return kl_let_go(t, place);
 }
 
 void kl_forget_ids(void) {
-    atomic_store(&id_function, NULL);
-    atomic_store(&is_threaded, 0);
+    atomic_store(&ids.function, NULL);
+    atomic_store(&ids.are_threads, 0);
 }
 
 int PAPI_is_initialized(void) {
     CALL(PAPI_is_initialized);
     if (!atomic_load(&kl_generation)) return PAPI_NOT_INITED;
-    return atomic_load(&is_threaded) ? PAPI_LOW_LEVEL_INITED | PAPI_THREAD_LEVEL_INITED : PAPI_LOW_LEVEL_INITED;
+    return atomic_load(&ids.are_threads) ? PAPI_LOW_LEVEL_INITED | PAPI_THREAD_LEVEL_INITED : PAPI_LOW_LEVEL_INITED;
 }
 
 /* How many threads there are, and the ids of those that have room. */
@@ -44,7 +44,7 @@ static int list_ids(PAPI_thread_id_t *ids, void **kept, int tag, int room) {
     int count = 0;
     pthread_mutex_lock(&kl_lock);
     for (const thread_state *t = kl_first; t && !((ids || kept) && count == room); t = t->next) {
-        if (!t->registered) continue;
+        if (!t->is_registered) continue;
         if (ids) ids[count] = t->id;
         if (kept) kept[count] = t->kept[tag];
         count++;
@@ -54,18 +54,33 @@ static int list_ids(PAPI_thread_id_t *ids, void **kept, int tag, int room) {
 }
 
 /* The function is taken once, while there is one thread. Without one the id is that of the process. */
+static int support(thread_state *t, unsigned long (*id_fn)(void)) {
+    if (atomic_load(&ids.are_threads)) return PAPI_OK;
+    if (list_ids(NULL, NULL, 0, 0) > 1) return PAPI_EINVAL;
+    if (atomic_exchange(&ids.are_threads, 1)) return PAPI_OK;
+    atomic_store(&ids.function, id_fn);
+    return kl_name_thread(t);
+}
+
 int PAPI_thread_init(unsigned long (*id_fn)(void)) {
     CALL(PAPI_thread_init);
     HERE(t);
-    if (atomic_exchange(&is_threaded, 1)) return PAPI_OK;
-    if (list_ids(NULL, NULL, 0, 0) > 1) RETURN(PAPI_EINVAL);
-    atomic_store(&id_function, id_fn);
-    RETURN(kl_name_thread(t));
+    RETURN(support(t, id_fn));
+}
+
+static unsigned long own_id(void) { return (unsigned long)pthread_self(); }
+
+/* What rates and regions need. Where there are threads already, their ids stay as they are. */
+int kl_thread_support(void) {
+    int code;
+    thread_state *t = kl_here(&code);
+    if (t) code = support(t, own_id);
+    return code == PAPI_EINVAL ? PAPI_OK : code;
 }
 
 unsigned long PAPI_thread_id(void) {
     CALL(PAPI_thread_id);
-    return atomic_load(&id_function) ? id_here() : (unsigned long)PAPI_EMISC;
+    return atomic_load(&ids.function) ? id_here() : (unsigned long)PAPI_EMISC;
 }
 
 int PAPI_register_thread(void) {
@@ -76,7 +91,7 @@ int PAPI_register_thread(void) {
     RETURN(kl_name_thread(t));
 }
 
-/* PAPI_EMISC if the thread is not registered. Its event sets and its stream stay. */
+/* PAPI_EMISC if the thread is not registered. Its event sets and its stream stay, and its next call registers it again. */
 int PAPI_unregister_thread(void) {
     CALL(PAPI_unregister_thread);
     thread_state *t = kl_known();
@@ -84,8 +99,9 @@ int PAPI_unregister_thread(void) {
     int code = t ? kistalub_unregister(&t->library) : PAPI_EMISC;
     if (code != PAPI_OK) RETURN(code == PAPI_EINVAL || code == PAPI_ENOINIT ? PAPI_EMISC : code);
     pthread_mutex_lock(&kl_lock);
-    t->registered = 0;
+    t->is_registered = 0;
     pthread_mutex_unlock(&kl_lock);
+    t->has_id = 0;
     return PAPI_OK;
 }
 
@@ -121,29 +137,5 @@ int PAPI_set_thr_specific(int tag, void *ptr) {
     pthread_mutex_lock(&kl_lock);
     t->kept[tag] = ptr;
     pthread_mutex_unlock(&kl_lock);
-    return PAPI_OK;
-}
-
-/* The program's locks. Any thread may unlock one, as in PAPI. */
-pthread_mutex_t kl_guards[PAPI_NUM_LOCK] = { PTHREAD_MUTEX_INITIALIZER, PTHREAD_MUTEX_INITIALIZER };
-static struct { pthread_cond_t freed; int held; } locks[PAPI_NUM_LOCK] = { { PTHREAD_COND_INITIALIZER, 0 }, { PTHREAD_COND_INITIALIZER, 0 } };
-
-int PAPI_lock(int lock) {
-    CALL(PAPI_lock);
-    if (lock < 0 || lock >= PAPI_NUM_LOCK) RETURN(PAPI_EINVAL);
-    pthread_mutex_lock(&kl_guards[lock]);
-    while (locks[lock].held) pthread_cond_wait(&locks[lock].freed, &kl_guards[lock]);
-    locks[lock].held = 1;
-    pthread_mutex_unlock(&kl_guards[lock]);
-    return PAPI_OK;
-}
-
-int PAPI_unlock(int lock) {
-    CALL(PAPI_unlock);
-    if (lock < 0 || lock >= PAPI_NUM_LOCK) RETURN(PAPI_EINVAL);
-    pthread_mutex_lock(&kl_guards[lock]);
-    locks[lock].held = 0;
-    pthread_cond_signal(&locks[lock].freed);
-    pthread_mutex_unlock(&kl_guards[lock]);
     return PAPI_OK;
 }

@@ -1,5 +1,5 @@
-/* Time: the model's, in which each occurrence of the thread's stream takes a cycle, so that it repeats; with KISTALUB_CLOCK=real the machine's. In a run
- * over a recording (KISTALUB_CALLS) it is that of the program's recorded cycles. */
+/* Time: the model's, in which each occurrence of the thread's stream takes a cycle, so that it repeats; with KISTALUB_CLOCK=real the machine's. Of a program
+ * that runs under the tool (live.h) it is that of its own cycles. */
 #include "internal.h"
 
 #include <stdio.h>
@@ -10,34 +10,42 @@
 #define USUAL_MHZ 1000
 #define MOST_MHZ 1000000
 
-static atomic_uint mhz = USUAL_MHZ;
-static atomic_int is_real;
+/* The rate, and whether the time is the machine's. */
+static struct { atomic_uint mhz; atomic_int is_real; } watch = { USUAL_MHZ, 0 };
 
-uint32_t kl_mhz(void) { return atomic_load(&mhz); }
+uint32_t kl_mhz(void) { return atomic_load(&watch.mhz); }
 
 /* Takes KISTALUB_MHZ and KISTALUB_CLOCK: PAPI_ESYS, and a line on standard error, if they are neither a rate nor a clock. */
 int kl_time_begins(void) {
-    const char *clock = getenv("KISTALUB_CLOCK");
+    const char *clock = kl_variable("KISTALUB_CLOCK");
     uint32_t rate = USUAL_MHZ;
     int code = kl_number_named("KISTALUB_MHZ", 1, MOST_MHZ, &rate);
     if (code == PAPI_OK && clock && strcmp(clock, "real") && strcmp(clock, "model")) {
         fprintf(stderr, "papi: KISTALUB_CLOCK: neither real nor model: %s\n", clock);
         code = PAPI_ESYS;
     }
-    atomic_store(&mhz, rate);
-    atomic_store(&is_real, clock && !strcmp(clock, "real"));
+    atomic_store(&watch.mhz, rate);
+    atomic_store(&watch.is_real, clock && !strcmp(clock, "real"));
     return code;
 }
 
-bool kl_is_model_time(void) { return !atomic_load(&is_real); }
+bool kl_is_model_time(void) { return !atomic_load(&watch.is_real); }
+
+/* Before there is a library the model's time stands at 0, and the machine's goes on. */
+static bool is_real(void) {
+    if (kl_is_open()) return atomic_load_explicit(&watch.is_real, memory_order_relaxed);
+    const char *clock = kl_variable("KISTALUB_CLOCK");
+    return clock && !strcmp(clock, "real");
+}
 
 /* Cycles in nanoseconds, at the rate of the clock: whole seconds first, so that nothing overflows. */
 static long long nanoseconds_of(uint64_t cycles) {
-    uint64_t second = (uint64_t)mhz * 1000000;
+    uint64_t mhz = kl_mhz(), second = mhz * 1000000;
     return (long long)(cycles / second * 1000000000 + cycles % second * 1000 / mhz);
 }
 
 static long long cycles_of(const struct timespec *time) {
+    long long mhz = kl_mhz();
     return (long long)time->tv_sec * mhz * 1000000 + (long long)time->tv_nsec * mhz / 1000;
 }
 
@@ -48,41 +56,40 @@ static struct timespec machine_time(clockid_t clock) {
     return now;
 }
 
-/* How many occurrences of the calling thread's stream have happened, or the cycles of a recording. */
-static uint64_t occurrences(void) {
+/* The model's time: how many occurrences of the calling thread's stream have happened, or the cycles of the program that runs under the tool. */
+static uint64_t model_time(clockid_t clock) {
     int code;
-    uint64_t recorded;
-    if (kl_recorded_cycles(&recorded)) return recorded;
-    const thread_state *t = kl_here(&code);
+    if (kl_is_live()) return kl_live_cycles(clock == CLOCK_MONOTONIC);
+    const thread_state *t = kl_known();
+    if (!t || !t->is_opened) t = kl_here(&code);
     return t ? t->happened : 0;
 }
 
 static long long cycles(clockid_t clock) {
-    if (!is_real) return (long long)occurrences();
+    if (!is_real()) return (long long)model_time(clock);
     struct timespec now = machine_time(clock);
     return cycles_of(&now);
 }
 
 static long long nanoseconds(clockid_t clock) {
-    if (!is_real) return nanoseconds_of(occurrences());
+    if (!is_real()) return nanoseconds_of(model_time(clock));
     struct timespec now = machine_time(clock);
     return (long long)now.tv_sec * 1000000000 + now.tv_nsec;
 }
 
-/* A function that tells the time. While a program is recorded its clock may stand at 0: then the call is but marked. */
+/* A function that tells the time. */
 #define CLOCK(name, answer) \
-    static __attribute__((noinline)) long long kl_##name(void) { \
+    long long name(void) { \
         CALL(name); \
         return answer; \
-    } \
-    long long name(void) { return kl_is_but_marked(KL_##name) ? 0 : kl_##name(); }
+    }
 
 CLOCK(PAPI_get_real_cyc, cycles(CLOCK_MONOTONIC))
 CLOCK(PAPI_get_real_nsec, nanoseconds(CLOCK_MONOTONIC))
 CLOCK(PAPI_get_real_usec, nanoseconds(CLOCK_MONOTONIC) / 1000)
-CLOCK(PAPI_get_virt_cyc, kl_is_open() ? cycles(CLOCK_THREAD_CPUTIME_ID) : PAPI_ENOINIT)
-CLOCK(PAPI_get_virt_nsec, kl_is_open() ? nanoseconds(CLOCK_THREAD_CPUTIME_ID) : PAPI_ENOINIT)
-CLOCK(PAPI_get_virt_usec, kl_is_open() ? nanoseconds(CLOCK_THREAD_CPUTIME_ID) / 1000 : PAPI_ENOINIT)
+CLOCK(PAPI_get_virt_cyc, cycles(CLOCK_THREAD_CPUTIME_ID))
+CLOCK(PAPI_get_virt_nsec, nanoseconds(CLOCK_THREAD_CPUTIME_ID))
+CLOCK(PAPI_get_virt_usec, nanoseconds(CLOCK_THREAD_CPUTIME_ID) / 1000)
 
 int PAPI_read_ts(int set, long long *values, long long *cyc) {
     CALL(PAPI_read_ts);

@@ -118,6 +118,12 @@ int kistalub_presets_fault(const unsigned char *presets, size_t presets_len, con
  * and after that the stream has ended. -2 if memory is refused, and nothing happened then: an array of at most 32 takes none. */
 int kistalub_run(kistalub *h, uint32_t n, uint32_t *consumed, kistalub_passing *passings, size_t room, uint64_t *told, kistalub_fault *fault);
 
+/* Adds lines to the stream while the program runs: what was left of it is followed by what the text says, as docs/FORMATS.md has it ("A stream
+ * that grows"). -1 if a line of the text is bad: `fault` then has the line, from 1, and the cause. So too with line 0 if nothing can follow: a bad
+ * line has ended the stream or is left of it, or a last line without newline is left. -2 if memory is refused. Nothing is changed unless the answer
+ * is 0, and then nothing is kept of the lines that were consumed. */
+int kistalub_feed(kistalub *h, const unsigned char *text, size_t text_len, kistalub_fault *fault);
+
 /* What follows is C over the functions above (the sources in c/), and is not proved. */
 
 /* What PAPI_library_init takes, in place of the environment: the paths of a unit file, of a preset file or NULL, the cpu or NULL,

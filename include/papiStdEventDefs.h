@@ -1,5 +1,5 @@
 /* The presets' codes, by PAPI's names: a preset's code is its place in this list with PAPI_PRESET_MASK. A program that is built with these
- * names counts those that the preset file defines for its processor, of the 26 that the model knows. The others answer as unavailable. */
+ * names counts those that the preset file defines for its processor, of those that the model knows. The others answer as unavailable. */
 #ifndef _PAPISTDEVENTDEFS
 #define _PAPISTDEVENTDEFS
 

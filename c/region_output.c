@@ -10,8 +10,8 @@
 #include <time.h>
 #include <unistd.h>
 
-#define PATH_ROOM 4096
 #define RANKS 1000000
+#define OUTPUT "papi_hl_output"
 
 static const char *const fixed_names[FIXED_VALUES] = { "cycles", "real_time_nsec" };
 
@@ -51,18 +51,19 @@ static void write_definitions(FILE *f, const counted_events *counted) {
 }
 
 /* A value of a region, with those of its readings if there are any. */
-static void write_value(FILE *f, const region *r, int place) {
+static void write_value(FILE *f, const counted_events *counted, const region *r, int place) {
+    long long value = kl_counted_in(counted, r)[place];
     if (r->read_count == 0) {
-        fprintf(f, "\"%lld\"", r->counted[place]);
+        fprintf(f, "\"%lld\"", value);
         return;
     }
     putc('{', f);
     line(f, 6);
-    fprintf(f, "\"region_value\":\"%lld\"", r->counted[place]);
+    fprintf(f, "\"region_value\":\"%lld\"", value);
     for (int i = 0; i < r->read_count; i++) {
         putc(',', f);
         line(f, 6);
-        fprintf(f, "\"read_%d\":\"%lld\"", i + 1, r->reads[i][place]);
+        fprintf(f, "\"read_%d\":\"%lld\"", i + 1, r->reads[i * kl_value_count(counted) + place]);
     }
     line(f, 5);
     putc('}', f);
@@ -73,16 +74,16 @@ static void write_region(FILE *f, const counted_events *counted, const region *r
     fprintf(f, "\"%d\":{", r->id);
     line(f, 5);
     fputs("\"name\":", f);
-    quoted(f, r->name);
+    quoted(f, kl_region_name(counted, r));
     putc(',', f);
     line(f, 5);
     fprintf(f, "\"parent_region_id\":\"%d\"", r->parent);
-    for (int i = 0; i < FIXED_VALUES + counted->event_count; i++) {
+    for (int i = 0; i < kl_value_count(counted); i++) {
         putc(',', f);
         line(f, 5);
         quoted(f, i < FIXED_VALUES ? fixed_names[i] : counted->events[i - FIXED_VALUES].name);
         putc(':', f);
-        write_value(f, r, i);
+        write_value(f, counted, r, i);
     }
     line(f, 4);
     putc('}', f);
@@ -142,31 +143,53 @@ static int make_folders(char *path) {
         }
 }
 
-/* A folder of an earlier process gets the time behind its name. */
+/* A folder of an earlier process gets the time behind its name. One of this second is that of another process of the same program. */
 static void move_earlier(const char *folder) {
-    char moved[PATH_ROOM + 32], stamp[32];
+    char stamp[32];
     struct stat found;
     time_t now = time(NULL);
     struct tm parts;
     if (stat(folder, &found) || !S_ISDIR(found.st_mode) || found.st_mtime >= now || !localtime_r(&now, &parts)) return;
     strftime(stamp, sizeof stamp, "%Y%m%d-%H%M%S", &parts);
-    snprintf(moved, sizeof moved, "%s-%s", folder, stamp);
-    (void)rename(folder, moved);
+    size_t room = strlen(folder) + sizeof stamp + 1;
+    char *moved = malloc(room);
+    if (!moved) return;
+    snprintf(moved, room, "%s-%s", folder, stamp);
+    if (rename(folder, moved)) kl_region_say("Warning: cannot rename ", folder);
+    free(moved);
 }
 
-/* The number of the process among those of an MPI program, and 0 where it is none. */
+/* The folder for the output stays the same if the program goes to another one. */
+int kl_find_region_folder(counted_events *counted) {
+    const char *above = kl_variable("PAPI_OUTPUT_DIRECTORY");
+    char *here = above && *above == '/' ? NULL : getcwd(NULL, 0);
+    if (!above || !*above) above = ".";
+    size_t room = (here ? strlen(here) : 0) + strlen(above) + sizeof "//" OUTPUT;
+    counted->folder = malloc(room);
+    if (counted->folder) snprintf(counted->folder, room, "%s%s%s/" OUTPUT, here ? here : "", here ? "/" : "", above);
+    free(here);
+    if (!counted->folder) return PAPI_ENOMEM;
+    move_earlier(counted->folder);
+    return PAPI_OK;
+}
+
+/* The number of the process among those of an MPI program, or -1 where it is none. */
 static int rank_of_process(void) {
     static const char *const names[] = { "OMPI_COMM_WORLD_RANK", "ALPS_APP_PE", "PMI_RANK", "SLURM_PROCID" };
-    for (size_t i = 0; i < sizeof names / sizeof *names; i++)
-        if (getenv(names[i])) return atoi(getenv(names[i]));
-    return 0;
+    for (size_t i = 0; i < sizeof names / sizeof *names; i++) {
+        const char *rank = kl_variable(names[i]);
+        if (rank) return atoi(rank) < 0 ? 0 : atoi(rank) % RANKS;
+    }
+    return -1;
 }
 
-/* Opens the first file from that of the rank on that is not there yet. */
-static FILE *open_file(const char *folder, char *path, size_t room) {
-    for (int rank = rank_of_process(); rank < RANKS; rank++) {
-        snprintf(path, room, "%s/rank_%06d.json", folder, rank);
-        int file = open(path, O_WRONLY | O_CREAT | O_EXCL, S_IRUSR | S_IWUSR | S_IRGRP | S_IROTH);
+/* Opens the first file that is not there yet: of a rank its own, which may be the second of its name, and otherwise that of the least number. */
+static FILE *open_file(char *path, size_t room, const char *folder) {
+    const int rank = rank_of_process();
+    for (int next = 0; next < RANKS; next++) {
+        if (rank < 0 || next == 0) snprintf(path, room, "%s/rank_%06d.json", folder, rank < 0 ? next : rank);
+        else snprintf(path, room, "%s/rank_%06d-%d.json", folder, rank, next + 1);
+        int file = open(path, O_WRONLY | O_CREAT | O_EXCL | O_CLOEXEC, S_IRUSR | S_IWUSR | S_IRGRP | S_IROTH);
         if (file >= 0) return fdopen(file, "w");
         if (errno != EEXIST) return NULL;
     }
@@ -193,21 +216,25 @@ static int are_matched(const region_thread *threads) {
     return begun && begun == ended;
 }
 
-void kl_write_regions(const counted_events *counted, const region_thread *threads) {
-    char folder[PATH_ROOM], path[PATH_ROOM + 32];
-    const char *above = getenv("PAPI_OUTPUT_DIRECTORY");
-    if (!are_matched(threads)) return;
-    int n = snprintf(folder, sizeof folder, "%s/papi_hl_output", above && *above ? above : ".");
-    FILE *f = NULL;
-    if (n > 0 && n < PATH_ROOM) {
-        move_earlier(folder);
-        if (make_folders(folder) == PAPI_OK) f = open_file(folder, path, sizeof path);
-    }
+static void write_named(const counted_events *counted, const region_thread *threads, char *path, size_t room) {
+    FILE *f = make_folders(counted->folder) == PAPI_OK ? open_file(path, room, counted->folder) : NULL;
     if (!f) {
-        fprintf(stderr, "kistalub: PAPI_OUTPUT_DIRECTORY: cannot write: %s\n", folder);
+        fprintf(stderr, "kistalub: PAPI_OUTPUT_DIRECTORY: cannot write: %s\n", counted->folder);
         return;
     }
     write_file(f, counted, threads);
-    if (fclose(f)) fprintf(stderr, "kistalub: PAPI_OUTPUT_DIRECTORY: cannot write: %s\n", path);
-    else if (getenv("PAPI_REPORT")) report(path);
+    int is_whole = !ferror(f);
+    if (fclose(f) || !is_whole) fprintf(stderr, "kistalub: PAPI_OUTPUT_DIRECTORY: cannot write: %s\n", path);
+    else if (kl_variable("PAPI_REPORT")) report(path);
+}
+
+void kl_write_regions(const counted_events *counted, const region_thread *threads) {
+    if (!are_matched(threads)) {
+        if (threads) kl_region_say("Warning: nothing is written, since a region has not ended", "");
+        return;
+    }
+    size_t room = strlen(counted->folder) + sizeof "/rank_-.json" + 2 * sizeof "1000000";
+    char *path = malloc(room);
+    if (path) write_named(counted, threads, path, room);
+    free(path);
 }

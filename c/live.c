@@ -1,0 +1,174 @@
+/* What a program does while it runs, as the tool of Valgrind counts it: at each call of a thread whatever it did since its last call happens in the core, which
+ * decides what is counted. The tool stops a thread early enough for each threshold. */
+#include "live.h"
+
+#include <stdlib.h>
+#include <string.h>
+
+/* Among so many instructions the order of occurrences is evened out, where a set is multiplexed. */
+#define TURN_INSTRUCTIONS 65536
+/* What the tool can't stop at is waited for by instructions, of which one makes at most so many occurrences. */
+#define MOST_AT_ONCE 512
+
+/* The library's own code, by the section that c/build gives it. */
+extern const char first_byte[] __asm__("__start_kistalub_code") __attribute__((weak, visibility("hidden")));
+extern const char end_byte[] __asm__("__stop_kistalub_code") __attribute__((weak, visibility("hidden")));
+
+static int is_live;
+
+__attribute__((constructor)) static void begin(void) {
+    is_live = kl_ask(KL_HELLO, (uintptr_t)first_byte, (uintptr_t)end_byte, (uintptr_t)kl_live_stub) == KL_VERSION;
+    if (is_live) kl_keep_begins();
+}
+
+int kl_is_live(void) { return is_live; }
+
+int kl_live_opens(thread_state *t) {
+    if (!is_live) return PAPI_OK;
+    t->live = calloc(1, sizeof *t->live);
+    if (!t->live) return PAPI_ENOMEM;
+    t->live->codes = kl_codes_of(&t->library);
+    kl_keep_opens(t);
+    return PAPI_OK;
+}
+
+void kl_live_closes(thread_state *t) {
+    kl_keep_closes(t);
+    free(t->live);
+}
+
+/* The tool tells no hits of the first level: loads that miss it are told. */
+static void take_counts(kl_amounts *into) {
+    kl_ask(KL_COUNTS, (uintptr_t)into->of, KL_KINDS, 0);
+    into->of[LOAD_HITS] = into->of[KL_LOADS] - into->of[KL_L1D_LOAD_MISSES];
+}
+
+uint64_t kl_live_cycles(int of_all) {
+    uint64_t cycles[2] = { 0, 0 };
+    kl_ask(KL_TIME, (uintptr_t)cycles, 0, 0);
+    return cycles[of_all ? 0 : 1];
+}
+
+/* What the thread did since its last call happens. In a handler of thresholds time stands. The thread's state may be gone then, if a handler ended the library. */
+static void catch_up(thread_state *t, uint64_t address) {
+    live_thread *live = t->live;
+    kl_amounts now, amounts;
+    take_counts(&now);
+    for (uint64_t left = live->wanted; left; left &= left - 1) {
+        int kind = __builtin_ctzll(left);
+        amounts.of[kind] = now.of[kind] - live->seen.of[kind];
+    }
+    live->seen = now;
+    int stands = kl_in_handler(t);
+    kl_keep_lines(t, !stands);
+    if (stands || !live->wanted) return;
+    int code = kl_happen(t, &amounts, live->wanted, address);
+    if (code == PAPI_OK || code == PAPI_ENOINIT) return;
+    for (uint64_t left = live->wanted; left; left &= left - 1) {
+        int kind = __builtin_ctzll(left);
+        live->seen.of[kind] -= amounts.of[kind];
+    }
+}
+
+static int runs(thread_state *t, uint32_t set, uint32_t *bits) {
+    *bits = 0;
+    return t->sets[set] && kistalub_state(&t->library, set, bits) == PAPI_OK && *bits & PAPI_RUNNING;
+}
+
+static uint64_t kinds_of_set(thread_state *t, uint32_t set) {
+    uint32_t codes[MOST_EVENTS];
+    uint64_t count = 0, kinds = 0;
+    if (kistalub_list_events(&t->library, set, codes, MOST_EVENTS, &count) != PAPI_OK) return KL_ALL_KINDS;
+    for (uint64_t i = 0; i < count && i < MOST_EVENTS; i++) kinds |= kl_kinds_of(t, codes[i]);
+    return kinds;
+}
+
+/* Finds out what the thread's running sets count, from now on. The tool is told whether any does. */
+static void note_sets(thread_state *t) {
+    live_thread *live = t->live;
+    uint32_t bits;
+    live->wanted = 0;
+    live->is_in_turns = 0;
+    for (uint32_t set = 0; set < MOST_SETS; set++) {
+        if (!runs(t, set, &bits)) continue;
+        live->wanted |= kinds_of_set(t, set);
+        if (bits & PAPI_MULTIPLEXING) live->is_in_turns = 1;
+    }
+    kl_ask(live->wanted ? KL_START : KL_STOP, 0, 0, 0);
+    take_counts(&live->seen);
+}
+
+static void shorten(uint64_t *period, uint64_t to) {
+    if (!to) to = 1;
+    if (!*period || to < *period) *period = to;
+}
+
+/* The tool stops the thread before the event can pass its threshold, if all that is left to it were of one kind and as much of each. */
+static void stop_before(thread_state *t, uint32_t code, const kl_watch *w, int64_t value, kl_amounts *periods) {
+    uint64_t kinds = kl_kinds_of(t, code), left = w->threshold - (uint64_t)value % w->threshold;
+    unsigned count = (unsigned)__builtin_popcountll(kinds);
+    for (int kind = 0; kind < LINE_KINDS; kind++)
+        if (kinds & KL_BIT(kind)) shorten(&periods->of[kind == LOAD_HITS ? KL_LOADS : kind], left / count);
+}
+
+static void stop_before_all(thread_state *t, uint32_t set, kl_amounts *periods) {
+    uint32_t codes[MOST_EVENTS], given = 0;
+    uint64_t count = 0;
+    int64_t values[MOST_EVENTS];
+    if (kistalub_list_events(&t->library, set, codes, MOST_EVENTS, &count) != PAPI_OK) return;
+    if (kistalub_read(&t->library, set, values, MOST_EVENTS, &given) != PAPI_OK) return;
+    for (uint64_t place = 0; place < count && place < given; place++) {
+        const kl_watch *w = &t->sets[set]->watches[place];
+        if (w->threshold && (w->handled || w->profiled)) stop_before(t, codes[place], w, values[place], periods);
+    }
+}
+
+/* Says at what the tool stops the thread next. Instructions come last: they stand in for a kind that the tool can't stop at. */
+static void arm(thread_state *t) {
+    live_thread *live = t->live;
+    kl_amounts periods = { { 0 } };
+    uint32_t bits;
+    for (uint32_t set = 0; t->is_watched && set < MOST_SETS; set++)
+        if (runs(t, set, &bits)) stop_before_all(t, set, &periods);
+    if (live->is_in_turns) shorten(&periods.of[KL_INSTRUCTIONS], TURN_INSTRUCTIONS);
+    for (int kind = KL_KINDS - 1; kind >= 0; kind--) {
+        uint64_t period = periods.of[kind];
+        if (!period && !(live->armed & KL_BIT(kind))) continue;
+        if (kl_ask(KL_ARM, (uintptr_t)kind, period, 0)) live->armed = period ? live->armed | KL_BIT(kind) : live->armed & ~KL_BIT(kind);
+        else if (kind != KL_INSTRUCTIONS) shorten(&periods.of[KL_INSTRUCTIONS], period / MOST_AT_ONCE);
+    }
+}
+
+static int stops_anywhere(const thread_state *t) { return t->live->armed || (t->live->wanted && (t->is_watched || t->live->is_in_turns)); }
+
+/* The thread goes back to the program. */
+static void look_after(thread_state *t, int may_start_or_stop) {
+    if ((!may_start_or_stop && !stops_anywhere(t)) || !kl_core_begins(t)) return;
+    if (may_start_or_stop) note_sets(t);
+    if (stops_anywhere(t)) arm(t);
+    kl_core_ends(t);
+}
+
+void kl_live_stops(uint64_t address) {
+    kl_stopped_begins();
+    thread_state *t = kl_known();
+    if (t && t->live) {
+        catch_up(t, address);
+        t = kl_known();
+        if (t && t->live) look_after(t, 0);
+    }
+    kl_stopped_ends();
+}
+
+void kl_live_enters(void) {
+    if (is_live) kl_ask(KL_ENTER, 0, 0, 0);
+    thread_state *t = kl_known();
+    if (t && t->live && t->live->wanted) catch_up(t, 0);
+}
+
+void kl_live_leaves(int may_start_or_stop) {
+    if (!is_live) return;
+    thread_state *t = kl_known();
+    if (t && t->live) look_after(t, may_start_or_stop);
+    kl_ask(KL_LEAVE, 0, 0, 0);
+}

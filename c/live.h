@@ -1,0 +1,68 @@
+/* The library's side of the tool that counts a program while it runs (tools/valgrind; docs/RECORDING.md). Without the tool nothing here does anything. */
+#ifndef KL_LIVE_H
+#define KL_LIVE_H
+
+#include "../tools/valgrind/kinds.h"
+#include "internal.h"
+
+_Static_assert(LINE_KINDS <= 64, "a word has a bit for each kind");
+#define KL_BIT(kind) ((uint64_t)1 << (kind))
+#define KL_ALL_KINDS (KL_BIT(LINE_KINDS) - 1)
+
+typedef struct { uint64_t of[LINE_KINDS]; } kl_amounts;
+
+/* What a thread has of it. */
+typedef struct live_thread {
+    line_codes codes;     /* of the lines, by the unit */
+    kl_amounts seen;      /* the thread's counts up to which all has happened */
+    uint64_t wanted;      /* the kinds that a running set counts */
+    int is_in_turns;      /* a running set is multiplexed */
+    uint64_t fed;         /* lines that went to the thread's stream */
+    int has_ended;        /* it has had as many lines as a stream may have, and nothing more happens */
+    uint64_t armed;       /* the kinds that stop the thread */
+    int kept;             /* the file of its kept stream, or -1 */
+    uint64_t kept_bytes;
+    char lines[1 << 16];  /* room for lines on their way there */
+} live_thread;
+
+/* live_lines.c: of these kinds as many occurrences happen, at this address, and are taken off. Of several kinds they come in turn. PAPI_ENOINIT if a handler ended
+ * the library: the thread's state may be gone then. */
+int kl_happen(thread_state *t, kl_amounts *amounts, uint64_t kinds, uint64_t address);
+/* The codes that a unit's events have: Skylake's own, if its first component is the core of one. */
+line_codes kl_codes_of(kistalub *library);
+/* The lines of one kind without their amounts and addresses. */
+const kind_lines *kl_line_heads(line_codes of, int kind);
+uint32_t kl_head_count(line_codes of, int kind);
+
+/* live_kinds.c: the kinds that an event counts, by its code in the thread's library. */
+uint64_t kl_kinds_of(thread_state *t, uint32_t code);
+
+/* live_keep.c: the thread's stream that is kept, if it is. Its lines since the last time are written, or dropped. */
+void kl_keep_begins(void);
+void kl_keep_opens(thread_state *t);
+void kl_keep_closes(thread_state *t);
+void kl_keep_lines(thread_state *t, int counts);
+
+/* live_stub.c: where the tool sends a thread that has passed what it was to stop at. */
+void kl_live_stub(void);
+/* live.c: the thread is there, after the instruction at `address`. */
+void kl_live_stops(uint64_t address);
+
+/* A request to the tool: its answer, or 0 if there is none. */
+static inline uintptr_t kl_ask(unsigned request, uintptr_t first, uintptr_t second, uintptr_t third) {
+#if defined __x86_64__
+    /* Valgrind's own sequence, which does nothing on a processor. */
+    volatile uintptr_t words[6] = { KL_REQUEST + request, first, second, third, 0, 0 };
+    uintptr_t answer = 0;
+    __asm__ volatile("rolq $3, %%rdi\n\trolq $13, %%rdi\n\trolq $61, %%rdi\n\trolq $51, %%rdi\n\txchgq %%rbx, %%rbx"
+                     : "+d"(answer)
+                     : "a"(words)
+                     : "cc", "memory", "rdi");
+    return answer;
+#else
+    (void)request, (void)first, (void)second, (void)third;
+    return 0;
+#endif
+}
+
+#endif

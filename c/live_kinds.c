@@ -1,0 +1,94 @@
+/* Which kinds of occurrences an event counts. The core is asked: a library of its own counts the event over a stream with three lines of each. */
+#include "live.h"
+
+#include <stdio.h>
+#include <stdlib.h>
+#include <string.h>
+
+#define LINE_ROOM 20
+#define LINES_OF_HEAD 3
+
+/* What is known of native events, by their names. */
+typedef struct known { struct known *next; uint64_t kinds; char name[]; } known;
+
+static pthread_mutex_t lock = PTHREAD_MUTEX_INITIALIZER;
+static known *first;
+
+/* What the next lines add to what the set counts; 1 if that can't be told. */
+static int64_t added(kistalub *h, uint32_t set, uint32_t lines, int64_t *before) {
+    kistalub_passing passings[MOST_EVENTS];
+    kistalub_fault fault;
+    uint64_t told = 0;
+    uint32_t went = 0, count = 0;
+    int64_t now[MOST_EVENTS] = { 0 };
+    if (kistalub_run(h, lines, &went, passings, MOST_EVENTS, &told, &fault) != PAPI_OK || kistalub_read(h, set, now, MOST_EVENTS, &count) != PAPI_OK) return 1;
+    int64_t more = now[0] - *before;
+    *before = now[0];
+    return more;
+}
+
+/* An event that counts edges adds 1 at the first of the lines of a kind, and so may one with a least amount. What happens between two occurrences matters to it. */
+static uint64_t counted_by(kistalub *h, line_codes codes, const char *name) {
+    uint32_t set = 0;
+    uint64_t kinds = 0;
+    int64_t before = 0;
+    if (kistalub_create(h, &set) != PAPI_OK || kistalub_set_domain(h, set, PAPI_DOM_USER | PAPI_DOM_KERNEL) != PAPI_OK ||
+        kistalub_add_named(h, set, (const unsigned char *)name, strlen(name)) != PAPI_OK || kistalub_start(h, set) != PAPI_OK)
+        return KL_ALL_KINDS;
+    for (int kind = 0; kind < LINE_KINDS; kind++) {
+        int64_t more = added(h, set, LINES_OF_HEAD * kl_head_count(codes, kind), &before);
+        if (more == 1) return KL_ALL_KINDS;
+        if (more) kinds |= KL_BIT(kind);
+    }
+    return kinds;
+}
+
+/* All kinds, if the core can't be asked. */
+static uint64_t ask_core(line_codes codes, const char *name) {
+    char stream[LINES_OF_HEAD * MOST_HEADS * LINE_KINDS * LINE_ROOM];
+    text lines = { (unsigned char *)stream, 0 };
+    kistalub probe = KISTALUB_SHUT;
+    kl_files *files = kl_hold_files();
+    uint64_t kinds = KL_ALL_KINDS;
+    if (!files) return kinds;
+    for (int kind = 0; kind < LINE_KINDS; kind++)
+        for (uint32_t i = 0; i < kl_head_count(codes, kind); i++) {
+            const char *head = (*kl_line_heads(codes, kind))[i];
+            lines.length += (size_t)snprintf(stream + lines.length, sizeof stream - lines.length, "%s 1 0\n%s 255 0\n%s 255 0\n", head, head, head);
+        }
+    if (kl_open_over(&probe, files, 0, &lines) == PAPI_OK) kinds = counted_by(&probe, codes, name);
+    kistalub_close(&probe);
+    kl_release_files(files);
+    return kinds;
+}
+
+/* What counts nothing is told when it is asked for first. */
+static uint64_t kinds_of_native(line_codes codes, const char *name) {
+    uint64_t kinds;
+    pthread_mutex_lock(&lock);
+    for (const known *k = first; k; k = k->next)
+        if (!strcmp(k->name, name)) {
+            kinds = k->kinds;
+            pthread_mutex_unlock(&lock);
+            return kinds;
+        }
+    kinds = ask_core(codes, name);
+    if (!kinds && kl_tells_silence()) fprintf(stderr, "papi: %s counts 0, since nothing that is counted here counts for it (docs/RECORDING.md)\n", name);
+    known *made = malloc(sizeof *made + strlen(name) + 1);
+    if (made) {
+        made->kinds = kinds;
+        made->next = first;
+        strcpy(made->name, name);
+        first = made;
+    }
+    pthread_mutex_unlock(&lock);
+    return kinds;
+}
+
+uint64_t kl_kinds_of(thread_state *t, uint32_t code) {
+    char name[NAME_ROOM];
+    uint64_t kinds = 0;
+    uint32_t place = 0;
+    for (; kl_native_name(t, code, place, name) == PAPI_OK; place++) kinds |= kinds_of_native(t->live->codes, name);
+    return place ? kinds : KL_ALL_KINDS;
+}

@@ -1,0 +1,87 @@
+/* Signals. A handler of the program may count in the midst of another call of the same thread. The proved library makes one call at a time, so while it
+ * makes one the thread's signals wait, if the process has a handler for any. It is looked for handlers now and then, since it takes a call of the system for
+ * each signal. Where a handler was set since, the call that it interrupted goes on after it: a reading then gives the values that were told last, and what
+ * else was asked for is done when that call ends. */
+#define _GNU_SOURCE
+#include "internal.h"
+
+#include <signal.h>
+#include <string.h>
+
+#define FIRST_LOOKS 2
+#define CALLS_BETWEEN_FIRST 32
+#define CALLS_BETWEEN 1024
+
+/* Some handler was seen, or a call that interrupted another one. */
+static atomic_int is_met, has_handlers;
+
+/* Signals that an instruction of the thread itself raises do not wait. */
+static int is_own(int number) { return number == SIGSEGV || number == SIGBUS || number == SIGFPE || number == SIGILL || number == SIGTRAP; }
+
+static int is_handled(int number) {
+    struct sigaction action;
+    if (is_own(number) || sigaction(number, NULL, &action)) return 0;
+    return action.sa_flags & SA_SIGINFO || (action.sa_handler != SIG_DFL && action.sa_handler != SIG_IGN);
+}
+
+/* All that may wait. */
+static void note_others(sigset_t *others) {
+    sigfillset(others);
+    for (int number = 1; number < SIGRTMIN; number++)
+        if (is_own(number)) sigdelset(others, number);
+}
+
+/* The last signal is not looked at: in a program that runs under valgrind it has a handler of valgrind's. */
+static void look(kl_signals *s) {
+    int found = 0;
+    if (!s->looks) note_others(&s->others);
+    for (int number = 1; number < SIGRTMAX && !found; number++) found = is_handled(number);
+    atomic_store_explicit(&has_handlers, found, memory_order_relaxed);
+    s->until_look = s->looks < FIRST_LOOKS ? CALLS_BETWEEN_FIRST : CALLS_BETWEEN;
+    s->looks++;
+}
+
+static void wait_for_end(kl_signals *s) {
+    pthread_sigmask(SIG_SETMASK, &s->others, &s->before);
+    s->are_waiting = 1;
+}
+
+static void come(kl_signals *s) {
+    const sigset_t before = s->before;
+    s->are_waiting = 0;
+    pthread_sigmask(SIG_SETMASK, &before, NULL);
+}
+
+/* What handlers asked for meanwhile. */
+static void do_asked(thread_state *t) {
+    int64_t values[MOST_EVENTS];
+    uint32_t count;
+    wait_for_end(&t->signals);
+    for (uint32_t set = 0; set < MOST_SETS; set++) {
+        if (t->signals.to_stop >> set & 1) kistalub_stop(&t->library, set, values, MOST_EVENTS, &count);
+        if (t->signals.to_reset >> set & 1 && kistalub_reset(&t->library, set) == PAPI_OK) memset(t->sets[set]->last, 0, sizeof t->sets[set]->last);
+    }
+    t->signals.to_stop = t->signals.to_reset = 0;
+    come(&t->signals);
+}
+
+int kl_core_begins(thread_state *t) {
+    kl_signals *s = &t->signals;
+    if (s->depth) {
+        atomic_store_explicit(&is_met, 1, memory_order_relaxed);
+        return 0;
+    }
+    if (s->until_look-- == 0) look(s);
+    if (atomic_load_explicit(&has_handlers, memory_order_relaxed) || atomic_load_explicit(&is_met, memory_order_relaxed)) wait_for_end(s);
+    s->depth = 1;
+    atomic_signal_fence(memory_order_seq_cst);
+    return 1;
+}
+
+void kl_core_ends(thread_state *t) {
+    kl_signals *s = &t->signals;
+    atomic_signal_fence(memory_order_seq_cst);
+    s->depth = 0;
+    if (s->are_waiting) come(s);
+    if (s->to_stop | s->to_reset) do_asked(t);
+}
