@@ -45,6 +45,8 @@ static void *work(void *unused) {
     WANT(PAPI_list_events(set, NULL, NULL), PAPI_EINVAL);
     WANT(PAPI_remove_event(set, cycles), PAPI_OK);
     WANT(PAPI_event_name_to_code("REF", &code), PAPI_OK);
+    WANT(PAPI_cleanup_eventset(set), PAPI_OK);
+    WANT(PAPI_destroy_eventset(&set), PAPI_OK);
     return unused;
 }
 

@@ -110,6 +110,33 @@ static void forked(void) {
     PAPI_shutdown();
 }
 
+/* It begins over the files that kistalub_init gave to the first process, or over its own. */
+static void forked_over(const char *stream) {
+    long long count;
+    int status;
+    WANT(kistalub_init(getenv("KISTALUB_UNIT"), NULL, NULL, getenv("KISTALUB_STREAM")), PAPI_OK);
+    WANT(PAPI_library_init(PAPI_VER_CURRENT), PAPI_VER_CURRENT);
+    WANT(kistalub_init(getenv("KISTALUB_UNIT"), NULL, NULL, NULL), PAPI_EINVAL);
+    pid_t child = fork();
+    if (child == 0) {
+        char unit[4096];
+        snprintf(unit, sizeof unit, "%s", getenv("KISTALUB_UNIT"));
+        unsetenv("KISTALUB_UNIT");
+        if (stream) WANT(kistalub_init(unit, NULL, NULL, *stream ? stream : NULL), PAPI_OK);
+        WANT(PAPI_library_init(PAPI_VER_CURRENT), PAPI_VER_CURRENT);
+        WANT(started(), 0);
+        WANT(kistalub_go(1, NULL), PAPI_OK);
+        WANT(PAPI_stop(0, &count), PAPI_OK);
+        WANT(count, stream ? 0 : 255);
+        PAPI_shutdown();
+        WANT(PAPI_library_init(PAPI_VER_CURRENT), PAPI_ESYS);
+        _exit(0);
+    }
+    WANT(waitpid(child, &status, 0), child);
+    WANT(status, 0);
+    PAPI_shutdown();
+}
+
 int main(void) {
     in_a_handler(0);
     setenv("KISTALUB_STEP", "8", 1);
@@ -117,6 +144,9 @@ int main(void) {
     unsetenv("KISTALUB_STEP");
     under_a_thread();
     forked();
+    WANT(freopen("/dev/null", "w", stderr) != NULL, 1);
+    forked_over(NULL);
+    forked_over("");
     puts("each as wanted");
     return 0;
 }

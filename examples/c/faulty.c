@@ -151,6 +151,14 @@ static void variable(const char *name, const char *value) {
     unsetenv(name);
 }
 
+/* What is read later is judged when the library begins, too. */
+static void files_of_variables(void) {
+    static const char *const caches[] = { "l1d=32768,8", "l1d=32768,8,64 l9=1,1,1", "l1d=0,8,64", "l1d=1,1,99999999999", "l1d=1,1,1,1", "l1d", "L1D=1,1,1" };
+    for (size_t i = 0; i < sizeof caches / sizeof *caches; i++) variable("KISTALUB_CACHES", caches[i]);
+    variable("KISTALUB_STREAM", "field");
+    variable("KISTALUB_STREAM", "missing.%t");
+}
+
 int main(void) {
     char folder[] = "/tmp/kistalub_faulty_XXXXXX";
     static const char *const files[] = { "field", "fields", "stamp", "long", "larger", "faulty.unit", "faulty.presets", "large.unit" };
@@ -162,6 +170,8 @@ int main(void) {
     unreadable();
     of_a_thread();
     tables();
+    setenv("KISTALUB_UNIT", unit, 1);
+    files_of_variables();
     unsetenv("KISTALUB_UNIT");
     WANT(PAPI_library_init(PAPI_VER_CURRENT), PAPI_ESYS);
     variable("KISTALUB_STEP", "abc");

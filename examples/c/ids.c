@@ -57,8 +57,8 @@ static void list_all(void) {
 
 static void threads(void) {
     pthread_t made[THREADS];
-    unsigned long ids[THREADS], left[2];
-    int number = 2;
+    unsigned long ids[THREADS], left[THREADS + 1];
+    int number = THREADS + 1;
     WANT(PAPI_thread_init(own_id), PAPI_OK);
     WANT(PAPI_is_initialized(), PAPI_LOW_LEVEL_INITED | PAPI_THREAD_LEVEL_INITED);
     WANT(PAPI_thread_init(own_id), PAPI_OK);
@@ -72,10 +72,10 @@ static void threads(void) {
     pthread_barrier_wait(&barrier);
     for (int i = 0; i < THREADS; i++) WANT(pthread_join(made[i], NULL), 0);
     WANT(pthread_barrier_destroy(&barrier), 0);
-    /* those that ended are not listed any more */
+    /* those that unregistered are not listed any more */
     WANT(PAPI_list_threads(left, &number), PAPI_OK);
-    WANT(number, 1);
-    WANT(left[0], 0);
+    WANT(number, 1 + THREADS / 2);
+    for (int i = 0; i < number; i++) WANT(left[i] % 2, 0);
 }
 
 /* A function that ends the library in which it is called. */

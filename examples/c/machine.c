@@ -60,6 +60,30 @@ static void process(void) {
     for (int i = 0; i < libraries->count; i++) WANT(libraries->map[i].text_start < libraries->map[i].text_end, 1);
 }
 
+/* The attributes of the processor tell of the caches that the environment names. */
+static void caches(void) {
+    static const struct { PAPI_dev_attr_e attribute; unsigned value; } wanted[] = {
+        { PAPI_DEV_ATTR__CPU_UINT_L1I_CACHE_SIZE, 0 },           { PAPI_DEV_ATTR__CPU_UINT_L1D_CACHE_SIZE, 32768 },
+        { PAPI_DEV_ATTR__CPU_UINT_L1D_CACHE_LINE_SIZE, 64 },     { PAPI_DEV_ATTR__CPU_UINT_L1D_CACHE_LINE_COUNT, 512 },
+        { PAPI_DEV_ATTR__CPU_UINT_L1D_CACHE_ASSOC, 8 },          { PAPI_DEV_ATTR__CPU_UINT_L2U_CACHE_SIZE, 0 },
+        { PAPI_DEV_ATTR__CPU_UINT_L3U_CACHE_SIZE, 1048576 },     { PAPI_DEV_ATTR__CPU_UINT_L3U_CACHE_LINE_COUNT, 8192 },
+        { PAPI_DEV_ATTR__CPU_UINT_L3U_CACHE_ASSOC, 16 },         { PAPI_DEV_ATTR__CPU_UINT_FAMILY, 0 },
+    };
+    void *device = NULL;
+    setenv("KISTALUB_CACHES", " l1d=32768,8,64  l3=1048576,16,128 dtlb=64,4,4096", 1);
+    WANT(PAPI_library_init(PAPI_VER_CURRENT), PAPI_VER_CURRENT);
+    WANT(PAPI_get_hardware_info()->mem_hierarchy.levels, 3);
+    PAPI_enum_dev_type(PAPI_DEV_TYPE_ENUM__FIRST, &device);
+    WANT(PAPI_enum_dev_type(PAPI_DEV_TYPE_ENUM__ALL, &device), PAPI_OK);
+    for (size_t i = 0; i < sizeof wanted / sizeof *wanted; i++) {
+        unsigned value = 1;
+        WANT(PAPI_get_dev_attr(device, 0, wanted[i].attribute, &value), PAPI_OK);
+        WANT(value, wanted[i].value);
+    }
+    PAPI_shutdown();
+    unsetenv("KISTALUB_CACHES");
+}
+
 /* A cycle for each occurrence, at 1000 MHz. */
 static void times(void) {
     uint32_t went = 0;
@@ -84,7 +108,7 @@ static void times(void) {
 
 int main(void) {
     WANT(PAPI_get_real_usec(), 0);
-    WANT(PAPI_get_virt_usec(), PAPI_ENOINIT);
+    WANT(PAPI_get_virt_usec(), 0);
     WANT(PAPI_get_hardware_info() == NULL, 1);
     WANT(PAPI_library_init(PAPI_VER_CURRENT), PAPI_VER_CURRENT);
     components();
@@ -92,6 +116,7 @@ int main(void) {
     process();
     times();
     PAPI_shutdown();
+    caches();
     /* A component that is disabled before the library begins is still told of, but has no events. */
     WANT(PAPI_disable_component(1), PAPI_OK);
     WANT(PAPI_disable_component(99), PAPI_ENOCMP);

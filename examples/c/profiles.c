@@ -55,7 +55,9 @@ static void refused(void) {
     for (size_t i = 0; i < sizeof scales / sizeof *scales; i++) WANT(profil(buckets, sizeof buckets, scales[i], 0), PAPI_EINVAL);
     WANT(profil(buckets, sizeof buckets, 2, 0x200), PAPI_EINVAL);
     WANT(profil(buckets, sizeof buckets, 2, PAPI_PROFIL_BUCKET_16 | PAPI_PROFIL_BUCKET_64), PAPI_EINVAL);
-    WANT(profil(NULL, sizeof buckets, 2, 0), PAPI_EINVAL);
+    WANT(profil(NULL, sizeof buckets, 2, 0), PAPI_OK); /* nothing is counted, as in PAPI */
+    WANT(profil(NULL, sizeof buckets, 2, 0), PAPI_OK);
+    WANT(PAPI_profil(NULL, 0, 0, 2, set, event, 0, 0), PAPI_OK);
     WANT(PAPI_profil(buckets, sizeof buckets, 0, 2, set, event, -1, 0), PAPI_EINVAL);
     WANT(PAPI_profil(buckets, sizeof buckets, 0, 2, set, event, 0, 0), PAPI_EINVAL);
     WANT(PAPI_profil(buckets, sizeof buckets, 0, 2, set, event + 1, 256, 0), PAPI_ENOEVNT);

@@ -1,0 +1,28 @@
+/* The first rate opens the library with support of threads; it may be asked for inside a region, and by threads that live already. */
+#include "papi.h"
+#include "wanted.h"
+#include <pthread.h>
+
+static void *ask(void *unused) {
+    float real, own, rate;
+    long long events;
+    WANT(PAPI_ipc(&real, &own, &events, &rate), PAPI_OK);
+    WANT(PAPI_rate_stop(), PAPI_OK);
+    return unused;
+}
+
+int main(void) {
+    pthread_t thread;
+    ask(NULL);
+    WANT(PAPI_is_initialized(), PAPI_LOW_LEVEL_INITED | PAPI_THREAD_LEVEL_INITED);
+    WANT(PAPI_thread_id() == (unsigned long)PAPI_EMISC, 0);
+    PAPI_shutdown();
+    WANT(PAPI_library_init(PAPI_VER_CURRENT), PAPI_VER_CURRENT);
+    WANT(PAPI_is_initialized(), PAPI_LOW_LEVEL_INITED);
+    WANT(pthread_create(&thread, NULL, ask, NULL), 0);
+    WANT(pthread_join(thread, NULL), 0);
+    ask(NULL);
+    PAPI_shutdown();
+    puts("each rate is told");
+    return 0;
+}
