@@ -2,14 +2,13 @@
 
 from __future__ import annotations
 
-import os
 import re
-import subprocess
 from dataclasses import dataclass, field
 from pathlib import Path
 from typing import Iterator
 
 from parts.command import Fault
+from parts.compiler import compiler, cause, run_compiler
 
 
 @dataclass(frozen=True)
@@ -57,19 +56,12 @@ class Header:
         return {*self.functions, *self.composites, *self.typedefs, *self.enumerators, *self.macros}
 
 
-def compiler() -> list[str]:
-    return os.environ.get("CC", "cc").split()
-
-
 def preprocessed(name: str, folder: Path | None) -> str:
     """What the preprocessor writes of a header, with its macros and line marks."""
     where = ["-I", str(folder)] if folder else []
-    try:
-        done = subprocess.run([*compiler(), "-E", "-dD", *where, "-x", "c", "-"], input=f"#include <{name}>\n", capture_output=True, text=True)
-    except FileNotFoundError:
-        raise Fault(f"no C compiler: {compiler()[0]}") from None
+    done = run_compiler("-E", "-dD", *where, "-x", "c", "-", text=f"#include <{name}>\n")
     if done.returncode:
-        raise Fault(f"{name}: {done.stderr.strip().splitlines()[0] if done.stderr.strip() else 'not read'}")
+        raise Fault(f"{name}: {cause(done.stderr) or 'not read'}")
     return done.stdout
 
 
@@ -93,6 +85,8 @@ def read_header(name: str, folder: Path | None = None, of_header: str = "papi") 
             text.append(line)
     for declaration in declarations("\n".join(text)):
         read_declaration(declaration, header)
+    if not header.path:
+        raise Fault(f"{name}: {' '.join(compiler())} gives nothing of it")
     return header
 
 

@@ -4,11 +4,10 @@ from __future__ import annotations
 
 import re
 import subprocess
-import tempfile
 from pathlib import Path
 
-from parts.c_header import compiler
-from parts.command import Fault
+from parts.command import Fault, temporary_folder
+from parts.compiler import cause, run_compiler
 
 # What a probe writes for a constant: its value and its type.
 CONSTANT = """
@@ -28,22 +27,31 @@ def probe(header: str, folder: Path | None, rows: dict[str, str]) -> dict[str, s
     """What each statement writes in a program that includes the header. A statement that does not compile writes nothing and has no answer."""
     left = dict(rows)
     where = ["-I", str(folder)] if folder else []
-    with tempfile.TemporaryDirectory() as place:
+    with temporary_folder("probe-") as place:
         source, program = Path(place, "probe.c"), Path(place, "probe")
         while left:
             lines = [f'#include <{header}>', "#include <stddef.h>", "#include <stdio.h>", "#include <string.h>", CONSTANT.strip(), "int main(void) {"]
             first = "\n".join(lines).count("\n") + 2
             lines += [f'printf("{name}\\t"); {statement}; putchar(10);' for name, statement in left.items()]
             source.write_text("\n".join([*lines, "return 0;", "}", ""]), encoding="utf-8")
-            done = subprocess.run([*compiler(), "-std=gnu11", "-w", "-fmax-errors=0", *where, str(source), "-o", str(program)], capture_output=True, text=True)
+            done = run_compiler("-std=gnu11", "-w", "-fmax-errors=0", *where, str(source), "-o", str(program))
             if done.returncode == 0:
-                written = subprocess.run([str(program)], capture_output=True, text=True).stdout
-                return dict(line.split("\t", 1) for line in written.splitlines())
+                return _answers(header, program)
             names = list(left)
             # An error in what a macro stands for is told at the macro's place, and a note names the statement.
             wrong = {int(at) - first for at in re.findall(r"probe\.c:(\d+):\d+: ", done.stderr)} & set(range(len(names)))
             if not wrong:
-                raise Fault(f"the probe of {header} is not built: {done.stderr.strip().splitlines()[0] if done.stderr.strip() else ''}")
+                raise Fault(f"the probe of {header} is not built: {cause(done.stderr)}")
             for at in wrong:
                 del left[names[at]]
     return {}
+
+
+def _answers(header: str, program: Path) -> dict[str, str]:
+    try:
+        done = subprocess.run([str(program)], capture_output=True, text=True, encoding="utf-8", errors="replace")
+    except OSError as error:
+        raise Fault(f"the probe of {header} does not run: {error.strerror}") from None
+    if done.returncode:
+        raise Fault(f"the probe of {header} ends with {done.returncode}")
+    return dict(line.split("\t", 1) for line in done.stdout.splitlines() if "\t" in line)

@@ -3,10 +3,9 @@
 from __future__ import annotations
 
 from dataclasses import dataclass
-from xml.sax.saxutils import escape
-
 from parts.command import counted
 from parts.profile import FunctionHits, Profile
+from parts.xml_text import xml_text
 
 WIDTH = 860
 MARGIN = 24
@@ -65,11 +64,11 @@ def draw(profile: Profile, title: str) -> str:
     subtitle = counted(profile.total, "overflow") + (f", none in {counted(idle, 'other function')}" if idle else "")
     lines = [
         f'<svg xmlns="http://www.w3.org/2000/svg" width="{WIDTH}" height="{height}" viewBox="0 0 {WIDTH} {height}" role="img">',
-        f"<title>{escape(title)}</title>",
+        f"<title>{xml_text(title)}</title>",
         f"<style>{STYLE}</style>",
         f'<rect class="page" width="{WIDTH}" height="{height}" rx="6"/>',
-        f'<text class="title" x="{MARGIN}" y="{MARGIN + 14}">{escape(title)}</text>',
-        f'<text class="quiet" x="{MARGIN}" y="{MARGIN + 36}">{escape(subtitle)}</text>',
+        f'<text class="title" x="{MARGIN}" y="{MARGIN + 14}">{xml_text(title)}</text>',
+        f'<text class="quiet" x="{MARGIN}" y="{MARGIN + 36}">{subtitle}</text>',
     ]
     for place, bar in enumerate(bars):
         lines += _row(bar, profile.total, HEADING + ROW * place)
@@ -77,17 +76,17 @@ def draw(profile: Profile, title: str) -> str:
 
 
 def _row(bar: Bar, total: int, top: int) -> list[str]:
-    length = BAR_ROOM * bar.hits / total
+    length = BAR_ROOM * bar.hits / max(total, 1)
     middle = top + ROW / 2 + 4.5
     bar_top = top + (ROW - BAR) / 2
     label = f"{bar.hits:,}  {share(bar.hits, total)}"
     name = bar.name if len(bar.name) <= LONGEST_NAME else bar.name[: LONGEST_NAME - 1] + "\u2026"
     name_class = "name" if bar.kind == "bar" else "quiet"
     return [
-        f"<g><title>{escape(f'{bar.name}: {label}')}</title>",
-        f'<text class="{name_class}" x="{BAR_START - 12}" y="{middle:g}" text-anchor="end">{escape(name)}</text>',
+        f"<g><title>{xml_text(f'{bar.name}: {label}')}</title>",
+        f'<text class="{name_class}" x="{BAR_START - 12}" y="{middle:g}" text-anchor="end">{xml_text(name)}</text>',
         f'<rect class="track" x="{BAR_START}" y="{bar_top:g}" width="{BAR_ROOM}" height="{BAR}" rx="3"/>',
         f'<rect class="{bar.kind}" x="{BAR_START}" y="{bar_top:g}" width="{max(length, 1):.1f}" height="{BAR}" rx="3"/>',
         f'<text class="name" x="{BAR_START + BAR_ROOM + 12}" y="{middle:g}">{share(bar.hits, total)}</text>',
-        f'<text class="quiet" x="{WIDTH - MARGIN}" y="{middle:g}" text-anchor="end">{escape(bar.note)}</text></g>',
+        f'<text class="quiet" x="{WIDTH - MARGIN}" y="{middle:g}" text-anchor="end">{xml_text(bar.note)}</text></g>',
     ]

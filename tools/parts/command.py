@@ -1,12 +1,21 @@
-"""What all tools share: how a tool ends, and how it shows its progress."""
+"""What all tools share: their outputs, how a tool ends, and how it shows its progress."""
 
 from __future__ import annotations
 
+import io
 import os
 import signal
 import sys
+import tempfile
+from contextlib import contextmanager, suppress
 from pathlib import Path
-from typing import Callable
+from types import FrameType
+from typing import Any, Callable, Iterator
+
+BY_SIGNAL = 128  # what a status adds to the number of a signal
+MOST_BYTES = 1 << 27  # of a file that is read as a whole
+LONGEST_LINE = 1 << 20  # bytes, of standard input
+ENDING_SIGNALS = (signal.SIGINT, signal.SIGTERM, signal.SIGHUP)
 
 
 class Fault(Exception):
@@ -22,27 +31,161 @@ def own_name() -> str:
     return Path(sys.argv[0]).name
 
 
+class _Deferred:
+    """A signal that came while nothing may come in between."""
+
+    depth = 0
+    number: int | None = None
+
+
+def _end_by_signal(number: int, frame: FrameType | None) -> None:
+    if _Deferred.depth:
+        _Deferred.number = number
+        return
+    for other in ENDING_SIGNALS:
+        signal.signal(other, signal.SIG_IGN)
+    if number == signal.SIGINT:
+        raise KeyboardInterrupt
+    sys.exit(BY_SIGNAL + number)
+
+
 def end_by_termination() -> None:
-    """From now on a signal to terminate ends the process as an interrupt does, so that what it has started ends too."""
-    signal.signal(signal.SIGTERM, lambda number, frame: sys.exit(128 + number))
+    """From now on a signal to end, to hang up or to interrupt ends the process with a status, so that what it has started and made ends too. One that is
+    ignored stays so, and while the process ends no other one comes in between."""
+    for number in ENDING_SIGNALS:
+        if signal.getsignal(number) != signal.SIG_IGN:
+            signal.signal(number, _end_by_signal)
+
+
+@contextmanager
+def uninterrupted() -> Iterator[None]:
+    """A signal to end that comes in this block acts at its end: what the block begins is known then, and can be ended."""
+    _Deferred.depth += 1
+    try:
+        yield
+    finally:
+        _Deferred.depth -= 1
+    if _Deferred.number is not None and not _Deferred.depth:
+        _end_by_signal(_Deferred.number, None)
+
+
+@contextmanager
+def temporary_folder(prefix: str) -> Iterator[Path]:
+    """A folder that is gone after the block, also if a signal ends it."""
+    folder: tempfile.TemporaryDirectory[str] | None = None
+    try:
+        with uninterrupted():
+            folder = tempfile.TemporaryDirectory(prefix=prefix)
+        yield Path(folder.name)
+    finally:
+        if folder is not None:
+            folder.cleanup()
+
+
+class _Output(io.FileIO):
+    """Standard output, whose faults name it."""
+
+    def write(self, data: Any, /) -> int:
+        try:
+            return super().write(data)
+        except OSError as error:
+            raise OSError(error.errno, error.strerror, "standard output") from None
+
+
+class _Errors(io.FileIO):
+    """Standard error. What it does not take is lost, and changes nothing else."""
+
+    def write(self, data: Any, /) -> int:
+        with suppress(OSError):
+            super().write(data)
+        return len(data)
+
+
+def _open_closed(number: int) -> None:
+    """Puts something into the place of a standard stream that is closed, so that no file that is opened later gets its number: input and output fail as
+    a closed one does, and what goes to standard error is lost."""
+    try:
+        os.fstat(number)
+        return
+    except OSError:
+        opened = os.open(os.devnull, os.O_RDONLY if number == 1 else os.O_WRONLY)  # (it is the lowest number that is free)
+    os.set_inheritable(opened, True)
+
+
+def settle_streams() -> None:
+    """Standard input and output are texts in UTF-8, whatever the locale is. Bytes of a name that are none go out as they came in. A closed stream fails when
+    it is used."""
+    for number in range(3):
+        _open_closed(number)
+    if sys.stdin is None or sys.stdin is sys.__stdin__:
+        sys.stdin = open(0, encoding="utf-8", closefd=False)
+    if sys.stdout is None or sys.stdout is sys.__stdout__:
+        output = io.BufferedWriter(_Output(1, "w", closefd=False))
+        sys.stdout = io.TextIOWrapper(output, encoding="utf-8", errors="surrogateescape", line_buffering=output.isatty())
+    if sys.stderr is None or sys.stderr is sys.__stderr__:
+        encoding = sys.stderr.encoding if sys.stderr is not None else "utf-8"
+        sys.stderr = io.TextIOWrapper(io.BufferedWriter(_Errors(2, "w", closefd=False)), encoding=encoding, errors="backslashreplace", line_buffering=True)
+
+
+def _drop_output() -> None:
+    """What standard output could not take goes nowhere. Python would try once more at its end, and complain."""
+    with suppress(OSError):
+        nowhere = os.open(os.devnull, os.O_WRONLY)
+        os.dup2(nowhere, sys.stdout.fileno())
+        os.close(nowhere)
+
+
+def _why(error: OSError) -> str:
+    """What failed, and how."""
+    reason = error.strerror or str(error) or type(error).__name__
+    return f"{os.fsdecode(error.filename)}: {reason}" if isinstance(error.filename, (str, bytes)) and error.filename else reason
+
+
+def _tell(tool: str, what: object) -> None:
+    print(f"{tool}: {what}", file=sys.stderr)
+
+
+def _status_of(tool: str, work: Callable[[], None]) -> int:
+    """The status of the work, of which a line is told if it is no good one."""
+    try:
+        work()
+    except Fault as fault:
+        _tell(tool, fault)
+        return fault.status
+    except SystemExit as end:
+        return end.code if isinstance(end.code, int) else int(end.code is not None)
+    except KeyboardInterrupt:
+        return BY_SIGNAL + signal.SIGINT
+    except BrokenPipeError:
+        return 1  # the reader has enough
+    except OSError as error:
+        _tell(tool, _why(error))
+        return 1
+    except RecursionError:
+        _tell(tool, "the input is nested too deep")
+        return 1
+    except MemoryError:
+        _tell(tool, "out of memory")
+        return 1
+    return 0
 
 
 def end_with(tool: str, work: Callable[[], None]) -> None:
-    """Does the work and ends the process: 0, or another status with one line on standard error."""
+    """Does the work and ends the process: 0, or another status with one line on standard error. Words that are read in the work may end it too."""
+    settle_streams()
+    end_by_termination()
+    status = _status_of(tool, work)
     try:
-        work()
         sys.stdout.flush()
-    except Fault as fault:
-        print(f"{tool}: {fault}", file=sys.stderr)
-        sys.exit(fault.status)
     except BrokenPipeError:
-        # The reader has enough. Python would complain once more when it flushes at its end.
-        os.dup2(os.open(os.devnull, os.O_WRONLY), sys.stdout.fileno())
-        sys.exit(1)
+        status = status or 1
+        _drop_output()
     except OSError as error:
-        sys.exit(f"{tool}: {error.filename + ': ' if error.filename else ''}{error.strerror}")
-    except KeyboardInterrupt:
-        sys.exit(130)
+        if status == 0:
+            _tell(tool, _why(error))
+        status = status or 1
+        _drop_output()
+    sys.exit(status)
 
 
 class Progress:
@@ -56,28 +199,71 @@ class Progress:
     def show(self, done: int) -> None:
         if self.shown:
             of_total = f" of {self.total:,}" if self.total else ""
-            print(f"\r{self.label}: {done:,}{of_total}\x1b[K", end="", file=sys.stderr, flush=True)
+            self._write(f"\r{self.label}: {done:,}{of_total}\x1b[K")
 
     def tell(self, text: str) -> None:
         """Shows a text in place of a number."""
         if self.shown:
-            print(f"\r{self.label}: {text}\x1b[K", end="", file=sys.stderr, flush=True)
+            self._write(f"\r{self.label}: {text}\x1b[K")
 
     def close(self) -> None:
         """Takes the line away."""
         if self.shown:
-            print("\r\x1b[K", end="", file=sys.stderr, flush=True)
+            self._write("\r\x1b[K")
+
+    def _write(self, text: str) -> None:
+        """The terminal may be gone."""
+        try:
+            print(text, end="", file=sys.stderr, flush=True)
+        except OSError:
+            self.shown = False
+
+
+def read_bytes(name: str, most: int = MOST_BYTES) -> bytes:
+    """What a file has, or the fault that says why it is not read: it can't be, or it has more bytes than these."""
+    try:
+        with open(name, "rb") as file:
+            content = file.read(most + 1)
+    except OSError as error:
+        raise Fault(f"{name}: {error.strerror}") from None
+    if len(content) > most:
+        raise Fault(f"{name}: too large")
+    return content
 
 
 def read_file(name: str) -> str:
     """The text of a file, or the fault that says why there is none."""
+    content = read_bytes(name)
     try:
-        with open(name, encoding="utf-8") as file:
-            return file.read()
+        return content.decode("utf-8").replace("\r\n", "\n").replace("\r", "\n")
     except UnicodeDecodeError:
         raise Fault(f"{name}: not a text file") from None
-    except OSError as error:
-        raise Fault(f"{name}: {error.strerror}") from None
+
+
+def is_text_of(path: Path, text: str) -> bool:
+    """Whether a file is there and has this text."""
+    try:
+        with open(path, "rb") as file:
+            return file.read(len(text.encode()) + 1) == text.encode()
+    except FileNotFoundError:
+        return False
+
+
+def input_lines(most: int | None = None) -> Iterator[bytes]:
+    """The lines of standard input with their ends, and at most so many bytes of them in all if a number is given. A fault says why there are none."""
+    number = size = 0
+    while True:
+        number += 1
+        try:
+            line = sys.stdin.buffer.readline(LONGEST_LINE + 1)
+        except OSError as error:
+            raise Fault(f"standard input: {error.strerror}") from None
+        size += len(line)
+        if len(line) > LONGEST_LINE or most is not None and size > most:
+            raise Fault(f"standard input: line {number}: too {'long' if len(line) > LONGEST_LINE else 'many'}")
+        if not line:
+            return
+        yield line
 
 
 def counted(number: int, word: str) -> str:

@@ -1,12 +1,16 @@
-"""The manual page of a tool whose words argparse reads (mdoc)."""
+"""The manual page of a tool whose words argparse reads (mdoc), and its section in docs/TOOLS.md."""
 
 from __future__ import annotations
 
 import argparse
+import runpy
 from dataclasses import dataclass
-from typing import Iterator
+from pathlib import Path
+from typing import Iterator, NoReturn
 
+from parts.command import Fault
 from parts.manual_page import escaped, sentences, synopsis
+from parts.tools_page import cell
 
 OWN_TITLES = ("the program", "the words before it")
 
@@ -19,6 +23,47 @@ class Page:
     line: str  # the words as a synopsis has them
     statuses: tuple[tuple[str, str], ...]
     examples: tuple[tuple[str, str], ...]  # what it does, and the command
+
+
+class _Found(BaseException):
+    """Carries the parser of a program out of it."""
+
+
+def parser_of(program: Path) -> argparse.ArgumentParser:
+    """The parser of a program in Python that reads its words first of all."""
+
+    def find(parser: argparse.ArgumentParser, *given: object) -> NoReturn:
+        raise _Found(parser)
+
+    reading = argparse.ArgumentParser.parse_args
+    argparse.ArgumentParser.parse_args = find  # type: ignore
+    try:
+        runpy.run_path(str(program), run_name=program.name)
+    except _Found as found:
+        return found.args[0]
+    finally:
+        argparse.ArgumentParser.parse_args = reading  # type: ignore
+    raise Fault(f"{program}: reads no words")
+
+
+def command_section(parser: argparse.ArgumentParser, page: Page) -> list[str]:
+    """The section of a program in docs/TOOLS.md."""
+    lines = [f"## {parser.prog}", "", f"    {parser.prog} {page.line}", "", parser.description or "", ""]
+    for number, group in enumerate(parser._action_groups):
+        rows = [f"| `{cell(_plain_word(action))}` | {cell((action.help or '').replace('%%', '%'))} |" for action in group._group_actions if action.help and action.dest != "help"]
+        title = str(group.title) if number >= len(OWN_TITLES) else OWN_TITLES[number]
+        if rows:
+            lines += [f"{title[0].upper()}{title[1:]}:", "", "| Word | Meaning |", "|---|---|", *rows, ""]
+    lines += ["| Status | What it means |", "|---|---|", *(f"| {number} | {meaning} |" for number, meaning in page.statuses), ""]
+    for title, command in page.examples:
+        lines += [title, "", "```sh", command, "```", ""]
+    return lines
+
+
+def _plain_word(action: argparse.Action) -> str:
+    name = max(action.option_strings, key=len, default="")
+    value = str(action.metavar or "|".join(action.choices or ()))
+    return f"{name} {value}".strip()
 
 
 def _word(action: argparse.Action) -> str:

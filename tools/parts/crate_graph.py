@@ -3,7 +3,10 @@
 from __future__ import annotations
 
 from dataclasses import dataclass, field
+from graphlib import CycleError, TopologicalSorter
 from pathlib import Path
+
+from parts.command import Fault, read_file
 
 SWEEPS = 24
 BOX_WIDTH = 132
@@ -14,24 +17,28 @@ LINE_WIDTH = 10  # the room of a line that passes a level
 def read_crates(path: Path) -> dict[str, list[str]]:
     """Each crate with the crates of the repository that it cites, in alphabetical order. Crates of the kit are left out."""
     cited: dict[str, list[str]] = {}
-    for line in path.read_text(encoding="utf-8").splitlines():
+    for number, line in enumerate(read_file(str(path)).split("\n"), start=1):
         head, colon, tail = line.partition("#")[0].partition(":")
         if colon:
+            if not head.split():
+                raise Fault(f"{path.name}: line {number}: no name before the colon")
             cited[head.split()[0]] = tail.split()
     return {name: sorted(set(cited[name]) & set(cited)) for name in sorted(cited)}
+
+
+def upwards(cited: dict[str, list[str]]) -> list[str]:
+    """The crates in an order in which each stands behind all that it cites."""
+    try:
+        return list(TopologicalSorter(cited).static_order())
+    except CycleError as error:
+        raise Fault(f"crates that cite one another in a ring: {', '.join(sorted(set(error.args[1])))}") from None
 
 
 def below(cited: dict[str, list[str]]) -> dict[str, set[str]]:
     """All crates that a crate stands on, near and far."""
     reached: dict[str, set[str]] = {}
-
-    def reach(name: str) -> set[str]:
-        if name not in reached:
-            reached[name] = set(cited[name]).union(*(reach(other) for other in cited[name]))
-        return reached[name]
-
-    for name in cited:
-        reach(name)
+    for name in upwards(cited):
+        reached[name] = set(cited[name]).union(*(reached[other] for other in cited[name]))
     return reached
 
 
@@ -44,14 +51,8 @@ def nearest(cited: dict[str, list[str]]) -> dict[str, list[str]]:
 def levels(cited: dict[str, list[str]]) -> dict[str, int]:
     """The level of each crate: 0 if it cites none, else one above the highest that it cites."""
     level: dict[str, int] = {}
-
-    def of(name: str) -> int:
-        if name not in level:
-            level[name] = 1 + max((of(other) for other in cited[name]), default=-1)
-        return level[name]
-
-    for name in cited:
-        of(name)
+    for name in upwards(cited):
+        level[name] = 1 + max((level[other] for other in cited[name]), default=-1)
     return level
 
 

@@ -2,9 +2,8 @@
 
 from __future__ import annotations
 
-from xml.sax.saxutils import escape
-
 from parts.crate_graph import BOX_WIDTH, Layout, Node, lay_out
+from parts.xml_text import xml_text
 
 MARGIN = 24
 HEADING = 130
@@ -15,20 +14,17 @@ LEVEL = 62  # from one level to the next
 GROUPS = {
     "base": ("papi_base",),
     "tables, names, presets": (
-        "table_rows", "event_tables", "name_encoder", "preset_table", "postfix_rules", "preset_csv", "user_events", "component_table",
+        "table_rows", "event_tables", "name_encoder", "postfix_rules", "preset_csv", "user_events", "component_table",
     ),
     "counters and sets": ("counter_alloc", "counter_unit", "multiplex", "overflow_dispatch", "event_sets"),
-    "meaning of calls": ("session_model", "session_laws", "call_laws", "region_laws"),
-    "threads and workers": (
-        "stream_reader", "thread_slots", "thread_core", "thread_session", "parallel_tasks", "thread_registry", "plan_runner",
-        "papi_calls",
-    ),
+    "meaning of calls": ("session_model", "call_laws"),
+    "threads and workers": ("stream_reader", "thread_slots", "thread_core", "thread_session", "thread_registry", "papi_calls"),
     "scripts, texts, reports": (
-        "script_lines", "script_runner", "reply_text", "listing_text", "chooser_list", "soak_input", "profil_hist", "region_report", "tool_words",
+        "script_lines", "script_runner", "tool_output", "soak_input", "profil_hist", "region_report", "tool_words",
     ),
     "program": ("papi_tools", "papi", "papi_c"),
 }
-TESTS = ("table_tests", "counting_tests", "tool_tests", "worked_rows")  # these are not drawn
+TESTS = ("crate_tests", "tool_tests", "worked_rows")  # these are not drawn
 LIGHT = ("#e8eaed", "#d6e6f5", "#d9efd8", "#f6e3c5", "#e6dcf3", "#d3eeea", "#f6d7d4")
 DARK = ("#3a3f47", "#1f3f5c", "#23482a", "#5a4420", "#413060", "#1d4a45", "#5e2c29")
 
@@ -83,7 +79,7 @@ def _legend(cited: dict[str, list[str]], width: float) -> list[str]:
         if left + 40 + 6.4 * len(group) > width:
             left, top = float(MARGIN), top + 20
         lines.append(f'<rect class="box g{place}" x="{left:g}" y="{top}" width="12" height="12" rx="2"/>')
-        lines.append(f'<text class="quiet" x="{left + 18:g}" y="{top + 10.5}">{escape(group)}</text>')
+        lines.append(f'<text class="quiet" x="{left + 18:g}" y="{top + 10.5}">{xml_text(group)}</text>')
         left += 40 + 6.4 * len(group)
     return lines
 
@@ -109,5 +105,5 @@ def _box(node: Node, layout: Layout) -> str:
     x, y = MARGIN + node.x, _top(node, layout)
     return (
         f'<rect class="box {_kind(node.name)}" x="{x - BOX_WIDTH / 2:.1f}" y="{y:g}" width="{BOX_WIDTH}" height="{BOX_HEIGHT}" rx="5"/>'
-        f'<text class="name" x="{x:.1f}" y="{y + BOX_HEIGHT / 2 + 4:g}" text-anchor="middle">{escape(node.name)}</text>'
+        f'<text class="name" x="{x:.1f}" y="{y + BOX_HEIGHT / 2 + 4:g}" text-anchor="middle">{xml_text(node.name)}</text>'
     )

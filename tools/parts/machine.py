@@ -43,12 +43,10 @@ class Machine:
         known = [(name, shape) for name, shape in self.shapes.items() if shape]
         return " ".join(f"{name}={shape.lines * (1 if name in BUFFERS else shape.line)},{shape.ways},{shape.line}" for name, shape in known)
 
-    def words(self) -> list[str]:
-        """As the recorder takes them."""
-        words = ["--predictor", str(self.predictor), "--costs", ",".join(map(str, self.costs))]
-        for name, shape in self.shapes.items():
-            words += ["--cache", f"{name}={shape.word() if shape else 'none'}"]
-        return words
+    def tool_words(self) -> list[str]:
+        """As our tool of Valgrind takes them."""
+        shapes = [f"--{name}={shape.word() if shape else 'none'}" for name, shape in self.shapes.items()]
+        return ["--model=yes", f"--predictor={self.predictor}", f"--costs={','.join(map(str, self.costs))}", *shapes]
 
 
 def _numbers(text: str, form: str) -> list[int]:

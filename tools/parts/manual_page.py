@@ -17,7 +17,8 @@ STATUSES = (
     ("5", "A write failed. What was written is a prefix of the output."),
 )
 HINTS = "The script that runs the tool adds lines that begin with hint: to standard error, on what was refused or not found. With 0 it adds none. " \
-    "The word --quiet leaves them out too, and the line that shows on a terminal how far a run has come."
+    "The word --quiet leaves them out too, and the line that shows on a terminal how far a run has come. With the word --strict the status is 1 in place of 0 if a call was " \
+    "refused, or if a native event counted 0 because the streams lack its code."
 
 WIDTH = 78
 
@@ -77,6 +78,12 @@ def manual_page(usage: Usage, summary: str, date: str) -> str:
         lines.append(".El")
     for note in usage.notes:
         lines += [".Pp", *sentences(note)]
+    if usage.calls:
+        lines.append(".Bl -tag -width Ds")
+        for option in usage.calls:
+            name, *taken = option.word.split()
+            lines += [f".It Ic {name}" + (f" Ar {' '.join(taken)}" if taken else ""), *sentences(option.meaning[0].upper() + option.meaning[1:] + ".")]
+        lines.append(".El")
     lines += [".Sh ENVIRONMENT", ".Bl -tag -width Ds", ".It Ev KISTALUB_HINTS", *sentences(HINTS), ".El"]
     lines += [".Sh EXIT STATUS", ".Bl -tag -width Ds"]
     for number, meaning in STATUSES:

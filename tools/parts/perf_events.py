@@ -1,21 +1,23 @@
 """Which counters an event may stand on, out of perf's event files.
 
 These are the JSON files of a kernel's source in `tools/perf/pmu-events/arch/x86/NAME`. Each is a list of events. The
-key `Counter` says `0,1,2,3` for programmable counters and `Fixed counter 1` for a fixed one. An event is matched by
-the keys `EventCode` and `UMask`.
+key `Counter` says `0,1,2,3` for programmable counters and `Fixed counter 1` for a fixed one, and `CounterHTOff` the same
+of a core without hyperthreading. An event is matched by the keys `EventCode` and `UMask` and by its modifiers.
 """
 
 from __future__ import annotations
 
 import json
 from dataclasses import dataclass
-from typing import Any, Iterable, Iterator
+from typing import Any, Iterator, Sequence
 
 from parts.command import Fault, read_file
+from parts.unit_file import NOTHING_FIXED, Fixed
 
 Code = tuple[int, int]  # the select code and the umask
 
-OTHER_FIELDS = ("CounterMask", "Invert", "EdgeDetect", "AnyThread")  # these make another event of the same code
+# The numbers that these files of Intel's later processors give the fixed counters begin here.
+FIRST_FIXED = 32
 
 
 @dataclass(frozen=True)
@@ -27,23 +29,28 @@ class Places:
 
 
 class CounterTable:
-    """The counters of each code that the files name."""
+    """The counters of each code with its modifiers that the files name."""
 
     def __init__(self) -> None:
-        self._plain: dict[Code, Places] = {}
-        self._special: dict[Code, Places] = {}
+        self._rows: dict[Code, dict[Fixed, Places]] = {}
 
-    def add(self, code: Code, places: Places, plain: bool) -> None:
-        table = self._plain if plain else self._special
-        table[code] = _both(table[code], places) if code in table else places
+    def add(self, code: Code, modifiers: Fixed, places: Places) -> None:
+        rows = self._rows.setdefault(code, {})
+        rows[modifiers] = _both(rows[modifiers], places) if modifiers in rows else places
 
-    def places(self, code: Code) -> Places | None:
-        return self._plain.get(code) or self._special.get(code)
+    def places(self, code: Code, modifiers: Fixed = NOTHING_FIXED) -> Places | None:
+        """Those of the code with these modifiers, else of the code alone, else of the code with any."""
+        rows = self._rows.get(code)
+        if not rows:
+            return None
+        return rows.get(modifiers) or rows.get(NOTHING_FIXED) or next(iter(rows.values()))
+
+    def is_empty(self) -> bool:
+        return not self._rows
 
     def programmable(self) -> int:
         """How many programmable counters the files speak of."""
-        rows = list(self._plain.values()) + list(self._special.values())
-        return max((number + 1 for places in rows for number in places.programmable), default=0)
+        return max((number + 1 for rows in self._rows.values() for places in rows.values() for number in places.programmable), default=0)
 
 
 def _both(one: Places, other: Places) -> Places:
@@ -52,11 +59,14 @@ def _both(one: Places, other: Places) -> Places:
     return Places(common or one.programmable | other.programmable, one.fixed | other.fixed)
 
 
-def read_event_files(names: Iterable[str]) -> CounterTable:
+def read_event_files(names: Sequence[str], hyperthreading: bool = True) -> CounterTable:
+    """The counters of all that the files say. A fault if they say nothing of any."""
     table = CounterTable()
     for name in names:
         for entry in _entries(name):
-            _add_entry(table, name, entry)
+            _add_entry(table, name, entry, hyperthreading)
+    if table.is_empty():
+        raise Fault(f"{', '.join(names)}: no event of the core has its counters there")
     return table
 
 
@@ -65,26 +75,34 @@ def _entries(name: str) -> list[dict[str, Any]]:
         entries = json.loads(read_file(name))
     except json.JSONDecodeError as error:
         raise Fault(f"{name}: line {error.lineno}: not JSON: {error.msg}") from None
-    if isinstance(entries, dict) and all(isinstance(value, str) for value in entries.values()):
+    except (RecursionError, ValueError):
+        raise Fault(f"{name}: not a list of events: it is nested too deep, or has a number of too many digits") from None
+    if isinstance(entries, dict) and entries and all(isinstance(value, str) for value in entries.values()):
         return []  # metricgroups.json, which lies beside the lists of events
     if not isinstance(entries, list) or not all(isinstance(entry, dict) for entry in entries):
         raise Fault(f"{name}: not a list of events, as perf's event files are")
+    if not entries:
+        raise Fault(f"{name}: a list without an event")
+    for number, entry in enumerate(entries, 1):
+        if not entry:
+            raise Fault(f"{name}: event {number}: it has no key, and perf's event files have EventName, EventCode, UMask and Counter")
     return entries
 
 
-def _add_entry(table: CounterTable, name: str, entry: dict[str, Any]) -> None:
+def _add_entry(table: CounterTable, name: str, entry: dict[str, Any], hyperthreading: bool) -> None:
     """Takes an event of the core. Those of other units and the metrics, which have no `Counter`, are passed over."""
     if "Unit" in entry or "Counter" not in entry:
         return
     event = entry.get("EventName", "an event without a name")
     try:
-        places = _places(str(entry["Counter"]))
+        places = _places(str(entry["Counter"] if hyperthreading else entry.get("CounterHTOff", entry["Counter"])))
         codes = list(_codes(entry))
+        modifiers = Fixed(_number_of(entry, "EdgeDetect") != 0, _number_of(entry, "Invert") != 0, _number_of(entry, "CounterMask"))
+        of_any_thread = _number_of(entry, "AnyThread") != 0
     except ValueError:
-        raise Fault(f"{name}: {event}: EventCode, UMask or Counter has no number where one belongs") from None
-    plain = not any(_is_set(entry.get(field)) for field in OTHER_FIELDS)
-    for code in codes if places.programmable or places.fixed else []:
-        table.add(code, places, plain)
+        raise Fault(f"{name}: {event}: EventCode, UMask, Counter or a modifier has no number where one belongs") from None
+    for code in codes if (places.programmable or places.fixed) and not of_any_thread else []:
+        table.add(code, modifiers, places)
 
 
 def _codes(entry: dict[str, Any]) -> Iterator[Code]:
@@ -97,8 +115,8 @@ def _number(text: str) -> int:
     return int(text.strip(), 0)
 
 
-def _is_set(value: object) -> bool:
-    return value is not None and str(value) not in ("0", "0x0", "0x00")
+def _number_of(entry: dict[str, Any], field: str) -> int:
+    return _number(str(entry.get(field, "0")))
 
 
 def _places(text: str) -> Places:
@@ -106,4 +124,7 @@ def _places(text: str) -> Places:
     if words.strip() == "fixed":
         return Places(frozenset(), frozenset())
     numbers = frozenset(int(word) for word in words.split(",") if word.strip())
-    return Places(frozenset(), numbers) if text.strip().lower().startswith("fixed") else Places(numbers, frozenset())
+    if text.strip().lower().startswith("fixed"):
+        return Places(frozenset(), numbers)
+    programmable = frozenset(number for number in numbers if number < FIRST_FIXED)
+    return Places(programmable, frozenset(number - FIRST_FIXED for number in numbers - programmable))

@@ -2,10 +2,14 @@
 
 from __future__ import annotations
 
+import re
 from dataclasses import dataclass, field
 from typing import Iterable
 
 from parts.command import Fault
+
+HITS = re.compile("[0-9]{1,20}")
+ADDRESS = re.compile("0x[0-9a-f]{1,16}")
 
 
 @dataclass(frozen=True)
@@ -49,7 +53,7 @@ def read_profile(lines: Iterable[str]) -> Profile:
 def _take(profile: Profile, words: list[str], ended: str) -> str:
     """Takes one line. `outside` stands after all ranges, and `total` after it."""
     *kind, last = words or [""]
-    hits = int(last)
+    hits = _number(HITS, last, 10)
     if kind == ["outside"] and not ended:
         profile.outside = hits
         return "outside"
@@ -61,10 +65,17 @@ def _take(profile: Profile, words: list[str], ended: str) -> str:
     if len(kind) == 2 and kind[0] == "range":
         profile.functions.append(FunctionHits(kind[1], hits))
     elif len(kind) == 1 and profile.functions:
-        profile.functions[-1].buckets.append(Bucket(int(kind[0], 16), hits))
+        profile.functions[-1].buckets.append(Bucket(_number(ADDRESS, kind[0], 16), hits))
     else:
         raise ValueError
     return ended
+
+
+def _number(form: re.Pattern[str], text: str, base: int) -> int:
+    """A number as papi_profil writes it: no sign, no blanks, and none that is longer than any of its own."""
+    if not form.fullmatch(text):
+        raise ValueError(text)
+    return int(text, base)
 
 
 def _check_sums(profile: Profile) -> None:

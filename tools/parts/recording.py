@@ -1,26 +1,25 @@
-"""A recording of a program: a traced run, and the recorder that turns its trace into a stream (tools/recorder)."""
+"""A recording of a program: a run under our tool of Valgrind (tools/valgrind), which writes the stream."""
 
 from __future__ import annotations
 
 import os
-import re
 import shutil
+import signal
 import subprocess
 import sys
 from dataclasses import dataclass, field
 from pathlib import Path
 from typing import IO, Mapping
 
+from parts import valgrind
+from parts.codes import RECORDED
 from parts.command import Fault, Progress
-from parts.compiled import cache_folder, recorder
-from parts.lackey import TracedRun
 from parts.machine import Machine
-from parts.symbols import read_functions
+from parts.symbols import entry_of, read_functions
 
 MOST_BYTES = 67_108_864
 FULL_STATUS = 3
-MARKS_PAGE = 0x4B4953540000  # far from where Linux maps anything by itself
-LIBRARY_FUNCTION = re.compile(r"_?(PAPI|PAPIF|papif|kistalub|kl)_")
+THREAD_SIGN = "%t"
 
 
 @dataclass(frozen=True)
@@ -32,7 +31,6 @@ class Wanted:
     machine: Machine
     symbol: str | None = None  # begin when this function is first entered
     only_calls: bool = False  # between calls of PAPI while a set counts
-    calls: str | None = None  # the file for the list of calls
     is_each: bool = False
     window: int = 65_536
     first_thread: bool = False
@@ -40,104 +38,115 @@ class Wanted:
     output: IO[str] | int | None = None
     errors: int | None = None
     source: IO[bytes] | None = None
+    is_whole: bool = False  # as the system starts it: also what its loader does before the program's entry, and with its random bytes
+    has_further: bool = False  # totals of what only other tools count
+    codes: str = RECORDED  # of the lines (parts/codes.py)
 
 
 @dataclass
 class Recorded:
-    """What the recorder told."""
+    """What the run told."""
 
     totals: dict[str, int] = field(default_factory=dict)
     calls: int = 0
     papi: str | None = None  # the libpapi.so that the program loaded
-    unknown: int = 0  # instructions in no file, or not known to objdump
     is_from_met: bool = True
     full_at: int | None = None
     second_thread: bool = False
+    replaced_by: str | None = None  # the program that this one became
     failure: str | None = None
     status: int = 0  # the program's, or the number of a signal below zero
 
     def sum(self, *names: str) -> int:
         return sum(self.totals.get(name, 0) for name in names)
 
-
-def _library_ranges(path: str, base: int) -> list[str]:
-    """The library's functions that stand in the program itself: what they do is not the program's."""
-    words: list[str] = []
-    for function in read_functions(path):
-        if LIBRARY_FUNCTION.match(function.name):
-            start = base + function.address
-            words += ["--library", f"{start:x}-{start + function.size:x}"]
-    return words
+    def has_ended_early(self) -> bool:
+        return self.full_at is not None or self.second_thread or bool(self.failure or self.replaced_by)
 
 
-def _entry_of(path: str, symbol: str, base: int) -> str:
+def entry_of_symbol(path: str, symbol: str) -> int:
+    """The address of a function in the program's file."""
     for function in read_functions(path):
         if function.name == symbol:
-            return f"{base + function.address:x}"
+            return function.address
     raise Fault(f"{path} has no function {symbol}")
 
 
-def _words(wanted: Wanted, run: TracedRun, base: int, report: int, stream: str | None) -> list[str]:
-    words = [str(recorder()), "--report", str(report), "--folder", str(cache_folder()), "--program", run.path, "--maps", str(run.maps), "--base", f"{base:x}"]
-    words += ["--window", str(wanted.window), *wanted.machine.words()]
-    if stream:
-        words += ["--out", stream]
-    if wanted.symbol:
-        words += ["--from", _entry_of(run.path, wanted.symbol, base)]
-    if wanted.only_calls:
-        words += ["--page", f"{MARKS_PAGE:x}", *_library_ranges(run.path, base)]
-    if wanted.calls:
-        words += ["--calls", wanted.calls]
-    return words + ["--each"] * wanted.is_each + ["--first-thread"] * wanted.first_thread
+def found_program(name: str) -> str:
+    path = shutil.which(name)
+    if path is None:
+        raise Fault(f"{name}: no such program")
+    return path
 
 
 def record(wanted: Wanted, stream: str | None, label: str) -> Recorded:
-    """Records into a file, or to standard output. The label stands before the line that shows the progress."""
-    for command, package in (("objdump", "binutils"), ("nm", "binutils")):
-        if shutil.which(command) is None:
-            raise Fault(f"{command} is not installed (apt-get install {package})")
-    recorder()
-    environment = dict(wanted.environment)
-    if wanted.only_calls:
-        environment.update(KISTALUB_MARKS=f"{MARKS_PAGE:#x}", LD_BIND_NOW="1")
-    run = TracedRun(wanted.program, wanted.arguments, wanted.output, environment, wanted.errors, wanted.source)
-    try:
-        recorded = _follow(wanted, run, stream, label)
-    except BaseException:
-        run.stop()
-        raise
-    if recorded.full_at is not None or recorded.second_thread or recorded.failure:
-        run.stop()
-    else:
-        recorded.status = run.end()
-    return recorded
-
-
-def _follow(wanted: Wanted, run: TracedRun, stream: str | None, label: str) -> Recorded:
-    """Starts the recorder, and reads what it tells until it ends."""
-    base = run.base()
-    reader, writer = os.pipe()
+    """Records into a file, or into one for each thread, or to standard output. The label stands before the line that shows the progress."""
+    path = found_program(wanted.program)
+    words = _words(wanted, os.path.realpath(path))
+    bound = {"LD_BIND_NOW": "1"} if wanted.only_calls else {}  # else a name is looked for while a set counts
+    environment = valgrind.environment([path, *wanted.arguments], {**wanted.environment, **bound})
+    valgrind.tool()
+    valgrind.check_temporary_folder()
     sys.stdout.flush()
-    process = subprocess.Popen(_words(wanted, run, base, writer, stream), stdin=run.trace, pass_fds=[writer])
-    os.close(writer)
-    os.close(run.trace)
-    recorded = Recorded()
-    progress = Progress(label)
+    reader, writer = os.pipe()
     with os.fdopen(reader, encoding="utf-8", errors="replace") as report:
-        for line in report:
-            _take(recorded, progress, line.rstrip("\n"))
-    progress.close()
-    if process.wait() and not (recorded.failure or recorded.second_thread or recorded.full_at is not None):
-        raise Fault("the recorder ended before the program")
+        try:
+            process = _start(wanted, [*words, f"--report={writer}"], path, stream, writer, environment)
+        finally:
+            os.close(writer)
+        try:
+            recorded = _follow(report, label)
+            if recorded.has_ended_early():
+                process.kill()
+            recorded.status = process.wait()
+        except BaseException:
+            process.kill()
+            process.wait()
+            raise
+    if not recorded.totals and not recorded.has_ended_early() and recorded.status != -signal.SIGKILL:
+        raise Fault(f"{wanted.program} can't be run under valgrind (status {recorded.status})")
     return recorded
 
 
-def _take(recorded: Recorded, progress: Progress, line: str) -> None:
+def _words(wanted: Wanted, path: str) -> list[str]:
+    """The tool's words."""
+    entry = entry_of(path)
+    words = [*wanted.machine.tool_words(), f"--counts={'yes' if wanted.has_further else 'no'}", "--tape=yes", f"--codes={wanted.codes}",
+             f"--window={wanted.window}", f"--entry={entry:#x}"]
+    begin = entry_of_symbol(path, wanted.symbol) if wanted.symbol else entry
+    words += ["--keep-random=yes"] if wanted.is_whole else [f"--from={begin:#x}"]
+    words += ["--stopped=yes"] * wanted.only_calls  # the library starts it while a set counts
+    return words + ["--each=yes"] * wanted.is_each + ["--further=yes"] * wanted.has_further
+
+
+def _start(wanted: Wanted, words: list[str], path: str, stream: str | None, report: int, environment: dict[str, str]) -> subprocess.Popen[bytes]:
+    """Starts the program, which inherits the descriptors of the report and of the stream. The tool hides them from it."""
+    each = stream is not None and THREAD_SIGN in stream
+    file = os.dup(1) if stream is None else os.open(stream.replace(THREAD_SIGN, "0"), os.O_WRONLY | os.O_CREAT | os.O_TRUNC | os.O_CLOEXEC, 0o666)
+    try:
+        words = [*words, *([f"--streams={stream}"] if each else [f"--stream={file}", f"--threads={'first' if wanted.first_thread else 'one'}"])]
+        return subprocess.Popen(
+            valgrind.command(["--log-file=/dev/null", *words], path, wanted.arguments), pass_fds=[report] + [file] * (not each), stdin=wanted.source, stdout=wanted.output, stderr=wanted.errors,
+            env=environment,
+        )
+    finally:
+        os.close(file)
+
+
+def _follow(report: IO[str], label: str) -> Recorded:
+    """Reads what the tool tells until it ends."""
+    recorded = Recorded(is_from_met=True)
+    progress = Progress(label)
+    for line in report:
+        take_line(recorded, progress, line.rstrip("\n"))
+    progress.close()
+    return recorded
+
+
+def take_line(recorded: Recorded, progress: Progress, line: str) -> None:
     word, _, rest = line.partition(" ")
     if word == "progress":
         progress.show(int(rest))
-    elif word == "reading":
-        progress.tell(f"reading the instructions of {rest} (once)")
     elif word == "total":
         name, _, number = rest.partition(" ")
         recorded.totals[name] = int(number)
@@ -145,14 +154,14 @@ def _take(recorded: Recorded, progress: Progress, line: str) -> None:
         recorded.full_at = int(rest, 16)
     elif word == "thread":
         recorded.second_thread = True
+    elif word == "exec":
+        recorded.replaced_by = rest or None
     elif word == "papi":
         recorded.papi = rest
     elif word == "failed":
         recorded.failure = rest
     elif word == "calls":
         recorded.calls = int(rest)
-    elif word == "unknown":
-        recorded.unknown = int(rest)
     elif word == "from":
         recorded.is_from_met = rest == "1"
 

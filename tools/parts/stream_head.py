@@ -3,11 +3,11 @@
 from __future__ import annotations
 
 import re
-from itertools import islice
 
 from parts.command import Fault
 
 MOST_LINES = 16
+LONGEST = 4096  # bytes of a line
 LOADED_AT = re.compile(rb"# loaded at (0x[0-9a-f]{1,16})\r?\n?")
 
 
@@ -15,7 +15,7 @@ def read_base(stream: str) -> int:
     """Where the program of a recorded stream was loaded."""
     try:
         with open(stream, "rb") as file:
-            head = list(islice(file, MOST_LINES))
+            head = [file.readline(LONGEST) for _ in range(MOST_LINES)]
     except OSError as error:
         raise Fault(f"{stream}: {error.strerror}") from None
     for line in head:

@@ -3,8 +3,16 @@
 from __future__ import annotations
 
 import re
+import sys
+from typing import Sequence
 
-from parts.usage import Error, Usage, read_errors, read_usage, summaries, tools
+from parts.command import read_file
+from parts.usage import ROOT, Error, Usage, read_errors, read_usage, summaries, tools
+
+sys.path.append(str(ROOT / "bin/hints"))
+from refusals import RULES, SENTENCES, causes_of
+
+CONFLICT = "PAPI_ECNFLCT"
 
 HEAD = """# Tools
 
@@ -15,11 +23,18 @@ Each tool has a script in `bin/`. It prints its usage without words and with `--
 
 The commands on this page are run at the top of the repository. What they print is shown, on standard output and then on standard error.
 
-Lines that begin with `hint: ` are not the program's. The scripts in `bin/` add them to standard error if the status is 1 or 2, or if nothing is found of what was asked for. They
-say which word, line, field or name is meant, and which names are like it. They need Python 3.9; without it there are no hints, nor are there any with `KISTALUB_HINTS=0`.
+Lines that begin with `hint: ` are not the program's. The scripts in `bin/` add them to standard error if the status is 1 or 2, if a call of a script is refused, if nothing is found
+of what was asked for, or if a native event of a set that ran counts 0 because no line of the streams has its code. They say which word, line, field or name is meant, which names are like it, and by which rule a call is refused. They need Python 3.9; without it there are no
+hints, nor are there any with `KISTALUB_HINTS=0`.
 
-If standard error is a terminal, the scripts show there how far a run of more than half a second has come: the seconds, and how much of the streams was read. The line is gone before the output comes.
-With the word `--quiet` a script adds nothing, neither hints nor this line.
+If standard error is a terminal, the scripts show there how far a run of more than half a second has come: the seconds, and how much of the streams was read. The line is gone before
+the output comes. With the word `--quiet` a script adds nothing, neither hints nor this line. A signal that ends the script ends the program.
+
+With the word `--strict` a script ends with 1 in place of 0 if a call of a script was refused, or if a native event counted 0 because no line of the streams has its code. Nothing that is written
+changes. It needs Python. To know which calls of its script were refused, `papi_profil --strict` runs the script once more.
+
+As long as no proved program is built, the scripts run the same code unproved. The first command compiles it, in a minute or two, and later ones answer at once. It is kept in
+`${XDG_CACHE_HOME:-~/.cache}/kistalub`, under a checksum of the code and of the toolchain. With `KISTALUB_COMPILE=0` it is not compiled: a command that needs it then ends with 127.
 
 """
 STATUSES = """## Statuses
@@ -63,13 +78,46 @@ def cell(text: str) -> str:
     return text.replace("|", "\\|")
 
 
-def tools_page() -> str:
+CODES_HEAD = """## Codes of replies
+
+A reply of `papi_run` has one of these codes, with the number that a C program gets and PAPI's sentence for it (`PAPI_strerror`). The last column has the calls of a script that
+are refused by it, and when. [FORMATS](FORMATS.md#what-the-calls-do) has the order of the refusals of each call.
+
+| Code | Number | Sentence | When |
+|---|---|---|---|"""
+OF_RUN = "`run`: the run met a bad line of the stream, or a read failed. It is no refusal"
+DONE = "the call was carried out"
+
+
+def codes_section() -> list[str]:
+    numbers = dict(re.findall(r"#define (PAPI_\w+)\s+\(?(-?[0-9]+)\)?", read_file(str(ROOT / "include/fpapi.h"))))
+    rows = [f"| `{code}` | {numbers[code]} | {sentence} | {cell(_when(code))} |" for code, sentence in SENTENCES.items()]
+    return [*CODES_HEAD.splitlines(), *rows, ""]
+
+
+def _when(code: str) -> str:
+    calls_of: dict[str, list[str]] = {}
+    for call in RULES:
+        if causes := causes_of(call, code):
+            calls_of.setdefault(", or ".join(causes), []).append(f"`{call}`")
+    told = [f"{', '.join(calls)}: {cause}" for cause, calls in calls_of.items()]
+    if code == CONFLICT:
+        told.append("`add`: the native events find no counters beside those of the set. The reply names those to blame, and after a `/` the counters that they are allowed")
+    return "; ".join(told) or {"PAPI_OK": DONE, "PAPI_ESYS": OF_RUN}.get(code, "")
+
+
+def tools_page(sections: Sequence[tuple[str, str, list[str]]] = ()) -> str:
+    """The page. A further section has a name, a summary and lines."""
     usages = [read_usage(tool) for tool in tools()]
     lines = [HEAD.rstrip("\n"), "", "| Tool | |", "|---|---|"]
     lines += [f"| [{tool}](#{tool}) | {cell(summary)} |" for tool, summary in summaries().items()]
-    lines += ["| | [Statuses](#statuses) |", "| | [Errors](#errors): each with its cause and its remedy |", ""]
+    lines += [f"| [{name}](#{name}) | {cell(summary)} |" for name, summary, _ in sections]
+    lines += ["| | [Codes of replies](#codes-of-replies) |", "| | [Statuses](#statuses) |", "| | [Errors](#errors): each with its cause and its remedy |", ""]
     for usage in usages:
         lines += _section(usage)
+    for _, _, made in sections:
+        lines += made
+    lines += codes_section()
     lines += [STATUSES.rstrip("\n"), "", ERRORS_HEAD.rstrip("\n"), ""]
     lines += _errors(read_errors())
     return "\n".join(lines).rstrip("\n") + "\n"
@@ -80,6 +128,8 @@ def _section(usage: Usage) -> list[str]:
     lines += [f"| `{cell(option.word)}` | {cell(option.meaning)} |" for option in usage.options] + [""]
     for note in usage.notes:
         lines += [note, ""]
+    if usage.calls:
+        lines += ["| Call | What it does |", "|---|---|", *(f"| `{option.word}` | {cell(option.meaning)} |" for option in usage.calls), ""]
     for example in usage.examples:
         lines += [example.title, "", "```console", f"$ {example.command}", *example.output.splitlines(), "```", ""]
     return lines

@@ -15,16 +15,41 @@ NAME = re.compile(r"[A-Za-z0-9_-]{1,64}")
 
 
 @dataclass(frozen=True)
+class Fixed:
+    """The modifiers that a umask fixes: edge, inversion and a least amount."""
+
+    edge: bool = False
+    invert: bool = False
+    amount: int = 0
+
+    def row(self) -> str:
+        flags = ("e" if self.edge else "") + ("i" if self.invert else "")
+        return f"UMASK_MODIFIERS,{flags or '-'},{self.amount}"
+
+
+NOTHING_FIXED = Fixed()
+
+
+@dataclass(frozen=True)
 class Umask:
+    """A umask of an event. Without counters of its own it has those of the event."""
+
     name: str
     bits: int
     is_default: bool
     stands_alone: bool
     description: str
+    counters: tuple[str, ...] = ()
+    fixed: Fixed = NOTHING_FIXED
 
-    def row(self) -> str:
+    def rows(self) -> list[str]:
         flags = ("d" if self.is_default else "") + ("n" if self.stands_alone else "")
-        return f"UMASK,{self.name},{self.bits:02x},{flags or '-'},{plain(self.description)}"
+        rows = [f"UMASK,{self.name},{self.bits:02x},{flags or '-'},{plain(self.description)}"]
+        if self.counters:
+            rows.append(f"UMASK_COUNTERS,{' '.join(self.counters)}")
+        if self.fixed != NOTHING_FIXED:
+            rows.append(self.fixed.row())
+        return rows
 
 
 @dataclass(frozen=True)
@@ -37,7 +62,7 @@ class Event:
 
     def rows(self) -> list[str]:
         own = f"EVENT,{self.name},{self.select:02x},{' '.join(self.counters)},{plain(self.description)}"
-        return [own] + [umask.row() for umask in self.umasks]
+        return [own] + [row for umask in self.umasks for row in umask.rows()]
 
 
 @dataclass(frozen=True)

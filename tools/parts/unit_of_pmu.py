@@ -7,110 +7,139 @@ same code. The unit also accepts some modifiers that libpfm4 refuses: it has all
 from __future__ import annotations
 
 from collections import Counter
-from dataclasses import dataclass, field
+from dataclasses import dataclass
 from itertools import combinations
-from typing import Iterable
+from typing import Iterator
 
 from parts import unit_file
-from parts.command import Fault, Progress, counted
+from parts.command import Fault, Progress
+from parts.event_counters import EventCounters, names_of, union
+from parts.left_out import SAYABLE_MODIFIERS, Account, LeftOut
 from parts.libpfm4 import Attribute, Event, Libpfm4, Pmu, Refused
+from parts.linux_source import ConstraintTable
 from parts.perf_events import Code, CounterTable, Places
-from parts.unit_file import MOST_COUNTERS, MOST_EVENTS, MOST_UMASKS
+from parts.unit_file import MOST_COUNTERS, MOST_EVENTS, MOST_UMASKS, NOTHING_FIXED, Fixed
+
+__all__ = ["SAYABLE_MODIFIERS", "Account", "Converter"]
 
 COMPONENT = "cpu"
 ALWAYS = 0x530000  # USR, OS, INT and EN of the event select register
-MODIFIER_BITS = 0xFFFF0000  # with the counter mask, INV, the edge and the like
-SAYABLE_MODIFIERS = ("u", "k", "e", "i", "c")
+EDGE = 1 << 18
+INVERT = 1 << 23
+AMOUNT_PLACE = 24
+SAYABLE_BITS = 0xFF000000 | INVERT | EDGE | 0xFFFF
 
-# Intel's architectural events and their fixed counters. The third has no programmable one.
-FIXED_BESIDE: dict[Code, int] = {(0xC0, 0x00): 0, (0x3C, 0x00): 1}
-FIXED_ALONE: dict[Code, int] = {(0x00, 0x03): 2}
-NOWHERE = Places(frozenset(), frozenset())
+# The events that all of Intel's cores have (its manual, volume 3, architectural performance events), by the names of libpfm4's table ix86arch. PAPI finds them beside the
+# core's own. libpfm4 makes that table out of what the machine says on which it runs, so it is empty elsewhere.
+ARCHITECTURAL = {
+    "UNHALTED_CORE_CYCLES": (0x003C, "Core cycles while not halted"),
+    "INSTRUCTION_RETIRED": (0x00C0, "Instructions retired"),
+    "UNHALTED_REFERENCE_CYCLES": (0x013C, "Reference cycles while not halted"),
+    "LLC_REFERENCES": (0x4F2E, "References to the last level of cache"),
+    "LLC_MISSES": (0x412E, "Misses of the last level of cache"),
+    "BRANCH_INSTRUCTIONS_RETIRED": (0x00C4, "Branch instructions retired"),
+    "MISPREDICTED_BRANCH_RETIRED": (0x00C5, "Mispredicted branch instructions retired"),
+}
 
 
-class LeftOut(Exception):
-    """Why a name cannot be said in a unit file."""
+@dataclass(frozen=True)
+class Coded:
+    """What libpfm4 encodes a name as."""
 
+    codes: tuple[int, ...]
 
-@dataclass
-class Account:
-    """What was left out: each name with its reason, and each modifier with the number of its events."""
+    @property
+    def special(self) -> int:
+        return self.codes[0] ^ ALWAYS
 
-    names: dict[str, str] = field(default_factory=dict)
-    modifiers: Counter[str] = field(default_factory=Counter)
-    combinations: int = 0
-    lacking_modifiers: int = 0
-    counters_known: int = 0
-    codes: int = 0
+    @property
+    def code(self) -> Code:
+        return self.special & 0xFF, self.special >> 8 & 0xFF
 
-    def leave_out(self, name: str, reason: str) -> None:
-        self.names[name] = reason
-
-    def lines(self, with_files: bool) -> list[str]:
-        lines = [f"left out: {counted(count, 'name')}: {reason}" for reason, count in sorted(Counter(self.names.values()).items())]
-        if self.combinations:
-            lines.append(f"left out: {counted(self.combinations, 'pair')} of umasks that libpfm4 combines")
-        lines += [f"left out: modifier {name} of {counted(count, 'event')}" for name, count in sorted(self.modifiers.items())]
-        if self.lacking_modifiers:
-            lacking = counted(self.lacking_modifiers, "event")
-            lines.append(f"taken all the same: the modifiers {' '.join(SAYABLE_MODIFIERS)}, of which libpfm4 lacks some for {lacking}")
-        if with_files:
-            lines.append(f"counters: {self.counters_known:,} of {self.codes:,} codes have theirs in the event files")
-        return lines
+    @property
+    def fixed(self) -> Fixed:
+        return Fixed(self.special & EDGE != 0, self.special & INVERT != 0, self.special >> AMOUNT_PLACE & 0xFF)
 
 
 @dataclass(frozen=True)
 class CodedUmask:
-    """A umask with the code that libpfm4 gives its event with it."""
+    """A umask with what libpfm4 encodes its event with it as."""
 
     attribute: Attribute
-    select: int
-    bits: int
+    coded: Coded
 
     @property
-    def code(self) -> Code:
-        return self.select, self.bits
+    def select(self) -> int:
+        return self.coded.code[0]
 
 
 class Converter:
     """Makes one unit, and keeps the account of what it left out."""
 
-    def __init__(self, library: Libpfm4, pmu: Pmu, table: CounterTable | None = None, width: int = 48, most: int | None = None):
+    def __init__(self, library: Libpfm4, pmu: Pmu, table: CounterTable | None = None, width: int = 48, most: int | None = None,
+                 constraints: ConstraintTable | None = None):
         """`most` is how many programmable counters are taken, if it is given."""
         self.library = library
         self.pmu = pmu
         self.table = table
+        self.constraints = constraints
         self.width = width
         self.there = (table.programmable() if table else 0) or pmu.programmable
         self.programmable = self.there if most is None else min(most, self.there)
         self.account = Account()
+        self.counters = EventCounters(self.programmable, pmu.fixed, table, constraints)
+        self.architectural: set[str] = set()
         if self.programmable + pmu.fixed > MOST_COUNTERS:
             raise Fault(f"{pmu.name} has {self.programmable + pmu.fixed} counters, and a unit at most {MOST_COUNTERS}")
 
     def assumption(self) -> str:
         """What the unit takes for granted of the counters, as a sentence."""
         few = f"the first {self.programmable} of {self.there}" if self.programmable < self.there else f"all {self.programmable}"
-        where = "on the counters that the event files name" if self.table else "on each programmable counter, since no event files were given (--events)"
+        if self.constraints:
+            where = "on the counters that the event files and the kernel's table allow"
+        elif self.table:
+            where = "on the counters that the event files name"
+        else:
+            where = "on each programmable counter, since no event files that name counters were given (--events, --linux)"
         shared = "" if self.table or self.programmable < self.there else "; hyperthreading may leave a thread fewer (--counters 4)"
         return f"assumed: an event may stand {where}; {few} programmable counters are there{shared}"
 
     def unit(self) -> unit_file.Unit:
         events: list[unit_file.Event] = []
         progress = Progress(self.pmu.name, self.pmu.events)
-        for number, event in enumerate(self.library.events(self.pmu)):
+        for number, event in enumerate(self.source_events()):
             progress.show(number)
             try:
                 converted = self._event(event)
                 if len(events) == MOST_EVENTS:
                     raise LeftOut(f"more than {MOST_EVENTS:,} events")
                 events.append(converted)
-                self._count_modifiers(set(event.modifiers()))
+                self.account.count_modifiers(set(event.modifiers()))
             except LeftOut as reason:
                 self.account.leave_out(event.name, str(reason))
         progress.close()
+        self.account.codes, self.account.counters_known = self.counters.codes, self.counters.known
         if not events:
             raise Fault(f"no event of {self.pmu.name} has a code of an event select register")
         return unit_file.Unit(COMPONENT, self.pmu.name, self.width, self.programmable, self.pmu.fixed, tuple(events))
+
+    def source_events(self) -> Iterator[Event]:
+        """The events of the PMU's table, and those of the architecture that it does not have itself."""
+        own = list(self.library.events(self.pmu))
+        yield from own
+        if self.pmu.kind == "core" and self.pmu.description.startswith("Intel"):
+            self.architectural = ARCHITECTURAL.keys() - {event.name for event in own}
+            yield from (Event(name, text, ()) for name, (_, text) in ARCHITECTURAL.items() if name in self.architectural)
+
+    def encode(self, name: str) -> tuple[int, ...]:
+        """The codes of a name of the unit, of the event select register and of a second one if it has that."""
+        event, _, umask = name.partition(":")
+        if event not in self.architectural:
+            return self.library.encode(f"{self.pmu.name}::{name}")
+        code = ARCHITECTURAL[event][0]
+        if umask not in ("", f"0x{code >> 8:02x}"):
+            raise Refused("no such umask of an architectural event")
+        return (ALWAYS | code,)
 
     def _event(self, event: Event) -> unit_file.Event:
         if not unit_file.is_name(event.name):
@@ -120,47 +149,54 @@ class Converter:
         coded = self._coded_umasks(event)
         default = self._default(event, coded)
         coded = self._of_one_select(event, coded, default)
-        counters, allowed = self._counters([each.code for each in coded], default.code if default else None)
-        coded = self._keep(event, coded, [each for each in coded if each.code in allowed], "the umask may stand on fewer counters than its event")
+        places = {each: self.counters.places(each.coded.code, each.coded.fixed) for each in coded}
+        coded = self._keep(event, coded, [each for each in coded if places[each] != Places(frozenset(), frozenset())], "the unit does not have its counters")
+        if not coded:
+            raise LeftOut("the unit does not have its counters")
         coded = self._at_most_16(event, coded, default)
         alone = self._alone(event, coded)
+        shared = union([places[each] for each in coded])
+        for each in coded:
+            if len(each.coded.codes) > 1:
+                self.account.take_half(f"{event.name}:{each.attribute.name}")
         umasks = tuple(
-            unit_file.Umask(each.attribute.name, each.bits, each == default, each in alone, each.attribute.description) for each in coded
+            unit_file.Umask(
+                each.attribute.name, each.coded.code[1], each == default, each in alone, each.attribute.description,
+                names_of(places[each]) if places[each] != shared else (), each.coded.fixed,
+            ) for each in coded
         )
-        return unit_file.Event(event.name, coded[0].select, counters, event.description, umasks)
+        return unit_file.Event(event.name, coded[0].select, names_of(shared), event.description, umasks)
 
     def _event_without_umasks(self, event: Event) -> unit_file.Event:
-        """If the code has umask bits all the same, they become the default umask `0x..`, which libpfm4 reads as well."""
-        select, bits = self._code(event.name)
+        """If the code has umask bits or modifiers all the same, they become the default umask `0x..`, which libpfm4 reads as well."""
+        coded = self._code(event.name)
+        select, bits = coded.code
         umasks: tuple[unit_file.Umask, ...] = ()
-        if bits:
+        if bits or coded.fixed != NOTHING_FIXED:
             name = f"0x{bits:02x}"
-            if self._code(f"{event.name}:{name}") != (select, bits):
+            if self._code(f"{event.name}:{name}") != coded:
                 raise LeftOut("the code has more than 8 bits and no umask")
-            umasks = (unit_file.Umask(name, bits, True, True, "The umask of the event's code"),)
-        counters, _ = self._counters([(select, bits)], None)
-        return unit_file.Event(event.name, select, counters, event.description, umasks)
-
-    def _count_modifiers(self, modifiers: set[str]) -> None:
-        self.account.modifiers.update(modifiers - set(SAYABLE_MODIFIERS))
-        self.account.lacking_modifiers += not modifiers.issuperset(SAYABLE_MODIFIERS)
+            umasks = (unit_file.Umask(name, bits, True, True, "The umask of the event's code", (), coded.fixed),)
+        places = self.counters.places(coded.code, coded.fixed)
+        if places == Places(frozenset(), frozenset()):
+            raise LeftOut("the unit does not have its counters")
+        if len(coded.codes) > 1:
+            self.account.take_half(event.name)
+        return unit_file.Event(event.name, select, names_of(places), event.description, umasks)
 
     # ---- codes
 
-    def _code(self, name: str) -> Code:
-        """The select code and the umask, which are the whole code beside the bits that every code has."""
+    def _code(self, name: str) -> Coded:
+        """The code, if the select code, the umask and modifiers of a unit are the whole of it beside the bits that every code has."""
         try:
-            codes = self.library.encode(f"{self.pmu.name}::{name}")
+            coded = Coded(self.encode(name))
         except Refused as refusal:
             raise LeftOut(f"libpfm4 says: {refusal}") from None
-        if len(codes) != 1:
-            raise LeftOut("the code needs a second register")
-        special = codes[0] ^ ALWAYS
-        if special >> 32:
+        if coded.special >> 32:
             raise LeftOut("the select code has more than 8 bits")
-        if special & MODIFIER_BITS:
-            raise LeftOut("the code sets modifiers of its own")
-        return special & 0xFF, special >> 8 & 0xFF
+        if coded.special & ~SAYABLE_BITS:
+            raise LeftOut("the code sets a bit that is no modifier of a unit")
+        return coded
 
     def _coded_umasks(self, event: Event) -> list[CodedUmask]:
         coded: list[CodedUmask] = []
@@ -169,7 +205,7 @@ class Converter:
             try:
                 if not unit_file.is_umask_name(attribute.name):
                     raise LeftOut("the name is not one of a unit file")
-                coded.append(CodedUmask(attribute, *self._code(name)))
+                coded.append(CodedUmask(attribute, self._code(name)))
             except LeftOut as reason:
                 self.account.leave_out(name, str(reason))
         if not coded:
@@ -182,7 +218,7 @@ class Converter:
             code = self._code(event.name)
         except LeftOut:
             return None
-        return next((each for each in coded if each.code == code), None)
+        return next((each for each in coded if each.coded == code), None)
 
     def _of_one_select(self, event: Event, coded: list[CodedUmask], default: CodedUmask | None) -> list[CodedUmask]:
         """The umasks of the select code that the default has, or else most of them."""
@@ -221,63 +257,4 @@ class Converter:
             code = self._code(f"{event.name}:{one.attribute.name}:{other.attribute.name}")
         except LeftOut:
             return False
-        return code == (one.select, one.bits | other.bits)
-
-    # ---- counters
-
-    def _counters(self, codes: list[Code], default: Code | None) -> tuple[tuple[str, ...], set[Code]]:
-        """The names of an event's counters, and those of its codes that may stand on all of them.
-
-        An event has one list of counters: that of its default, or else the one that most of its codes may stand on. A
-        code of which nothing is known goes with the others. A fixed counter is taken if all codes may stand on it.
-        """
-        known = {code: self._known(code) for code in codes}
-        if all(places == NOWHERE for places in known.values()) or (default and known[default] == NOWHERE):
-            raise LeftOut("the unit does not have its counters")
-        chosen = (known[default] if default else None) or _shared_by_most(known.values()) or self._everywhere()
-        kept = [code for code in codes if _may_stand(known[code], chosen)]
-        fixed = chosen.fixed
-        if chosen.programmable:
-            fixed = frozenset.intersection(*(self._fixed(code, known[code]) for code in kept))
-        return _names(Places(chosen.programmable, fixed)), set(kept)
-
-    def _everywhere(self) -> Places:
-        return Places(frozenset(range(self.programmable)), frozenset())
-
-    def _known(self, code: Code) -> Places | None:
-        in_files = self._there(self.table.places(code)) if self.table else None
-        self.account.codes += 1
-        self.account.counters_known += in_files is not None
-        if code in FIXED_ALONE and FIXED_ALONE[code] < self.pmu.fixed:
-            return Places(frozenset(), frozenset({FIXED_ALONE[code]}))
-        return in_files
-
-    def _there(self, places: Places | None) -> Places | None:
-        """These counters as far as the unit has them."""
-        if places is None:
-            return None
-        return Places(frozenset(number for number in places.programmable if number < self.programmable), places.fixed)
-
-    def _fixed(self, code: Code, known: Places | None) -> frozenset[int]:
-        fixed = known.fixed if known else frozenset()
-        if code in FIXED_BESIDE:
-            fixed |= {FIXED_BESIDE[code]}
-        return frozenset(number for number in fixed if number < self.pmu.fixed)
-
-
-def _may_stand(places: Places | None, chosen: Places) -> bool:
-    if places is None:
-        return True
-    return places.programmable >= chosen.programmable if chosen.programmable else places.fixed >= chosen.fixed
-
-
-def _names(places: Places) -> tuple[str, ...]:
-    return tuple([f"P{number}" for number in sorted(places.programmable)] + [f"F{number}" for number in sorted(places.fixed)])
-
-
-def _shared_by_most(rows: Iterable[Places | None]) -> Places | None:
-    """The set of programmable counters that lies in most of the others, and of these the largest."""
-    known = [places for places in rows if places and places != NOWHERE]
-    if not known:
-        return None
-    return max(known, key=lambda one: (sum(other.programmable >= one.programmable for other in known), len(one.programmable)))
+        return code.codes[0] == one.coded.codes[0] | other.coded.codes[0]

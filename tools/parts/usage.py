@@ -30,13 +30,14 @@ class Example:
 
 @dataclass(frozen=True)
 class Usage:
-    """The usage of a tool."""
+    """The usage of a tool. If it has calls, its last note leads to them."""
 
     tool: str
     line: str  # the words after the tool's name
     lead: str
     options: tuple[Option, ...]
     notes: tuple[str, ...]
+    calls: tuple[Option, ...]  # of the tool's script, with what they take
     examples: tuple[Example, ...]
 
     def origins(self) -> set[str]:
@@ -68,16 +69,26 @@ def read_usage(tool: str) -> Usage:
     head, *parts = re.split(r"\n\n+", read_file(str(USAGE / tool)).strip("\n"))
     if not head.startswith(f"Usage: {tool}"):
         raise Fault(f"bin/usage/{tool}: does not begin with its usage")
-    options: list[Option] = []
+    tables: list[tuple[Option, ...]] = []
     notes = []
+    if not parts:
+        raise Fault(f"bin/usage/{tool}: does not say what the tool does")
     for part in parts[1:]:
         if part.startswith("Example,"):
             break
         if part.startswith("  "):
-            options += [Option(*re.split(r"  +", line.strip(), maxsplit=1)) for line in part.splitlines()]
+            tables.append(tuple(_option(tool, line) for line in part.splitlines()))
         else:
             notes.append(" ".join(part.split()))
-    return Usage(tool, head.removeprefix(f"Usage: {tool}").strip(), " ".join(parts[0].split()), tuple(options), tuple(notes), _examples(tool))
+    options, calls = [*tables, (), ()][:2]
+    return Usage(tool, head.removeprefix(f"Usage: {tool}").strip(), " ".join(parts[0].split()), options, tuple(notes), calls, _examples(tool))
+
+
+def _option(tool: str, line: str) -> Option:
+    word, *meaning = re.split(r"  +", line.strip(), maxsplit=1)
+    if not meaning:
+        raise Fault(f"bin/usage/{tool}: a word without a meaning: {word}")
+    return Option(word, meaning[0])
 
 
 def _examples(tool: str) -> tuple[Example, ...]:
@@ -87,7 +98,7 @@ def _examples(tool: str) -> tuple[Example, ...]:
         if not colon or line.startswith("#"):
             continue
         words = read_file(str(EXAMPLES / f"{name}.words")).splitlines()
-        if words[0] == tool:
+        if words[:1] == [tool]:
             found.append(_example(name, title, words))
     return tuple(found)
 

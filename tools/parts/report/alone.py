@@ -6,13 +6,13 @@ import re
 from dataclasses import replace
 from typing import Sequence
 
+from refusals import SENTENCES, why_not
 from scripts import calls_of
 
 from parts.command import Fault, counted
 from parts.report.asking import Tables, Tools
-from parts.report.matrix import Picture, draw_alone, why_not
+from parts.report.matrix import Picture, draw_alone
 from parts.report.replies import CONFLICT, read_replies
-from parts.report.rules import SENTENCES
 from parts.report.sets import Pictures
 from parts.report.story import tell_story
 from parts.report.unit_counters import read_counters

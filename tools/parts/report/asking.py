@@ -9,12 +9,15 @@ import sys
 import tempfile
 from dataclasses import dataclass
 from pathlib import Path
-from typing import Sequence
+from typing import Iterable, Sequence
 
-from parts.command import Fault
+from files import Unread, read_lines
+
+from parts.command import Fault, uninterrupted
 
 ROOT = Path(__file__).resolve().parents[3]
 DONE, SAYS_NO, REFUSED, READ_FAULT = range(4)
+NOT_TWICE = "not a file that can be read twice"
 OF_BUILD = "papi: the proved program "  # the scripts of bin/ begin so what they say of the program itself
 
 
@@ -42,17 +45,46 @@ class Answer:
         return [line for line in self.errors if not line.startswith(OF_BUILD)]
 
 
+def _answer_of(command: Sequence[str], environment: dict[str, str]) -> Answer:
+    """What a command answers. If this process is told to end, the command is too."""
+    with subprocess.Popen(command, stdin=subprocess.DEVNULL, stdout=subprocess.PIPE, stderr=subprocess.PIPE, env=environment) as child:
+        try:
+            out, errors = child.communicate()
+        except BaseException:
+            child.terminate()
+            raise
+    return Answer(child.returncode, *(output.decode("utf-8", "surrogateescape").splitlines() for output in (out, errors)))
+
+
+def read_again(name: str) -> list[str]:
+    """The lines of a script that the program took, as it reads them."""
+    try:
+        return read_lines(name)
+    except (Unread, OSError):
+        raise Fault(f"{name}: {NOT_TWICE}") from None
+
+
+def check_files(names: Iterable[str]) -> None:
+    """Each file is read more than once, so one that is there has to be regular."""
+    for name in names:
+        if os.path.exists(name) and not os.path.isfile(name):
+            raise Fault(f"{name}: {NOT_TWICE}")
+
+
 class Tools:
     """Runs the tools over the same tables. Scripts that it is given as lines go through a file of its own."""
 
     def __init__(self, tables: Tables):
         self.tables = tables
-        self._folder = tempfile.TemporaryDirectory(prefix="report.")
+        with uninterrupted():
+            self._folder = tempfile.TemporaryDirectory(prefix="report.")
         self._natives: dict[str, tuple[str, ...]] = {}
         self._presets: set[str] = set()
         self._counters: dict[str, tuple[str, ...]] = {}
 
     def __enter__(self) -> Tools:
+        # If that takes a minute, a line on standard error says so.
+        subprocess.run([str(ROOT / "bin/papi"), "--compile"], stdin=subprocess.DEVNULL, stdout=subprocess.DEVNULL)
         return self
 
     def __exit__(self, *error: object) -> None:
@@ -61,10 +93,8 @@ class Tools:
     def ask(self, tool: str, options: Sequence[str] = (), words: Sequence[str] = (), hints: bool = False) -> Answer:
         """What a tool answers: its lines on both outputs, and its status. A refusal without an output is a fault."""
         command = [str(ROOT / "bin" / tool), *self.tables.words(tool != "papi_native_avail"), *options, *(["--", *words] if words else [])]
-        done = subprocess.run(command, stdin=subprocess.DEVNULL, capture_output=True, env={**os.environ, "KISTALUB_HINTS": "1" if hints else "0"})
-        out, errors = (output.decode("utf-8", "surrogateescape").splitlines() for output in (done.stdout, done.stderr))
-        answer = Answer(done.returncode, out, errors)
-        if answer.status not in (DONE, SAYS_NO) and (answer.status not in (REFUSED, READ_FAULT) or not out):
+        answer = _answer_of(command, {**os.environ, "KISTALUB_HINTS": "1" if hints else "0"})
+        if answer.status not in (DONE, SAYS_NO) and (answer.status not in (REFUSED, READ_FAULT) or not answer.lines):
             raise Fault("\n".join(answer.said()) or f"{tool} ended with status {answer.status}", max(answer.status, 1))
         return answer
 
@@ -88,6 +118,11 @@ class Tools:
         """Whether an event is a preset or a user event."""
         natives = self.natives_of(event)
         return bool(natives) and event in self._presets
+
+    def name_in_set(self, event: str) -> str:
+        """What the call `events` says of an event that a set has: the canonical name of a native one."""
+        natives = self.natives_of(event)
+        return natives[0] if natives and not self.is_preset(event) else event
 
     def counters_of(self, native: str) -> tuple[str, ...]:
         """The counters that a native event is allowed."""

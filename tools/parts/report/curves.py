@@ -7,6 +7,7 @@ from typing import Sequence
 from parts.report.markup import Markup, element
 from parts.report.numbers import Scale, short, shown
 from parts.report.story import Span
+from parts.report.times import Time
 
 WIDTH, HEIGHT = 300, 116
 LEFT, RIGHT, TOP, BOTTOM = 44, 10, 10, 20
@@ -14,13 +15,13 @@ MOST_POINTS = 12  # that have a dot each
 TONES = 8
 
 
-def draw_curves(span: Span) -> list[Markup]:
+def draw_curves(span: Span, time: Time) -> list[Markup]:
     """The charts of a span that was read at least once while it ran."""
-    return [_chart(span, place, event) for place, event in enumerate(span.setup.events)] if span.last is not None else []
+    return [_chart(span, place, event, time) for place, event in enumerate(span.setup.events)] if span.last is not None else []
 
 
-def _chart(span: Span, place: int, event: str) -> Markup:
-    points = [(reading.position, reading.values[place]) for reading in span.readings]
+def _chart(span: Span, place: int, event: str, time: Time) -> Markup:
+    points = [(time.at(reading.position), reading.values[place]) for reading in span.readings]
     last = points[-1][1]
     badge = element("span", "estimate", class_="badge") if span.setup.slice else None
     head = element("figcaption", element("code", event, title=event), badge, element("strong", shown(last)))
@@ -46,6 +47,7 @@ def _picture(points: Sequence[tuple[int, int]], tone: int, told: str) -> Markup:
             element("circle", element("title", f"{shown(value)} at {shown(position)}"), class_=f"fill{tone % TONES}", cx=f"{x:.1f}", cy=f"{y:.1f}", r=3)
             for (position, value), (x, y) in zip(points, places)
         ]
-    for position, anchor in ((points[0][0], "start"), (points[-1][0], "end")):
+    ends = [(points[0][0], "start")] + [(points[-1][0], "end")] * (points[-1][0] > points[0][0])
+    for position, anchor in ends:
         parts.append(element("text", shown(position), class_="quiet", x=f"{across.at(position):.1f}", y=HEIGHT - 5, text_anchor=anchor))
     return element("svg", parts, viewBox=f"0 0 {WIDTH} {HEIGHT}", role="img")

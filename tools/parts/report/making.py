@@ -2,30 +2,36 @@
 
 from __future__ import annotations
 
+import re
 from dataclasses import dataclass, field
 
+from refusals import NAME_FAULTS, OF_NAME, RULES, why_not
 from scripts import calls_of
 
-from parts.command import counted, read_file
-from parts.report.asking import Answer, Tables, Tools, tell
+from parts.command import counted
+from parts.report.asking import Answer, Tables, Tools, check_files, read_again, tell
 from parts.report.curves import draw_curves
+from parts.report.exact import exact_story
 from parts.report.markup import Markup, element
-from parts.report.matrix import draw, why_not
+from parts.report.matrix import draw
 from parts.report.page import Section, make_page
 from parts.report.probe import probe_of
 from parts.report.profiles import Place, draw_profiles
+from parts.report.ratios import draw_ratios
 from parts.report.region_rows import draw_regions
 from parts.report.region_tree import read_tree
 from parts.report.replies import Step, read_replies
-from parts.report.rules import read_rules
 from parts.report.script_table import draw_script
 from parts.report.sets import Group, Pictures, groups_of
 from parts.report.story import Setup, Span, Story, tell_story
 from parts.report.summary import draw_tiles, draw_totals, totals_of
 from parts.report.timeline import MOST_TURNS, Timing, draw_timelines
+from parts.report.times import Time, times_of
 from parts.report.turns import Clock, clock_of, turns_of
 from parts.report.unit_counters import read_counters
 
+# What is said of refused calls stands beside them.
+BESIDE_ITS_CALL = re.compile(r"hint: (?:line [0-9]+: |[0-9,]+ more calls? )")
 MOST_PICTURES = 60
 MOST_CHARTS = 240
 
@@ -50,19 +56,23 @@ class Report:
         self.asked = asked
         self.answer: Answer = tools.ask("papi_run", ["--notes"], [asked.script, *asked.streams], hints=True)
         tell(self.answer.errors)
-        self.steps, self.notes = read_replies(calls_of(read_file(asked.script).split("\n")), self.answer.lines)
+        self.said = [line for line in self.answer.said() if not BESIDE_ITS_CALL.match(line)]
+        self.steps, self.notes = read_replies(calls_of(read_again(asked.script)), self.answer.lines)
         self.story = self._tell()
         self.pictures = Pictures(tools, read_counters(asked.tables.unit))
-        self.rules, self.name_faults = read_rules()
         self.groups: dict[tuple[str, ...], list[Group]] = {}
         self.clocks: dict[int, Clock] = {}
+        self.times = times_of(tools, self.story.positions, self._clock, asked.streams)
+        self.unit = next((time.unit for time in self.times.values()), Time().unit)
 
     def _tell(self) -> Story:
         probe = probe_of(self.steps, self.asked.every)
         answer = self.tools.run(probe.lines, self.asked.streams)
         steps, notes = read_replies(calls_of(probe.lines), answer.lines)
         self._lines = probe.origins
-        return tell_story(steps, probe.origins, notes)
+        in_turns = any(step.is_done and step.call.name == "multiplex" for step in steps)
+        self.without_turns = exact_story(self.tools, steps, self.asked.streams) if in_turns else None
+        return tell_story(steps, probe.origins, notes, None if probe.asks else self.tools.name_in_set)
 
     def page(self) -> str:
         asked = self.asked
@@ -75,20 +85,20 @@ class Report:
 
     def sections(self) -> list[Section]:
         streams = dict(enumerate(self.asked.streams))
-        totals = totals_of(self.story, streams)
+        totals = totals_of(self.story, streams, self.without_turns)
         return [
-            Section("errors", "What the tools said", "", [element("pre", "\n".join(self.answer.said()), class_="notice")] if self.answer.said() else []),
-            Section("totals", "Totals", "The last value of each event, and the occurrences of the thread over which it was counted.", draw_totals(totals)),
-            Section("time", "Threads in time", "From left to right the occurrences that a thread consumed. A bar is a stretch in which a set ran, a triangle a threshold "
+            Section("errors", "What the tools said", "", [element("pre", "\n".join(self.said), class_="notice")] if self.said else []),
+            Section("totals", "Totals", self._about_totals(), [*draw_totals(totals), *draw_ratios(totals)]),
+            Section("time", "Threads in time", f"From left to right the {self.unit} of a thread. A bar is a stretch in which a set ran, a triangle a threshold "
                     "that was passed, an upright line a place at which the count was zeroed, and a colour within a bar the group that had its turn.",
-                    draw_timelines(self.story, streams, self.timing_of) if self.story.spans else []),
+                    draw_timelines(self.story, streams, self.timing_of, self.times) if self.story.spans else []),
             Section("curves", "Counts over time", self._read_every(), self._curves()),
             Section("counters", "Events and counters", "A ring is a counter that a native event may have, a disc the one that it has.", self._setups()),
             Section("conflicts", "Conflicts", "Events fit if each finds a counter of its own. They do not fit if some of them are together allowed fewer "
                     "counters than they are: those are marked.", self._conflicts()),
             Section("profile", "Where thresholds were passed", "", self._profiles()),
             Section("regions", "Regions", "What each region counted, by the regions that it stands in. The bar is its share of the first event.", self._regions()),
-            Section("script", "Script and replies", "Each call with what it was answered.", draw_script(self.steps, self.story.names, self.rules)),
+            Section("script", "Script and replies", "Each call with what it was answered.", draw_script(self.steps, self.story.names, RULES)),
             Section("rules", "Rules", "A call is refused by the first of these that holds, in this order. ENOEVST is a set that is not there, EISRUN one that runs, "
                     "ENOTRUN one that does not.", self._rules()),
         ]
@@ -115,7 +125,13 @@ class Report:
     def _read_every(self) -> str:
         how = f"Each set is read every {counted(self.asked.every, 'occurrence')} of its thread." if self.asked.every else \
             "Each set is read at some 240 places of its thread, and where the script reads it."
-        return f"{how} A set counts from its start, or from where it was zeroed."
+        return f"{how} A set counts from its start, or from where it was zeroed. From left to right stand {self.unit}."
+
+    def _about_totals(self) -> str:
+        told = "The last value of each event, and the occurrences of the thread over which it was counted."
+        if self.without_turns is None:
+            return told
+        return f"{told} The exact values beside estimates are of one more run, in which each native event has a counter and no set takes turns."
 
     def _curves(self) -> list[Markup]:
         made: list[Markup] = []
@@ -124,7 +140,7 @@ class Report:
         for place, span in enumerate(spans):
             if drawn >= MOST_CHARTS:
                 return made + _left_out(len(spans) - place, "run", 0)
-            if charts := draw_curves(span):
+            if charts := draw_curves(span, self.times[span.thread]):
                 drawn += len(charts)
                 until = "the end" if span.is_open else f"{span.end:,}"
                 head = element("h3", f"Set {span.set} of thread {span.thread}", element("small", f"from occurrence {span.start:,} to {until}"))
@@ -189,19 +205,19 @@ class Report:
 
     def _rules(self) -> list[Markup]:
         refused = [step for step in self.steps if step.is_refused]
-        calls = sorted({step.call.name for step in refused} & set(self.rules))
+        calls = sorted({step.call.name for step in refused} & set(RULES))
         if not calls:
             return []
-        rows = [[element("dt", call, id=f"rule-{call}"), element("dd", self.rules[call])] for call in calls]
-        named = any("the name's code" in self.rules[call] for call in calls)
-        faults = [[element("dt", code), element("dd", f"{where} ({fault})")] for fault, where, code in self.name_faults] if named else []
+        rows = [[element("dt", call, id=f"rule-{call}"), element("dd", RULES[call])] for call in calls]
+        named = any(OF_NAME in RULES[call] for call in calls)
+        faults = [[element("dt", code), element("dd", f"{where} ({fault})")] for fault, where, code in NAME_FAULTS] if named else []
         more = [element("h3", "The name's code"), element("dl", faults)] if faults else []
         return [element("dl", rows), *more]
 
 
 def _figure(head: Markup | str, told: str, picture: Markup, thread: int, number: int, key: str | None = None) -> Markup:
     caption = element("figcaption", element("b", head), told)
-    return element("figure", caption, element("div", picture, class_="wide"), class_="picture", data_thread=thread, data_set=f"{thread}.{number}", id=key)
+    return element("figure", caption, element("div", picture, class_="wide broad"), class_="picture", data_thread=thread, data_set=f"{thread}.{number}", id=key)
 
 
 def _left_out(number: int, word: str, most: int = MOST_PICTURES) -> list[Markup]:
@@ -209,5 +225,7 @@ def _left_out(number: int, word: str, most: int = MOST_PICTURES) -> list[Markup]
 
 
 def make_report(asked: Asked) -> str:
+    files = (asked.tables.unit, asked.tables.presets, asked.script, *asked.streams, asked.place.map, asked.place.program, asked.regions)
+    check_files(name for name in files if name is not None)
     with Tools(asked.tables) as tools:
         return Report(tools, asked).page()

@@ -17,8 +17,8 @@ LETTER, SMALL_LETTER = 7.3, 5.7  # the width of a letter of a name, and of a rem
 LONGEST = 46
 ROW = 36
 LINE = 18
-HEAD = 52
-COLUMN, NARROW_COLUMN = 64, 40
+HEAD = 62
+COLUMN, NARROW_COLUMN, WIDEST_COLUMN = 64, 40, 132
 MOST_WIDE = 14  # columns
 RADIUS = 8
 BRACKET = 96  # beside and below what is marked
@@ -69,26 +69,15 @@ class Picture:
         return replace(self, counters=columns, rows=sorted(self.rows, key=lambda row: not row.is_blamed))
 
 
-def why_not(events: int, counters: Sequence[str]) -> str:
-    """Why a number of events do not fit, in a sentence or two."""
-    if not counters:
-        return f"{'This event is' if events == 1 else 'These events are'} allowed no counter."
-    told = counters[0] if len(counters) == 1 else f"{', '.join(counters[:-1])} and {counters[-1]}"
-    allowed = f"{counted(len(counters), 'counter')}, {told}, and no others"
-    return f"These {counted(events, 'event')} are allowed {allowed}. So {_without(events - len(counters))} no place."
-
-
-def _without(events: int) -> str:
-    return "one of them has" if events == 1 else f"{events} of them have"
-
-
 class _Drawing:
     def __init__(self, picture: Picture):
         self.picture = picture.ordered()
         longest = max((max(LETTER * len(_cut(row.native)), SMALL_LETTER * len(_cut(row.remark))) for row in picture.rows), default=0.0)
         self.left = MARGIN + max(120.0, longest + 22)
         self.top = MARGIN + (40 if picture.title else 0) + LINE * len(picture.lines) + HEAD
-        self.column = COLUMN if len(picture.counters) <= MOST_WIDE else NARROW_COLUMN
+        self.is_roomy = len(picture.counters) <= MOST_WIDE
+        names = max((LETTER * len(counter.name) + 12 for counter in picture.counters), default=0)
+        self.column = min(max(COLUMN, round(names)), WIDEST_COLUMN) if self.is_roomy else NARROW_COLUMN
         self.right = self.left + self.column * len(picture.counters)
         self.bottom = self.top + ROW * len(picture.rows)
         self.place = {counter.name: number for number, counter in enumerate(self.picture.counters)}
@@ -129,10 +118,12 @@ class _Drawing:
         for counter in self.picture.counters:
             x = f"{self.x(counter.name):.1f}"
             tone = "m-blame m-bold" if counter.name in self.picture.marked else "m-ink"
-            made.append(element("text", counter.name, class_=f"m-name {tone}", x=x, y=self.top - 26, text_anchor="middle"))
-            if self.column == COLUMN:
-                remark = f"{counter.bits} bit" + (", fixed" if counter.is_fixed else "")
-                made.append(element("text", remark, class_="m-text m-quiet", x=x, y=self.top - 11, text_anchor="middle", style="font-size:10px"))
+            name = _cut(counter.name, int((self.column - 8) / LETTER))
+            whole = element("title", counter.name) if name != counter.name else None
+            made.append(element("text", whole, name, class_=f"m-name {tone}", x=x, y=self.top - 36, text_anchor="middle"))
+            for line, remark in enumerate([f"{counter.bits} bit", *["fixed"] * counter.is_fixed] if self.is_roomy else []):
+                y = self.top - 22 + 12 * line
+                made.append(element("text", remark, class_="m-text m-quiet", x=x, y=y, text_anchor="middle", style="font-size:10px"))
         return made
 
     def _row(self, number: int, row: Row) -> list[Markup]:
@@ -174,8 +165,8 @@ class _Drawing:
         return made
 
 
-def _cut(name: str) -> str:
-    return name if len(name) <= LONGEST else name[: LONGEST - 1] + "\u2026"
+def _cut(name: str, most: int = LONGEST) -> str:
+    return name if len(name) <= most else name[: most - 1] + "\u2026"
 
 
 def draw(picture: Picture) -> Markup:

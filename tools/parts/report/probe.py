@@ -22,6 +22,7 @@ class Probe:
 
     lines: list[str] = field(default_factory=list)
     origins: list[int | None] = field(default_factory=list)
+    asks: bool = True  # for the events of each set and their counters
 
     def put(self, line: str, origin: int | None = None) -> None:
         self.lines.append(line)
@@ -58,7 +59,7 @@ def _text(step: Step) -> str:
 
 
 def _as_it_is(steps: Sequence[Step]) -> Probe:
-    probe = Probe()
+    probe = Probe(asks=False)
     for step in steps:
         probe.put(_text(step), step.call.line)
     return probe

@@ -10,8 +10,8 @@ from typing import Sequence
 
 from scripts import Call, calls_of
 
-from parts.command import read_file
-from parts.report.asking import Tools
+from parts.command import Fault
+from parts.report.asking import SAYS_NO, Tools, read_again
 
 
 @dataclass
@@ -59,9 +59,11 @@ class _Growing:
 
 def read_tree(tools: Tools, regions: str, events: str, streams: Sequence[str]) -> list[Region]:
     """The outermost regions of a region script, thread by thread, with the counts of these events."""
-    tools.ask("papi_regions", [f"--events={events}"], [regions, *streams], hints=True)
+    answer = tools.ask("papi_regions", [f"--events={events}"], [regions, *streams], hints=True)
+    if answer.status == SAYS_NO:
+        raise Fault("\n".join([*answer.lines, *answer.said()]))
     growing = _Growing()
-    for call in calls_of(read_file(regions).split("\n")):
+    for call in calls_of(read_again(regions)):
         growing.take(call)
     answer = tools.ask("papi_regions", [f"--events={events}"], [tools.written("regions", growing.lines), *streams])
     by_key = {region.key: region for region in growing.all}

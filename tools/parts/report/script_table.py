@@ -4,10 +4,11 @@ from __future__ import annotations
 
 from typing import Sequence
 
+from refusals import SENTENCES
+
 from parts.command import counted
 from parts.report.markup import Child, Markup, element
 from parts.report.replies import Step
-from parts.report.rules import SENTENCES
 
 MOST_ROWS = 4000
 TONES = 8
@@ -17,7 +18,7 @@ WITH_VALUES = ("read", "stop", "accum")
 def draw_script(steps: Sequence[Step], names: dict[int, tuple[str, ...]], rules: dict[str, str]) -> list[Markup]:
     head = element("thead", element("tr", [element("th", text, scope="col") for text in ("line", "thread", "call", "reply")]))
     rows = [_row(step, names.get(step.call.line, ()), step.call.name in rules) for step in steps[:MOST_ROWS]]
-    table = element("div", element("table", head, element("tbody", rows), class_="script"), class_="wide")
+    table = element("div", element("table", head, element("tbody", rows), class_="script stack"), class_="wide")
     left_out = len(steps) - MOST_ROWS
     return [table] + [element("p", f"Left out: {counted(left_out, 'call')} more.", class_="quiet")] * (left_out > 0)
 
@@ -27,10 +28,10 @@ def _row(step: Step, names: tuple[str, ...], has_rule: bool) -> Markup:
     number = step.set
     return element(
         "tr",
-        element("td", call.line, class_="number"),
-        element("td", element("span", call.thread, class_=f"chip tone{call.thread % TONES}")),
-        element("td", element("code", element("b", call.name), *(f" {argument}" for argument in call.arguments))),
-        element("td", _reply(step, names, has_rule)),
+        element("td", call.line, class_="number", data_label="line"),
+        element("td", element("span", call.thread, class_=f"chip tone{call.thread % TONES}"), data_label="thread"),
+        element("td", element("code", element("b", call.name), *(f" {argument}" for argument in call.arguments)), class_="main"),
+        element("td", _reply(step, names, has_rule), class_="main"),
         class_="refused" if step.code != "PAPI_OK" else None,
         data_thread=call.thread,
         data_set=f"{call.thread}.{number}" if number is not None else "",

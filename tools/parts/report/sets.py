@@ -31,6 +31,15 @@ def natives_of(tools: Tools, events: Sequence[str]) -> dict[str, list[str]]:
     return needed
 
 
+def assignment_of(tools: Tools, events: Sequence[str]) -> dict[str, str]:
+    """The counter of each native event of a set, for one of which no step has asked."""
+    if not events:
+        return {}
+    script = ["0 create", *(f"0 add 0 {event}" for event in events), "0 assign 0"]
+    steps, _ = read_replies(calls_of(script), tools.run(script).lines)
+    return dict(result.rpartition("=")[::2] for result in steps[-1].results)
+
+
 def groups_of(tools: Tools, events: Sequence[str]) -> list[Group]:
     """The groups in which the native events of these events take turns: each begins where the one before it ends, and is as long as it fits."""
     natives = list(natives_of(tools, events))
@@ -59,7 +68,7 @@ class Pictures:
 
     def of_setup(self, setup: Setup, title: str = "") -> Picture | None:
         """The assignment of a set, or none if it has no events."""
-        return self._of(natives_of(self.tools, setup.events), setup.counters, title)
+        return self._of(natives_of(self.tools, setup.events), setup.counters or assignment_of(self.tools, setup.events), title)
 
     def of_group(self, setup: Setup, group: Group, title: str = "") -> Picture | None:
         needed = {native: events for native, events in natives_of(self.tools, setup.events).items() if native in group.natives}
@@ -69,8 +78,9 @@ class Pictures:
         """The events of a set with the one that was refused, those to blame marked, and the counters that they are allowed."""
         held = natives_of(self.tools, conflict.held)
         needed = natives_of(self.tools, [*conflict.held, conflict.event])
+        held_counters = conflict.held_counters or assignment_of(self.tools, conflict.held)
         rows = [
-            self._row(native, events, conflict.held_counters, native in conflict.blamed, "" if native in held else "to be added")
+            self._row(native, events, held_counters, native in conflict.blamed, "" if native in held else "to be added")
             for native, events in needed.items()
         ]
         return Picture(self._columns(needed), rows, conflict.counters, title) if rows else None

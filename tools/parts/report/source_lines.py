@@ -10,7 +10,7 @@ from typing import Sequence
 
 from parts.profile import Bucket
 
-LONGEST = 120  # characters of a line that is shown
+LONGEST = 400  # characters of a line that is shown
 PLACE = re.compile(r"(.*):([0-9]+)(?: \(discriminator [0-9]+\))?")
 
 
@@ -27,20 +27,28 @@ def has_addr2line() -> bool:
     return shutil.which("addr2line") is not None
 
 
-def source_lines(program: str, base: int, buckets: Sequence[Bucket]) -> list[SourceLine]:
-    """The lines of source of these buckets, the hottest first. An address without a line of source is left out."""
-    asked = "".join(f"{bucket.address - base:#x}\n" for bucket in buckets)
+def places_of(program: str, base: int, addresses: Sequence[int]) -> dict[int, tuple[str, str, int]]:
+    """Function, file and line of these addresses. One without a line of source is left out."""
+    asked = "".join(f"{address - base:#x}\n" for address in addresses)
     done = subprocess.run(["addr2line", "-f", "-C", "-e", program], input=asked, capture_output=True, text=True, errors="replace")
     told = done.stdout.splitlines()
-    lines: dict[tuple[str, int], SourceLine] = {}
-    for bucket, function, place in zip(buckets, told[::2], told[1::2]):
+    places: dict[int, tuple[str, str, int]] = {}
+    for address, function, place in zip(addresses, told[::2], told[1::2]):
         found = PLACE.fullmatch(place)
-        if found is None or found[1] == "??" or found[2] == "0":
-            continue
-        key = found[1], int(found[2])
-        if key not in lines:
-            lines[key] = SourceLine(function, *key, 0, _text_of(*key))
-        lines[key].hits += bucket.hits
+        if found is not None and found[1] != "??" and found[2] != "0":
+            places[address] = function, found[1], int(found[2])
+    return places
+
+
+def source_lines(places: dict[int, tuple[str, str, int]], buckets: Sequence[Bucket]) -> list[SourceLine]:
+    """The lines of source of these buckets, the hottest first."""
+    lines: dict[tuple[str, int], SourceLine] = {}
+    for bucket in buckets:
+        if bucket.address in places:
+            function, file, number = places[bucket.address]
+            if (file, number) not in lines:
+                lines[file, number] = SourceLine(function, file, number, 0, _text_of(file, number))
+            lines[file, number].hits += bucket.hits
     return sorted(lines.values(), key=lambda line: -line.hits)
 
 

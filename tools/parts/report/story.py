@@ -3,7 +3,7 @@
 from __future__ import annotations
 
 from dataclasses import dataclass, field
-from typing import Sequence
+from typing import Callable, Sequence
 
 from parts.report.replies import CONFLICT, Note, Step
 
@@ -90,8 +90,9 @@ class Story:
 
 
 class _Telling:
-    def __init__(self, notes: Sequence[Note]):
+    def __init__(self, notes: Sequence[Note], name_of: Callable[[str], str] | None):
         self.story = Story()
+        self.name_of = name_of
         self.open: dict[tuple[int, int], Span] = {}
         self.notes: dict[int, list[Note]] = {}
         for note in notes:
@@ -135,12 +136,22 @@ class _Telling:
             setup.events = results
         elif name == "assign":
             setup.counters = {native: counter for native, _, counter in (result.rpartition("=") for result in results)}
+        elif name in ("add", "remove"):
+            self._change(setup, step)
         elif name == "multiplex":
             setup.slice, setup.counters = int(step.call.arguments[1]), {}
         elif name == "domain":
             setup.domain = int(step.call.arguments[1])
         else:
             self._count(key, step, origin, setup)
+
+    def _change(self, setup: Setup, step: Step) -> None:
+        """Follows a set of whose events nobody asks."""
+        if self.name_of is None:
+            return
+        event = self.name_of(step.call.arguments[1])
+        setup.events = (*setup.events, event) if step.call.name == "add" else tuple(held for held in setup.events if held != event)
+        setup.counters = {}
 
     def _count(self, key: tuple[int, int], step: Step, origin: int | None, setup: Setup) -> None:
         name, position = step.call.name, self.story.positions[key[0]]
@@ -165,9 +176,11 @@ class _Telling:
             del self.open[key]
 
 
-def tell_story(steps: Sequence[Step], origins: Sequence[int | None], notes: Sequence[Note]) -> Story:
-    """The story of these steps. `origins` has for each the line of the script that it stands for."""
-    telling = _Telling(notes)
+def tell_story(
+    steps: Sequence[Step], origins: Sequence[int | None], notes: Sequence[Note], name_of: Callable[[str], str] | None = None
+) -> Story:
+    """The story of these steps. `origins` has for each the line of the script that it stands for. If the steps do not ask for the events of sets, `name_of` gives their names."""
+    telling = _Telling(notes, name_of)
     for step, origin in zip(steps, origins):
         telling.take(step, origin)
     return telling.story

@@ -4,22 +4,24 @@ from __future__ import annotations
 
 from collections import Counter
 from dataclasses import dataclass
-from typing import Callable, Sequence
+from typing import Callable, Mapping, Sequence
 
 from parts.command import counted
 from parts.report.markup import Markup, element
 from parts.report.numbers import Scale, shown, ticks
 from parts.report.sets import Group
 from parts.report.story import Passing, Span, Story
+from parts.report.times import Time
 from parts.report.turns import Turn
 
 WIDTH = 1000
-LEFT, RIGHT = 84, 16
+LEFT, RIGHT = 84, 48
 LANE, BAR = 46, 18
 AXIS = 30
 TICKS = 8
 TONES = 8
 MOST_TURNS = 240
+MOST_TOLD = 20  # stretches whose turns are told in words
 
 
 @dataclass(frozen=True)
@@ -31,22 +33,44 @@ class Timing:
     count: int
 
 
-def draw_timelines(story: Story, names: dict[int, str], timing_of: Callable[[Span], Timing | None]) -> list[Markup]:
+@dataclass(frozen=True)
+class Ruler:
+    """From a number of occurrences to the place of the time at which they had come."""
+
+    scale: Scale
+    time: Time
+
+    def at(self, position: int) -> float:
+        return self.scale.at(self.time.at(position))
+
+
+def draw_timelines(story: Story, names: dict[int, str], timing_of: Callable[[Span], Timing | None], times: Mapping[int, Time]) -> list[Markup]:
     """A figure for each thread that has sets."""
-    longest = max(story.positions.values(), default=0)
-    threads = sorted({thread for thread, _ in story.sets()})
-    return [_figure(story, thread, longest, names.get(thread, "no stream"), timing_of) for thread in threads]
-
-
-def _figure(story: Story, thread: int, longest: int, name: str, timing_of: Callable[[Span], Timing | None]) -> Markup:
+    longest = max((times[thread].at(position) for thread, position in story.positions.items()), default=0)
     scale = Scale(0, max(longest, 1), LEFT, WIDTH - RIGHT)
+    threads = sorted({thread for thread, _ in story.sets()})
+    return [_figure(story, thread, Ruler(scale, times[thread]), names.get(thread, "no stream"), timing_of) for thread in threads]
+
+
+def _figure(story: Story, thread: int, ruler: Ruler, name: str, timing_of: Callable[[Span], Timing | None]) -> Markup:
     sets = [number for owner, number in story.sets() if owner == thread]
     height = LANE * len(sets) + AXIS
-    lanes = [_lane(story, thread, number, place, scale, timing_of) for place, number in enumerate(sets)]
+    spans = [span for span in story.spans if span.thread == thread]
+    timings = [timing_of(span) for span in spans]
+    lanes = [_lane(thread, number, place, list(zip(spans, timings)), ruler) for place, number in enumerate(sets)]
     total = story.positions.get(thread, 0)
-    head = element("figcaption", element("span", f"thread {thread}", class_=f"chip tone{thread % TONES}"), f" {name}, {counted(total, 'occurrence')} consumed")
-    picture = element("svg", _axis(scale, LANE * len(sets)), lanes, viewBox=f"0 0 {WIDTH} {height}", role="img", class_="timeline")
-    return element("figure", head, picture, data_thread=thread)
+    unit = "" if ruler.time.unit == "occurrences" else f", in {shown(ruler.time.at(total))} {ruler.time.unit}"
+    head = element("figcaption", element("span", f"thread {thread}", class_=f"chip tone{thread % TONES}"), f" {name}, {counted(total, 'occurrence')} consumed{unit}")
+    picture = element("svg", _axis(ruler.scale, LANE * len(sets)), lanes, viewBox=f"0 0 {WIDTH} {height}", role="img", class_="timeline")
+    told = [element("p", _many_turns(span, timing), class_="quiet", data_thread=thread, data_set=f"{thread}.{span.set}")
+            for span, timing in zip(spans, timings) if timing is not None and timing.turns is None]
+    return element("figure", head, element("div", picture, class_="wide broad"), told[:MOST_TOLD], data_thread=thread)
+
+
+def _many_turns(span: Span, timing: Timing) -> str:
+    """What is said of turns that are too many to be drawn."""
+    where = f"Set {span.set} from occurrence {shown(span.start)}"
+    return f"{where}: {len(timing.groups)} groups in turn, {shown(timing.count)} turns of {counted(span.setup.slice, 'tick')}."
 
 
 def _axis(scale: Scale, bottom: int) -> list[Markup]:
@@ -58,38 +82,35 @@ def _axis(scale: Scale, bottom: int) -> list[Markup]:
     return made
 
 
-def _lane(story: Story, thread: int, number: int, place: int, scale: Scale, timing_of: Callable[[Span], Timing | None]) -> Markup:
+def _lane(thread: int, number: int, place: int, spans: Sequence[tuple[Span, Timing | None]], ruler: Ruler) -> Markup:
     top = LANE * place + LANE - BAR - 6
-    spans = [span for span in story.spans if (span.thread, span.set) == (thread, number)]
+    own = [(span, timing) for span, timing in spans if span.set == number]
     parts = [element("text", f"set {number}", class_="ink", x=8, y=top + 13)]
-    if not spans:
+    if not own:
         parts.append(element("text", "never started", class_="quiet", x=LEFT, y=top + 13))
-    for span in spans:
-        parts += _bar(span, top, scale, timing_of(span))
+    for span, timing in own:
+        parts += _bar(span, top, ruler, timing)
     return element("g", parts, data_thread=thread, data_set=f"{thread}.{number}")
 
 
-def _bar(span: Span, top: int, scale: Scale, timing: Timing | None) -> list[Markup]:
-    left, right = scale.at(span.start), scale.at(span.end)
+def _bar(span: Span, top: int, ruler: Ruler, timing: Timing | None) -> list[Markup]:
+    left, right = ruler.at(span.start), ruler.at(span.end)
     end = "to the end" if span.is_open else f"to {shown(span.end)}"
     told = f"set {span.set} ran from {shown(span.start)} {end}: {', '.join(span.setup.events)}"
     made = [element("rect", element("title", told), class_=f"bar fill{span.set % TONES}", x=f"{left:.2f}", y=top, width=f"{max(right - left, 2):.2f}",
                     height=BAR, rx=3)]
     if timing is not None:
-        made += _turns(span, top, scale, timing)
+        made += _turns(top, ruler, timing)
     for position in span.zeroed:
-        x = f"{scale.at(position):.2f}"
+        x = f"{ruler.at(position):.2f}"
         made.append(element("line", element("title", f"zeroed at {shown(position)}"), class_="zeroed", x1=x, x2=x, y1=top - 3, y2=top + BAR + 3))
-    return made + _passings(span.passings, top, scale)
+    return made + _passings(span.passings, top, ruler)
 
 
-def _turns(span: Span, top: int, scale: Scale, timing: Timing) -> list[Markup]:
-    if timing.turns is None:
-        told = f"{len(timing.groups)} groups in turn, {shown(timing.count)} turns of {counted(span.setup.slice, 'tick')}"
-        return [element("text", told, class_="on", x=f"{scale.at(span.start) + 8:.1f}", y=top + 13)]
+def _turns(top: int, ruler: Ruler, timing: Timing) -> list[Markup]:
     made = []
-    for turn in timing.turns:
-        left, right = scale.at(turn.start), scale.at(turn.end)
+    for turn in timing.turns or []:
+        left, right = ruler.at(turn.start), ruler.at(turn.end)
         told = f"group {turn.group}, from {shown(turn.start)} to {shown(turn.end)}: {', '.join(timing.groups[turn.group].natives)}"
         made.append(element("rect", element("title", told), class_=f"bar fill{turn.group % TONES}", x=f"{left:.2f}", y=top,
                             width=f"{max(right - left - 0.5, 0.5):.2f}", height=BAR))
@@ -98,12 +119,12 @@ def _turns(span: Span, top: int, scale: Scale, timing: Timing) -> list[Markup]:
     return made
 
 
-def _passings(passings: Sequence[Passing], top: int, scale: Scale) -> list[Markup]:
+def _passings(passings: Sequence[Passing], top: int, ruler: Ruler) -> list[Markup]:
     """A mark for each place at which thresholds were passed."""
     found = Counter((passing.after, passing.upto) for passing in passings)
     made = []
     for (after, upto), hits in found.items():
-        x = scale.at(upto)
+        x = ruler.at(upto)
         at = ", ".join([passing.note.address for passing in passings if (passing.after, passing.upto) == (after, upto)][:4]) if len(passings) < 500 else ""
         where = f"at occurrence {shown(upto)}" if upto == after + 1 else f"from occurrence {shown(after + 1)} to {shown(upto)}"
         told = f"{counted(hits, 'threshold')} passed {where}" + (f" ({at})" if at else "")

@@ -7,6 +7,7 @@ from dataclasses import dataclass
 from files import Unread, read_table
 
 from parts.command import Fault
+from parts.report.asking import NOT_TWICE
 
 
 @dataclass(frozen=True)
@@ -23,7 +24,7 @@ def read_counters(unit: str) -> dict[str, list[Counter]]:
     try:
         rows = read_table(unit)
     except (Unread, OSError):
-        raise Fault(f"{unit}: not a file that can be read twice") from None
+        raise Fault(f"{unit}: {NOT_TWICE}") from None
     for row in rows:
         kind, *fields = row.fields()
         if kind == "COMPONENT":

@@ -1,0 +1,55 @@
+"""The C compiler, as CC has it."""
+
+from __future__ import annotations
+
+import os
+import signal
+import subprocess
+
+from parts.command import Fault, uninterrupted
+
+ENDING_SECONDS = 2
+
+
+def compiler() -> list[str]:
+    """The words that CC has for it, or cc."""
+    return os.environ.get("CC", "").split() or ["cc"]
+
+
+def run_compiler(*words: str, text: str = "") -> subprocess.CompletedProcess[str]:
+    """The compiler with these words and this standard input, and what it says. A fault if it can't be run. What it has started ends with it, whatever ends it."""
+    command = [*compiler(), *words]
+    child: subprocess.Popen[str] | None = None
+    try:
+        with uninterrupted():
+            child = subprocess.Popen(command, stdin=subprocess.PIPE, stdout=subprocess.PIPE, stderr=subprocess.PIPE, text=True, encoding="utf-8", errors="replace",
+                                     start_new_session=True)
+        out, err = child.communicate(text)
+    except BaseException as error:
+        if child is not None:
+            _end(child)
+        elif isinstance(error, OSError):
+            raise Fault(f"no C compiler: {command[0]}: {error.strerror}") from None
+        raise
+    return subprocess.CompletedProcess(command, child.returncode, out, err)
+
+
+def _end(child: subprocess.Popen[str]) -> None:
+    """Ends a compiler and its passes. At first they may remove what they have made."""
+    for number in (signal.SIGTERM, signal.SIGKILL):
+        try:
+            os.killpg(child.pid, number)
+        except ProcessLookupError:
+            break
+        try:
+            child.communicate(timeout=ENDING_SECONDS)
+            break
+        except (subprocess.TimeoutExpired, ValueError):
+            continue
+    child.wait()
+
+
+def cause(text: str) -> str:
+    """The first line of what a compiler says that tells of an error, or else its first line."""
+    lines = text.strip().splitlines() or [""]
+    return next((line for line in lines if "error" in line), lines[0])

@@ -1,0 +1,106 @@
+"""docs/DEFINITIONS.md: what a reader has to read to know what the headline says, in the order to read it."""
+
+from __future__ import annotations
+
+import re
+from dataclasses import dataclass
+from pathlib import Path
+
+from parts.command import Fault
+from parts.crate_graph import levels, read_crates
+from parts.definitions import Definition, Definitions, contract_words
+
+TOP = "crates/papi_tools/src/top.rt"
+TOP_FUNCTION = "papi_main"
+ROW = re.compile(r"^\| `(\w+)`((?:, `\w+`)*) \| (.*) \|$")
+INTRODUCTION = """# Definitions
+
+What to read to know what the [headline](../README.md#what-is-proved) says, and nothing else: each definition that the contract of `papi_main`
+([top.rt](../crates/papi_tools/src/top.rt)) reaches. It begins with the contract itself, and goes down from there: a crate comes before those that
+it stands on. [ARCHITECTURE](ARCHITECTURE.md#what-a-contract-says) has the notation. A word that is in no table here is one of the library's,
+such as `List` or `take`.
+
+The page is made by `tools/make_definitions`. Lines are counted without comments, imports and empty lines.
+"""
+
+
+@dataclass(frozen=True)
+class Guide:
+    root: Path
+    definitions: list[Definition]  # in the order to read them
+    subjects: dict[str, str]  # what a crate holds, by its name
+
+    @property
+    def specs(self) -> list[Definition]:
+        return [it for it in self.definitions if it.file.suffix == ".antt"]
+
+    @property
+    def types(self) -> list[Definition]:
+        return [it for it in self.definitions if it.file.suffix != ".antt"]
+
+
+def read_subjects(root: Path) -> dict[str, str]:
+    """The table of crates of docs/ARCHITECTURE.md."""
+    found = {}
+    for line in (root / "docs/ARCHITECTURE.md").read_text(encoding="utf-8").splitlines():
+        row = ROW.match(line)
+        if row:
+            for crate in (row[1], *re.findall(r"\w+", row[2])):
+                found.setdefault(crate, row[3])
+    return found
+
+
+def read_guide(root: Path) -> Guide:
+    every = Definitions(root)
+    module, words = contract_words(root / TOP, TOP_FUNCTION)
+    starts = [place for place in (every.place_of(module, word) for word in words) if place]
+    if not starts:
+        raise Fault(f"{TOP}: the contract of {TOP_FUNCTION} cites no definition")
+    guide = Guide(root, every.reached(list(dict.fromkeys(starts))), read_subjects(root))
+    silent = [it for it in guide.definitions if not it.sentence]
+    if silent:
+        raise Fault(f"{silent[0].file.relative_to(root)}: {silent[0].place.name} has no sentence above it")
+    return guide
+
+
+def total_line(guide: Guide) -> str:
+    """The total, as README and the page say it."""
+    files = len({it.file for it in guide.specs})
+    lines = sum(it.lines for it in guide.specs)
+    types = sum(it.lines for it in guide.types)
+    return f"{len(guide.specs):,} definitions of {lines:,} lines in {files} files, and {len(guide.types)} types of {types:,} lines"
+
+
+def by_crate(guide: Guide) -> dict[str, list[Definition]]:
+    """The definitions of each crate, a crate before all that it stands on, and else where the reader first meets it."""
+    groups: dict[str, list[Definition]] = {}
+    for definition in guide.definitions:
+        groups.setdefault(definition.place.crate, []).append(definition)
+    level = levels(read_crates(guide.root / "crates.txt"))
+    return {crate: groups[crate] for crate in sorted(groups, key=lambda crate: -level[crate])}
+
+
+def row(guide: Guide, definition: Definition) -> str:
+    place = definition.file.relative_to(guide.root)
+    said = definition.sentence.replace("|", "\\|").rstrip(".")
+    said = said[:1].upper() + said[1:]
+    return f"| [`{definition.place.name}`](../{place}#L{definition.line}) | {said} | {definition.lines} |"
+
+
+def section(guide: Guide, crate: str, definitions: list[Definition]) -> list[str]:
+    lines = sum(it.lines for it in definitions)
+    text = [f"## {crate}", "", f"{guide.subjects.get(crate, crate).rstrip('.').capitalize()}. {len(definitions)} here, {lines} lines.", ""]
+    modules: dict[Path, list[Definition]] = {}
+    for definition in definitions:
+        modules.setdefault(definition.file, []).append(definition)
+    for file, ones in modules.items():
+        text += [f"### {crate}: {file.stem}", "", "| Definition | What it says | Lines |", "|---|---|---|"]
+        text += [row(guide, it) for it in sorted(ones, key=lambda it: it.line)] + [""]
+    return text
+
+
+def guide_page(guide: Guide) -> str:
+    text = [INTRODUCTION, f"In all {total_line(guide)}.", ""]
+    for crate, definitions in by_crate(guide).items():
+        text += section(guide, crate, definitions)
+    return "\n".join(text).rstrip("\n") + "\n"

@@ -1,0 +1,152 @@
+"""The table of presets (crates/preset_csv/presets.csv), and what the sources have of it: a region of lines in each of several files."""
+
+from __future__ import annotations
+
+import re
+import textwrap
+from dataclasses import dataclass
+from pathlib import Path
+from typing import Callable
+
+from parts.command import Fault
+from parts.usage import ROOT
+
+TABLE = "crates/preset_csv/presets.csv"
+SYMBOL = re.compile(r"PAPI_[A-Z0-9_]+")
+CODE = re.compile(r"0x8[0-9a-f]{7}")
+DESCRIPTION = re.compile(r"[A-Za-z0-9 ]+")
+BEGIN, END = "tools/make_presets: begin", "tools/make_presets: end"
+
+
+@dataclass(frozen=True)
+class Preset:
+    """A line of the table."""
+
+    symbol: str
+    code: str
+    description: str
+
+
+def read_presets(text: str) -> list[Preset]:
+    """The lines of the table. Its codes rise, so no preset stands twice."""
+    presets: list[Preset] = []
+    for number, line in enumerate(text.splitlines(), 1):
+        if line.startswith("#"):
+            continue
+        fields = line.split(",")
+        if len(fields) != 3:
+            raise Fault(f"{TABLE}: line {number}: not three fields")
+        preset = Preset(*fields)
+        for what, good in (
+            ("symbol", SYMBOL.fullmatch(preset.symbol) and all(preset.symbol != other.symbol for other in presets)),
+            ("code", CODE.fullmatch(preset.code) and (not presets or presets[-1].code < preset.code)),
+            ("description", DESCRIPTION.fullmatch(preset.description)),
+        ):
+            if not good:
+                raise Fault(f"{TABLE}: line {number}: bad {what}")
+        presets.append(preset)
+    if not presets:
+        raise Fault(f"{TABLE}: no preset")
+    return presets
+
+
+def _filled(words: list[str], width: int, indent: str = "    ") -> list[str]:
+    """The words, as many on a line as fit."""
+    return textwrap.wrap(" ".join(words), width, initial_indent=indent, subsequent_indent=indent, break_long_words=False, break_on_hyphens=False)
+
+
+def _arms(values: list[str]) -> list[str]:
+    """The arms of a match over the rows. The last one has every row that is left."""
+    last = len(values) - 1
+    return [f"        {'_' if row == last else row} => {value}," for row, value in enumerate(values)]
+
+
+def code_lines(presets: list[Preset]) -> list[str]:
+    unfolded = "crate::specs::Symbols::preset_rows, crate::specs::Symbols::"
+    return [
+        "/// How many rows the table has.",
+        f"pub const PRESETS: u32 = {len(presets)};",
+        "",
+        "// The symbol and the code in a row, which are those of PAPI's list.",
+        f"#[tactic(auto, unfolding({unfolded}symbol_at, crate::specs::Symbols::code_at))]",
+        "fn preset_at(row: u32) -> (&'static str, u32)",
+        "    requires { row < PRESETS }",
+        "    ensures symbol { result.0.now ≡ Symbols.symbol_at row }",
+        "    ensures code { result.1 ≡ Symbols.code_at row }",
+        "{",
+        "    match row {",
+        *_arms([f'("{preset.symbol}", {preset.code})' for preset in presets]),
+        "    }",
+        "}",
+        "",
+        "/// The description in a row below [`PRESETS`].",
+        f"#[tactic(auto, unfolding({unfolded}description_at))]",
+        "pub fn preset_text(row: u32) -> &'static str",
+        "    requires { row < PRESETS }",
+        "    ensures description { result.now ≡ Symbols.description_at row }",
+        "{",
+        "    match row {",
+        *_arms([f'"{preset.description}"' for preset in presets]),
+        "    }",
+        "}",
+    ]
+
+
+def definition_lines(presets: list[Preset]) -> list[str]:
+    rows = [f'preset (codes "{preset.symbol}") {preset.code} (codes "{preset.description}")' for preset in presets]
+    return [
+        "-- the rows, of which the first has the number 0",
+        "unfoldable pub preset_rows : List PresetRow",
+        "preset_rows =",
+        f"    {rows[0]}",
+        *[f"    ∷ {row}" for row in rows[1:]],
+        "    ∷ []",
+    ]
+
+
+def modelled_lines(presets: list[Preset]) -> list[str]:
+    return ["static const int modelled[] = {", *_filled([f"{preset.symbol}," for preset in presets], 140), "};"]
+
+
+def symbol_lines(presets: list[Preset]) -> list[str]:
+    return ["SYMBOLS = (", *_filled([f'"{preset.symbol}",' for preset in presets], 140), ")"]
+
+
+def number_lines(presets: list[Preset]) -> list[str]:
+    """Symbols with the number that each has in PAPI's list, which is its code without bit 31."""
+    pairs = [f'"{preset.symbol}":~0x{int(preset.code, 16) - 0x80000000:02X},' for preset in presets]
+    return ["PRESET_CODES = {", *[line.replace("~", " ") for line in _filled(pairs, 140)], "}"]
+
+
+def document_lines(presets: list[Preset]) -> list[str]:
+    names = [f"`{preset.symbol}`," for preset in presets]
+    return _filled([*names, "with the codes that PAPI gives them."], 160, "")
+
+
+# The files, and what stands there between the two marks.
+REGIONS: dict[str, Callable[[list[Preset]], list[str]]] = {
+    "crates/preset_csv/src/symbols.rt": code_lines,
+    "crates/preset_csv/specs/Symbols.antt": definition_lines,
+    "c/presets.c": modelled_lines,
+    "bin/hints/presets.py": symbol_lines,
+    "checks/cases.py": number_lines,
+    "checks/drawing.py": symbol_lines,
+    "docs/FORMATS.md": document_lines,
+}
+
+
+def with_region(name: str, text: str, lines: list[str]) -> str:
+    """The text of a file with these lines between its marks."""
+    old = text.split("\n")
+    begins = [place for place, line in enumerate(old) if BEGIN in line]
+    ends = [place for place, line in enumerate(old) if END in line]
+    if len(begins) != 1 or len(ends) != 1 or ends[0] < begins[0]:
+        raise Fault(f"{name}: the marks of tools/make_presets do not stand once each")
+    between = {".md": ["", *lines, ""], ".antt": [*lines, ""]}.get(Path(name).suffix, lines)
+    return "\n".join([*old[: begins[0] + 1], *between, *old[ends[0] :]])
+
+
+def made_texts(root: Path = ROOT) -> dict[str, str]:
+    """Each file as it is to be."""
+    presets = read_presets((root / TABLE).read_text(encoding="utf-8"))
+    return {name: with_region(name, (root / name).read_text(encoding="utf-8"), lines(presets)) for name, lines in REGIONS.items()}

@@ -1,0 +1,28 @@
+/* What is known of a translated block of the program, and what its code passes on to the tool. It is kept as long as the translation. */
+#ifndef BLOCK_H
+#define BLOCK_H
+#include "core.h"
+
+typedef struct { Addr pc; UShort size, segment; } instruction; /* segment: the exits of the block before it */
+
+/* Occurrences of a segment, by each of its instructions. They are added to the counts when the segment is left. */
+typedef struct { UShort instruction, segment, kind; Short amount; } share;
+
+struct block {
+    Addr pc;
+    UInt count, shares_count; /* count: of its instructions */
+    Bool begins_repeated;     /* the first instruction repeats itself */
+    instruction *instructions;
+    share *shares;
+    struct chunk *chunks;
+    block *next;
+};
+
+/* Makes what is known of the block that begins at `pc`, in place of what was known. */
+block *new_block(Addr pc);
+void block_forget(Addr pc);
+
+/* Memory that is kept as long as the block. */
+void *block_memory(block *b, SizeT size);
+
+#endif

@@ -1,0 +1,83 @@
+/* The code that is added to a block of the program. Each function adds some. */
+#ifndef CODE_H
+#define CODE_H
+#include "pub_tool_tooliface.h"
+
+#include "block.h"
+#include "tape.h"
+
+typedef struct {
+    IRSB *out;
+    block *of;
+    IRExpr *base, *rooms;     /* the core, once the block counts, and its rooms */
+    Int pending[ALL_KINDS];   /* occurrences that are not added to the counts yet */
+    UInt number, line, segment; /* this instruction; the first of its straight line; the exits so far */
+    Addr pc, before;          /* this instruction, and the one before it in this block */
+    UInt size;
+    UChar class;
+    Bool is_counted, is_branch_seen;
+    Addr fetched_page, fetched_line; /* of the last fetch in this block */
+    IRExpr *left[KL_KINDS];   /* as they are in the core, if that is known */
+    Bool is_unchecked[KL_KINDS];
+    UInt shares_count, shares_room;
+    share *shares;
+} code;
+
+#define OFFSET(field) __builtin_offsetof(core, field)
+
+/* Expressions. */
+IRExpr *code_make(code *c, IRType type, IRExpr *e);
+IRExpr *code_word(ULong value);
+IRExpr *code_two(code *c, IROp op, IRExpr *a, IRExpr *b);
+IRExpr *code_is(code *c, IROp op, IRExpr *a, IRExpr *b);
+IRExpr *code_shifted(code *c, IROp op, IRExpr *a, UInt bits);
+IRExpr *code_load(code *c, IRExpr *address);
+IRExpr *code_load_at(code *c, ULong offset); /* of the core */
+void code_store_at(code *c, ULong offset, IRExpr *value);
+void code_add_at(code *c, ULong offset, IRExpr *amount);
+IRExpr *code_widened(code *c, IRExpr *bit);
+
+/* A call, always or if the guard says so. */
+void code_call(code *c, IRExpr *guard, const HChar *name, void *function, IRExpr **arguments);
+
+/* Occurrences of the instruction: always, or if the guard says so. */
+void code_happens(code *c, UInt kind, Int amount);
+void code_may_happen(code *c, UInt kind, IRExpr *guard);
+
+/* The same on the tape, where it is one. */
+enum { IN_FETCH, IN_ACCESS };
+void code_notes(code *c, UInt kind, Addr pc, UInt amount, UInt phase, IRExpr *guard);
+void code_ends_line(code *c);
+void code_leaves_line_open(code *c, IRExpr *guard, Bool is_turn);
+
+/* Takes occurrences from rooms of the tape without a call. The answer is not 0 if there was no room, and then something has to call. */
+item code_item(const code *c, UInt kind, Addr pc, UInt amount, UInt phase);
+IRExpr *code_takes(code *c, const item *i, IRExpr *amount);
+IRExpr *code_takes_line(code *c, item *line);
+IRExpr *code_takes_branch(code *c, item pair[2], IRExpr *taken);
+IRExpr *code_or(code *c, IRExpr *a, IRExpr *b); /* NULL is 0 */
+
+/* Adds what is pending to the counts, before the block is left. */
+void code_flushes(code *c);
+
+/* The block begins to count. */
+void code_begins(code *c);
+
+/* Leaves the block before the instruction at `next` if a threshold was passed by one before it. */
+void code_checks_thresholds(code *c, Addr next);
+/* Occurrences of the machine may have passed some. */
+void code_unchecks_machine(code *c);
+
+/* The machine is asked. */
+void code_fetches(code *c);
+typedef struct { IRExpr *address, *guard; UInt size; Bool loads, stores; } access;
+void code_accesses(code *c, const access *a);
+void code_branches(code *c, IRExpr *taken); /* a conditional branch, behind its straight line */
+
+IRSB *instrument(VgCallbackClosure *closure, IRSB *in, const VexGuestLayout *guest_layout, const VexGuestExtents *extents, const VexArchInfo *host, IRType guest_word,
+                 IRType host_word);
+
+/* Where the library's code is, which is not counted; and where counting begins. */
+extern Addr library_first, library_end, counting_from;
+
+#endif

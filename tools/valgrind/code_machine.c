@@ -1,0 +1,114 @@
+/* The code that asks the modelled machine. Where the line and the page of an access are those that their sets used last, nothing changes and nothing is called. What
+ * is on the tape beside it shares that call. */
+#include "code.h"
+#include "model.h"
+#include "words.h"
+
+static site *new_site(code *c, UInt size, UInt side) {
+    site *s = block_memory(c->of, sizeof *s);
+    *s = (site){.pc = c->pc, .size = (UShort)size, .instruction = (UShort)c->number, .side = (UShort)side};
+    return s;
+}
+
+/* Not 0 if an instruction at a known address is not in what its set used last. */
+static IRExpr *fetch_differs(code *c, const cache *part, UInt used, Addr address) {
+    if (!part->tags) return NULL;
+    Addr number = address >> part->line_bits;
+    return code_two(c, Iop_Xor64, code_load_at(c, used + 8UL * (number & part->last_set)), code_word(number << part->line_bits));
+}
+
+void code_fetches(code *c) {
+    const cache *lines = &current->l1i, *pages = &current->itlb;
+    Addr last = c->pc + c->size - 1, line = c->pc >> lines->line_bits, page = c->pc >> pages->line_bits;
+    Bool is_one_line = !lines->tags || line == last >> lines->line_bits, is_one_page = !pages->tags || page == last >> pages->line_bits;
+    Bool is_line_known = !lines->tags || line == c->fetched_line, is_page_known = !pages->tags || page == c->fetched_page;
+    if (is_one_line && is_one_page && is_line_known && is_page_known) return;
+    IRExpr *guard = NULL;
+    if (is_one_line && is_one_page) {
+        IRExpr *line_differs = is_line_known ? NULL : fetch_differs(c, lines, layout.l1i_used, c->pc);
+        IRExpr *page_differs = is_page_known ? NULL : fetch_differs(c, pages, layout.itlb_used, c->pc);
+        guard = code_is(c, Iop_CmpNE64, code_or(c, line_differs, page_differs), code_word(0));
+    }
+    code_call(c, guard, "model_sees_fetch", model_sees_fetch, mkIRExprVec_1(code_word((Addr)new_site(c, c->size, BY_FETCH))));
+    code_unchecks_machine(c);
+    c->fetched_line = last >> lines->line_bits;
+    c->fetched_page = last >> pages->line_bits;
+}
+
+/* Not 0 if an access is not in what its set used last, or not aligned to its size, so that it might be in two. */
+static IRExpr *access_differs(code *c, const cache *part, UInt used, IRExpr *address, UInt size) {
+    if (!part->tags) return NULL;
+    IRExpr *number = code_two(c, Iop_And64, code_shifted(c, Iop_Shr64, address, part->line_bits), code_word(part->last_set));
+    IRExpr *at = code_two(c, Iop_Add64, code_two(c, Iop_Add64, c->base, code_shifted(c, Iop_Shl64, number, 3)), code_word(used));
+    ULong bits = (~0UL << part->line_bits) | (size - 1);
+    return code_two(c, Iop_And64, code_two(c, Iop_Xor64, address, code_load(c, at)), code_word(bits));
+}
+
+/* Loads that find their line are on the tape, if its lines have a code for them. */
+static Bool notes_hits(const access *a) { return a->loads && words.has_tape && kind_heads[words.codes][LOAD_HITS][0]; }
+
+/* Not 0 if the machine has to be asked; NULL if it always has. */
+static IRExpr *machine_differs(code *c, const access *a) {
+    const cache *lines = &current->l1d, *pages = &current->dtlb;
+    Bool is_small = a->size && !(a->size & (a->size - 1)) && (!lines->tags || a->size <= 1UL << lines->line_bits) && (!pages->tags || a->size <= 1UL << pages->line_bits);
+    if (!is_small || a->guard || notes_hits(a)) return NULL;
+    IRExpr *line_differs = access_differs(c, lines, layout.l1d_used, a->address, a->size);
+    IRExpr *page_differs = access_differs(c, pages, layout.dtlb_used, a->address, a->size);
+    return code_or(c, line_differs, page_differs);
+}
+
+/* An access on the tape, with the machine behind it. If it is guarded each is called by itself. */
+void code_accesses(code *c, const access *a) {
+    Bool is_asked = words.has_model && (current->l1d.tags || current->dtlb.tags || notes_hits(a));
+    if (!is_asked && !words.has_tape) return;
+    site *s = new_site(c, a->size, a->loads ? BY_LOAD : BY_STORE);
+    s->notes_hits = notes_hits(a);
+    IRExpr *full = NULL, *guard = a->guard;
+    const Bool happens[] = {a->loads, a->stores};
+    for (UInt k = 0; words.has_tape && k < 2; k++) {
+        if (!happens[k]) continue;
+        if (guard) code_notes(c, KL_LOADS + k, c->pc, 1, IN_ACCESS, guard);
+        else {
+            s->access[s->items] = code_item(c, KL_LOADS + k, c->pc, 1, IN_ACCESS);
+            full = code_or(c, full, code_takes(c, s->access + s->items++, NULL));
+        }
+    }
+    if (!is_asked && !full) return;
+    IRExpr *differs = is_asked ? machine_differs(c, a) : NULL;
+    if (!guard && (differs || !is_asked)) guard = code_is(c, Iop_CmpNE64, code_or(c, differs, full), code_word(0));
+    code_call(c, guard, "model_sees_access", model_sees_access, mkIRExprVec_2(code_word((Addr)s), a->address));
+    code_unchecks_machine(c);
+}
+
+static IRExpr *load_byte(code *c, IRExpr *address) {
+    return code_make(c, Ity_I64, IRExpr_Unop(Iop_8Uto64, code_make(c, Ity_I8, IRExpr_Load(Iend_LE, Ity_I8, address))));
+}
+
+/* The predictor learns what a branch did. Not 0 if it was wrong. */
+static IRExpr *predict(code *c, IRExpr *taken) {
+    ULong last = current->branches.last, at_history = OFFSET(branches) + __builtin_offsetof(predictor, history);
+    IRExpr *history = code_load_at(c, at_history);
+    IRExpr *index = code_two(c, Iop_Xor64, history, code_word(c->pc & last));
+    IRExpr *counter = code_two(c, Iop_Add64, code_two(c, Iop_Add64, c->base, index), code_word(layout.counters));
+    IRExpr *before = load_byte(c, counter);
+    IRExpr *key = code_two(c, Iop_Or64, code_shifted(c, Iop_Shl64, taken, 2), before);
+    IRExpr *now = code_two(c, Iop_Add64, key, code_word((Addr)next_state));
+    addStmtToIRSB(c->out, IRStmt_Store(Iend_LE, counter, code_make(c, Ity_I8, IRExpr_Load(Iend_LE, Ity_I8, now))));
+    IRExpr *longer = code_two(c, Iop_Or64, code_shifted(c, Iop_Shl64, history, 1), taken);
+    code_store_at(c, at_history, code_two(c, Iop_And64, longer, code_word(last)));
+    return code_two(c, Iop_Xor64, code_shifted(c, Iop_Shr64, before, 1), taken);
+}
+
+void code_branches(code *c, IRExpr *taken) {
+    if (!words.has_model && !words.has_tape) return;
+    IRExpr *full = NULL, *was_taken = code_widened(c, taken), *errs = code_word(0);
+    site *s = new_site(c, c->size, BY_BRANCH);
+    if (words.has_tape) {
+        full = code_or(c, code_takes_line(c, &s->line), code_takes_branch(c, s->branch, taken));
+        s->items = 1;
+    }
+    if (words.has_model) errs = predict(c, was_taken);
+    IRExpr *calls = code_is(c, Iop_CmpNE64, code_or(c, full, words.has_model ? errs : NULL), code_word(0));
+    code_call(c, calls, "model_sees_branch", model_sees_branch, mkIRExprVec_3(code_word((Addr)s), was_taken, errs));
+    code_unchecks_machine(c);
+}

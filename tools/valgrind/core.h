@@ -1,0 +1,77 @@
+/* The core on which a thread runs: its counts, and its own parts of the modelled machine. Generated code reads and writes them through `current`. */
+#ifndef CORE_H
+#define CORE_H
+#include "pub_tool_basics.h"
+#include "pub_tool_threadstate.h"
+
+#include "kinds.h"
+#include "machine.h"
+
+#define NEVER (1LL << 62)
+
+typedef struct block block;
+typedef struct tape tape;
+
+typedef struct {
+    ULong counts[ALL_KINDS];
+    Long left[KL_KINDS]; /* occurrences until an armed threshold is passed */
+    Long check_at;       /* the number of instructions at which a block begins by a call of tape_sees_block */
+    Int *rooms;          /* the occurrences for which the tape's lines have room, by their slots */
+    const block *at;     /* the block that runs */
+    Addr last;           /* the last instruction of the block before, if something is armed */
+    Bool is_nobodys;     /* what runs here is not counted */
+    cache l1d, l1i, l2, dtlb, itlb;
+    predictor branches;
+
+    UInt number; /* the first thread is 0, and each gets the next number when it begins */
+    Bool is_used, is_in_library, is_stopped;
+    Long period[KL_KINDS];
+    kl_passed passed;
+    ULong at_stop[ALL_KINDS], dropped[ALL_KINDS]; /* the counts when the thread stopped, and what happened while it was */
+    Long left_at_stop[KL_KINDS];
+    tape *tape;
+} core;
+
+/* Where parts of a core begin that have their sizes from the tool's words. */
+typedef struct { UInt l1d_used, l1i_used, dtlb_used, itlb_used, counters; } core_layout;
+extern core_layout layout;
+
+extern core *current;
+extern ThreadId running;
+extern cache shared_l3;
+
+void cores_begin(void);
+
+/* The core of a thread, NULL if it has none. */
+core *core_of(ThreadId tid);
+
+void core_thread_begins(ThreadId tid);
+void core_thread_ends(ThreadId tid);
+
+/* What a thread runs from now on is its own, or nobody's. */
+void set_current(ThreadId tid);
+
+/* Counting begins with this instruction. */
+Bool counting_has_begun(void);
+void counting_begins(void);
+
+/* This process counts no more: it is a fork of the one that does. */
+void counting_ends(void);
+
+/* Something happened that generated code did not count. */
+void core_takes(core *c, UInt kind, Long amount);
+
+void core_starts(core *c);
+void core_stops(core *c);
+
+/* The counts of a core without what is derived from others, and all counts while the thread was not stopped. */
+void core_counts(const core *c, ULong counts[ALL_KINDS]);
+
+/* The counts of all threads, whether they were stopped or not. */
+void all_counts(ULong all[ALL_KINDS]);
+
+/* The cycles of a core, and of all threads, whether they counted or not. */
+ULong cycles_of(const core *c);
+ULong all_cycles(void);
+
+#endif

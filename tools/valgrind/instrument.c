@@ -1,0 +1,237 @@
+/* Goes through a block of the program, and adds the code that counts. */
+#include "code.h"
+
+#include "pub_tool_libcassert.h"
+#include "pub_tool_libcbase.h"
+#include "pub_tool_machine.h"
+#include "pub_tool_mallocfree.h"
+
+#include "decode.h"
+#include "events.h"
+#include "slots.h"
+#include "thresholds.h"
+#include "words.h"
+
+Addr library_first, library_end, counting_from;
+
+static UInt kind_of_class(const code *c) { return c->class & CLASS_BITS; }
+static Bool is_conditional(const code *c) { return c->is_counted && kind_of_class(c) == CONDITIONAL; }
+static Bool is_branch(const code *c) { return kind_of_class(c) >= CONDITIONAL && kind_of_class(c) <= RETURN; }
+static Bool is_of_library(Addr pc) { return pc >= library_first && pc < library_end; }
+
+/* -- instructions -- */
+
+static void branch_ends(code *c, Bool is_known, Addr next) {
+    static const UChar kinds[] = {[JUMP] = KL_JUMPS, [CALL] = KL_CALLS, [RETURN] = KL_RETURNS};
+    UInt class = kind_of_class(c);
+    if (class == JUMP || class == CALL || class == RETURN) {
+        code_happens(c, kinds[class], 1);
+        code_notes(c, kinds[class], c->pc, 1, IN_ACCESS, NULL);
+    }
+    if (!is_conditional(c) || c->is_branch_seen) return;
+    Bool taken = is_known && next != c->pc + c->size; /* what it does was known when it was translated */
+    code_happens(c, taken ? KL_TAKEN : KL_NOT_TAKEN, 1);
+    code_branches(c, IRExpr_Const(IRConst_U1(taken)));
+    c->line = c->number + 1;
+}
+
+/* The instruction is through, and `next` comes after it, if that is known. */
+static void instruction_ends(code *c, Bool is_known, Addr next) {
+    if (!c->is_counted) return;
+    if (c->class & REPEATS && is_known && next == c->pc + c->size) {
+        code_happens(c, KL_INSTRUCTIONS, 1);
+        if (words.has_further) code_happens(c, REPEATED, 1);
+    }
+    branch_ends(c, is_known, next);
+}
+
+static void instruction_computes(code *c) {
+    UInt class = kind_of_class(c);
+    if (class < SCALAR_DOUBLE || class > X87) return;
+    UInt kind = KL_SCALAR_DOUBLES + class - SCALAR_DOUBLE, amount = c->class & TWICE ? 2 : 1;
+    code_happens(c, kind, (Int)amount);
+    code_notes(c, kind, c->pc, amount, IN_FETCH, NULL);
+}
+
+/* Counting begins at the first entry of a function. Where this is inside of a block, it begins with the next one. */
+static void begins_here(code *c) {
+    if (c->pc == counting_from && !counting_has_begun()) code_call(c, NULL, "counting_begins", counting_begins, mkIRExprVec_0());
+}
+
+static void instruction_begins(code *c, Addr pc, UInt size) {
+    if (c->pc) instruction_ends(c, True, pc);
+    c->before = c->is_counted ? c->pc : 0;
+    if (c->is_counted) c->number++;
+    c->is_counted = !is_of_library(pc);
+    c->pc = pc;
+    c->size = size;
+    c->is_branch_seen = False;
+    begins_here(c);
+    if (!c->is_counted) return;
+    code_begins(c);
+    code_checks_thresholds(c, pc);
+    c->class = class_of_bytes((const UChar *)pc, size);
+    c->of->instructions[c->number] = (instruction){pc, (UShort)size, (UShort)c->segment};
+    if (!(c->class & REPEATS)) code_happens(c, KL_INSTRUCTIONS, 1);
+    if (words.has_further && c->class & REPEATS) code_happens(c, TURNS, 1);
+    if (words.has_further && c->class & LOCKS) code_happens(c, LOCKED, 1);
+    if (words.has_model) code_fetches(c);
+    instruction_computes(c);
+    if (is_branch(c) && !is_conditional(c)) code_ends_line(c);
+}
+
+/* -- exits -- */
+
+/* Whether a branch is counted by its guard. If not it is counted as if it left, and put right behind the exit. */
+static Bool is_by_guard(void) { return words.has_model || words.has_tape || is_armed[KL_TAKEN] || is_armed[KL_NOT_TAKEN]; }
+
+static void branch_leaves(code *c, IRExpr *guard, Bool leaves_taken) {
+    c->is_branch_seen = True;
+    if (!is_by_guard()) {
+        code_happens(c, leaves_taken ? LEFT_TAKEN : LEFT_NOT_TAKEN, 1);
+        return;
+    }
+    IRExpr *not_guard = code_make(c, Ity_I1, IRExpr_Unop(Iop_Not1, guard)), *taken = leaves_taken ? guard : not_guard;
+    code_may_happen(c, KL_TAKEN, taken);
+    code_may_happen(c, KL_NOT_TAKEN, leaves_taken ? not_guard : guard);
+    code_branches(c, taken);
+    c->line = c->number + 1;
+}
+
+static void leave(code *c, IRStmt *exit) {
+    IRExpr *guard = exit->Ist.Exit.guard;
+    Addr to = exit->Ist.Exit.dst->Ico.U64;
+    Bool leaves_taken = to != c->pc + c->size;
+    Bool is_branch_now = is_conditional(c) && !c->is_branch_seen && exit->Ist.Exit.jk == Ijk_Boring;
+    if (is_branch_now) branch_leaves(c, guard, leaves_taken);
+    else if (c->is_counted) {
+        if (c->class & REPEATS && !leaves_taken) {
+            code_may_happen(c, KL_INSTRUCTIONS, guard);
+            if (words.has_further) code_may_happen(c, REPEATED, guard);
+        }
+        code_leaves_line_open(c, guard, c->class & REPEATS && to == c->pc);
+    }
+    code_flushes(c);
+    addStmtToIRSB(c->out, exit);
+    if (is_branch_now && !is_by_guard()) code_happens(c, leaves_taken ? STAYED_NOT_TAKEN : STAYED_TAKEN, 1);
+}
+
+/* -- accesses -- */
+
+static UInt size_of(const IRSB *sb, const IRExpr *e) { return (UInt)sizeofIRType(typeOfIRExpr(sb->tyenv, e)); }
+
+static UInt size_of_guarded(IRLoadGOp op) {
+    IRType result, loaded;
+    typeOfIRLoadGOp(op, &result, &loaded);
+    return (UInt)sizeofIRType(loaded);
+}
+
+static access access_of_helper(const IRDirty *d) {
+    Bool is_always = d->guard->tag == Iex_Const && d->guard->Iex.Const.con->Ico.U1;
+    return (access){d->mAddr, is_always ? NULL : d->guard, (UInt)d->mSize, d->mFx == Ifx_Read || d->mFx == Ifx_Modify, d->mFx == Ifx_Write || d->mFx == Ifx_Modify};
+}
+
+/* What a statement does to memory. */
+static access access_of(const IRSB *sb, const IRStmt *s) {
+    const access none = {0};
+    switch (s->tag) {
+    case Ist_WrTmp:
+        if (s->Ist.WrTmp.data->tag != Iex_Load) return none;
+        return (access){s->Ist.WrTmp.data->Iex.Load.addr, NULL, (UInt)sizeofIRType(s->Ist.WrTmp.data->Iex.Load.ty), True, False};
+    case Ist_Store: return (access){s->Ist.Store.addr, NULL, size_of(sb, s->Ist.Store.data), False, True};
+    case Ist_LoadG: return (access){s->Ist.LoadG.details->addr, s->Ist.LoadG.details->guard, size_of_guarded(s->Ist.LoadG.details->cvt), True, False};
+    case Ist_StoreG: return (access){s->Ist.StoreG.details->addr, s->Ist.StoreG.details->guard, size_of(sb, s->Ist.StoreG.details->data), False, True};
+    case Ist_Dirty: return access_of_helper(s->Ist.Dirty.details);
+    case Ist_CAS: return (access){s->Ist.CAS.details->addr, NULL, size_of(sb, s->Ist.CAS.details->dataLo) * (s->Ist.CAS.details->dataHi ? 2 : 1), True, True};
+    default: return none;
+    }
+}
+
+/* The store of the same instruction that changes in place what was loaded, if it is the next access: its number, or 0. */
+static Int store_in_place(const IRSB *sb, Int i, const access *of) {
+    for (i++; i < sb->stmts_used && sb->stmts[i]->tag != Ist_IMark && sb->stmts[i]->tag != Ist_Exit; i++) {
+        access a = access_of(sb, sb->stmts[i]);
+        if (!a.loads && !a.stores) continue;
+        return !a.loads && !a.guard && a.size == of->size && eqIRAtom(a.address, of->address) ? i : 0;
+    }
+    return 0;
+}
+
+static void count_access(code *c, const access *a, UInt kind) {
+    if (a->guard) code_may_happen(c, kind, a->guard);
+    else code_happens(c, kind, 1);
+}
+
+/* Adds what an access counts. Gives the number of a later statement that is a part of it, or 0. */
+static Int see_access(code *c, const IRSB *sb, Int i) {
+    access a = access_of(sb, sb->stmts[i]);
+    Int later = 0;
+    if (!c->is_counted || (!a.loads && !a.stores)) return 0;
+    if (a.loads && !a.stores && !a.guard && (later = store_in_place(sb, i, &a))) a.stores = True;
+    if (a.loads) count_access(c, &a, KL_LOADS);
+    if (a.stores) count_access(c, &a, KL_STORES);
+    if (words.has_further && a.loads && a.stores) code_happens(c, MODIFIES, 1);
+    code_accesses(c, &a);
+    return later;
+}
+
+/* -- the block -- */
+
+/* Makes what is known of the block before its code is. */
+static block *block_of(Addr pc, const IRSB *sb) {
+    block *b = new_block(pc);
+    Addr first = 0;
+    UInt size = 0;
+    for (Int i = 0; i < sb->stmts_used; i++) {
+        const IRStmt *s = sb->stmts[i];
+        if (s->tag != Ist_IMark || is_of_library(s->Ist.IMark.addr)) continue;
+        if (!b->count++) first = s->Ist.IMark.addr, size = s->Ist.IMark.len;
+    }
+    b->instructions = block_memory(b, b->count * sizeof *b->instructions);
+    b->begins_repeated = b->count && class_of_bytes((const UChar *)first, size) & REPEATS;
+    return b;
+}
+
+static void keep_shares(code *c) {
+    c->of->shares_count = c->shares_count;
+    c->of->shares = block_memory(c->of, c->shares_count * sizeof *c->shares);
+    VG_(memcpy)(c->of->shares, c->shares, c->shares_count * sizeof *c->shares);
+}
+
+static void block_ends(code *c, const IRSB *in) {
+    Bool is_known = in->next->tag == Iex_Const;
+    Addr next = is_known ? (Addr)in->next->Iex.Const.con->Ico.U64 : 0;
+    instruction_ends(c, is_known, next);
+    if (c->is_counted) code_leaves_line_open(c, NULL, c->class & REPEATS && is_known && next == c->pc);
+    code_flushes(c);
+    keep_shares(c);
+}
+
+IRSB *instrument(VgCallbackClosure *closure, IRSB *in, const VexGuestLayout *guest_layout, const VexGuestExtents *extents, const VexArchInfo *host, IRType guest_word,
+                 IRType host_word) {
+    static share *shares;
+    static UInt shares_room;
+    program_is_loaded(); /* the first block is translated before the core says that the program goes on */
+    code whole = {.out = deepCopyIRSBExceptStmts(in), .of = block_of(closure->nraddr, in), .shares = shares, .shares_room = shares_room}, *c = &whole;
+    Int i = 0, later = 0;
+    (void)guest_layout, (void)extents, (void)host, (void)guest_word, (void)host_word;
+    for (UInt kind = 0; kind < KL_KINDS; kind++) c->is_unchecked[kind] = True;
+    while (i < in->stmts_used && in->stmts[i]->tag != Ist_IMark) addStmtToIRSB(c->out, in->stmts[i++]);
+    for (; i < in->stmts_used; i++) {
+        IRStmt *s = in->stmts[i];
+        if (s->tag == Ist_Exit) {
+            leave(c, s);
+            continue;
+        }
+        if (s->tag != Ist_IMark && i != later) {
+            Int found = see_access(c, in, i);
+            if (found) later = found;
+        }
+        addStmtToIRSB(c->out, s);
+        if (s->tag == Ist_IMark) instruction_begins(c, s->Ist.IMark.addr, s->Ist.IMark.len);
+    }
+    block_ends(c, in);
+    shares = c->shares;
+    shares_room = c->shares_room;
+    return c->out;
+}

@@ -1,0 +1,95 @@
+#include "model.h"
+
+#include "slots.h"
+#include "tape.h"
+#include "words.h"
+
+enum { OWN_MISS, L2_HIT, L2_MISS, L3_HIT, L3_MISS, PAGE_MISS, CYCLES, STALLS, OWN_HIT, MADE_HERE };
+enum { ERRED_NOT_TAKEN, ERRED_TAKEN };
+
+static const UChar kinds[4][MADE_HERE] = {
+    [BY_LOAD] = {KL_L1D_LOAD_MISSES, KL_L2_LOAD_HITS, KL_L2_LOAD_MISSES, KL_L3_LOAD_HITS, KL_L3_LOAD_MISSES, KL_DTLB_LOAD_MISSES, KL_CYCLES, KL_STALLS, LOAD_HITS},
+    [BY_STORE] = {KL_L1D_STORE_MISSES, KL_L2_STORE_HITS, KL_L2_STORE_MISSES, KL_L3_STORE_HITS, KL_L3_STORE_MISSES, KL_DTLB_STORE_MISSES, KL_CYCLES, KL_STALLS},
+    [BY_FETCH] = {KL_L1I_MISSES, KL_L2_FETCH_HITS, KL_L2_FETCH_MISSES, KL_L3_FETCH_HITS, KL_L3_FETCH_MISSES, KL_ITLB_MISSES, KL_CYCLES, KL_STALLS},
+    [BY_BRANCH] = {[ERRED_NOT_TAKEN] = KL_ERRED_NOT_TAKEN, [ERRED_TAKEN] = KL_ERRED_TAKEN, [CYCLES] = KL_CYCLES, [STALLS] = KL_STALLS},
+};
+
+static void put_on_tape(core *c, site *s, UInt what, UInt amount) {
+    if (!s->slots[what]) s->slots[what] = slot_of(kinds[s->side][what], s->pc);
+    Int *room = c->rooms + s->slots[what], left = *room - (Int)amount;
+    if (left >= 0) *room = left;
+    else tape_notes(c, s->slots[what], amount, s->instruction, s->side == BY_FETCH);
+}
+
+static void happens(core *c, site *s, UInt what) {
+    UInt kind = kinds[s->side][what];
+    c->counts[kind]++;
+    c->left[kind]--;
+    if (c->tape) put_on_tape(c, s, what, 1);
+}
+
+static void stall(core *c, site *s, UInt cost) {
+    ULong cycles = words.costs[cost];
+    c->counts[KL_STALLS] += cycles;
+    c->left[KL_STALLS] -= (Long)cycles;
+    c->left[KL_CYCLES] -= (Long)cycles;
+    if (!c->tape) return;
+    put_on_tape(c, s, CYCLES, (UInt)cycles);
+    put_on_tape(c, s, STALLS, (UInt)cycles);
+}
+
+/* An access that missed the first level goes on to the others. */
+static void ask_levels(core *c, site *s, Addr address) {
+    UInt served_by = SERVED_BY_MEMORY;
+    Bool misses = !c->l2.tags || cache_misses(&c->l2, address, s->size);
+    if (c->l2.tags) happens(c, s, misses ? L2_MISS : L2_HIT);
+    if (misses) {
+        misses = !shared_l3.tags || cache_misses(&shared_l3, address, s->size);
+        if (shared_l3.tags) happens(c, s, misses ? L3_MISS : L3_HIT);
+        if (!misses) served_by = SERVED_BY_L3;
+    } else served_by = SERVED_BY_L2;
+    stall(c, s, served_by);
+}
+
+/* Nobody's machine only knows what was used last, so that generated code seldom asks. */
+static void use(cache *part, Addr address) {
+    if (part->tags) part->used_last[address >> part->line_bits & part->last_set] = address >> part->line_bits << part->line_bits;
+}
+
+static void meet(core *c, site *s, Addr address, cache *pages, cache *lines) {
+    if (c->is_nobodys) {
+        use(pages, address);
+        use(lines, address);
+        return;
+    }
+    if (pages->tags && cache_misses(pages, address, s->size)) {
+        happens(c, s, PAGE_MISS);
+        stall(c, s, PAGE_MISSED);
+    }
+    if (lines->tags && cache_misses(lines, address, s->size)) {
+        happens(c, s, OWN_MISS);
+        ask_levels(c, s, address);
+    } else if (s->notes_hits && c->tape) put_on_tape(c, s, OWN_HIT, 1);
+}
+
+static Bool has_no_room(const core *c, UInt slot) { return c->rooms[slot] < 0; }
+
+void model_sees_access(site *s, Addr address) {
+    core *c = current;
+    for (UInt i = 0; i < s->items; i++)
+        if (has_no_room(c, s->access[i].slot)) tape_sees_item(s->access + i);
+    if (words.has_model) meet(c, s, address, &c->dtlb, &c->l1d);
+}
+
+void model_sees_fetch(site *s) { meet(current, s, s->pc, &current->itlb, &current->l1i); }
+
+void model_sees_branch(site *s, ULong taken, ULong errs) {
+    core *c = current;
+    if (s->items) {
+        if (has_no_room(c, s->line.slot) || has_no_room(c, s->line.slot + 1)) tape_sees_line(&s->line);
+        if (has_no_room(c, s->branch[taken].slot)) tape_sees_item(s->branch + taken);
+    }
+    if (!errs || c->is_nobodys) return;
+    happens(c, s, taken ? ERRED_TAKEN : ERRED_NOT_TAKEN);
+    stall(c, s, BRANCH_ERRED);
+}

@@ -1,0 +1,35 @@
+/* Files that the tool writes: streams, and what it reports. The program does not see their descriptors. */
+#ifndef OUTPUT_H
+#define OUTPUT_H
+#include "pub_tool_basics.h"
+
+#define MOST_STREAM_BYTES 67108864u
+
+void outputs_begin(void);
+
+/* A line for the process that started this run. */
+void report(const HChar *format, ...) __attribute__((format(printf, 1, 2)));
+
+/* Says what is wrong, and ends the run. */
+void fail(const HChar *cause) __attribute__((noreturn));
+
+/* The address at which the program was loaded: the first line of each stream says it. */
+void streams_begin(Addr base);
+
+/* A stream: in a file, or kept until it is fetched. */
+typedef struct stream stream;
+stream *stream_of(UInt thread_number);
+
+/* Writes a line about what happened at `pc`. The run ends if the stream is full. */
+void stream_puts(stream *s, const HChar *line, UInt length, Addr pc);
+void stream_flushes(stream *s);
+void stream_ends(stream *s);
+
+/* Takes whole lines of what is kept, up to a size. */
+Bool stream_has_kept(const stream *s);
+UWord stream_takes(stream *s, HChar *to, UWord size);
+
+/* What is not written yet is forgotten, and nothing more is written. */
+void outputs_close(void);
+
+#endif

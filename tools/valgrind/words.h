@@ -1,0 +1,42 @@
+/* The words of the tool. */
+#ifndef WORDS_H
+#define WORDS_H
+#include "pub_tool_basics.h"
+
+#include "kinds.h"
+#include "machine.h"
+
+/* Cycles beside the one of each instruction: of an access that the second level, the third or the memory serves, of a page that is not in its buffer, and of a
+ * branch that was predicted wrongly. */
+enum { SERVED_BY_L2, SERVED_BY_L3, SERVED_BY_MEMORY, PAGE_MISSED, BRANCH_ERRED, COSTS };
+#define MOST_COST 10000
+
+typedef struct {
+    Bool has_model;   /* caches, translation buffers and the predictor */
+    Bool has_counts;  /* of all kinds, for requests */
+    Bool has_further; /* kinds that only other tools count */
+    Bool has_tape;    /* lines of a stream */
+    Bool is_each;     /* a line for each occurrence */
+    Bool is_stopped;  /* until START */
+    Bool keeps_random; /* the program has the system's random bytes, and not those of its environment's padding */
+    Bool shows_totals;
+    Bool counts_library; /* as if it were the program's own, to measure it */
+    enum { ANY_THREAD, FIRST_THREAD, ONE_THREAD } threads; /* ONE_THREAD: a second one ends the run */
+    Int stream, report;     /* descriptors, or -1 */
+    const HChar *streams;   /* a file for each thread, whose number stands for %t */
+    Addr entry, from;       /* addresses in the program's file: its entry, and where counting begins, or 0 */
+    const HChar *no_call;   /* PROCESS:LINE */
+    Long mhz, window;       /* window: instructions */
+    Int most_amount;        /* of a line */
+    line_codes codes;       /* of the lines */
+    shape l1d, l1i, l2, l3, dtlb, itlb;
+    Int predictor_bits;
+    ULong costs[COSTS];
+} all_words;
+
+extern all_words words;
+
+Bool words_take(const HChar *word);
+void words_print(void);
+
+#endif
