@@ -26,6 +26,7 @@ class Case:
     status: int
     hints: tuple[str, ...] = ()
     files: dict[str, str] = field(default_factory=dict)
+    telling: str = ""  # lines of the output that the hints look at
 
 
 def bad_words(title: str, words: str, *hints: str) -> Case:
@@ -53,6 +54,10 @@ def answer(title: str, words: str, status: int, *hints: str, **files: str) -> Ca
     return Case(title, words, "", status, hints, files)
 
 
+def refused(title: str, words: str, script: str, replies: str, *hints: str, **files: str) -> Case:
+    return Case(title, words, "", 0, hints, {"s": script, **files}, replies)
+
+
 WORDS = (
     bad_words("an unknown option", "papi_run -U u --worker 4 s t", 'papi_run has no option "--worker" (near: --workers)'),
     bad_words("no unit", "papi_run s t", "-U UNIT is missing: the unit file: components, counters, events and umasks"),
@@ -66,6 +71,8 @@ WORDS = (
     bad_words("an option without its value", "papi_run s t -U", "-U has no UNIT"),
     bad_words("a value that looks like an option", "papi_native_avail -U u -i -X", "-i has no STR: a value that begins with - is attached, -i-X"),
     bad_words("an option twice", "papi_run -U u -U u s", "-U stands twice"),
+    bad_words("an option twice, whose value is no other word", "papi_avail -U u -P p -C small -U u", "-U stands twice"),
+    bad_words("a number with a sign and zeros, which is one", "papi_run -U u --workers +0000000004", "SCRIPT is missing: the calls, one a line"),
     bad_words("a word too many", "papi_avail -U u -P p -C small PAPI_TOT_INS", '"PAPI_TOT_INS" is one word too many'),
     bad_words("a kind of events in lower case", "papi_event_chooser -U u native LOADS", '"native" stands where NATIVE or PRESET is wanted'),
     bad_words("a soak that is too large", "papi_soak 1001", 'SIZE "1001": a number from 1 to 1000 is wanted'),
@@ -91,7 +98,7 @@ ROWS = (
     bad_row("a comma in a description", "u", UNIT.replace(",Loads", ",Loads, all"), 5, "bad row", "u:5: EVENT,LOADS,d0,C1,Loads, all",
             "the row has 6 fields, and 5 are wanted: EVENT,name,select code,counters,description; a description has no comma"),
     bad_row("a kind in lower case", "u", UNIT.replace("COUNTER,C1", "counter,C1"), 3, "bad row", "u:3: counter,C1,32,P",
-            '"counter" stands where COMPONENT, COUNTER, EVENT, UMASK is wanted (in capitals)'),
+            '"counter" stands where COMPONENT, COUNTER, EVENT, UMASK, UMASK_COUNTERS, UMASK_MODIFIERS is wanted (in capitals)'),
     bad_row("a name with a point", "u", UNIT.replace("LOADS", "LOADS.ALL"), 5, "bad row", "u:5: EVENT,LOADS.ALL,d0,C1,Loads",
             'the name is "LOADS.ALL", and 1 to 64 letters, digits, _ and - is wanted'),
     bad_row("a width in words", "u", UNIT.replace("C0,32", "C0,wide"), 2, "bad row", "u:2: COUNTER,C0,wide,P", 'the width is "wide", and a number from 16 to 48 is wanted'),
@@ -105,6 +112,14 @@ ROWS = (
     bad_row("a umask with a modifier's name", "u", UNIT + "UMASK,K,01,-,Kernel\n", 6, "repeated name", "u:6: UMASK,K,01,-,Kernel", "K is the name of a modifier"),
     bad_row("an unknown counter", "u", UNIT.replace("d0,C1", "d0,C2"), 5, "unknown counter", "u:5: EVENT,LOADS,d0,C2,Loads",
             'no row above has the counter "C2" in its component (there are: C0, C1)'),
+    bad_row("counters of no umask", "u", UNIT + "UMASK_COUNTERS,C1\n", 6, "bad row", "u:6: UMASK_COUNTERS,C1", "no UMASK row of its event stands above this UMASK_COUNTERS row"),
+    bad_row("a umask's counter that its event lacks", "u", UNIT + "UMASK,ALL,03,d,All\nUMASK_COUNTERS,C0\n", 7, "unknown counter", "u:7: UMASK_COUNTERS,C0",
+            'LOADS does not have the counter "C0" (there is: C1)'),
+    bad_row("counters of a umask twice", "u", UNIT + "UMASK,ALL,03,d,All\nUMASK_COUNTERS,C1\nUMASK_COUNTERS,C1\n", 8, "bad row", "u:8: UMASK_COUNTERS,C1",
+            "the umask ALL has a UMASK_COUNTERS row already"),
+    bad_row("a modifier twice", "u", UNIT + "UMASK,ALL,03,d,All\nUMASK_MODIFIERS,ee,1\n", 7, "bad row", "u:7: UMASK_MODIFIERS,ee,1",
+            'the field of modifiers is "ee", and -, e, i or ei is wanted'),
+    bad_row("modifiers that are none", "u", UNIT + "UMASK,ALL,03,d,All\nUMASK_MODIFIERS,-,0\n", 7, "bad row", "u:7: UMASK_MODIFIERS,-,0", "it fixes no modifier"),
     bad_row("a preset without a processor", "p", "PRESET,PAPI_TOT_INS,NOT_DERIVED,LOADS\n", 1, "preset before cpu", "p:1: PRESET,PAPI_TOT_INS,NOT_DERIVED,LOADS",
             "a row CPU,name is wanted above it"),
     bad_row("a type that is not one", "p", PRESETS.replace("DERIVED_ADD", "DERIVED_SUM"), 6, "bad field", "p:8: EVENT,BOTH,DERIVED_SUM,INSTRUCTIONS,LOADS",
@@ -170,8 +185,6 @@ LINES = (
 ANSWERS = (
     answer("an unknown processor", "papi_avail -U u -P p -C smal", 0, 'the preset file has no processor "smal" (near: small)'),
     answer("a processor that is near none", "papi_decode -U u -P p -C skylake", 0, 'the preset file has no processor "skylake" (there are: small, large)'),
-    answer("an unknown processor in a script", "papi_run -U u -P p -C Small s t", 0, 'the preset file has no processor "Small" (near: small)',
-           s="0 create\n0 add 0 PAPI_TOT_INS\n"),
     answer("presets that are there", "papi_avail -U u -P p -C small", 0),
     answer("a preset with a native event that the unit lacks", "papi_avail -U u -P p -C small -e PAPI_L1_LDM", 0,
            'PAPI_L1_LDM is not available: mine::LOADS has no umask "MISS" (near: MISSES); u, k, e, i and c=N are modifiers'),
@@ -182,6 +195,14 @@ ANSWERS = (
     answer("presets of another unit", "papi_avail -U u -P p -C other", 0,
            'the unit has none of the presets of other: PAPI_TOT_INS is not available: the unit has no pmu "lab" (there is: mine)',
            p="CPU,other\nPRESET,PAPI_TOT_INS,NOT_DERIVED,lab::X\n"),
+    answer("a preset that the program does not know, with a row", "papi_avail -U u -P p -C small -e PAPI_FP_INS", 1,
+           "PAPI_FP_INS is none of the 26 presets that the program knows; tools/preset_rows makes the user event FP_INS of its row in the preset file",
+           p=PRESETS + "PRESET,PAPI_FP_INS,NOT_DERIVED,LOADS\n"),
+    answer("rows of presets that the program does not know alone", "papi_avail -U u -P p -C small", 0,
+           "the preset file has no row for the processor small that the program knows; of its 2 rows of other presets tools/preset_rows makes user events",
+           p="CPU,small\nPRESET,PAPI_FP_INS,NOT_DERIVED,LOADS\nPRESET,PAPI_VEC_SP,NOT_DERIVED,LOADS\nCPU,large\nPRESET,PAPI_VEC_DP,NOT_DERIVED,LOADS\n"),
+    answer("no row that the program knows", "papi_avail -U u -P p -C small", 0, "the preset file has no row for the processor small that the program knows",
+           p="CPU,small\nPRESET,OTHER,NOT_DERIVED,LOADS\n"),
     answer("an unknown event", "papi_native_avail -U u -e LOAD", 1, 'the unit has no event "LOAD" (near: LOADS)'),
     answer("no name with these letters", "papi_native_avail -U u -i load", 0, 'no name of an event contains "load", with regard to case (near: LOADS)'),
     answer("all names left out", "papi_native_avail -U u -i LOADS -x mine", 0, 'each name that -i leaves contains "mine", so -x leaves none'),
@@ -197,10 +218,6 @@ ANSWERS = (
            "PAPI_TOT_INS is a preset: -P PRESETS and -C CPU name those of a processor", "without -P PRESETS and -C CPU there are no presets to list"),
     answer("no presets to list", "papi_event_chooser -U u PRESET LOADS", 0, "without -P PRESETS and -C CPU there are no presets to list"),
     answer("an unknown event of regions", "papi_regions -U u --events LODS r t", 1, 'the unit has no event "LODS" (near: LOADS)'),
-    answer("an unknown event in a script", "papi_run -U u s t", 0, 'line 2: the unit has no event "INSTRUCTION" (near: INSTRUCTIONS)',
-           s="0 create\n0 add 0 INSTRUCTION\n0 add 0 LOADS\n"),
-    answer("a preset that is not known", "papi_run -U u -P p -C small s t", 0,
-           "line 2: PAPI_L3_TCA is none of the 26 presets that the program knows (near: PAPI_L3_TCM, PAPI_L2_TCM, PAPI_L1_TCM)", s="0 create\n0 add 0 PAPI_L3_TCA\n"),
     answer("a run that is as it should be", "papi_run -U u s t", 0),
     answer("a profile without a stream", "papi_profil -U u -M m s", 0,
            "thread 0 has no stream: the first stream belongs to thread 0, the next to thread 1, and the words name 0 streams"),
@@ -211,4 +228,130 @@ ANSWERS = (
     answer("a profile with a total", "papi_profil -U u -M m s t", 0),
 )
 
-CASES = WORDS + MISSING_FILES + ROWS + LINES + ANSWERS
+NO_SET = "No such EventSet available: the set is not there"
+INVALID = "Invalid argument"
+REFUSALS = (
+    refused("an unknown processor in a script", "papi_run -U u -P p -C Small s t", "0 create\n0 add 0 PAPI_TOT_INS\n", "2 0 add PAPI_ENOEVNT",
+            'the preset file has no processor "Small" (near: small)',
+            "line 2: add 0 PAPI_TOT_INS: Event does not exist: the preset file has no row of PAPI_TOT_INS for the processor Small"),
+    refused("an unknown event in a script", "papi_run -U u s t", "0 create\n0 add 0 INSTRUCTION\n0 add 0 LOADS\n", "2 0 add PAPI_ENOEVNT",
+            'line 2: add 0 INSTRUCTION: Event does not exist: the unit has no event "INSTRUCTION" (near: INSTRUCTIONS)'),
+    refused("a preset that is not known", "papi_run -U u -P p -C small s t", "0 create\n0 add 0 PAPI_L3_TCA\n", "2 0 add PAPI_ENOEVNT",
+            "line 2: add 0 PAPI_L3_TCA: Event does not exist: PAPI_L3_TCA is none of the 26 presets that the program knows (near: PAPI_L3_TCM, PAPI_L2_TCM, PAPI_L1_TCM)"),
+    refused("a preset that is not known, with a row", "papi_run -U u -P p -C small s t", "0 create\n0 add 0 PAPI_FP_INS\n", "2 0 add PAPI_ENOEVNT",
+            "line 2: add 0 PAPI_FP_INS: Event does not exist: PAPI_FP_INS is none of the 26 presets that the program knows; tools/preset_rows makes the user event FP_INS of its row "
+            "in the preset file", p=PRESETS + "PRESET,PAPI_FP_INS,NOT_DERIVED,LOADS\n"),
+    refused("a preset that is not known, with a user event", "papi_run -U u -P p -C small s t", "0 create\n0 add 0 PAPI_BOTH\n", "2 0 add PAPI_ENOEVNT",
+            "line 2: add 0 PAPI_BOTH: Event does not exist: PAPI_BOTH is none of the 26 presets that the program knows; the preset file has the user event BOTH"),
+    refused("umasks that cannot be combined", "papi_run -U u s t", "0 create\n0 add 0 LOADS:ALL:MISSES\n", "2 0 add PAPI_ECOMBO",
+            "line 2: add 0 LOADS:ALL:MISSES: Bad combination of features: the umasks ALL and MISSES of mine::LOADS cannot be combined"),
+    refused("a threshold that is too small", "papi_run -U u s t", "0 create\n0 add 0 LOADS\n0 overflow 0 LOADS 200\n", "3 0 overflow PAPI_EINVAL",
+            f"line 3: overflow 0 LOADS 200: {INVALID}: not in the set, or derived, or the threshold neither 0 nor from 256 to the last value of the component's narrowest "
+            "register, or another event's threshold is on the same native event"),
+    refused("a conflict", "papi_run -U u s t", "0 create\n0 add 0 LOADS\n0 add 0 LOADS:MISSES\n", "3 0 add PAPI_ECNFLCT mine::LOADS:ALL mine::LOADS:MISSES / C1",
+            "line 3: add 0 LOADS:MISSES: Event exists, but cannot be counted due to hardware resource limits: These 2 events are allowed 1 counter, C1, and no others. "
+            "So one of them has no place."),
+    refused("states of sets", "papi_run -U u s t", "0 create\n0 stop 0\n0 start 0\n0 add 0 LOADS\n0 start 0\n0 domain 0 3\n0 raw 0 5\n",
+            "2 0 stop PAPI_ENOTRUN\n3 0 start PAPI_EINVAL\n6 0 domain PAPI_EISRUN\n7 0 raw PAPI_EINVAL",
+            "line 2: stop 0: EventSet is currently not running: the set does not run", f"line 3: start 0: {INVALID}: no events",
+            "line 6: domain 0 3: EventSet is currently counting: the set runs",
+            f"line 7: raw 0 5: {INVALID}: the component lacks the counter, or no native event of the set is on the counter"),
+    refused("a set too many", "papi_run -U u s t", "0 create\n" * 65, "65 0 create PAPI_ECOUNT", "line 65: create: Too many events or attributes: 64 sets"),
+    refused("an event too many", "papi_run -U u s t", "0 create\n0 multiplex 0 100\n" + "".join(f"0 add 0 INSTRUCTIONS:c={least}\n" for least in range(1, 34)),
+            "35 0 add PAPI_ECOUNT", "line 35: add 0 INSTRUCTIONS:c=33: Too many events or attributes: more than 32 events or native events"),
+    refused("ten refusals", "papi_run -U u s t", "0 read 5\n" * 10, "\n".join(f"{line} 0 read PAPI_ENOEVST" for line in range(1, 11)),
+            *(f"line {line}: read 5: {NO_SET}" for line in range(1, 11))),
+    refused("eleven refusals", "papi_run -U u s t", "0 read 5\n" * 11, "\n".join(f"{line} 0 read PAPI_ENOEVST" for line in range(1, 12)),
+            *(f"line {line}: read 5: {NO_SET}" for line in range(1, 11)), "1 more call is refused"),
+    refused("many refusals", "papi_run -U u s t", "0 read 5\n" * 1500, "\n".join(f"{line} 0 read PAPI_ENOEVST" for line in range(1, 1501)),
+            *(f"line {line}: read 5: {NO_SET}" for line in range(1, 11)), "1,490 more calls are refused"),
+    Case("a refusal beside a bad line", "papi_run -U u s t", "papi: stream 0: line 1: bad field", 2,
+         ("t:1: 0 c0 00 u 0 1", 'field 5, the amount, is "0", and a number from 1 to 255 is wanted', f"line 2: read 5: {NO_SET}"),
+         {"s": "0 run 1\n0 read 5\n", "t": "0 c0 00 u 0 1\n"}, "1 0 run PAPI_ESYS 0 0\n2 0 read PAPI_ENOEVST"),
+    Case("faults of five streams, of which three are shown", "papi_run -U u s t t t t t", "\n".join(f"papi: stream {thread}: line 1: bad field" for thread in range(5)), 2,
+         ("t:1: 0 c0 00 u 0 1", 'field 5, the amount, is "0", and a number from 1 to 255 is wanted') * 3,
+         {"s": "".join(f"{thread} run 1\n" for thread in range(5)), "t": "0 c0 00 u 0 1\n"}, "\n".join(f"{thread + 1} {thread} run PAPI_ESYS 0 0" for thread in range(5))),
+)
+
+PAPIS_NAMES = tuple(
+    bad_line(f"PAPI's name {name}", f"0 {name}\n", 1, "unknown call", f"s:1: 0 {name}", hint)
+    for name, hint in (
+        ("PAPI_create_eventset", "PAPI_create_eventset is create here: T create"),
+        ("PAPI_ADD_EVENT", "PAPI_add_event is add here: T add SET EVENT"),
+        ("list_events", "PAPI_list_events is events here: T events SET"),
+        ("PAPI_hl_region_begin", "PAPI_hl_region_begin is begin in a region script, which papi_regions carries out: T begin NAME"),
+        ("PAPI_shutdown", 'there is no call "PAPI_shutdown" (none of the 24 that there are is near)'),
+    )
+) + (
+    bad_region("a region call of PAPI", "0 PAPI_hl_region_end x\n", 1, "unknown call", "r:1: 0 PAPI_hl_region_end x", "PAPI_hl_region_end is end here: T end NAME"),
+)
+
+MISLED = (
+    bad_words("a flag without a value beside what is missing", "papi_avail -a -U u -C small",
+              "-P PRESETS is missing: the preset file, in the form of PAPI's papi_events.csv"),
+    bad_words("two flags", "papi_run --notes -U u", "SCRIPT is missing: the calls, one a line"),
+    bad_words("a negative number", "papi_run -U u --workers -1 s t", '--workers "-1": a number from 1 to 64 is wanted'),
+    bad_words("a value after a long option that looks like one", "papi_regions -U u --events -X r t", "--events has no LIST: a value that begins with - is attached, --events=-X"),
+    bad_words("a word of help at the end", "papi_run -U u s --help", "--help prints the usage if it stands first"),
+    bad_words("an option by the name of its value", "papi_run --unit u s t", 'papi_run has no option "--unit" (near: -U UNIT)',
+              "-U UNIT is missing: the unit file: components, counters, events and umasks"),
+    Case("a unit as map", "papi_profil -U u -M u s t", "papi: u: row 1: bad row", 2, ("u:1: COMPONENT,core,mine", '"COMPONENT" stands where RANGE is wanted')),
+    Case("a long word is cut", "papi_run -U u s t", "papi: s: line 1: unknown call", 2,
+         (f"s:1: 0 {'x' * 98}..", f'there is no call "{"x" * 100}.." (none of the 24 that there are is near)'), {"s": f"0 {'x' * 101}\n"}),
+    Case("eight events are listed", "papi_native_avail -U u -e Z", "", 1, (f'the unit has no event "Z" (there are: {", ".join(f"E{n}" for n in range(8))})',),
+         {"u": "COMPONENT,core,mine\nCOUNTER,C0,32,P\n" + "".join(f"EVENT,E{n},c{n},C0,An event\n" for n in range(8))}),
+    Case("nine events are not", "papi_native_avail -U u -e Z", "", 1, ('the unit has no event "Z" (none of the 9 that there are is near)',),
+         {"u": "COMPONENT,core,mine\nCOUNTER,C0,32,P\n" + "".join(f"EVENT,E{n},c{n},C0,An event\n" for n in range(9))}),
+    bad_row("lines that end in carriage returns", "u", "# one\r\nCOMPONENT,core,mine\rCOUNTER,C0,64,P\r", 2, "width out of range", "u:3: COUNTER,C0,64,P",
+            'the width is "64", and 16 to 48 is wanted'),
+)
+
+COUNTING = "0 create\n0 add 0 INSTRUCTIONS\n0 add 0 LOADS\n0 start 0\n0 run 9\n0 stop 0\n"
+LESS = PRESETS + "EVENT,LESS,DERIVED_SUB,INSTRUCTIONS,LOADS:MISSES\n"
+NO_LINE = "counts 0: no line of the streams has its code"
+OTHERWISE = "counts something else in a recording than its name says: docs/RECORDING.md lists what, under Codes"
+RECORDED = "# loaded at 0x0\n" + STREAM
+SKYLAKE = UNIT.replace(",mine", ",skl")
+SILENT = (
+    refused("an event without a line", "papi_run -U u s t", COUNTING, "6 0 stop PAPI_OK 400 0", f"mine::LOADS:ALL {NO_LINE}, d0 with a bit of 03"),
+    refused("a line of another umask", "papi_run -U u s t", COUNTING.replace("LOADS", "loads:misses"), "6 0 stop PAPI_OK 400 0",
+            f"mine::LOADS:MISSES {NO_LINE}, d0 with a bit of 02", t=STREAM + "0 d0 01 u 7 1\n"),
+    refused("a line of the umask", "papi_run -U u s t", COUNTING.replace("run 9", "run 1"), "6 0 stop PAPI_OK 200 0", t=STREAM + "0 d0 01 u 7 1\n"),
+    refused("a line of another component", "papi_run -U u s t", COUNTING, "6 0 stop PAPI_OK 400 0", f"mine::LOADS:ALL {NO_LINE}, d0 with a bit of 03",
+            t=STREAM + "1 d0 01 u 7 1\n"),
+    refused("a line of another mode", "papi_run -U u s t", COUNTING.replace("LOADS", "LOADS:ALL:k"), "6 0 stop PAPI_OK 400 0",
+            f"mine::LOADS:ALL:k {NO_LINE}, d0 with a bit of 03 in mode k", t=STREAM + "0 d0 01 u 7 1\n"),
+    refused("an event without umasks", "papi_run -U u s t", COUNTING.replace("0 add 0 LOADS\n", ""), "5 0 stop PAPI_OK 0", f"mine::INSTRUCTIONS {NO_LINE}, c0",
+            t="0 d0 01 u 7 1\n"),
+    refused("a code in capitals", "papi_run -U u s t", COUNTING.replace("0 add 0 LOADS\n", "").replace("run 9", "run 0"), "5 0 stop PAPI_OK 0", t="0 C0 00 u 7 1\n"),
+    refused("a part of a value", "papi_run -U u -P p -C small s t", COUNTING.replace("0 add 0 INSTRUCTIONS\n0 add 0 LOADS", "0 add 0 LESS"), "5 0 stop PAPI_OK 400",
+            f"mine::LOADS:MISSES {NO_LINE}, d0 with a bit of 02", p=LESS),
+    refused("a set that did not run", "papi_run -U u s t", "0 create\n0 add 0 LOADS\n0 read 0\n", "3 0 read PAPI_OK 0"),
+    refused("an event that was taken out", "papi_run -U u s t", COUNTING.replace("0 start", "0 remove 0 loads\n0 add 0 LOADS:MISSES\n0 cleanup 0\n0 add 0 INSTRUCTIONS\n0 start"),
+            "10 0 stop PAPI_OK 400"),
+    refused("no stream", "papi_run -U u s", COUNTING, "6 0 stop PAPI_OK 0 0"),
+    refused("a stream of another thread", "papi_run -U u s t x", COUNTING, "6 0 stop PAPI_OK 400 0", x="0 d0 03 k 1 1\n"),
+    refused("a refused event beside it", "papi_run -U u s t", COUNTING.replace("0 start", "0 add 0 LOADS\n0 start"), "4 0 add PAPI_EINVAL\n7 0 stop PAPI_OK 400 0",
+            f"line 4: add 0 LOADS: {INVALID}: another component's, or in the set", f"mine::LOADS:ALL {NO_LINE}, d0 with a bit of 03"),
+    refused("Skylake over another recording", "papi_run -U u s t", COUNTING, "6 0 stop PAPI_OK 400 0", f"skl::LOADS {NO_LINE}, d0",
+            "tools/record --unit UNIT writes the codes of UNIT's own events, as far as docs/RECORDING.md lists them", u=SKYLAKE, t=RECORDED),
+    refused("Skylake over another stream", "papi_run -U u s t", COUNTING, "6 0 stop PAPI_OK 400 0", f"skl::LOADS {NO_LINE}, d0", u=SKYLAKE),
+    refused("Skylake over its own recording", "papi_run -U u s t", COUNTING, "6 0 stop PAPI_OK 400 0", f"skl::LOADS {NO_LINE}, d0", u=SKYLAKE,
+            t=RECORDED.replace("c0 00", "c0 01")),
+    refused("an event of Skylake that counts something else", "papi_run -U u s t", COUNTING, "6 0 stop PAPI_OK 400 7", f"skl::LOADS:SPLIT {OTHERWISE}",
+            u=SKYLAKE + "UMASK,SPLIT,41,d,Split\n", t=RECORDED + "0 d0 01 u 7 1\n"),
+    refused("the same over another stream", "papi_run -U u s t", COUNTING, "6 0 stop PAPI_OK 400 7", u=SKYLAKE + "UMASK,SPLIT,41,d,Split\n", t=STREAM + "0 d0 01 u 7 1\n"),
+    refused("one with a least amount", "papi_run -U u s t", COUNTING, "6 0 stop PAPI_OK 400 1", f"skl::LOADS:MANY {OTHERWISE}",
+            u=SKYLAKE + "UMASK,MANY,81,d,Many\nUMASK_MODIFIERS,-,2\n", t=RECORDED + "0 d0 01 u 7 1\n"),
+    refused("one with a least amount of its own", "papi_run -U u s t", COUNTING.replace("LOADS", "LOADS:c=2"), "6 0 stop PAPI_OK 400 1", f"skl::LOADS:ALL:c=2 {OTHERWISE}",
+            u=SKYLAKE + "UMASK,ALL,81,d,All\n", t=RECORDED + "0 d0 01 u 7 1\n"),
+    refused("one that counts what it says", "papi_run -U u s t", COUNTING, "6 0 stop PAPI_OK 400 7", u=SKYLAKE + "UMASK,ALL,81,d,All\n", t=RECORDED + "0 d0 01 u 7 1\n"),
+    refused("a profile of such an event", "papi_profil -U u -M m s t", SCRIPT.replace("INSTRUCTIONS", "LOADS"), "total 0", f"mine::LOADS:ALL {NO_LINE}, d0 with a bit of 03"),
+    refused("a profile beside such an event", "papi_profil -U u -M m s t", SCRIPT.replace("0 start", "0 add 0 LOADS\n0 start"), "total 1",
+            f"mine::LOADS:ALL {NO_LINE}, d0 with a bit of 03"),
+    answer("regions with such an event", "papi_regions -U u --events INSTRUCTIONS,LOADS r t", 0, f"mine::LOADS:ALL {NO_LINE}, d0 with a bit of 03"),
+    answer("regions with a part of a value", "papi_regions -U u -P p -C small --events LESS r t", 0, f"mine::LOADS:MISSES {NO_LINE}, d0 with a bit of 02", p=LESS),
+    answer("regions that count all", "papi_regions -U u --events LOADS r t", 0, t=STREAM + "0 d0 01 u 7 1\n"),
+)
+
+CASES = WORDS + MISSING_FILES + ROWS + LINES + ANSWERS + REFUSALS + PAPIS_NAMES + MISLED + SILENT

@@ -2,17 +2,26 @@
 
 from __future__ import annotations
 
+import atexit
 import ctypes
 import os
 import shutil
 import subprocess
+import sys
 import tempfile
 import unittest
+from functools import lru_cache
 from pathlib import Path
-from typing import Any, Callable
+from typing import Any, Callable, Iterable, TypeVar
 
 TOOLS = Path(__file__).resolve().parent.parent
 ROOT = TOOLS.parent
+sys.path.insert(0, str(ROOT / "python/tests"))
+
+from shared_library import built_library as built_library  # also for the tests of the module
+
+Item = TypeVar("Item")
+
 PROGRAM = ROOT / "crates/papi/out/papi"
 LIBRARY = ROOT / "crates/papi_c/out/libpapi_c.a"
 
@@ -27,6 +36,19 @@ def run_program(*words: str) -> subprocess.CompletedProcess[str]:
     return subprocess.run([str(PROGRAM), *words], capture_output=True, text=True)
 
 
+def some(items: Iterable[Item]) -> list[Item]:
+    """The items. It is an error if there are none, since a test of each of them could not fail then."""
+    found = list(items)
+    if not found:
+        raise AssertionError("there is nothing to look at")
+    return found
+
+
+def all_of(items: Iterable[Item], holds: Callable[[Item], object]) -> bool:
+    """Whether something holds of each item, and there are some."""
+    return all(holds(item) for item in some(items))
+
+
 def has_library(name: str) -> bool:
     try:
         ctypes.CDLL(name)
@@ -38,6 +60,16 @@ def has_library(name: str) -> bool:
 needs_libpfm4 = unittest.skipUnless(has_library("libpfm.so.4"), "libpfm4 is not installed")
 needs_program = unittest.skipUnless(PROGRAM.exists(), "crates/papi/out/papi is not built")
 needs_library = unittest.skipUnless(LIBRARY.exists() and (shutil.which("rt") or os.environ.get("KISTALUB_HEAP")), "crates/papi_c/out/libpapi_c.a is not built")
+
+
+@lru_cache(maxsize=None)
+def installed() -> Path:
+    """A prefix of bin/install, whose tools have the suffix -x, once for all tests."""
+    folder = tempfile.TemporaryDirectory()
+    atexit.register(folder.cleanup)
+    prefix = Path(folder.name) / "a prefix"
+    subprocess.run([str(ROOT / "bin/install"), "--program-suffix", "-x", str(prefix)], check=True, capture_output=True)
+    return prefix
 
 
 def needs_command(command: str, package: str) -> Callable[[Any], Any]:

@@ -22,6 +22,7 @@ typedef struct _small { char *names[3]; int first, *second; unsigned low : 3, hi
 typedef union { long whole; char bytes[8]; } small_u;
 typedef enum { SMALL_A, SMALL_B = 7, } small_e;
 typedef void (*small_f)(int one, void *two);
+typedef unsigned long small_n;
 const char *small_name(int number);
 unsigned long small_call(void (*call)(int), small_t *values);
 """
@@ -47,13 +48,35 @@ class Headers(InFolder):
             Member("low", "unsigned", 3), Member("high", "unsigned", 5),
         ))
         self.assertEqual(self.header.composites["small_u"].tag, "")
-        self.assertEqual(self.header.typedefs, {"small_e": "unsigned int", "small_f": "void (*)(int one, void *two)"})
+        self.assertEqual(self.header.typedefs, {"small_e": "unsigned int", "small_f": "void (*)(int one, void *two)", "small_n": "unsigned long"})
         self.assertEqual(self.header.enumerators, ["SMALL_A", "SMALL_B"])
+
+    def test_files(self) -> None:
+        self.assertEqual(self.header.path, str(self.folder / "small.h"))
+        self.assertIn("stddef.h", [name.rpartition("/")[2] for name in self.header.included])
+        self.assertEqual(self.header.names() & {"small_call", "small_t", "small_n", "SMALL_B", "SMALL_SUM"}, {"small_call", "small_t", "small_n", "SMALL_B", "SMALL_SUM"})
 
     def test_macros(self) -> None:
         self.assertEqual(self.header.macros["SMALL_SUM"].parameters, ("a", "b"))
         self.assertNotIn("SMALL_GONE", self.header.macros)
         self.assertEqual(self.header.possible_constants(), ["SMALL_FIVE", "SMALL_TYPE", "SMALL_A", "SMALL_B"])
+
+    def test_an_enumeration_with_a_number_below_0(self) -> None:
+        self.write("small.h", "typedef enum { LOW = -1, HIGH } small_e;\ntypedef enum { NONE = 0, SOME } small_f;\n")
+        self.assertEqual(read_header("small.h", self.folder, "small").typedefs, {"small_e": "int", "small_f": "unsigned int"})
+
+    def test_what_can_not_be_read(self) -> None:
+        for name, cause in (("none.h", "none.h"), ("small.h", "small.h")):
+            self.write("small.h", "#error no\n")
+            with self.assertRaisesRegex(Fault, f"^{name}: .*(No such file|error)"):
+                read_header(name, self.folder, "small")
+
+    def test_a_probe_that_fails(self) -> None:
+        with self.assertRaisesRegex(Fault, "^the probe of small.h ends with 3$"):
+            probe("small.h", self.folder, {"end": "return 3"})
+        self.assertEqual(probe("small.h", self.folder, {"no": "CONSTANT(SMALL_NO)"}), {})
+        with self.assertRaisesRegex(Fault, "^the probe of none.h is not built: .*none.h"):
+            probe("none.h", self.folder, {"five": "CONSTANT(5)"})
 
     def test_another_form(self) -> None:
         self.write("small.h", "int small[4], (*other)(void);\n")
@@ -64,10 +87,11 @@ class Headers(InFolder):
         rows = {
             "five": "CONSTANT(SMALL_FIVE)", "b": "CONSTANT(SMALL_B)", "type": "CONSTANT(SMALL_TYPE)", "sum": "CONSTANT(SMALL_SUM(1, 2l))",
             "first": "PLACE(small_t, first)", "high": "BITS(small_t, high)", "name": "SAME(small_name, const char *(int))", "no": "CONSTANT(SMALL_NO)",
-            "call": "SAME(small_call, long (void (*call)(int), small_t *values))",
+            "call": "SAME(small_call, long (void (*call)(int), small_t *values))", "tab": 'printf("a\\tb")', "size": "SIZE(small_u)",
         }
         self.assertEqual(probe("small.h", self.folder, rows), {
             "five": "5 int", "b": "7 int", "sum": "3 long", "first": "4 bytes at 24", "high": "40=f8 unsigned", "name": "that type", "call": "another type",
+            "tab": "a\tb", "size": "8 bytes, aligned to 8",
         })
 
 
@@ -75,8 +99,7 @@ class Headers(InFolder):
 class Interface(unittest.TestCase):
     def test_the_document_has_each_function(self) -> None:
         declared = set(read_header("papi.h", ROOT / "include").functions)
-        text = (ROOT / "docs/C_PROGRAMS.md").read_text(encoding="utf-8")
-        table = text.partition("\n## The functions\n")[2].partition("\n## ")[0]
+        table = (ROOT / "docs/C_FUNCTIONS.md").read_text(encoding="utf-8")
         named = [name for row in table.splitlines() if row.startswith("| `PAPI_") for name in re.findall(r"`(PAPI_\w+)`", row.split("|")[1])]
         self.assertEqual(len(declared), 89)
         self.assertEqual(sorted(named), sorted(declared))
@@ -89,6 +112,15 @@ class Fortran(InFolder):
         for file in FORTRAN_HEADERS:
             self.write(file, fortran_text(file, values))
             self.assertEqual(read_constants(self.folder / file), signed, file)
+
+    def test_what_is_no_constant(self) -> None:
+        self.write("fpapi.h", "! words\n#define A 1\n#define B two\n")
+        with self.assertRaisesRegex(Fault, "^not a number: two$"):
+            read_constants(self.folder / "fpapi.h")
+        long = "PAPI_" + "X" * 60
+        with self.assertRaisesRegex(Fault, f"^f77papi.h: a line has more than 72 columns: .*{long}"):
+            fortran_text("f77papi.h", {long: 1})
+        self.assertIn(long, fortran_text("f90papi.h", {long: 1}))
 
     def test_more_than_32_bits(self) -> None:
         with self.assertRaises(Fault):

@@ -1,15 +1,20 @@
-"""docs/DIFFERENCES.md and the cases of checks/differences have the same rows."""
+"""docs/DIFFERENCES.md and the cases of checks/differences have the same rows. Tests of tests: none looks at each of nothing, and checks/mutants changes all programs."""
 
 from __future__ import annotations
 
+import re
+import subprocess
 import sys
 import unittest
 
-from tests.support import ROOT
+from tests.support import ROOT, InFolder, all_of, some
 
 sys.path.append(str(ROOT / "checks"))
 
 from cases import CALLS, PRESETS, read_tables
+from mutant_changes import changes_of
+from mutant_parts import PARTS, without_part
+from seen_lines import Seen, instrument, lines_of_statements, module_lines
 
 
 class Document(unittest.TestCase):
@@ -17,4 +22,95 @@ class Document(unittest.TestCase):
         calls, presets, names = read_tables(ROOT / "docs/DIFFERENCES.md")
         self.assertEqual(set(calls), set(CALLS))
         self.assertEqual(set(presets), set(PRESETS))
-        self.assertTrue(all(len(cells) == 2 for table in (calls, presets, names) for cells in table.values()))
+        for table in (calls, presets, names):
+            self.assertTrue(all_of(table.values(), lambda cells: len(cells) == 2))
+
+
+class Tests(unittest.TestCase):
+    def test_none_looks_at_each_of_nothing(self) -> None:
+        """`all` holds of nothing, so a test takes all_of. This file names it."""
+        files = some(path for folder in ("tools/tests", "python/tests") for path in (ROOT / folder).glob("test_*.py") if path.name != "test_checks.py")
+        bare = [f"{path.name}:{number}" for path in files for number, line in enumerate(path.read_text(encoding="utf-8").splitlines(), 1) if re.search(r"\ball\(", line)]
+        self.assertEqual(bare, [])
+
+    def test_the_helper_refuses_nothing(self) -> None:
+        with self.assertRaisesRegex(AssertionError, "nothing to look at"):
+            all_of([], bool)
+        self.assertEqual((all_of([1, 2], bool), all_of([1, 0], bool)), (True, False))
+
+
+MODULE = """from __future__ import annotations
+
+MOST = 3
+
+
+def double(number: int) -> int:
+    if number > MOST:
+        return 0
+    return (
+        2 *
+        number
+    )
+
+
+def never() -> None:
+    pass
+"""
+TESTS = """import subprocess, sys, unittest
+
+sys.path.append("parts")
+
+class One(unittest.TestCase):
+    def test_here(self):
+        import some
+        self.assertEqual(some.double(1), 2)
+
+    def test_in_another_process(self):
+        subprocess.run([sys.executable, "-I", "-S", "-c", "import sys; sys.path.append('parts'); import some; some.double(9)"], check=True, env={})
+
+    def test_nothing(self):
+        pass
+"""
+
+
+class Mutants(InFolder):
+    def test_each_program_has_a_part_and_each_part_its_files_and_tests(self) -> None:
+        self.assertEqual(without_part(), ["tools/check"])  # which runs the tests
+        for name, part in PARTS.items():
+            self.assertTrue(all_of(part.files, lambda file: (ROOT / file).is_file()), name)
+            self.assertTrue(part.tests or part.command, name)
+            modules = [module.split(".")[0] for module in part.tests.split()]
+            missing = [module for module in modules if not (ROOT / part.folder / ("tests" if part.folder == "tools" else "") / f"{module}.py").exists()]
+            self.assertEqual(missing, [], name)
+
+    def test_which_tests_run_which_lines(self) -> None:
+        """In other processes too, whatever their options and environment."""
+        (self.folder / "parts").mkdir()
+        self.write("parts/some.py", MODULE)
+        self.write("test_some.py", TESTS)
+        seen = self.folder / "seen"
+        seen.mkdir()
+        instrument(self.folder, ["parts/some.py"], seen)
+        words = [sys.executable, "-B", str(ROOT / "checks/mutant_tests.py"), "result", str(seen), "test_some"]
+        self.assertEqual(subprocess.run(words, cwd=self.folder, capture_output=True, text=True).returncode, 0)
+        rows = [line.split("\t") for line in (self.folder / "result").read_text().splitlines()]
+        names = [row[2] for row in rows]
+        self.assertEqual(([row[0] for row in rows], names), (["passed"] * 3, [f"test_some.One.{name}" for name in ("test_here", "test_in_another_process", "test_nothing")]))
+        tests = Seen.read(seen, names)
+        content = MODULE.encode()
+        of_line = {line: [name.rpartition("_")[2] for name in tests.of_lines("parts/some.py", lines)] for line, lines in lines_of_statements(content).items()}
+        self.assertEqual([of_line[line] for line in (3, 7, 8, 10, 11, 16)], [["here", "process"], ["here", "process"], ["process"], ["here"], ["here"], []])
+        self.assertEqual(tests.of_functions("parts/some.py", content), names[:2])
+        self.assertEqual(module_lines(content) & set(range(1, 18)), {1, 2, 3, 4, 5, 6, 13, 14, 15, 17})
+
+    def test_the_first_test_that_fails_is_the_last(self) -> None:
+        self.write("test_some.py", "import unittest\nclass One(unittest.TestCase):\n def test_a(self): pass\n def test_b(self): self.fail()\n def test_c(self): pass\n")
+        done = subprocess.run([sys.executable, "-B", str(ROOT / "checks/mutant_tests.py"), "result", "-", "test_some"], cwd=self.folder)
+        rows = (self.folder / "result").read_text().splitlines()
+        self.assertEqual((done.returncode, [row.split("\t")[0] for row in rows]), (1, ["passed", "failed"]))
+
+    def test_the_changes_of_a_file(self) -> None:
+        self.write("some.py", "def f(a, b):\n    if a < b:\n        g(a, b)\n    return 1\n")
+        found = sorted({(change.line, change.kind, change.new) for change in changes_of(self.folder, "some.py")})
+        self.assertEqual(found, [(2, "comparison", "a <= b"), (2, "condition", "not (a < b)"), (3, "dropped call", "pass"), (3, "swapped arguments", "b, a"), (4, "constant", "(1 + 1)"),
+                                 (4, "result", "None")])

@@ -10,10 +10,12 @@ from pathlib import Path
 from tests.support import ROOT
 
 
-def said_of(code: str = "", definition: str = "") -> str:
-    """What the check says of a crate with this code and this definition."""
+def said_of(code: str = "", definition: str = "", proof: str = "") -> str:
+    """What the check says of a crate with this code, this definition and this proof, if there is one."""
     with tempfile.TemporaryDirectory() as folder:
-        for part, name, text in (("src", "lib.rt", code), ("specs", "Lib.antt", definition)):
+        for part, name, text in (("src", "lib.rt", code), ("specs", "Lib.antt", definition), ("proofs", "Some.antt", proof)):
+            if part == "proofs" and not text:
+                continue
             path = Path(folder, "crates/some", part)
             path.mkdir(parents=True)
             (path / name).write_text(text + "\n", encoding="utf-8")
@@ -31,6 +33,20 @@ class BareLimits(unittest.TestCase):
         for line in ("    requires { n < MOST_SETS }", "    ensures { result < 2 ^ 64 }", "    if n >= 1 << 63 {", "// at most 32", "    if n == 0 || n > 9 {"):
             self.assertEqual(said_of(line), "2 passed, 0 failed\n", line)
         self.assertEqual(said_of(definition="is_digit b = nat_le 48 b && nat_le b 57"), "2 passed, 0 failed\n")
+
+
+    def test_a_clause_adds_and_compares_with_no_bare_limit(self) -> None:
+        for clause, number in (("{ length out.new < notes + 32 }", "32"), ("few { length places.now ≤ 8 }", "8"), ("{ IfSome result (λ v. v < 2 ^ 48) }", "2 ^ 48")):
+            said = said_of(f"    ensures {clause}\n{{\n    let more = notes + 32;\n}}")
+            self.assertEqual(said, f"crates/some/src/lib.rt:1: {number} is a bare limit\n1 passed, 1 failed\n", clause)
+        for clause in ("{ result ≡ text ++ 32 ∷ word }", "{ result < 2 ^ 8 }", "{ old + 1 ≤ new }", "{ result ≡ MOST_ITEMS + 8 * n }"):
+            self.assertEqual(said_of(f"    ensures {clause}"), "2 passed, 0 failed\n", clause)
+
+    def test_a_proof_has_no_number_of_presets_and_no_power_of_the_widest_counter(self) -> None:
+        for proof, number in (("long : length rows ≡ 26", "26"), ("none book 26", "26"), ("small : n < 2 ^ 48", "2 ^ 48")):
+            self.assertEqual(said_of(proof=proof), f"crates/some/proofs/Some.antt:1: {number} is a bare limit\n2 passed, 1 failed\n", proof)
+        for proof in ("long : length rows ≡ PRESETS", "-- the 26 presets", "digits : n < 2 ^ 32", "at-26 = refl"):
+            self.assertEqual(said_of(proof=proof), "3 passed, 0 failed\n", proof)
 
 
 class WideClauses(unittest.TestCase):

@@ -38,6 +38,16 @@ class Picture(unittest.TestCase):
         self.assertEqual(sorted(names), sorted(CITED))
         self.assertEqual(len([element for element in root.iter(f"{SVG}path")]), 3)
 
+    def test_hostile_names_show_as_text(self) -> None:
+        names = ["</text><script>", "a&b", "plain"]
+        root = ElementTree.fromstring(draw_crates({name: [] for name in names}))
+        self.assertEqual(sorted(element.text or "" for element in root.iter(f"{SVG}text") if element.get("class") == "name"), sorted(names))
+
+    def test_what_is_not_drawn_is_told(self) -> None:
+        picture = draw_crates({**CITED, "tool_tests": ["app"], "crate_tests": ["app"]})
+        self.assertIn("Not drawn are the tests: crate_tests, tool_tests.", picture)
+        self.assertNotIn("Not drawn", draw_crates(CITED))
+
     def test_a_picture_that_is_out_of_date(self) -> None:
         done = run_tool("draw_crates", "--check", str(ROOT / "crates.txt"))
         self.assertEqual((done.returncode, done.stdout), (1, ""))

@@ -10,12 +10,21 @@ import sys
 import tempfile
 from pathlib import Path
 
-from tests.hint_cases import CASES, FILES, Case
+from tests.hint_cases import CASES, FILES, NO_LINE, Case
 from tests.support import PROGRAM, ROOT, InFolder, needs_program
+from tests.hint_edges import EDGES
 
 HINTS = ROOT / "bin/hints"
+sys.path.append(str(HINTS))
+
+from hinting import hints_on
+from presets import SYMBOLS
+from scripts import CALLS, REGION_CALLS
+from texts import plain
+
 FORMATS = ROOT / "docs/FORMATS.md"
 PLACE = "crates/papi/out/papi"
+EVERY = CASES + EDGES
 
 
 def make_tree(folder: Path) -> Path:
@@ -41,27 +50,54 @@ class Hints(InFolder):
 
     def test_each_case(self) -> None:
         """The hints alone, over what the program is to say."""
-        for case in CASES:
+        self.addCleanup(os.chdir, os.getcwd())
+        os.chdir(self.folder)
+        for case in EVERY:
+            with self.subTest(case.title):
+                self.put(case)
+                tool, *words = case.words.split()
+                hints = hints_on(f"bin/{tool}", case.status, tool, words, [*case.said.splitlines(), *case.telling.splitlines()])
+                self.assertEqual("".join(f"hint: {plain(line)}\n" for line in hints), self.wanted(case))
+                self.clear()
+
+    def test_as_the_scripts_start_them(self) -> None:
+        """By a process of their own: a case of each status, with hints and without."""
+        for case in {(case.status, not case.hints): case for case in EVERY}.values():
             with self.subTest(case.title):
                 self.put(case)
                 words = [sys.executable, "-I", "-S", "-B", str(HINTS), "bin/" + case.words.split()[0], str(case.status), *case.words.split()]
-                done = subprocess.run(words, input=case.said + "\n" * bool(case.said), capture_output=True, text=True, cwd=self.folder)
-                self.assertEqual((done.stderr, done.stdout, done.returncode), ("", self.wanted(case), 0))
+                lines = "".join(f"{text}\n" for text in (case.said, case.telling) if text)
+                done = subprocess.run(words, input=lines, capture_output=True, text=True, cwd=self.folder)
+                status = 10 if NO_LINE in self.wanted(case) else 0
+                self.assertEqual((done.stderr, done.stdout, done.returncode), ("", self.wanted(case), status))
                 self.clear()
+
+    def test_a_script_with_the_name_of_a_stream(self) -> None:
+        """The program says `stream 0` of the first stream too."""
+        self.write("u", FILES["u"])
+        self.write("stream 0", "0 creat\n")
+        words = [sys.executable, "-I", "-S", "-B", str(HINTS), "papi_run", "2", "papi_run", "-U", "u", "stream 0"]
+        done = subprocess.run(words, input="papi: stream 0: line 1: unknown call\n", capture_output=True, text=True, cwd=self.folder)
+        self.assertEqual(done.stdout, 'hint: stream 0:1: 0 creat\nhint: there is no call "creat" (near: create)\n')
 
     @needs_program
     def test_each_case_of_the_program(self) -> None:
-        """The scripts say what the program says, and then the hints."""
+        """The program says what stands there. The scripts say that too, and then the hints: tried once for each tool and status, with hints and without."""
+        by_script = {(case.words.split()[0], case.status, not case.telling, not case.hints): case for case in EVERY}.values()
         place = tempfile.TemporaryDirectory()
         self.addCleanup(place.cleanup)
         bin_of = make_tree(Path(place.name))
         (bin_of.parent / PLACE).symlink_to(PROGRAM)
-        for case in CASES:
+        for case in EVERY:
             with self.subTest(case.title):
                 self.put(case)
                 tool, *words = case.words.split()
                 bare = self.run_script(str(PROGRAM), tool, *words)
                 self.assertEqual((bare.stderr, bare.returncode), (case.said + "\n" * bool(case.said), case.status))
+                self.assertLessEqual(set(case.telling.splitlines()), set(bare.stdout.splitlines()))
+                if case not in by_script:
+                    self.clear()
+                    continue
                 script = [str(bin_of / tool)] if (bin_of / tool).exists() else [str(bin_of / "papi"), tool]
                 with_hints = self.run_script(*script, *words)
                 self.assertEqual((with_hints.stdout, with_hints.returncode), (bare.stdout, bare.returncode))
@@ -133,10 +169,6 @@ class Lists(InFolder):
     def test_calls_and_symbols_are_those_of_the_document(self) -> None:
         """The tables of the hints beside those of docs/FORMATS.md."""
         text = FORMATS.read_text(encoding="utf-8")
-        sys.path.append(str(HINTS))
-        from presets import SYMBOLS
-        from scripts import CALLS, REGION_CALLS
-
         def table(head: str) -> dict[str, tuple[str, ...]]:
             rows = text.partition(head)[2].partition("\n\n")[0].splitlines()[1:]
             cells = [[cell.strip() for cell in row.strip("|").split("|")] for row in rows]

@@ -2,9 +2,12 @@
 
 from __future__ import annotations
 
+import re
 import subprocess
+from pathlib import Path
 
-from tests.support import ROOT, InFolder, needs_command, needs_library, needs_program, run_tool
+from parts.package_links import leads_somewhere
+from tests.support import ROOT, InFolder, needs_command, needs_library, needs_program, run_tool, some
 
 VERSION = (ROOT / "VERSION").read_text(encoding="ascii").strip()
 
@@ -38,7 +41,25 @@ class Package(InFolder):
         self.ask("--extract", package, str(unpacked))
         tools = {path.name for path in (unpacked / "usr/bin").iterdir()}
         self.assertEqual(tools, {f"{path.name}-model" for path in (ROOT / "bin").glob("papi_*")} | {"papi_count-model", "papi_record-model"})
-        for name in ("lib/libkistalub.a", "lib/pkgconfig/kistalub.pc", "lib/kistalub/lib/libpapi.so", "include/kistalub/papi.h", "share/doc/kistalub/copyright",
+        place = subprocess.run(["dpkg-architecture", "-q", "DEB_HOST_MULTIARCH"], check=True, capture_output=True, text=True).stdout.strip()
+        for name in ("lib/libkistalub.a", f"lib/{place}/pkgconfig/kistalub.pc", "lib/kistalub/lib/libpapi.so", "include/kistalub/papi.h", "share/doc/kistalub/copyright",
                      "share/doc/kistalub/changelog.gz", "share/man/man1/papi_run-model.1.gz", "lib/python3/dist-packages/kistalub/VERSION"):  # fmt: skip
             self.assertTrue((unpacked / "usr" / name).exists(), name)
         self.assertEqual([str(path) for path in unpacked.rglob("*") if path.is_symlink() and not path.exists()], [], "links to nothing")
+        self.look_at_links(unpacked / "usr/share/doc/kistalub")
+        self.look_at_flags(unpacked / "usr")
+
+    def look_at_links(self, folder: Path) -> None:
+        """Each link of the documents leads to a file of the package."""
+        links = [(path, target) for path in some(folder.rglob("*.md")) for target in re.findall(r"\]\(([^)\s]+)\)", path.read_text(encoding="utf-8"))]
+        self.assertGreater(len(links), 50)
+        self.assertEqual([f"{path.name}: {target}" for path, target in links if not leads_somewhere(target, path)], [])
+
+    def look_at_flags(self, usr: Path) -> None:
+        """What is compiled for the package binds at once, is placed anywhere, and calls what checks its lengths."""
+        library = usr / "lib/kistalub/libpapi.so.7.0"
+        said = subprocess.run(["readelf", "--wide", "--file-header", "--dynamic", "--dyn-syms", str(library)], check=True, capture_output=True, text=True).stdout
+        self.assertRegex(said, r"Type: +DYN")
+        self.assertRegex(said, r"FLAGS.*NOW")
+        self.assertRegex(said, r"__(?:\w*printf|memcpy|snprintf)_chk")
+        self.assertNotIn("TEXTREL", said)

@@ -5,9 +5,11 @@ from __future__ import annotations
 import subprocess
 import unittest
 
-from parts.map_file import MOST_BUCKETS, MOST_RANGES, ranges_of, map_names
-from parts.symbols import Function
-from tests.support import TOOLS, InFolder, needs_command, run_tool
+from parts.command import Fault
+from parts.map_file import ADDRESSES, MOST_BUCKETS, MOST_RANGES, map_names, ranges_of
+from parts.stream_head import MOST_LINES, read_base
+from parts.symbols import Function, is_loaded_anywhere, read_functions
+from tests.support import TOOLS, InFolder, all_of, needs_command, run_tool
 
 
 def rows(functions: list[Function], base: int = 0) -> list[str]:
@@ -28,11 +30,14 @@ class Ranges(unittest.TestCase):
         self.assertEqual(rows(functions), ["RANGE,a,0x0,1,33", "RANGE,b,0x21,2,50000", "RANGE,c,0x30d40,2,15"])
         self.assertEqual(rows([Function("a", 0, 10), Function("b", 4, 6)]), ["RANGE,a,0x0,1,4", "RANGE,b,0x4,1,6"])
 
+    def test_the_end_of_all_addresses(self) -> None:
+        self.assertEqual(rows([Function("a", 2, 100)], ADDRESSES - 10), [f"RANGE,a,{ADDRESSES - 8:#x},1,8"])
+
     def test_limits(self) -> None:
         many = [Function(f"f{number}", number * 4096, 2 if number % 2 else 4000) for number in range(3000)]
         ranges = ranges_of(many, 0)
         self.assertEqual(len(ranges), MOST_RANGES)
-        self.assertTrue(all(each.width * each.buckets >= 4000 for each in ranges))
+        self.assertTrue(all_of(ranges, lambda each: each.width * each.buckets >= 4000))
         self.assertLessEqual(sum(each.buckets for each in ranges), MOST_BUCKETS)
         huge = ranges_of([Function("huge", 0, 1 << 40)], 0)
         self.assertEqual([each.row() for each in huge], ["RANGE,huge,0x0,1048576,65536"])
@@ -73,11 +78,48 @@ class RealProgram(InFolder):
         bare = run_tool("make_map", program)
         self.assertEqual((bare.returncode, bare.stdout), (0, run_tool("make_map", "--base", "0", program).stdout))
         self.assertIn("may be loaded anywhere", bare.stderr)
+        for end in ("2>&-", "2>/dev/full"):
+            done = subprocess.run(["sh", "-c", f'"$@" {end}', "sh", str(TOOLS / "make_map"), program], capture_output=True, text=True)
+            self.assertEqual((done.returncode, done.stdout), (0, bare.stdout), end)
+        late = "0 c0 00 u 1 1\n" * (MOST_LINES - 1) + "# loaded at 0x108000\n"
+        self.assertEqual(read_base(self.write("late", late)), 0x108000)
+        with self.assertRaisesRegex(Fault, "does not say where"):
+            read_base(self.write("later", "\n" + late))
         for name, text, cause in (("other", "0 c0 00 u 1 109000\n", "does not say where"), ("empty", "", "does not say where")):
             done = run_tool("make_map", "--stream", self.write(name, text), program)
             self.assertEqual((done.returncode, done.stdout), (1, ""))
             self.assertIn(cause, done.stderr)
         self.assertIn("No such file", run_tool("make_map", "--stream", "absent", program, folder=self.folder).stderr)
+
+    def test_a_place_that_is_too_high(self) -> None:
+        program = str(self.folder / "sample")
+        words = ["cc", "-O1", "-static", "-nostdlib", "-fno-stack-protector", "-fno-pie", "-no-pie", "-o", program]
+        subprocess.run([*words, str(TOOLS / "tests/sample.c")], check=True)
+        done = run_tool("make_map", "--base", hex(ADDRESSES - 1), program)
+        self.assertEqual((done.returncode, done.stdout, done.stderr), (1, "", f"make_map: {ADDRESSES - 1:#x}: no program of this size can be there\n"))
+        last = read_functions(program)[-1]
+        highest = ADDRESSES - last.address - last.size
+        self.assertEqual([run_tool("make_map", "--base", str(base), program).returncode for base in (highest, highest + 1)], [0, 1])
+
+    def test_more_functions_than_a_map_has_ranges(self) -> None:
+        program = str(self.folder / "many")
+        source = "".join(f"void f{number}(void) {{}}\n" for number in range(MOST_RANGES + 5)) + "void _start(void) {}\n"
+        subprocess.run(["cc", "-O1", "-nostdlib", "-no-pie", "-x", "c", "-", "-o", program], input=source, text=True, check=True)
+        done = run_tool("make_map", "--base", "0", program)
+        first, *rows_made = done.stdout.splitlines()
+        self.assertEqual((first, len(rows_made)), (f"# left out: 6 of {MOST_RANGES + 6:,} functions", MOST_RANGES))
+
+    def test_what_is_no_program(self) -> None:
+        head, rest = b"\x7fELF" + bytes(12), bytes(46)
+        for content, is_any in ((head + b"\3\0" + rest, True), (head + b"\2\0" + rest, False), (head + b"\3", None), (b"words" * 9, None), (b"", None)):
+            (self.folder / "some").write_bytes(content)
+            if is_any is None:
+                with self.assertRaisesRegex(Fault, "some: not a program file"):
+                    is_loaded_anywhere(str(self.folder / "some"))
+            else:
+                self.assertEqual(is_loaded_anywhere(str(self.folder / "some")), is_any)
+        with self.assertRaisesRegex(Fault, "none: No such file or directory"):
+            is_loaded_anywhere(str(self.folder / "none"))
 
     def test_refusals(self) -> None:
         for program, cause in ((str(self.folder / "absent"), "No such file"), (self.write("text", "words"), "file format not recognized")):

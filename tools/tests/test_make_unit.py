@@ -1,12 +1,15 @@
-"""tools/make_unit: the rows of real processors, the counters of event files, and its refusals."""
+"""tools/make_unit: the rows of real processors, the counters of event files and of the kernel's tables, and its refusals."""
 
 from __future__ import annotations
 
 import subprocess
 import unittest
+from pathlib import Path
 
 from parts import unit_file
 from parts.command import Fault
+from parts.event_counters import EventCounters
+from parts.linux_source import find_sources
 from parts.perf_events import Places, read_event_files
 from tests.support import ROOT, TOOLS, InFolder, needs_libpfm4, needs_program, run_program, run_tool
 
@@ -27,6 +30,15 @@ class UnitFile(unittest.TestCase):
             "EVENT,BR_INST,c4,P0 F0,Branches", "UMASK,ALL,01,dn,All; of any kind",
         ])
 
+    def test_rows_of_a_umask(self) -> None:
+        for counters, fixed, rows in (
+            (("P0", "P1"), unit_file.NOTHING_FIXED, ["UMASK_COUNTERS,P0 P1"]),
+            ((), unit_file.Fixed(True, True, 10), ["UMASK_MODIFIERS,ei,10"]),
+            (("F0",), unit_file.Fixed(amount=2), ["UMASK_COUNTERS,F0", "UMASK_MODIFIERS,-,2"]),
+        ):
+            umask = unit_file.Umask("ALL", 1, False, False, "", counters, fixed)
+            self.assertEqual(umask.rows(), ["UMASK,ALL,01,-,"] + rows)
+
     def test_description_is_one_line_of_200_characters(self) -> None:
         self.assertEqual(unit_file.plain("  two\n lines,\tµ "), "two lines; ?")
         self.assertEqual(len(unit_file.plain("x" * 300)), 200)
@@ -42,27 +54,115 @@ class EventFiles(InFolder):
         table = read_event_files([SAMPLE])
         self.assertEqual(table.places((0xC0, 0x00)), places({0, 1, 2, 3}, set()))
         self.assertEqual(table.places((0xC0, 0x01)), places({1}, set()))
+        self.assertEqual(table.places((0xC0, 0x01), unit_file.Fixed(invert=True, amount=10)), places({0, 2, 3}, set()))
+        self.assertEqual(table.places((0xC0, 0x01), unit_file.Fixed(amount=1)), places({1}, set()))
         self.assertEqual(table.places((0x00, 0x01)), places(set(), {0}))
         self.assertEqual(table.places((0x48, 0x01)), places({2}, set()))
         self.assertIsNone(table.places((0xFF, 0x00)))
         self.assertEqual(table.programmable(), 4)
 
+    def test_counters_without_hyperthreading(self) -> None:
+        entry = '[{"EventName": "A", "EventCode": "0x1", "Counter": "0,1,2,3", "CounterHTOff": "0,1,2,3,4,5,6,7"}]'
+        name = self.write("events.json", entry)
+        self.assertEqual([read_event_files([name], threads).programmable() for threads in (True, False)], [4, 8])
+
     def test_texts_of_metrics_are_passed_over(self) -> None:
         texts = self.write("metricgroups.json", '{"Backend": "Grouping of metrics"}')
-        self.assertEqual(read_event_files([texts]).programmable(), 0)
+        self.assertEqual(read_event_files([texts, SAMPLE]).programmable(), 4)
+        with self.assertRaisesRegex(Fault, "no event of the core has its counters there"):
+            read_event_files([texts])
 
     def test_refusals(self) -> None:
         cases = (
             ("[", "line 1: not JSON"),
             ('{"EventName": 1}', "not a list of events"),
             ("[1]", "not a list of events"),
-            ('[{"EventName": "A", "Counter": "x", "EventCode": "0x1"}]', "A: EventCode, UMask or Counter"),
+            ('[{"EventName": "A", "Counter": "x", "EventCode": "0x1"}]', "A: EventCode, UMask, Counter or a modifier"),
+            ('[{"EventName": "A", "Counter": "0", "EventCode": "0x1", "CounterMask": "x"}]', "A: EventCode, UMask, Counter or a modifier"),
+            ("[]", "a list without an event"),
+            ("{}", "not a list of events"),
+            ("[{}]", "event 1: it has no key"),
         )
         for text, cause in cases:
             with self.assertRaisesRegex(Fault, cause):
                 read_event_files([self.write("events.json", text)])
         with self.assertRaisesRegex(Fault, "No such file"):
             read_event_files([str(self.folder / "absent.json")])
+
+
+TABLE = """
+static struct event_constraint intel_skl_event_constraints[] = {
+	FIXED_EVENT_CONSTRAINT(0x00c0, 0),	/* INST_RETIRED.ANY */
+	FIXED_EVENT_CONSTRAINT(0x0300, 2),
+	METRIC_EVENT_CONSTRAINT(INTEL_TD_METRIC_RETIRING, 0),
+	INTEL_UEVENT_CONSTRAINT(0x1c0, 0x2),
+	/* INTEL_EVENT_CONSTRAINT(0xd1, 0x1), */
+	INTEL_EVENT_CONSTRAINT_RANGE(0xd0, 0xd2, 0xf),
+	INTEL_EVENT_CONSTRAINT(0xcd, 0x8),
+	EVENT_CONSTRAINT_END
+};
+"""
+
+
+class KernelTables(InFolder):
+    """The macros are those of Linux, arch/x86/events/perf_event.h."""
+
+    def source(self, table: str) -> str:
+        for name, text in (("arch/x86/events/intel/core.c", table), ("tools/perf/pmu-events/arch/x86/skylake/all.json", Path(SAMPLE).read_text())):
+            path = self.folder / "linux" / name
+            path.parent.mkdir(parents=True, exist_ok=True)
+            path.write_text(text)
+        return str(self.folder / "linux")
+
+    def test_places(self) -> None:
+        table = find_sources(self.source(TABLE), "skl").constraints
+        assert table is not None
+        nothing = unit_file.NOTHING_FIXED
+        for code, modifiers, wanted in (
+            ((0xC0, 0x00), nothing, places(set(range(8)), {0})),
+            ((0xC0, 0x00), unit_file.Fixed(edge=True, amount=1), None),
+            ((0xC0, 0x01), nothing, places({1}, set())),
+            ((0xC0, 0x01), unit_file.Fixed(amount=1), places({1}, set())),
+            ((0x00, 0x03), nothing, places(set(), {2})),
+            ((0xD1, 0x08), nothing, places({0, 1, 2, 3}, set())),
+            ((0xD3, 0x08), nothing, None),
+            ((0xCD, 0x01), nothing, places({3}, set())),
+        ):
+            self.assertEqual(table.places(code, modifiers, 8), wanted, code)
+
+    def test_files_that_name_no_counter_of_the_table(self) -> None:
+        """The sample names the counters 0, 2 and 3 for a code that the table puts on counter 1: Linux goes by its table."""
+        sources = find_sources(self.source(TABLE), "skl")
+        total = unit_file.Fixed(invert=True, amount=10)
+        for constraints, wanted in ((None, {0, 2, 3}), (sources.constraints, {1})):
+            self.assertEqual(EventCounters(4, 3, read_event_files(sources.events), constraints).places((0xC0, 0x01), total), places(wanted, set()))
+
+    def test_a_processor_whose_files_name_no_counters(self) -> None:
+        path = self.folder / "linux/tools/perf/pmu-events/arch/x86/amdzen2/core.json"
+        path.parent.mkdir(parents=True)
+        path.write_text('[{"EventName": "ex_ret_instr", "EventCode": "0xc0"}]')
+        self.assertEqual(find_sources(str(self.folder / "linux"), "amd64_fam17h_zen2").events, [])
+
+    def test_fixed_counters_are_the_kernel_s(self) -> None:
+        sources = find_sources(self.source(TABLE), "skl")
+        files = read_event_files(sources.events)
+        nothing = unit_file.NOTHING_FIXED
+        for constraints, fixed in ((None, {0}), (sources.constraints, set())):
+            counters = EventCounters(4, 3, files, constraints)
+            self.assertEqual(counters.places((0x00, 0x01), nothing), places(set(), fixed))
+
+    def test_refusals(self) -> None:
+        for table, cause in (
+            ("", "no table intel_skl_event_constraints"),
+            (TABLE.replace("0x1c0, 0x2", "0x1c0"), "a row that make_unit does not know"),
+            (TABLE.replace("INTEL_UEVENT", "INTEL_OTHER"), r"INTEL_OTHER_CONSTRAINT\(0x1c0, 0x2\): a row that"),
+        ):
+            with self.assertRaisesRegex(Fault, cause):
+                find_sources(self.source(table), "skl")
+        with self.assertRaisesRegex(Fault, "not known where Linux has ix86arch"):
+            find_sources(self.source(TABLE), "ix86arch")
+        with self.assertRaisesRegex(Fault, "no event files"):
+            find_sources(str(self.folder / "absent"), "skl")
 
 
 @needs_libpfm4
@@ -89,14 +189,40 @@ class RealProcessors(InFolder):
         reference = rows.index(self.row(rows, "EVENT,UNHALTED_REFERENCE_CYCLES"))
         self.assertTrue(rows[reference].startswith("EVENT,UNHALTED_REFERENCE_CYCLES,00,F2,"))
         self.assertTrue(rows[reference + 1].startswith("UMASK,0x03,03,dn,"))
-        self.assertTrue(any(row.endswith("names: the code sets modifiers of its own") for row in rows if row.startswith("# left out: ")))
+        stalls = rows.index(self.row(rows, "UMASK,STALLS_TOTAL"))
+        self.assertEqual(rows[stalls : stalls + 2][1], "UMASK_MODIFIERS,-,4")
+        misses = rows.index(self.row(rows, "EVENT,LLC_MISSES"))
+        self.assertTrue(rows[misses].startswith(f"EVENT,LLC_MISSES,2e,{everywhere},"))
+        self.assertTrue(rows[misses + 1].startswith("UMASK,0x41,41,dn,"))
+
+    def test_names_that_are_left_out(self) -> None:
+        rows = self.rows("skl")
+        told = dict(line.split(": ", 1) for line in self.rows("skl", "--left-out"))
+        self.assertEqual(told["CPU_CLK_THREAD_UNHALTED:REF_XCLK_ANY"], "the code sets a bit that is no modifier of a unit")
+        listed = {name for row in rows if row.startswith("#   ") for name in row[4:].split()}
+        self.assertLessEqual(told.keys(), listed)
+        halves = [row for row in rows if row.startswith("# taken without its second register: ")]
+        self.assertEqual(len(halves), 1)
+        self.assertIn("FRONTEND_RETIRED:DSB_MISS", listed - told.keys())
 
     def test_with_event_files(self) -> None:
         rows = self.rows("skl", "--width", "16", "--events", SAMPLE)
         self.assertEqual([row for row in rows if row.startswith("COUNTER")][3:5], ["COUNTER,P3,16,P", "COUNTER,F0,16,F"])
         self.assertTrue(self.row(rows, "EVENT,INST_RETIRED").startswith("EVENT,INST_RETIRED,c0,P0 P1 P2 P3 F0,"))
-        self.assertTrue(self.row(rows, "EVENT,L1D_PEND_MISS").startswith("EVENT,L1D_PEND_MISS,48,P2,"))
-        self.assertFalse(any(row.startswith("UMASK,PREC_DIST,") for row in rows))
+        self.assertTrue(self.row(rows, "EVENT,L1D_PEND_MISS").startswith("EVENT,L1D_PEND_MISS,48,P0 P1 P2 P3,"))
+        instructions = rows[rows.index(self.row(rows, "EVENT,INST_RETIRED")) :]
+        total = next(number for number, row in enumerate(instructions) if row.startswith("UMASK,TOTAL_CYCLES,"))
+        self.assertEqual(instructions[total + 1 : total + 3], ["UMASK_COUNTERS,P0 P2 P3", "UMASK_MODIFIERS,i,10"])
+        for umask, more in (("PENDING", ["UMASK_COUNTERS,P2"]), ("PREC_DIST", ["UMASK_COUNTERS,P1"])):
+            place = rows.index(self.row(rows, f"UMASK,{umask}")) + 1
+            self.assertEqual(rows[place : place + len(more)], more)
+
+    def test_with_a_kernel_s_table(self) -> None:
+        rows = self.rows("skl", "--linux", KernelTables.source(self, TABLE))
+        self.assertIn("the event files and the kernel's table allow", rows[1])
+        self.assertTrue(self.row(rows, "EVENT,INST_RETIRED").startswith("EVENT,INST_RETIRED,c0,P0 P1 P2 P3 F0,"))
+        self.assertTrue(self.row(rows, "EVENT,MEM_TRANS_RETIRED").startswith("EVENT,MEM_TRANS_RETIRED,cd,P3,"))
+        self.assertIn("UMASK_COUNTERS,P1", rows[rows.index(self.row(rows, "UMASK,PREC_DIST")) + 1])
 
     def test_fewer_counters(self) -> None:
         rows = self.rows("skl", "--counters", "4")
@@ -105,7 +231,7 @@ class RealProcessors(InFolder):
         self.assertTrue(self.row(rows, "EVENT,INSTRUCTION_RETIRED").startswith("EVENT,INSTRUCTION_RETIRED,c0,P0 P1 P2 P3 F0,"))
         rows = self.rows("skl", "--counters", "2", "--events", SAMPLE)
         self.assertTrue(self.row(rows, "EVENT,INST_RETIRED").startswith("EVENT,INST_RETIRED,c0,P0 P1 F0,"))
-        self.assertFalse(any(row.startswith("EVENT,L1D_PEND_MISS,") for row in rows))
+        self.assertFalse(any(row.startswith("UMASK,PENDING,") for row in rows))
         self.assertTrue(any(row.endswith(": the unit does not have its counters") for row in rows))
 
     def test_list(self) -> None:
@@ -121,7 +247,7 @@ class RealProcessors(InFolder):
     def test_the_program_reads_the_unit(self) -> None:
         unit = self.write("skl.unit", "\n".join(self.rows("skl")) + "\n")
         done = run_program("papi_encode", "-U", unit, "skl::inst_retired", "LLC_MISSES:u")
-        self.assertEqual(done.stdout, "skl::INST_RETIRED:ANY_P 0x5300c0\nNOTFOUND LLC_MISSES:u\n")
+        self.assertEqual(done.stdout, "skl::INST_RETIRED:ANY_P 0x5300c0\nskl::LLC_MISSES:0x41:u 0x51412e\n")
 
     @needs_program
     def test_all_encodings_agree(self) -> None:
@@ -132,6 +258,6 @@ class RealProcessors(InFolder):
 
 class Words(unittest.TestCase):
     def test_bad_words(self) -> None:
-        for words in ((), ("skl", "--list"), ("skl", "--width", "15"), ("skl", "--counters", "0"), ("--nothing",)):
+        for words in ((), ("skl", "--list"), ("skl", "--width", "15"), ("skl", "--counters", "0"), ("skl", "--linux"), ("--nothing",)):
             self.assertEqual(run_tool("make_unit", *words).returncode, 2, words)
         self.assertEqual(run_tool("make_unit", "--help").returncode, 0)

@@ -8,7 +8,7 @@ import tempfile
 import unittest
 from pathlib import Path
 
-from tests.support import ROOT
+from tests.support import ROOT, all_of
 
 sys.path.append(str(ROOT / "checks"))
 
@@ -59,7 +59,7 @@ class Stream(unittest.TestCase):
 
     def test_each_event_happens_in_both_modes(self) -> None:
         lines = list(papi_stream.lines(self.unit, papi_stream.round_of(self.unit)))
-        self.assertTrue(all(LINE.fullmatch(line) for line in lines))
+        self.assertTrue(all_of(lines, LINE.fullmatch))
         happening = {tuple(line.split()[:4]) for line in lines}
         for event in (("0", "c4", "02", "u"), ("0", "d0", "01", "k"), ("1", "10", "00", "u"), ("0", "2e", "00", "k")):
             self.assertIn(event, happening)

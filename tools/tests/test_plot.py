@@ -5,7 +5,7 @@ from __future__ import annotations
 import unittest
 from xml.etree import ElementTree
 
-from parts.chart import MOST_BARS
+from parts.chart import LONGEST_NAME, MOST_BARS
 from parts.command import Fault
 from parts.profile import Bucket, read_profile
 from tests.support import ROOT, run_tool
@@ -64,6 +64,19 @@ class Picture(unittest.TestCase):
     def test_an_empty_profile(self) -> None:
         picture = self.draw("range a 0\noutside 0\ntotal 0\n")
         self.assertEqual(texts(picture, "quiet"), ["0 overflows, none in 1 other function"])
+
+    def test_the_longest_name_and_one_longer(self) -> None:
+        names = ["n" * LONGEST_NAME, "m" * (LONGEST_NAME + 1)]
+        picture = self.draw("".join(f"range {name} 1\n0x1 1\n" for name in names) + "outside 0\ntotal 2\n")
+        self.assertEqual(texts(picture, "name")[::2], [names[0], "m" * (LONGEST_NAME - 1) + "\u2026"])
+
+    def test_the_most_bars(self) -> None:
+        """All have bars up to the limit. Behind it the others share one, which stands before what is outside."""
+        for many, last in ((MOST_BARS, f"f{MOST_BARS - 1}"), (MOST_BARS + 1, "1 other function")):
+            rows = "".join(f"range f{number} 1\n{number:#x} 1\n" for number in range(many))
+            picture = self.draw(f"{rows}outside 0\ntotal {many}\n")
+            self.assertIn(last, texts(picture, "quiet") + texts(picture, "name"))
+            self.assertEqual(picture.count("<rect"), 1 + 2 * min(many, MOST_BARS + 1))
 
     def test_many_functions_and_long_names(self) -> None:
         rows = "".join(f"range {'n' * 40}{number} 1\n{number:#x} 1\n" for number in range(MOST_BARS + 5))

@@ -5,8 +5,10 @@ from __future__ import annotations
 import os
 import pty
 import re
+import select
 import signal
 import subprocess
+import time
 import unittest
 from pathlib import Path
 from typing import Callable
@@ -16,13 +18,14 @@ from tests.test_hints import PLACE, make_tree
 
 LINE = re.compile(rb"\rpapi_run: [0-9]+ s\x1b\[K")
 GONE = b"\r\x1b[K"
-PATIENCE = 20  # seconds
+PATIENCE = 60  # seconds
 UNTIL_SEEN = ("tries=0", f"until [ -e go ] || [ $tries = {10 * PATIENCE} ]; do sleep 0.1; tries=$((tries + 1)); done")
 
 
 def take_interrupts() -> None:
-    """A shell starts what it puts in the background with interrupts ignored, and so would the tests be."""
-    signal.signal(signal.SIGINT, signal.SIG_DFL)
+    """A shell starts what it puts in the background with SIGINT and SIGQUIT ignored, and so would the tests be."""
+    for number in (signal.SIGHUP, signal.SIGINT, signal.SIGQUIT, signal.SIGTERM):
+        signal.signal(number, signal.SIG_DFL)
 
 
 class Progress(InFolder):
@@ -58,6 +61,13 @@ class Progress(InFolder):
             if LINE.search(written) and not (self.folder / "go").exists():
                 (self.folder / "go").touch()
                 seen()
+
+    def wait_for_process(self) -> int:
+        """The number of the program, as soon as it has said it."""
+        path, end = self.folder / "process", time.monotonic() + PATIENCE
+        while not (path.exists() and path.read_text().endswith("\n")) and time.monotonic() < end:
+            time.sleep(0.01)
+        return int(path.read_text())
 
     def call(self, words: str, **variables: str) -> tuple[int, bytes]:
         child, terminal = self.start(words, None, **variables)
@@ -96,16 +106,58 @@ class Progress(InFolder):
         self.assertEqual((piped.returncode, piped.stdout, piped.stderr), (2, words, b"papi: bad words\n"))
 
     def test_short_runs_have_none(self) -> None:
-        self.program("echo out", "exit 1")
-        self.assertEqual(self.call("s t", KISTALUB_HINTS="0"), (1, b"out\n"))
+        """The line waits for half a second by `sleep`. Here that is one that outlasts the run, however slow the machine is."""
+        (self.folder / "path").mkdir()
+        os.chmod(self.write("path/sleep", '#!/bin/sh\necho "$1" >>asked\nPATH=${PATH#*:}\nexec sleep 60\n'), 0o755)
+        self.program("PATH=${PATH#*:}", *(line.replace("go", "asked") for line in UNTIL_SEEN), "echo out", "exit 1")
+        path = f"{self.folder}/path:{os.environ['PATH']}"
+        self.assertEqual(self.call("s t", KISTALUB_HINTS="0", PATH=path), (1, b"out\n"))
+        self.assertEqual((self.folder / "asked").read_text(), "0.5\n")
 
     def test_an_interrupt_ends_all(self) -> None:
         self.program("sleep 30", "echo out")
         child, terminal = self.start("s t", None)
         shown = self.shown(terminal, lambda: os.killpg(child.pid, signal.SIGINT))
-        self.assertNotEqual(child.wait(PATIENCE), 0)
+        self.assertEqual(child.wait(PATIENCE), -signal.SIGINT)
         self.assertNotIn(b"out", shown)
         self.assertTrue(shown.endswith(GONE), shown)
+
+    def test_a_signal_to_the_script_alone_ends_the_program_and_the_line(self) -> None:
+        self.program('echo "$$" >process', "exec sleep 30")
+        for number in (signal.SIGHUP, signal.SIGINT, signal.SIGTERM):
+            for name in ("go", "process"):
+                (self.folder / name).unlink(missing_ok=True)
+            child, terminal = self.start("s t", None)
+            shown = self.shown(terminal, lambda: (self.wait_for_process(), child.send_signal(number)))
+            self.assertEqual(child.wait(PATIENCE), -number)
+            self.assertTrue(shown.endswith(GONE), shown)
+            self.assertFalse(Path(f"/proc/{self.wait_for_process()}/exe").exists())
+
+    def test_no_line_goes_on_without_the_script(self) -> None:
+        """After a signal that the script can't take, the line ends, and none comes again."""
+        self.program('echo "$$" >process', f"exec sleep {3 * PATIENCE}")
+        child, terminal = self.start("s t", None)
+        written = b""
+        while not LINE.search(written):
+            written += os.read(terminal, 4096)
+        process = self.wait_for_process()
+        child.kill()
+        child.wait(PATIENCE)
+        self.addCleanup(os.close, terminal)
+        self.addCleanup(os.kill, process, signal.SIGKILL)
+        end = time.monotonic() + PATIENCE
+        while not written.endswith(GONE) and time.monotonic() < end:
+            written += self.heard_for(terminal, 0.1)
+        self.assertTrue(written.endswith(GONE), written)
+        self.assertEqual(self.heard_for(terminal, 2.5), b"")
+
+    def heard_for(self, terminal: int, seconds: float) -> bytes:
+        """What comes to a terminal in this time."""
+        heard, end = b"", time.monotonic() + seconds
+        while (left := end - time.monotonic()) > 0:
+            if select.select([terminal], [], [], left)[0]:
+                heard += os.read(terminal, 4096)
+        return heard
 
 
 class PartRead(InFolder):

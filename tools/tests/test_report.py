@@ -8,22 +8,23 @@ import subprocess
 import unittest
 from html.parser import HTMLParser
 from pathlib import Path
+from typing import ClassVar
 
 from parts.command import Fault
 from parts.profile import Bucket
-from parts.report.asking import OF_BUILD, Tables, Tools
+from parts.report.asking import OF_BUILD, Answer, Tables, Tools
 from parts.report.markup import Markup, element
 from parts.report.numbers import short, ticks
 from parts.report.probe import MOST_CALLS, probe_of
 from parts.report.region_tree import read_tree
 from parts.report.replies import Step, read_replies
-from parts.report.rules import CALLS_HEAD, DOCUMENT, SENTENCES, read_rules
-from parts.report.sets import groups_of
-from parts.report.source_lines import source_lines
+from parts.report.sets import Pictures, groups_of
+from parts.report.source_lines import places_of, source_lines
 from parts.report.story import Reading, Setup, Span, Story, tell_story
 from parts.report.summary import off_by, totals_of
 from parts.report.turns import Clock, Turn, clock_of, turns_of
 from parts.report.unit_counters import read_counters
+from refusals import NAME_FAULTS, RULES, SENTENCES, causes_of
 from scripts import CALLS, Call, calls_of
 from tests.support import ROOT, InFolder, needs_command, needs_program, run_tool
 
@@ -108,12 +109,26 @@ class Rules(unittest.TestCase):
         for code, sentence in SENTENCES.items():
             self.assertEqual(messages[-int(codes[code])], sentence, code)
 
-    def test_each_call_that_is_refused_has_its_rule(self) -> None:
-        self.assertIn(CALLS_HEAD, DOCUMENT.read_text(encoding="utf-8"))
-        rules, faults = read_rules()
+    def table(self, head: str) -> list[list[str]]:
+        """The rows of a table of docs/FORMATS.md, without the marks of code."""
+        text = (ROOT / "docs/FORMATS.md").read_text(encoding="utf-8")
+        lines = text.partition(head + "\n")[2].partition("\n\n")[0].splitlines()[1:]
+        return [[cell.strip() for cell in line.strip().strip("|").split("|")] for line in lines]
+
+    def test_rules_are_those_of_the_document(self) -> None:
+        rules = {call: refusals.replace("`", "") for calls, refusals in self.table("| Call | Refusals in order |") for call in re.findall(r"`(\w+)`", calls)}
         self.assertEqual(set(rules), set(CALLS))
-        self.assertEqual({row[2] for row in faults}, {"PAPI_ENOEVNT", "PAPI_EATTR", "PAPI_ECOMBO"})
-        self.assertEqual(read_rules(Path("absent")), ({}, []))
+        self.assertEqual(RULES, rules)
+        self.assertEqual(NAME_FAULTS, tuple(tuple(cell.replace("`", "") for cell in row) for row in self.table("| Fault | Where | Code |")))
+
+    def test_each_code_of_a_call_has_its_causes(self) -> None:
+        self.assertEqual(causes_of("start", "PAPI_EISRUN"), ["it or another set of its component"])
+        self.assertEqual(causes_of("raw", "PAPI_EINVAL"), ["the component lacks the counter", "no native event of the set is on the counter"])
+        self.assertEqual(causes_of("component", "PAPI_ENOCMP"), ["no such component"])
+        self.assertEqual(causes_of("events", "PAPI_ENOEVST"), ["the set is not there"])
+        combined = "a second umask, if one of those named cannot be combined; or, after all attributes, no counter of the event is allowed by each of the chosen umasks"
+        self.assertEqual(causes_of("overflow", "PAPI_ECOMBO"), ["multiplexed", combined])
+        self.assertEqual((causes_of("add", "PAPI_ECNFLCT"), causes_of("run", "PAPI_ESYS"), causes_of("threads", "PAPI_EINVAL")), ([], [], []))
 
 
 class Probes(unittest.TestCase):
@@ -167,6 +182,14 @@ class Totals(unittest.TestCase):
         self.assertIsNone(self.exact(self.span(1), streams=("a", "b")))
 
 
+class Answers(unittest.TestCase):
+    def test_what_is_said_of_the_program_itself_is_no_answer(self) -> None:
+        of_build = [f"{OF_BUILD}is not built: running the same code unproved (build it)"]
+        told = (ROOT / "bin/unproved.sh").read_text(encoding="utf-8")
+        self.assertIn(f'echo "{OF_BUILD}is not built: running', told)
+        self.assertEqual(Answer(2, [], [*of_build, "papi: no such file: s"]).said(), ["papi: no such file: s"])
+
+
 class Turning(InFolder):
     def span(self, start: int, end: int, slice_: int, zeroed: tuple[int, ...] = ()) -> Span:
         return Span(0, 0, Setup(("X", "Y"), {}, slice_), start, end, [], list(zeroed))
@@ -218,6 +241,13 @@ class Asking(InFolder):
             self.assertEqual(groups[0].counters, {"lab::BR_INST:ALL": "P0", "lab::CACHE": "P1"})
             self.assertEqual(groups_of(tools, []), [])
 
+    def test_a_set_of_a_script_that_asks_for_no_assignment(self) -> None:
+        """The tools are asked then."""
+        with Tools(Tables(LAB)) as tools:
+            picture = Pictures(tools, read_counters(LAB)).of_setup(Setup(("CACHE", "BR_INST"), {}, 0))
+        assert picture is not None
+        self.assertEqual([(row.native, row.allowed, row.counter) for row in picture.rows], [("lab::CACHE", ("P1",), "P1"), ("lab::BR_INST:ALL", ("P0",), "P0")])
+
     def test_where_thresholds_are_passed(self) -> None:
         with Tools(Tables(LAB)) as tools:
             script = (EXAMPLES / "overflow.script").read_text(encoding="utf-8")
@@ -254,7 +284,15 @@ class Pages(InFolder):
         self.assertEqual((done.returncode, [line for line in done.stderr.splitlines() if not line.startswith(("hint: ", OF_BUILD))]), (0, []))
         return Page(done.stdout)
 
+    made: ClassVar[dict[str, Page]] = {}
+
     def example(self, name: str) -> Page:
+        """The page of an example, which is made once for all tests."""
+        if name not in self.made:
+            self.made[name] = self._example(name)
+        return self.made[name]
+
+    def _example(self, name: str) -> Page:
         words = (EXAMPLES / f"{name}.words").read_text(encoding="utf-8").splitlines()
         return self.page(*(word for word in words[1:] if word != "--notes"), folder=EXAMPLES)
 
@@ -309,10 +347,6 @@ class Pages(InFolder):
         for section, line in (("script", "Left out: 203 calls more."), ("totals", "Left out: 800 values more."), ("curves", "Left out: 1,280 runs more.")):
             self.assertTrue(page.text[section].endswith(line), section)
 
-    def test_the_same_page_each_time(self) -> None:
-        words = ("-U", LAB, "--every", "1", "examples/turns.script", "examples/turns.stream")
-        self.assertEqual(run_tool("report", *words, folder=ROOT).stdout, run_tool("report", *words, folder=ROOT).stdout)
-
     def test_a_faulty_stream_is_said_on_the_page(self) -> None:
         done = run_tool("report", "-U", LAB, str(EXAMPLES / "bad_line.script"), str(EXAMPLES / "bad_line.stream"))
         page = Page(done.stdout)
@@ -320,6 +354,13 @@ class Pages(InFolder):
         self.assertIn("papi: stream 0: line 2: bad field", done.stderr)
         self.assertIn("papi: stream 0: line 2: bad field", page.text["errors"])
         self.assertIn("A System/C library call failed", page.rows[1])
+
+    def test_an_event_that_no_line_counts_for_is_named_on_the_page(self) -> None:
+        script = self.write("s", "0 create\n0 add 0 CYCLES\n0 add 0 BR_MISP\n0 start 0\n0 run 9\n0 stop 0\n")
+        stream = self.write("t", "0 3c 00 u 7 1\n")
+        said = self.page("-U", LAB, script, stream).text["errors"]
+        self.assertIn("hint: lab::BR_MISP counts 0: no line of the streams has its code, c5", said)
+        self.assertNotIn("lab::CYCLES", said)
 
     def test_refusals(self) -> None:
         for words, status, line in (
@@ -344,5 +385,6 @@ class Source(InFolder):
         subprocess.run([str(shutil.which("cc")), "-g", "-O0", "-no-pie", "-o", program, source], check=True)
         symbols = subprocess.run(["nm", program], capture_output=True, text=True, check=True).stdout
         address = int(next(line for line in symbols.splitlines() if line.endswith(" twice")).split()[0], 16)
-        lines = source_lines(program, 0x1000, [Bucket(0x1000 + address, 3), Bucket(0x1000 + 1, 9), Bucket(0x1000 + address, 4)])
+        buckets = [Bucket(0x1000 + address, 3), Bucket(0x1000 + 1, 9), Bucket(0x1000 + address, 4)]
+        lines = source_lines(places_of(program, 0x1000, [bucket.address for bucket in buckets]), buckets)
         self.assertEqual([(line.function, line.line, line.hits, line.text) for line in lines], [("twice", 1, 7, "int twice(int x) {")])

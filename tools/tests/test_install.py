@@ -1,0 +1,130 @@
+"""bin/install over a tree whose program and libraries are stand-ins: its words, what it puts where, and what a signal leaves."""
+
+from __future__ import annotations
+
+import os
+import shutil
+import signal
+import subprocess
+import time
+import unittest
+from pathlib import Path
+
+from tests.support import ROOT, InFolder, some
+
+PARTS = ("bin", "include", "man", "completions", "tools", "VERSION", "examples/recorded.unit", "examples/recorded.presets")
+BUILD = '#!/bin/sh\necho "$$" >"${WAITS:-/dev/null}"\n[ -z "${WAITS-}" ] || sleep 60\necho a >"$1/libkistalub.a"\necho so >"$1/libpapi.so.7.0"\n'
+TOOLS = sorted(path.name for path in (ROOT / "bin").glob("papi_*"))
+USAGE = "usage: install [--program-suffix SUFFIX] PREFIX\n"
+PATIENCE = 30  # seconds
+
+
+def sleeps_below(process: str) -> bool:
+    """Whether a process has started its sleep. A shell may lose an interrupt between the two."""
+    children = Path(f"/proc/{process.strip()}/task/{process.strip()}/children")
+    return bool(process.strip()) and any(Path(f"/proc/{child}/cmdline").read_bytes().startswith(b"sleep") for child in children.read_text().split())
+
+
+class Install(InFolder):
+    def setUp(self) -> None:
+        super().setUp()
+        self.tree = self.folder / "a tree"
+        for part in PARTS:
+            (self.tree / part).parent.mkdir(parents=True, exist_ok=True)
+            if (ROOT / part).is_dir():
+                shutil.copytree(ROOT / part, self.tree / part)
+            else:
+                shutil.copy(ROOT / part, self.tree / part)
+        self.put("c/build", BUILD)
+        self.put("crates/papi/out/papi", '#!/bin/sh\necho "$0" "$@"\nexit 3\n')
+        self.put("crates/papi_c/out/libpapi_c.a", "")
+        (self.folder / "tmp").mkdir()
+        self.prefix = self.folder / "it's a prefix"
+
+    def put(self, name: str, text: str) -> None:
+        path = self.tree / name
+        path.parent.mkdir(parents=True, exist_ok=True)
+        path.write_text(text, encoding="utf-8")
+        path.chmod(0o755)
+
+    def install(self, *words: object, **variables: str) -> subprocess.CompletedProcess[str]:
+        environment = {**os.environ, "TMPDIR": str(self.folder / "tmp"), **variables}
+        done = subprocess.run([str(self.tree / "bin/install"), *map(str, words)], cwd=self.folder, env=environment, capture_output=True, text=True)
+        self.assertEqual(os.listdir(self.folder / "tmp"), [])
+        return done
+
+    def test_words_that_are_refused(self) -> None:
+        for words in ((), ("",), ("-x",), ("a", "b"), ("--program-suffix", "-x"), ("--program-suffix",), ("--program-suffix", "a/b", "p"), ("--program-suffix=a b", "p")):
+            done = self.install(*words)
+            self.assertEqual((done.returncode, done.stdout, done.stderr), (2, "", USAGE), words)
+
+    def test_what_is_not_built(self) -> None:
+        for file, command in (("crates/papi/out/papi", "cd crates/papi && rt run -- papi_soak 1"), ("crates/papi_c/out/libpapi_c.a", "cd crates/papi_c && rt lib")):
+            (self.tree / file).rename(self.tree / "away")
+            done = self.install(self.prefix)
+            self.assertEqual((done.returncode, done.stderr), (1, f"install: no such file: {self.tree}/{file} (it is built by: {command})\n"))
+            self.assertFalse(self.prefix.exists())
+            (self.tree / "away").rename(self.tree / file)
+
+    def test_what_is_where(self) -> None:
+        done = self.install("--program-suffix=-x", self.prefix)
+        self.assertEqual((done.returncode, done.stdout, done.stderr), (0, "", ""))
+        self.assertEqual(sorted(path.name for path in (self.prefix / "bin").iterdir()), sorted([*(f"{tool}-x" for tool in TOOLS), "papi_count-x", "papi_record-x"]))
+        pages = sorted(path.name for path in (self.prefix / "share/man/man1").iterdir())
+        self.assertEqual(pages, sorted([*(f"{tool}-x.1" for tool in TOOLS), "papi_count-x.1", "papi_record-x.1"]))
+        for file in ("lib/libkistalub.a", "lib/kistalub/libpapi.so", "lib/kistalub/lib/libpapi.so.7.0", "lib/kistalub/include/papi.h", "lib/kistalub/lib/pkgconfig/papi.pc",
+                     "include/kistalub/kistalub.h", "share/kistalub/recording/tools/valgrind/build", "share/kistalub/recording/library/libpapi.so.7.0", "share/zsh/site-functions/_kistalub-x",
+                     "share/bash-completion/completions/papi_run-x", "share/fish/vendor_completions.d/papi_run-x.fish"):  # fmt: skip
+            self.assertTrue((self.prefix / file).exists(), file)
+        self.assertEqual([str(path) for path in some(self.prefix.rglob("*")) if path.is_symlink() and not path.exists()], [], "links to nothing")
+        self.assertIn(f"prefix={self.prefix}\n", (self.prefix / "lib/pkgconfig/kistalub.pc").read_text())
+
+    def test_the_scripts_run_the_program(self) -> None:
+        self.install(self.prefix)
+        program = self.prefix / "libexec/kistalub/papi"
+        for tool in some(TOOLS):
+            def run(*words: str) -> tuple[int, str]:
+                done = subprocess.run([str(self.prefix / "bin" / tool), *words], capture_output=True, text=True, env={**os.environ, "KISTALUB_HINTS": "0"})
+                return done.returncode, done.stdout
+
+            self.assertEqual(run("a b", "-x"), (3, f"{program} {tool} a b -x\n"))
+            usage = "".join((ROOT / "bin/usage" / name).read_text() for name in (tool, "statuses"))
+            self.assertEqual((run("--help"), run()), ((0, usage), (2, usage)))
+        full = subprocess.run(["sh", "-c", '"$1" --help >/dev/full', "sh", str(self.prefix / "bin/papi_run")], capture_output=True)
+        self.assertEqual(full.returncode, 5)
+
+    def test_recording_finds_its_parts(self) -> None:
+        self.install(self.prefix)
+        for tool in ("papi_record", "papi_count"):
+            done = subprocess.run([str(self.prefix / "bin" / tool), "--help"], capture_output=True, text=True)
+            self.assertEqual((done.returncode, done.stderr, done.stdout.startswith(f"usage: {tool} ")), (0, "", True), done.stderr)
+
+    def test_a_staging_folder_and_a_second_time(self) -> None:
+        for _ in range(2):
+            done = self.install("usr", DESTDIR=str(self.folder / "staged"))
+            self.assertEqual((done.returncode, done.stderr), (0, ""))
+        self.assertTrue((self.folder / f"staged{self.folder}/usr/bin/papi_run").exists())
+        self.assertIn(f"'{self.folder}/usr/libexec/kistalub/papi'", (self.folder / f"staged{self.folder}/usr/bin/papi_run").read_text())
+        self.assertFalse((self.folder / "usr").exists())
+
+    def test_a_step_that_fails_ends_it(self) -> None:
+        self.put("c/build", "#!/bin/sh\necho no >&2\nexit 7\n")
+        done = self.install(self.prefix)
+        self.assertEqual((done.returncode, done.stderr, self.prefix.exists()), (7, "no\n", False))
+        self.put("c/build", BUILD)
+        self.prefix.write_text("a file")
+        self.assertNotEqual(self.install(self.prefix).returncode, 0)
+
+    @unittest.skipUnless(Path("/proc/self/task").exists(), "there is no /proc/self/task")
+    def test_signals(self) -> None:
+        for number in (signal.SIGHUP, signal.SIGINT, signal.SIGTERM):
+            waits = self.folder / f"waits{number}"
+            environment = {**os.environ, "TMPDIR": str(self.folder / "tmp"), "WAITS": str(waits)}
+            child = subprocess.Popen([str(self.tree / "bin/install"), str(self.prefix)], env=environment, start_new_session=True, stderr=subprocess.PIPE,
+                                     preexec_fn=lambda: [signal.signal(each, signal.SIG_DFL) for each in (signal.SIGHUP, signal.SIGINT, signal.SIGTERM)])
+            end = time.monotonic() + PATIENCE
+            while not (waits.exists() and sleeps_below(waits.read_text())) and time.monotonic() < end:
+                time.sleep(0.01)
+            os.killpg(child.pid, number)
+            child.communicate(timeout=PATIENCE)
+            self.assertEqual((child.returncode, os.listdir(self.folder / "tmp"), self.prefix.exists()), (128 + number, [], False))

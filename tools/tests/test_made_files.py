@@ -1,0 +1,54 @@
+"""tools/make_pages and tools/make_fortran over a copy of the repository: what is out of date is told and written again, and nothing else."""
+
+from __future__ import annotations
+
+import shutil
+import subprocess
+from pathlib import Path
+
+from tests.support import ROOT, InFolder, needs_command
+
+
+class Made(InFolder):
+    def copy(self, *names: str) -> None:
+        for name in ("tools", "bin/hints", *names):
+            place = self.folder / name
+            place.parent.mkdir(parents=True, exist_ok=True)
+            if (ROOT / name).is_dir():
+                shutil.copytree(ROOT / name, place, ignore=shutil.ignore_patterns("tests"))
+            else:
+                shutil.copy(ROOT / name, place)
+
+    def run_tool(self, tool: str, *words: str) -> tuple[int, str, str]:
+        done = subprocess.run([str(self.folder / "tools" / tool), *words], capture_output=True, text=True)
+        return done.returncode, done.stdout, done.stderr
+
+    def check(self, tool: str, made: Path) -> None:
+        """One that is changed is told, stays as it is, and is written again without --check. So is one that is gone."""
+        name, whole = str(made.relative_to(self.folder)), made.read_bytes()
+        self.assertEqual(self.run_tool(tool, "--check"), (0, "", ""))
+        for content in (whole + b"x", whole[:-1], b"\xff", None):
+            made.unlink()
+            if content is not None:
+                made.write_bytes(content)
+            self.assertEqual(self.run_tool(tool, "--check"), (1, "", f"{tool}: out of date: {name} (tools/{tool} writes them)\n"))
+            self.assertEqual(made.read_bytes() if made.exists() else None, content)
+            self.assertEqual(self.run_tool(tool), (0, "", ""))
+            self.assertEqual(made.read_bytes(), whole)
+
+    def test_pages(self) -> None:
+        self.copy("bin/usage", "examples", "docs/TOOLS.md", "man", "include")
+        self.check("make_pages", self.folder / "docs/TOOLS.md")
+        shutil.rmtree(self.folder / "man")
+        self.assertEqual(self.run_tool("make_pages"), (0, "", ""))
+        self.check("make_pages", self.folder / "man/papi_run.1")
+
+    @needs_command("cc", "a C compiler")
+    def test_headers_for_fortran(self) -> None:
+        self.copy("include", "bin/usage")
+        self.check("make_fortran", self.folder / "include/fpapi.h")
+
+    def test_no_compiler_is_no_fault_of_the_headers(self) -> None:
+        self.copy("include", "bin/usage")
+        done = subprocess.run([str(self.folder / "tools/make_fortran"), "--check"], capture_output=True, text=True, env={"PATH": "/usr/bin:/bin", "CC": "/no/cc"})
+        self.assertEqual((done.returncode, done.stdout), (0, "make_fortran: skipped: there is no C compiler\n"))

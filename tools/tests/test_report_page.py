@@ -1,0 +1,215 @@
+"""The page of tools/report: its policy, its limits, exact values beside estimates, ratios, the time along its axes, and lines of source."""
+
+from __future__ import annotations
+
+import re
+import subprocess
+from pathlib import Path
+from typing import Sequence
+
+from parts.profile import Bucket, FunctionHits, Profile
+from parts.report import making, profiles, timeline
+from parts.report.asking import Tables, Tools
+from parts.report.curves import draw_curves
+from parts.report.exact import COUNTERS, exact_story, unlimited_unit
+from parts.report.making import Asked, make_report
+from parts.report.matrix import Picture, Row, draw_alone
+from parts.report.page import POLICY, make_page
+from parts.report.profiles import Place, draw_profiles
+from parts.report.ratios import draw_ratios
+from parts.report.replies import Note, read_replies
+from parts.report.sets import Group
+from parts.report.story import Reading, Setup, Span, Story
+from parts.report.summary import Total, Window, totals_of
+from parts.report.timeline import Timing, draw_timelines
+from parts.report.times import Time, times_of
+from parts.report.turns import Clock, Turn, clock_of
+from parts.report.unit_counters import Counter
+from scripts import calls_of
+from tests.support import ROOT, InFolder, needs_command, needs_program
+
+EXAMPLES = ROOT / "examples"
+LAB = str(EXAMPLES / "lab.unit")
+UNIT = "COMPONENT,core,mine\nCOUNTER,C0,32,P\nEVENT,INSTRUCTIONS,c0,C0,Instructions\nEVENT,CYCLES,c1,C0,Cycles\nEVENT,L1D_MISS,c2,C0,Misses\nUMASK,ALL,01,d,All\n"
+WINDOW = Window("s", 0, 9, 1)
+
+
+def text_of(made: Sequence[str]) -> str:
+    return re.sub(r" +", " ", re.sub(r"<[^>]*>", " ", " ".join(made))).strip()
+
+
+def span_of(*events: str, slice_: int = 0, thread: int = 0, end: int = 9, readings: Sequence[Reading] = ()) -> Span:
+    return Span(thread, 0, Setup(events, {}, slice_), 0, end, list(readings))
+
+
+class Policy(InFolder):
+    def test_the_page_forbids_all_that_it_does_not_have(self) -> None:
+        page = make_page("T", [], making.Markup(""), Story(), [])
+        found = re.search(r'<meta http-equiv="Content-Security-Policy" content="([^"]*)">', page)
+        assert found is not None
+        rules = dict(rule.split(" ", 1) for rule in found[1].replace("&#x27;", "'").split("; "))
+        self.assertEqual(rules, {"default-src": "'none'", "style-src": "'unsafe-inline'", "script-src": "'unsafe-inline'", "img-src": "data:"})
+        self.assertIn("default-src 'none'", POLICY)
+
+
+class Limits(InFolder):
+    def test_turns_are_drawn_up_to_240(self) -> None:
+        drawn = [Turn(number % 2, number, number + 1) for number in range(240)]
+        span = span_of("X", slice_=1, end=240)
+        story = Story(setups={(0, 0): span.setup}, spans=[span], positions={0: 240})
+        picture = draw_timelines(story, {}, lambda _: Timing([Group(("X",)), Group(("Y",))], drawn, 240), {0: Time()})[0]
+        self.assertEqual((timeline.MOST_TURNS, picture.count("group 0, from")), (240, 120))
+        words = draw_timelines(story, {}, lambda _: Timing([Group(("X",)), Group(("Y",))], None, 241), {0: Time()})[0]
+        self.assertIn("Set 0 from occurrence 0: 2 groups in turn, 241 turns of 1 tick.", text_of([words]))
+
+    @needs_program
+    def test_turns_that_are_too_many_are_counted_from_the_start_of_the_set(self) -> None:
+        stream = self.write("stream", "0 c0 00 u 1 1\n" * 519)
+        script = self.write("script", "0 create\n0 multiplex 0 2\n0 add 0 BR_INST\n0 add 0 BR_MISP\n0 run 10\n0 start 0\n0 run 509\n0 stop 0\n")
+        page = text_of([make_report(Asked(Tables(LAB), script, (stream,)))])
+        self.assertIn("Set 0 from occurrence 10: 2 groups in turn, 255 turns of 2 ticks.", page)
+
+    def test_twelve_points_have_a_dot_each(self) -> None:
+        for points, dots in ((12, 12), (13, 0)):
+            span = span_of("X", readings=[Reading(position, (position,)) for position in range(points)])
+            self.assertEqual(draw_curves(span, Time())[0].count("<circle"), dots)
+
+    def test_a_curve_of_one_place_has_one_label(self) -> None:
+        span = span_of("X", readings=[Reading(7, (0,)), Reading(7, (0,))])
+        self.assertEqual(re.findall(r'text-anchor="(start|end)">([0-9]+)<', draw_curves(span, Time())[0])[-1:], [("start", "7")])
+
+    @needs_program
+    def test_twenty_addresses_are_listed(self) -> None:
+        with Tools(Tables(LAB)) as tools:
+            for addresses, rows, more in ((20, 20, False), (21, 20, True), (23, 20, True)):
+                notes = [Note(0, 0, 0, f"{number:#x}") for number in range(addresses)]
+                made = "".join(draw_profiles(tools, Place(), "s", ["t"], notes, {}))
+                self.assertEqual((made.count("<tr>") - 1, f"{addresses - 20} address" in made and "more." in made), (rows, more))
+
+    def test_forty_lines_are_listed(self) -> None:
+        buckets = [Bucket(number, 1) for number in range(43)]
+        places = {number: ("f", "absent.c", number + 1) for number in range(43)}
+        profile = Profile([FunctionHits("f", 43, buckets)], 0, 43)
+        with_program = Place(None, str(EXAMPLES / "first.script"))
+        made = "".join(profiles._lines(with_program, profile, places)) if profiles.has_addr2line() else ""
+        if made:
+            self.assertEqual((made.count("absent.c:") // 2, "Left out: 3 lines more." in made), (40, True))
+
+    @needs_program
+    def test_sixty_pictures_of_a_kind(self) -> None:
+        script = self.write("script", "".join(f"0 create\n0 add {number} CYCLES\n" for number in range(62)))
+        page = make_report(Asked(Tables(LAB), script))
+        self.assertEqual((page.count('class="picture"'), "Left out: 2 sets more." in page), (60, True))
+
+    def test_a_picture_has_a_margin(self) -> None:
+        picture = draw_alone(Picture([Counter("C0", "32", False)], [Row("mine::X", ("C0",), "C0")], title="T"))
+        places = [float(x) for x in re.findall(r'<text[^>]* x="([0-9.]+)"', picture)]
+        width = float(re.findall(r'viewBox="0 0 ([0-9]+)', picture)[0])
+        self.assertGreaterEqual(min(places), 16)
+        self.assertGreaterEqual(width - max(float(x) for x in re.findall(r'cx="([0-9.]+)"', picture)), 16 + 8)
+
+    def test_long_names_of_counters_are_cut_to_their_columns(self) -> None:
+        counters = [Counter(f"{letter}{'_LONG' * 12}", "48", True) for letter in "AB"]
+        picture = draw_alone(Picture(counters, [Row("mine::X", (counters[0].name,))], title="T"))
+        shown = re.findall(r"</title>([AB][^<]*)</text>", picture)
+        self.assertEqual([(name[0], name[-1], len(name) < 20) for name in shown], [("A", "\u2026", True), ("B", "\u2026", True)])
+        self.assertIn(f"<title>{counters[1].name}</title>", picture)
+        self.assertEqual(picture.count(">fixed<"), 2)
+
+
+class Exact(InFolder):
+    def test_each_event_is_allowed_each_counter(self) -> None:
+        rows = unlimited_unit(self.write("unit", "# mine\n" + UNIT))
+        self.assertEqual(rows, ["COMPONENT,core,mine", *(f"COUNTER,{name},48,P" for name in COUNTERS), f"EVENT,INSTRUCTIONS,c0,{' '.join(COUNTERS)},",
+                                f"EVENT,CYCLES,c1,{' '.join(COUNTERS)},", f"EVENT,L1D_MISS,c2,{' '.join(COUNTERS)},", "UMASK,ALL,01,d,"])
+        many = "".join(f"EVENT,{'E' * 55}{number},00,C0,\n" for number in range(1024))
+        self.assertIsNone(unlimited_unit(self.write("unit", "".join(f"COMPONENT,c{number},p{number}\nCOUNTER,C0,32,P\n{many}" for number in range(16)))))
+
+    @needs_program
+    def test_exact_values_beside_estimates(self) -> None:
+        """Groups take turns of two occurrences: of four instructions and six misses the set sees two and two."""
+        unit = self.write("unit", UNIT)
+        stream = self.write("stream", "0 c0 01 u 1 1\n0 c2 01 u 1 2\n" * 3 + "0 c0 01 u 1 1\n" + "0 c2 01 u 1 2\n" * 3)
+        script = "0 create\n0 multiplex 0 2\n0 add 0 INSTRUCTIONS\n0 add 0 L1D_MISS\n0 events 0\n0 start 0\n0 run 10\n0 add 0 CYCLES\n0 read 0\n"
+        with Tools(Tables(unit)) as tools:
+            steps, _ = read_replies(calls_of(script.splitlines()), tools.run(script.splitlines(), [stream]).lines)
+            story = exact_story(tools, steps, [stream])
+        assert story is not None
+        self.assertEqual([(span.setup.slice, span.last.values) for span in story.spans if span.last], [(0, (4, 6))])
+        page = make_report(Asked(Tables(unit), self.write("script", script), (stream,)))
+        totals = text_of([page.partition('id="totals"')[2].partition("</section>")[0]])
+        self.assertRegex(totals, r"mine::INSTRUCTIONS 0 to 10 [0-9]+ estimate 4 [+-]?[0-9.]+ % ")
+        self.assertRegex(totals, r"mine::L1D_MISS:ALL 0 to 10 [0-9]+ estimate 6 [+-]?[0-9.]+ % ")
+
+    def test_a_story_of_other_stretches_is_not_taken(self) -> None:
+        span = span_of("X", slice_=2, readings=[Reading(0, (0,)), Reading(9, (5,))])
+        other = span_of("X", readings=[Reading(0, (0,)), Reading(9, (7,))])
+        self.assertEqual([total.exact for total in totals_of(Story(spans=[span]), {}, Story(spans=[other]))], [7])
+        self.assertEqual([total.exact for total in totals_of(Story(spans=[span]), {}, Story(spans=[other, other]))], [None])
+        self.assertEqual([total.exact for total in totals_of(Story(spans=[other]), {}, Story(spans=[other]))], [None])
+
+
+class Ratios(InFolder):
+    def told(self, *counts: tuple[str, int, int | None], slice_: int = 0) -> str:
+        span = span_of(*(event for event, _, _ in counts), slice_=slice_)
+        return text_of(draw_ratios([Total(span, event, WINDOW, value, exact) for event, value, exact in counts]))
+
+    def test_instructions_per_cycle_and_misses(self) -> None:
+        self.assertEqual(self.told(("core::INSTRUCTIONS", 3000, None), ("core::CYCLES", 2000, None), ("core::L1D_MISS:ALL", 45, None)),
+                         "Ratios thread set ratio of value 0 0 instructions per cycle 3,000 / 2,000 1.50 0 0 core::L1D_MISS:ALL per 1,000 instructions 45 / 3,000 15.00")
+        self.assertIn("PAPI_L1_DCM per 1,000 instructions 5 / 1,000 5.00", self.told(("PAPI_TOT_INS", 1000, None), ("PAPI_L1_DCM", 5, None)))
+
+    def test_exact_values_go_before_estimates(self) -> None:
+        self.assertIn("10 / 1,000 10.00", self.told(("PAPI_TOT_INS", 900, 1000), ("PAPI_L1_DCM", 5, 10), slice_=5))
+        self.assertIn("5 / 900 5.56 estimate", self.told(("PAPI_TOT_INS", 900, None), ("PAPI_L1_DCM", 5, None), slice_=5))
+
+    def test_none_without_instructions_or_of_nothing(self) -> None:
+        self.assertEqual(self.told(("PAPI_L1_DCM", 5, None), ("PAPI_TOT_CYC", 9, None)), "")
+        self.assertEqual(self.told(("PAPI_TOT_INS", 0, None), ("PAPI_TOT_CYC", 0, None), ("PAPI_L1_DCM", 5, None)), "")
+
+
+@needs_program
+class Times(InFolder):
+    def test_cycles_of_a_stream_that_has_them(self) -> None:
+        stream = self.write("stream", "0 c0 01 u 1 1\n0 c1 00 u 10 1\n0 c1 00 k 20 1\n0 c0 01 u 1 1\n")
+        with Tools(Tables(self.write("unit", UNIT))) as tools:
+            times = times_of(tools, {0: 4}, lambda _: Clock(), [stream])
+            self.assertEqual((times[0].unit, [times[0].at(position) for position in range(5)]), ("cycles", [0, 0, 10, 30, 30]))
+            self.assertEqual(times_of(tools, {0: 4, 1: 0}, lambda _: Clock(), [stream])[1].at(0), 0)
+            # Fewer cycles than occurrences are no time.
+            fewer = self.write("fewer", "0 c0 01 u 1 1\n" * 3 + "0 c1 00 u 1 1\n")
+            self.assertEqual(times_of(tools, {0: 4}, lambda _: Clock(), [fewer])[0].unit, "occurrences")
+            self.assertEqual(times_of(tools, {0: 4, 1: 4}, lambda _: Clock(), [stream, fewer])[0].unit, "occurrences")
+
+    def test_cycles_between_two_readings(self) -> None:
+        """1,000 occurrences of three cycles each are read at 240 places."""
+        stream = self.write("stream", "0 c1 00 u 3 1\n" * 1000)
+        with Tools(Tables(self.write("unit", UNIT))) as tools:
+            time = times_of(tools, {0: 1000}, lambda _: Clock(), [stream])[0]
+        self.assertEqual([time.at(position) for position in (0, 1, 499, 1000)], [0, 3, 1497, 3000])
+
+    def test_stamps_go_before_cycles(self) -> None:
+        stream = self.write("stream", "version 2\n0 c1 00 u 9 1 4\n0 c1 00 u 9 1 6\n")
+        with Tools(Tables(self.write("unit", UNIT))) as tools:
+            time = times_of(tools, {0: 2}, lambda _: clock_of(stream), [stream])[0]
+        self.assertEqual((time.unit, [time.at(position) for position in range(3)]), ("ticks", [0, 5, 7]))
+
+
+class Source(InFolder):
+    @needs_command("cc", "a C compiler")
+    @needs_command("addr2line", "binutils")
+    @needs_command("nm", "binutils")
+    @needs_program
+    def test_the_hottest_line_of_a_function(self) -> None:
+        source = self.write("a.c", "int twice(int x) {\n    return 2 * x;\n}\nint main(void) { return twice(0); }\n")
+        program = str(self.folder / "a")
+        subprocess.run(["cc", "-g", "-O0", "-no-pie", "-o", program, source], check=True)
+        symbols = subprocess.run(["nm", program], capture_output=True, text=True, check=True).stdout
+        address = next(line for line in symbols.splitlines() if line.endswith(" twice")).split()[0].lstrip("0")
+        stream = self.write("stream", f"0 c0 00 u 200 {address}\n" * 4)
+        script = self.write("script", "0 create\n0 add 0 INST_RETIRED\n0 overflow 0 INST_RETIRED 256\n0 start 0\n0 run 4\n0 stop 0\n")
+        page = make_report(Asked(Tables(LAB), script, (stream,), Place(None, program)))
+        told = text_of([page.partition('id="profile"')[2].partition("</section>")[0]])
+        self.assertIn("twice 3 100.0 % 100.0 % at a.c:1", told)
+        self.assertIn("a.c:1 twice 3 100.0 % int twice(int x) {", told)
+        self.assertEqual(Path(source).name, "a.c")
