@@ -1,10 +1,16 @@
 # Completion of the tools for fish: source this file.
 set -g __kistalub_folder (path dirname (path resolve (status filename)))
 
+# fish puts its own quotes around what this prints.
 function __kistalub_candidates
-    set -l found ($__kistalub_folder/candidates (commandline -opc) (commandline -ct))
-    if test "$found" = files
-        __fish_complete_path (commandline -ct)
+    set -l current (commandline -ct)
+    set -l found ($__kistalub_folder/candidates (commandline -opc) $current)
+    if test $status = 3
+        set -l front "$found"
+        set -l begun (string sub --start (math (string length -- "$front") + 1) -- "$current")
+        for path in (complete -C "'' $begun")
+            printf '%s\n' $front$path
+        end
     else
         printf '%s\n' $found
     end

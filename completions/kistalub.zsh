@@ -2,13 +2,17 @@
 # Completion of the tools for zsh: source this file after compinit, or put a link to it into a folder of fpath, as _kistalub.
 _kistalub_folder=${${(%):-%x}:A:h}
 
+# The words go without their quotes, and zsh puts its own around the answers.
 _kistalub() {
-    local -a found
-    found=("${(@f)$("$_kistalub_folder/candidates" "${(@)words[1,CURRENT]}")}")
-    if [[ $found == files ]]; then
+    local found
+    local -a each
+    found=$("$_kistalub_folder/candidates" "${(@Q)words[1,CURRENT-1]}" "${(Q)PREFIX}")
+    if (( $? == 3 )); then
+        (( ! $#found )) || compset -p $#found
         _files
-    else
-        compadd -a found
+    elif [[ -n $found ]]; then
+        each=("${(@f)found}")
+        compadd -a each
     fi
 }
 

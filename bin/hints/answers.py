@@ -6,7 +6,7 @@ from itertools import islice
 from typing import Callable, Iterable, List, Optional
 
 from files import Unread, read_lines
-from presets import SYMBOLS, Presets, cpu_fault, name_fault, read_presets, why_unavailable
+from presets import SYMBOLS, Presets, cpu_fault, instead_of, name_fault, read_presets, why_unavailable
 from scripts import Call, calls_of
 from texts import near, shown
 from units import Unit, fault_of, read_unit
@@ -17,6 +17,8 @@ MOST_NAMES = 3  # of a script that are told
 
 def answer_hints(tool: str, read: Words) -> list[str]:
     try:
+        if tool not in HINTS_OF:
+            return []
         unit = read_unit(read.options["-U"])
         presets = read_presets(read.options["-P"], read.options["-C"]) if "-P" in read.options else None
         if presets is not None and (fault := cpu_fault(presets)):
@@ -33,10 +35,17 @@ def _of_avail(read: Words, unit: Unit, presets: Presets | None) -> list[str]:
         faults = [fault for symbol in presets.entries if (fault := why_unavailable(presets, unit, symbol))]
         if faults and len(faults) == len(presets.entries):
             return [f"the unit has none of the presets of {presets.cpu}: {faults[0]}"]
-        return [] if presets.entries else [f"the preset file has no row for the processor {presets.cpu} that the program knows"]
+        return [] if presets.entries else [f"the preset file has no row for the processor {presets.cpu} that the program knows{_of_others(presets)}"]
     if name in presets.entries or name in SYMBOLS:
         return [why_unavailable(presets, unit, name)]
+    if instead_of(presets, name):
+        return [name_fault(presets, unit, name)]
     return [f"neither a preset nor a user event has the name {shown(name)}{near(name, (*SYMBOLS, *presets.user_events()))}"]
+
+
+def _of_others(presets: Presets) -> str:
+    others = len(set(presets.passed_over))
+    return f"; of its {_counted(others, 'row')} of other presets tools/preset_rows makes user events" if others else ""
 
 
 def _of_native_avail(read: Words, unit: Unit, presets: Presets | None) -> list[str]:
@@ -69,7 +78,8 @@ def _of_regions(read: Words, unit: Unit, presets: Presets | None) -> list[str]:
     return _first(name_fault(presets, unit, name) for name in read.options["--events"].split(","))
 
 
-def _of_run(read: Words, unit: Unit, presets: Presets | None) -> list[str]:
+def _of_script(read: Words, unit: Unit, presets: Presets | None) -> list[str]:
+    """On the names of a script whose replies are not printed."""
     lines: dict[str, int] = {}
     for call in calls_of(read_lines(read.others[0])):
         if call.name == "add":
@@ -79,7 +89,7 @@ def _of_run(read: Words, unit: Unit, presets: Presets | None) -> list[str]:
 
 
 def _of_profil(read: Words, unit: Unit, presets: Presets | None) -> list[str]:
-    return [why_no_total(read), *_of_run(read, unit, presets)]
+    return [why_no_total(read), *_of_script(read, unit, presets)]
 
 
 def why_no_total(read: Words) -> str:
@@ -116,7 +126,6 @@ def _first(faults: Iterable[str]) -> list[str]:
 
 Hinter = Callable[[Words, Unit, Optional[Presets]], List[str]]
 HINTS_OF: dict[str, Hinter] = {
-    "papi_run": _of_run,
     "papi_profil": _of_profil,
     "papi_regions": _of_regions,
     "papi_avail": _of_avail,

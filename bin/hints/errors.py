@@ -16,7 +16,8 @@ from words import Words
 NO_FILE = re.compile(r"papi: no such file: (.*)")
 ROW = re.compile(r"papi: (.*): row ([0-9]+): (.*)")
 LINE = re.compile(r"papi: (.*): line ([0-9]+): (.*)")
-STREAM = re.compile(r"papi: stream ([0-9]+): line ([0-9]+): (.*)")
+# A script may have the name `stream 0`. The causes tell a line of a stream from one of a script.
+STREAM = re.compile(r"papi: stream ([0-9]+): line ([0-9]+): (line too long|stream too long|wrong number of fields|bad field|stamp does not rise)")
 ROW_FAULTS = {"-U": unit_fault, "-P": preset_fault, "-M": map_fault}
 MOST_STREAMS = 3  # of which faults are shown
 
@@ -32,7 +33,7 @@ def error_hints(read: Words, said: list[str]) -> list[str]:
         elif found := LINE.fullmatch(line):
             hints += _of_file(_line_hints, read, found[1], int(found[2]), found[3])
         elif found := NO_FILE.fullmatch(line):
-            hints += _missing_file_hints(found[1])
+            hints += _of_file(_missing_file_hints, found[1])
     return hints
 
 
@@ -53,8 +54,9 @@ def _row_hints(read: Words, name: str, number: int, cause: str) -> list[str]:
     if not 1 <= number <= len(rows):
         return []
     row = rows[number - 1]
-    option = next(option for option in ROW_FAULTS if read.options.get(option) == name)
-    fault = ROW_FAULTS[option](rows, number - 1, cause)
+    # The same file may have been given for several tables. The first of them whose form the row does not have is at fault.
+    faults = (ROW_FAULTS[option](rows, number - 1, cause) for option in ROW_FAULTS if read.options.get(option) == name)
+    fault = next(filter(None, faults), "")
     return [_shown_line(name, row.line, row.text)] + [fault] * bool(fault)
 
 

@@ -60,7 +60,7 @@ def read_lines(name: str) -> list[str]:
 
 def line_of(name: str, number: int) -> tuple[str, bool]:
     """A line of a stream, and whether the stream has stamps."""
-    _check(name)
+    check(name)
     with open(name, "rb") as file:
         first = file.readline(LONGEST_LINE)
         file.seek(0)
@@ -70,12 +70,13 @@ def line_of(name: str, number: int) -> tuple[str, bool]:
 
 
 def _content(name: str) -> bytes:
-    _check(name)
+    check(name)
     with open(name, "rb") as file:
         return file.read()
 
 
-def _check(name: str) -> None:
+def check(name: str) -> None:
+    """That the file is regular."""
     try:
         is_regular = stat.S_ISREG(os.stat(name).st_mode)
     except (OSError, ValueError):

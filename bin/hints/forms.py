@@ -9,6 +9,7 @@ from pathlib import Path
 from texts import near
 
 USAGE = Path(__file__).resolve().parent.parent / "usage"
+CALL = re.compile(r"  ([a-z]+)\b.*?  ")
 RANGE = re.compile(r"\b([0-9]+) to ([0-9]+)\b")
 
 
@@ -77,6 +78,15 @@ def _place(text: str, is_needed: bool, meanings: dict[str, str]) -> Place:
     if text.endswith(".."):
         most = int(limits[2]) if limits else 1 << 20
     return Place(text, 1 if is_needed else 0, most, meaning)
+
+
+def papi_calls(tool: str) -> dict[str, str]:
+    """The calls of a tool's scripts by the names that they have in PAPI."""
+    found: dict[str, str] = {}
+    for line in (USAGE / tool).read_text(encoding="utf-8").splitlines():
+        if (call := CALL.match(line)) and (names := re.search(r"\((PAPI_[^)]*)\)$", line)):
+            found.update(dict.fromkeys(names[1].split(", "), call[1]))
+    return found
 
 
 def limits_of(meaning: str) -> tuple[int, int] | None:

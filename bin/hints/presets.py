@@ -8,15 +8,18 @@ from files import read_table
 from texts import near, shown
 from units import Unit, fault_of
 
+# tools/make_presets: begin
 SYMBOLS = (
     "PAPI_L1_DCM", "PAPI_L1_ICM", "PAPI_L2_DCM", "PAPI_L2_ICM", "PAPI_L1_TCM", "PAPI_L2_TCM", "PAPI_L3_TCM", "PAPI_TLB_DM", "PAPI_TLB_IM",
     "PAPI_L1_LDM", "PAPI_L1_STM", "PAPI_BR_UCN", "PAPI_BR_CN", "PAPI_BR_TKN", "PAPI_BR_NTK", "PAPI_BR_MSP", "PAPI_BR_PRC", "PAPI_TOT_INS",
     "PAPI_LD_INS", "PAPI_SR_INS", "PAPI_BR_INS", "PAPI_RES_STL", "PAPI_TOT_CYC", "PAPI_LST_INS", "PAPI_FP_OPS", "PAPI_REF_CYC",
 )
+# tools/make_presets: end
 FORMULAS = ("DERIVED_POSTFIX", "DERIVED_INFIX")
 COMPUTED = ("NOT_DERIVED", "DERIVED_ADD", "DERIVED_SUB", *FORMULAS)
 READ_ALONE = ("DERIVED_PS", "DERIVED_ADD_PS", "DERIVED_CMPD")
 NOTES = ("NOTE", "SDESC", "LDESC")
+FRONT = "PAPI_"
 
 
 @dataclass(frozen=True)
@@ -35,9 +38,10 @@ class Presets:
     cpu: str
     cpus: list[str] = field(default_factory=list)
     entries: dict[str, Entry] = field(default_factory=dict)
+    passed_over: list[str] = field(default_factory=list)  # presets of rows that the program does not know
 
     def user_events(self) -> list[str]:
-        return [name for name in self.entries if not name.startswith("PAPI_")]
+        return [name for name in self.entries if not name.startswith(FRONT)]
 
 
 def read_presets(name: str, cpu: str) -> Presets:
@@ -54,8 +58,11 @@ def read_presets(name: str, cpu: str) -> Presets:
             ends = False
         elif kind in ("PRESET", "EVENT"):
             ends = True
-            if cpu in group and fields and (kind == "EVENT" or fields[0] in SYMBOLS):
-                presets.entries[fields[0]] = entry_of(fields)
+            if cpu in group and fields:
+                if kind == "EVENT" or fields[0] in SYMBOLS:
+                    presets.entries[fields[0]] = entry_of(fields)
+                elif fields[0].startswith(FRONT):
+                    presets.passed_over.append(fields[0])
     return presets
 
 
@@ -98,14 +105,24 @@ def why_unavailable(presets: Presets, unit: Unit, name: str) -> str:
     return f"{name} has native events of several components: {', '.join(sorted(components))}" if len(components) > 1 else ""
 
 
+def instead_of(presets: Presets | None, name: str) -> str:
+    """What counts as a preset that the program does not know, if the preset file has something of it."""
+    event = name.removeprefix(FRONT)
+    if presets is not None and event in presets.entries:
+        return f"; the preset file has the user event {event}"
+    if presets is not None and name in presets.passed_over:
+        return f"; tools/preset_rows makes the user event {event} of its row in the preset file"
+    return ""
+
+
 def name_fault(presets: Presets | None, unit: Unit, name: str) -> str:
     """Why a text of a script or a word names no event that can be counted, or nothing if it names one."""
     if presets is not None and name in presets.entries:
         return why_unavailable(presets, unit, name)
-    if not name.startswith("PAPI_"):
+    if not name.startswith(FRONT):
         return fault_of(unit, name)
     if name not in SYMBOLS:
-        return f"{name} is none of the {len(SYMBOLS)} presets that the program knows{near(name, SYMBOLS)}"
+        return f"{name} is none of the {len(SYMBOLS)} presets that the program knows{instead_of(presets, name) or near(name, SYMBOLS)}"
     if presets is None:
         return f"{name} is a preset: -P PRESETS and -C CPU name those of a processor"
     return why_unavailable(presets, unit, name)

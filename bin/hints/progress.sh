@@ -1,20 +1,7 @@
 # Read by with_hints.sh, if standard error is a terminal.
 #
-# run_with_progress TOOL WORD.. runs the tool, and sets `said` to what it writes on standard error, and `status`. A run of more than half a second has a line on standard
-# error: how long it has taken, and how much of the streams was read. If the output goes to the terminal too, it comes after this line is gone.
-
-# The process of the program below a process.
-program_below() {
-    for child in $(cat "/proc/$1/task/$1/children" 2>/dev/null); do
-        case $(readlink "/proc/$child/exe" 2>/dev/null) in
-        */papi)
-            echo "$child"
-            return
-            ;;
-        esac
-        program_below "$child"
-    done
-}
+# relay_with_line passes on what comes through a fifo. If a run takes more than half a second a line stands on the terminal (descriptor 8) until then: how long it has
+# taken, and how much of the streams was read. The line goes when the first byte comes, or the end, or a signal to terminate, which ends all that was started here.
 
 # How much of its streams a process has read: nothing if that can't be told. These are the files that it has open beside the standard streams.
 part_read() {
@@ -30,57 +17,58 @@ part_read() {
     [ "$size" = 0 ] || echo ", $((100 * place / size)) % of the streams read"
 }
 
-# Writes the line again and again until it is told to end. Then the line goes, if there was one.
+# Whether a process is the program, or what loads it.
+is_program() {
+    case $(readlink "/proc/$1/exe") in
+    */papi | */ld-linux*) ;;
+    *) return 1 ;;
+    esac
+}
+
+# Writes the line again and again until it is told to end, or the shell that runs the tool is gone. Then the line goes, if there was one.
 tick() {
     begun=$(date +%s)
     shown=
     waiting=
-    trap 'kill "$waiting"; [ -z "$shown" ] || printf "\r\033[K"; exit' TERM
+    trap 'kill "$waiting"; leave_line' TERM
     pause=0.5
     while kill -0 "$$"; do
         sleep "$pause" &
         waiting=$!
         wait "$waiting"
         part=
-        program=$(program_below "$$")
-        [ -z "$program" ] || part=$(part_read "$program")
+        ! read -r process <"$folder/process" || ! is_program "$process" || part=$(part_read "$process")
         shown=1
-        printf '\r%s: %s s%s\033[K' "$1" "$(($(date +%s) - begun))" "$part"
+        printf '\r%s: %s s%s\033[K' "$tool" "$(($(date +%s) - begun))" "$part"
         pause=1
     done
+    leave_line
 } 2>/dev/null
+
+leave_line() {
+    [ -z "$shown" ] || printf '\r\033[K'
+    exit
+}
 
 # A shell may say on standard error that it was told to end, if that came before it could listen.
 end_line() {
-    kill "$ticker" && wait "$ticker"
+    [ -z "$ticker" ] || { kill "$ticker" && wait "$ticker"; }
+    ticker=
 } 2>/dev/null
 
-# Has the line written until the first byte of the input comes, or its end. The input is passed on.
-pass_on() {
-    tick "$1" </dev/null >&2 7>&- &
+relay_with_line() {
+    ticker="" reader=""
+    trap 'end_line; [ -z "$reader" ] || kill "$reader"; exit 1' TERM
+    exec 7<"$folder/$1"
+    tick </dev/null >&8 7<&- &
     ticker=$!
-    trap 'end_line; exit 130' HUP INT TERM
-    first=$(dd bs=1 count=1 2>/dev/null; echo x)
+    { dd bs=1 count=1 <&7 7<&- >"$folder/first" 8>&- & } 2>/dev/null
+    reader=$!
+    wait "$reader"
     end_line
-    printf '%s' "${first%x}"
-    cat
-}
-
-run_with_progress() {
-    {
-        answer=$(
-            exec 8>&1
-            {
-                if [ -t 7 ]; then exec 9>&1; else exec 9>&7; fi
-                said=$(
-                    (run_program "$@") 2>&1 >&9 7>&- 8>&- 9>&-
-                    echo "x$?"
-                )
-                exec 9>&-
-                printf '%s' "$said" >&8
-            } | pass_on "$1" >&7 8>&-
-        )
-    } 7>&1
-    status=${answer##*x}
-    said=${answer%x*}
+    exec 8>&-
+    cat -- "$folder/first" - <&7 | tee -- "$folder/$2" 7<&- &
+    reader=$!
+    exec 7<&-
+    wait "$reader"
 }

@@ -17,14 +17,19 @@ TEXT_WANTED = "at most 200 characters from a space to ~"
 # For each kind of row its fields: what a field is called, its form, and what is wanted.
 NAME_FIELD = ("the name", NAME, NAME_WANTED)
 TEXT_FIELD = ("the description", r"[ -~]{0,200}", TEXT_WANTED)
+COUNTERS_FIELD = ("the list of counters", rf"{NAME}( +{NAME})*", "names with spaces between them")
 UNIT_FIELDS = {
     "COMPONENT": (NAME_FIELD, ("the pmu", NAME, NAME_WANTED)),
     "COUNTER": (NAME_FIELD, ("the width", r"0|[1-9][0-9]*", "a number from 16 to 48"), ("the kind", "[PF]", "P (programmable) or F (fixed)")),
     "EVENT": (
-        NAME_FIELD, ("the select code", r"[0-9A-Fa-f]{1,2}", HEX_WANTED), ("the list of counters", rf"{NAME}( +{NAME})*", "names with spaces between them"),
+        NAME_FIELD, ("the select code", r"[0-9A-Fa-f]{1,2}", HEX_WANTED), COUNTERS_FIELD,
         TEXT_FIELD,
     ),
     "UMASK": (NAME_FIELD, ("the field of bits", r"[0-9A-Fa-f]{1,2}", HEX_WANTED), ("the field of flags", "-|d|n|dn|nd", "-, d, n or dn"), TEXT_FIELD),
+    "UMASK_COUNTERS": (COUNTERS_FIELD,),
+    "UMASK_MODIFIERS": (
+        ("the field of modifiers", "-|e|i|ei|ie", "-, e, i or ei"), ("the least amount", r"0|[1-9][0-9]?|1[0-9]{2}|2[0-4][0-9]|25[0-5]", "a number from 0 to 255"),
+    ),
 }
 MOST_WIDTH = 1_048_576
 MOST_BUCKETS = 65_536
@@ -35,7 +40,7 @@ MAP_FIELDS = {
     ),
 }
 TITLES = {"COMPONENT": "name,pmu", "COUNTER": "name,width,P", "EVENT": "name,select code,counters,description", "UMASK": "name,bits,flags,description"}
-TITLES["RANGE"] = "name,START,WIDTH,BUCKETS"
+TITLES |= {"UMASK_COUNTERS": "counters", "UMASK_MODIFIERS": "flags,least amount", "RANGE": "name,START,WIDTH,BUCKETS"}
 MOST_OF_UNIT = {"COMPONENT": "16 components", "COUNTER": "32 counters of a component", "EVENT": "1,024 events of a component", "UMASK": "16 umasks of an event"}
 MOST_NATIVES = 8
 TOKENS_TAKE = {"+": 2, "-": 2, "*": 2, "/": 2}
@@ -67,6 +72,10 @@ def unit_fault(rows: list[Row], place: int, cause: str) -> str:
     if cause == "width out of range":
         return f"the width is {shown(fields[2])}, and 16 to 48 is wanted"
     if cause == "unknown counter":
+        if fields[0] == "UMASK_COUNTERS":
+            event = next(other for other in reversed(above) if other[0] == "EVENT")
+            missing = next(name for name in fields[1].split() if name not in event[3].split())
+            return f"{event[1]} does not have the counter {shown(missing)}{near(missing, event[3].split())}"
         own = [other[1] for other in _component(above) if other[0] == "COUNTER"]
         missing = next(name for name in fields[3].split() if name not in own)
         return f"no row above has the counter {shown(missing)} in its component{near(missing, own)}"
@@ -84,6 +93,8 @@ def _component(above: list[list[str]]) -> list[list[str]]:
 def _place_fault(fields: list[str], above: list[list[str]]) -> str:
     """For a row whose fields are all in their form."""
     inside = _component(above)
+    if fields[0] == "COMPONENT":
+        return ""
     if not inside:
         return f"no COMPONENT row stands above this {fields[0]} row"
     kinds = [other[0] for other in inside]
@@ -91,20 +102,34 @@ def _place_fault(fields: list[str], above: list[list[str]]) -> str:
         return "no EVENT row of its component stands above this UMASK row"
     if fields[0] == "UMASK" and "d" in fields[3]:
         return "another umask of its event is the default (d) already"
-    return ""
+    return _umask_fault(fields, inside) if fields[0].startswith("UMASK_") else ""
+
+
+def _umask_fault(fields: list[str], inside: list[list[str]]) -> str:
+    """For a row of the counters or of the modifiers of a umask."""
+    kinds = [other[0] for other in inside]
+    event = next((inside[place:] for place in reversed(range(len(kinds))) if kinds[place] == "EVENT"), [])
+    own = next((event[place:] for place in reversed(range(len(event))) if event[place][0] == "UMASK"), [])
+    if not own:
+        return f"no UMASK row of its event stands above this {fields[0]} row"
+    if any(other[0] == fields[0] for other in own):
+        return f"the umask {own[0][1]} has a {fields[0]} row already"
+    return "it fixes no modifier" if fields[1:] == ["-", "0"] else ""
 
 
 def _repeated(rows: list[Row], place: int) -> str:
     fields = rows[place].fields()
     if fields[0] == "UMASK" and fields[1].lower() in MODIFIERS:
         return f"{fields[1]} is the name of a modifier"
+    is_counter = fields[0] == "COUNTER"
+    last = 3 if fields[0] == "COMPONENT" else 2
     for other in reversed(rows[:place]):
         if other.is_skipped() or other.fields()[0] != fields[0]:
             continue
-        same = {text.upper() for text in other.fields()[1 : 3 if fields[0] == "COMPONENT" else 2]}
-        again = [text for text in fields[1 : 3 if fields[0] == "COMPONENT" else 2] if text.upper() in same]
+        stood = other.fields()[1:last]
+        again = [text for text in fields[1:last] if text in stood or not is_counter and text.upper() in map(str.upper, stood)]
         if again:
-            return f"line {other.line} has the name {again[0]} already, and case makes no difference"
+            return f"line {other.line} has the name {again[0]} already{'' if is_counter else ', and case makes no difference'}"
     return ""
 
 

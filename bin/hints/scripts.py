@@ -6,6 +6,7 @@ import re
 from dataclasses import dataclass
 from typing import Mapping
 
+from forms import papi_calls
 from texts import near, shown
 
 CALLS: dict[str, tuple[str, ...]] = {
@@ -61,8 +62,7 @@ def line_fault(text: str, cause: str, calls: Mapping[str, tuple[str, ...]]) -> s
     if cause == "bad thread":
         return f"{shown(thread)} stands where the thread is wanted, 0 to 63: 0 {thread.lower() if thread.lower() in calls else next(iter(calls))}"
     if cause == "unknown call":
-        lower = " (calls are in lower case)" if name.lower() in calls else near(name, calls)
-        return f"there is no call {shown(name)}{lower}" if name else f"no call stands after the thread{near('', calls)}"
+        return _unknown_call(name, calls) if name else f"no call stands after the thread{near('', calls)}"
     if name not in calls:
         return ""
     if cause == "wrong arguments":
@@ -70,6 +70,18 @@ def line_fault(text: str, cause: str, calls: Mapping[str, tuple[str, ...]]) -> s
     if cause == "bad number":
         return next((fault for kind, text in zip(calls[name], arguments) if (fault := _number_fault(kind, text))), "")
     return ""
+
+
+def _unknown_call(name: str, calls: Mapping[str, tuple[str, ...]]) -> str:
+    if name.lower() in calls:
+        return f"there is no call {shown(name)} (calls are in lower case)"
+    wanted = name.lower().removeprefix("papi_")
+    for tool, its_calls, kind in (("papi_run", CALLS, "script"), ("papi_regions", REGION_CALLS, "region script")):
+        for function, call in papi_calls(tool).items():
+            if wanted == function.lower().removeprefix("papi_") and name not in its_calls:
+                place = "here" if its_calls is calls else f"in a {kind}, which {tool} carries out"
+                return f"{function} is {call} {place}: T {' '.join((call, *its_calls[call]))}"
+    return f"there is no call {shown(name)}{near(name, calls)}"
 
 
 def _arguments_fault(name: str, arguments: list[str], wanted: tuple[str, ...]) -> str:

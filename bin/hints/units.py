@@ -3,7 +3,7 @@
 from __future__ import annotations
 
 import re
-from dataclasses import dataclass, field
+from dataclasses import dataclass, field, replace
 
 from files import read_table
 from texts import near, shown
@@ -18,6 +18,8 @@ class Umask:
     name: str
     is_default: bool
     stands_alone: bool
+    bits: int = 0
+    amount: int = 0  # the least one that it fixes
 
 
 @dataclass
@@ -26,6 +28,8 @@ class Event:
     pmu: str
     name: str
     umasks: list[Umask] = field(default_factory=list)
+    component_number: int = 0
+    select: int = 0
 
     def full_name(self) -> str:
         return f"{self.pmu}::{self.name}"
@@ -53,14 +57,18 @@ def read_unit(name: str) -> Unit:
     """The unit of a file that the program took."""
     events: list[Event] = []
     component = pmu = ""
+    number = -1
     for row in read_table(name):
         kind, *fields = row.fields()
         if kind == "COMPONENT":
             component, pmu = fields[:2]
+            number += 1
         elif kind == "EVENT":
-            events.append(Event(component, pmu, fields[0]))
+            events.append(Event(component, pmu, fields[0], [], number, int(fields[1], 16)))
         elif kind == "UMASK":
-            events[-1].umasks.append(Umask(fields[0], "d" in fields[2], "n" in fields[2]))
+            events[-1].umasks.append(Umask(fields[0], "d" in fields[2], "n" in fields[2], int(fields[1], 16)))
+        elif kind == "UMASK_MODIFIERS":
+            events[-1].umasks[-1] = replace(events[-1].umasks[-1], amount=int(fields[1]))
     return Unit(events)
 
 

@@ -41,9 +41,11 @@ class Words:
         name, attached = _name_and_value(word)
         option = form.options.get(name)
         if option is None:
-            self.faults.append(f"{form.tool} has no option {shown(name)}{near(name, form.options)}")
+            self.faults.append(_unknown_option(form, name))
         elif name in self.options or name in self.lacking:
             self.faults.append(f"{name} stands twice")
+            if option.value and attached is None and rest and not rest[0].startswith("-"):
+                rest.pop(0)
         elif option.value:
             self._take_value(form, option, attached, rest)
         elif attached is None:
@@ -62,8 +64,27 @@ class Words:
         else:
             self.lacking.add(option.word)
             is_value = rest and _name_and_value(rest[0])[0] not in form.options
-            ending = f": a value that begins with - is attached, {option.word}{rest.pop(0)}" if is_value else ""
-            self.faults.append(f"{option.word} has no {option.value}{ending}")
+            self.faults.append(_dashed_value(option, rest.pop(0)) if is_value else f"{option.word} has no {option.value}")
+
+
+def _unknown_option(form: Form, name: str) -> str:
+    if name == "--help":
+        return "--help prints the usage if it stands first"
+    meant = next((option for option in form.options.values() if option.value == name.lstrip("-").upper()), None)
+    return f"{form.tool} has no option {shown(name)}" + (f" (near: {meant.text()})" if meant else near(name, form.options))
+
+
+def _dashed_value(option: Option, value: str) -> str:
+    """What is wrong if a word that begins with - stands where a value is wanted."""
+    if _is_number(option.value):
+        return _number_faults(option.word, option.value, option.meaning, value)[0]
+    attached = f"{option.word}={value}" if option.word.startswith("--") else f"{option.word}{value}"
+    return f"{option.word} has no {option.value}: a value that begins with - is attached, {attached}"
+
+
+def _is_number(name: str) -> bool:
+    """Whether the values of this name are numbers."""
+    return len(name) == 1 or name == "SIZE"
 
 
 def _name_and_value(word: str) -> tuple[str, str | None]:
@@ -86,7 +107,7 @@ def word_faults(form: Form, read: Words) -> list[str]:
 
 def _too_large(form: Form, read: Words) -> list[str]:
     """If nothing else is wrong: the numbers whose meaning names no range."""
-    numbers = [form.options[word] for word in read.options if len(form.options[word].value) == 1 and not limits_of(form.options[word].meaning)]
+    numbers = [form.options[word] for word in read.options if _is_number(form.options[word].value) and not limits_of(form.options[word].meaning)]
     return [f"{option.word} {shown(read.options[option.word])}: the number is too large" for option in numbers]
 
 
@@ -99,6 +120,8 @@ def _option_faults(form: Form, option: Option, read: Words) -> list[str]:
             return [f"{option.text()} is missing: {_short(option.meaning)}"]
         if option.partner in read.options or option.partner in read.lacking:
             return [f"{option.text()} is missing: {form.options[option.partner].text()} goes with it"]
+        return []
+    if not option.value:
         return []
     if option.word == "-C" and not CPU.fullmatch(value):
         return [f"-C {shown(value)}: a processor's name has 1 to 64 printable characters, no comma, and no space at its ends"]
@@ -117,11 +140,11 @@ def _event_faults(value: str) -> list[str]:
 
 
 def _number_faults(word: str, name: str, meaning: str, value: str) -> list[str]:
-    """For a word whose value is a number. Its name has one letter, or is SIZE."""
+    """For a word whose value is a number."""
     limits = limits_of(meaning)
-    if len(name) > 1 and name != "SIZE":
+    if not _is_number(name):
         return []
-    if re.fullmatch("[0-9]{1,9}", value) and (limits is None or limits[0] <= int(value) <= limits[1]):
+    if re.fullmatch(r"\+?0*[0-9]{1,9}", value) and (limits is None or limits[0] <= int(value) <= limits[1]):
         return []
     wanted = f"a number from {limits[0]} to {limits[1]}" if limits else "a number"
     return [f"{word} {shown(value)}: {wanted} is wanted"]
