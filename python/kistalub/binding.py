@@ -14,6 +14,8 @@ from .errors import error_of
 
 NAME = "libpapi.so.7.0"
 PREFIXES = (sys.prefix, "/usr/local", "/usr")  # what bin/install was given
+VARIABLE = "KISTALUB_LIBRARY"
+REMEDY = f"bin/install PREFIX makes one, and {VARIABLE}=PREFIX/lib/kistalub/{NAME} in the environment says where it is"
 
 # The constants of papi.h that are used here.
 VERSION_7 = 7 << 24
@@ -90,25 +92,32 @@ _FUNCTIONS = {
 
 def library_path() -> str:
     """The file of the shared library: what KISTALUB_LIBRARY names, or the one under a prefix of bin/install. FileNotFoundError if there is none."""
-    named = os.environ.get("KISTALUB_LIBRARY")
+    named = os.environ.get(VARIABLE)
     if named:
+        if os.sep in named and not Path(named).is_file():  # (without a folder the system looks for it)
+            raise FileNotFoundError(f"kistalub: {VARIABLE} is {named}, and there is no such file: {REMEDY}")
         return named
     for prefix in PREFIXES:
         path = Path(prefix) / "lib/kistalub" / NAME
         if path.is_file():
             return str(path)
-    raise FileNotFoundError(f"kistalub: no {NAME} in lib/kistalub under {', '.join(dict.fromkeys(PREFIXES))}: KISTALUB_LIBRARY names it")
+    raise FileNotFoundError(f"kistalub: no {NAME} in lib/kistalub under {', '.join(dict.fromkeys(PREFIXES))}: {REMEDY}")
 
 
 @lru_cache(maxsize=None)
 def loaded() -> ctypes.CDLL:
-    """The library with the types of its functions. OSError if it can't be loaded, ImportError if it is PAPI's own."""
+    """The library with the types of its functions. OSError if it can't be loaded, ImportError if it is PAPI's own or older than this module."""
     path = library_path()
-    library = ctypes.CDLL(path)
+    try:
+        library = ctypes.CDLL(path)
+    except OSError as error:
+        raise OSError(f"kistalub: {path} is no shared library that can be loaded here ({error}): {REMEDY}") from None
     if not hasattr(library, "kistalub_go"):
-        raise ImportError(f"{path}: this is not Kistalub's library")
+        raise ImportError(f"kistalub: {path} is not Kistalub's library: {REMEDY}")
     for name, arguments in _FUNCTIONS.items():
-        function = getattr(library, name)
+        function = getattr(library, name, None)
+        if function is None:
+            raise ImportError(f"kistalub: {path} has no {name}: it is older than this module. {REMEDY}")
         function.argtypes = arguments
         function.restype = c_int
     library.PAPI_strerror.argtypes = [c_int]

@@ -4,16 +4,18 @@ from __future__ import annotations
 
 
 class PapiError(Exception):
-    """A call was refused. `code` is PAPI's code, below 0, `call` the function of PAPI, and `message` what PAPI_strerror says of the code."""
+    """A call was refused. `code` is PAPI's code, below 0, `call` the function of PAPI, and `message` what PAPI_strerror says of the code. `advice` is what to
+    do about it, if that is known."""
 
     code = 0
+    advice = ""
 
     def __init__(self, call: str, message: str = "", code: int | None = None):
         if code is not None:
             self.code = code
         self.call = call
         self.message = message
-        super().__init__(f"{call}: {self.name}: {message}")
+        super().__init__(f"{call}: {self.name}: {message}" + (f" ({self.advice})" if self.advice else ""))
 
     def __reduce__(self) -> tuple[type[PapiError], tuple[str, str, int]]:
         """So that another process can be given it."""
@@ -42,6 +44,7 @@ class ESYS(PapiError):
     """A file is missing or faulty, or the system refused something. A line on standard error says which and why."""
 
     code = -3
+    advice = "a line on standard error says which file, and why"
 
 
 class ECMP(PapiError):
@@ -120,6 +123,7 @@ class ENOINIT(PapiError):
     """No library is begun: there is no `Library` around the call."""
 
     code = -16
+    advice = "no library is begun here: with kistalub.Library(unit, stream=..): begins one"
 
 
 class ENOCMP(PapiError):

@@ -2,8 +2,10 @@
 
 from __future__ import annotations
 
+import atexit
 import ctypes
 import os
+import warnings
 from types import TracebackType
 from typing import Union
 
@@ -14,9 +16,10 @@ FilePath = Union[str, "os.PathLike[str]"]
 
 
 class _Begun:
-    """The number of libraries that were begun in this process: an event set belongs to one of them."""
+    """The number of libraries that were begun in this process, to one of which each event set belongs, and whether the last one still lasts."""
 
     number = 0
+    lasts = False
 
 
 def begun() -> int:
@@ -30,22 +33,41 @@ class Library:
     In the name of the stream `%t` stands for the number of the thread, from 0. Without a unit the files are those of KISTALUB_UNIT, KISTALUB_PRESETS,
     KISTALUB_CPU and KISTALUB_STREAM. Entering it raises `ESYS` if a file is missing or faulty, whose row and cause are said on standard error, `EINVAL` if a
     library is begun already, and `ValueError` if other files are named without a unit, or a name has a NUL. Leaving it ends all sets of all threads. It can be entered again.
+
+    It begins when it is entered. One that never was warns when it goes, and one that is not left is ended with the process.
     """
+
+    _entered = True  # so that one that could not be made does not warn
 
     def __init__(self, unit: FilePath | None = None, *, presets: FilePath | None = None, cpu: str | None = None, stream: FilePath | None = None):
         if unit is None and (presets is not None or cpu is not None or stream is not None):
             raise ValueError("a library has no presets, cpu or stream without a unit")
         self._unit = unit
         self._others = (presets, cpu, stream)
+        self._entered = False
+
+    def __del__(self) -> None:
+        if not self._entered:
+            warnings.warn("kistalub: this Library never began: with kistalub.Library(..): begins it", RuntimeWarning, stacklevel=2)
 
     def __enter__(self) -> Library:
+        self._entered = True
         if self._unit is not None:
             call("kistalub_init", *(None if word is None else text_of(os.fsencode(word)) for word in (self._unit, *self._others)))
         call("PAPI_library_init", VERSION_7)
         _Begun.number += 1
+        _Begun.lasts = True
         return self
 
     def __exit__(self, kind: type[BaseException] | None, error: BaseException | None, trace: TracebackType | None) -> None:
+        _end()
+
+
+@atexit.register
+def _end() -> None:
+    """Ends the library that lasts, if there is one."""
+    if _Begun.lasts:
+        _Begun.lasts = False
         loaded().PAPI_shutdown()
 
 

@@ -3,8 +3,11 @@
 from __future__ import annotations
 
 import re
+import shutil
+import subprocess
+import unittest
 
-from shared_library import EXAMPLES, ROOT, UNIT, OverLibrary
+from shared_library import EXAMPLES, ROOT, UNIT, OverLibrary, WithPython
 
 import kistalub
 from kistalub import Library
@@ -62,8 +65,12 @@ class Events(OverLibrary):
         wanted = {"PAPI_TOT_INS", "PAPI_TOT_CYC", "PAPI_BR_INS", "PAPI_BR_MSP", "PAPI_RES_STL", "PAPI_LST_INS", "PAPI_BR_PRC"}
         with Library(UNIT, presets=PRESETS, cpu="lab2"):
             self.assertEqual(set(kistalub.preset_events()), wanted)
-        with Library(UNIT, presets=EXAMPLES / "user_events.presets", cpu="lab2"):
-            self.assertTrue(all(not name.startswith("PAPI_") for name in kistalub.user_events()))
+
+    def test_user_events_are_those_that_the_unit_has(self) -> None:
+        """MISSES has no native event here, and lab2 no user event at all."""
+        for cpu, wanted in (("lab1", ["STALL2"]), ("lab2", [])):
+            with Library(UNIT, presets=EXAMPLES / "user_events.presets", cpu=cpu):
+                self.assertEqual((kistalub.preset_events(), kistalub.user_events()), (["PAPI_TOT_INS"] if cpu == "lab1" else [], wanted))
 
     def test_what_is_told_of_an_event(self) -> None:
         with Library(UNIT, presets=PRESETS, cpu="lab2"):
@@ -82,23 +89,77 @@ class Codes(OverLibrary):
         codes = {name: int(number) for name, number in re.findall(r"#define PAPI_(E[A-Z_]+) (-\d+)\n", text) if name != "ESBSTR"}
         self.assertGreater(len(codes), 20)
         self.assertEqual({kind.__name__: code for code, kind in BY_CODE.items()}, codes)
-        self.assertTrue(all(getattr(kistalub, name) is BY_CODE[code] for name, code in codes.items()))
+        self.assertEqual({name: getattr(kistalub, name) for name in codes}, {name: BY_CODE[code] for name, code in codes.items()})
 
 
-class Finding(OverLibrary):
+REMEDY = "bin/install PREFIX makes one, and KISTALUB_LIBRARY=PREFIX/lib/kistalub/libpapi.so.7.0 in the environment says where it is"
+
+
+class Finding(WithPython):
+    """What is said where there is no library, or another one: what to do."""
+
+    def told(self, library: str, before: str = "") -> str:
+        ran = self.run_python("-c", f"import kistalub\nimport kistalub.binding as binding\n{before}\nkistalub.go()", KISTALUB_LIBRARY=library)
+        self.assertEqual((ran.returncode, ran.stdout), (1, ""))
+        return ran.stderr.splitlines()[-1]
+
     def test_where_there_is_none(self) -> None:
-        text = "import kistalub.binding as binding\nbinding.PREFIXES = ('/no/such/prefix',)\nbinding.loaded()"
-        ran = self.run_python("-c", text, KISTALUB_LIBRARY="")
-        self.assertIn("FileNotFoundError: kistalub: no libpapi.so.7.0 in lib/kistalub under /no/such/prefix: KISTALUB_LIBRARY names it", ran.stderr)
+        told = self.told("", "binding.PREFIXES = ('/no/such/prefix',)")
+        self.assertEqual(told, f"FileNotFoundError: kistalub: no libpapi.so.7.0 in lib/kistalub under /no/such/prefix: {REMEDY}")
+
+    def test_a_path_that_leads_nowhere(self) -> None:
+        for path in ("/no/such.so", str(self.folder)):
+            self.assertEqual(self.told(path), f"FileNotFoundError: kistalub: KISTALUB_LIBRARY is {path}, and there is no such file: {REMEDY}")
+
+    def test_a_file_that_is_no_library(self) -> None:
+        path = self.folder / "text.so"
+        path.write_text("words\n", encoding="ascii")
+        told = self.told(str(path))
+        self.assertTrue(told.startswith(f"OSError: kistalub: {path} is no shared library that can be loaded here ("), told)
+        self.assertTrue(told.endswith(f"): {REMEDY}"), told)
 
     def test_another_library(self) -> None:
-        ran = self.run_python("-c", "import kistalub\nkistalub.go()", KISTALUB_LIBRARY="libc.so.6")
-        self.assertIn("ImportError: libc.so.6: this is not Kistalub's library", ran.stderr)
+        self.assertEqual(self.told("libc.so.6"), f"ImportError: kistalub: libc.so.6 is not Kistalub's library: {REMEDY}")
+
+    @unittest.skipUnless(shutil.which("cc"), "a C compiler is not installed")
+    def test_a_library_that_is_older(self) -> None:
+        path = self.folder / "old.so"
+        subprocess.run(["cc", "-shared", "-fPIC", "-x", "c", "-", "-o", str(path)], input="int kistalub_go(void) { return 0; }\n", text=True, check=True)
+        self.assertEqual(self.told(str(path)), f"ImportError: kistalub: {path} has no PAPI_library_init: it is older than this module. {REMEDY}")
+
+
+class Beginning(OverLibrary):
+    def test_one_that_never_began_warns(self) -> None:
+        ran = self.run_python("-c", f"import kistalub\nkistalub.Library({str(UNIT)!r})")
+        self.assertIn("RuntimeWarning: kistalub: this Library never began: with kistalub.Library(..): begins it", ran.stderr)
+        for quiet in ("with kistalub.Library({0!r}): pass", "kistalub.Library({0!r}).__enter__()", "try: kistalub.Library(stream='x')\nexcept ValueError: pass"):
+            ran = self.run_python("-c", f"import kistalub\n{quiet.format(str(UNIT))}")
+            self.assertEqual((ran.returncode, ran.stderr), (0, ""), quiet)
+
+    def test_a_set_without_one_says_what_to_do(self) -> None:
+        with self.assertRaises(kistalub.ENOINIT) as raised:
+            kistalub.EventSet("INST_RETIRED")
+        self.assertTrue(str(raised.exception).endswith(" (no library is begun here: with kistalub.Library(unit, stream=..): begins one)"), raised.exception)
+
+    def test_one_that_is_not_left_ends_with_the_process(self) -> None:
+        """The library is shut down once, by leaving it or at the end."""
+        text = "import kistalub, kistalub.library as library\nreal = library.loaded()\n" \
+            "class Loaded:\n def PAPI_shutdown(self): print('shut down'); real.PAPI_shutdown()\n" \
+            "library.loaded = lambda: Loaded()\nmade = kistalub.Library({0!r})\n{1}"
+        for use in ("made.__enter__()", "with made: pass", "with made:\n  pass\nprint('left')"):
+            ran = self.run_python("-c", text.format(str(UNIT), use))
+            self.assertEqual((ran.stdout.replace("left\n", ""), ran.stderr), ("shut down\n", ""), use)
+
+    def test_a_missing_file_says_where_to_look(self) -> None:
+        ran = self.run_python("-c", f"import kistalub\nwith kistalub.Library({str(self.folder / 'none.unit')!r}): pass")
+        self.assertTrue(ran.stderr.endswith(" (a line on standard error says which file, and why)\n"), ran.stderr)
 
 
 class Examples(OverLibrary):
     def test_each_prints_what_is_expected(self) -> None:
-        for path in sorted((EXAMPLES / "python").glob("*.py")):
+        paths = sorted((EXAMPLES / "python").glob("*.py"))
+        self.assertGreater(len(paths), 1)
+        for path in paths:
             ran = self.run_python(str(path))
             self.assertEqual((ran.stdout, ran.stderr), (path.with_suffix(".expected").read_text(encoding="utf-8"), ""), path.name)
 
