@@ -134,10 +134,11 @@ PRESETS: dict[str, Preset] = {
     "a processor's name in another case": Preset(f"{{cpu}}PRESET,PAPI_TOT_INS,NOT_DERIVED,{B}\n", "PAPI_TOT_INS"),
     "NOT_DERIVED with two native events": Preset(f"{{CPU}}PRESET,PAPI_TOT_INS,NOT_DERIVED,{B},{A}\n", "PAPI_TOT_INS"),
     "the word preset in lower case": Preset(f"{{CPU}}preset,PAPI_TOT_INS,NOT_DERIVED,{B}\n", "PAPI_TOT_INS"),
-    "codes of the 26 presets": Preset("", ""),
+    "codes of the presets that the program knows": Preset("", ""),
 }
 
 # Of the table in docs/FORMATS.md, Symbols, as PAPI's header papiStdEventDefs.h numbers them.
+# tools/make_presets: begin
 PRESET_CODES = {
     "PAPI_L1_DCM": 0x00, "PAPI_L1_ICM": 0x01, "PAPI_L2_DCM": 0x02, "PAPI_L2_ICM": 0x03, "PAPI_L1_TCM": 0x06, "PAPI_L2_TCM": 0x07,
     "PAPI_L3_TCM": 0x08, "PAPI_TLB_DM": 0x14, "PAPI_TLB_IM": 0x15, "PAPI_L1_LDM": 0x17, "PAPI_L1_STM": 0x18, "PAPI_BR_UCN": 0x2A,
@@ -145,4 +146,5 @@ PRESET_CODES = {
     "PAPI_LD_INS": 0x35, "PAPI_SR_INS": 0x36, "PAPI_BR_INS": 0x37, "PAPI_RES_STL": 0x39, "PAPI_TOT_CYC": 0x3B, "PAPI_LST_INS": 0x3C,
     "PAPI_FP_OPS": 0x66, "PAPI_REF_CYC": 0x6B,
 }
+# tools/make_presets: end
 NAMES_OF_CODES = tuple(f"name {0x80000000 + code:#x}" for code in PRESET_CODES.values())

@@ -17,12 +17,14 @@ NUMBERS = [
 WIDTHS = ["16", "16", "17", "32", "40", "47", "48", "48", "15", "49", "0", "016", "999999999999999999999", "x", ""]
 NAMES = ["A", "B", "C", "CYCLES", "cycles", "MISS-1", "x_2", "P0", "P1", "u", "c", "A" * 64, "A" * 65, "\u00e9", "", "a b", "PAPI_X", "0"]
 ENDS = ["\n", "\n", "\n", "\n", "\n", "\r\n", "\r", "", "\n\n"]
-SYMBOLS = [
+# tools/make_presets: begin
+SYMBOLS = (
     "PAPI_L1_DCM", "PAPI_L1_ICM", "PAPI_L2_DCM", "PAPI_L2_ICM", "PAPI_L1_TCM", "PAPI_L2_TCM", "PAPI_L3_TCM", "PAPI_TLB_DM", "PAPI_TLB_IM",
     "PAPI_L1_LDM", "PAPI_L1_STM", "PAPI_BR_UCN", "PAPI_BR_CN", "PAPI_BR_TKN", "PAPI_BR_NTK", "PAPI_BR_MSP", "PAPI_BR_PRC", "PAPI_TOT_INS",
     "PAPI_LD_INS", "PAPI_SR_INS", "PAPI_BR_INS", "PAPI_RES_STL", "PAPI_TOT_CYC", "PAPI_LST_INS", "PAPI_FP_OPS", "PAPI_REF_CYC",
-    "PAPI_TOT_INS", "PAPI_BR_INS", "PAPI_RES_STL", "PAPI_BR_PRC", "papi_tot_ins", "PAPI_NOPE", "PAPI_",
-]  # fmt: skip
+)
+# tools/make_presets: end
+DRAWN_SYMBOLS = [*SYMBOLS, "PAPI_TOT_INS", "PAPI_BR_INS", "PAPI_RES_STL", "PAPI_BR_PRC", "papi_tot_ins", "PAPI_NOPE", "PAPI_"]
 TYPES = ["NOT_DERIVED", "DERIVED_ADD", "DERIVED_SUB", "DERIVED_POSTFIX", "DERIVED_INFIX"] * 3 + [
     "DERIVED_PS", "DERIVED_ADD_PS", "DERIVED_CMPD", "not_derived", "DERIVED_X", "",
 ]  # fmt: skip
@@ -113,7 +115,7 @@ def component(rng: Random, number: int) -> str:
 def name(rng: Random, drawn: Drawn) -> str:
     """The name of an event, or of a preset, or a text that is like one."""
     if rarely(rng, 6):
-        return rng.choice(SYMBOLS + USER_EVENTS)
+        return rng.choice(DRAWN_SYMBOLS + USER_EVENTS)
     text = rng.choice(drawn.prefixes) if drawn.prefixes and rarely(rng, 3) else ""
     text += rng.choice(drawn.events) if drawn.events and not rarely(rng, 15) else rng.choice(NAMES)
     for _ in range(rng.choice([0, 0, 0, 1, 1, 2, 3])):
@@ -147,7 +149,7 @@ def preset(rng: Random, drawn: Drawn, fault: bool) -> str:
     derived = rng.choice(TYPES if fault else TYPES[:15])
     count = rng.choice([1, 1, 2, 2, 3, 8, 9]) if fault else 1 if derived == "NOT_DERIVED" else rng.randint(2, 8)
     natives = [name(rng, drawn) if fault else printable(name(rng, drawn)) or "x" for _ in range(count)]
-    fields = ["PRESET", rng.choice(SYMBOLS), derived]
+    fields = ["PRESET", rng.choice(DRAWN_SYMBOLS), derived]
     if rarely(rng, 3):
         fields[:2] = ["EVENT", rng.choice(USER_EVENTS + ODD_USER_EVENTS if fault else USER_EVENTS)]
     if derived == "DERIVED_POSTFIX":
@@ -259,7 +261,7 @@ def event_list(rng: Random, drawn: Drawn) -> str:
     if drawn.events and not rarely(rng, 3):
         plain = rng.sample(drawn.events, min(count, len(drawn.events)))
         names = [(printable(event) or "x") + rng.choice(["", "", ":u", ":k", ":e", ":c=2"]) for event in plain]
-        names += rng.sample(SYMBOLS + USER_EVENTS, rng.choice([0, 0, 1]))
+        names += rng.sample(DRAWN_SYMBOLS + USER_EVENTS, rng.choice([0, 0, 1]))
     else:
         names = [printable(name(rng, drawn)) or "x" for _ in range(count)]
     if rarely(rng, 15):
@@ -342,7 +344,7 @@ def with_fields_changed(rng: Random, text: str) -> str:
     elif change == 1:
         fields.insert(place, fields[rng.randrange(len(fields))])
     else:
-        fields[place] = rng.choice(NUMBERS + NAMES + WIDTHS + TYPES + TOKENS + SYMBOLS)
+        fields[place] = rng.choice(NUMBERS + NAMES + WIDTHS + TYPES + TOKENS + DRAWN_SYMBOLS)
     lines[index] = between.join(fields) + "\n"
     return "".join(lines)
 
@@ -368,7 +370,7 @@ def words_of(rng: Random, tool: str, drawn: Drawn) -> list[str]:
     if tool in ("papi_decode", "papi_avail") and rng.randrange(2):
         options.append(["-a"])
     if tool in ("papi_avail", "papi_native_avail") and rng.randrange(2):
-        options.append(["-e", rng.choice(SYMBOLS) if tool == "papi_avail" else name(rng, drawn)])
+        options.append(["-e", rng.choice(DRAWN_SYMBOLS) if tool == "papi_avail" else name(rng, drawn)])
     if tool == "papi_native_avail":
         options += [[option, rng.choice(["E", "lab", "::", "", "X", "BR"])] for option in ("-i", "-x") if rarely(rng, 2)]
         options += [["--noumasks"]] * rng.randrange(2)

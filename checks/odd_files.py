@@ -375,12 +375,14 @@ def check_descriptors(tally: Tally, program: Program, folder: Path) -> None:
 
 
 def check_long_stream(tally: Tally, program: Program, folder: Path) -> None:
-    """A stream of comment lines up to its limit and one byte above it, of which a run asks for more occurrences than there are."""
+    """A stream of comment lines up to its limit, with a newline behind it, and one byte above it, of which a run asks for more occurrences than there are."""
     example = Example.named("first")
     content = (EXAMPLES / "first.stream").read_bytes()
     words = [word.replace("first.stream", "long.stream") for word in example.words]
     (folder / "long.stream").write_bytes(padded(content, STREAM_LIMIT))
     tally.judge("a stream of its limit", differs(program.run(words, folder), example.wanted))
+    (folder / "long.stream").write_bytes(padded(content, STREAM_LIMIT) + b"\n")
+    tally.judge("a stream of its limit and a newline", differs(program.run(words, folder), example.wanted))
     (folder / "long.stream").write_bytes(padded(content, STREAM_LIMIT + 1))
     lines = content.count(b"\n") + (STREAM_LIMIT - len(content)) // 100 + 1
     out = example.wanted.out.replace(b"4 0 run PAPI_OK 2 0", b"4 0 run PAPI_ESYS 2 0")

@@ -106,8 +106,11 @@ class Both:
         yield from self.command_lines()
 
     def avail(self) -> str:
+        """A C program sees all of PAPI's presets. Those that the model does not have are not available over these files."""
         rows = re.findall(r"^(PAPI_\w+) +0x[0-9a-f]+ +(Yes|No) +(Yes|No)", self.there("papi_avail").out, re.MULTILINE)
-        return difference("presets", {name: (a == "Yes", d == "Yes") for name, a, d in rows}, self.presets())
+        have, wanted = {name: (a == "Yes", d == "Yes") for name, a, d in rows}, self.presets()
+        others = {name for name, row in have.items() if name not in wanted and row[0]}
+        return difference("presets", {name: row for name, row in have.items() if name in wanted}, wanted) or difference("further presets", others, set())
 
     def avail_available(self) -> str:
         have = set(re.findall(r"^(PAPI_\w+) +0x[0-9a-f]+ +(?:Yes|No) ", self.there("papi_avail", "-a").out, re.MULTILINE))

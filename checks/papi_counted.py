@@ -12,7 +12,7 @@ from papi_binaries import PROGRAMS, Case
 from papi_library import ROOT, Library, Ran, run
 
 COUNT = ROOT / "tools/count"
-SECONDS = 1800  # papi_clockres asks for the time four million times
+SECONDS = 600
 WORKERS = 2
 TIMES = 2
 

@@ -1,4 +1,4 @@
-"""PAPI's own C tests over the library: built out of a folder with PAPI's source, and run without arguments. For `papi_programs`."""
+"""PAPI's own C tests: built out of a folder with PAPI's source, and run without arguments by tools/count, with what an installation has. For `papi_programs`."""
 
 from __future__ import annotations
 
@@ -12,7 +12,7 @@ from time import monotonic
 from papi_library import CHECKS, Ran, run
 
 EXPECTED = CHECKS / "papi_ctests.expected"
-SECONDS = 120
+SECONDS = 600
 WORKERS = 2
 FLAGS = ["-w", "-O1", "-fopenmp", "-no-pie"]
 ENDING = ["-lpthread", "-lm", "-ldl"]
@@ -22,16 +22,6 @@ SUPPORT = ["testlib/test_utils.c", "testlib/do_loops.c", "testlib/clockcore.c"]
 SUPPORT += [f"validation_tests/{name}.c" for name in (
     "flops_testcode", "instructions_testcode", "busy_work", "display_error", "cache_helper", "branches_testcode", "cache_testcode", "matrix_multiply")]
 PROFILING = "prof_utils"
-
-# How many rounds of the stream happen before each call that reads. Most of these want as many events as they have floating point operations,
-# or that thresholds are passed at many addresses; one wants no more cycles than it takes.
-ROUNDS = {"first": 70, "profile": 70, "profile_pthreads": 70, "profile_twoevents": 70, "sprofile": 70, "byte_profile": 200,
-          "overflow_pthreads": 200, "zero_named": 1}
-USUAL_ROUNDS = 10
-# Each thread would read the stream, of which these make a thousand, or give theirs a second to begin.
-STREAMLESS = ("pthrtough2", "thrspecific")
-# The tests sleep and take the time, and some have a threshold that grows with the rate of the clock.
-SETTINGS = {"KISTALUB_CLOCK": "real", "KISTALUB_MHZ": "50", "OMP_NUM_THREADS": "2", "OMP_WAIT_POLICY": "passive"}
 
 PASS, SKIP, FAIL, UNBUILT = "pass", "skip", "fail", "not built"
 
@@ -70,13 +60,14 @@ def verdict_of(ran: Ran) -> tuple[str, str]:
 
 
 class Tests:
-    """The tests of a source folder, built into another folder."""
+    """The tests of a source folder, built into another folder. The runner's words come before the program's."""
 
-    def __init__(self, source: Path, folder: Path, compiler: str, words: list[str]):
+    def __init__(self, source: Path, folder: Path, compiler: str, words: list[str], runner: list[object]):
         self.source = source
         self.folder = folder
         self.compiler = compiler
         self.words = words
+        self.runner = runner
         self.includes = [f"-I{source / part}" for part in ("testlib", "validation_tests")]
         self.archive = folder / "libsupport.a"
 
@@ -109,22 +100,19 @@ class Tests:
         more = [self.source / f"ctests/{PROFILING}.c"] if f'"{PROFILING}.h"' in file.read_text(errors="replace") else []
         return self._compile([*self.words[:1], *self.includes, file, *more, self.archive, *self.words[1:], *ENDING, "-o", self.folder / name])
 
-    def run(self, name: str, environment: dict[str, str], round_of: int) -> Result:
+    def run(self, name: str) -> Result:
         began = monotonic()
-        step = {"KISTALUB_STEP": str(ROUNDS.get(name, USUAL_ROUNDS) * round_of)} if environment else {}
-        if name in STREAMLESS:
-            environment = {key: value for key, value in environment.items() if key != "KISTALUB_STREAM"}
-        ran = run([self.folder / name], {**SETTINGS, **environment, **step}, SECONDS, self.folder)
+        ran = run([*self.runner, self.folder / name], {}, SECONDS, self.folder)
         verdict, why = verdict_of(ran)
         return Result(name, verdict, monotonic() - began, why)
 
 
-def try_tests(tests: Tests, names: list[str], environment: dict[str, str], round_of: int) -> list[Result]:
-    """Builds and runs these tests, in their order. `round_of` is how many occurrences a round of the stream has."""
+def try_tests(tests: Tests, names: list[str]) -> list[Result]:
+    """Builds and runs these tests, in their order."""
 
     def one(name: str) -> Result:
         why = tests.build(name)
-        return Result(name, UNBUILT, 0, why[:160]) if why else tests.run(name, environment, round_of)
+        return Result(name, UNBUILT, 0, why[:160]) if why else tests.run(name)
 
     with ThreadPoolExecutor(WORKERS) as workers:
         return list(workers.map(one, names))

@@ -17,7 +17,7 @@ SHARED = "libpapi.so.7.0"
 
 @dataclass(frozen=True)
 class Files:
-    """What programs run over: a unit, presets for a cpu or none, and the streams."""
+    """What programs run over: a unit, presets for a cpu or none, and the streams. Of events that count nothing nothing is said: it is the programs' own words that are looked at."""
 
     unit: Path
     presets: Path | None = None
@@ -26,7 +26,7 @@ class Files:
 
     def environment(self) -> dict[str, str]:
         names = {"KISTALUB_UNIT": self.unit, "KISTALUB_PRESETS": self.presets, "KISTALUB_CPU": self.cpu, "KISTALUB_STREAM": self.stream}
-        return {name: str(value) for name, value in names.items() if value}
+        return {"KISTALUB_HINTS": "0", **{name: str(value) for name, value in names.items() if value}}
 
 
 @dataclass(frozen=True)

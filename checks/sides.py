@@ -13,7 +13,7 @@ from parts.libpfm4 import Libpfm4, Refused
 from parts.unit_of_pmu import Converter
 
 PAPI7 = Path(__file__).resolve().parent / "papi7.py"
-CODES_ROW = "codes of the 26 presets"
+CODES_ROW = "codes of the presets that the program knows"
 FAULT_WORDS = {
     "event not found": "NOTFOUND",
     "invalid event attribute": "ATTR",
