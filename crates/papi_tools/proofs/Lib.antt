@@ -1,9 +1,11 @@
 pub mod CarriedLemmas
 pub mod FaultLemmas
 pub mod FindingLemmas
+pub mod KeptLemmas
 mod LookingLemmas
 pub mod OpeningLemmas
 pub mod OwnReplyLemmas
+pub mod OwnRunLemmas
 pub mod PositionLemmas
 pub mod ProfilLemmas
 pub mod ReadingLemmas

@@ -1,5 +1,5 @@
 //! What `papi_run` replies and tells, by each thread's own calls.
-ghost use Rattle.papi_tools.specs.OwnReplies.{AreOverUnit, NotesAreOwn, RepliesAreOwn};
+ghost use Rattle.papi_tools.specs.OwnReplies.{AreOverUnit, NotesAreOwn, RepliesAreOwn, RunsAreOwn, ScriptsAreKept};
 
 use component_table::Catalog;
 use script_lines::Script;
@@ -11,6 +11,8 @@ use script_runner::script_fits;
 pub fn run_laws()
     ensures replies { RepliesAreOwn }
     ensures notes { NotesAreOwn }
+    ensures kept { ScriptsAreKept }
+    ensures runs { RunsAreOwn }
 {}
 
 /// The events that a script's calls name are of the unit of the catalog, as the laws of conflicts ask. It looks at each of them.
