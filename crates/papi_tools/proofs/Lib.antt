@@ -10,6 +10,7 @@ pub mod PositionLemmas
 pub mod ProfilLemmas
 pub mod ReadingLemmas
 pub mod RegionLemmas
+pub mod RegionTotalLemmas
 pub mod RunLemmas
 pub mod SayingLemmas
 pub mod SettlingLemmas

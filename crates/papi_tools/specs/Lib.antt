@@ -13,6 +13,7 @@ pub mod Outputs
 pub mod PresetListing
 pub mod Profiling
 pub mod RegionCounts
+pub mod RegionTotals
 pub mod Run
 pub mod Running
 pub mod Saying

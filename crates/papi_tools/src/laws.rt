@@ -1,5 +1,6 @@
-//! What `papi_run` replies and tells, by each thread's own calls.
+//! What `papi_run` replies and tells, by each thread's own calls; and what a total of regions is.
 ghost use Rattle.papi_tools.specs.OwnReplies.{AreOverUnit, NotesAreOwn, RepliesAreOwn, RunsAreOwn, ScriptsAreKept};
+ghost use Rattle.papi_tools.specs.RegionTotals.{TotalsAreSums};
 
 use component_table::Catalog;
 use script_lines::Script;
@@ -7,7 +8,8 @@ use script_runner::script_fits;
 
 /// The reply line of each call that a thread of a run makes is the one after its own calls before it, and each thread's notes are the
 /// thresholds that its own calls pass. So the laws of `call_laws` over any list of calls say what a run's values, conflicts and notes
-/// are. The lines `threads`, `code` and `name` are no calls of a thread.
+/// are. The lines `threads`, `code` and `name` are no calls of a thread. A script that is read keeps to its limits, so all of this holds of
+/// each verdict of `papi_run`, with no premise on its lines.
 pub fn run_laws()
     ensures replies { RepliesAreOwn }
     ensures notes { NotesAreOwn }
@@ -21,3 +23,9 @@ pub fn unit_law(catalog: &Catalog, script: &Script)
 {
     script_fits(catalog, script);
 }
+
+/// The total of a region is the sum of what the lines that end it show, wrapped to signed 64 bits; it is the sum as it is if that has 64
+/// bits.
+pub fn totals_law()
+    ensures { TotalsAreSums }
+{}
