@@ -1,4 +1,5 @@
 pub mod CarriedLemmas
+pub mod CauseLemmas
 pub mod FaultLemmas
 pub mod FindingLemmas
 pub mod KeptLemmas
@@ -6,6 +7,7 @@ mod LookingLemmas
 pub mod OpeningLemmas
 pub mod OwnReplyLemmas
 pub mod OwnRunLemmas
+pub mod OwnStatusLemmas
 pub mod PositionLemmas
 pub mod ProfilLemmas
 pub mod ReadingLemmas

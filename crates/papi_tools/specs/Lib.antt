@@ -1,4 +1,5 @@
 pub mod Carried
+pub mod Causes
 pub mod Choosing
 pub mod Contents
 pub mod Decoding

@@ -1,4 +1,5 @@
-//! What `papi_run` replies and tells, by each thread's own calls; and what a total of regions is.
+//! What `papi_run` replies and tells, by each thread's own calls; and what follows of each call's contract.
+ghost use Rattle.papi_tools.specs.Causes.{CausesAreShown, StatusIsOwn};
 ghost use Rattle.papi_tools.specs.OwnReplies.{AreOverUnit, NotesAreOwn, RepliesAreOwn, RunsAreOwn, ScriptsAreKept};
 ghost use Rattle.papi_tools.specs.RegionTotals.{TotalsAreSums};
 
@@ -23,6 +24,17 @@ pub fn unit_law(catalog: &Catalog, script: &Script)
 {
     script_fits(catalog, script);
 }
+
+/// How the status of a call has come about: a status of each kind has its cause, and if nothing failed, all of it is said.
+pub fn causes_law()
+    ensures { CausesAreShown }
+{}
+
+/// If nothing is to be said on standard error, memory sufficed and no write failed, the status is the tool's own, 0 or 1; and it is
+/// only if nothing is.
+pub fn status_law()
+    ensures { StatusIsOwn }
+{}
 
 /// The total of a region is the sum of what the lines that end it show, wrapped to signed 64 bits; it is the sum as it is if that has 64
 /// bits.

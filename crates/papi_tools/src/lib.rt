@@ -31,7 +31,7 @@ mod tables;
 mod tool;
 mod top;
 
-pub use laws::{run_laws, totals_law, unit_law};
+pub use laws::{causes_law, run_laws, status_law, totals_law, unit_law};
 pub use limits::{SCRIPT_BYTES, TABLE_BYTES};
 pub use output::Output;
 pub use refusal::{FileCause, Refusal, Stop};
