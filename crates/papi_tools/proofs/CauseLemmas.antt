@@ -1,11 +1,9 @@
 -- How the status of a call has come about, by the call's contract.
-use Rattle.std.proofs.Common.{◌≡◌, ◌≢◌, ◌<◌, ◌⊎◌, ℕ, List, Option, refl, arith, inl, inr, subst}
+use Rattle.std.proofs.Common.{◌≡◌, ◌≢◌, ◌<◌, ◌⊎◌, ℕ, List, Option, refl, arith, inl, inr}
 use Rattle.papi_base.specs.Outside.{Rose, next_count}
 use Rattle.tool_words.specs.Form.{form}
-use Rattle.papi_tools.specs.Carried.{CarriesOutOver}
 use Rattle.papi_tools.specs.Causes.{CausesAreShown}
-use Rattle.papi_tools.specs.Looking.{FilesSeen, SaysNo, Shows, SinkSeen}
-use Rattle.papi_tools.specs.Openings.{Openings}
+use Rattle.papi_tools.specs.Looking.{SaysNo, Shows}
 use Rattle.papi_tools.specs.Saying.{HasSinkCause, IsJudged, Says, SaysAll}
 use Rattle.papi_tools.specs.Status.{status_of}
 use Rattle.papi_tools.specs.Verdict.{verdict}

@@ -1,5 +1,5 @@
 -- The scripts that are read keep to their limits: by induction on their lines.
-use Rattle.std.proofs.Common.{◌≡◌, ◌≤◌, ◌<◌, ◌+◌, ◌-◌, ℕ, Bool, true, false, List, [], ◌∷◌, ◌++◌, length, All, Option, Some, None, Result, Ok, Err, refl, sym, ap, ◌∙◌, subst, arith}
+use Rattle.std.proofs.Common.{◌≡◌, ◌≤◌, ◌<◌, ◌+◌, ◌-◌, ℕ, Bool, true, false, List, [], ◌∷◌, ◌++◌, length, All, Option, Some, None, Result, Ok, Err, refl, sym, ap, subst, arith}
 use Rattle.std.specs.Prelude.{◌&&◌, if◌then◌else◌, nat_le}
 use Rattle.std.specs.Str.Lines.{lines}
 use Rattle.std.specs.Str.Parse.{digits_value}
@@ -11,8 +11,7 @@ use Rattle.script_lines.specs.Answers.{and_then, made_of}
 use Rattle.script_lines.specs.Arguments.{number_or}
 use Rattle.script_lines.specs.ByLine.{Refused, lines_from, onto}
 use Rattle.script_lines.specs.Calls.{Written, call_of}
-use Rattle.script_lines.specs.Kept.{IsScript}
-use Rattle.script_lines.specs.Lines.{call_line, is_skipped, line_of_call, line_of_words, line_with, thread_in}
+use Rattle.script_lines.specs.Lines.{call_line, is_skipped, line_of_call, line_of_words, line_with}
 use Rattle.script_lines.specs.Scripts.{script_of, scripts}
 use Rattle.script_lines.specs.Words.{words_of}
 use Rattle.script_lines.specs.declared.fault.ScriptCause.{ScriptCause}

@@ -1,6 +1,5 @@
 -- What `papi_run` comes to is the run of a script that was read, so each reply and note is that of the thread's own calls.
-use Rattle.std.proofs.Common.{◌≡◌, ◌<◌, ℕ, List, Result, Ok, Err, Some, refl, sym, ap, ◌∙◌, subst, slice_get}
-use Rattle.papi_base.specs.Streams.{Coming}
+use Rattle.std.proofs.Common.{◌≡◌, ◌<◌, ℕ, List, Result, Ok, Err, refl, sym, ap, ◌∙◌, subst}
 use Rattle.papi_base.specs.declared.limits.TheConstants.{THREADS}
 use Rattle.component_table.specs.Catalogs.{CatalogView}
 use Rattle.event_sets.proofs.Agreeing.{numbered}
@@ -9,10 +8,9 @@ use Rattle.script_lines.specs.Kept.{IsScript}
 use Rattle.script_lines.specs.Scripts.{script_of}
 use Rattle.script_lines.specs.declared.fault.ScriptCause.{ScriptCause}
 use Rattle.script_lines.specs.declared.script.ScriptLine.{ScriptLine}
-use Rattle.tool_words.specs.declared.run.RunWords.{RunWords}
 use Rattle.papi_tools.specs.Contents.{after_tables, catalog_under, lines_unless, script_in, script_under}
-use Rattle.papi_tools.specs.Openings.{Openings, Verdict, and_then, file_bytes, opened}
-use Rattle.papi_tools.specs.OwnReplies.{IsOfOwnCalls, RunsAreOwn, given_by}
+use Rattle.papi_tools.specs.Openings.{Openings, and_then, file_bytes, opened}
+use Rattle.papi_tools.specs.OwnReplies.{RunsAreOwn}
 use Rattle.papi_tools.specs.Run.{ran_of, ran_verdict, run_verdict}
 use Rattle.papi_tools.specs.Running.{GivenRun, given_of, given_with}
 use Rattle.papi_tools.specs.Streams.{streams_under}

@@ -1,5 +1,5 @@
 -- Nothing is said on standard error exactly if a tool ends with its own status: tool by tool.
-use Rattle.std.proofs.Common.{◌≡◌, ◌≢◌, ◌≤◌, ◌+◌, ◌++◌, ℕ, Bool, true, false, List, [], ◌∷◌, IfOk, Option, Some, None, Result, Ok, Err, refl, sym, ap, ◌∙◌, subst, arith}
+use Rattle.std.proofs.Common.{◌≡◌, ◌≢◌, ◌≤◌, ◌+◌, ℕ, Bool, true, false, List, [], ◌∷◌, IfOk, Option, Some, None, Result, Ok, Err, refl, sym, subst, arith}
 use Rattle.std.specs.Prelude.{if◌then◌else◌}
 use Rattle.std.specs.List.{list_any}
 use Rattle.component_table.specs.Catalogs.{CatalogView}
@@ -20,13 +20,11 @@ use Rattle.tool_words.specs.declared.profil.ProfilWords.{ProfilWords}
 use Rattle.tool_words.specs.declared.regions.RegionsWords.{RegionsWords}
 use Rattle.tool_words.specs.declared.run.RunWords.{RunWords}
 use Rattle.tool_words.specs.declared.soak.SoakWords.{SoakWords}
-use Rattle.papi_tools.specs.Carried.{CarriesOutOver}
 use Rattle.papi_tools.specs.Causes.{IsOwn, StatusIsOwn}
 use Rattle.papi_tools.specs.Choosing.{choice_said, chooser_verdict}
-use Rattle.papi_tools.specs.Contents.{after_tables, catalog_under, map_under, presets_of, regions_under, script_under, unit_under}
+use Rattle.papi_tools.specs.Contents.{after_tables, catalog_under, map_under, regions_under, script_under, unit_under}
 use Rattle.papi_tools.specs.Decoding.{decode_verdict, decoded_in, decoded_said, decoded_with, shown_in}
 use Rattle.papi_tools.specs.Encoding.{encode_verdict, encoded_said}
-use Rattle.papi_tools.specs.Looking.{FilesSeen, SinkSeen}
 use Rattle.papi_tools.specs.Marks.{is_bad, is_fault, mark_lines, marked_said}
 use Rattle.papi_tools.specs.NativeListing.{native_avail_verdict, natives_said}
 use Rattle.papi_tools.specs.Openings.{Openings, Verdict, and_then, file_bytes, opened, quiet}
@@ -34,12 +32,12 @@ use Rattle.papi_tools.specs.PresetListing.{avail_verdict, presets_said}
 use Rattle.papi_tools.specs.Profiling.{profil_verdict, profiled_of, profiled_over, profiled_verdict}
 use Rattle.papi_tools.specs.RegionCounts.{GivenRegions, calls_of, counted_of, regions_said, regions_verdict, said_with}
 use Rattle.papi_tools.specs.Run.{ran_of, ran_verdict, run_verdict}
-use Rattle.papi_tools.specs.Running.{GivenRun, given_of, ran_replies}
+use Rattle.papi_tools.specs.Running.{given_of, ran_replies}
 use Rattle.papi_tools.specs.Saying.{Says}
 use Rattle.papi_tools.specs.Soaking.{soak_given, soak_verdict, soaked}
 use Rattle.papi_tools.specs.Status.{status_of}
 use Rattle.papi_tools.specs.Texts.{text_said}
-use Rattle.papi_tools.specs.Verdict.{command_verdict, ended, refused_said, verdict, verdict_for}
+use Rattle.papi_tools.specs.Verdict.{ended, refused_said, verdict, verdict_for}
 use Rattle.papi_tools.specs.declared.limits.TheConstants.{TABLE_BYTES}
 use Rattle.papi_tools.specs.declared.refusal.Refusal.{Refusal}
 use Rattle.papi_tools.specs.declared.refusal.Refusal.TheVariants.{BadWords, CannotRead, Faulty, NoSuchFile, TooLarge}

@@ -1,5 +1,5 @@
 -- A total is the wrapped sum of what the lines that end its region show: by induction on the lines.
-use Rattle.std.proofs.Common.{◌≡◌, ◌+ℤ◌, ℕ, ℤ, pos, Bool, true, false, List, [], ◌∷◌, ◌++◌, zero, suc, All, FitsSigned, filter, map, refl, sym, ap, ap₂, ◌∙◌, arith}
+use Rattle.std.proofs.Common.{◌≡◌, ◌+ℤ◌, ℕ, ℤ, pos, Bool, true, false, List, [], ◌∷◌, ◌++◌, zero, suc, All, FitsSigned, filter, map, refl, ap, ap₂, ◌∙◌, arith}
 use Rattle.std.specs.Prelude.{fold, if◌then◌else◌, replicate}
 use Rattle.std.specs.Int.{int_wrap, int_wrapping_add, w64}
 use Rattle.std.proofs.lemmas.Int.{SFits-int_wrap, int_wrap-add_left, int_wrap_fits, ints, wrapping_add_is}
@@ -18,7 +18,7 @@ use Rattle.region_report.specs.Lines.{is_reading}
 use Rattle.region_report.specs.Reports.{ends, total, with_end}
 use Rattle.region_report.specs.Spans.{Span, pairwise}
 use Rattle.region_report.specs.declared.regions.RegionLine.{RegionLine}
-use Rattle.papi_tools.specs.RegionTotals.{IsSumOfEnds, TotalsAreSums, ended_values}
+use Rattle.papi_tools.specs.RegionTotals.{TotalsAreSums, ended_values}
 
 -- ---- sums
 
