@@ -1,4 +1,5 @@
 pub mod Counted
+pub mod Flags
 pub mod LineRead
 pub mod Pieces
 pub mod ScriptRead

@@ -1,6 +1,7 @@
 -- What was counted in a region from its begin on, out of the readings at the lines that begin, read and end regions.
-use Rattle.std.specs.Prelude.{◌+◌, ℕ, ℤ, List, [], ◌∷◌, if◌then◌else◌, map, slice_index_or}
+use Rattle.std.specs.Prelude.{◌+◌, ◌==◌, ℕ, ℤ, Bool, List, [], ◌∷◌, if◌then◌else◌, map, slice_index_or}
 use Rattle.std.specs.Int.{int_wrapping_sub, w64}
+use Rattle.std.specs.List.{list_any}
 use Rattle.region_report.specs.Lines.{is_reading}
 use Rattle.region_report.specs.declared.regions.RegionLine.{RegionLine}
 use Rattle.region_report.specs.declared.reports.Reading.{Reading}
@@ -37,6 +38,10 @@ spans_at readings i line = if is_reading line then span readings i line ∷ [] e
 unfoldable pub spans_from : List (List ℤ) → ℕ → List RegionLine → List Span
 spans_from readings i [] = []
 spans_from readings i (line ∷ lines) = if is_reading line then span readings i line ∷ spans_from readings (i + 1) lines else spans_from readings i lines
+
+-- some span is of this thread
+abbrev pub has_spans : List Span → ℕ → Bool
+has_spans spans thread = list_any (λ s. s.line.thread == thread) spans
 
 -- the values alone of readings that were taken
 abbrev pub reading_values : List Reading → List (List ℤ)

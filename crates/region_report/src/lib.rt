@@ -10,6 +10,7 @@ pub mod regions;
 pub mod reports;
 pub mod script;
 mod spans;
+mod threads;
 mod totals;
 
 pub use fault::{RegionCause, RegionFault, cause_text};

@@ -4,10 +4,11 @@ ghost use Rattle.std.specs.Prelude.{◌≡◌, ◌≤◌, ◌++◌, IfOk, OnOk, 
 ghost use Rattle.std.specs.List.{flat_map, range_with_len};
 ghost use Rattle.papi_base.specs.declared.limits.TheConstants.{MOST_SET_EVENTS, THREADS};
 ghost use Rattle.region_report.specs.Reports.{name_of, read_text, report_text, thread_text, values_text};
-ghost use Rattle.region_report.specs.Spans.{reading_values, span_text, spans_from};
+ghost use Rattle.region_report.specs.Spans.{has_spans, reading_values, span_text, spans_from};
 
 use crate::regions::{RegionCall, Regions};
 use crate::spans::{LineSpan, spans_of};
+use crate::threads::threads_of_spans;
 use crate::totals::push_thread;
 use papi_base::{THREADS, Values};
 use std::alloc::{AllocError, Global};
@@ -73,6 +74,27 @@ fn push_reads(text: &mut String, spans: &[LineSpan<'_>]) -> Result<(), AllocErro
 
 // ---- the regions
 
+// Appends the lines of the regions of a thread, which has none if no span is of it.
+fn push_regions(
+    alloc: Global,
+    text: &mut String,
+    events: u32,
+    thread: u32,
+    counts: bool,
+    spans: &[LineSpan<'_>],
+) -> Result<(), AllocError>
+    requires events { events ≤ MOST_SET_EVENTS }
+    requires counts { counts ≡ has_spans (map span_text spans.now) thread }
+    ensures { OnOk result (string_bytes text.new
+        ≡ string_bytes text.old ++ thread_text events (map span_text spans.now) thread) }
+{
+    if counts {
+        push_thread(alloc, text, events, thread, spans)
+    } else {
+        Ok(())
+    }
+}
+
 // Appends the lines of the regions of all threads.
 fn push_threads(
     alloc: Global,
@@ -84,8 +106,10 @@ fn push_threads(
     ensures { OnOk result (string_bytes text.new ≡ string_bytes text.old
         ++ flat_map (thread_text events (map span_text spans.now)) (range_with_len 0 THREADS)) }
 {
+    let counting = threads_of_spans(spans);
     for thread in 0..THREADS {
-        push_thread(alloc, text, events, thread, spans)?;
+        let counts = counting[thread as usize];
+        push_regions(alloc, text, events, thread, counts, spans)?;
     }
     Ok(())
 }

@@ -1,14 +1,15 @@
 //! The script of calls that a region script stands for.
 
-ghost use Rattle.std.specs.Prelude.{◌≡◌, ◌++◌, IfOk, Ok, OnOk, string_bytes};
+ghost use Rattle.std.specs.Prelude.{◌≡◌, ◌++◌, [], IfOk, Ok, OnOk, if◌then◌else◌, string_bytes};
 ghost use Rattle.std.specs.List.{flat_map, range_with_len};
 ghost use Rattle.papi_base.specs.declared.limits.TheConstants.{THREADS};
 ghost use Rattle.script_lines.specs.Scripts as Scripts;
 ghost use Rattle.region_report.specs.CallLines.{AreEvents, asked, numbered};
 ghost use Rattle.region_report.specs.Calls as Calls;
-ghost use Rattle.region_report.specs.Calls.{add_text, call_text, has_lines, line_text, opening, thread_opening};
+ghost use Rattle.region_report.specs.Calls.{add_text, call_text, line_text, opening, thread_opening};
 
 use crate::regions::{RegionCall, RegionLine, Regions};
+use crate::threads::threads_of_lines;
 use papi_base::{THREADS, Text};
 use std::alloc::{AllocError, Global};
 use std::fmt::Write;
@@ -41,24 +42,17 @@ fn push_opening(text: &mut String, thread: u32, events: &[Text]) -> Result<(), A
     push_call(text, thread, "start 0")
 }
 
-// Whether a thread has lines.
-fn has_lines(lines: &[RegionLine], thread: u32) -> bool
-    ensures { result ≡ has_lines lines.now thread }
-{
-    lines.iter().any(|l| l.thread == thread)
-}
-
-// Appends the opening of a thread, if it has lines.
+// Appends the opening of a thread that counts.
 fn push_thread(
     text: &mut String,
-    lines: &[RegionLine],
     events: &[Text],
     thread: u32,
+    counts: bool,
 ) -> Result<(), AllocError>
-    ensures { OnOk result (string_bytes text.new
-        ≡ string_bytes text.old ++ thread_opening lines.now events.now thread) }
+    ensures { OnOk result (string_bytes text.new ≡ string_bytes text.old
+        ++ (if counts then opening events.now thread else [])) }
 {
-    if has_lines(lines, thread) {
+    if counts {
         push_opening(text, thread, events)
     } else {
         Ok(())
@@ -71,8 +65,9 @@ fn push_openings(text: &mut String, lines: &[RegionLine], events: &[Text]) -> Re
         ≡ string_bytes text.old ++ flat_map (thread_opening lines.now events.now)
         (range_with_len 0 THREADS)) }
 {
+    let counting = threads_of_lines(lines);
     for thread in 0..THREADS {
-        push_thread(text, lines, events, thread)?;
+        push_thread(text, events, thread, counting[thread as usize])?;
     }
     Ok(())
 }
