@@ -5,7 +5,7 @@
 #include <stdlib.h>
 #include <string.h>
 
-/* Among so many instructions the order of occurrences is evened out, where a set is multiplexed. */
+/* Among so many instructions, and those of a block of code, the order of occurrences is evened out, where a set is multiplexed. */
 #define TURN_INSTRUCTIONS 65536
 /* What the tool can't stop at is waited for by instructions, of which one makes at most so many occurrences. */
 #define MOST_AT_ONCE 512
@@ -130,16 +130,19 @@ static void arm(thread_state *t) {
     uint32_t bits;
     for (uint32_t set = 0; t->is_watched && set < MOST_SETS; set++)
         if (runs(t, set, &bits)) stop_before_all(t, set, &periods);
-    if (live->is_in_turns) shorten(&periods.of[KL_INSTRUCTIONS], TURN_INSTRUCTIONS);
     for (int kind = KL_KINDS - 1; kind >= 0; kind--) {
         uint64_t period = periods.of[kind];
         if (!period && !(live->armed & KL_BIT(kind))) continue;
         if (kl_ask(KL_ARM, (uintptr_t)kind, period, 0)) live->armed = period ? live->armed | KL_BIT(kind) : live->armed & ~KL_BIT(kind);
         else if (kind != KL_INSTRUCTIONS) shorten(&periods.of[KL_INSTRUCTIONS], period / MOST_AT_ONCE);
     }
+    if (live->is_in_turns || live->has_turn) kl_ask(KL_TURN, live->is_in_turns ? TURN_INSTRUCTIONS : 0, 0, 0);
+    live->has_turn = live->is_in_turns;
 }
 
-static int stops_anywhere(const thread_state *t) { return t->live->armed || (t->live->wanted && (t->is_watched || t->live->is_in_turns)); }
+static int stops_anywhere(const thread_state *t) {
+    return t->live->armed || t->live->has_turn || (t->live->wanted && (t->is_watched || t->live->is_in_turns));
+}
 
 /* The thread goes back to the program. */
 static void look_after(thread_state *t, int may_start_or_stop) {

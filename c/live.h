@@ -17,6 +17,7 @@ typedef struct live_thread {
     kl_amounts seen;      /* the thread's counts up to which all has happened */
     uint64_t wanted;      /* the kinds that a running set counts */
     int is_in_turns;      /* a running set is multiplexed */
+    int has_turn;         /* the tool stops the thread when its turn is over */
     uint64_t fed;         /* lines that went to the thread's stream */
     int has_ended;        /* it has had as many lines as a stream may have, and nothing more happens */
     uint64_t armed;       /* the kinds that stop the thread */

@@ -80,8 +80,8 @@ def _own_folder() -> Path:
 
 
 def command(words: list[str], program: str, arguments: list[str]) -> list[str]:
-    """What starts a program under the tool, with the tool's own words."""
-    return [str(tool()), f"--tool={NAME}", "--quiet", "--vgdb=no", *words, "--", program, *arguments]
+    """What starts a program under the tool, with the tool's own words. Threads run one after the other: one that waits for another lets each run before it goes on."""
+    return [str(tool()), f"--tool={NAME}", "--quiet", "--vgdb=no", "--fair-sched=try", *words, "--", program, *arguments]
 
 
 def environment(words: list[str], changes: Mapping[str, str]) -> dict[str, str]:

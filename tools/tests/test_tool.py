@@ -318,6 +318,48 @@ class Lines(Recording):
             done = subprocess.run(valgrind.command(["--model=yes", *words], program, []), env=valgrind.environment([program], {}), capture_output=True, text=True)
             self.assertEqual((done.stdout, done.stderr, done.returncode), ("", "", 7), words)
 
+    STOPS = """
+        #define _GNU_SOURCE
+        #include "live.h"
+        #include <stdio.h>
+        #include <string.h>
+        extern const char first[] __asm__("__start_kistalub_code"), end[] __asm__("__stop_kistalub_code");
+        __asm__(".text\\n.globl turns\\nturns: dec %rdi\\n nop; nop; nop; nop; nop; nop; nop; nop\\n jnz turns\\n ret\\n");
+        extern void turns(long);
+        static uint64_t last, stops, others, first_places;
+        static uint64_t counted(void) { uint64_t count; kl_ask(KL_COUNTS, (uintptr_t)&count, 1, 0); return count; }
+        void kl_live_stops(uint64_t pc) {
+            uint64_t now = counted();
+            if (now - last < 1000 || now - last >= 1040) others++;
+            if (pc == (uint64_t)turns) first_places++;
+            last = now;
+            if (++stops < 20) kl_ask(KL_TURN, 1000, 0, 0);
+        }
+        int main(void) {
+            if (kl_ask(KL_HELLO, (uintptr_t)first, (uintptr_t)end, (uintptr_t)kl_live_stub) != KL_VERSION) return 9;
+            kl_ask(KL_TURN, 1000, 0, 0);
+            if (!kl_ask(KL_TURN, 0, 0, 0)) return 8;
+            turns(1000);
+            last = counted();
+            kl_ask(KL_TURN, 1000, 0, 0);
+            turns(10000);
+            printf("%lu stops, %lu of other lengths, %lu at the loop's start\\n", stops, others, first_places);
+            return 0;
+        }
+    """
+
+    def test_turns_end_where_a_block_begins(self) -> None:
+        """A turn of 1,000 instructions is over at the first one of a loop of ten. One that was taken back is not. What the stub does is not counted."""
+        objects = [str(self.folder / name) for name in ("stub.o", "stops.o")]
+        for source, made in zip((str(ROOT / "c/live_stub.c"), self.write("stops.c", self.STOPS)), objects):
+            subprocess.run(["cc", "-O1", f"-I{ROOT / 'include'}", f"-I{ROOT / 'c'}", "-c", source, "-o", made], check=True)
+        subprocess.run(["objcopy", "--rename-section", ".text=kistalub_code", objects[0]], check=True)
+        program = str(self.folder / "stops")
+        subprocess.run(["cc", *objects, "-o", program], check=True)
+        for words in (["--model=yes"], ["--tape=yes", f"--streams={self.folder / 'kept'}"]):
+            done = subprocess.run(valgrind.command(words, program, []), env=valgrind.environment([program], {}), capture_output=True, text=True)
+            self.assertEqual((done.stdout, done.stderr, done.returncode), ("20 stops, 0 of other lengths, 20 at the loop's start\n", "", 0), words)
+
     def test_a_full_stream(self) -> None:
         program = self.compile("loop", "int main(void) { for (long i = 0; i < 2000000; i++) __asm__ volatile(\"nop\"); return 0; }")
         told = self.refused("--each", program)
@@ -380,6 +422,28 @@ class Runs(Recording):
         alone = of(1, "first", "0"), of(1, "second", "1")
         self.assertGreater(alone[0]["51 03"], 100)
         self.assertEqual((of(1, "first"), of(2, "second")), alone)
+
+    def test_a_thread_that_waits_lets_others_run(self) -> None:
+        """Two threads take turns 2,000 times each. One that spins goes round a few times before the other one runs."""
+        program = self.compile("spins", """
+            #include <pthread.h>
+            #include <stdatomic.h>
+            static atomic_int turn;
+            static void *work(void *n) {
+                for (int i = 0; i < 2000; i++) {
+                    while (atomic_load_explicit(&turn, memory_order_acquire) != (int)(long)n) __builtin_ia32_pause();
+                    atomic_store_explicit(&turn, !(long)n, memory_order_release);
+                }
+                return n;
+            }
+            int main(void) { pthread_t t[2]; for (long i = 0; i < 2; i++) pthread_create(t + i, 0, work, (void *)i); for (int i = 0; i < 2; i++) pthread_join(t[i], 0); return 0; }
+        """, "-pthread")
+        command = valgrind.command(["--totals=yes"], program, [])
+        told = subprocess.run(command, env=valgrind.environment([program], {}), capture_output=True, text=True).stderr.splitlines()
+        counts = {line.split()[-3]: int(line.split()[-1]) for line in told if " instructions " in line}
+        self.assertEqual(sorted(counts), ["0", "1", "2"])
+        for number in "12":
+            self.assertLess(counts[number], 2000 * 100, told)
 
     def test_a_second_thread(self) -> None:
         program = self.compile("two", """

@@ -157,6 +157,7 @@ void code_leaves_line_open(code *c, IRExpr *guard, Bool is_turn) {
 void code_begins(code *c) {
     if (c->base) return;
     c->base = code_load(c, code_word((Addr)&current));
+    code_checks_turn(c);
     code_store_at(c, OFFSET(at), code_word((Addr)c->of));
     if (!words.has_tape) return;
     IRExpr *guard = NULL;
@@ -190,6 +191,10 @@ static passing *new_passing(code *c, Addr next) {
     return p;
 }
 
+static void goes_to_stub(code *c, IRExpr *guard) {
+    addStmtToIRSB(c->out, IRStmt_Exit(guard, Ijk_Boring, IRConst_U64(stub), __builtin_offsetof(VexGuestAMD64State, guest_RIP)));
+}
+
 /* A kind has passed if what was left of it, without what is pending and without one more, is below 0: one test of all signs. */
 void code_checks_thresholds(code *c, Addr next) {
     IRExpr *signs = NULL;
@@ -203,5 +208,13 @@ void code_checks_thresholds(code *c, Addr next) {
     if (!signs) return;
     IRExpr *guard = code_is(c, Iop_CmpLT64S, signs, code_word(0));
     code_call(c, guard, "threshold_passes", threshold_passes, mkIRExprVec_1(code_word((Addr)new_passing(c, next))));
-    addStmtToIRSB(c->out, IRStmt_Exit(guard, Ijk_Boring, IRConst_U64(stub), __builtin_offsetof(VexGuestAMD64State, guest_RIP)));
+    goes_to_stub(c, guard);
+}
+
+/* Behind other instructions of the block registers may not be in their places. */
+void code_checks_turn(code *c) {
+    if (!stub || !has_turns || c->of->begins_repeated || c->pc != c->of->pc) return;
+    IRExpr *guard = code_is(c, Iop_CmpLE64S, code_load_at(c, OFFSET(turn_at)), code_load_at(c, count_of(KL_INSTRUCTIONS)));
+    code_call(c, guard, "turn_ends", turn_ends, mkIRExprVec_1(code_word(c->pc)));
+    goes_to_stub(c, guard);
 }

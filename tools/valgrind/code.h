@@ -65,6 +65,8 @@ void code_begins(code *c);
 
 /* Leaves the block before the instruction at `next` if a threshold was passed by one before it. */
 void code_checks_thresholds(code *c, Addr next);
+/* Leaves the block before its first instruction, if the thread's turn is over. */
+void code_checks_turn(code *c);
 /* Occurrences of the machine may have passed some. */
 void code_unchecks_machine(code *c);
 

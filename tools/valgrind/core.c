@@ -57,7 +57,7 @@ static void *pages(SizeT size) {
 static core *new_core(void) {
     core *c = pages(core_size());
     for (UInt i = 0; i < KL_KINDS; i++) c->left[i] = NEVER;
-    c->check_at = NEVER;
+    c->check_at = c->turn_at = NEVER;
     make_machine(c);
     return c;
 }
@@ -146,6 +146,7 @@ void core_stops(core *c) {
         c->left_at_stop[i] = c->left[i];
         c->left[i] = NEVER;
     }
+    c->turn_at = NEVER;
     c->is_stopped = True;
     if (c->tape) tape_stops(c);
 }

@@ -16,6 +16,7 @@ typedef struct {
     ULong counts[ALL_KINDS];
     Long left[KL_KINDS]; /* occurrences until an armed threshold is passed */
     Long check_at;       /* the number of instructions at which a block begins by a call of tape_sees_block */
+    Long turn_at;        /* the number of instructions at which the thread goes to the stub in place of the next block */
     Int *rooms;          /* the occurrences for which the tape's lines have room, by their slots */
     const block *at;     /* the block that runs */
     Addr last;           /* the last instruction of the block before, if something is armed */

@@ -26,10 +26,11 @@ enum {
     KL_FETCH,  /* (buffer, size): the lines of the stream since the last fetch, with the tool's word --tape. Answer: the bytes; 0 if there are no more */
     KL_SEE,    /* the address of the thread's counts while it is not stopped, to be read by plain loads: all but CYCLES, STALLS and the conditional branches */
     KL_TIME,   /* (cycles): two numbers: the cycles of all threads so far, whether they counted or not, with those of sleep; and the thread's own. Since version 2. Answer: 1 */
+    KL_TURN,   /* (instructions): where the first block of code begins after so many of the thread's instructions the stub is called, once; 0 takes that away. Since version 3. Answer: 1 */
     KL_END
 };
-#define KL_VERSION 2
+#define KL_VERSION 3
 
-typedef struct { unsigned long kind, pc, next; } kl_passed; /* pc: the instruction that passed it; next: where the program goes on */
+typedef struct { unsigned long kind, pc, next; } kl_passed; /* kind: KL_KINDS for a turn; pc: the instruction that passed it; next: where the program goes on */
 
 #endif

@@ -53,6 +53,11 @@ static UWord stop(core *c) {
     return 1;
 }
 
+static UWord turn(core *c, UWord instructions) {
+    turn_begins(c, instructions);
+    return 1;
+}
+
 static UWord give_passed(const core *c, kl_passed *to) {
     *to = c->passed;
     return 1;
@@ -80,6 +85,7 @@ Bool answer_request(ThreadId tid, UWord *asked, UWord *answer) {
     case KL_FETCH: *answer = c->tape ? tape_fetch(c, (HChar *)asked[1], asked[2]) : 0; break;
     case KL_SEE: *answer = (UWord)c->counts; break;
     case KL_TIME: *answer = give_time(c, (ULong *)asked[1]); break;
+    case KL_TURN: *answer = turn(c, asked[1]); break;
     default: return False;
     }
     set_current(tid);

@@ -11,7 +11,7 @@
 
 UInt armed_count;
 UChar armed_kinds[KL_KINDS];
-Bool is_armed[KL_KINDS];
+Bool is_armed[KL_KINDS], has_turns;
 Addr stub;
 
 /* Libvex's own copy of what VG_(clo_vex_control) was when it began. */
@@ -69,6 +69,23 @@ void threshold_passes(const passing *p) {
     if (p->line.line < p->line.count) tape_sees_open_line(&p->line);
     if (p->pc) c->last = p->pc;
     c->passed = (kl_passed){kind, c->last, p->next};
+    c->is_in_library = True;
+    set_current(running);
+}
+
+/* Code that is translated from now on looks whether a turn ends. */
+void turn_begins(core *c, UWord instructions) {
+    if (instructions && !has_turns) {
+        has_turns = True;
+        VG_(discard_translations_safely)(0, ~(SizeT)0, "turns");
+    }
+    c->turn_at = instructions ? (Long)(c->counts[KL_INSTRUCTIONS] + instructions) : NEVER;
+}
+
+void turn_ends(Addr next) {
+    core *c = current;
+    c->turn_at = NEVER;
+    c->passed = (kl_passed){KL_KINDS, armed_count && c->last ? c->last : next, next};
     c->is_in_library = True;
     set_current(running);
 }
